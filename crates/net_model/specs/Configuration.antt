@@ -1,0 +1,74 @@
+-- The plain data of a router's configuration, and the facts that every configuration keeps.
+use Rattle.std.specs.Prelude.{◌≡◌, ◌≢◌, ℕ, ◌+◌, ◌^◌, ◌<◌, ◌≤◌, Bool, true, false, ◌⊎◌, List, [], ◌∷◌, length, Option, Some, None, IfSome, IsSome, IsTrue, All, AllPairs}
+use Rattle.net_addr.specs.Addresses.{Block}
+use Rattle.net_model.specs.declared.area.Range.{Range}
+use Rattle.net_model.specs.declared.area.Stub.{Stub}
+use Rattle.net_model.specs.declared.config.Distances.{Distances}
+use Rattle.net_model.specs.declared.config.Levels.{Levels}
+use Rattle.net_model.specs.declared.interface.Interface.{Interface}
+
+-- what a configuration says of its router
+pub record Configuration : Type 0 where
+  pub name : List ℕ
+  pub interfaces : List Interface
+  pub process : Option ℕ
+  pub isis : Bool
+  pub tag : List ℕ
+  pub isis_area : List ℕ
+  pub system : ℕ
+  pub levels : Levels
+  pub ranges : List Range
+  pub stubs : List Stub
+  pub rfc1583 : Bool
+  pub distances : Distances
+
+-- the bytes of a router's name: letters, digits, `-`, `_` and `.`
+abbrev pub IsNameByte : ℕ → Type 0
+IsNameByte b =
+    ((48 ≤ b) × (b ≤ 57)) ⊎ ((65 ≤ b) × (b ≤ 90)) ⊎ ((97 ≤ b) × (b ≤ 122)) ⊎ (b ≡ 45) ⊎ (b ≡ 95) ⊎ (b ≡ 46)
+
+-- a router's name has 1 to 63 of these bytes
+pub record IsRouterName (name : List ℕ) : Type 0 where
+  pub some : 1 ≤ length name
+  pub short : length name ≤ 63
+  pub bytes : All IsNameByte name
+
+-- the numbers of an interface are in their ranges, and without a subnet it isn't up
+pub record IsInterface (i : Interface) : Type 0 where
+  pub cost : (1 ≤ i.cost) × (i.cost ≤ 65535)
+  pub metric1 : (1 ≤ i.metric1) × (i.metric1 ≤ 16777214)
+  pub metric2 : (1 ≤ i.metric2) × (i.metric2 ≤ 16777214)
+  pub subnet : IsTrue i.up → IsSome i.subnet
+
+-- the cost of a range is in its range
+abbrev pub IsRange : Range → Type 0
+IsRange r = IfSome r.cost (λ c. c ≤ 16777214)
+
+-- a stub area isn't the backbone, and its default cost is in its range
+pub record IsStub (s : Stub) : Type 0 where
+  pub area : 1 ≤ s.area
+  pub default_cost : s.default_cost ≤ 16777214
+
+-- the distance of OSPF is from 1 to 255 and not 115, that of IS-IS 115 or 255
+pub record AreDistances (d : Distances) : Type 0 where
+  pub some : 1 ≤ d.ospf
+  pub most : d.ospf ≤ 255
+  pub apart : d.ospf ≢ 115
+  pub isis : (d.isis ≡ 115) ⊎ (d.isis ≡ 255)
+
+-- two ranges are of different areas or have different prefixes
+abbrev pub AreRangesApart : Range → Range → Type 0
+AreRangesApart r s = (r.area ≡ s.area) × (r.dest ≡ s.dest) → ⊥
+
+-- the facts that every configuration keeps
+pub record IsConfiguration (c : Configuration) : Type 0 where
+  pub name : IsRouterName c.name
+  pub interfaces : All IsInterface c.interfaces
+  pub interface_names : AllPairs (λ (i j : Interface). i.name ≢ j.name) c.interfaces
+  pub process : IfSome c.process (λ p. (1 ≤ p) × (p ≤ 65535))
+  pub system : c.system < 2 ^ 48
+  pub ranges : All IsRange c.ranges
+  pub ranges_apart : AllPairs AreRangesApart c.ranges
+  pub stubs : All IsStub c.stubs
+  pub stubs_apart : AllPairs (λ (s t : Stub). s.area ≢ t.area) c.stubs
+  pub distances : AreDistances c.distances

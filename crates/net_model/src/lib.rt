@@ -1,0 +1,12 @@
+//! Router configurations and the network that they make: what a plan is computed from.
+#![tactic(auto)]
+
+mod area;
+mod config;
+mod interface;
+mod zone;
+
+pub use area::{Range, Ranges, Stub, Stubs};
+pub use config::{Config, Configs, Distances, Levels};
+pub use interface::{Interface, Interfaces};
+pub use zone::Zone;

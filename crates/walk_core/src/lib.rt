@@ -1,0 +1,2 @@
+//! Least-cost walks over any graph: the route calculation that OSPF and IS-IS share.
+#![tactic(auto)]
