@@ -1,13 +1,6 @@
-// A library with one function.
+//! The definitions that every promise of the planner stands on, and the laws that they obey.
 #![tactic(auto)]
 
-ghost use Rattle.std.specs.Prelude.{◌≡◌};
-ghost use Rattle.igp_theory.specs.Echo.{echo_of};
+mod phase;
 
-// The `ensures` clause is the contract: what `echo` returns is `echo_of` of its argument, a definition
-// in `specs/Echo.antt`, which a caller's clause can cite too.
-pub fn echo(x: usize) -> usize
-    ensures { result ≡ echo_of x }
-{
-    x
-}
+pub use phase::Phase;
