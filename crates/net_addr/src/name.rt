@@ -31,6 +31,13 @@ impl Name {
     {
         self.all.as_slice()
     }
+
+    /// The vector of the bytes.
+    pub fn into_vec(self) -> Vec<u8>
+        ensures { result.items ≡ self }
+    {
+        self.all
+    }
 }
 
 /// Bytes of a text.
@@ -45,4 +52,27 @@ impl Model for Bytes {
     ghost Value = { List ℕ };
 
     ghost view = { λ x. x.all.items };
+}
+
+impl Bytes {
+    /// The text with these bytes.
+    pub fn from_vec(all: Vec<u8>) -> Bytes
+        ensures { result ≡ all.items }
+    {
+        Bytes { all }
+    }
+
+    /// The bytes of the text.
+    pub fn as_slice(&self) -> &[u8]
+        ensures { result.now ≡ self.now }
+    {
+        self.all.as_slice()
+    }
+
+    /// The vector of the bytes.
+    pub fn into_vec(self) -> Vec<u8>
+        ensures { result.items ≡ self }
+    {
+        self.all
+    }
 }
