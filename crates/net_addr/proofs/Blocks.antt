@@ -1,7 +1,7 @@
 -- Blocks of addresses as intervals.
 use Rattle.std.proofs.Common.{◌≡◌, ℕ, ◌+◌, ◌-◌, ◌*◌, ◌/◌, ◌%◌, ◌^◌, ◌<◌, ◌≤◌, arith, refl, sym, subst, ap, ◌∙◌}
 use Rattle.std.proofs.lemmas.Nat.{pow_pos, div-mul-add, mod-mul-add}
-use Rattle.net_addr.specs.Addresses.{Block, block_at, first_bits, ContainsAddress, Covers, IsBlock}
+use Rattle.net_addr.specs.Addresses.{Block, block_at, ContainsAddress, IsBlock}
 
 -- how many addresses a block has
 abbrev pub block_size : Block → ℕ
