@@ -10,3 +10,4 @@ pub mod Isis
 pub mod Forwarding
 pub mod States
 pub mod Loops
+pub mod Laws

@@ -1,10 +1,12 @@
 //! The definitions that every promise of the planner stands on, and the laws that they obey.
 #![tactic(auto)]
 
+mod cost_laws;
 mod forwarding_laws;
 mod phase;
 mod tables;
 
+pub use cost_laws::{ArcRelation, OfferRelation, best_cost_is_unique, least_cost_is_unique};
 pub use forwarding_laws::{every_mixture_forwards, middle_is_old_or_new};
 pub use phase::Phase;
 pub use tables::TablePair;
