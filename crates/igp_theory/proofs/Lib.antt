@@ -1,1 +1,2 @@
 pub mod ForwardingLaws
+pub mod TableLaws

@@ -4,9 +4,11 @@
 mod cost_laws;
 mod forwarding_laws;
 mod phase;
+mod table_laws;
 mod tables;
 
 pub use cost_laws::{ArcRelation, OfferRelation, best_cost_is_unique, least_cost_is_unique};
 pub use forwarding_laws::{every_mixture_forwards, middle_is_old_or_new};
 pub use phase::Phase;
+pub use table_laws::{costs_are_unique, entries_are_unique, entries_forward, hops_are_neighbors};
 pub use tables::TablePair;
