@@ -1,5 +1,5 @@
 -- What the laws of this crate say.
-use Rattle.std.specs.Prelude.{◌≡◌, ℕ, ◌↔◌, ◌⊎◌, Some}
+use Rattle.std.specs.Prelude.{◌≡◌, ℕ, ◌<◌, ◌↔◌, ◌⊎◌, Some, List, length}
 use Rattle.net_addr.specs.Addresses.{Block}
 use Rattle.net_model.specs.Network.{Network, UpInterface, IsBorderRouter, Adjacent}
 use Rattle.net_model.specs.declared.interface.Interface.{Interface}
@@ -8,7 +8,11 @@ use Rattle.walk_core.specs.Walks.{Arcs, LeastCost}
 use Rattle.walk_core.specs.Offers.{Offers, BestCost}
 use Rattle.route_core.specs.declared.entry.Entry.{Entry}
 use Rattle.route_core.specs.declared.entry.Entry.TheVariants.{Discard}
-use Rattle.igp_theory.specs.Routes.{EntryLeadsTo}
+use Rattle.igp_theory.specs.Forwarding.{Usable, Uses, Steps}
+use Rattle.igp_theory.specs.Loops.{RingRouter, IsLoop, Arises, Fault, IsFault, IsFirstFault}
+use Rattle.igp_theory.specs.Routes.{Tables, EntryLeadsTo, HaveSameEntries}
+use Rattle.igp_theory.specs.States.{State, IsSound, IsSeamless}
+use Rattle.igp_theory.specs.declared.phase.Phase.{Phase}
 use Rattle.igp_theory.specs.Ospf.{IntraAreaCost, BorderCost, InterAreaCost, OspfEntry}
 use Rattle.igp_theory.specs.Isis.{IsisEntry}
 
@@ -105,3 +109,58 @@ OspfEntriesForward =
 abbrev pub IsisEntriesForward : Type 0
 IsisEntriesForward =
     (net : Network) (u : ℕ) (p : Block) (e : Entry) → IsisEntry net u p e → Forwards e
+
+-- Tables with the same entries
+
+-- at the routers of the network two pairs of tables have the same entries
+pub record HaveSameTables (net : Network) (old new other_old other_new : Tables) : Type 0 where
+  pub same_old : HaveSameEntries net old other_old
+  pub same_new : HaveSameEntries net new other_new
+
+-- then each router uses for an address the same entry
+abbrev pub SameUsedEntries : Tables → Tables → Tables → Tables → Type 0
+SameUsedEntries old new other_old other_new =
+    (net : Network) (u a : ℕ) (phase : Phase) (used : Usable) → HaveSameTables net old new other_old other_new →
+    u < length net → Uses net old new u phase a used ↔ Uses net other_old other_new u phase a used
+
+-- and steps to the same hops
+abbrev pub SameSteps : Tables → Tables → Tables → Tables → Type 0
+SameSteps old new other_old other_new =
+    (net : Network) (u a h : ℕ) (phase : Phase) → HaveSameTables net old new other_old other_new →
+    Steps net old new u phase a h ↔ Steps net other_old other_new u phase a h
+
+-- the same states are sound
+abbrev pub SameSoundStates : Tables → Tables → Tables → Tables → Type 0
+SameSoundStates old new other_old other_new =
+    (net : Network) (state : State) → HaveSameTables net old new other_old other_new →
+    IsSound net old new state ↔ IsSound net other_old other_new state
+
+-- the same orders are seamless
+abbrev pub SameSeamlessOrders : Tables → Tables → Tables → Tables → Type 0
+SameSeamlessOrders old new other_old other_new =
+    (net : Network) (order : List ℕ) → HaveSameTables net old new other_old other_new →
+    IsSeamless net old new order ↔ IsSeamless net other_old other_new order
+
+-- the network has the same loops
+abbrev pub SameLoops : Tables → Tables → Tables → Tables → Type 0
+SameLoops old new other_old other_new =
+    (net : Network) (a : ℕ) (ring : List RingRouter) → HaveSameTables net old new other_old other_new →
+    IsLoop net old new a ring ↔ IsLoop net other_old other_new a ring
+
+-- the same loops arise in a state
+abbrev pub SameArisingLoops : Tables → Tables → Tables → Tables → Type 0
+SameArisingLoops old new other_old other_new =
+    (net : Network) (state : State) (a : ℕ) (ring : List RingRouter) → HaveSameTables net old new other_old other_new →
+    Arises net old new state a ring ↔ Arises net other_old other_new state a ring
+
+-- a state has the same faults
+abbrev pub SameFaults : Tables → Tables → Tables → Tables → Type 0
+SameFaults old new other_old other_new =
+    (net : Network) (state : State) (fault : Fault) → HaveSameTables net old new other_old other_new →
+    IsFault net old new state fault ↔ IsFault net other_old other_new state fault
+
+-- an order has the same first fault
+abbrev pub SameFirstFaults : Tables → Tables → Tables → Tables → Type 0
+SameFirstFaults old new other_old other_new =
+    (net : Network) (order : List ℕ) (k : ℕ) (fault : Fault) → HaveSameTables net old new other_old other_new →
+    IsFirstFault net old new order k fault ↔ IsFirstFault net other_old other_new order k fault

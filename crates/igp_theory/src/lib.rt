@@ -4,11 +4,13 @@
 mod cost_laws;
 mod forwarding_laws;
 mod phase;
+mod same_table_laws;
 mod table_laws;
 mod tables;
 
 pub use cost_laws::{ArcRelation, OfferRelation, best_cost_is_unique, least_cost_is_unique};
 pub use forwarding_laws::{every_mixture_forwards, middle_is_old_or_new};
 pub use phase::Phase;
+pub use same_table_laws::same_tables_act_alike;
 pub use table_laws::{costs_are_unique, entries_are_unique, entries_forward, hops_are_neighbors};
 pub use tables::TablePair;
