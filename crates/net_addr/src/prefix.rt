@@ -1,5 +1,6 @@
 ghost use Rattle.std.specs.Prelude.{◌≡◌, ◌-◌, ◌^◌, ◌<◌, ◌≤◌, ◌↔◌, IsTrue, IsNone, IfSome, SomeIff};
 ghost use Rattle.net_addr.specs.Addresses.{block_at, ContainsAddress, Covers, IsBlock};
+ghost use Rattle.net_addr.specs.Boundaries.{last_address};
 
 use std::marker::Model;
 
@@ -64,6 +65,13 @@ impl Prefix {
         ensures block { IsBlock self }
     {
         self.len
+    }
+
+    /// The last address of the prefix: all bits past its length are set.
+    pub fn last(self) -> u32
+        ensures { result ≡ last_address self }
+    {
+        (u64::from(self.base) + (block_size(self.len) - 1)) as u32
     }
 
     /// Whether the address `a` is one of the prefix's.
