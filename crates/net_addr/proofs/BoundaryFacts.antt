@@ -1,9 +1,9 @@
 -- Why an interval of addresses without a boundary of a block lies inside the block or outside it.
-use Rattle.std.proofs.Common.{◌≡◌, ℕ, suc, ◌+◌, ◌-◌, ◌*◌, ◌/◌, ◌%◌, ◌^◌, ◌<◌, ◌≤◌, ◌⊎◌, ◌↔◌, arith, refl, sym, ap, subst, ◌∙◌, inl, inr, ⊎_elim}
+use Rattle.std.proofs.Common.{◌≡◌, ℕ, suc, ◌+◌, ◌-◌, ◌*◌, ◌/◌, ◌%◌, ◌^◌, ◌<◌, ◌≤◌, ◌↔◌, arith, refl, sym, ap, subst, ◌∙◌, inl, inr, ⊎_elim}
 use Rattle.std.proofs.lemmas.Nat.{pow_pos, pow-add, div_below, mul-le}
 use Rattle.std.proofs.lemmas.Bool.{cases_lt}
 use Rattle.net_addr.specs.Addresses.{Block, ContainsAddress, IsBlock}
-use Rattle.net_addr.specs.Boundaries.{last_address, IsBoundary, NoBoundaryBetween, BoundaryLaw}
+use Rattle.net_addr.specs.Boundaries.{last_address, NoBoundaryBetween, BoundaryLaw}
 use Rattle.net_addr.proofs.Blocks.{block_size, ContainsAddress-bounds, ContainsAddress-between}
 
 fits_below : (b n m : ℕ) → 0 < n → b % n ≡ 0 → b < m * n → b + n ≤ m * n

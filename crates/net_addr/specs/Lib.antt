@@ -1,2 +1,4 @@
 pub mod Addresses
 pub mod Boundaries
+pub mod Readers
+pub mod Numerals

@@ -4,7 +4,9 @@
 mod prefix;
 mod boundary;
 mod name;
+mod number;
 
 pub use boundary::boundary_law;
 pub use name::{Bytes, Name};
+pub use number::read_number;
 pub use prefix::Prefix;
