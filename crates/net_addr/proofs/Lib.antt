@@ -1,3 +1,4 @@
 pub mod Blocks
 pub mod BoundaryFacts
 pub mod NumeralFacts
+pub mod AddressWordFacts

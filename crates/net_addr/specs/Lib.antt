@@ -2,3 +2,5 @@ pub mod Addresses
 pub mod Boundaries
 pub mod Readers
 pub mod Numerals
+pub mod AddressWords
+pub mod Cuts

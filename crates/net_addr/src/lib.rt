@@ -5,7 +5,9 @@ mod prefix;
 mod boundary;
 mod name;
 mod number;
+mod address;
 
+pub use address::read_addr;
 pub use boundary::boundary_law;
 pub use name::{Bytes, Name};
 pub use number::read_number;
