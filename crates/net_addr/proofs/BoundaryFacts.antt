@@ -14,7 +14,7 @@ fits_below b n m pos clear below =
     let more : suc (b / n) * n ≡ b / n * n + n = omega arith in
     omega arith
 
-whole_space : (len : ℕ) → len ≤ 32 → 2 ^ len * 2 ^ (32 - len) ≡ 2 ^ 32
+pub whole_space : (len : ℕ) → len ≤ 32 → 2 ^ len * 2 ^ (32 - len) ≡ 2 ^ 32
 whole_space len short =
     let all : len + (32 - len) ≡ 32 = omega arith in sym (pow-add 2 len (32 - len)) ∙ ap (λ (k : ℕ). 2 ^ k) all
 

@@ -91,7 +91,7 @@ impl Prefix {
 }
 
 /// How many addresses a prefix of this length has.
-fn block_size(len: u8) -> u64
+pub(crate) fn block_size(len: u8) -> u64
     requires { len ≤ 32 }
     ensures { result ≡ 2 ^ (32 - len) }
 {
