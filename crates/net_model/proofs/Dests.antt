@@ -1,17 +1,17 @@
 -- The sorted list of prefixes without repeats is what the limit counts.
-use Rattle.std.proofs.Common.{◌≡◌, ◌≢◌, ◌<◌, ◌↔◌, ℕ, Bool, true, false, ◌&&◌, ◌==◌, if◌then◌else◌, List, ◌++◌, length, map, get_or, Option, Some, None, IsTrue, Ordering, Contains, AllPairs, IsPermutation, eqb-true, refl, sym, ap, subst, ◌∙◌, ⊎_elim, arith}
+use Rattle.std.proofs.Common.{◌≡◌, ◌≢◌, ◌<◌, ◌≤◌, ◌↔◌, ℕ, Bool, true, false, ◌&&◌, ◌==◌, if◌then◌else◌, List, ◌++◌, length, map, get_or, Option, Some, None, IsTrue, Ordering, Contains, AllPairs, IsPermutation, eqb-true, refl, sym, ap, subst, ◌∙◌, ⊎_elim, arith}
 use Rattle.std.specs.Cmp.{IsTotalOrder, IsEquivalence, and_equiv, on_equiv, on_total, then_total, both_tied, tied_itself, nat_cmp_total, nat_eq_equiv, unsigned_ties}
 use Rattle.std.specs.Ordering.{nat_cmp, ordering_then, eq_by_cmp, is_eq}
 use Rattle.std.specs.declared.cmp.Ordering.TheVariants.{Less}
 use Rattle.std.specs.List.{dedup}
 use Rattle.std.specs.List.Sorted.{IsSorted, IsStrictlySortedBy}
-use Rattle.std.proofs.lemmas.List.Sorted.{Contains-permutation, IsPermutation-sym}
+use Rattle.std.proofs.lemmas.List.Sorted.{Contains-permutation, IsPermutation-sym, length_permutation, sum_by-IsPermutation}
 use Rattle.std.proofs.lemmas.List.Kept.{Contains-dedup, Contains-from_dedup, IsStrictlySortedBy-dedup}
 use Rattle.std.proofs.lemmas.List.Elements.{Contains-append_left, Contains-append_right, Contains-append_cases}
 use Rattle.std.proofs.lemmas.Map.Keys.{Less-from_sorted}
 use Rattle.net_addr.specs.Addresses.{Block}
 use Rattle.net_model.specs.Configuration.{Configuration}
-use Rattle.net_model.specs.Limits.{NamesDest, IsDest, CountsDests}
+use Rattle.net_model.specs.Limits.{up_interfaces, all_up_interfaces, NamesDest, IsDest, CountsDests, IsWithinLimits}
 use Rattle.net_model.specs.Limits.NamesDest.{by_interface, by_range}
 use Rattle.net_model.specs.DestLists.{subnet_if_up, own_dests, all_dests}
 use Rattle.net_model.specs.declared.area.Range.{Range}
@@ -97,3 +97,27 @@ CountsDests-sorted configs ys zs moved up is = record {
   );
   count_is = refl;
 }
+
+IsDest-permutation : (xs ys : List Configuration) (p : Block) → IsPermutation xs ys → IsDest xs p → IsDest ys p
+IsDest-permutation xs ys p moves d = record { config = d.config; among = Contains-permutation xs ys d.config moves d.among; names = d.names }
+
+CountsDests-permutation : (xs ys : List Configuration) (count : ℕ) → IsPermutation xs ys → CountsDests xs count → CountsDests ys count
+CountsDests-permutation xs ys count moves c = record {
+  dests = c.dests;
+  once = c.once;
+  exact = λ p. (λ h. IsDest-permutation xs ys p moves ((c.exact p).0 h), λ d. (c.exact p).1 (IsDest-permutation ys xs p (IsPermutation-sym xs ys moves) d));
+  count_is = c.count_is;
+}
+
+-- the limits don't depend on the order
+pub IsWithinLimits-permutation : (xs ys : List Configuration) → IsPermutation xs ys → IsWithinLimits xs → IsWithinLimits ys
+IsWithinLimits-permutation xs ys moves w =
+    let long = length_permutation xs ys moves in
+    let sum = sum_by-IsPermutation up_interfaces xs ys moves in
+    record {
+      routers = omega (arith, long, w.routers);
+      interfaces = omega (arith, sum, w.interfaces);
+      dests = w.dests;
+      counted = CountsDests-permutation xs ys w.dests moves w.counted;
+      few = w.few;
+    }

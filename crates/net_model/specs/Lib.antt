@@ -4,3 +4,4 @@ pub mod Limits
 pub mod Refusals
 pub mod Lookups
 pub mod DestLists
+pub mod Doubles

@@ -5,7 +5,7 @@ use Rattle.net_model.specs.Configuration.{Configuration}
 use Rattle.net_model.specs.Network.{Network, HasConfiguration, Connected, Adjacent}
 use Rattle.net_model.specs.declared.zone.Zone.{Zone}
 
--- router u has this name
+-- the configuration at place u has this name
 pub record IsNamed (net : Network) (name : List ℕ) (u : ℕ) : Type 0 where
   pub config : Configuration
   pub router : HasConfiguration net u config

@@ -1,11 +1,12 @@
 -- Which network configurations make, and why they make none.
-use Rattle.std.specs.Prelude.{◌≡◌, ℕ, ◌≤◌, ◌<◌, List, length, All, AllPairs, IsPermutation, min}
+use Rattle.std.specs.Prelude.{◌≡◌, ◌≢◌, ℕ, ◌≤◌, ◌<◌, List, length, All, AllPairs, IsPermutation, min}
 use Rattle.std.specs.Cmp.Lexicographic.{slice_cmp}
 use Rattle.std.specs.Ordering.{nat_cmp}
 use Rattle.std.specs.declared.cmp.Ordering.TheVariants.{Less}
 use Rattle.net_model.specs.Configuration.{Configuration, IsConfiguration}
 use Rattle.net_model.specs.Limits.{all_up_interfaces, CountsDests, IsWithinLimits}
-use Rattle.net_model.specs.Network.{Network, HasConfiguration}
+use Rattle.net_model.specs.Lookups.{IsNamed}
+use Rattle.net_model.specs.Network.{Network}
 use Rattle.net_model.specs.declared.refusal.LimitWhat.TheVariants.{Routers, Interfaces, Dests}
 use Rattle.net_model.specs.declared.refusal.NetRefusal.{NetRefusal}
 use Rattle.net_model.specs.declared.refusal.NetRefusal.TheVariants.{Limit, TwoNames, OutOfMemory}
@@ -53,13 +54,9 @@ pub record NameTooMany (configs : List Configuration) (number : ℕ) : Type 0 wh
 pub record TwoHaveName (configs : List Configuration) (name : List ℕ) : Type 0 where
   pub one : ℕ
   pub two : ℕ
-  pub apart : one < two
-  pub first : Configuration
-  pub second : Configuration
-  pub first_at : HasConfiguration configs one first
-  pub second_at : HasConfiguration configs two second
-  pub first_name : first.name ≡ name
-  pub second_name : second.name ≡ name
+  pub apart : one ≢ two
+  pub first : IsNamed configs name one
+  pub second : IsNamed configs name two
 
 -- the least name that two configurations have
 pub record IsLeastDouble (configs : List Configuration) (name : List ℕ) : Type 0 where
@@ -75,3 +72,9 @@ Refuses (Limit Dests number) configs =
     (length configs ≤ 200) × (all_up_interfaces configs ≤ 2000) × NameTooMany configs number
 Refuses (TwoNames name) configs = IsWithinLimits configs × IsLeastDouble configs name
 Refuses OutOfMemory configs = Unit {0}
+
+-- the refusal is that two configurations have this name, or want of memory
+abbrev pub IsTwoNames : List ℕ → NetRefusal → Type 0
+IsTwoNames name (Limit _ _) = ⊥
+IsTwoNames name (TwoNames least) = least ≡ name
+IsTwoNames name OutOfMemory = Unit {0}

@@ -1,10 +1,13 @@
 ghost use Rattle.std.specs.Prelude.{◌≡◌, ◌<◌, ◌↔◌, ℕ, length, IsTrue, IfOk, IfErr, MatchOption};
 ghost use Rattle.net_model.specs.Network.{HasConfiguration, Connected, Adjacent};
-ghost use Rattle.net_model.specs.Refusals.{IsNetwork, MakeNetwork, Refuses};
+ghost use Rattle.net_model.specs.Refusals.{IsNetwork, IsTwoNames, MakeNetwork, Refuses};
 ghost use Rattle.net_model.specs.Lookups.{IsNamed, LeastArc};
 
-use crate::{Config, Zone};
-use net_addr::Prefix;
+use crate::limits::within_limits;
+use crate::order::{first_double, sort_by_name};
+use crate::{Config, Configs, NetRefusal};
+use net_addr::Name;
+use std::alloc::Global;
 use std::marker::Model;
 
 /// A network: the configurations of its routers, which are numbered from 0 in byte order of their names.
@@ -27,6 +30,20 @@ impl Model for Net {
 }
 
 impl Net {
+    /// The network of configurations, or the first refusal that stands. The configurations are consumed either way.
+    pub fn build(alloc: Global, configs: Configs) -> Result<Net, NetRefusal>
+        ensures ok { IfOk result (λ net. MakeNetwork configs net) }
+        ensures err { IfErr result (λ refusal. Refuses refusal configs) }
+    {
+        let mut configs = configs.into_vec();
+        within_limits(alloc, configs.as_slice())?;
+        sort_by_name(&mut configs);
+        match first_double(configs.as_slice()) {
+            Some(place) => Err(two_names(alloc, &configs[place])),
+            None => Ok(Net { configs }),
+        }
+    }
+
     /// The count of routers, at most 200.
     pub fn routers(&self) -> u32
         ensures count { result ≡ length self.now }
@@ -42,5 +59,17 @@ impl Net {
         ensures network { IsNetwork self.now }
     {
         &self.configs[router as usize]
+    }
+}
+
+/// The refusal of a name that two configurations have.
+fn two_names(alloc: Global, config: &Config) -> NetRefusal
+    ensures { IsTwoNames config.now.name result }
+{
+    match Vec::from_slice(alloc, config.name.as_slice()) {
+        Ok(bytes) => NetRefusal::TwoNames {
+            name: Name::from_vec(bytes),
+        },
+        Err(_) => NetRefusal::OutOfMemory,
     }
 }
