@@ -2,5 +2,9 @@
 #![tactic(auto)]
 
 mod entry;
+mod entries;
+mod table;
 
+pub use entries::Entries;
 pub use entry::{Entry, Hops};
+pub use table::Table;
