@@ -3,8 +3,11 @@
 
 mod entry;
 mod entries;
+mod matches;
 mod table;
+mod source;
 
 pub use entries::Entries;
 pub use entry::{Entry, Hops};
+pub use source::RouteSource;
 pub use table::Table;
