@@ -1,5 +1,5 @@
 -- Laws of lists of hops.
-use Rattle.std.proofs.Common.{◌≡◌, ℕ, zero, suc, ◌+◌, ◌<◌, ◌≤◌, ◌⊎◌, inl, inr, List, [], ◌∷◌, length, get_or, Contains, arith, refl, sym, ap, ◌∙◌, subst}
+use Rattle.std.proofs.Common.{◌≡◌, ℕ, zero, suc, ◌+◌, ◌<◌, ◌⊎◌, inl, inr, List, [], ◌∷◌, length, get_or, Contains, arith, refl, sym, ap}
 use Rattle.std.proofs.lemmas.List.Kept.{AllPairs-from_increasing}
 use Rattle.std.specs.List.Sorted.{IsStrictlyIncreasing}
 use Rattle.route_core.specs.Hops.{AreHops}
@@ -33,18 +33,18 @@ first_below x xs y h has =
 same_first : (x y : ℕ) (xs ys : List ℕ) → IsStrictlyIncreasing (x ∷ xs) → IsStrictlyIncreasing (y ∷ ys)
     → Contains (y ∷ ys) x → Contains (x ∷ xs) y → x ≡ y
 same_first x y xs ys a b has_x has_y = elim (member_cases y ys x has_x) [
-    inl same ↦ sym same
+  | inl same ↦ sym same
   | inr later_x ↦ elim (member_cases x xs y has_y) [
-      inl same ↦ same
+    | inl same ↦ same
     | inr later_y ↦ let up : x < y = first_below x xs y a later_y in let down : y < x = first_below y ys x b later_x in absurd (omega arith)
-    ]
   ]
+]
 
 rest_member : (x y : ℕ) (xs ys : List ℕ) (n : ℕ) → IsStrictlyIncreasing (x ∷ xs) → x ≡ y → Contains xs n → Contains (y ∷ ys) n → Contains ys n
 rest_member x y xs ys n a same later has = elim (member_cases y ys n has) [
-    inl first ↦ let up : x < n = first_below x xs n a later in absurd (omega arith)
+  | inl first ↦ let up : x < n = first_below x xs n a later in absurd (omega arith)
   | inr found ↦ found
-  ]
+]
 
 -- two ascending lists with the same members are one list
 pub same_increasing : (xs ys : List ℕ) → IsStrictlyIncreasing xs → IsStrictlyIncreasing ys
@@ -55,8 +55,8 @@ same_increasing (x ∷ xs) [] a b to from = let none : Contains [] x = to x (fir
 same_increasing (x ∷ xs) (y ∷ ys) a b to from =
     let first : x ≡ y = same_first x y xs ys a b (to x (first_member x xs)) (from y (first_member y ys)) in
     let rest : xs ≡ ys = same_increasing xs ys (increasing_tail x xs a) (increasing_tail y ys b)
-      (λ n later. rest_member x y xs ys n a first later (to n (later_member x xs n later)))
-      (λ n later. rest_member y x ys xs n b (sym first) later (from n (later_member y ys n later))) in
+    (λ n later. rest_member x y xs ys n a first later (to n (later_member x xs n later)))
+    (λ n later. rest_member y x ys xs n b (sym first) later (from n (later_member y ys n later))) in
     cc
 
 -- a relation has at most one list of hops

@@ -1,12 +1,11 @@
 -- One more entry, and the longest match so far.
-use Rattle.std.proofs.Common.{◌≡◌, ℕ, zero, suc, ◌+◌, ◌<◌, ◌≤◌, ◌⊎◌, inl, inr, List, [], ◌∷◌, ◌++◌, length, get_or, slice_get, Option, Some, None, All, Contains, MatchOption, refl, sym, ap, ◌∙◌, arith, length-append, subst}
+use Rattle.std.proofs.Common.{◌≡◌, ℕ, zero, suc, ◌≤◌, ◌⊎◌, inl, inr, List, [], ◌∷◌, ◌++◌, length, slice_get, Option, Some, None, All, MatchOption, refl, sym, arith, subst}
 use Rattle.std.proofs.lemmas.List.Elements.{All-push, All-weaker, Contains-push, Contains-append_left}
 use Rattle.std.proofs.lemmas.Bool.{cases_lt}
-use Rattle.std.proofs.lemmas.Option.{slice_get_within, slice_get-get_or, slice_get_read}
 use Rattle.net_addr.specs.Addresses.{Block, ContainsAddress, IsBlock}
 use Rattle.route_core.specs.declared.entry.Entry.{Entry}
 use Rattle.route_core.specs.declared.matches.Match.{Match}
-use Rattle.route_core.specs.Tables.{NoneContains, LongestEntry, LongestAt}
+use Rattle.route_core.specs.Tables.{NoneContains}
 use Rattle.route_core.specs.Matches.{AreBlocks, FoundLongest, TakesLonger}
 
 -- an entry is no longer than this where it contains the address
@@ -80,10 +79,10 @@ longer_taken : (xs : List (Block × Entry)) (a : ℕ) (best : Option Match) (nex
 longer_taken xs a None next after h inside takes =
     subst (Found (xs ++ next ∷ []) a) (sym takes) (taken xs a next inside (All-weaker (Misses a) (NoLonger a next.0.len) (λ other out inside'. absurd (out inside')) xs h))
 longer_taken xs a (Some old) next after h inside takes = elim (cases_lt old.len next.0.len) [
-    inl longer ↦ subst (Found (xs ++ next ∷ []) a) (sym (takes.0 longer))
+  | inl longer ↦ subst (Found (xs ++ next ∷ []) a) (sym (takes.0 longer))
       (taken xs a next inside (All-weaker (NoLonger a h.at.dest.len) (NoLonger a next.0.len) (λ other le inside'. let under : other.0.len ≤ h.at.dest.len = le inside' in omega (arith, h.len)) xs h.at.longest.longest))
   | inr short ↦ subst (Found (xs ++ next ∷ []) a) (sym (takes.1 short)) (kept xs a next old h (λ _. short))
-  ]
+]
 
 passed : (xs : List (Block × Entry)) (a : ℕ) (best : Option Match) (next : Block × Entry)
     → Found xs a best → ¬ ContainsAddress next.0 a → Found (xs ++ next ∷ []) a best

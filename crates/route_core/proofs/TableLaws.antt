@@ -1,5 +1,5 @@
 -- Laws of tables: entries by place and by membership, one entry a prefix, one longest match.
-use Rattle.std.proofs.Common.{◌≡◌, ◌≢◌, ℕ, ◌+◌, ◌-◌, ◌*◌, ◌/◌, ◌%◌, ◌^◌, ◌<◌, ◌≤◌, ◌⊎◌, ◌↔◌, inl, inr, List, [], ◌∷◌, ◌++◌, length, get_or, slice_get, Option, Some, None, All, AllPairs, Contains, refl, sym, ap, ◌∙◌, arith, subst}
+use Rattle.std.proofs.Common.{◌≡◌, ◌≢◌, ℕ, ◌-◌, ◌*◌, ◌/◌, ◌%◌, ◌^◌, ◌<◌, ◌≤◌, ◌↔◌, inl, inr, List, [], ◌∷◌, ◌++◌, length, get_or, slice_get, Some, Contains, sym, ap, ◌∙◌, arith, subst}
 use Rattle.std.proofs.lemmas.Bool.{cases_lt}
 use Rattle.std.proofs.lemmas.List.Elements.{Contains-get_or, All-contains}
 use Rattle.std.proofs.lemmas.List.Quantifiers.{all_pairs_push}
@@ -49,10 +49,10 @@ same_place xs i j p e f distinct at_i at_j =
     let in_i : i < length xs = slice_get_within xs i (p, e) at_i in
     let in_j : j < length xs = slice_get_within xs j (p, f) at_j in
     elim (cases_lt i j) [
-      inl before ↦ absurd (distinct i j (p, e) before in_j (prefixes_agree is_i is_j))
-    | inr after ↦ elim (cases_lt j i) [
-        inl before ↦ absurd (distinct j i (p, e) before in_i (sym (prefixes_agree is_i is_j)))
-      | inr before ↦ omega arith
+      | inl before ↦ absurd (distinct i j (p, e) before in_j (prefixes_agree is_i is_j))
+      | inr after ↦ elim (cases_lt j i) [
+        | inl before ↦ absurd (distinct j i (p, e) before in_i (sym (prefixes_agree is_i is_j)))
+        | inr before ↦ omega arith
       ]
     ]
 

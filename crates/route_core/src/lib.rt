@@ -1,11 +1,11 @@
 //! Route tables: entries, their hops, the longest match, and what a source of tables promises.
 #![tactic(auto)]
 
-mod entry;
 mod entries;
+mod entry;
 mod matches;
-mod table;
 mod source;
+mod table;
 
 pub use entries::Entries;
 pub use entry::{Entry, Hops};

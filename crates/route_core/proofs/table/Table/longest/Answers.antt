@@ -3,7 +3,7 @@ use Rattle.std.proofs.lemmas.Option.{slice_get_within}
 use Rattle.net_addr.specs.Addresses.{Block}
 use Rattle.route_core.specs.declared.entry.Entry.{Entry}
 use Rattle.route_core.specs.Matches.{AreBlocks, FoundLongest}
-use Rattle.route_core.specs.Tables.{HasDistinctPrefixes, LongestAt}
+use Rattle.route_core.specs.Tables.{HasDistinctPrefixes}
 use Rattle.route_core.proofs.TableLaws.{longest_stands}
 use Rattle.route_core.proofs.table.Table.longest.Goals as goal
 
