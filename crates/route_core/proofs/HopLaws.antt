@@ -2,7 +2,9 @@
 use Rattle.std.proofs.Common.{◌≡◌, ℕ, zero, suc, ◌+◌, ◌<◌, ◌⊎◌, inl, inr, List, [], ◌∷◌, length, get_or, Contains, arith, refl, sym, ap}
 use Rattle.std.proofs.lemmas.List.Kept.{AllPairs-from_increasing}
 use Rattle.std.specs.List.Sorted.{IsStrictlyIncreasing}
+use Rattle.std.proofs.lemmas.List.Elements.{Contains-get_or}
 use Rattle.route_core.specs.Hops.{AreHops}
+use Rattle.route_core.specs.Tables.{AreLinkedHops}
 
 increasing_tail : (x : ℕ) (xs : List ℕ) → IsStrictlyIncreasing (x ∷ xs) → IsStrictlyIncreasing xs
 increasing_tail x xs h k below =
@@ -63,3 +65,13 @@ same_increasing (x ∷ xs) (y ∷ ys) a b to from =
 pub AreHops-unique : (hop : ℕ → Type 0) (xs ys : List ℕ) → AreHops hop xs → AreHops hop ys → xs ≡ ys
 AreHops-unique hop xs ys a b = same_increasing xs ys a.ascending b.ascending
     (λ n has. (b.exact n).1 ((a.exact n).0 has)) (λ n has. (a.exact n).1 ((b.exact n).0 has))
+
+-- hops of a relation, each of which is a router that there is a link to, are linked hops
+pub AreLinkedHops-from_AreHops : (routers : ℕ) (link hop : ℕ → Type 0) (hops : List ℕ) (h : ℕ) → AreHops hop hops → hop h
+    → ((n : ℕ) → hop n → n < routers) → ((n : ℕ) → hop n → link n) → AreLinkedHops routers link hops
+AreLinkedHops-from_AreHops routers link hop hops h are is_hop below linked = record {
+  some = let found : Contains hops h = (are.exact h).1 is_hop in omega (arith, found.1);
+  ascending = are.ascending;
+  below = λ k d under. below (get_or hops k d) ((are.exact (get_or hops k d)).0 (Contains-get_or hops k d under));
+  linked = λ k d under. linked (get_or hops k d) ((are.exact (get_or hops k d)).0 (Contains-get_or hops k d under));
+}

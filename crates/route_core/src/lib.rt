@@ -10,4 +10,5 @@ mod table;
 pub use entries::Entries;
 pub use entry::{Entry, Hops};
 pub use source::RouteSource;
+pub use std::alloc::AllocError as OutOfMemory;
 pub use table::Table;
