@@ -58,7 +58,7 @@ pub same_block : (p q : Block) (a : ℕ) → IsBlock p → IsBlock q → p.len �
 same_block p q a left right same_len in_p in_q =
     let one_size : block_size p ≡ block_size q = ap (λ (m : ℕ). 2 ^ (32 - m)) same_len in
     let same_bits : p.base / block_size q ≡ q.base / block_size q =
-        ap (λ (m : ℕ). p.base / m) (sym one_size) ∙ sym in_p ∙ ap (λ (m : ℕ). a / m) one_size ∙ in_q in
+    ap (λ (m : ℕ). p.base / m) (sym one_size) ∙ sym in_p ∙ ap (λ (m : ℕ). a / m) one_size ∙ in_q in
     let clear : p.base % block_size q ≡ 0 = ap (λ (m : ℕ). p.base % m) (sym one_size) ∙ left.clear in
     let p_whole : p.base ≡ p.base / block_size q * block_size q = multiple_of p.base (block_size q) (pow_pos (32 - q.len)) clear in
     let q_whole : q.base ≡ q.base / block_size q * block_size q = multiple_of q.base (block_size q) (pow_pos (32 - q.len)) right.clear in

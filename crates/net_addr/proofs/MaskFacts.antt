@@ -25,7 +25,7 @@ IsMask-sum a len mask =
 pub IsMask-from_sum : (a len : ℕ) → 1 ≤ len → len ≤ 32 → a + 2 ^ (32 - len) ≡ 2 ^ 32 → IsMask a len
 IsMask-from_sum a len some most e =
     let parts : (a / 2 ^ (32 - len) ≡ 2 ^ len - 1) × (a % 2 ^ (32 - len) ≡ 0) =
-        unfilled a (2 ^ (32 - len)) (2 ^ len) (pow_pos (32 - len)) (pow_pos len) (e ∙ sym (whole_space len most)) in
+    unfilled a (2 ^ (32 - len)) (2 ^ len) (pow_pos (32 - len)) (pow_pos len) (e ∙ sym (whole_space len most)) in
     record { some = some; most = most; ones = parts.0; zeros = parts.1 }
 
 -- a word that is the address a stands for the count of ones of a
