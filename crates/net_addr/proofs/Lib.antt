@@ -5,3 +5,4 @@ pub mod AddressWordFacts
 pub mod MaskFacts
 pub mod PieceFacts
 pub mod PlacedPieces
+pub mod WordFacts

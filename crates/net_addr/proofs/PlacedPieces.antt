@@ -25,7 +25,7 @@ StandsAt-end text start piece stands =
     let inside : start ≤ length text = stands.inside in
     omega (arith, length-drop start text, ap length stands.here, length-append piece stands.rest)
 
-StandsAt-bytes : (text : List ℕ) (start : ℕ) (piece : List ℕ) → StandsAt text start piece → slice_range text start (start + length piece) ≡ piece
+pub StandsAt-bytes : (text : List ℕ) (start : ℕ) (piece : List ℕ) → StandsAt text start piece → slice_range text start (start + length piece) ≡ piece
 StandsAt-bytes text start piece stands =
     let wide : start + length piece - start ≡ length piece = omega arith in
     ap (λ (n : ℕ). take n (drop start text)) wide ∙ ap (take (length piece)) stands.here ∙ take_at piece stands.rest (length piece) refl
@@ -112,7 +112,7 @@ lines_of-texts text number start (piece ∷ more) placed =
 pub text_lines-texts : (text : List ℕ) → map (λ (line : Line). bytes_of text line.span) (text_lines text) ≡ line_texts text
 text_lines-texts text = lines_of-texts text 1 0 (line_pieces text) (line_pieces-placed text)
 
-StandsAt-lies : (text : List ℕ) (start : ℕ) (piece : List ℕ) → StandsAt text start piece → LiesIn text (record { start = start; stop = start + length piece })
+pub StandsAt-lies : (text : List ℕ) (start : ℕ) (piece : List ℕ) → StandsAt text start piece → LiesIn text (record { start = start; stop = start + length piece })
 StandsAt-lies text start piece stands = record { ordered = omega arith; inside = StandsAt-end text start piece stands }
 
 lines_of-inside : (text : List ℕ) (number start : ℕ) (pieces : List (List ℕ)) → ArePlaced text start pieces → All (λ (line : Line). LiesIn text line.span) (lines_of number start pieces)

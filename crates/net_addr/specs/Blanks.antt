@@ -2,7 +2,7 @@
 use Rattle.std.specs.Prelude.{ℕ, ◌+◌, Bool, ◌==◌, ◌||◌, nat_lt, List, [], ◌∷◌, length, filter, take_while}
 use Rattle.std.specs.List.{slice_split}
 use Rattle.net_addr.specs.declared.span.Span.{Span}
-use Rattle.net_addr.specs.Spans.{bytes_of}
+use Rattle.net_addr.specs.Spans.{bytes_of, has_bytes}
 
 -- a blank is a space (32) or a tab (9)
 abbrev pub is_blank : ℕ → Bool
@@ -24,4 +24,4 @@ spans_of start (piece ∷ more) =
 
 -- the spans of the words in a span of a text
 abbrev pub word_spans : List ℕ → Span → List Span
-word_spans text span = filter (λ piece. nat_lt piece.start piece.stop) (spans_of span.start (slice_split is_blank (bytes_of text span)))
+word_spans text span = filter has_bytes (spans_of span.start (slice_split is_blank (bytes_of text span)))

@@ -10,6 +10,7 @@ mod name;
 mod number;
 mod prefix;
 mod span;
+mod word;
 
 pub use address::read_addr;
 pub use boundary::boundary_law;
@@ -20,3 +21,7 @@ pub use number::read_number;
 pub use prefix::Prefix;
 pub use span::{Span, SpanList};
 pub use std::alloc::AllocError as OutOfMemory;
+pub use word::words;
+
+#[cfg(test)]
+mod tests;
