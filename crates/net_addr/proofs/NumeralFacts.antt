@@ -58,3 +58,7 @@ whole_numeral most word i value some all digits read small = record {
   };
   within = small;
 }
+
+-- a word stands for at most one number
+pub IsNumeralUpTo-unique : (most : ℕ) (word : List ℕ) (m n : ℕ) → IsNumeralUpTo most word m → IsNumeralUpTo most word n → m ≡ n
+IsNumeralUpTo-unique most word m n x y = sym x.numeral.value ∙ y.numeral.value
