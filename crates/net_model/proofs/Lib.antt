@@ -1,3 +1,5 @@
 pub mod Members
 mod Dests
 mod Names
+mod BestLinks
+pub mod Adjacency

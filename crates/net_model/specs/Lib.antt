@@ -5,3 +5,4 @@ pub mod Refusals
 pub mod Lookups
 pub mod DestLists
 pub mod Doubles
+pub mod Links

@@ -5,6 +5,7 @@ mod area;
 mod config;
 mod interface;
 mod limits;
+mod links;
 mod net;
 mod order;
 mod refusal;

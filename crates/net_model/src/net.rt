@@ -1,12 +1,14 @@
-ghost use Rattle.std.specs.Prelude.{◌≡◌, ◌<◌, ◌↔◌, ℕ, length, IsTrue, IfOk, IfErr, MatchOption};
+ghost use Rattle.std.specs.Prelude.{◌≡◌, ◌<◌, ◌↔◌, ℕ, length, Any, IsTrue, IfOk, IfErr, IfSome, MatchOption};
 ghost use Rattle.net_model.specs.Network.{HasConfiguration, Connected, Adjacent};
 ghost use Rattle.net_model.specs.Refusals.{IsNetwork, IsTwoNames, MakeNetwork, Refuses};
 ghost use Rattle.net_model.specs.Lookups.{IsNamed, LeastArc};
+ghost use Rattle.net_model.specs.Links.{HasSubnet};
 
 use crate::limits::within_limits;
+use crate::links::{best_link, may_join};
 use crate::order::{first_double, sort_by_name};
-use crate::{Config, Configs, NetRefusal};
-use net_addr::Name;
+use crate::{Config, Configs, Interface, NetRefusal, Zone};
+use net_addr::{Name, Prefix};
 use std::alloc::Global;
 use std::marker::Model;
 
@@ -59,6 +61,83 @@ impl Net {
         ensures network { IsNetwork self.now }
     {
         &self.configs[router as usize]
+    }
+
+    /// The number of the router of this name.
+    pub fn number_of(&self, name: &[u8]) -> Option<u32>
+        ensures {
+            MatchOption result ((u : ℕ) → IsNamed self.now name.now u → ⊥) (IsNamed self.now name.now)
+        }
+    {
+        match place_of(self.configs.as_slice(), name) {
+            Some(place) => Some(place as u32),
+            None => None,
+        }
+    }
+
+    /// The least cost at which two routers are adjacent in the zone.
+    pub fn arc(&self, zone: Zone, u: u32, v: u32) -> Option<u32>
+        requires from { u < length self.now }
+        requires to { v < length self.now }
+        ensures {
+            MatchOption result
+                ((cost : ℕ) → Adjacent self.now zone u v cost → ⊥)
+                (LeastArc self.now zone u v)
+        }
+    {
+        let near = self.config(u);
+        let far = self.config(v);
+        if u == v || !may_join(zone, near, far) {
+            return None;
+        }
+        best_link(zone, near.interfaces.as_slice(), far.interfaces.as_slice())
+    }
+
+    /// Whether the prefix is the subnet of an up interface of the router.
+    pub fn originates(&self, router: u32, dest: Prefix) -> bool
+        requires { router < length self.now }
+        ensures { IsTrue result ↔ Connected self.now router dest }
+    {
+        has_subnet(self.config(router).interfaces.as_slice(), dest)
+    }
+}
+
+/// The place of the configuration of this name.
+fn place_of(configs: &[Config], name: &[u8]) -> Option<usize>
+    ensures named {
+        MatchOption result ((u : ℕ) → IsNamed configs.now name.now u → ⊥) (IsNamed configs.now name.now)
+    }
+    ensures within { IfSome result (λ place. place < length configs.now) }
+{
+    for (place, config) in configs.iter().enumerate() {
+        if has_name(config, name) {
+            return Some(place);
+        }
+    }
+    None
+}
+
+/// Whether a configuration has this name.
+fn has_name(config: &Config, name: &[u8]) -> bool
+    ensures { IsTrue result ↔ (config.now.name ≡ name.now) }
+{
+    config.name.as_slice() == name
+}
+
+/// Whether the prefix is the subnet of an interface that is up.
+fn has_subnet(interfaces: &[Interface], dest: Prefix) -> bool
+    ensures { IsTrue result ↔ Any (HasSubnet dest) interfaces.now }
+{
+    interfaces.iter().any(|i| is_subnet(i, dest))
+}
+
+/// Whether the interface is up and has this subnet.
+fn is_subnet(interface: &Interface, dest: Prefix) -> bool
+    ensures { IsTrue result ↔ HasSubnet dest interface.now }
+{
+    match interface.subnet {
+        Some(subnet) => interface.up && subnet == dest,
+        None => false,
     }
 }
 
