@@ -3,3 +3,4 @@ mod Dests
 mod Names
 mod BestLinks
 pub mod Adjacency
+mod BestSubnets

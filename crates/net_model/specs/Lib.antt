@@ -6,3 +6,4 @@ pub mod Lookups
 pub mod DestLists
 pub mod Doubles
 pub mod Links
+pub mod Subnets

@@ -5,11 +5,6 @@ use Rattle.net_model.specs.Network.{RunsIn, cost_in}
 use Rattle.net_model.specs.declared.interface.Interface.{Interface}
 use Rattle.net_model.specs.declared.zone.Zone.{Zone}
 
--- an interface is up and has this subnet
-pub record HasSubnet (p : Block) (i : Interface) : Type 0 where
-  pub up : IsTrue i.up
-  pub subnet : i.subnet ≡ Some p
-
 -- an interface may take part in an adjacency of the zone: it's up, no loopback, and forms adjacencies there
 pub record IsLink (zone : Zone) (i : Interface) : Type 0 where
   pub up : IsTrue i.up

@@ -6,9 +6,10 @@ mod config;
 mod interface;
 mod limits;
 mod links;
+mod naming;
 mod net;
-mod order;
 mod refusal;
+mod subnets;
 mod zone;
 
 pub use area::{Range, Ranges, Stub, Stubs};

@@ -1,13 +1,14 @@
-ghost use Rattle.std.specs.Prelude.{◌≡◌, ◌<◌, ◌↔◌, ℕ, length, Any, IsTrue, IfOk, IfErr, IfSome, MatchOption};
+ghost use Rattle.std.specs.Prelude.{◌≡◌, ◌<◌, ◌↔◌, ℕ, length, IsTrue, IfOk, IfErr, MatchOption};
+ghost use Rattle.net_addr.specs.Addresses.{Block, ContainsAddress};
 ghost use Rattle.net_model.specs.Network.{HasConfiguration, Connected, Adjacent};
 ghost use Rattle.net_model.specs.Refusals.{IsNetwork, IsTwoNames, MakeNetwork, Refuses};
-ghost use Rattle.net_model.specs.Lookups.{IsNamed, LeastArc};
-ghost use Rattle.net_model.specs.Links.{HasSubnet};
+ghost use Rattle.net_model.specs.Lookups.{IsNamed, LeastArc, LongestConnected};
 
 use crate::limits::within_limits;
 use crate::links::{best_link, may_join};
-use crate::order::{first_double, sort_by_name};
-use crate::{Config, Configs, Interface, NetRefusal, Zone};
+use crate::naming::{first_double, place_of, sort_by_name};
+use crate::subnets::{has_subnet, longest_subnet};
+use crate::{Config, Configs, NetRefusal, Zone};
 use net_addr::{Name, Prefix};
 use std::alloc::Global;
 use std::marker::Model;
@@ -93,51 +94,25 @@ impl Net {
         best_link(zone, near.interfaces.as_slice(), far.interfaces.as_slice())
     }
 
+    /// The longest prefix that is connected at the router and contains the address.
+    pub fn connected(&self, router: u32, a: u32) -> Option<Prefix>
+        requires { router < length self.now }
+        ensures {
+            MatchOption result
+                ((p : Block) → Connected self.now router p → ContainsAddress p a → ⊥)
+                (LongestConnected self.now router a)
+        }
+    {
+        let home = self.config(router);
+        longest_subnet(home.interfaces.as_slice(), a)
+    }
+
     /// Whether the prefix is the subnet of an up interface of the router.
     pub fn originates(&self, router: u32, dest: Prefix) -> bool
         requires { router < length self.now }
         ensures { IsTrue result ↔ Connected self.now router dest }
     {
         has_subnet(self.config(router).interfaces.as_slice(), dest)
-    }
-}
-
-/// The place of the configuration of this name.
-fn place_of(configs: &[Config], name: &[u8]) -> Option<usize>
-    ensures named {
-        MatchOption result ((u : ℕ) → IsNamed configs.now name.now u → ⊥) (IsNamed configs.now name.now)
-    }
-    ensures within { IfSome result (λ place. place < length configs.now) }
-{
-    for (place, config) in configs.iter().enumerate() {
-        if has_name(config, name) {
-            return Some(place);
-        }
-    }
-    None
-}
-
-/// Whether a configuration has this name.
-fn has_name(config: &Config, name: &[u8]) -> bool
-    ensures { IsTrue result ↔ (config.now.name ≡ name.now) }
-{
-    config.name.as_slice() == name
-}
-
-/// Whether the prefix is the subnet of an interface that is up.
-fn has_subnet(interfaces: &[Interface], dest: Prefix) -> bool
-    ensures { IsTrue result ↔ Any (HasSubnet dest) interfaces.now }
-{
-    interfaces.iter().any(|i| is_subnet(i, dest))
-}
-
-/// Whether the interface is up and has this subnet.
-fn is_subnet(interface: &Interface, dest: Prefix) -> bool
-    ensures { IsTrue result ↔ HasSubnet dest interface.now }
-{
-    match interface.subnet {
-        Some(subnet) => interface.up && subnet == dest,
-        None => false,
     }
 }
 

@@ -1,7 +1,7 @@
 use Rattle.std.proofs.Common.{◌≡◌, ◌<◌, length, get_or, sym, ap, ◌∙◌, arith, below_more}
 use Rattle.net_model.specs.Configuration.{Configuration}
 use Rattle.net_model.proofs.Names.{named_at, named_from, named_within}
-use Rattle.net_model.proofs.net.place_of.Goals as goal
+use Rattle.net_model.proofs.naming.place_of.Goals as goal
 
 pub returns-then-has_name-clause-named : goal.returns-then-has_name-clause-named
 returns-then-has_name-clause-named c =
