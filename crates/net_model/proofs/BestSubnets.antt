@@ -32,12 +32,12 @@ module _ (a : ℕ) where
   longer_cases xs ys p q true e h k = record {
     around = around_right xs ys q k.around;
     longest = let longer = ltb-true p.len q.len e in
-      λ r c. around_cases xs ys r (r.len ≤ q.len) c (λ l. omega (arith, h.longest r l)) (k.longest r);
+        λ r c. around_cases xs ys r (r.len ≤ q.len) c (λ l. omega (arith, h.longest r l)) (k.longest r);
   }
   longer_cases xs ys p q false e h k = record {
     around = around_left xs ys p h.around;
     longest = let longer = ltb-false p.len q.len e in
-      λ r c. around_cases xs ys r (r.len ≤ p.len) c (h.longest r) (λ l. omega (arith, k.longest r l));
+        λ r c. around_cases xs ys r (r.len ≤ p.len) c (h.longest r) (λ l. omega (arith, k.longest r l));
   }
 
   -- the longest subnet of two lists of interfaces is the longer of their longest

@@ -57,12 +57,12 @@ own_from_list : (c : Configuration) (p : Block) → Contains (own_dests c) p →
 own_from_list c p h =
     ⊎_elim
     (λ l.
-      let one = Contains-filter_map subnet_if_up c.interfaces p l in
-      let is = if_up one.item.up one.item.subnet p one.gives in
-      by_interface one.item one.among is.0 is.1)
+    let one = Contains-filter_map subnet_if_up c.interfaces p l in
+    let is = if_up one.item.up one.item.subnet p one.gives in
+    by_interface one.item one.among is.0 is.1)
     (λ r.
-      let one = Contains-map (λ (g : Range). g.dest) c.ranges p r in
-      by_range one.item one.among one.gives)
+    let one = Contains-map (λ (g : Range). g.dest) c.ranges p r in
+    by_range one.item one.among one.gives)
     (Contains-append_cases _ _ p h)
 
 list_from_own : (c : Configuration) (p : Block) → NamesDest c p → Contains (own_dests c) p
@@ -93,7 +93,7 @@ CountsDests-sorted configs ys zs moved up is = record {
   once = λ i j d l h e. apart_from_sorted zs (subst (IsStrictlySortedBy block_cmp) (sym is) (IsStrictlySortedBy-dedup block_total block_ties ys up)) i j d l h e;
   exact = λ p. (
     λ c. IsDest-from_list configs p (Contains-permutation ys _ p (IsPermutation-sym _ ys moved) (Contains-from_dedup block_eq ys p (subst (λ l. Contains l p) is c))),
-    λ d. subst (λ l. Contains l p) (sym is) (Contains-dedup block_equiv block_same ys p (Contains-permutation _ ys p moved (list-from_IsDest configs p d)))
+    λ d. subst (λ l. Contains l p) (sym is) (Contains-dedup block_equiv block_same ys p (Contains-permutation _ ys p moved (list-from_IsDest configs p d))),
   );
   count_is = refl;
 }

@@ -11,7 +11,9 @@ use std::alloc::{AllocError, Global};
 
 /// The most routers, up interfaces and prefixes of a network.
 const MOST_ROUTERS: usize = 200;
+
 const MOST_INTERFACES: u64 = 2000;
+
 const MOST_DESTS: usize = 4096;
 
 /// Whether configurations are within the limits of a network; the refusal is the first that isn't kept.
