@@ -1,9 +1,9 @@
 -- The best link of two routers' interfaces, part by part, and the adjacency that it stands for.
-use Rattle.std.proofs.Common.{◌≡◌, ◌≢◌, ℕ, ◌+◌, ◌<◌, ◌≤◌, List, [], ◌∷◌, ◌++◌, length, get_or, take, Option, Some, None, min, Contains, refl, sym, ap, subst, ◌∙◌, ⊎_elim, arith}
+use Rattle.std.proofs.Common.{◌≡◌, ℕ, ◌+◌, ◌<◌, ◌≤◌, List, [], ◌∷◌, ◌++◌, length, get_or, take, Option, Some, None, min, sym, ap, subst, ◌∙◌, ⊎_elim, arith}
 use Rattle.std.proofs.lemmas.Bool.{cases_lt}
 use Rattle.std.proofs.lemmas.List.{take_more}
 use Rattle.std.proofs.lemmas.List.Elements.{Contains-append_left, Contains-append_right, Contains-append_cases}
-use Rattle.net_model.specs.Links.{Joins, LinkCosts, LeastLink, BestLink, lower_of}
+use Rattle.net_model.specs.Links.{LinkCosts, BestLink, lower_of}
 use Rattle.net_model.specs.declared.interface.Interface.{Interface}
 use Rattle.net_model.specs.declared.zone.Zone.{Zone}
 use Rattle.net_model.proofs.Members.{Contains-none}

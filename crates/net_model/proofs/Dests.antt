@@ -1,7 +1,7 @@
 -- The sorted list of prefixes without repeats is what the limit counts.
-use Rattle.std.proofs.Common.{◌≡◌, ◌≢◌, ◌<◌, ◌≤◌, ◌↔◌, ℕ, Bool, true, false, ◌&&◌, ◌==◌, if◌then◌else◌, List, ◌++◌, length, map, get_or, Option, Some, None, IsTrue, Ordering, Contains, AllPairs, IsPermutation, eqb-true, refl, sym, ap, subst, ◌∙◌, ⊎_elim, arith}
+use Rattle.std.proofs.Common.{◌≡◌, ◌≢◌, ℕ, Bool, true, false, ◌&&◌, ◌==◌, if◌then◌else◌, List, length, map, get_or, Option, Some, None, IsTrue, Ordering, Contains, AllPairs, IsPermutation, eqb-true, refl, sym, subst, ⊎_elim, arith}
 use Rattle.std.specs.Cmp.{IsTotalOrder, IsEquivalence, and_equiv, on_equiv, on_total, then_total, both_tied, tied_itself, nat_cmp_total, nat_eq_equiv, unsigned_ties}
-use Rattle.std.specs.Ordering.{nat_cmp, ordering_then, eq_by_cmp, is_eq}
+use Rattle.std.specs.Ordering.{nat_cmp, ordering_then, eq_by_cmp}
 use Rattle.std.specs.declared.cmp.Ordering.TheVariants.{Less}
 use Rattle.std.specs.List.{dedup}
 use Rattle.std.specs.List.Sorted.{IsSorted, IsStrictlySortedBy}
@@ -11,11 +11,10 @@ use Rattle.std.proofs.lemmas.List.Elements.{Contains-append_left, Contains-appen
 use Rattle.std.proofs.lemmas.Map.Keys.{Less-from_sorted}
 use Rattle.net_addr.specs.Addresses.{Block}
 use Rattle.net_model.specs.Configuration.{Configuration}
-use Rattle.net_model.specs.Limits.{up_interfaces, all_up_interfaces, NamesDest, IsDest, CountsDests, IsWithinLimits}
+use Rattle.net_model.specs.Limits.{up_interfaces, NamesDest, IsDest, CountsDests, IsWithinLimits}
 use Rattle.net_model.specs.Limits.NamesDest.{by_interface, by_range}
 use Rattle.net_model.specs.DestLists.{subnet_if_up, own_dests, all_dests}
 use Rattle.net_model.specs.declared.area.Range.{Range}
-use Rattle.net_model.specs.declared.interface.Interface.{Interface}
 use Rattle.net_model.proofs.Members.{Contains-flat_map, Contains-in_flat_map, Contains-map, Contains-in_map, Contains-filter_map, Contains-in_filter_map}
 
 -- the order of prefixes, and their equality, as they are derived

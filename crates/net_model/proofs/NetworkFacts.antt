@@ -1,18 +1,17 @@
 -- What follows of routers, their interfaces and their adjacencies, over networks as plain data.
-use Rattle.std.proofs.Common.{◌≡◌, ◌≢◌, ℕ, ◌<◌, ◌≤◌, List, length, get_or, Option, Some, None, IfSome, IsTrue, All, Contains, refl, sym, ap, subst, ◌∙◌, ⊎_elim, arith}
+use Rattle.std.proofs.Common.{◌≡◌, ℕ, ◌<◌, ◌≤◌, List, length, get_or, Option, Some, None, IfSome, IsTrue, refl, sym, subst, ⊎_elim, arith}
 use Rattle.std.proofs.lemmas.Bool.{cases_lt, cases_eq}
 use Rattle.std.proofs.lemmas.List.Elements.{All-contains, Contains-get_or}
-use Rattle.std.proofs.lemmas.Option.{slice_get-get_or, slice_get_within, same_Some, get_or_from_slice_get}
-use Rattle.net_addr.specs.Addresses.{Block, ContainsAddress, IsBlock}
+use Rattle.std.proofs.lemmas.Option.{slice_get_within, same_Some, get_or_from_slice_get}
+use Rattle.net_addr.specs.Addresses.{Block, IsBlock}
 use Rattle.net_addr.proofs.Blocks.{same_block}
 use Rattle.net_model.specs.Configuration.{Configuration, IsConfiguration, IsInterface}
 use Rattle.net_model.specs.Lookups.{IsNamed, LeastArc, LongestConnected}
-use Rattle.net_model.specs.Network.{Network, HasConfiguration, UpInterface, Connected, InArea, Adjacent, RunsIn, cost_in, MayJoin}
+use Rattle.net_model.specs.Network.{Network, HasConfiguration, UpInterface, Connected, InArea, Adjacent, cost_in, MayJoin}
 use Rattle.net_model.specs.Refusals.{IsBelow, IsNetwork, NamesAscend}
 use Rattle.net_model.specs.declared.interface.Interface.{Interface}
 use Rattle.net_model.specs.declared.zone.Zone.{Zone}
 use Rattle.net_model.specs.declared.zone.Zone.TheVariants.{Area, One, Two}
-use Rattle.net_model.proofs.Adjacency.{HasConfiguration-unique}
 use Rattle.net_model.proofs.Names.{IsBelow-irrefl, named_at, named_within}
 
 -- a router's number is below the count of routers

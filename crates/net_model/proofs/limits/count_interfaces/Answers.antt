@@ -1,9 +1,9 @@
 -- One more configuration adds its up interfaces, and opening it shows the facts that it keeps.
-use Rattle.std.proofs.Common.{◌≡◌, ℕ, ◌+◌, ◌<◌, length, count_by, get_or, take, sym, ap, subst, ◌∙◌, arith}
+use Rattle.std.proofs.Common.{◌≡◌, ◌<◌, length, count_by, get_or, ap, subst, ◌∙◌, arith}
 use Rattle.std.proofs.lemmas.List.Sums.{sum_by_more}
 use Rattle.std.proofs.lemmas.List.Elements.{All-more}
 use Rattle.net_model.specs.Configuration.{Configuration, IsConfiguration}
-use Rattle.net_model.specs.Limits.{up_interfaces, all_up_interfaces}
+use Rattle.net_model.specs.Limits.{up_interfaces}
 use Rattle.net_model.specs.declared.interface.Interface.{Interface}
 use Rattle.net_model.proofs.limits.count_interfaces.Goals as goal
 

@@ -1,5 +1,5 @@
 -- The sorted configurations keep what the given ones do, and a neighbour of one name shows the least such name.
-use Rattle.std.proofs.Common.{rules, ◌≡◌, ◌<◌, List, length, All, IsPermutation, sym, subst, ap, ◌∙◌}
+use Rattle.std.proofs.Common.{List, length, All, IsPermutation, sym, subst, ap, ◌∙◌}
 use Rattle.std.proofs.lemmas.List.Sorted.{All-permutation}
 use Rattle.net_model.specs.Configuration.{Configuration, IsConfiguration}
 use Rattle.net_model.specs.Doubles.{NoDoubles, IsFirstDouble, IsTwoNames}
