@@ -21,9 +21,7 @@ pub fn read_number(word: &[u8], most: u64) -> Option<u64>
 
 /// The number with one more digit at its end, at most `most`.
 fn with_digit(value: u64, byte: u8, most: u64) -> Option<u64>
-    ensures {
-        SomeIff result (IsAsciiDigit byte × (10 * value + (byte - 48) ≤ most)) (10 * value + (byte - 48))
-    }
+    ensures { SomeIff result (IsAsciiDigit byte × (10 * value + (byte - 48) ≤ most)) (10 * value + (byte - 48)) }
 {
     if !byte.is_ascii_digit() {
         return None;
