@@ -2,7 +2,10 @@
 #![tactic(auto)]
 
 mod graph;
+mod hops;
 mod relax;
+mod walks;
 
 pub use graph::CostGraph;
+pub use walks::{LeastWalks, least_walks};
 pub use std::alloc::AllocError as OutOfMemory;

@@ -14,12 +14,20 @@ pub fn distances_from<G: CostGraph>(
     root: u32,
 ) -> Result<Vec<Option<u64>>, OutOfMemory>
     requires { root < G.vertex_count graph.now }
-    ensures { IfOk result (λ ds. AreDistances (G.has_arc graph.now) root ds.items) }
+    ensures least { IfOk result (λ ds. AreDistances (G.has_arc graph.now) root ds.items) }
+    ensures whole { IfOk result (λ ds. length ds.items ≡ G.vertex_count graph.now) }
 {
     let mut distances = vec![in alloc; None; graph.vertices() as usize]?;
     distances[root as usize] = Some(0);
     while relax_all(graph, &mut distances) {}
     Ok(distances)
+}
+
+/// The distance of v, and None where there is none.
+pub fn distance_at(distances: &[Option<u64>], v: u32) -> Option<u64>
+    ensures { result ≡ distance_at distances.now v }
+{
+    distances.get(v as usize).copied().flatten()
 }
 
 /// Relaxes every arc once: whether some distance fell.

@@ -18,8 +18,8 @@ loop-init g c =
       walked = walked_at_first (g.G.CostGraph.has_arc c.args.graph.now) c.vertices.result c.args.root in_range;
     })
 
-pub returns : goal.returns
-returns g c =
+pub returns-clause-least : goal.returns-clause-least
+returns-clause-least g c =
     let laws = g.met.G.CostGraph in
     let arc = g.G.CostGraph.has_arc c.args.graph.now in
     let count = g.G.CostGraph.vertex_count c.args.graph.now in
