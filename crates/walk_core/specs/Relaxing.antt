@@ -32,7 +32,7 @@ missing [] = 0
 missing (None ∷ rest) = 1 + missing rest
 missing (Some d ∷ rest) = missing rest
 
--- each vertex without a distance leaves room for the cost of one more arc
+-- every distance leaves room below 2^64 for one arc more than there are vertices without a distance
 pub record HaveRoom (distances : List (Option ℕ)) : Type 0 where
   pub room : (v d : ℕ) → distance_at distances v ≡ Some d →
       d + (missing distances + 1) * 2 ^ 32 ≤ 2 ^ 64

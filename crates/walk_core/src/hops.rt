@@ -1,4 +1,4 @@
-ghost use Rattle.std.specs.Prelude.{◌≡◌, ◌<◌, ◌↔◌, ℕ, IsTrue, IfOk, Contains};
+ghost use Rattle.std.specs.Prelude.{◌↔◌, IsTrue, Contains};
 
 use crate::relax::{distance_at, distances_from};
 use crate::{CostGraph, OutOfMemory};
@@ -37,27 +37,11 @@ pub struct Departure {
 }
 
 impl Departure {
-    ghost use Rattle.std.specs.Prelude.{◌↔◌, IsTrue};
-    ghost use Rattle.walk_core.specs.Departures.{Begins};
-
-    /// Whether a least walk to v, which is at this distance from the root, begins here.
-    fn begins(&self, v: u32, distance: Option<u64>) -> bool
-        ensures { IsTrue result ↔ Begins self.now v distance }
-    {
-        let cost = u64::from(self.cost);
-        match (distance, distance_at(&self.beyond, v)) {
-            (Some(whole), Some(beyond)) => cost <= whole && beyond == whole - cost,
-            _ => false,
-        }
-    }
-}
-
-impl Departure {
-    ghost use Rattle.std.specs.Prelude.{◌<◌, ◌↔◌, IfOk, ℕ, Contains};
-    ghost use Rattle.walk_core.specs.Departures.{AreDepartures, BeginsAt};
+    ghost use Rattle.std.specs.Prelude.{◌<◌, ◌↔◌, ℕ, IfOk, IsTrue, Contains};
+    ghost use Rattle.walk_core.specs.Departures.{AreDepartures, Begins, BeginsAt};
 
     /// The arcs from the root, each with the distances from where it leads.
-    pub fn all<G: CostGraph>(
+    pub fn all_from<G: CostGraph>(
         alloc: Global,
         graph: &G,
         root: u32,
@@ -81,7 +65,8 @@ impl Departure {
         v: u32,
         distance: Option<u64>,
     ) -> Result<FirstHops, OutOfMemory>
-        ensures { IfOk result (λ hops. (h : ℕ) → Contains hops h ↔ BeginsAt departures.now v distance h) }
+        ensures { IfOk result (λ hops. (h : ℕ) →
+            Contains hops h ↔ BeginsAt departures.now v distance h) }
     {
         let mut all = Vec::new(alloc);
         for departure in departures {
@@ -90,5 +75,16 @@ impl Departure {
             }
         }
         Ok(FirstHops { all })
+    }
+
+    /// Whether a least walk to v, which is at this distance from the root, begins here.
+    fn begins(&self, v: u32, distance: Option<u64>) -> bool
+        ensures { IsTrue result ↔ Begins self.now v distance }
+    {
+        let cost = u64::from(self.cost);
+        match (distance, distance_at(&self.beyond, v)) {
+            (Some(whole), Some(beyond)) => cost <= whole && beyond == whole - cost,
+            _ => false,
+        }
     }
 }

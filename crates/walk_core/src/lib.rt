@@ -4,8 +4,10 @@
 mod graph;
 mod hops;
 mod relax;
+#[cfg(test)]
+mod tests;
 mod walks;
 
 pub use graph::CostGraph;
-pub use walks::{LeastWalks, least_walks};
 pub use std::alloc::AllocError as OutOfMemory;
+pub use walks::{LeastWalks, least_walks};

@@ -68,7 +68,8 @@ fn relax_from<G: CostGraph>(graph: &G, u: u32, distances: &mut [Option<u64>]) ->
 fn relax(distances: &mut [Option<u64>], v: u32, found: u64) -> bool
     requires { v < length distances.old }
     ensures falls { IsTrue result ↔ (found < weight_of (distance_at distances.old v)) }
-    ensures after { distances.new ≡ (if result then slice_set distances.old v (Some found) else distances.old) }
+    ensures after { distances.new ≡
+        (if result then slice_set distances.old v (Some found) else distances.old) }
 {
     let falls = match distances[v as usize] {
         None => true,

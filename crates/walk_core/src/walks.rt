@@ -44,7 +44,7 @@ pub fn least_walks<G: CostGraph>(
     ensures { IfOk result (λ walks. AreLeastWalks (G.has_arc graph.now) root walks) }
 {
     let distances = distances_from(alloc, graph, root)?;
-    let departures = Departure::all(alloc, graph, root)?;
+    let departures = Departure::all_from(alloc, graph, root)?;
     let mut hops = Vec::new(alloc);
     for v in 0..graph.vertices() {
         let distance = distance_at(&distances, v);

@@ -1,4 +1,4 @@
-use Rattle.std.proofs.Common.{◌≡◌, ◌+◌, ℕ, List, [], ◌∷◌, ◌++◌, Option, length, arith, ap, sym, subst, ◌∙◌, ◌↔◌, Contains}
+use Rattle.std.proofs.Common.{◌≡◌, ℕ, List, Option, arith, sym, subst, ◌∙◌, ◌↔◌, Contains}
 use Rattle.std.proofs.lemmas.Grind.{common_steps}
 use Rattle.walk_core.specs.declared.hops.Departure.{Departure}
 use Rattle.walk_core.specs.Distances.{distance_at}
@@ -14,14 +14,14 @@ loop-v-preserved g c =
     let distances = c.in_ok-distances.distances.items in
     let hops = c.in_ok-hops_towards.field-0 in
     let at : c.distance_at-distance.result ≡ distance_at distances v =
-        rw c.deref.ensures.value at c.distance_at-distance.ensures
+    rw c.deref.ensures.value at c.distance_at-distance.ensures
     in
     let row : IsRow ds distances v hops =
-        let AtDepartures : List Departure → Type 0 = λ all.
-            (h : ℕ) → Contains hops h ↔ BeginsAt all v c.distance_at-distance.result h
-        in
-        let AtDistance : Option ℕ → Type 0 = λ d. (h : ℕ) → Contains hops h ↔ BeginsAt ds v d h in
-        subst AtDistance at (subst AtDepartures c.deref-in-loop-v.ensures.value c.in_ok-hops_towards.ensures)
+    let AtDepartures : List Departure → Type 0 = λ all.
+    (h : ℕ) → Contains hops h ↔ BeginsAt all v c.distance_at-distance.result h
+    in
+    let AtDistance : Option ℕ → Type 0 = λ d. (h : ℕ) → Contains hops h ↔ BeginsAt ds v d h in
+    subst AtDistance at (subst AtDepartures c.deref-in-loop-v.ensures.value c.in_ok-hops_towards.ensures)
     in
     rw c.in_ok-push.ensures.items (record {
       long = grind (arith, common_steps);
@@ -32,7 +32,7 @@ pub returns : goal.returns
 returns g c =
     let all : c.loop-v.v ≡ g.G.CostGraph.vertex_count c.args.graph.now = omega (arith, c.vertices-v-end.ensures) in
     are_least_walks (g.G.CostGraph.has_arc c.args.graph.now) c.args.root c.loop-v.v
-        c.in_ok-departures.departures.items
-        (record { distances = c.in_ok-distances.distances.items; hops = c.loop-v.hops.items })
-        c.in_ok-departures.ensures c.in_ok-distances.ensures.least
-        (c.in_ok-distances.ensures.whole ∙ sym all) c.loop-v.invariant.long c.loop-v.invariant.rows
+    c.in_ok-departures.departures.items
+    (record { distances = c.in_ok-distances.distances.items; hops = c.loop-v.hops.items })
+    c.in_ok-departures.ensures c.in_ok-distances.ensures.least
+    (c.in_ok-distances.ensures.whole ∙ sym all) c.loop-v.invariant.long c.loop-v.invariant.rows

@@ -1,7 +1,7 @@
 use Rattle.std.proofs.Common.{◌<◌, ℕ, Contains}
 use Rattle.walk_core.specs.declared.hops.Departure.{Departure}
 use Rattle.walk_core.specs.Departures.{Departs, LeavesTo}
-use Rattle.walk_core.proofs.hops.Departure.all.Given as goal
+use Rattle.walk_core.proofs.hops.Departure.all_from.Given as goal
 
 abbrev pub invariant-loop-i : goal.invariant-loop-i
 invariant-loop-i g l = record {

@@ -2,7 +2,7 @@ use Rattle.std.proofs.Common.{◌≡◌, ℕ, ◌<◌, ap, sym, subst, arith}
 use Rattle.walk_core.specs.declared.hops.Departure.{Departure}
 use Rattle.walk_core.specs.Departures.{Departs}
 use Rattle.walk_core.proofs.DepartureLaws.{departs_more, leaves_more}
-use Rattle.walk_core.proofs.hops.Departure.all.Goals as goal
+use Rattle.walk_core.proofs.hops.Departure.all_from.Goals as goal
 
 pub loop-i-preserved : goal.loop-i-preserved
 loop-i-preserved g c =
@@ -14,8 +14,8 @@ loop-i-preserved g c =
     let index : c.loop-i.i < g.G.CostGraph.arc_count c.args.graph.now c.args.root = omega (arith, c.arcs-i-end.ensures) in
     let e : c.arc-to.result ≡ ends c.loop-i.i = c.arc-to.ensures in
     let over : arc c.args.root c.arc-to.result.0 c.arc-to.result.1 =
-        let P : ℕ × ℕ → Type 0 = λ p. arc c.args.root p.0 p.1 in
-        subst P (sym e) (laws.counted_is_arc c.args.graph.now c.args.root c.loop-i.i c.requires index)
+    let P : ℕ × ℕ → Type 0 = λ p. arc c.args.root p.0 p.1 in
+    subst P (sym e) (laws.counted_is_arc c.args.graph.now c.args.root c.loop-i.i c.requires index)
     in
     let departs : Departs arc c.args.root d = record { over = over; beyond = c.in_ok-beyond.ensures.least } in
     rw c.in_ok-push.ensures.items (record {
