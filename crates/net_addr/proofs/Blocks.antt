@@ -1,7 +1,7 @@
--- Blocks of addresses as intervals.
+-- Blocks of addresses as intervals, and as parts of one another.
 use Rattle.std.proofs.Common.{◌≡◌, ℕ, ◌+◌, ◌-◌, ◌*◌, ◌/◌, ◌%◌, ◌^◌, ◌<◌, ◌≤◌, arith, refl, sym, subst, ap, ◌∙◌}
-use Rattle.std.proofs.lemmas.Nat.{pow_pos, div-mul-add, mod-mul-add}
-use Rattle.net_addr.specs.Addresses.{Block, block_at, ContainsAddress, IsBlock}
+use Rattle.std.proofs.lemmas.Nat.{pow_pos, div-mul-add, mod-mul-add, shr-shr}
+use Rattle.net_addr.specs.Addresses.{Block, block_at, first_bits, ContainsAddress, Covers, IsBlock}
 
 -- how many addresses a block has
 abbrev pub block_size : Block → ℕ
@@ -48,3 +48,53 @@ ContainsAddress-bounds p a block inside = same_quotient_bounds a p.base (block_s
 
 pub ContainsAddress-between : (p : Block) (a : ℕ) → IsBlock p → p.base ≤ a → a < p.base + block_size p → ContainsAddress p a
 ContainsAddress-between p a block low high = bounds_same_quotient a p.base (block_size p) (pow_pos (32 - p.len)) block.clear low high
+
+-- a block is its base and its length
+pub same_parts : (b c l m : ℕ) → b ≡ c → l ≡ m → block_at b l ≡ block_at c m
+same_parts b c l m base len = ap (λ (x : ℕ). block_at x l) base ∙ ap (λ (x : ℕ). block_at c x) len
+
+-- blocks of one length that contain a common address are one
+pub same_block : (p q : Block) (a : ℕ) → IsBlock p → IsBlock q → p.len ≡ q.len → ContainsAddress p a → ContainsAddress q a → p ≡ q
+same_block p q a left right same_len in_p in_q =
+    let one_size : block_size p ≡ block_size q = ap (λ (m : ℕ). 2 ^ (32 - m)) same_len in
+    let same_bits : p.base / block_size q ≡ q.base / block_size q =
+        ap (λ (m : ℕ). p.base / m) (sym one_size) ∙ sym in_p ∙ ap (λ (m : ℕ). a / m) one_size ∙ in_q in
+    let clear : p.base % block_size q ≡ 0 = ap (λ (m : ℕ). p.base % m) (sym one_size) ∙ left.clear in
+    let p_whole : p.base ≡ p.base / block_size q * block_size q = multiple_of p.base (block_size q) (pow_pos (32 - q.len)) clear in
+    let q_whole : q.base ≡ q.base / block_size q * block_size q = multiple_of q.base (block_size q) (pow_pos (32 - q.len)) right.clear in
+    let same_base : p.base ≡ q.base = p_whole ∙ ap (λ (m : ℕ). m * block_size q) same_bits ∙ sym q_whole in
+    same_parts p.base q.base p.len q.len same_base same_len
+
+first_bits_shorter : (short long a : ℕ) → short ≤ long → long ≤ 32 → first_bits short a ≡ first_bits long a / 2 ^ (long - short)
+first_bits_shorter short long a below fits =
+    let e : 32 - short ≡ (32 - long) + (long - short) = omega arith in
+    ap (λ (k : ℕ). a / 2 ^ k) e ∙ sym (shr-shr a (32 - long) (long - short))
+
+-- a block contains every address of a block that it covers
+pub ContainsAddress-covers : (p q : Block) (a : ℕ) → IsBlock q → Covers p q → ContainsAddress q a → ContainsAddress p a
+ContainsAddress-covers p q a block covers inside =
+    first_bits_shorter p.len q.len a covers.longer block.short
+    ∙ ap (λ (m : ℕ). m / 2 ^ (q.len - p.len)) inside
+    ∙ sym (first_bits_shorter p.len q.len q.base covers.longer block.short)
+    ∙ covers.inside
+
+-- of two blocks that contain a common address, the shorter covers the longer
+pub Covers-common : (p q : Block) (a : ℕ) → IsBlock q → p.len ≤ q.len → ContainsAddress p a → ContainsAddress q a → Covers p q
+Covers-common p q a block shorter in_p in_q = record {
+  longer = shorter;
+  inside =
+      first_bits_shorter p.len q.len q.base shorter block.short
+      ∙ ap (λ (m : ℕ). m / 2 ^ (q.len - p.len)) (sym in_q)
+      ∙ sym (first_bits_shorter p.len q.len a shorter block.short)
+      ∙ in_p;
+}
+
+-- covering is reflexive and transitive
+pub Covers-itself : (p : Block) → Covers p p
+Covers-itself p = record { longer = omega arith; inside = refl }
+
+pub Covers-through : (p q r : Block) → IsBlock q → Covers p q → Covers q r → Covers p r
+Covers-through p q r block upper lower = record {
+  longer = omega (arith, upper.longer, lower.longer);
+  inside = ContainsAddress-covers p q r.base block upper lower.inside;
+}

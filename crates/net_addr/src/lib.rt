@@ -1,8 +1,10 @@
 //! IPv4 addresses and prefixes, and the lines, words and numbers of configuration texts.
 #![tactic(auto)]
 
-mod name;
 mod prefix;
+mod boundary;
+mod name;
 
+pub use boundary::boundary_law;
 pub use name::{Bytes, Name};
 pub use prefix::Prefix;
