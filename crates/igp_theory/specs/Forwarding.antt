@@ -50,7 +50,7 @@ NewCounts New = Unit {0}
 pub data Counts (net : Network) (old new : Tables) (u : ℕ) (phase : Phase) (p : Block) : ℕ → Usable → Type 0 where
   connected_counts : Connected net u p → Counts net old new u phase p 0 connected
   old_counts : {distance : ℕ} {e : Entry} → OldCounts phase → (c : Configuration) → HasConfiguration net u c →
-    c.distances.ospf ≡ distance → distance ≢ 255 → old u p e → Counts net old new u phase p distance (of_old e)
+      c.distances.ospf ≡ distance → distance ≢ 255 → old u p e → Counts net old new u phase p distance (of_old e)
   new_counts : {e : Entry} → NewCounts phase → new u p e → Counts net old new u phase p 115 (of_new e)
 
 -- the used entry of an address: of the entries that count and contain it the longest, and of these

@@ -95,14 +95,14 @@ ring_routers ring = map (λ (r : RingRouter). r.router) ring
 -- router that lacks a step, else the ring that is found, with its tags
 pub data IsFault (net : Network) (old new : Tables) (state : State) : Fault → Type 0 where
   missing_step : {a u : ℕ} → a < 2 ^ 32 → ((b : ℕ) → b < a → IsSoundAt net old new state b) →
-    MustForward net a u → (HasStep net old new u (state u) a → ⊥) →
-    ((v : ℕ) → v < u → MustForward net a v → HasStep net old new v (state v) a) →
-    IsFault net old new state (missing a u)
+      MustForward net a u → (HasStep net old new u (state u) a → ⊥) →
+      ((v : ℕ) → v < u → MustForward net a v → HasStep net old new v (state v) a) →
+      IsFault net old new state (missing a u)
   loop_arises : {a : ℕ} {ring : List RingRouter} → a < 2 ^ 32 → ((b : ℕ) → b < a → IsSoundAt net old new state b) →
-    ((v : ℕ) → MustForward net a v → HasStep net old new v (state v) a) →
-    IsFoundRing (StepsIn net old new state a) (length net) (ring_routers ring) →
-    AroundRing (λ (r s : RingRouter). IsTag net old new a r s.router) ring →
-    IsFault net old new state (loop a ring)
+      ((v : ℕ) → MustForward net a v → HasStep net old new v (state v) a) →
+      IsFoundRing (StepsIn net old new state a) (length net) (ring_routers ring) →
+      AroundRing (λ (r s : RingRouter). IsTag net old new a r s.router) ring →
+      IsFault net old new state (loop a ring)
 
 -- the first fault of an order: the number of its first unsound state, with that state's fault
 pub record IsFirstFault (net : Network) (old new : Tables) (order : List ℕ) (k : ℕ) (fault : Fault) : Type 0 where

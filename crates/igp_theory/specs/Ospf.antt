@@ -73,9 +73,9 @@ pub record IsCompatible (net : Network) (u : ℕ) (compatible : Bool) : Type 0 w
 pub data RangeCost (net : Network) (u : ℕ) (r : Range) (cost : ℕ) : Type 0 where
   stated : r.cost ≡ Some cost → IsActive net u r → RangeCost net u r cost
   least : r.cost ≡ None → IsCompatible net u true → (p : Block) → IsComponent net u r p cost →
-    ((q : Block) (other : ℕ) → IsComponent net u r q other → cost ≤ other) → RangeCost net u r cost
+      ((q : Block) (other : ℕ) → IsComponent net u r q other → cost ≤ other) → RangeCost net u r cost
   greatest : r.cost ≡ None → IsCompatible net u false → (p : Block) → IsComponent net u r p cost →
-    ((q : Block) (other : ℕ) → IsComponent net u r q other → other ≤ cost) → RangeCost net u r cost
+      ((q : Block) (other : ℕ) → IsComponent net u r q other → other ≤ cost) → RangeCost net u r cost
 
 -- Summaries (RFC 2328, section 12.4.3)
 

@@ -2,6 +2,9 @@ pub mod Configuration
 pub mod Network
 pub mod Limits
 pub mod Refusals
+pub mod BuildLaws
 pub mod Lookups
 pub mod DestLists
 pub mod Doubles
+pub mod Links
+pub mod Subnets

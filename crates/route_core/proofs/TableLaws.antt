@@ -1,11 +1,11 @@
 -- Laws of tables: entries by place and by membership, one entry a prefix, one longest match.
-use Rattle.std.proofs.Common.{◌≡◌, ◌≢◌, ℕ, ◌-◌, ◌*◌, ◌/◌, ◌%◌, ◌^◌, ◌<◌, ◌≤◌, ◌↔◌, inl, inr, List, [], ◌∷◌, ◌++◌, length, get_or, slice_get, Some, Contains, sym, ap, ◌∙◌, arith, subst}
+use Rattle.std.proofs.Common.{◌≡◌, ◌≢◌, ℕ, ◌<◌, ◌≤◌, ◌↔◌, inl, inr, List, [], ◌∷◌, ◌++◌, length, get_or, slice_get, Some, Contains, sym, ap, ◌∙◌, arith, subst}
 use Rattle.std.proofs.lemmas.Bool.{cases_lt}
 use Rattle.std.proofs.lemmas.List.Elements.{Contains-get_or, All-contains}
 use Rattle.std.proofs.lemmas.List.Quantifiers.{all_pairs_push}
-use Rattle.std.proofs.lemmas.Nat.{pow_pos}
 use Rattle.std.proofs.lemmas.Option.{slice_get_within, slice_get-get_or, get_or_from_slice_get}
-use Rattle.net_addr.specs.Addresses.{Block, block_at, ContainsAddress, IsBlock}
+use Rattle.net_addr.proofs.Blocks.{same_block}
+use Rattle.net_addr.specs.Addresses.{Block, ContainsAddress, IsBlock}
 use Rattle.route_core.specs.declared.entry.Entry.{Entry}
 use Rattle.route_core.specs.Tables.{HasDistinctPrefixes, NoneContains, LongestEntry, LongestAt}
 use Rattle.route_core.specs.Matches.{AreBlocks}
@@ -65,21 +65,6 @@ one_entry xs p e f distinct has_e has_f =
     let same : at_e.0 ≡ at_f.0 = same_place xs at_e.0 at_f.0 p e f distinct at_e.1 at_f.1 in
     let both : slice_get xs at_f.0 ≡ Some (p, e) = subst (λ (k : ℕ). slice_get xs k ≡ Some (p, e)) same at_e.1 in
     ap (λ (x : Block × Entry). x.1) (some_eq (p, e) (p, f) (sym both ∙ at_f.1))
-
-same_multiples : (a b n : ℕ) → 0 < n → a % n ≡ 0 → b % n ≡ 0 → a / n ≡ b / n → a ≡ b
-same_multiples a b n h clear_a clear_b same =
-    let whole : n * (a / n) ≡ n * (b / n) = ap (λ m. n * m) same in omega arith
-
-block_eq : (p q : Block) → p.base ≡ q.base → p.len ≡ q.len → p ≡ q
-block_eq p q base len = ap (λ b. block_at b p.len) base ∙ ap (block_at q.base) len
-
--- two blocks of one length that contain one address are one block
-pub same_block : (p q : Block) (a : ℕ) → IsBlock p → IsBlock q → p.len ≡ q.len → ContainsAddress p a → ContainsAddress q a → p ≡ q
-same_block p q a block_p block_q len in_p in_q =
-    let size : ℕ = 2 ^ (32 - p.len) in
-    let clear : q.base % 2 ^ (32 - p.len) ≡ 0 = subst (λ (n : ℕ). q.base % 2 ^ (32 - n) ≡ 0) (sym len) block_q.clear in
-    let inside : a / 2 ^ (32 - p.len) ≡ q.base / 2 ^ (32 - p.len) = subst (λ (n : ℕ). a / 2 ^ (32 - n) ≡ q.base / 2 ^ (32 - n)) (sym len) in_q in
-    block_eq p q (same_multiples p.base q.base size (pow_pos (32 - p.len)) block_p.clear clear (sym in_p ∙ inside)) len
 
 -- a table has at most one longest match of an address
 pub one_longest : (xs : List (Block × Entry)) (a : ℕ) (p q : Block) (e f : Entry) → HasDistinctPrefixes xs → AreBlocks xs a
