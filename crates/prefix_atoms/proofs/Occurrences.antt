@@ -1,0 +1,209 @@
+-- The lists that are collected have exactly the prefixes that occur, and those that can be targets.
+use Rattle.std.proofs.Common.{◌≡◌, ℕ, zero, suc, ◌<◌, ◌≤◌, ◌⊎◌, ◌↔◌, inl, inr, Bool, true, false, ◌&&◌, ◌||◌, if◌then◌else◌, List, [], ◌++◌, get_or, map, Option, Some, None, IsTrue, IsSome, is_some, Contains, ⊎_elim, arith, refl, sym, ap, subst, ◌∙◌}
+use Rattle.std.specs.List.{slice_get, filter_map}
+use Rattle.std.proofs.lemmas.Bool.{cases_lt}
+use Rattle.std.proofs.lemmas.List.Elements.{All-contains, Contains-append_left, Contains-append_right, Contains-append_cases}
+use Rattle.std.proofs.lemmas.Option.{slice_get_within, slice_get-get_or, get_or_from_slice_get}
+use Rattle.net_addr.specs.Addresses.{Block, ContainsAddress}
+use Rattle.net_model.specs.Configuration.{Configuration}
+use Rattle.net_model.specs.DestLists.{subnet_if_up, own_dests, all_dests}
+use Rattle.net_model.specs.Network.{Network, Connected}
+use Rattle.net_model.specs.declared.area.Range.{Range}
+use Rattle.net_model.proofs.Members.{Contains-flat_map, Contains-in_flat_map, Contains-map, Contains-in_map, Contains-filter_map, Contains-in_filter_map, Contains-none}
+use Rattle.route_core.specs.declared.entry.Entry.{Entry}
+use Rattle.igp_theory.specs.Forwarding.{IsOriginated}
+use Rattle.igp_theory.specs.Routes.{Tables}
+use Rattle.prefix_atoms.specs.Classes.{SourceEntry, HasRangeOf, Occurs, connected_occurs, range_occurs, old_occurs, new_occurs, HasTarget, Classes, AreClasses}
+use Rattle.prefix_atoms.specs.Lists.{originated_subnet, all_originated, table_prefixes, source_prefixes, IsLongestPrefix, AreClassesOf}
+use Rattle.prefix_atoms.proofs.ClassLaws.{occur_alike, has_target_alike}
+
+-- what stands in a list stands at some place
+place_of_member : {X : Type 0} (xs : List X) (x : X) → Contains xs x → (i : ℕ) × (slice_get xs i ≡ Some x)
+place_of_member xs x h = (h.0, slice_get-get_or xs h.0 x h.1 ∙ ap Some h.2)
+
+member_of_place : {X : Type 0} (xs : List X) (i : ℕ) (x : X) → slice_get xs i ≡ Some x → Contains xs x
+member_of_place xs i x at = (i, slice_get_within xs i x at, get_or_from_slice_get xs i x x at)
+
+-- Interfaces
+
+if_true : {A : Type 0} (b : Bool) (o : Option A) (p : A) → (if b then o else None) ≡ Some p → (b ≡ true) × (o ≡ Some p)
+if_true true o p e = (refl, e)
+if_true false o p e = cc
+
+if_true_back : {A : Type 0} (b : Bool) (o : Option A) (p : A) → b ≡ true → o ≡ Some p → (if b then o else None) ≡ Some p
+if_true_back true o p t e = e
+if_true_back false o p t e = cc
+
+and_parts : (a b : Bool) → (a && b) ≡ true → (a ≡ true) × (b ≡ true)
+and_parts true b e = (refl, e)
+and_parts false b e = cc
+
+and_both : (a b : Bool) → a ≡ true → b ≡ true → (a && b) ≡ true
+and_both true b s t = t
+and_both false b s t = cc
+
+some_of_three : (o : Option ℕ) (b c : Bool) → (is_some o || b || c) ≡ true → IsSome o ⊎ IsTrue b ⊎ IsTrue c
+some_of_three (Some n) b c e = inl refl
+some_of_three None true c e = inr (inl refl)
+some_of_three None false true e = inr (inr refl)
+some_of_three None false false e = cc
+
+three_of_some : (o : Option ℕ) (b c : Bool) → IsSome o ⊎ IsTrue b ⊎ IsTrue c → (is_some o || b || c) ≡ true
+three_of_some (Some n) true true h = refl
+three_of_some (Some n) true false h = refl
+three_of_some (Some n) false true h = refl
+three_of_some (Some n) false false h = refl
+three_of_some None true true h = refl
+three_of_some None true false h = refl
+three_of_some None false true h = refl
+three_of_some None false false (inl h) = cc
+three_of_some None false false (inr (inl h)) = h
+three_of_some None false false (inr (inr h)) = h
+
+-- Networks
+
+dest_occurs : (net : Network) (old new : Tables) (p : Block) → Contains (all_dests net) p → Occurs net old new p
+dest_occurs net old new p h =
+    let one = Contains-flat_map own_dests net p h in
+    let at = place_of_member net one.item one.among in
+    ⊎_elim
+    (λ l.
+    let i = Contains-filter_map subnet_if_up one.item.interfaces p l in
+    let is = if_true i.item.up i.item.subnet p i.gives in
+    connected_occurs at.0 (record {
+      interface = i.item;
+      up = record { config = one.item; router = at.1; among = i.among; up = is.0 };
+      subnet = is.1;
+    }))
+    (λ r.
+    let g = Contains-map (λ (g : Range). g.dest) one.item.ranges p r in
+    range_occurs at.0 (record { config = one.item; router = at.1; range = g.item; among = g.among; dest = g.gives }))
+    (Contains-append_cases (filter_map subnet_if_up one.item.interfaces) (map (λ (g : Range). g.dest) one.item.ranges) p one.inside)
+
+connected_listed : (net : Network) (u : ℕ) (p : Block) → Connected net u p → Contains (all_dests net) p
+connected_listed net u p c =
+    Contains-in_flat_map own_dests net c.up.config p (member_of_place net u c.up.config c.up.router)
+    (Contains-append_left (filter_map subnet_if_up c.up.config.interfaces) (map (λ (g : Range). g.dest) c.up.config.ranges) p
+    (Contains-in_filter_map subnet_if_up c.up.config.interfaces c.interface p c.up.among (if_true_back c.interface.up c.interface.subnet p c.up.up c.subnet)))
+
+range_listed : (net : Network) (u : ℕ) (p : Block) → HasRangeOf net u p → Contains (all_dests net) p
+range_listed net u p r =
+    Contains-in_flat_map own_dests net r.config p (member_of_place net u r.config r.router)
+    (Contains-append_right (filter_map subnet_if_up r.config.interfaces) (map (λ (g : Range). g.dest) r.config.ranges) p
+    (subst (Contains (map (λ (g : Range). g.dest) r.config.ranges)) r.dest (Contains-in_map (λ (g : Range). g.dest) r.config.ranges r.range r.among)))
+
+-- Sources
+
+entry_of_prefix : (entries : List (Block × Entry)) (p : Block) → Contains (table_prefixes entries) p → (e : Entry) × Contains entries (p, e)
+entry_of_prefix entries p h =
+    let one = Contains-map (λ (x : Block × Entry). x.0) entries p h in
+    (one.item.1, subst (λ (q : Block). Contains entries (q, one.item.1)) one.gives one.among)
+
+source_entry : (table : ℕ → List (Block × Entry)) (n : ℕ) (p : Block) → Contains (source_prefixes table n) p → (u : ℕ) × (u < n) × (e : Entry) × Contains (table u) (p, e)
+source_entry table zero p h = absurd (Contains-none p h)
+source_entry table (suc n) p h = ⊎_elim
+    (λ l.
+    let before : (u : ℕ) × (u < n) × (e : Entry) × Contains (table u) (p, e) = source_entry table n p l in
+    (before.0, omega (arith, before.1), before.2, before.3))
+    (λ r. let one = entry_of_prefix (table n) p r in (n, omega arith, one.0, one.1))
+    (Contains-append_cases (source_prefixes table n) (table_prefixes (table n)) p h)
+
+source_listed : (table : ℕ → List (Block × Entry)) (n u : ℕ) (p : Block) (e : Entry) → u < n → Contains (table u) (p, e) → Contains (source_prefixes table n) p
+source_listed table zero u p e l h = absurd (omega arith)
+source_listed table (suc n) u p e l h = ⊎_elim
+    (λ (m : u < n). Contains-append_left (source_prefixes table n) (table_prefixes (table n)) p (source_listed table n u p e m h))
+    (λ (m : n ≤ u).
+    let same : u ≡ n = omega arith in
+    Contains-append_right (source_prefixes table n) (table_prefixes (table n)) p
+    (Contains-in_map (λ (x : Block × Entry). x.0) (table n) (p, e) (subst (λ (v : ℕ). Contains (table v) (p, e)) same h)))
+    (cases_lt u n)
+
+-- the prefixes that are collected are those that occur
+pub collected_occur : (net : Network) (o n : ℕ) (old new : ℕ → List (Block × Entry)) (p : Block)
+    → Contains ((all_dests net ++ source_prefixes old o) ++ source_prefixes new n) p ↔ Occurs net (SourceEntry o old) (SourceEntry n new) p
+collected_occur net o n old new p = (
+  λ h. ⊎_elim
+      (λ l. ⊎_elim
+      (λ d. dest_occurs net (SourceEntry o old) (SourceEntry n new) p d)
+      (λ s. let e = source_entry old o p s in old_occurs e.0 e.2 (e.1, e.3))
+      (Contains-append_cases (all_dests net) (source_prefixes old o) p l))
+      (λ r. let e = source_entry new n p r in new_occurs e.0 e.2 (e.1, e.3))
+      (Contains-append_cases (all_dests net ++ source_prefixes old o) (source_prefixes new n) p h),
+  occurring_listed net o n old new p,
+)
+  where
+    occurring_listed : (net : Network) (o n : ℕ) (old new : ℕ → List (Block × Entry)) (p : Block) → Occurs net (SourceEntry o old) (SourceEntry n new) p
+        → Contains ((all_dests net ++ source_prefixes old o) ++ source_prefixes new n) p
+    occurring_listed net o n old new p (connected_occurs u c) =
+        Contains-append_left (all_dests net ++ source_prefixes old o) (source_prefixes new n) p (Contains-append_left (all_dests net) (source_prefixes old o) p (connected_listed net u p c))
+    occurring_listed net o n old new p (range_occurs u r) =
+        Contains-append_left (all_dests net ++ source_prefixes old o) (source_prefixes new n) p (Contains-append_left (all_dests net) (source_prefixes old o) p (range_listed net u p r))
+    occurring_listed net o n old new p (old_occurs u e h) =
+        Contains-append_left (all_dests net ++ source_prefixes old o) (source_prefixes new n) p (Contains-append_right (all_dests net) (source_prefixes old o) p (source_listed old o u p e h.0 h.1))
+    occurring_listed net o n old new p (new_occurs u e h) =
+        Contains-append_right (all_dests net ++ source_prefixes old o) (source_prefixes new n) p (source_listed new n u p e h.0 h.1)
+
+-- Targets
+
+originated_from_list : (net : Network) (p : Block) → Contains (all_originated net) p → IsOriginated net p
+originated_from_list net p h =
+    let one = Contains-flat_map (λ (c : Configuration). filter_map originated_subnet c.interfaces) net p h in
+    let at = place_of_member net one.item one.among in
+    let i = Contains-filter_map originated_subnet one.item.interfaces p one.inside in
+    let is = if_true (i.item.up && (is_some i.item.area || i.item.level1 || i.item.level2)) i.item.subnet p i.gives in
+    let parts = and_parts i.item.up (is_some i.item.area || i.item.level1 || i.item.level2) is.0 in
+    record {
+      router = at.0;
+      interface = i.item;
+      up = record { config = one.item; router = at.1; among = i.among; up = parts.0 };
+      subnet = is.1;
+      runs = some_of_three i.item.area i.item.level1 i.item.level2 parts.1;
+    }
+
+list_from_originated : (net : Network) (p : Block) → IsOriginated net p → Contains (all_originated net) p
+list_from_originated net p o =
+    Contains-in_flat_map (λ (c : Configuration). filter_map originated_subnet c.interfaces) net o.up.config p (member_of_place net o.router o.up.config o.up.router)
+    (Contains-in_filter_map originated_subnet o.up.config.interfaces o.interface p o.up.among
+    (if_true_back (o.interface.up && (is_some o.interface.area || o.interface.level1 || o.interface.level2)) o.interface.subnet p
+    (and_both o.interface.up (is_some o.interface.area || o.interface.level1 || o.interface.level2) o.up.up
+    (three_of_some o.interface.area o.interface.level1 o.interface.level2 o.runs)) o.subnet))
+
+-- the longest originated prefix is the target
+pub target_from_list : (net : Network) (a : ℕ) (t : Option Block) → IsLongestPrefix (all_originated net) a t → HasTarget net a t
+target_from_list net a None h = λ p target.
+    All-contains (λ q. ¬ ContainsAddress q a) (all_originated net) p h (list_from_originated net p target.originated) target.contains
+target_from_list net a (Some p) h = record {
+  originated = originated_from_list net p h.listed;
+  contains = h.contains;
+  longest = λ q o inside. All-contains (λ r. ContainsAddress r a → r.len ≤ p.len) (all_originated net) q h.longest (list_from_originated net q o) inside;
+}
+
+-- a list that gained the prefixes of the network and then those of both sources
+pub gathered : (start first second all net old new : List Block) → start ≡ [] → first ≡ start ++ net → second ≡ first ++ old → all ≡ second ++ new
+    → all ≡ (net ++ old) ++ new
+gathered start first second all net old new none one two three =
+    three ∙ ap (λ (ps : List Block). ps ++ new) (two ∙ ap (λ (ps : List Block). ps ++ old) (one ∙ ap (λ (ps : List Block). ps ++ net) none))
+
+-- the classes of the prefixes that were collected are those of the network and the tables
+pub classes_collected : (net : Network) (o n : ℕ) (old new : ℕ → List (Block × Entry)) (collected prefixes originated : List Block) (c : Classes)
+    → collected ≡ (all_dests net ++ source_prefixes old o) ++ source_prefixes new n → ((p : Block) → Contains prefixes p ↔ Contains collected p)
+    → originated ≡ all_originated net → AreClassesOf prefixes originated c → AreClasses net (SourceEntry o old) (SourceEntry n new) c
+classes_collected net o n old new collected prefixes originated c all same targets are = record {
+  occur = classes_occur net o n old new collected prefixes c.prefixes all same are.prefixes_are;
+  classing = are.classing;
+  target = λ k a t inside at.
+      has_target_alike (occur_alike net (SourceEntry o old) (SourceEntry n new) c.prefixes (get_or c.samples k 0) a
+      (classes_occur net o n old new collected prefixes c.prefixes all same are.prefixes_are) inside.alike) t
+      (target_from_list net (get_or c.samples k 0) t
+      (subst (λ (ps : List Block). IsLongestPrefix ps (get_or c.samples k 0) t) targets
+      (subst (IsLongestPrefix originated (get_or c.samples k 0)) (get_or_from_slice_get c.targets k t None at) (are.targets.each k inside.class))));
+}
+  where
+    classes_occur : (net : Network) (o n : ℕ) (old new : ℕ → List (Block × Entry)) (collected prefixes mine : List Block)
+        → collected ≡ (all_dests net ++ source_prefixes old o) ++ source_prefixes new n → ((p : Block) → Contains prefixes p ↔ Contains collected p)
+        → mine ≡ prefixes → (p : Block) → Contains mine p ↔ Occurs net (SourceEntry o old) (SourceEntry n new) p
+    classes_occur net o n old new collected prefixes mine all same is p =
+        let exact = collected_occur net o n old new p in (
+          λ h. exact.0 (subst (λ (ps : List Block). Contains ps p) all ((same p).0 (subst (λ (ps : List Block). Contains ps p) is h))),
+          λ h. subst (λ (ps : List Block). Contains ps p) (sym is) ((same p).1 (subst (λ (ps : List Block). Contains ps p) (sym all) (exact.1 h))),
+        )

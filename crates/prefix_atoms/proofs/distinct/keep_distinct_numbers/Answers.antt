@@ -1,0 +1,9 @@
+use Rattle.std.proofs.lemmas.List.Filters.{dedup_is}
+use Rattle.prefix_atoms.proofs.Repeats.{same_numbers, numbers_ascend}
+use Rattle.prefix_atoms.proofs.distinct.keep_distinct_numbers.Goals as goal
+
+pub returns-clause-same : goal.returns-clause-same
+returns-clause-same c = λ n. same_numbers _ _ _ n c.sort_unstable.ensures.permutation (dedup_is _ _ _ c.dedup.ensures.filtered)
+
+pub returns-clause-ascending : goal.returns-clause-ascending
+returns-clause-ascending c = numbers_ascend _ _ c.sort_unstable.ensures.sorted (dedup_is _ _ _ c.dedup.ensures.filtered)

@@ -1,0 +1,5 @@
+pub use Rattle.igp_theory.specs.Forwarding
+pub mod Classes
+pub mod Laws
+pub mod Lists
+pub mod Numbers

@@ -1,0 +1,196 @@
+ghost use Rattle.std.specs.Prelude.{◌≡◌, ◌≢◌, ◌<◌, ◌≤◌, ◌^◌, ◌+◌, All, AllPairs, IfOk, IfSome, List, length, map, slice_get, slice_index, Some, unwrap_or};
+ghost use Rattle.std.specs.List.Sorted.{IsStrictlyIncreasing};
+ghost use Rattle.net_addr.specs.Addresses.{IsBlock};
+ghost use Rattle.prefix_atoms.specs.Classes.{AreClasses, IsClassing, IsInClass, SourceEntry};
+ghost use Rattle.prefix_atoms.specs.Lists.{AreClassesOf, AreTargets, IsPrefixAt};
+ghost use Rattle.prefix_atoms.specs.Numbers.{ArePicked, InInterval, NumbersClasses};
+
+use crate::collect::{add_net, add_source, originated_prefixes};
+use crate::cuts::cuts_of;
+use crate::distinct::keep_distinct_prefixes;
+use crate::longest::{longest_of_each, place_of};
+use crate::number::{Numbering, number};
+use net_addr::Prefix;
+use net_model::Net;
+use route_core::RouteSource;
+use std::alloc::{AllocError as OutOfMemory, Global};
+use std::marker::Model;
+
+/// Classes of addresses: two are in one class where the same prefixes contain them.
+///
+/// The prefixes are those that are connected or a range's, and those of two sources of tables. The
+/// classes are numbered from 0 by their least addresses.
+#[derive(Debug, Drop)]
+pub struct Atoms {
+    prefixes: Vec<Prefix>,
+    samples: Vec<u32>,
+    targets: Vec<Option<Prefix>>,
+    starts: Vec<u32>,
+    numbers: Vec<u32>,
+}
+
+impl Model for Atoms {
+    ghost use Rattle.prefix_atoms.specs.Classes.{Classes, IsClassing};
+    ghost use Rattle.prefix_atoms.specs.Numbers.{TellClasses};
+
+    ghost Value = { Classes };
+
+    ghost view = { λ x. record { prefixes = x.prefixes.items; samples = x.samples.items; targets = x.targets.items } };
+
+    ghost invariant = { λ x. IsClassing (record { prefixes = x.prefixes.items; samples = x.samples.items; targets = x.targets.items }) × TellClasses (record { prefixes = x.prefixes.items; samples = x.samples.items; targets = x.targets.items }) x.starts.items x.numbers.items };
+}
+
+impl Atoms {
+    /// The classes of the prefixes that a network and two sources of tables have.
+    pub fn build<O: RouteSource, N: RouteSource>(
+        alloc: Global,
+        net: &Net,
+        old: &O,
+        new: &N,
+    ) -> Result<Atoms, OutOfMemory>
+        ensures { IfOk result (λ atoms. AreClasses net.now (SourceEntry (O.routers old.now) (O.table old.now)) (SourceEntry (N.routers new.now) (N.table new.now)) atoms) }
+    {
+        let mut prefixes = Vec::new(alloc);
+        add_net(&mut prefixes, net)?;
+        add_source(&mut prefixes, old)?;
+        add_source(&mut prefixes, new)?;
+        keep_distinct_prefixes(&mut prefixes);
+        let originated = originated_prefixes(alloc, net)?;
+        classes_of(alloc, prefixes, originated.as_slice())
+    }
+
+    /// How many classes there are.
+    pub fn count(&self) -> u64
+        ensures count { result ≡ length self.now.samples }
+        ensures classing { IsClassing self.now }
+    {
+        self.samples.len() as u64
+    }
+
+    /// The class of an address.
+    pub fn of(&self, a: u32) -> u32
+        ensures { IsInClass self.now result a }
+    {
+        self.numbers[interval_of(self.starts.as_slice(), a)]
+    }
+
+    /// The least address of a class.
+    pub fn sample(&self, atom: u32) -> u32
+        requires { atom < length self.now.samples }
+        ensures sample { result ≡ slice_index self.now.samples atom }
+        ensures class { IsInClass self.now atom result }
+    {
+        self.samples[atom as usize]
+    }
+
+    /// The least addresses of all classes, which ascend.
+    pub fn samples(&self) -> &[u32]
+        ensures samples { result.now ≡ self.now.samples }
+        ensures classing { IsClassing self.now }
+    {
+        self.samples.as_slice()
+    }
+
+    /// The target of a class, none where its addresses have none.
+    pub fn target(&self, atom: u32) -> Option<Prefix>
+        requires { atom < length self.now.samples }
+        ensures { slice_get self.now.targets atom ≡ Some result }
+    {
+        self.targets[atom as usize]
+    }
+}
+
+/// The classes that prefixes without repeats make, with the longest of some prefixes as targets.
+fn classes_of(
+    alloc: Global,
+    prefixes: Vec<Prefix>,
+    originated: &[Prefix],
+) -> Result<Atoms, OutOfMemory>
+    requires { AllPairs (λ p q. p ≢ q) prefixes.items }
+    ensures { IfOk result (λ atoms. AreClassesOf prefixes.items originated.now atoms) }
+{
+    let starts = cuts_of(alloc, prefixes.as_slice())?;
+    let Numbering { numbers, firsts } = number_cuts(alloc, prefixes.as_slice(), starts.as_slice())?;
+    let samples = picked(alloc, starts.as_slice(), firsts.as_slice())?;
+    let targets = targets_of(alloc, originated, samples.as_slice())?;
+    Ok(Atoms {
+        prefixes,
+        samples,
+        targets,
+        starts,
+        numbers,
+    })
+}
+
+/// Numbers cuts by their classes: cuts in one class have one longest prefix.
+fn number_cuts(alloc: Global, prefixes: &[Prefix], cuts: &[u32]) -> Result<Numbering, OutOfMemory>
+    requires apart { AllPairs (λ p q. p ≢ q) prefixes.now }
+    requires blocks { All IsBlock prefixes.now }
+    requires ascending { IsStrictlyIncreasing cuts.now }
+    ensures { IfOk result (λ n. NumbersClasses prefixes.now cuts.now n.numbers.items n.firsts.items) }
+{
+    let found = longest_of_each(alloc, prefixes, cuts)?;
+    let keys = keys_of(alloc, found.as_slice(), prefixes.len())?;
+    number(alloc, keys.as_slice(), prefixes.len() + 1)
+}
+
+/// A key for each place: the place, and a key of its own for none.
+fn keys_of(alloc: Global, found: &[Option<usize>], none: usize) -> Result<Vec<usize>, OutOfMemory>
+    ensures { IfOk result (λ v. v.items ≡ map (λ o. unwrap_or o none) found.now) }
+{
+    found.iter().map(|o| o.unwrap_or(none)).collect(alloc)
+}
+
+/// The numbers that stand at these places.
+fn picked(alloc: Global, numbers: &[u32], places: &[usize]) -> Result<Vec<u32>, OutOfMemory>
+    requires { All (λ place. place < length numbers.now) places.now }
+    ensures { IfOk result (λ v. ArePicked numbers.now places.now v.items) }
+{
+    let mut picked = Vec::new(alloc);
+    for place in places {
+        picked.push(numbers[*place])?;
+    }
+    Ok(picked)
+}
+
+/// For each address the longest of the prefixes that contain it.
+fn targets_of(
+    alloc: Global,
+    prefixes: &[Prefix],
+    addresses: &[u32],
+) -> Result<Vec<Option<Prefix>>, OutOfMemory>
+    requires { IsStrictlyIncreasing addresses.now }
+    ensures { IfOk result (λ v. AreTargets prefixes.now addresses.now v.items) }
+{
+    let found = longest_of_each(alloc, prefixes, addresses)?;
+    let mut targets = Vec::new(alloc);
+    for place in found.as_slice() {
+        targets.push(prefix_at(prefixes, *place))?;
+    }
+    Ok(targets)
+}
+
+/// The prefix at a place, none where there is no place.
+fn prefix_at(prefixes: &[Prefix], place: Option<usize>) -> Option<Prefix>
+    requires { IfSome place (λ i. i < length prefixes.now) }
+    ensures { IsPrefixAt prefixes.now place result }
+{
+    let place = place?;
+    Some(prefixes[place])
+}
+
+/// The place of the interval that an address lies in.
+fn interval_of(starts: &[u32], a: u32) -> usize
+    requires ascending { IsStrictlyIncreasing starts.now }
+    requires some { 0 < length starts.now }
+    requires first { slice_index starts.now 0 ≡ 0 }
+    ensures { InInterval starts.now result a }
+{
+    match starts.binary_search(&a) {
+        Ok(place) => place,
+        Err(place) => place - 1,
+    }
+}
+
+#[cfg(test)]
+mod tests;

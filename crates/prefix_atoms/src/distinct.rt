@@ -1,0 +1,24 @@
+ghost use Rattle.std.specs.Prelude.{◌≡◌, ◌≢◌, ◌↔◌, ◌<◌, ◌^◌, ℕ, All, AllPairs, Contains};
+ghost use Rattle.std.specs.List.Sorted.{IsStrictlyIncreasing};
+ghost use Rattle.net_addr.specs.Addresses.{Block};
+
+use net_addr::Prefix;
+
+/// Leaves each prefix of a list once.
+pub fn keep_distinct_prefixes(prefixes: &mut Vec<Prefix>)
+    ensures same { (p : Block) → Contains prefixes.new.items p ↔ Contains prefixes.old.items p }
+    ensures apart { AllPairs (λ p q. p ≢ q) prefixes.new.items }
+{
+    prefixes.sort_unstable();
+    prefixes.dedup();
+}
+
+/// Leaves each number of a list once, in ascending order.
+pub fn keep_distinct_numbers(numbers: &mut Vec<u32>)
+    ensures same { (n : ℕ) → Contains numbers.new.items n ↔ Contains numbers.old.items n }
+    ensures ascending { IsStrictlyIncreasing numbers.new.items }
+    ensures below { All (λ n. n < 2 ^ 32) numbers.new.items }
+{
+    numbers.sort_unstable();
+    numbers.dedup();
+}
