@@ -28,7 +28,7 @@ pub record CutsOctet (word : List ℕ) (value : ℕ) (rest : List ℕ) : Type 0 
   pub value_is : value ≡ decimal_value part
   pub joined : word ≡ part ++ 46 ∷ rest
 
--- a mask: its first `len` bits are ones, at least one, and the others are zeros
+-- a mask (RFC 4632, section 3.1): its first `len` bits are ones, at least one, and the others are zeros
 pub record IsMask (a len : ℕ) : Type 0 where
   pub some : 1 ≤ len
   pub most : len ≤ 32

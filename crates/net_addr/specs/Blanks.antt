@@ -1,4 +1,4 @@
--- Blanks, and the words between them.
+-- Blanks, and the words between them. `slice_split p bytes` are the pieces between the bytes that pass p.
 use Rattle.std.specs.Prelude.{ℕ, ◌+◌, Bool, ◌==◌, ◌||◌, nat_lt, List, [], ◌∷◌, length, filter, take_while}
 use Rattle.std.specs.List.{slice_split}
 use Rattle.net_addr.specs.declared.span.Span.{Span}

@@ -1,4 +1,4 @@
--- The lines of a text.
+-- The lines of a text. `slice_split p bytes` are the pieces between the bytes that pass p.
 use Rattle.std.specs.Prelude.{ℕ, ◌+◌, Bool, ◌==◌, if◌then◌else◌, List, [], ◌∷◌, length, map}
 use Rattle.std.specs.List.{slice_split}
 use Rattle.std.specs.Str.Lines.{strip_carriage_return}
@@ -23,7 +23,7 @@ line_pieces text = without_empty_last (slice_split is_line_feed text)
 abbrev pub line_texts : List ℕ → List (List ℕ)
 line_texts text = map strip_carriage_return (line_pieces text)
 
--- the line with this number, whose piece begins at `start`: its span takes its blanks in
+-- the line with this number, whose piece begins at `start`: its leading blanks are part of its span
 abbrev pub line_of : ℕ → ℕ → List ℕ → Line
 line_of number start piece = record {
   number = number;

@@ -63,7 +63,8 @@ impl LineList {
 
 /// The lines of a text, numbered from 1.
 ///
-/// A line ends before each line feed. A last piece without a line feed is a line where it isn't empty.
+/// A line ends before each line feed. A last piece without a line feed is a line where it isn't empty. The only error
+/// is want of memory.
 pub fn lines(alloc: Global, text: &[u8]) -> Result<LineList, OutOfMemory>
     requires { length text.now < 2 ^ 26 }
     ensures exact { IfOk result (λ all. all ≡ text_lines text.now) }

@@ -5,7 +5,7 @@ ghost use Rattle.net_addr.specs.Readers.{Reads};
 
 /// The number for which the word stands in decimal, at most `most`.
 ///
-/// The word is one or more ASCII digits. Leading zeros are taken, and the word may be as long as it likes.
+/// The word is one or more ASCII digits, of any count, and may begin with zeros.
 pub fn read_number(word: &[u8], most: u64) -> Option<u64>
     ensures { Reads result (IsNumeralUpTo most word.now) }
 {

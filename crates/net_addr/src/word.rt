@@ -7,7 +7,7 @@ use crate::blank::is_blank;
 use crate::span::{Span, SpanList};
 use std::alloc::{AllocError as OutOfMemory, Global};
 
-/// The words in a span of a text: the longest pieces without spaces and tabs.
+/// The words in a span of a text: the longest pieces without spaces and tabs. The only error is want of memory.
 pub fn words(alloc: Global, text: &[u8], span: Span) -> Result<SpanList, OutOfMemory>
     requires short { length text.now < 2 ^ 26 }
     requires inside { LiesIn text.now span }
