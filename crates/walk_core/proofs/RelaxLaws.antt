@@ -1,5 +1,5 @@
 -- Relaxing keeps what is known of distances, and ends at the least costs.
-use Rattle.std.proofs.Common.{◌≡◌, ◌≢◌, ℕ, ◌+◌, ◌^◌, ◌<◌, ◌≤◌, zero, suc, Bool, true, false, ◌||◌, cond, IsTrue, ◌↔◌, List, [], ◌∷◌, ◌++◌, Option, Some, None, length, set, replicate, get_or-set_same, get_or-set_other, refl, sym, ◌∙◌, ap, subst, arith, inl, inr, ◌⊎◌}
+use Rattle.std.proofs.Common.{◌≡◌, ◌≢◌, ℕ, ◌+◌, ◌^◌, ◌<◌, ◌≤◌, zero, suc, Bool, true, false, ◌||◌, cond, IsTrue, ◌↔◌, List, [], ◌∷◌, ◌++◌, Option, Some, None, length, length-set, set, replicate, get_or-set_same, get_or-set_other, refl, sym, ◌∙◌, ap, subst, arith, inl, inr, ◌⊎◌}
 use Rattle.std.specs.Bool.{OnFalse}
 use Rattle.std.proofs.lemmas.Bool.{cases_eq}
 use Rattle.std.proofs.lemmas.List.{length-replicate}
@@ -112,7 +112,9 @@ pub room_after : (ds : List (Option ℕ)) (u v c d : ℕ) → HaveRoom ds → c 
     distance_at ds u ≡ Some d → d + c < weight_of (distance_at ds v) →
     HaveRoom (set ds v (Some (d + c)))
 room_after ds u v c d room small in_range near falls = record {
+  few = rw (length-set ds v (Some (d + c))) room.few;
   room = λ w e is.
+      let as_long : length (set ds v (Some (d + c))) ≡ length ds = length-set ds v (Some (d + c)) in
       let here = room.room u d near in
       elim (distance_after ds v (d + c) w e in_range is) [
         | inl found ↦
@@ -288,7 +290,9 @@ only_at_root n root v d in_range is =
 pub room_at_first : (n root : ℕ) → root < n → n ≤ 2 ^ 32 →
     HaveRoom (set (replicate n None) root (Some 0))
 room_at_first n root in_range small = record {
+  few = simp (length-set, length-replicate) small;
   room = λ v d is.
+      let as_long : length (set (replicate {A = Option ℕ} n None) root (Some 0)) ≡ n = simp (length-set, length-replicate) refl in
       let zero_cost : d ≡ 0 = (only_at_root n root v d in_range is).1 in
       let long : root < length (replicate {A = Option ℕ} n None) = simp length-replicate in_range in
       let one_less = missing_found (replicate n None) root 0 long (none_at_first n root) in

@@ -1,4 +1,4 @@
-ghost use Rattle.std.specs.Prelude.{◌≡◌, ◌+◌, ◌<◌, ◌≤◌, ◌↔◌, ℕ, length, IsTrue, Some, slice_set, if◌then◌else◌, IfOk};
+ghost use Rattle.std.specs.Prelude.{◌≡◌, ◌+◌, ◌*◌, ◌^◌, ◌<◌, ◌≤◌, ◌↔◌, ℕ, length, IsTrue, Some, slice_set, if◌then◌else◌, IfOk};
 ghost use Rattle.std.specs.Bool.{OnTrue, OnFalse};
 ghost use Rattle.walk_core.specs.Distances.{distance_at, AreDistances};
 ghost use Rattle.walk_core.specs.Relaxing.{weight_of, HaveRoom, IsTightFrom, Relaxes};
@@ -16,6 +16,8 @@ pub fn distances_from<G: CostGraph>(
     requires { root < G.vertex_count graph.now }
     ensures least { IfOk result (λ ds. AreDistances (G.has_arc graph.now) root ds.items) }
     ensures whole { IfOk result (λ ds. length ds.items ≡ G.vertex_count graph.now) }
+    ensures near { IfOk result (λ ds. (v d : ℕ) → distance_at ds.items v ≡ Some d →
+        d < G.vertex_count graph.now * 2 ^ 32) }
 {
     let mut distances = vec![in alloc; None; graph.vertices() as usize]?;
     distances[root as usize] = Some(0);

@@ -1,5 +1,5 @@
 ghost use Rattle.std.specs.Prelude.{◌<◌, IfOk};
-ghost use Rattle.walk_core.specs.Reach.{AreLeastWalks};
+ghost use Rattle.walk_core.specs.Reach.{AreLeastWalks, AreNear};
 
 use crate::hops::{Departure, FirstHops};
 use crate::relax::{distance_at, distances_from};
@@ -41,7 +41,8 @@ pub fn least_walks<G: CostGraph>(
     root: u32,
 ) -> Result<LeastWalks, OutOfMemory>
     requires { root < G.vertex_count graph.now }
-    ensures { IfOk result (λ walks. AreLeastWalks (G.has_arc graph.now) root walks) }
+    ensures least { IfOk result (λ walks. AreLeastWalks (G.has_arc graph.now) root walks) }
+    ensures near { IfOk result (AreNear (G.vertex_count graph.now)) }
 {
     let distances = distances_from(alloc, graph, root)?;
     let departures = Departure::all_from(alloc, graph, root)?;

@@ -28,8 +28,8 @@ loop-v-preserved g c =
       rows = rows_more ds distances c.loop-v.hops.items v hops before.long before.rows row;
     })
 
-pub returns : goal.returns
-returns g c =
+pub returns-clause-least : goal.returns-clause-least
+returns-clause-least g c =
     let all : c.loop-v.v ≡ g.G.CostGraph.vertex_count c.args.graph.now = omega (arith, c.vertices-v-end.ensures) in
     are_least_walks (g.G.CostGraph.has_arc c.args.graph.now) c.args.root c.loop-v.v
     c.in_ok-departures.departures.items
