@@ -8,7 +8,8 @@ use std::alloc::{AllocError as OutOfMemory, Global};
 use std::marker::Model;
 
 /// Doubly linked lists of numbered nodes. Each node stands in one list at most. Each link and each
-/// unlink is a move, and the moves can be taken back, the latest first.
+/// unlink is a move, and the moves can be taken back, the latest first. A move takes no memory: the
+/// room for it is made by `reserve`.
 #[derive(Debug, Drop)]
 pub struct Links {
     nodes: Vec<Node>,
@@ -126,7 +127,8 @@ impl Links {
         self.nodes[node as usize].next
     }
 
-    /// The count of standing moves, to come back to by `undo_to`.
+    /// The count of standing moves, to come back to by `undo_to`. What it says of the lists besides
+    /// holds of all `Links`.
     pub fn mark(&self) -> u32
         ensures count { result ≡ length self.now.trail }
         ensures apart { IsApart self.now.lists }
