@@ -1,0 +1,13 @@
+pub use Rattle.net_addr.specs.Addresses
+pub use Rattle.net_model.specs.Configuration
+pub use Rattle.net_model.specs.Network
+pub use Rattle.walk_core.specs.Walks
+pub use Rattle.walk_core.specs.Offers
+pub use Rattle.route_core.specs.Hops
+pub mod Routes
+pub mod Ospf
+pub mod Isis
+pub mod Forwarding
+pub mod States
+pub mod Loops
+pub mod Laws

@@ -1,13 +1,16 @@
-// A library with one function.
+//! The definitions that every promise of the planner stands on, and the laws that they obey.
 #![tactic(auto)]
 
-ghost use Rattle.std.specs.Prelude.{◌≡◌};
-ghost use Rattle.igp_theory.specs.Echo.{echo_of};
+mod cost_laws;
+mod forwarding_laws;
+mod phase;
+mod same_table_laws;
+mod table_laws;
+mod tables;
 
-// The `ensures` clause is the contract: what `echo` returns is `echo_of` of its argument, a definition
-// in `specs/Echo.antt`, which a caller's clause can cite too.
-pub fn echo(x: usize) -> usize
-    ensures { result ≡ echo_of x }
-{
-    x
-}
+pub use cost_laws::{ArcRelation, OfferRelation, best_cost_is_unique, least_cost_is_unique};
+pub use forwarding_laws::{every_mixture_forwards, middle_is_old_or_new};
+pub use phase::Phase;
+pub use same_table_laws::same_tables_act_alike;
+pub use table_laws::{costs_are_unique, entries_are_unique, entries_forward, hops_are_neighbors};
+pub use tables::TablePair;

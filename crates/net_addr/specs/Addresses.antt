@@ -6,6 +6,10 @@ pub record Block : Type 0 where
   pub base : ℕ
   pub len : ℕ
 
+-- the block with this base and this length
+abbrev pub block_at : ℕ → ℕ → Block
+block_at base len = record { base = base; len = len }
+
 -- the first `len` bits of a 32-bit number
 abbrev pub first_bits : ℕ → ℕ → ℕ
 first_bits len a = a / 2 ^ (32 - len)

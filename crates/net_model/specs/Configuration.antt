@@ -1,6 +1,6 @@
 -- The plain data of a router's configuration, and the facts that every configuration keeps.
-use Rattle.std.specs.Prelude.{◌≡◌, ◌≢◌, ℕ, ◌+◌, ◌^◌, ◌<◌, ◌≤◌, Bool, true, false, ◌⊎◌, List, [], ◌∷◌, length, Option, Some, None, IfSome, IsSome, IsTrue, All, AllPairs}
-use Rattle.net_addr.specs.Addresses.{Block}
+use Rattle.std.specs.Prelude.{◌≡◌, ◌≢◌, ℕ, ◌^◌, ◌<◌, ◌≤◌, Bool, ◌⊎◌, List, length, Option, IfSome, IsSome, IsTrue, All, AllPairs}
+use Rattle.net_addr.specs.Addresses.{IsBlock}
 use Rattle.net_model.specs.declared.area.Range.{Range}
 use Rattle.net_model.specs.declared.area.Stub.{Stub}
 use Rattle.net_model.specs.declared.config.Distances.{Distances}
@@ -33,16 +33,18 @@ pub record IsRouterName (name : List ℕ) : Type 0 where
   pub short : length name ≤ 63
   pub bytes : All IsNameByte name
 
--- the numbers of an interface are in their ranges, and without a subnet it isn't up
+-- the numbers of an interface are in their ranges, its subnet is a prefix, and without one it isn't up
 pub record IsInterface (i : Interface) : Type 0 where
   pub cost : (1 ≤ i.cost) × (i.cost ≤ 65535)
   pub metric1 : (1 ≤ i.metric1) × (i.metric1 ≤ 16777214)
   pub metric2 : (1 ≤ i.metric2) × (i.metric2 ≤ 16777214)
+  pub prefix : IfSome i.subnet IsBlock
   pub subnet : IsTrue i.up → IsSome i.subnet
 
--- the cost of a range is in its range
-abbrev pub IsRange : Range → Type 0
-IsRange r = IfSome r.cost (λ c. c ≤ 16777214)
+-- a range is of a prefix, and its cost is at most 16777214
+pub record IsRange (r : Range) : Type 0 where
+  pub prefix : IsBlock r.dest
+  pub cost : IfSome r.cost (λ c. c ≤ 16777214)
 
 -- a stub area isn't the backbone, and its default cost is in its range
 pub record IsStub (s : Stub) : Type 0 where

@@ -1,2 +1,6 @@
 pub mod Walks
 pub mod Offers
+pub mod Distances
+pub mod Relaxing
+pub mod Reach
+pub mod Departures

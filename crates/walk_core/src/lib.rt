@@ -1,2 +1,13 @@
 //! Least-cost walks over any graph: the route calculation that OSPF and IS-IS share.
 #![tactic(auto)]
+
+mod graph;
+mod hops;
+mod relax;
+#[cfg(test)]
+mod tests;
+mod walks;
+
+pub use graph::CostGraph;
+pub use std::alloc::AllocError as OutOfMemory;
+pub use walks::{LeastWalks, least_walks};

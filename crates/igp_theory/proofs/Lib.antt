@@ -1,0 +1,3 @@
+pub mod ForwardingLaws
+pub mod TableLaws
+pub mod SameTables

@@ -1,0 +1,134 @@
+-- IS-IS: level 1, level 2, attached routers, the table (RFC 1195; wide metrics by RFC 5305).
+use Rattle.std.specs.Prelude.{◌≡◌, ◌≢◌, ℕ, Some, IsTrue, List}
+use Rattle.net_addr.specs.Addresses.{Block}
+use Rattle.net_model.specs.Configuration.{Configuration}
+use Rattle.net_model.specs.Network.{Network, HasConfiguration, UpInterface, Connected, Adjacent}
+use Rattle.net_model.specs.declared.config.Levels.{Levels}
+use Rattle.net_model.specs.declared.config.Levels.TheVariants.{One, Two, Both}
+use Rattle.net_model.specs.declared.interface.Interface.{Interface}
+use Rattle.net_model.specs.declared.zone.Zone.TheVariants.{One as LevelOne, Two as LevelTwo}
+use Rattle.walk_core.specs.Walks.{Leg, Walks}
+use Rattle.walk_core.specs.Offers.{BestCost, BestHop}
+use Rattle.route_core.specs.declared.entry.Entry.{Entry}
+use Rattle.igp_theory.specs.Ospf.{OfOthers, default_prefix}
+use Rattle.igp_theory.specs.Routes.{ForwardsTo}
+
+-- Levels of a router
+
+-- the level is among these levels
+abbrev pub HasOne : Levels → Type 0
+HasOne One = Unit {0}
+HasOne Two = ⊥
+HasOne Both = Unit {0}
+
+abbrev pub HasTwo : Levels → Type 0
+HasTwo One = ⊥
+HasTwo Two = Unit {0}
+HasTwo Both = Unit {0}
+
+-- router u has an IS-IS process that runs level 1
+pub record RunsOne (net : Network) (u : ℕ) : Type 0 where
+  pub config : Configuration
+  pub router : HasConfiguration net u config
+  pub isis : IsTrue config.isis
+  pub level : HasOne config.levels
+
+-- router u has an IS-IS process that runs level 2
+pub record RunsTwo (net : Network) (u : ℕ) : Type 0 where
+  pub config : Configuration
+  pub router : HasConfiguration net u config
+  pub isis : IsTrue config.isis
+  pub level : HasTwo config.levels
+
+-- Level 1 routes
+
+-- router w offers the subnet of an up interface that runs level 1, at its level 1 metric
+pub record OffersOne (net : Network) (p : Block) (w cost : ℕ) : Type 0 where
+  pub interface : Interface
+  pub up : UpInterface net w interface
+  pub subnet : interface.subnet ≡ Some p
+  pub level : IsTrue interface.level1
+  pub costs : interface.metric1 ≡ cost
+
+-- the level 1 cost of p at u
+pub record OneCost (net : Network) (p : Block) (u cost : ℕ) : Type 0 where
+  pub runs : RunsOne net u
+  pub best : BestCost (Adjacent net LevelOne) (OffersOne net p) u cost
+
+-- a first hop of a level 1 route
+pub record OneHop (net : Network) (p : Block) (u h : ℕ) : Type 0 where
+  pub runs : RunsOne net u
+  pub best : BestHop (Adjacent net LevelOne) (OffersOne net p) u h
+
+-- Level 2 routes
+
+-- router w offers the subnet of an up interface that runs level 2, at its level 2 metric
+pub record OffersTwo (net : Network) (p : Block) (w cost : ℕ) : Type 0 where
+  pub interface : Interface
+  pub up : UpInterface net w interface
+  pub subnet : interface.subnet ≡ Some p
+  pub level : IsTrue interface.level2
+  pub costs : interface.metric2 ≡ cost
+
+-- what a router that runs level 2 announces there: its own level 2 subnets, and, where it runs both
+-- levels, each prefix that it reaches by level 1, at that cost
+pub data LevelTwoAnnouncement (net : Network) (p : Block) (b cost : ℕ) : Type 0 where
+  own : RunsTwo net b → OffersTwo net p b cost → LevelTwoAnnouncement net p b cost
+  of_level_one : RunsTwo net b → OneCost net p b cost → LevelTwoAnnouncement net p b cost
+
+-- the level 2 cost of p at u, over announcements of other routers
+pub record TwoCost (net : Network) (p : Block) (u cost : ℕ) : Type 0 where
+  pub runs : RunsTwo net u
+  pub best : BestCost (Adjacent net LevelTwo) (OfOthers (LevelTwoAnnouncement net p) u) u cost
+
+-- a first hop of a level 2 route
+pub record TwoHop (net : Network) (p : Block) (u h : ℕ) : Type 0 where
+  pub runs : RunsTwo net u
+  pub best : BestHop (Adjacent net LevelTwo) (OfOthers (LevelTwoAnnouncement net p) u) u h
+
+-- Attached routers and the default of level 1 (RFC 1195, section 3.2); that a router of both levels
+-- takes no such default is this project's profile
+
+-- a router of both levels is attached where level 2 leads to a router of another IS-IS area
+pub record IsAttached (net : Network) (u : ℕ) : Type 0 where
+  pub runs_one : RunsOne net u
+  pub runs_two : RunsTwo net u
+  pub far : ℕ
+  pub legs : List Leg
+  pub walk : Walks (Adjacent net LevelTwo) u legs far
+  pub config : Configuration
+  pub router : HasConfiguration net far config
+  pub other_area : runs_two.config.isis_area ≢ config.isis_area
+
+-- an attached router offers all addresses at no cost
+pub record OffersDefault (net : Network) (b cost : ℕ) : Type 0 where
+  pub attached : IsAttached net b
+  pub costs : cost ≡ 0
+
+-- the distance of the nearest attached routers from u, which runs level 1 alone
+pub record DefaultCost (net : Network) (u cost : ℕ) : Type 0 where
+  pub runs : RunsOne net u
+  pub alone : RunsTwo net u → ⊥
+  pub best : BestCost (Adjacent net LevelOne) (OffersDefault net) u cost
+
+-- a first hop towards a nearest attached router
+pub record DefaultHop (net : Network) (u h : ℕ) : Type 0 where
+  pub runs : RunsOne net u
+  pub alone : RunsTwo net u → ⊥
+  pub best : BestHop (Adjacent net LevelOne) (OffersDefault net) u h
+
+-- p has a level 1 route, a level 2 route at u
+pub record IsOne (net : Network) (p : Block) (u : ℕ) : Type 0 where
+  pub cost : ℕ
+  pub costs : OneCost net p u cost
+
+pub record IsTwo (net : Network) (p : Block) (u : ℕ) : Type 0 where
+  pub cost : ℕ
+  pub costs : TwoCost net p u cost
+
+-- The IS-IS table: for a prefix that isn't connected the level 1 route, else the level 2 route, else
+-- for all addresses the default of a router that runs level 1 alone
+pub data IsisEntry (net : Network) (u : ℕ) (p : Block) (e : Entry) : Type 0 where
+  level_one : (Connected net u p → ⊥) → IsOne net p u → ForwardsTo (OneHop net p u) e → IsisEntry net u p e
+  level_two : (Connected net u p → ⊥) → (IsOne net p u → ⊥) → IsTwo net p u → ForwardsTo (TwoHop net p u) e → IsisEntry net u p e
+  default_route : (Connected net u p → ⊥) → (IsOne net p u → ⊥) → (IsTwo net p u → ⊥) → p ≡ default_prefix → (cost : ℕ) → DefaultCost net u cost → ForwardsTo (DefaultHop net u) e → IsisEntry net u p e

@@ -1,0 +1,110 @@
+-- Loops of the network, and the fault of an unsound state (Vanbever et al., SIGCOMM 2011).
+use Rattle.std.specs.Prelude.{◌≡◌, ◌≢◌, ℕ, ◌^◌, ◌<◌, ◌≤◌, ◌↔◌, ◌⊎◌, Bool, List, [], ◌∷◌, ◌++◌, length, map, IsTrue, All, AllPairs}
+use Rattle.net_model.specs.Network.{Network}
+use Rattle.igp_theory.specs.Forwarding.{MustForward, Steps, HasStep}
+use Rattle.igp_theory.specs.Routes.{Tables}
+use Rattle.igp_theory.specs.States.{State, StepsIn, Follows, IsSoundAt, IsSound, state_of}
+use Rattle.igp_theory.specs.declared.phase.Phase.TheVariants.{Old, New}
+
+-- a router of a ring with its tag: whether its Old phase, whether its New phase steps to the next
+pub record RingRouter : Type 0 where
+  pub router : ℕ
+  pub old : Bool
+  pub new : Bool
+
+-- the tag says which of the two phases step to the next router; one of them does
+pub record IsTag (net : Network) (old new : Tables) (a : ℕ) (r : RingRouter) (next : ℕ) : Type 0 where
+  pub of_old : IsTrue r.old ↔ Steps net old new r.router Old a next
+  pub of_new : IsTrue r.new ↔ Steps net old new r.router New a next
+  pub some : IsTrue r.old ⊎ IsTrue r.new
+
+-- R holds of each router of a list and the next one, and of the last one and `first`
+abbrev pub EachToNext : {A : Type 0} → (A → A → Type 0) → A → List A → Type 0
+EachToNext R first [] = Unit {0}
+EachToNext R first (r ∷ []) = R r first
+EachToNext R first (r ∷ s ∷ rest) = R r s × EachToNext R first (s ∷ rest)
+
+-- R holds round a ring: of each router and the next one, and of the last and the first
+abbrev pub AroundRing : {A : Type 0} → (A → A → Type 0) → List A → Type 0
+AroundRing R [] = Unit {0}
+AroundRing R (r ∷ rest) = EachToNext R r (r ∷ rest)
+
+-- a loop of the network: an address, and a ring of two or more distinct routers with their tags.
+-- By its tag each of them has to pass packets on: the address has a target that it doesn't originate
+pub record IsLoop (net : Network) (old new : Tables) (a : ℕ) (ring : List RingRouter) : Type 0 where
+  pub address : a < 2 ^ 32
+  pub some : 2 ≤ length ring
+  pub distinct : AllPairs (λ (r s : RingRouter). r.router ≢ s.router) ring
+  pub tags : AroundRing (λ (r s : RingRouter). IsTag net old new a r s.router) ring
+
+-- a loop arises in a state where each of its routers steps there to the next
+abbrev pub Arises : Network → Tables → Tables → State → ℕ → List RingRouter → Type 0
+Arises net old new state a ring =
+    AroundRing (λ (r s : RingRouter). StepsIn net old new state a r.router s.router) ring
+
+-- what is wrong in an unsound state, at its least address: a router without a step, or a loop
+pub data Fault : Type 0 where
+  missing : (address router : ℕ) → Fault
+  loop : (address : ℕ) → List RingRouter → Fault
+
+-- among n routers, one is live where a list of n steps starts at it
+pub record IsLive (step : ℕ → ℕ → Type 0) (n u : ℕ) : Type 0 where
+  pub hops : List ℕ
+  pub last : ℕ
+  pub many : length hops ≡ n
+  pub follows : Follows step u hops last
+
+-- the lowest-numbered live router
+pub record IsLowestLive (step : ℕ → ℕ → Type 0) (n u : ℕ) : Type 0 where
+  pub live : IsLive step n u
+  pub lowest : (v : ℕ) → IsLive step n v → u ≤ v
+
+-- the lowest-numbered live hop of u
+pub record IsLowestLiveHop (step : ℕ → ℕ → Type 0) (n u h : ℕ) : Type 0 where
+  pub steps : step u h
+  pub live : IsLive step n h
+  pub lowest : (v : ℕ) → step u v → IsLive step n v → h ≤ v
+
+-- from the lowest-numbered live router one goes each time to the lowest-numbered live hop until a
+-- router repeats; the ring is the part from that router's first visit on, turned so that its
+-- lowest-numbered router is first
+pub record IsFoundRing (step : ℕ → ℕ → Type 0) (n : ℕ) (ring : List ℕ) : Type 0 where
+  pub start : ℕ
+  pub visited : List ℕ
+  pub begins : IsLowestLive step n start
+  pub lead : List ℕ
+  pub again : ℕ
+  pub rest : List ℕ
+  pub in_order : start ∷ visited ≡ lead ++ again ∷ rest
+  pub distinct : AllPairs (λ u v. u ≢ v) (start ∷ visited)
+  pub goes : EachToNext (IsLowestLiveHop step n) again (start ∷ visited)
+  pub front : List ℕ
+  pub back : List ℕ
+  pub found : again ∷ rest ≡ front ++ back
+  pub turned : ring ≡ back ++ front
+  pub lowest : ℕ
+  pub others : List ℕ
+  pub first : ring ≡ lowest ∷ others
+  pub least : All (λ u. lowest ≤ u) others
+
+-- the routers of a ring
+abbrev pub ring_routers : List RingRouter → List ℕ
+ring_routers ring = map (λ (r : RingRouter). r.router) ring
+
+-- the fault of an unsound state: at the least address for which it isn't sound the lowest-numbered
+-- router that lacks a step, else the ring that is found, with its tags
+pub data IsFault (net : Network) (old new : Tables) (state : State) : Fault → Type 0 where
+  missing_step : {a u : ℕ} → a < 2 ^ 32 → ((b : ℕ) → b < a → IsSoundAt net old new state b) →
+      MustForward net a u → (HasStep net old new u (state u) a → ⊥) →
+      ((v : ℕ) → v < u → MustForward net a v → HasStep net old new v (state v) a) →
+      IsFault net old new state (missing a u)
+  loop_arises : {a : ℕ} {ring : List RingRouter} → a < 2 ^ 32 → ((b : ℕ) → b < a → IsSoundAt net old new state b) →
+      ((v : ℕ) → MustForward net a v → HasStep net old new v (state v) a) →
+      IsFoundRing (StepsIn net old new state a) (length net) (ring_routers ring) →
+      AroundRing (λ (r s : RingRouter). IsTag net old new a r s.router) ring →
+      IsFault net old new state (loop a ring)
+
+-- the first fault of an order: the number of its first unsound state, with that state's fault
+pub record IsFirstFault (net : Network) (old new : Tables) (order : List ℕ) (k : ℕ) (fault : Fault) : Type 0 where
+  pub before : (j : ℕ) → j < k → IsSound net old new (state_of order j)
+  pub here : IsFault net old new (state_of order k) fault

@@ -1,0 +1,61 @@
+-- Sound states, the states of an order, seamless orders (Vanbever et al., SIGCOMM 2011).
+use Rattle.std.specs.Prelude.{◌≡◌, ◌≢◌, ℕ, zero, suc, ◌+◌, ◌*◌, ◌^◌, ◌<◌, ◌≤◌, ◌↔◌, ◌==◌, if◌then◌else◌, List, [], ◌∷◌, length, take, Contains, AllPairs}
+use Rattle.net_model.specs.Network.{Network}
+use Rattle.igp_theory.specs.Forwarding.{MustForward, Steps, HasStep}
+use Rattle.igp_theory.specs.Routes.{Tables}
+use Rattle.igp_theory.specs.declared.phase.Phase.{Phase}
+use Rattle.igp_theory.specs.declared.phase.Phase.TheVariants.{Old, Middle, New}
+
+-- a state gives each router a phase
+abbrev pub State : Type 0
+State = ℕ → Phase
+
+-- the steps of a state, for one address
+abbrev pub StepsIn : Network → Tables → Tables → State → ℕ → ℕ → ℕ → Type 0
+StepsIn net old new state a u h = Steps net old new u (state u) a h
+
+-- a list of steps leads from u over these routers, the last of them v
+abbrev pub Follows : (ℕ → ℕ → Type 0) → ℕ → List ℕ → ℕ → Type 0
+Follows step u [] v = u ≡ v
+Follows step u (h ∷ hops) v = step u h × Follows step h hops v
+
+-- a state is sound for an address: each router that has to pass packets on has a step, and no
+-- non-empty list of steps returns to its first router
+pub record IsSoundAt (net : Network) (old new : Tables) (state : State) (a : ℕ) : Type 0 where
+  pub forwards : (u : ℕ) → MustForward net a u → HasStep net old new u (state u) a
+  pub returns_never : (u h : ℕ) (hops : List ℕ) → Follows (StepsIn net old new state a) u (h ∷ hops) u → ⊥
+
+-- a state is sound where it is sound for every address
+abbrev pub IsSound : Network → Tables → Tables → State → Type 0
+IsSound net old new state = (a : ℕ) → a < 2 ^ 32 → IsSoundAt net old new state a
+
+-- an order lists every router below n once
+pub record IsOrder (n : ℕ) (order : List ℕ) : Type 0 where
+  pub once : AllPairs (λ u v. u ≢ v) order
+  pub all : (u : ℕ) → Contains order u ↔ u < n
+
+-- the changes of an order, each told by the router that it is made on: router by router two, of
+-- which the first sets the distance of IS-IS to 115 and the second that of OSPF to 255
+abbrev pub changes_of : List ℕ → List ℕ
+changes_of [] = []
+changes_of (u ∷ order) = u ∷ u ∷ changes_of order
+
+-- how many of some changes are made on router u
+abbrev pub changes_on : ℕ → List ℕ → ℕ
+changes_on u [] = 0
+changes_on u (v ∷ changes) = (if u == v then 1 else 0) + changes_on u changes
+
+-- the phase of a router after this many of its changes
+abbrev pub phase_after : ℕ → Phase
+phase_after zero = Old
+phase_after (suc zero) = Middle
+phase_after (suc (suc _)) = New
+
+-- state k of an order: every router was Old, and the first k changes are made
+abbrev pub state_of : List ℕ → ℕ → State
+state_of order k u = phase_after (changes_on u (take k (changes_of order)))
+
+-- an order is seamless where all its states are sound
+pub record IsSeamless (net : Network) (old new : Tables) (order : List ℕ) : Type 0 where
+  pub lists : IsOrder (length net) order
+  pub sound : (k : ℕ) → k ≤ 2 * length order → IsSound net old new (state_of order k)

@@ -1,0 +1,122 @@
+-- Blocks of addresses as intervals, and as parts of one another.
+use Rattle.std.proofs.Common.{◌≡◌, ℕ, ◌+◌, ◌-◌, ◌*◌, ◌/◌, ◌%◌, ◌^◌, ◌<◌, ◌≤◌, arith, refl, sym, subst, ap, ◌∙◌}
+use Rattle.std.proofs.lemmas.Nat.{pow_pos, div-mul-add, mod-mul-add, shr-shr}
+use Rattle.net_addr.specs.Addresses.{Block, block_at, first_bits, ContainsAddress, Covers, IsBlock}
+
+-- how many addresses a block has
+abbrev pub block_size : Block → ℕ
+block_size p = 2 ^ (32 - p.len)
+
+multiple_of : (a n : ℕ) → 0 < n → a % n ≡ 0 → a ≡ a / n * n
+multiple_of a n h e = omega arith
+
+multiple_is_clear : (q n : ℕ) → 0 < n → (q * n) % n ≡ 0
+multiple_is_clear q n h = let e : q * n ≡ q * n + 0 = omega arith in ap (λ m. m % n) e ∙ mod-mul-add q n 0 h
+
+multiple_below : (a n : ℕ) → 0 < n → a / n * n ≤ a
+multiple_below a n h = omega arith
+
+block_around : (a n len : ℕ) → len ≤ 32 → a < 2 ^ 32 → n ≡ 2 ^ (32 - len) → 0 < n → IsBlock (block_at (a / n * n) len)
+block_around a n len short below e h = record {
+  short = short;
+  address = let under : a / n * n ≤ a = multiple_below a n h in omega arith;
+  clear = subst (λ (m : ℕ). (a / n * n) % m ≡ 0) e (multiple_is_clear (a / n) n h);
+}
+
+-- the block of a length that begins with the first bits of an address
+pub IsBlock-around : (a n len : ℕ) → len ≤ 32 → a < 2 ^ 32 → n ≡ 2 ^ (32 - len) → IsBlock (block_at (a / n * n) len)
+IsBlock-around a n len short below e = block_around a n len short below e (subst (λ (m : ℕ). 0 < m) (sym e) (pow_pos (32 - len)))
+
+-- a block contains the address that it begins with
+pub ContainsAddress-base : (p : Block) → ContainsAddress p p.base
+ContainsAddress-base p = refl
+
+same_quotient_bounds : (a b n : ℕ) → 0 < n → b % n ≡ 0 → a / n ≡ b / n → (b ≤ a) × (a < b + n)
+same_quotient_bounds a b n h e same =
+    let whole : n * (a / n) ≡ n * (b / n) = ap (λ m. n * m) same in (omega arith, omega arith)
+
+bounds_same_quotient : (a b n : ℕ) → 0 < n → b % n ≡ 0 → b ≤ a → a < b + n → a / n ≡ b / n
+bounds_same_quotient a b n h e low high =
+    let whole : b ≡ b / n * n = multiple_of b n h e in
+    let split : a ≡ b / n * n + (a - b) = omega arith in
+    let small : a - b < n = omega arith in
+    ap (λ m. m / n) split ∙ div-mul-add (b / n) n (a - b) small
+
+-- a block's addresses are those from its base on, as many as its size
+pub ContainsAddress-bounds : (p : Block) (a : ℕ) → IsBlock p → ContainsAddress p a → (p.base ≤ a) × (a < p.base + block_size p)
+ContainsAddress-bounds p a block inside = same_quotient_bounds a p.base (block_size p) (pow_pos (32 - p.len)) block.clear inside
+
+pub ContainsAddress-between : (p : Block) (a : ℕ) → IsBlock p → p.base ≤ a → a < p.base + block_size p → ContainsAddress p a
+ContainsAddress-between p a block low high = bounds_same_quotient a p.base (block_size p) (pow_pos (32 - p.len)) block.clear low high
+
+-- a block is its base and its length
+pub same_parts : (b c l m : ℕ) → b ≡ c → l ≡ m → block_at b l ≡ block_at c m
+same_parts b c l m base len = ap (λ (x : ℕ). block_at x l) base ∙ ap (λ (x : ℕ). block_at c x) len
+
+-- blocks of one length that contain a common address are one
+pub same_block : (p q : Block) (a : ℕ) → IsBlock p → IsBlock q → p.len ≡ q.len → ContainsAddress p a → ContainsAddress q a → p ≡ q
+same_block p q a left right same_len in_p in_q =
+    let one_size : block_size p ≡ block_size q = ap (λ (m : ℕ). 2 ^ (32 - m)) same_len in
+    let same_bits : p.base / block_size q ≡ q.base / block_size q =
+    ap (λ (m : ℕ). p.base / m) (sym one_size) ∙ sym in_p ∙ ap (λ (m : ℕ). a / m) one_size ∙ in_q in
+    let clear : p.base % block_size q ≡ 0 = ap (λ (m : ℕ). p.base % m) (sym one_size) ∙ left.clear in
+    let p_whole : p.base ≡ p.base / block_size q * block_size q = multiple_of p.base (block_size q) (pow_pos (32 - q.len)) clear in
+    let q_whole : q.base ≡ q.base / block_size q * block_size q = multiple_of q.base (block_size q) (pow_pos (32 - q.len)) right.clear in
+    let same_base : p.base ≡ q.base = p_whole ∙ ap (λ (m : ℕ). m * block_size q) same_bits ∙ sym q_whole in
+    same_parts p.base q.base p.len q.len same_base same_len
+
+first_bits_shorter : (short long a : ℕ) → short ≤ long → long ≤ 32 → first_bits short a ≡ first_bits long a / 2 ^ (long - short)
+first_bits_shorter short long a below fits =
+    let e : 32 - short ≡ (32 - long) + (long - short) = omega arith in
+    ap (λ (k : ℕ). a / 2 ^ k) e ∙ sym (shr-shr a (32 - long) (long - short))
+
+-- a block contains every address of a block that it covers
+pub ContainsAddress-covers : (p q : Block) (a : ℕ) → IsBlock q → Covers p q → ContainsAddress q a → ContainsAddress p a
+ContainsAddress-covers p q a block covers inside =
+    first_bits_shorter p.len q.len a covers.longer block.short
+    ∙ ap (λ (m : ℕ). m / 2 ^ (q.len - p.len)) inside
+    ∙ sym (first_bits_shorter p.len q.len q.base covers.longer block.short)
+    ∙ covers.inside
+
+-- of two blocks that contain a common address, the shorter covers the longer
+pub Covers-common : (p q : Block) (a : ℕ) → IsBlock q → p.len ≤ q.len → ContainsAddress p a → ContainsAddress q a → Covers p q
+Covers-common p q a block shorter in_p in_q = record {
+  longer = shorter;
+  inside =
+      first_bits_shorter p.len q.len q.base shorter block.short
+      ∙ ap (λ (m : ℕ). m / 2 ^ (q.len - p.len)) (sym in_q)
+      ∙ sym (first_bits_shorter p.len q.len a shorter block.short)
+      ∙ in_p;
+}
+
+-- covering is reflexive and transitive
+pub Covers-itself : (p : Block) → Covers p p
+Covers-itself p = record { longer = omega arith; inside = refl }
+
+pub Covers-through : (p q r : Block) → IsBlock q → Covers p q → Covers q r → Covers p r
+Covers-through p q r block upper lower = record {
+  longer = omega (arith, upper.longer, lower.longer);
+  inside = ContainsAddress-covers p q r.base block upper lower.inside;
+}
+
+lone_multiple : (b n : ℕ) → n ≡ 2 ^ 32 → b < 2 ^ 32 → b % n ≡ 0 → b ≡ 0
+lone_multiple b n whole below clear =
+    let within : b % 2 ^ 32 ≡ 0 = subst (λ (m : ℕ). b % m ≡ 0) whole clear in omega arith
+
+-- a block of length 32 is one address, and the block of length 0 is all of them
+pub ContainsAddress-host : (p : Block) (a : ℕ) → IsBlock p → p.len ≡ 32 → ContainsAddress p a → a ≡ p.base
+ContainsAddress-host p a block host inside =
+    let one : block_size p ≡ 1 = ap (λ (len : ℕ). 2 ^ (32 - len)) host in
+    let bounds : (p.base ≤ a) × (a < p.base + block_size p) = ContainsAddress-bounds p a block inside in
+    omega arith
+
+pub ContainsAddress-all : (p : Block) (a : ℕ) → IsBlock p → p.len ≡ 0 → a < 2 ^ 32 → ContainsAddress p a
+ContainsAddress-all p a block none below =
+    let whole : block_size p ≡ 2 ^ 32 = ap (λ (len : ℕ). 2 ^ (32 - len)) none in
+    let first : p.base ≡ 0 = lone_multiple p.base (block_size p) whole block.address block.clear in
+    ContainsAddress-between p a block (omega arith) (omega arith)
+
+-- blocks that cover each other are one
+pub same_block-covers : (p q : Block) → IsBlock p → IsBlock q → Covers p q → Covers q p → p ≡ q
+same_block-covers p q left right over under =
+    same_block p q q.base left right (omega (arith, over.longer, under.longer)) over.inside refl
