@@ -26,3 +26,6 @@ pub use sink::{Failed, Sink};
 pub use std::alloc::AllocError as OutOfMemory;
 pub use sure_files::SureFiles;
 pub use sure_sink::SureSink;
+
+#[cfg(test)]
+mod tests;
