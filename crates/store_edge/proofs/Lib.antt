@@ -1,1 +1,2 @@
 mod TransferLaws
+pub mod OutsideLaws
