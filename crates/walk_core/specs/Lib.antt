@@ -1,2 +1,5 @@
 pub mod Walks
 pub mod Offers
+pub mod Distances
+pub mod Relaxing
+pub mod Reach
