@@ -4,9 +4,15 @@
 mod area;
 mod config;
 mod interface;
+mod limits;
+mod net;
+mod order;
+mod refusal;
 mod zone;
 
 pub use area::{Range, Ranges, Stub, Stubs};
 pub use config::{Config, Configs, Distances, Levels};
 pub use interface::{Interface, Interfaces};
+pub use net::Net;
+pub use refusal::{LimitWhat, NetRefusal};
 pub use zone::Zone;
