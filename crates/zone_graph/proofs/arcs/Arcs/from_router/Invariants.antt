@@ -1,0 +1,5 @@
+use Rattle.zone_graph.specs.Graphs.{AreArcsBelow}
+use Rattle.zone_graph.proofs.arcs.Arcs.from_router.Given as goal
+
+abbrev pub invariant-loop-v : goal.invariant-loop-v
+invariant-loop-v l = AreArcsBelow l.net l.zone l.u l.v l.all.items
