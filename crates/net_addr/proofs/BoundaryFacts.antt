@@ -1,10 +1,31 @@
 -- Why an interval of addresses without a boundary of a block lies inside the block or outside it.
-use Rattle.std.proofs.Common.{◌≡◌, ℕ, ◌+◌, ◌-◌, ◌^◌, ◌<◌, ◌≤◌, ◌⊎◌, ◌↔◌, arith, refl, inl, inr, ⊎_elim}
-use Rattle.std.proofs.lemmas.Nat.{pow_pos}
+use Rattle.std.proofs.Common.{◌≡◌, ℕ, suc, ◌+◌, ◌-◌, ◌*◌, ◌/◌, ◌%◌, ◌^◌, ◌<◌, ◌≤◌, ◌↔◌, arith, refl, sym, ap, subst, ◌∙◌, inl, inr, ⊎_elim}
+use Rattle.std.proofs.lemmas.Nat.{pow_pos, pow-add, div_below, mul-le}
 use Rattle.std.proofs.lemmas.Bool.{cases_lt}
 use Rattle.net_addr.specs.Addresses.{Block, ContainsAddress, IsBlock}
-use Rattle.net_addr.specs.Boundaries.{last_address, IsBoundary, NoBoundaryBetween, BoundaryLaw}
+use Rattle.net_addr.specs.Boundaries.{last_address, NoBoundaryBetween, BoundaryLaw}
 use Rattle.net_addr.proofs.Blocks.{block_size, ContainsAddress-bounds, ContainsAddress-between}
+
+fits_below : (b n m : ℕ) → 0 < n → b % n ≡ 0 → b < m * n → b + n ≤ m * n
+fits_below b n m pos clear below =
+    let whole : b ≡ b / n * n = omega arith in
+    let room : b / n < m = div_below b n m pos below in
+    let step : suc (b / n) * n ≤ m * n = mul-le (suc (b / n)) n m n room (omega arith) in
+    let more : suc (b / n) * n ≡ b / n * n + n = omega arith in
+    omega arith
+
+pub whole_space : (len : ℕ) → len ≤ 32 → 2 ^ len * 2 ^ (32 - len) ≡ 2 ^ 32
+whole_space len short =
+    let all : len + (32 - len) ≡ 32 = omega arith in sym (pow-add 2 len (32 - len)) ∙ ap (λ (k : ℕ). 2 ^ k) all
+
+-- the last address of a block is an address
+pub last_address-below : (p : Block) → IsBlock p → last_address p < 2 ^ 32
+last_address-below p block =
+    let space : 2 ^ p.len * block_size p ≡ 2 ^ 32 = whole_space p.len block.short in
+    let below : p.base < 2 ^ p.len * block_size p = subst (λ (m : ℕ). p.base < m) (sym space) block.address in
+    let pos : 0 < block_size p = pow_pos (32 - p.len) in
+    let room : p.base + block_size p ≤ 2 ^ p.len * block_size p = fits_below p.base (block_size p) (2 ^ p.len) pos block.clear below in
+    omega arith
 
 -- the number after a block's last address is its base and its size
 pub last_address-after : (p : Block) → last_address p + 1 ≡ p.base + block_size p

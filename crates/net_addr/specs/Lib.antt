@@ -1,2 +1,6 @@
 pub mod Addresses
 pub mod Boundaries
+pub mod Readers
+pub mod Numerals
+pub mod AddressWords
+pub mod Cuts

@@ -1,3 +1,6 @@
 pub mod Members
 mod Dests
 mod Names
+mod BestLinks
+pub mod Adjacency
+mod BestSubnets

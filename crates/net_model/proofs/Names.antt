@@ -91,13 +91,13 @@ module _ (ys : List Configuration) (up : IsSortedByKey (λ (c : Configuration). 
       (λ after. not_below (name_at ys p d) (name_at ys k d) (not_above k p d after (omega arith)) below)
       (cases_lt p k)
 
-named_at : (configs : List Configuration) (name : List ℕ) (u : ℕ) (d : Configuration) → IsNamed configs name u → name_at configs u d ≡ name
+pub named_at : (configs : List Configuration) (name : List ℕ) (u : ℕ) (d : Configuration) → IsNamed configs name u → name_at configs u d ≡ name
 named_at configs name u d h = ap (λ (c : Configuration). c.name) (get_or_from_slice_get configs u h.config d h.router) ∙ h.name_is
 
-named_within : (configs : List Configuration) (name : List ℕ) (u : ℕ) → IsNamed configs name u → u < length configs
+pub named_within : (configs : List Configuration) (name : List ℕ) (u : ℕ) → IsNamed configs name u → u < length configs
 named_within configs name u h = slice_get_within configs u h.config h.router
 
-named_from : (configs : List Configuration) (name : List ℕ) (u : ℕ) (d : Configuration) → u < length configs → name_at configs u d ≡ name → IsNamed configs name u
+pub named_from : (configs : List Configuration) (name : List ℕ) (u : ℕ) (d : Configuration) → u < length configs → name_at configs u d ≡ name → IsNamed configs name u
 named_from configs name u d l e = record { config = get_or configs u d; router = slice_get-get_or configs u d l; name_is = e }
 
 -- where an exchange of two places moves a name to

@@ -5,3 +5,5 @@ pub mod Refusals
 pub mod Lookups
 pub mod DestLists
 pub mod Doubles
+pub mod Links
+pub mod Subnets

@@ -5,9 +5,11 @@ mod area;
 mod config;
 mod interface;
 mod limits;
+mod links;
+mod naming;
 mod net;
-mod order;
 mod refusal;
+mod subnets;
 mod zone;
 
 pub use area::{Range, Ranges, Stub, Stubs};

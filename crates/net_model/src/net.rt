@@ -1,12 +1,15 @@
 ghost use Rattle.std.specs.Prelude.{◌≡◌, ◌<◌, ◌↔◌, ℕ, length, IsTrue, IfOk, IfErr, MatchOption};
+ghost use Rattle.net_addr.specs.Addresses.{Block, ContainsAddress};
 ghost use Rattle.net_model.specs.Network.{HasConfiguration, Connected, Adjacent};
 ghost use Rattle.net_model.specs.Refusals.{IsNetwork, IsTwoNames, MakeNetwork, Refuses};
-ghost use Rattle.net_model.specs.Lookups.{IsNamed, LeastArc};
+ghost use Rattle.net_model.specs.Lookups.{IsNamed, LeastArc, LongestConnected};
 
 use crate::limits::within_limits;
-use crate::order::{first_double, sort_by_name};
-use crate::{Config, Configs, NetRefusal};
-use net_addr::Name;
+use crate::links::{best_link, may_join};
+use crate::naming::{first_double, place_of, sort_by_name};
+use crate::subnets::{has_subnet, longest_subnet};
+use crate::{Config, Configs, NetRefusal, Zone};
+use net_addr::{Name, Prefix};
 use std::alloc::Global;
 use std::marker::Model;
 
@@ -59,6 +62,57 @@ impl Net {
         ensures network { IsNetwork self.now }
     {
         &self.configs[router as usize]
+    }
+
+    /// The number of the router of this name.
+    pub fn number_of(&self, name: &[u8]) -> Option<u32>
+        ensures {
+            MatchOption result ((u : ℕ) → IsNamed self.now name.now u → ⊥) (IsNamed self.now name.now)
+        }
+    {
+        match place_of(self.configs.as_slice(), name) {
+            Some(place) => Some(place as u32),
+            None => None,
+        }
+    }
+
+    /// The least cost at which two routers are adjacent in the zone.
+    pub fn arc(&self, zone: Zone, u: u32, v: u32) -> Option<u32>
+        requires from { u < length self.now }
+        requires to { v < length self.now }
+        ensures {
+            MatchOption result
+                ((cost : ℕ) → Adjacent self.now zone u v cost → ⊥)
+                (LeastArc self.now zone u v)
+        }
+    {
+        let near = self.config(u);
+        let far = self.config(v);
+        if u == v || !may_join(zone, near, far) {
+            return None;
+        }
+        best_link(zone, near.interfaces.as_slice(), far.interfaces.as_slice())
+    }
+
+    /// The longest prefix that is connected at the router and contains the address.
+    pub fn connected(&self, router: u32, a: u32) -> Option<Prefix>
+        requires { router < length self.now }
+        ensures {
+            MatchOption result
+                ((p : Block) → Connected self.now router p → ContainsAddress p a → ⊥)
+                (LongestConnected self.now router a)
+        }
+    {
+        let home = self.config(router);
+        longest_subnet(home.interfaces.as_slice(), a)
+    }
+
+    /// Whether the prefix is the subnet of an up interface of the router.
+    pub fn originates(&self, router: u32, dest: Prefix) -> bool
+        requires { router < length self.now }
+        ensures { IsTrue result ↔ Connected self.now router dest }
+    {
+        has_subnet(self.config(router).interfaces.as_slice(), dest)
     }
 }
 

@@ -1,8 +1,9 @@
-ghost use Rattle.std.specs.Prelude.{◌≡◌, ◌↔◌, IsPermutation, IsTrue, MatchOption, length};
+ghost use Rattle.std.specs.Prelude.{◌≡◌, ◌<◌, ◌↔◌, ℕ, IfSome, IsPermutation, IsTrue, MatchOption, length};
 ghost use Rattle.std.specs.List.Sorted.{IsSortedByKey};
 ghost use Rattle.std.specs.Cmp.Lexicographic.{slice_cmp};
 ghost use Rattle.std.specs.Ordering.{nat_cmp};
 ghost use Rattle.net_model.specs.Doubles.{IsFirstDouble, NoDoubles};
+ghost use Rattle.net_model.specs.Lookups.{IsNamed};
 
 use crate::Config;
 use std::cmp::Ordering;
@@ -34,4 +35,26 @@ fn have_one_name(one: &Config, two: &Config) -> bool
     ensures { IsTrue result ↔ (one.now.name ≡ two.now.name) }
 {
     one.name.as_slice() == two.name.as_slice()
+}
+
+/// The place of the configuration of this name.
+pub fn place_of(configs: &[Config], name: &[u8]) -> Option<usize>
+    ensures named {
+        MatchOption result ((u : ℕ) → IsNamed configs.now name.now u → ⊥) (IsNamed configs.now name.now)
+    }
+    ensures within { IfSome result (λ place. place < length configs.now) }
+{
+    for (place, config) in configs.iter().enumerate() {
+        if has_name(config, name) {
+            return Some(place);
+        }
+    }
+    None
+}
+
+/// Whether a configuration has this name.
+fn has_name(config: &Config, name: &[u8]) -> bool
+    ensures { IsTrue result ↔ (config.now.name ≡ name.now) }
+{
+    config.name.as_slice() == name
 }
