@@ -1,9 +1,12 @@
 -- Adjacency is a link of the routers' interfaces.
-use Rattle.std.proofs.Common.{◌≡◌, ◌≢◌, ℕ, ◌⊎◌, ◌↔◌, ◌<◌, ◌+◌, inl, inr, List, length, Some, refl, subst, sym, ap, ◌∙◌, arith}
+use Rattle.std.proofs.Common.{◌≡◌, ◌≢◌, ℕ, ◌⊎◌, ◌↔◌, ◌<◌, ◌≤◌, ◌+◌, get_or, inl, inr, List, length, Some, refl, subst, sym, ap, ◌∙◌, arith}
 use Rattle.std.proofs.lemmas.Bool.{cases_lt}
-use Rattle.std.proofs.lemmas.Option.{slice_get_within}
+use Rattle.std.proofs.lemmas.Option.{slice_get_within, slice_get-get_or}
+use Rattle.std.proofs.lemmas.List.Sums.{get_or-le-sum_by}
 use Rattle.std.specs.List.{Contains}
 use Rattle.net_model.specs.Configuration.{Configuration}
+use Rattle.net_model.specs.Limits.{up_interfaces, all_up_interfaces}
+use Rattle.net_model.specs.Refusals.{IsNetwork}
 use Rattle.net_model.specs.Network.{Network, HasConfiguration, UpInterface, MayJoin, Adjacent}
 use Rattle.net_model.specs.declared.interface.Interface.{Interface}
 use Rattle.net_model.specs.declared.zone.Zone.{Zone}
@@ -103,3 +106,13 @@ arcs_one_more net within u v old new below adds w cost = (
 -- adjacency leads to a router of the network
 pub adjacent_is_below : (net : Network) (within : Zone) (u v cost : ℕ) → Adjacent net within u v cost → v < length net
 adjacent_is_below net within u v cost adjacent = slice_get_within net v adjacent.far_up.config adjacent.far_up.router
+
+-- a router of a network has at most 2,000 up interfaces
+pub up_interfaces_few : (net : Network) (u : ℕ) (c : Configuration) → IsNetwork net → HasConfiguration net u c → up_interfaces c ≤ 2000
+up_interfaces_few net u c kept here =
+    let within : u < length net = slice_get_within net u c here in
+    let same : Some c ≡ Some (get_or net u c) = sym here ∙ slice_get-get_or net u c within in
+    let is : get_or net u c ≡ c = cc in
+    let part : up_interfaces (get_or net u c) ≤ all_up_interfaces net = get_or-le-sum_by up_interfaces net u c within in
+    let all : all_up_interfaces net ≤ 2000 = kept.limits.interfaces in
+    omega (arith, part, ap up_interfaces is)

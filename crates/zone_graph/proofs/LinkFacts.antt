@@ -1,6 +1,7 @@
 -- Links of one more interface, and the arcs that they add.
-use Rattle.std.proofs.Common.{◌≡◌, ℕ, ◌⊎◌, ◌↔◌, inl, inr, List, [], ◌∷◌, ◌++◌, refl, subst, sym, ap, rules}
-use Rattle.std.specs.List.{Contains}
+use Rattle.std.proofs.Common.{◌≡◌, ℕ, ◌⊎◌, ◌↔◌, inl, inr, List, [], ◌∷◌, ◌++◌, refl, subst, sym, ap, ◌+◌, ◌<◌, ◌≤◌, Bool, true, false, length, take, get_or, arith}
+use Rattle.std.specs.List.{Contains, count_by}
+use Rattle.std.proofs.lemmas.List.Sums.{count_by_more_yes, count_by_more_no}
 use Rattle.std.proofs.lemmas.List.Elements.{Contains-append_left, Contains-push, Contains-push_cases}
 use Rattle.net_model.specs.Network.{cost_in}
 use Rattle.net_model.specs.declared.interface.Interface.{Interface}
@@ -9,9 +10,9 @@ use Rattle.zone_graph.specs.Graphs.{ArcList, AddsArcs}
 use Rattle.zone_graph.specs.Links.{JoinsSome, Links}
 
 -- the links of the first interfaces are links of one more
-links_kept : (zone : Zone) (front others : List Interface) (near : Interface) (c : ℕ) →
-    Links zone front others c → Links zone (front ++ near ∷ []) others c
-links_kept zone front others near c link = record {
+links_kept : (within : Zone) (front others : List Interface) (near : Interface) (c : ℕ) →
+    Links within front others c → Links within (front ++ near ∷ []) others c
+links_kept within front others near c link = record {
   near = link.near;
   among = Contains-append_left front (near ∷ []) link.near link.among;
   joins = link.joins;
@@ -70,3 +71,11 @@ adds_no_link zone front others near old arcs v adds alone = record {
     | inr new ↦ inr (new.0, links_kept zone front others near c new.1)
   ];
 }
+
+-- a count doesn't fall with one more element
+pub count_by_grows : {X : Type 0} (p : X → Bool) (xs : List X) (i : ℕ) (d : X) → i < length xs → count_by p (take i xs) ≤ count_by p (take (i + 1) xs)
+count_by_grows p xs i d within = go (p (get_or xs i d)) refl
+  where
+    go : (b : Bool) → p (get_or xs i d) ≡ b → count_by p (take i xs) ≤ count_by p (take (i + 1) xs)
+    go true passes = omega (arith, count_by_more_yes p xs i d within passes)
+    go false fails = omega (arith, count_by_more_no p xs i d within fails)

@@ -1,4 +1,4 @@
-ghost use Rattle.std.specs.Prelude.{◌≡◌, ◌<◌, length, IfOk, OnOk};
+ghost use Rattle.std.specs.Prelude.{◌≡◌, ◌+◌, ◌*◌, ◌<◌, ◌≤◌, length, vec_len, IfOk, OnOk};
 ghost use Rattle.net_model.specs.Network.{Adjacent};
 ghost use Rattle.zone_graph.specs.Graphs.{AddsArcs, AreArcsFrom};
 
@@ -26,7 +26,8 @@ impl Arcs {
     /// The arcs that leave router `u` in the zone, one for each interface and router that it leads to.
     pub(crate) fn from_router(alloc: Global, net: &Net, zone: Zone, u: u32) -> Result<Arcs, OutOfMemory>
         requires { u < length net.now }
-        ensures { IfOk result (AreArcsFrom net.now zone u) }
+        ensures arcs { IfOk result (AreArcsFrom net.now zone u) }
+        ensures few { IfOk result (λ arcs. length arcs ≤ 2000 * length net.now) }
     {
         let mut all = Vec::new(alloc);
         for v in 0..net.routers() {
@@ -47,7 +48,8 @@ impl Arcs {
 fn push_arcs(arcs: &mut Vec<(u32, u32)>, net: &Net, zone: Zone, u: u32, v: u32) -> Result<(), OutOfMemory>
     requires near { u < length net.now }
     requires far { v < length net.now }
-    ensures { OnOk result (AddsArcs arcs.old.items arcs.new.items v (Adjacent net.now zone u v)) }
+    ensures adds { OnOk result (AddsArcs arcs.old.items arcs.new.items v (Adjacent net.now zone u v)) }
+    ensures few { OnOk result (vec_len arcs.new ≤ vec_len arcs.old + 2000) }
 {
     let near = net.config(u);
     let far = net.config(v);

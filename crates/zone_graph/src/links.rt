@@ -1,4 +1,4 @@
-ghost use Rattle.std.specs.Prelude.{◌≡◌, ◌↔◌, IsTrue, OnOk};
+ghost use Rattle.std.specs.Prelude.{◌≡◌, ◌+◌, ◌≤◌, ◌↔◌, IsTrue, OnOk, count_by, vec_len};
 ghost use Rattle.net_model.specs.Network.{MayJoin, RunsIn, cost_in};
 ghost use Rattle.zone_graph.specs.Graphs.{AddsArcs};
 ghost use Rattle.zone_graph.specs.Links.{Attaches, Joins, JoinsSome, Links};
@@ -78,7 +78,8 @@ pub(crate) fn push_links(
     others: &[Interface],
     v: u32,
 ) -> Result<(), OutOfMemory>
-    ensures { OnOk result (AddsArcs arcs.old.items arcs.new.items v (Links zone interfaces.now others.now)) }
+    ensures adds { OnOk result (AddsArcs arcs.old.items arcs.new.items v (Links zone interfaces.now others.now)) }
+    ensures few { OnOk result (vec_len arcs.new ≤ vec_len arcs.old + count_by (λ i. i.up) interfaces.now) }
 {
     for near in interfaces {
         if joins_some(zone, near, others) {
