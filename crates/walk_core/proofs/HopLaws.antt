@@ -1,6 +1,6 @@
 -- First hops by least costs: a first hop is the end of an arc that a least walk goes on from.
-use Rattle.std.proofs.Common.{◌≡◌, ℕ, ◌+◌, ◌≤◌, List, ◌∷◌, refl, subst, sym, ap, arith}
-use Rattle.walk_core.specs.Walks.{Arcs, Leg, Walks, walk_cost, LeastWalk, LeastCost, FirstHop}
+use Rattle.std.proofs.Common.{◌≡◌, ℕ, ◌+◌, ◌≤◌, ◌∷◌, refl, subst, arith}
+use Rattle.walk_core.specs.Walks.{Arcs, Leg, walk_cost, LeastCost, FirstHop}
 use Rattle.walk_core.proofs.WalkLaws.{least_cost_at_most, first_hop_has_least_cost, least_walk_has_least_cost}
 
 -- an arc from u to h begins a least walk to v
@@ -24,7 +24,7 @@ begins_least_from_first_hop {arc} {u} {v} {h} hop =
         leads = hop.walk.leads.1;
         least = λ others leads.
             let no_less : hop.leg.cost + walk_cost hop.legs ≤ hop.leg.cost + walk_cost others =
-                hop.walk.least (hop.leg ∷ others) (hop.walk.leads.0, leads)
+            hop.walk.least (hop.leg ∷ others) (hop.walk.leads.0, leads)
             in
             omega arith;
       });
@@ -45,7 +45,7 @@ first_hop_from_begins_least {arc} {u} {v} {h} begins =
         leads = (begins.over, begins.rest.walk.leads);
         least = λ others leads.
             let no_less : begins.cost + begins.beyond ≤ walk_cost others =
-                least_cost_at_most begins.whole others leads
+            least_cost_at_most begins.whole others leads
             in
             omega arith;
       };

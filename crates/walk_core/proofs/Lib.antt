@@ -1,3 +1,5 @@
 pub mod WalkLaws
 pub mod RelaxLaws
 pub mod HopLaws
+pub mod DepartureLaws
+pub mod ReachLaws

@@ -1,5 +1,5 @@
 -- Relaxing keeps what is known of distances, and ends at the least costs.
-use Rattle.std.proofs.Common.{◌≡◌, ◌≢◌, ℕ, ◌+◌, ◌*◌, ◌^◌, ◌<◌, ◌≤◌, zero, suc, Bool, true, false, ◌||◌, cond, IsTrue, ◌↔◌, List, [], ◌∷◌, ◌++◌, Option, Some, None, length, get_or, set, replicate, get_or-set_same, get_or-set_other, refl, sym, ◌∙◌, ap, subst, arith, inl, inr, ◌⊎◌}
+use Rattle.std.proofs.Common.{◌≡◌, ◌≢◌, ℕ, ◌+◌, ◌^◌, ◌<◌, ◌≤◌, zero, suc, Bool, true, false, ◌||◌, cond, IsTrue, ◌↔◌, List, [], ◌∷◌, ◌++◌, Option, Some, None, length, length-set, set, replicate, get_or-set_same, get_or-set_other, refl, sym, ◌∙◌, ap, subst, arith, inl, inr, ◌⊎◌}
 use Rattle.std.specs.Bool.{OnFalse}
 use Rattle.std.proofs.lemmas.Bool.{cases_eq}
 use Rattle.std.proofs.lemmas.List.{length-replicate}
@@ -30,8 +30,8 @@ walk_costs_on {arc} {u} {v} {w} {d} {c} walk over =
       legs = walk.legs ++ last ∷ [];
       leads = walks_on arc u walk.legs v last walk.leads over;
       costs =
-        let e : walk_cost walk.legs ≡ d = walk.costs in
-        omega (arith, walk_cost_on walk.legs last);
+          let e : walk_cost walk.legs ≡ d = walk.costs in
+          omega (arith, walk_cost_on walk.legs last);
     }
 
 -- a distance that falls weighs less
@@ -69,10 +69,10 @@ pub distance_after : (ds : List (Option ℕ)) (v x w d : ℕ) → v < length ds 
     ((w ≡ v) × (d ≡ x)) ⊎ ((w ≢ v) × (distance_at ds w ≡ Some d))
 distance_after ds v x w d in_range is =
     elim (cases_eq w v) [
-      inl same ↦
-        let at_v : distance_at (set ds v (Some x)) v ≡ Some x = get_or-set_same ds v (Some x) None in_range in
-        let at_w : distance_at (set ds v (Some x)) v ≡ Some d = rw same at is in
-        inl (same, cc)
+      | inl same ↦
+          let at_v : distance_at (set ds v (Some x)) v ≡ Some x = get_or-set_same ds v (Some x) None in_range in
+          let at_w : distance_at (set ds v (Some x)) v ≡ Some d = rw same at is in
+          inl (same, cc)
       | inr other ↦ inr (other, sym (get_or-set_other ds v w (Some x) None other) ∙ is)
     ]
 
@@ -103,8 +103,8 @@ pub missing_after : (ds : List (Option ℕ)) (v x : ℕ) → v < length ds →
     missing (set ds v (Some x)) ≤ missing ds
 missing_after ds v x in_range =
     elim (distance_cases (distance_at ds v)) [
-      inl none ↦ omega (arith, missing_found ds v x in_range none)
-    | inr some ↦ omega (arith, missing_changed ds v x some.0 in_range some.1)
+      | inl none ↦ omega (arith, missing_found ds v x in_range none)
+      | inr some ↦ omega (arith, missing_changed ds v x some.0 in_range some.1)
     ]
 
 -- there is room after an arc was relaxed
@@ -112,25 +112,27 @@ pub room_after : (ds : List (Option ℕ)) (u v c d : ℕ) → HaveRoom ds → c 
     distance_at ds u ≡ Some d → d + c < weight_of (distance_at ds v) →
     HaveRoom (set ds v (Some (d + c)))
 room_after ds u v c d room small in_range near falls = record {
+  few = rw (length-set ds v (Some (d + c))) room.few;
   room = λ w e is.
+      let as_long : length (set ds v (Some (d + c))) ≡ length ds = length-set ds v (Some (d + c)) in
       let here = room.room u d near in
       elim (distance_after ds v (d + c) w e in_range is) [
-        inl found ↦
-          let cost : e ≡ d + c = found.1 in
-          elim (distance_cases (distance_at ds v)) [
-            inl none ↦
-              let one_less = missing_found ds v (d + c) in_range none in
-              omega arith
-          | inr some ↦
-              let as_many = missing_changed ds v (d + c) some.0 in_range some.1 in
-              let lower : d + c < some.0 = rw (some.1) at falls in
-              let there = room.room v some.0 some.1 in
-              omega arith
-          ]
-      | inr other ↦
-          let there = room.room w e (other.1) in
-          let no_more = missing_after ds v (d + c) in_range in
-          omega arith
+        | inl found ↦
+            let cost : e ≡ d + c = found.1 in
+            elim (distance_cases (distance_at ds v)) [
+              | inl none ↦
+                  let one_less = missing_found ds v (d + c) in_range none in
+                  omega arith
+              | inr some ↦
+                  let as_many = missing_changed ds v (d + c) some.0 in_range some.1 in
+                  let lower : d + c < some.0 = rw (some.1) at falls in
+                  let there = room.room v some.0 some.1 in
+                  omega arith
+            ]
+        | inr other ↦
+            let there = room.room w e (other.1) in
+            let no_more = missing_after ds v (d + c) in_range in
+            omega arith
       ];
 }
 
@@ -140,19 +142,19 @@ pub walked_after : (arc : Arcs) (root : ℕ) (ds : List (Option ℕ)) (u v c d :
     AreWalked arc root ds → AreWalked arc root (set ds v (Some (d + c)))
 walked_after arc root ds u v c d over in_range near falls walked = record {
   start =
-    let apart : root ≢ v = λ same.
-        let at_v : distance_at ds v ≡ Some 0 = rw same at walked.start in
-        let none : d + c < 0 = rw at_v at falls in
-        omega arith
-    in
-    get_or-set_other ds v root (Some (d + c)) None apart ∙ walked.start;
+      let apart : root ≢ v = λ same.
+      let at_v : distance_at ds v ≡ Some 0 = rw same at walked.start in
+      let none : d + c < 0 = rw at_v at falls in
+      omega arith
+      in
+      get_or-set_other ds v root (Some (d + c)) None apart ∙ walked.start;
   walked = λ w e is.
       elim (distance_after ds v (d + c) w e in_range is) [
-        inl found ↦
-          let walk : WalkCosts arc root v (d + c) = walk_costs_on (walked.walked u d near) over in
-          let walk_at_w : WalkCosts arc root w (d + c) = rw (found.0) walk in
-          rw (found.1) walk_at_w
-      | inr other ↦ walked.walked w e (other.1)
+        | inl found ↦
+            let walk : WalkCosts arc root v (d + c) = walk_costs_on (walked.walked u d near) over in
+            let walk_at_w : WalkCosts arc root w (d + c) = rw (found.0) walk in
+            rw (found.1) walk_at_w
+        | inr other ↦ walked.walked w e (other.1)
       ];
 }
 
@@ -174,9 +176,9 @@ pub near_after : (ds : List (Option ℕ)) (u v c d : ℕ) → v < length ds →
     distance_at (set ds v (Some (d + c))) u ≡ Some d
 near_after ds u v c d in_range near falls =
     let apart : u ≢ v = λ same.
-        let at_v : distance_at ds v ≡ Some d = rw same at near in
-        let lower : d + c < d = rw at_v at falls in
-        omega arith
+    let at_v : distance_at ds v ≡ Some d = rw same at near in
+    let lower : d + c < d = rw at_v at falls in
+    omega arith
     in
     get_or-set_other ds v u (Some (d + c)) None apart ∙ near
 
@@ -261,8 +263,8 @@ tights_more arc now after u true false so_far relaxes tight = tt
 tights_more arc now after u false false so_far relaxes tight =
     below_more (λ v. IsTightFrom arc v after) u
     (λ v below. let same : after ≡ now = relaxes.same in
-        let P : List (Option ℕ) → Type 0 = λ ds. IsTightFrom arc v ds in
-        subst P (sym same) (so_far v below))
+    let P : List (Option ℕ) → Type 0 = λ ds. IsTightFrom arc v ds in
+    subst P (sym same) (so_far v below))
     tight
 
 -- no vertex has a distance at first
@@ -280,15 +282,17 @@ pub only_at_root : (n root v d : ℕ) → root < n →
 only_at_root n root v d in_range is =
     let long : root < length (replicate {A = Option ℕ} n None) = simp length-replicate in_range in
     elim (distance_after (replicate n None) root 0 v d long is) [
-      inl found ↦ found
-    | inr other ↦ let none = none_at_first n v in let some = other.1 in cc
+      | inl found ↦ found
+      | inr other ↦ let none = none_at_first n v in let some = other.1 in cc
     ]
 
 -- at first the root has room for the costs of all arcs
 pub room_at_first : (n root : ℕ) → root < n → n ≤ 2 ^ 32 →
     HaveRoom (set (replicate n None) root (Some 0))
 room_at_first n root in_range small = record {
+  few = simp (length-set, length-replicate) small;
   room = λ v d is.
+      let as_long : length (set (replicate {A = Option ℕ} n None) root (Some 0)) ≡ n = simp (length-set, length-replicate) refl in
       let zero_cost : d ≡ 0 = (only_at_root n root v d in_range is).1 in
       let long : root < length (replicate {A = Option ℕ} n None) = simp length-replicate in_range in
       let one_less = missing_found (replicate n None) root 0 long (none_at_first n root) in
@@ -301,8 +305,8 @@ pub walked_at_first : (arc : Arcs) (n root : ℕ) → root < n →
     AreWalked arc root (set (replicate n None) root (Some 0))
 walked_at_first arc n root in_range = record {
   start =
-    let long : root < length (replicate {A = Option ℕ} n None) = simp length-replicate in_range in
-    get_or-set_same (replicate n None) root (Some 0) None long;
+      let long : root < length (replicate {A = Option ℕ} n None) = simp length-replicate in_range in
+      get_or-set_same (replicate n None) root (Some 0) None long;
   walked = λ v d is.
       let at = only_at_root n root v d in_range is in
       record { legs = []; leads = sym (at.0); costs = sym (at.1) };
@@ -319,11 +323,11 @@ no_walk_undercuts arc count ds ends tight u [] v d in_range is leads =
     record { value = d; is = there; below = omega arith }
 no_walk_undercuts arc count ds ends tight u (leg ∷ legs) v d in_range is leads =
     let near : IsAtMost (distance_at ds leg.to) (d + leg.cost) =
-        tight u in_range leg.to leg.cost d (leads.0) is
+    tight u in_range leg.to leg.cost d (leads.0) is
     in
     let far : IsAtMost (distance_at ds v) (near.value + walk_cost legs) =
-        no_walk_undercuts arc count ds ends tight leg.to legs v near.value
-        (ends u leg.to leg.cost in_range (leads.0)) near.is (leads.1)
+    no_walk_undercuts arc count ds ends tight leg.to legs v near.value
+    (ends u leg.to leg.cost in_range (leads.0)) near.is (leads.1)
     in
     record { value = far.value; is = far.is; below = omega arith }
 
@@ -333,31 +337,36 @@ pub distances_from_tight : (arc : Arcs) (count root : ℕ) (ds : List (Option �
     ((u : ℕ) → u < count → IsTightFrom arc u ds) → AreWalked arc root ds → AreDistances arc root ds
 distances_from_tight arc count root ds in_range ends tight walked =
     let reached : (v : ℕ) (legs : List Leg) → Walks arc root legs v →
-        IsAtMost (distance_at ds v) (walk_cost legs) =
-        λ v legs leads.
-            let far = no_walk_undercuts arc count ds ends tight root legs v 0 in_range walked.start leads in
-            record { value = far.value; is = far.is; below = omega arith }
+    IsAtMost (distance_at ds v) (walk_cost legs) =
+    λ v legs leads.
+    let far = no_walk_undercuts arc count ds ends tight root legs v 0 in_range walked.start leads in
+    record { value = far.value; is = far.is; below = omega arith }
     in
     let sound : (v d : ℕ) → distance_at ds v ≡ Some d → LeastCost arc root v d =
-        λ v d is.
-            let walk = walked.walked v d is in
-            least_cost_from d walk.legs walk.leads walk.costs (λ others leads.
-                let far = reached v others leads in
-                let same : Some d ≡ Some far.value = sym is ∙ far.is in
-                let equal : d ≡ far.value = cc in
-                omega arith)
+    λ v d is.
+    let walk = walked.walked v d is in
+    least_cost_from d walk.legs walk.leads walk.costs (λ others leads.
+    let far = reached v others leads in
+    let same : Some d ≡ Some far.value = sym is ∙ far.is in
+    let equal : d ≡ far.value = cc in
+    omega arith)
     in
     record {
-      least = λ v d. (sound v d, λ least.
-          let far = reached v least.legs least.walk.leads in
-          let equal : far.value ≡ d = least_cost_unique (sound v far.value far.is) least in
-          rw equal at far.is);
-      none = λ v. (λ is legs leads. let far = reached v legs leads in
-              let some = far.is in cc,
-          λ no_walk. elim (distance_cases (distance_at ds v)) [
-            inl none ↦ none
+      least = λ v d. (
+        sound v d,
+        λ least.
+            let far = reached v least.legs least.walk.leads in
+            let equal : far.value ≡ d = least_cost_unique (sound v far.value far.is) least in
+            rw equal at far.is,
+      );
+      none = λ v. (
+        λ is legs leads. let far = reached v legs leads in
+            let some = far.is in cc,
+        λ no_walk. elim (distance_cases (distance_at ds v)) [
+          | inl none ↦ none
           | inr some ↦
               let walk = walked.walked v some.0 some.1 in
               absurd (no_walk walk.legs walk.leads)
-          ]);
+        ],
+      );
     }

@@ -3,3 +3,4 @@ pub mod Offers
 pub mod Distances
 pub mod Relaxing
 pub mod Reach
+pub mod Departures

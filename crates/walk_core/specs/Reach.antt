@@ -1,5 +1,5 @@
 -- What is known of the least walks from one vertex.
-use Rattle.std.specs.Prelude.{◌≡◌, ℕ, List, [], Option, Some, None, slice_index_or, Contains, ◌↔◌}
+use Rattle.std.specs.Prelude.{◌≡◌, ℕ, ◌*◌, ◌^◌, ◌<◌, List, [], Option, Some, None, slice_index_or, Contains, ◌↔◌}
 use Rattle.walk_core.specs.Walks.{Arcs, Leg, Walks, LeastCost, FirstHop}
 use Rattle.walk_core.specs.Distances.{distance_at}
 
@@ -23,3 +23,7 @@ pub record AreLeastWalks (arc : Arcs) (root : ℕ) (reach : Reach) : Type 0 wher
   pub unreached : (v : ℕ) →
       (distance_of reach v ≡ None) ↔ ((legs : List Leg) → Walks arc root legs v → ⊥)
   pub hops : (v h : ℕ) → HasHop reach v h ↔ FirstHop arc root v h
+
+-- a distance is at most the cost of one arc for each of this many vertices
+abbrev pub AreNear : ℕ → Reach → Type 0
+AreNear count reach = (v d : ℕ) → distance_of reach v ≡ Some d → d < count * 2 ^ 32

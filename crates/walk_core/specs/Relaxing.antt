@@ -1,5 +1,5 @@
 -- Relaxation: the cost of some walk to each vertex falls, arc by arc, until no arc undercuts it.
-use Rattle.std.specs.Prelude.{◌≡◌, ℕ, ◌+◌, ◌*◌, ◌^◌, ◌<◌, ◌≤◌, Bool, List, [], ◌∷◌, Option, Some, None}
+use Rattle.std.specs.Prelude.{◌≡◌, ℕ, ◌+◌, ◌*◌, ◌^◌, ◌<◌, ◌≤◌, Bool, length, List, [], ◌∷◌, Option, Some, None}
 use Rattle.std.specs.Bool.{OnTrue, OnFalse}
 use Rattle.walk_core.specs.Walks.{Arcs, Leg, Walks, walk_cost}
 use Rattle.walk_core.specs.Distances.{distance_at}
@@ -32,10 +32,12 @@ missing [] = 0
 missing (None ∷ rest) = 1 + missing rest
 missing (Some d ∷ rest) = missing rest
 
--- each vertex without a distance leaves room for the cost of one more arc
+-- of room for one arc a vertex every distance leaves that of one arc more than there are vertices without a
+-- distance; with at most 2^32 vertices all of it is below 2^64
 pub record HaveRoom (distances : List (Option ℕ)) : Type 0 where
+  pub few : length distances ≤ 2 ^ 32
   pub room : (v d : ℕ) → distance_at distances v ≡ Some d →
-      d + (missing distances + 1) * 2 ^ 32 ≤ 2 ^ 64
+      d + (missing distances + 1) * 2 ^ 32 ≤ length distances * 2 ^ 32
 
 -- what a distance weighs: one that is missing weighs more than any
 abbrev pub weight_of : Option ℕ → ℕ

@@ -2,7 +2,12 @@
 #![tactic(auto)]
 
 mod graph;
+mod hops;
 mod relax;
+#[cfg(test)]
+mod tests;
+mod walks;
 
 pub use graph::CostGraph;
 pub use std::alloc::AllocError as OutOfMemory;
+pub use walks::{LeastWalks, least_walks};

@@ -1,4 +1,4 @@
-ghost use Rattle.std.specs.Prelude.{◌≡◌, ◌+◌, ◌<◌, ◌≤◌, ◌↔◌, ℕ, length, IsTrue, Some, slice_set, if◌then◌else◌, IfOk};
+ghost use Rattle.std.specs.Prelude.{◌≡◌, ◌+◌, ◌*◌, ◌^◌, ◌<◌, ◌≤◌, ◌↔◌, ℕ, length, IsTrue, Some, slice_set, if◌then◌else◌, IfOk};
 ghost use Rattle.std.specs.Bool.{OnTrue, OnFalse};
 ghost use Rattle.walk_core.specs.Distances.{distance_at, AreDistances};
 ghost use Rattle.walk_core.specs.Relaxing.{weight_of, HaveRoom, IsTightFrom, Relaxes};
@@ -14,12 +14,22 @@ pub fn distances_from<G: CostGraph>(
     root: u32,
 ) -> Result<Vec<Option<u64>>, OutOfMemory>
     requires { root < G.vertex_count graph.now }
-    ensures { IfOk result (λ ds. AreDistances (G.has_arc graph.now) root ds.items) }
+    ensures least { IfOk result (λ ds. AreDistances (G.has_arc graph.now) root ds.items) }
+    ensures whole { IfOk result (λ ds. length ds.items ≡ G.vertex_count graph.now) }
+    ensures near { IfOk result (λ ds. (v d : ℕ) → distance_at ds.items v ≡ Some d →
+        d < G.vertex_count graph.now * 2 ^ 32) }
 {
     let mut distances = vec![in alloc; None; graph.vertices() as usize]?;
     distances[root as usize] = Some(0);
     while relax_all(graph, &mut distances) {}
     Ok(distances)
+}
+
+/// The distance of v, and None where there is none.
+pub fn distance_at(distances: &[Option<u64>], v: u32) -> Option<u64>
+    ensures { result ≡ distance_at distances.now v }
+{
+    distances.get(v as usize).copied().flatten()
 }
 
 /// Relaxes every arc once: whether some distance fell.
@@ -60,7 +70,8 @@ fn relax_from<G: CostGraph>(graph: &G, u: u32, distances: &mut [Option<u64>]) ->
 fn relax(distances: &mut [Option<u64>], v: u32, found: u64) -> bool
     requires { v < length distances.old }
     ensures falls { IsTrue result ↔ (found < weight_of (distance_at distances.old v)) }
-    ensures after { distances.new ≡ (if result then slice_set distances.old v (Some found) else distances.old) }
+    ensures after { distances.new ≡
+        (if result then slice_set distances.old v (Some found) else distances.old) }
 {
     let falls = match distances[v as usize] {
         None => true,

@@ -1,5 +1,5 @@
-ghost use Rattle.std.specs.Prelude.{◌≡◌, ◌<◌, ◌≤◌, ℕ, length, IfOk};
-ghost use Rattle.zone_graph.specs.Graphs.{HasArc};
+ghost use Rattle.std.specs.Prelude.{◌≡◌, ◌*◌, ◌<◌, ◌≤◌, ℕ, length, IfOk};
+ghost use Rattle.zone_graph.specs.Graphs.{HasArc, arcs_from, AreAdjacencies, AreGraphArcs};
 
 use crate::OutOfMemory;
 use crate::arcs::Arcs;
@@ -10,8 +10,32 @@ use walk_core::CostGraph;
 /// The graph of one zone of a network: its vertices are the routers, its arcs the adjacencies, one for each
 /// interface and the router that it leads to (RFC 2328, section 16.1; RFC 1195).
 #[derive(Debug, Drop)]
-pub struct ZoneGraph {
-    arcs: Vec<Arcs>,
+pub(crate) struct ZoneGraph {
+    pub(crate) arcs: Vec<Arcs>,
+    ghost few: { length arcs.items ≤ 200 },
+    ghost short: { (u : ℕ) → length (arcs_from arcs.items u) ≤ 400000 },
     ghost end_is_vertex: { (u v cost : ℕ) → HasArc arcs.items u v cost → v < length arcs.items },
     ghost cost_is_positive: { (u v cost : ℕ) → HasArc arcs.items u v cost → 1 ≤ cost },
+}
+
+impl ZoneGraph {
+    /// The graph of a zone of the network.
+    pub(crate) fn build(alloc: Global, net: &Net, zone: Zone) -> Result<ZoneGraph, OutOfMemory>
+        ensures { IfOk result (λ graph. AreAdjacencies net.now zone graph.arcs.items) }
+    {
+        let arcs = all_arcs(alloc, net, zone)?;
+        Ok(ZoneGraph { arcs })
+    }
+}
+
+/// The arcs of every router.
+fn all_arcs(alloc: Global, net: &Net, zone: Zone) -> Result<Vec<Arcs>, OutOfMemory>
+    ensures exact { IfOk result (λ arcs. AreAdjacencies net.now zone arcs.items) }
+    ensures facts { IfOk result (λ arcs. AreGraphArcs arcs.items) }
+{
+    let mut all = Vec::new(alloc);
+    for u in 0..net.routers() {
+        all.push(Arcs::from_router(alloc, net, zone, u)?)?;
+    }
+    Ok(all)
 }

@@ -9,10 +9,10 @@ loop-u-preserved g c =
     let before = c.loop-u.invariant in
     let step = c.relax_from.ensures in
     let fell : c.if-relax_from.fell ≡ (c.relax_from.result || c.loop-u.fell) =
-        elim c.if-relax_from.branch [
-          then-relax_from w ↦ rw w.if-relax_from.true (w.fell-is ∙ w.if-relax_from.true)
-        | else-relax_from w ↦ rw w.if-relax_from.false w.fell-is
-        ]
+    elim c.if-relax_from.branch [
+      | then-relax_from w ↦ rw w.if-relax_from.true (w.fell-is ∙ w.if-relax_from.true)
+      | else-relax_from w ↦ rw w.if-relax_from.false w.fell-is
+    ]
     in
     rw fell (record {
       relaxes = relaxes_on c.loop-u.fell c.relax_from.result before.relaxes step.relaxes;

@@ -1,4 +1,4 @@
-use Rattle.std.proofs.Common.{◌≡◌, ◌+◌, ◌<◌, ◌^◌, ℕ, ◌||◌, Bool, List, Option, Some, length, sym, ◌∙◌, subst, arith, ap, IsTrue, ◌↔◌, cond, set, rules}
+use Rattle.std.proofs.Common.{◌≡◌, ◌+◌, ◌<◌, ℕ, ◌||◌, Some, length, sym, ◌∙◌, subst, arith, IsTrue, ◌↔◌, cond, set}
 use Rattle.walk_core.specs.Distances.{distance_at}
 use Rattle.walk_core.specs.Relaxing.{weight_of}
 use Rattle.walk_core.proofs.RelaxLaws.{IsRelaxed, relaxed, relaxes_on, tight_more}
@@ -18,23 +18,23 @@ loop-i-preserved g c =
     let index : c.loop-i.i < g.G.CostGraph.arc_count c.args.graph.now c.args.u = omega (arith, c.arcs-i-end.ensures) in
     let listed = laws.counted_is_arc c.args.graph.now c.args.u c.loop-i.i c.requires.vertex index in
     let over : arc c.args.u c.arc-v.result.0 c.arc-v.result.1 =
-        let P : ℕ × ℕ → Type 0 = λ p. arc c.args.u p.0 p.1 in
-        subst P (sym e) listed
+    let P : ℕ × ℕ → Type 0 = λ p. arc c.args.u p.0 p.1 in
+    subst P (sym e) listed
     in
     let end : c.arc-v.result.0 < length now = omega (arith, laws.end_is_vertex c.args.graph.now c.args.u c.arc-v.result.0 c.arc-v.result.1 c.requires.vertex over) in
     let falls : IsTrue c.relax.result ↔ (c.in-Some.near + c.arc-v.result.1 < weight_of (distance_at now c.arc-v.result.0)) =
-        rw cost at c.relax.ensures.falls
+    rw cost at c.relax.ensures.falls
     in
     let is : after ≡ cond c.relax.result (set now c.arc-v.result.0 (Some (c.in-Some.near + c.arc-v.result.1))) now =
-        rw cost at c.relax.ensures.after
+    rw cost at c.relax.ensures.after
     in
     let step : IsRelaxed arc now after c.args.u (ends c.loop-i.i).0 (ends c.loop-i.i).1 c.in-Some.near c.relax.result =
-        let P : ℕ × ℕ → Type 0 = λ p. IsRelaxed arc now after c.args.u p.0 p.1 c.in-Some.near c.relax.result in
-        subst P e (relaxed arc now after c.args.u c.arc-v.result.0 c.arc-v.result.1 c.in-Some.near c.relax.result
-            before.relaxes.room over (omega arith) end before.near_is falls is)
+    let P : ℕ × ℕ → Type 0 = λ p. IsRelaxed arc now after c.args.u p.0 p.1 c.in-Some.near c.relax.result in
+    subst P e (relaxed arc now after c.args.u c.arc-v.result.0 c.arc-v.result.1 c.in-Some.near c.relax.result
+    before.relaxes.room over (omega arith) end before.near_is falls is)
     in
     let fell : c.if-relax.fell ≡ (c.relax.result || c.loop-i.fell) =
-        elim c.if-relax.branch [ then-relax w ↦ rw w.if-relax.true (w.fell-is ∙ w.if-relax.true) | else-relax w ↦ rw w.if-relax.false w.fell-is ]
+    elim c.if-relax.branch [ then-relax w ↦ rw w.if-relax.true (w.fell-is ∙ w.if-relax.true) | else-relax w ↦ rw w.if-relax.false w.fell-is ]
     in
     rw fell (record {
       relaxes = relaxes_on c.loop-i.fell c.relax.result before.relaxes step.relaxes;

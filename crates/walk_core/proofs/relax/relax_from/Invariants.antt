@@ -1,4 +1,4 @@
-use Rattle.std.proofs.Common.{◌≡◌, ◌+◌, ◌<◌, ℕ, Some, length}
+use Rattle.std.proofs.Common.{◌≡◌, ◌+◌, ◌<◌, ℕ, Some}
 use Rattle.std.specs.Bool.{OnFalse}
 use Rattle.walk_core.specs.Distances.{distance_at}
 use Rattle.walk_core.specs.Relaxing.{IsAtMost, Relaxes}
@@ -10,5 +10,5 @@ invariant-loop-i g l = record {
   near_is : distance_at l.distances l.u ≡ Some l.near;
   tight : OnFalse l.fell ((j : ℕ) → j < l.i →
       IsAtMost (distance_at l.distances (g.G.CostGraph.arc_at l.graph l.u j).0)
-          (l.near + (g.G.CostGraph.arc_at l.graph l.u j).1));
+      (l.near + (g.G.CostGraph.arc_at l.graph l.u j).1));
 }
