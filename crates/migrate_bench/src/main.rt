@@ -3,6 +3,8 @@
 //! standard error.
 #![tactic(auto)]
 
+ghost use Rattle.std.specs.Prelude.{◌<◌, IfOk};
+
 mod mesh;
 
 use anyhow::{Context, Result, ensure};
@@ -21,11 +23,13 @@ fn run(rt: &(impl AllocGlobal + Clock + Env + Eprint + Print)) -> Result<()> {
     let size = size_argument(rt)?;
     let alloc = rt.alloc();
     report(rt, "ring", &Mesh::ring(alloc, size)?)?;
-    report(rt, "grid", &Mesh::grid(alloc, size, size.isqrt())?)
+    report(rt, "grid", &Mesh::grid(alloc, size, size.isqrt().max(1))?)
 }
 
 /// The first argument, at least 1.
-fn size_argument(rt: &(impl AllocGlobal + Env)) -> Result<u32> {
+fn size_argument(rt: &(impl AllocGlobal + Env)) -> Result<u32>
+    ensures { IfOk result (λ n. 0 < n) }
+{
     let word = env::args(rt)?.nth(1).context("usage: migrate_bench SIZE")?;
     let size: u32 = word.parse().context("SIZE is no number")?;
     ensure!(size > 0, "SIZE is 0");

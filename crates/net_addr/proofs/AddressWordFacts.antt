@@ -5,8 +5,7 @@ use Rattle.std.specs.Char.{IsAsciiDigit}
 use Rattle.std.proofs.lemmas.List.{take-append-drop, drop_more, length-take, get_or-take, get_or_at, get_or_default}
 use Rattle.std.proofs.lemmas.List.Elements.{recursion_from_All}
 use Rattle.net_addr.specs.Numerals.{decimal_value}
-use Rattle.net_addr.specs.AddressWords.{IsOctet, IsAddressWord}
-use Rattle.net_addr.specs.Cuts.{CutsOctet}
+use Rattle.net_addr.specs.AddressWords.{CutsOctet, IsOctet, IsAddressWord}
 
 -- no byte of the word is a dot
 abbrev pub NoDot : List ℕ → Type 0
@@ -46,7 +45,7 @@ NoDot-take word i before k d below e =
 pub cut_at_dot : (word part rest : List ℕ) (i : ℕ) → i < length word → get_or word i 0 ≡ 46 → ((k : ℕ) → k < i → get_or word k 0 ≢ 46) → IsOctet part → word ≡ part ++ 46 ∷ rest → part ≡ take i word
 cut_at_dot word part rest i within dot before octet e =
     let here : word ≡ take i word ++ 46 ∷ drop (i + 1) word =
-        sym (take-append-drop i word) ∙ ap (λ (w : List ℕ). take i word ++ w) (drop_more word i 0 within ∙ ap (λ (b : ℕ). b ∷ drop (i + 1) word) dot) in
+    sym (take-append-drop i word) ∙ ap (λ (w : List ℕ). take i word ++ w) (drop_more word i 0 within ∙ ap (λ (b : ℕ). b ∷ drop (i + 1) word) dot) in
     let clear : NoDot (take i word) = recursion_from_All (λ b. b ≢ 46) (take i word) (NoDot-take word i before) in
     (cut_unique part rest (take i word) (drop (i + 1) word) (no_dot octet) clear (sym e ∙ here)).0
 
@@ -54,18 +53,18 @@ cut_at_dot word part rest i within dot before octet e =
 pub same_rest : (word : List ℕ) (n : ℕ) (rest : List ℕ) → CutsOctet word n rest → (part more : List ℕ) → IsOctet part → word ≡ part ++ 46 ∷ more → (n ≡ decimal_value part) × (rest ≡ more)
 same_rest word n rest cut part more octet e =
     let same : (cut.part ≡ part) × (rest ≡ more) =
-        cut_unique cut.part rest part more (no_dot cut.octet) (no_dot octet) (sym cut.joined ∙ e) in
+    cut_unique cut.part rest part more (no_dot cut.octet) (no_dot octet) (sym cut.joined ∙ e) in
     (cut.value_is ∙ ap decimal_value same.0, same.1)
 
 -- a word stands for at most one address
 pub IsAddressWord-unique : (word : List ℕ) (a b : ℕ) → IsAddressWord word a → IsAddressWord word b → a ≡ b
 IsAddressWord-unique word a b x y =
     let one : (x.first ≡ y.first) × (x.second ++ 46 ∷ (x.third ++ 46 ∷ x.fourth) ≡ y.second ++ 46 ∷ (y.third ++ 46 ∷ y.fourth)) =
-        cut_unique x.first (x.second ++ 46 ∷ (x.third ++ 46 ∷ x.fourth)) y.first (y.second ++ 46 ∷ (y.third ++ 46 ∷ y.fourth)) (no_dot x.first_octet) (no_dot y.first_octet) (sym x.joined ∙ y.joined) in
+    cut_unique x.first (x.second ++ 46 ∷ (x.third ++ 46 ∷ x.fourth)) y.first (y.second ++ 46 ∷ (y.third ++ 46 ∷ y.fourth)) (no_dot x.first_octet) (no_dot y.first_octet) (sym x.joined ∙ y.joined) in
     let two : (x.second ≡ y.second) × (x.third ++ 46 ∷ x.fourth ≡ y.third ++ 46 ∷ y.fourth) =
-        cut_unique x.second (x.third ++ 46 ∷ x.fourth) y.second (y.third ++ 46 ∷ y.fourth) (no_dot x.second_octet) (no_dot y.second_octet) one.1 in
+    cut_unique x.second (x.third ++ 46 ∷ x.fourth) y.second (y.third ++ 46 ∷ y.fourth) (no_dot x.second_octet) (no_dot y.second_octet) one.1 in
     let three : (x.third ≡ y.third) × (x.fourth ≡ y.fourth) =
-        cut_unique x.third x.fourth y.third y.fourth (no_dot x.third_octet) (no_dot y.third_octet) two.1 in
+    cut_unique x.third x.fourth y.third y.fourth (no_dot x.third_octet) (no_dot y.third_octet) two.1 in
     let w : decimal_value x.first ≡ decimal_value y.first = ap decimal_value one.0 in
     let u : decimal_value x.second ≡ decimal_value y.second = ap decimal_value two.0 in
     let v : decimal_value x.third ≡ decimal_value y.third = ap decimal_value three.0 in

@@ -36,17 +36,17 @@ stays_above p a b block order none inside =
     let bounds : (p.base ≤ a) × (a < p.base + block_size p) = ContainsAddress-bounds p a block inside in
     let after : last_address p + 1 ≡ p.base + block_size p = last_address-after p in
     ⊎_elim
-        (λ (below : b < p.base + block_size p). ContainsAddress-between p b block (omega arith) below)
-        (λ (past : p.base + block_size p ≤ b). absurd (none (last_address p + 1) (inr refl) (omega arith) (omega arith)))
-        (cases_lt b (p.base + block_size p))
+    (λ (below : b < p.base + block_size p). ContainsAddress-between p b block (omega arith) below)
+    (λ (past : p.base + block_size p ≤ b). absurd (none (last_address p + 1) (inr refl) (omega arith) (omega arith)))
+    (cases_lt b (p.base + block_size p))
 
 stays_below : (p : Block) (a b : ℕ) → IsBlock p → a ≤ b → NoBoundaryBetween p a b → ContainsAddress p b → ContainsAddress p a
 stays_below p a b block order none inside =
     let bounds : (p.base ≤ b) × (b < p.base + block_size p) = ContainsAddress-bounds p b block inside in
     ⊎_elim
-        (λ (before : a < p.base). absurd (none p.base (inl refl) before bounds.0))
-        (λ (from : p.base ≤ a). ContainsAddress-between p a block from (omega arith))
-        (cases_lt a p.base)
+    (λ (before : a < p.base). absurd (none p.base (inl refl) before bounds.0))
+    (λ (from : p.base ≤ a). ContainsAddress-between p a block from (omega arith))
+    (cases_lt a p.base)
 
 -- a block with no boundary above a and at most at b contains both or neither
 pub ContainsAddress-alike : (p : Block) (a b : ℕ) → IsBlock p → a ≤ b → NoBoundaryBetween p a b → ContainsAddress p a ↔ ContainsAddress p b

@@ -3,3 +3,6 @@ pub mod BoundaryFacts
 pub mod NumeralFacts
 pub mod AddressWordFacts
 pub mod MaskFacts
+pub mod PieceFacts
+pub mod PlacedPieces
+pub mod WordFacts

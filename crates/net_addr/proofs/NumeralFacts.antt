@@ -35,9 +35,9 @@ grows a b c pos = omega (arith, le-mul_of_pos_right a pos)
 pub decimal_value-take : (word : List ℕ) (i : ℕ) → decimal_value (take i word) ≤ decimal_value word
 decimal_value-take word i =
     let whole : decimal_value word ≡ decimal_value (take i word) * 10 ^ length (drop i word) + decimal_value (drop i word) =
-        ap decimal_value (sym (take-append-drop i word)) ∙ decimal_value-append (take i word) (drop i word) in
+    ap decimal_value (sym (take-append-drop i word)) ∙ decimal_value-append (take i word) (drop i word) in
     subst (λ (m : ℕ). decimal_value (take i word) ≤ m) (sym whole)
-        (grows (decimal_value (take i word)) (10 ^ length (drop i word)) (decimal_value (drop i word)) (one-le-pow (length (drop i word)) 10 (lit< tt)))
+    (grows (decimal_value (take i word)) (10 ^ length (drop i word)) (decimal_value (drop i word)) (one-le-pow (length (drop i word)) 10 (lit< tt)))
 
 -- a word one of whose bytes is no digit, or whose value up to a digit is above `most`, is no numeral up to `most`
 pub no_numeral : (most : ℕ) (word : List ℕ) (i value : ℕ) → i < length word → decimal_value (take i word) ≡ value → ¬ (IsAsciiDigit (get_or word i 0) × (10 * value + (get_or word i 0 - 48) ≤ most)) → (n : ℕ) → ¬ (IsNumeralUpTo most word n)
@@ -58,3 +58,7 @@ whole_numeral most word i value some all digits read small = record {
   };
   within = small;
 }
+
+-- a word stands for at most one number
+pub IsNumeralUpTo-unique : (most : ℕ) (word : List ℕ) (m n : ℕ) → IsNumeralUpTo most word m → IsNumeralUpTo most word n → m ≡ n
+IsNumeralUpTo-unique most word m n x y = sym x.numeral.value ∙ y.numeral.value

@@ -3,4 +3,6 @@ pub mod Boundaries
 pub mod Readers
 pub mod Numerals
 pub mod AddressWords
-pub mod Cuts
+pub mod Spans
+pub mod Blanks
+pub mod Lines

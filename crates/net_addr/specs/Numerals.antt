@@ -2,7 +2,7 @@
 use Rattle.std.specs.Prelude.{◌≡◌, ℕ, ◌+◌, ◌-◌, ◌*◌, ◌^◌, ◌<◌, ◌≤◌, List, [], ◌∷◌, length, All}
 use Rattle.std.specs.Char.{IsAsciiDigit}
 
--- what digits say in base ten: a digit counts as often as there are numbers of the digits after it (48 is `0`)
+-- the value of digits in base ten: each one times the power of ten for the count of digits after it (48 is `0`)
 abbrev pub decimal_value : List ℕ → ℕ
 decimal_value [] = 0
 decimal_value (digit ∷ after) = (digit - 48) * 10 ^ length after + decimal_value after

@@ -1,8 +1,7 @@
 ghost use Rattle.std.specs.Prelude.{◌≡◌, ◌≢◌, ℕ, ◌<◌, ◌∷◌, ◌++◌, List, length, slice_index, All, IfNone, IfSome, MatchOption, SomeIff};
-ghost use Rattle.net_addr.specs.AddressWords.{IsAddressWord, IsMask, IsMaskWord, IsOctet};
+ghost use Rattle.net_addr.specs.AddressWords.{CutsOctet, IsAddressWord, IsOctet};
 ghost use Rattle.net_addr.specs.Numerals.{decimal_value};
 ghost use Rattle.net_addr.specs.Readers.{Reads};
-ghost use Rattle.net_addr.specs.Cuts.{CutsOctet};
 
 use crate::number::read_number;
 

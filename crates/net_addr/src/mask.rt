@@ -5,8 +5,9 @@ ghost use Rattle.net_addr.specs.Readers.{Reads};
 use crate::address::read_addr;
 use crate::prefix::block_size;
 
-/// The count of ones of the mask for which the word stands: an address whose bits are ones followed by zeros, with
-/// at least one one.
+/// The length of the mask for which the word stands (RFC 4632, section 3.1): the count of its ones, from 1 to 32.
+///
+/// A mask is written as an address, and its bits are ones followed by zeros, with at least one one.
 pub fn read_mask(word: &[u8]) -> Option<u8>
     ensures { Reads result (IsMaskWord word.now) }
 {

@@ -5,7 +5,7 @@ ghost use Rattle.net_addr.specs.Readers.{Reads};
 
 /// The number for which the word stands in decimal, at most `most`.
 ///
-/// The word is one or more ASCII digits. Leading zeros are taken, and the word may be as long as it likes.
+/// The word is one or more ASCII digits, of any count, and may begin with zeros.
 pub fn read_number(word: &[u8], most: u64) -> Option<u64>
     ensures { Reads result (IsNumeralUpTo most word.now) }
 {
@@ -21,9 +21,7 @@ pub fn read_number(word: &[u8], most: u64) -> Option<u64>
 
 /// The number with one more digit at its end, at most `most`.
 fn with_digit(value: u64, byte: u8, most: u64) -> Option<u64>
-    ensures {
-        SomeIff result (IsAsciiDigit byte × (10 * value + (byte - 48) ≤ most)) (10 * value + (byte - 48))
-    }
+    ensures { SomeIff result (IsAsciiDigit byte × (10 * value + (byte - 48) ≤ most)) (10 * value + (byte - 48)) }
 {
     if !byte.is_ascii_digit() {
         return None;

@@ -26,7 +26,7 @@ impl Model for Prefix {
 }
 
 impl Prefix {
-    /// The prefix with this base and length, where they make one.
+    /// The prefix with this base and length; None where the length is above 32, or a bit of the base past it is set.
     pub fn new(base: u32, len: u8) -> Option<Prefix>
         ensures { SomeIff result (IsBlock (block_at base len)) (block_at base len) }
     {
@@ -36,7 +36,7 @@ impl Prefix {
         Some(Prefix { base, len })
     }
 
-    /// The prefix of this length that contains the address `a`.
+    /// The prefix of this length that contains the address `a`; None where the length is above 32.
     pub fn around(a: u32, len: u8) -> Option<Prefix>
         ensures none { IsNone result ↔ (32 < len) }
         ensures block { IfSome result IsBlock }

@@ -1,8 +1,8 @@
 -- Adjacency of two routers, by their configurations.
-use Rattle.std.proofs.Common.{◌≡◌, ◌≢◌, ℕ, ◌≤◌, Option, Some, None, Contains, MatchOption, refl, sym, ap, subst, ◌∙◌}
+use Rattle.std.proofs.Common.{◌≡◌, ◌≢◌, ℕ, Option, Some, None, Contains, MatchOption, sym, subst, ◌∙◌}
 use Rattle.std.proofs.lemmas.Option.{same_Some}
 use Rattle.net_model.specs.Configuration.{Configuration}
-use Rattle.net_model.specs.Links.{Joins, LinkCosts, LeastLink, BestLink}
+use Rattle.net_model.specs.Links.{LinkCosts, BestLink}
 use Rattle.net_model.specs.Lookups.{LeastArc}
 use Rattle.net_model.specs.Network.{Network, HasConfiguration, UpInterface, MayJoin, Adjacent}
 use Rattle.net_model.specs.declared.interface.Interface.{Interface}

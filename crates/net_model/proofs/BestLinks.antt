@@ -1,9 +1,9 @@
 -- The best link of two routers' interfaces, part by part, and the adjacency that it stands for.
-use Rattle.std.proofs.Common.{◌≡◌, ◌≢◌, ℕ, ◌+◌, ◌<◌, ◌≤◌, List, [], ◌∷◌, ◌++◌, length, get_or, take, Option, Some, None, min, Contains, refl, sym, ap, subst, ◌∙◌, ⊎_elim, arith}
+use Rattle.std.proofs.Common.{◌≡◌, ℕ, ◌+◌, ◌<◌, ◌≤◌, List, [], ◌∷◌, ◌++◌, length, get_or, take, Option, Some, None, min, sym, ap, subst, ◌∙◌, ⊎_elim, arith}
 use Rattle.std.proofs.lemmas.Bool.{cases_lt}
 use Rattle.std.proofs.lemmas.List.{take_more}
 use Rattle.std.proofs.lemmas.List.Elements.{Contains-append_left, Contains-append_right, Contains-append_cases}
-use Rattle.net_model.specs.Links.{Joins, LinkCosts, LeastLink, BestLink, lower_of}
+use Rattle.net_model.specs.Links.{LinkCosts, BestLink, lower_of}
 use Rattle.net_model.specs.declared.interface.Interface.{Interface}
 use Rattle.net_model.specs.declared.zone.Zone.{Zone}
 use Rattle.net_model.proofs.Members.{Contains-none}
@@ -38,14 +38,15 @@ module _ (zone : Zone) (fars : List Interface) where
   }
   BestLink-append xs ys (Some a) (Some b) h k = record {
     attained = ⊎_elim
-      (λ l. subst (LinkCosts zone (xs ++ ys) fars) (lower_left a b l) (costs_left xs ys a h.attained))
-      (λ r. subst (LinkCosts zone (xs ++ ys) fars) (lower_right a b r) (costs_right xs ys b k.attained))
-      (cases_lt a b);
+        (λ l. subst (LinkCosts zone (xs ++ ys) fars) (lower_left a b l) (costs_left xs ys a h.attained))
+        (λ r. subst (LinkCosts zone (xs ++ ys) fars) (lower_right a b r) (costs_right xs ys b k.attained))
+        (cases_lt a b);
     least = λ other c. costs_cases xs ys other (min a b ≤ other) c (λ l. omega (arith, h.least other l)) (λ r. omega (arith, k.least other r));
   }
     where
       lower_left : (a b : ℕ) → a < b → a ≡ min a b
       lower_left a b l = omega arith
+
       lower_right : (a b : ℕ) → b ≤ a → b ≡ min a b
       lower_right a b l = omega arith
 

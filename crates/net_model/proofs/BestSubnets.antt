@@ -1,12 +1,12 @@
 -- The longest subnet around an address, part by part, and the connected prefix that it stands for.
-use Rattle.std.proofs.Common.{◌≡◌, ℕ, ◌+◌, ◌<◌, ◌≤◌, Bool, true, false, nat_lt, if◌then◌else◌, List, [], ◌∷◌, ◌++◌, length, get_or, take, Option, Some, None, Contains, MatchOption, ltb-true, ltb-false, refl, sym, ap, subst, ◌∙◌, ⊎_elim, arith}
+use Rattle.std.proofs.Common.{◌≡◌, ℕ, ◌+◌, ◌<◌, ◌≤◌, Bool, true, false, nat_lt, if◌then◌else◌, List, [], ◌∷◌, ◌++◌, length, get_or, take, Option, Some, None, MatchOption, ltb-true, ltb-false, refl, sym, ap, subst, ◌∙◌, ⊎_elim, arith}
 use Rattle.std.proofs.lemmas.List.{take_more}
 use Rattle.std.proofs.lemmas.List.Elements.{Contains-append_left, Contains-append_right, Contains-append_cases}
 use Rattle.net_addr.specs.Addresses.{Block, ContainsAddress}
 use Rattle.net_model.specs.Configuration.{Configuration}
 use Rattle.net_model.specs.Lookups.{LongestConnected}
 use Rattle.net_model.specs.Network.{Network, HasConfiguration, Connected}
-use Rattle.net_model.specs.Subnets.{HasSubnet, IsSubnetAround, LongestSubnet, BestSubnet, longer_of}
+use Rattle.net_model.specs.Subnets.{IsSubnetAround, LongestSubnet, BestSubnet, longer_of}
 use Rattle.net_model.specs.declared.interface.Interface.{Interface}
 use Rattle.net_model.proofs.Adjacency.{UpInterface-among}
 use Rattle.net_model.proofs.Members.{Contains-none}
@@ -32,12 +32,12 @@ module _ (a : ℕ) where
   longer_cases xs ys p q true e h k = record {
     around = around_right xs ys q k.around;
     longest = let longer = ltb-true p.len q.len e in
-      λ r c. around_cases xs ys r (r.len ≤ q.len) c (λ l. omega (arith, h.longest r l)) (k.longest r);
+        λ r c. around_cases xs ys r (r.len ≤ q.len) c (λ l. omega (arith, h.longest r l)) (k.longest r);
   }
   longer_cases xs ys p q false e h k = record {
     around = around_left xs ys p h.around;
     longest = let longer = ltb-false p.len q.len e in
-      λ r c. around_cases xs ys r (r.len ≤ p.len) c (h.longest r) (λ l. omega (arith, k.longest r l));
+        λ r c. around_cases xs ys r (r.len ≤ p.len) c (h.longest r) (λ l. omega (arith, k.longest r l));
   }
 
   -- the longest subnet of two lists of interfaces is the longer of their longest

@@ -1,7 +1,7 @@
 -- The sorted list of prefixes without repeats is what the limit counts.
-use Rattle.std.proofs.Common.{◌≡◌, ◌≢◌, ◌<◌, ◌≤◌, ◌↔◌, ℕ, Bool, true, false, ◌&&◌, ◌==◌, if◌then◌else◌, List, ◌++◌, length, map, get_or, Option, Some, None, IsTrue, Ordering, Contains, AllPairs, IsPermutation, eqb-true, refl, sym, ap, subst, ◌∙◌, ⊎_elim, arith}
+use Rattle.std.proofs.Common.{◌≡◌, ◌≢◌, ℕ, Bool, true, false, ◌&&◌, ◌==◌, if◌then◌else◌, List, length, map, get_or, Option, Some, None, IsTrue, Ordering, Contains, AllPairs, IsPermutation, eqb-true, refl, sym, subst, ⊎_elim, arith}
 use Rattle.std.specs.Cmp.{IsTotalOrder, IsEquivalence, and_equiv, on_equiv, on_total, then_total, both_tied, tied_itself, nat_cmp_total, nat_eq_equiv, unsigned_ties}
-use Rattle.std.specs.Ordering.{nat_cmp, ordering_then, eq_by_cmp, is_eq}
+use Rattle.std.specs.Ordering.{nat_cmp, ordering_then, eq_by_cmp}
 use Rattle.std.specs.declared.cmp.Ordering.TheVariants.{Less}
 use Rattle.std.specs.List.{dedup}
 use Rattle.std.specs.List.Sorted.{IsSorted, IsStrictlySortedBy}
@@ -11,11 +11,10 @@ use Rattle.std.proofs.lemmas.List.Elements.{Contains-append_left, Contains-appen
 use Rattle.std.proofs.lemmas.Map.Keys.{Less-from_sorted}
 use Rattle.net_addr.specs.Addresses.{Block}
 use Rattle.net_model.specs.Configuration.{Configuration}
-use Rattle.net_model.specs.Limits.{up_interfaces, all_up_interfaces, NamesDest, IsDest, CountsDests, IsWithinLimits}
+use Rattle.net_model.specs.Limits.{up_interfaces, NamesDest, IsDest, CountsDests, IsWithinLimits}
 use Rattle.net_model.specs.Limits.NamesDest.{by_interface, by_range}
 use Rattle.net_model.specs.DestLists.{subnet_if_up, own_dests, all_dests}
 use Rattle.net_model.specs.declared.area.Range.{Range}
-use Rattle.net_model.specs.declared.interface.Interface.{Interface}
 use Rattle.net_model.proofs.Members.{Contains-flat_map, Contains-in_flat_map, Contains-map, Contains-in_map, Contains-filter_map, Contains-in_filter_map}
 
 -- the order of prefixes, and their equality, as they are derived
@@ -57,12 +56,12 @@ own_from_list : (c : Configuration) (p : Block) → Contains (own_dests c) p →
 own_from_list c p h =
     ⊎_elim
     (λ l.
-      let one = Contains-filter_map subnet_if_up c.interfaces p l in
-      let is = if_up one.item.up one.item.subnet p one.gives in
-      by_interface one.item one.among is.0 is.1)
+    let one = Contains-filter_map subnet_if_up c.interfaces p l in
+    let is = if_up one.item.up one.item.subnet p one.gives in
+    by_interface one.item one.among is.0 is.1)
     (λ r.
-      let one = Contains-map (λ (g : Range). g.dest) c.ranges p r in
-      by_range one.item one.among one.gives)
+    let one = Contains-map (λ (g : Range). g.dest) c.ranges p r in
+    by_range one.item one.among one.gives)
     (Contains-append_cases _ _ p h)
 
 list_from_own : (c : Configuration) (p : Block) → NamesDest c p → Contains (own_dests c) p
@@ -93,7 +92,7 @@ CountsDests-sorted configs ys zs moved up is = record {
   once = λ i j d l h e. apart_from_sorted zs (subst (IsStrictlySortedBy block_cmp) (sym is) (IsStrictlySortedBy-dedup block_total block_ties ys up)) i j d l h e;
   exact = λ p. (
     λ c. IsDest-from_list configs p (Contains-permutation ys _ p (IsPermutation-sym _ ys moved) (Contains-from_dedup block_eq ys p (subst (λ l. Contains l p) is c))),
-    λ d. subst (λ l. Contains l p) (sym is) (Contains-dedup block_equiv block_same ys p (Contains-permutation _ ys p moved (list-from_IsDest configs p d)))
+    λ d. subst (λ l. Contains l p) (sym is) (Contains-dedup block_equiv block_same ys p (Contains-permutation _ ys p moved (list-from_IsDest configs p d))),
   );
   count_is = refl;
 }

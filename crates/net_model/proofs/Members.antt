@@ -1,7 +1,7 @@
 -- Elements of lists: at the front, in joined, mapped and filtered lists, and how many distinct ones there may be.
-use Rattle.std.proofs.Common.{◌≡◌, ◌≢◌, ℕ, zero, suc, ◌+◌, ◌<◌, ◌≤◌, List, [], ◌∷◌, ◌++◌, length, map, get_or, Option, Some, None, Contains, AllPairs, IsPermutation, refl, sym, ap, subst, ◌∙◌, ◌⊎◌, ⊎_elim, inl, inr, arith}
+use Rattle.std.proofs.Common.{◌≡◌, ◌≢◌, ℕ, zero, suc, ◌<◌, ◌≤◌, List, [], ◌∷◌, length, map, get_or, Option, Some, None, Contains, AllPairs, refl, sym, ap, subst, ◌∙◌, ◌⊎◌, ⊎_elim, inl, inr, arith}
 use Rattle.std.specs.List.{cons_option, filter_map, flat_map, remove}
-use Rattle.std.proofs.lemmas.List.Elements.{Contains-append_left, Contains-append_right, Contains-append_cases, Contains-get_or}
+use Rattle.std.proofs.lemmas.List.Elements.{Contains-append_left, Contains-append_right, Contains-append_cases}
 use Rattle.std.proofs.lemmas.Map.Made.{Contains-tail}
 use Rattle.std.proofs.lemmas.List.Sorted.{IsPermutation-remove, Contains-permutation, length_permutation}
 
@@ -40,8 +40,8 @@ Contains-flat_map f (x ∷ xs) a h =
     ⊎_elim
     (λ l. record { item = x; among = Contains-first x xs; inside = l })
     (λ r.
-      let one = Contains-flat_map f xs a r in
-      record { item = one.item; among = Contains-rest x xs one.item one.among; inside = one.inside })
+    let one = Contains-flat_map f xs a r in
+    record { item = one.item; among = Contains-rest x xs one.item one.among; inside = one.inside })
     (Contains-append_cases (f x) (flat_map f xs) a h)
 
 pub Contains-in_flat_map : {X A : Type 0} (f : X → List A) (xs : List X) (x : X) (a : A) → Contains xs x → Contains (f x) a → Contains (flat_map f xs) a
@@ -58,8 +58,8 @@ Contains-map f (x ∷ xs) a h =
     ⊎_elim
     (λ e. record { item = x; among = Contains-first x xs; gives = e })
     (λ r.
-      let one = Contains-map f xs a r in
-      record { item = one.item; among = Contains-rest x xs one.item one.among; gives = one.gives })
+    let one = Contains-map f xs a r in
+    record { item = one.item; among = Contains-rest x xs one.item one.among; gives = one.gives })
     (Contains-cases (f x) (map f xs) a h)
 
 pub Contains-in_map : {X A : Type 0} (f : X → A) (xs : List X) (x : X) → Contains xs x → Contains (map f xs) (f x)
@@ -79,8 +79,8 @@ kept_cases h x xs a (Some b) e rest c =
     ⊎_elim
     (λ same. record { item = x; among = Contains-first x xs; gives = e ∙ ap Some same })
     (λ r.
-      let one = rest r in
-      record { item = one.item; among = Contains-rest x xs one.item one.among; gives = one.gives })
+    let one = rest r in
+    record { item = one.item; among = Contains-rest x xs one.item one.among; gives = one.gives })
     (Contains-cases b (filter_map h xs) a c)
 
 pub Contains-filter_map : {X A : Type 0} (h : X → Option A) (xs : List X) (a : A) → Contains (filter_map h xs) a → IsGivenBy h xs (Some a)
@@ -108,8 +108,8 @@ length-le_from_distinct (x ∷ xs) ys apart inside =
     let moved = IsPermutation-remove ys at.0 x at.1 (sym at.2) in
     let long = length_permutation ys (x ∷ rest) moved in
     let step =
-      length-le_from_distinct xs rest (λ i j d l h. apart (suc i) (suc j) d (omega arith) (omega arith))
-      (λ z c. Contains-tail x rest z (λ e. apart 0 (suc c.0) z (omega arith) (omega (arith, c.1)) (e ∙ sym c.2)) (Contains-permutation ys (x ∷ rest) z moved (inside z (Contains-rest x xs z c)))) in
+    length-le_from_distinct xs rest (λ i j d l h. apart (suc i) (suc j) d (omega arith) (omega arith))
+    (λ z c. Contains-tail x rest z (λ e. apart 0 (suc c.0) z (omega arith) (omega (arith, c.1)) (e ∙ sym c.2)) (Contains-permutation ys (x ∷ rest) z moved (inside z (Contains-rest x xs z c)))) in
     omega (arith, long, step)
 
 -- two lists of distinct elements with the same elements are as long

@@ -1,5 +1,5 @@
 -- Configurations in byte order of their names: when they ascend, and which name is the least that two have.
-use Rattle.std.proofs.Common.{◌≡◌, ◌≢◌, ℕ, zero, suc, ◌+◌, ◌-◌, ◌<◌, ◌≤◌, Bool, true, false, List, length, get_or, slice_get, Some, Ordering, IsPermutation, AllPairs, refl, sym, ap, subst, ◌∙◌, ◌⊎◌, ⊎_elim, inl, inr, arith}
+use Rattle.std.proofs.Common.{◌≡◌, ◌≢◌, ℕ, zero, suc, ◌+◌, ◌-◌, ◌<◌, ◌≤◌, false, List, length, get_or, Ordering, IsPermutation, refl, sym, ap, subst, ◌∙◌, ◌⊎◌, ⊎_elim, inl, inr, arith}
 use Rattle.std.specs.Cmp.Lexicographic.{slice_cmp, nat_list_cmp_total}
 use Rattle.std.specs.FinMap.{nat_cmp-IsAntisymmetric, slice_cmp-IsAntisymmetric}
 use Rattle.std.specs.List.{swap}
@@ -37,6 +37,15 @@ below_or_same a b f = less_by a b (slice_cmp nat_cmp a b) refl f
 
 not_below : (a b : List ℕ) → is_lt (slice_cmp nat_cmp a b) ≡ false → IsBelow a b → ⊥
 not_below a b f e = let turned = ap is_lt e in cc
+
+decided_by : (r : Ordering) → (r ≡ Less → ⊥) → is_lt r ≡ false
+decided_by Less f = absurd (f refl)
+decided_by Equal f = refl
+decided_by Greater f = refl
+
+-- of two names neither of which is below the other
+pub neither_below : (a b : List ℕ) → (IsBelow a b → ⊥) → (IsBelow b a → ⊥) → a ≡ b
+neither_below a b f g = ⊎_elim (λ l. absurd (f l)) (λ e. e) (below_or_same a b (decided_by (slice_cmp nat_cmp b a) g))
 
 pub IsBelow-irrefl : (a : List ℕ) → IsBelow a a → ⊥
 IsBelow-irrefl a e =
@@ -77,7 +86,7 @@ module _ (ys : List Configuration) (up : IsSortedByKey (λ (c : Configuration). 
   none_earlier : (k : ℕ) → IsFirstDouble ys k → (p q : ℕ) (d : Configuration) → p < q → q < length ys → name_at ys p d ≡ name_at ys q d → p < k → ⊥
   none_earlier k first p q d l h e before =
       let back : is_lt (slice_cmp nat_cmp (name_at ys p d) (name_at ys (p + 1) d)) ≡ false =
-        ap (λ n. is_lt (slice_cmp nat_cmp n (name_at ys (p + 1) d))) e ∙ not_above (p + 1) q d (omega arith) h in
+      ap (λ n. is_lt (slice_cmp nat_cmp n (name_at ys (p + 1) d))) e ∙ not_above (p + 1) q d (omega arith) h in
       ⊎_elim
       (λ b. not_below (name_at ys p d) (name_at ys (p + 1) d) back b)
       (λ same. first.none_before p (omega arith) (double_from p d (omega arith) same))
@@ -117,9 +126,9 @@ moved xs i j k name l h n =
     ⊎_elim
     (λ a. record { to = j; is = named_from (swap xs i j) name j d (omega arith) (ap nm s.1 ∙ ap (λ m. name_at xs m d) (sym a) ∙ at); where_to = inl (a, refl) })
     (λ a. ⊎_elim
-      (λ b. record { to = i; is = named_from (swap xs i j) name i d (omega arith) (ap nm s.0 ∙ ap (λ m. name_at xs m d) (sym b) ∙ at); where_to = inr (inl (b, refl)) })
-      (λ b. record { to = k; is = named_from (swap xs i j) name k d (omega arith) (ap nm (s.2 k a b) ∙ at); where_to = inr (inr (a, b, refl)) })
-      (cases_eq k j))
+    (λ b. record { to = i; is = named_from (swap xs i j) name i d (omega arith) (ap nm s.0 ∙ ap (λ m. name_at xs m d) (sym b) ∙ at); where_to = inr (inl (b, refl)) })
+    (λ b. record { to = k; is = named_from (swap xs i j) name k d (omega arith) (ap nm (s.2 k a b) ∙ at); where_to = inr (inr (a, b, refl)) })
+    (cases_eq k j))
     (cases_eq k i)
 
 still_apart : (i j k m p q : ℕ) → ((k ≡ i) × (p ≡ j)) ⊎ ((k ≡ j) × (p ≡ i)) ⊎ ((k ≢ i) × (k ≢ j) × (p ≡ k)) → ((m ≡ i) × (q ≡ j)) ⊎ ((m ≡ j) × (q ≡ i)) ⊎ ((m ≢ i) × (m ≢ j) × (q ≡ m)) → k ≢ m → p ≡ q → ⊥
@@ -140,7 +149,7 @@ none_least ys up k name d first is other t below =
     let one = named_at ys other t.one d t.first in
     let two = named_at ys other t.two d t.second in
     let low : (p : ℕ) → name_at ys p d ≡ other → IsBelow (name_at ys p d) (name_at ys k d) =
-      λ p e. ap (λ n. slice_cmp nat_cmp n (name_at ys k d)) e ∙ ap (slice_cmp nat_cmp other) is ∙ below in
+    λ p e. ap (λ n. slice_cmp nat_cmp n (name_at ys k d)) e ∙ ap (slice_cmp nat_cmp other) is ∙ below in
     ⊎_elim
     (λ l. none_lower ys up k first t.one t.two d l (named_within ys other t.two t.second) (one ∙ sym two) (low t.one one))
     (λ h. none_lower ys up k first t.two t.one d (omega (arith, t.apart)) (named_within ys other t.one t.first) (two ∙ sym one) (low t.two two))

@@ -2,6 +2,7 @@ pub mod Configuration
 pub mod Network
 pub mod Limits
 pub mod Refusals
+pub mod BuildLaws
 pub mod Lookups
 pub mod DestLists
 pub mod Doubles

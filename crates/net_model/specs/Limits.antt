@@ -1,5 +1,5 @@
 -- How large a network may be.
-use Rattle.std.specs.Prelude.{◌≡◌, ◌≢◌, ℕ, ◌≤◌, ◌<◌, List, length, Some, IsTrue, AllPairs, Contains, sum_by, count_by, min, ◌↔◌}
+use Rattle.std.specs.Prelude.{◌≡◌, ◌≢◌, ℕ, ◌≤◌, List, length, Some, IsTrue, AllPairs, Contains, sum_by, count_by, ◌↔◌}
 use Rattle.net_addr.specs.Addresses.{Block}
 use Rattle.net_model.specs.Configuration.{Configuration}
 use Rattle.net_model.specs.declared.area.Range.{Range}

@@ -72,9 +72,3 @@ Refuses (Limit Dests number) configs =
     (length configs ≤ 200) × (all_up_interfaces configs ≤ 2000) × NameTooMany configs number
 Refuses (TwoNames name) configs = IsWithinLimits configs × IsLeastDouble configs name
 Refuses OutOfMemory configs = Unit {0}
-
--- the refusal is that two configurations have this name, or want of memory
-abbrev pub IsTwoNames : List ℕ → NetRefusal → Type 0
-IsTwoNames name (Limit _ _) = ⊥
-IsTwoNames name (TwoNames least) = least ≡ name
-IsTwoNames name OutOfMemory = Unit {0}

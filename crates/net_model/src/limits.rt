@@ -9,12 +9,16 @@ use crate::{Config, Interface, LimitWhat, NetRefusal, Range};
 use net_addr::Prefix;
 use std::alloc::{AllocError, Global};
 
-/// The most routers, up interfaces and prefixes of a network.
+/// The most routers of a network.
 const MOST_ROUTERS: usize = 200;
+
+/// The most up interfaces, of all routers together.
 const MOST_INTERFACES: u64 = 2000;
+
+/// The most prefixes that the configurations name.
 const MOST_DESTS: usize = 4096;
 
-/// Whether configurations are within the limits of a network; the refusal is the first that isn't kept.
+/// Whether configurations are within the limits of a network; else the refusal is of the first that they exceed.
 pub fn within_limits(alloc: Global, configs: &[Config]) -> Result<(), NetRefusal>
     ensures ok { OnOk result (IsWithinLimits configs.now) }
     ensures err { IfErr result (λ e. Refuses e configs.now) }

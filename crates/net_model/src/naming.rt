@@ -13,9 +13,11 @@ pub fn sort_by_name(configs: &mut Vec<Config>)
     ensures same { IsPermutation configs.old.items configs.new.items }
     ensures sorted { IsSortedByKey (λ c. c.name) (slice_cmp nat_cmp) configs.new.items }
 {
-    configs.sort_unstable_by(|a: &Config, b: &Config| -> Ordering
-        ensures { result ≡ slice_cmp nat_cmp a.now.name b.now.name }
-    { a.name.as_slice().cmp(b.name.as_slice()) });
+    configs.sort_unstable_by(
+        |a: &Config, b: &Config| -> Ordering
+            ensures { result ≡ slice_cmp nat_cmp a.now.name b.now.name }
+        { a.name.as_slice().cmp(b.name.as_slice()) },
+    );
 }
 
 /// The first place whose configuration has the name of the next one.
@@ -39,9 +41,7 @@ fn have_one_name(one: &Config, two: &Config) -> bool
 
 /// The place of the configuration of this name.
 pub fn place_of(configs: &[Config], name: &[u8]) -> Option<usize>
-    ensures named {
-        MatchOption result ((u : ℕ) → IsNamed configs.now name.now u → ⊥) (IsNamed configs.now name.now)
-    }
+    ensures named { MatchOption result ((u : ℕ) → IsNamed configs.now name.now u → ⊥) (IsNamed configs.now name.now) }
     ensures within { IfSome result (λ place. place < length configs.now) }
 {
     for (place, config) in configs.iter().enumerate() {

@@ -1,1 +1,3 @@
 pub mod Hops
+pub mod Tables
+pub mod Matches

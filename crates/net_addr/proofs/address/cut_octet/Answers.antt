@@ -9,8 +9,8 @@ returns-in_err-dot-clause-none c = rw c.from_residual.ensures (λ part rest octe
 pub returns-in_err-octet-clause-none : goal.returns-in_err-octet-clause-none
 returns-in_err-octet-clause-none c =
     rw c.from_residual-in_err-octet.ensures
-        (λ part rest octet e.
-            c.in_err-octet.ensures
-                (subst IsOctet
-                    (cut_at_dot c.args.word.now part rest c.in_ok-dot.dot c.in_ok-dot.ensures.within c.in_ok-dot.ensures.dot c.in_ok-dot.ensures.before octet e)
-                    octet))
+    (λ part rest octet e.
+    c.in_err-octet.ensures
+    (subst IsOctet
+    (cut_at_dot c.args.word.now part rest c.in_ok-dot.dot c.in_ok-dot.ensures.within c.in_ok-dot.ensures.dot c.in_ok-dot.ensures.before octet e)
+    octet))

@@ -5,7 +5,7 @@ use Rattle.net_addr.proofs.number.read_number.Goals as goal
 pub returns-in_err-value : goal.returns-in_err-value
 returns-in_err-value c =
     rw c.from_residual.ensures
-        (no_numeral c.args.most c.args.word.now c.loop-byte.byte-index c.loop-byte.value (omega arith) c.loop-byte.invariant.value c.in_err-value.ensures)
+    (no_numeral c.args.most c.args.word.now c.loop-byte.byte-index c.loop-byte.value (omega arith) c.loop-byte.invariant.value c.in_err-value.ensures)
 
 pub loop-byte-preserved : goal.loop-byte-preserved
 loop-byte-preserved c = record {

@@ -1,6 +1,5 @@
-use Rattle.std.proofs.Common.{rules, ◌≡◌, List, length, IsPermutation, refl, ap, subst, sym, ◌∙◌}
+use Rattle.std.proofs.Common.{rules, ◌≡◌, length, IsPermutation, subst}
 use Rattle.std.proofs.lemmas.List.Filters.{dedup_is}
-use Rattle.net_addr.specs.Addresses.{Block}
 use Rattle.net_model.specs.DestLists.{all_dests}
 use Rattle.net_model.specs.Limits.{CountsDests}
 use Rattle.net_model.proofs.Dests.{CountsDests-sorted}

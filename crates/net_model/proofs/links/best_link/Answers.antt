@@ -1,4 +1,4 @@
-use Rattle.std.proofs.Common.{rules, ◌≡◌, ◌<◌, length, Option, subst, sym, arith}
+use Rattle.std.proofs.Common.{subst, sym}
 use Rattle.std.proofs.lemmas.List.{take_all}
 use Rattle.net_model.specs.Links.{BestLink}
 use Rattle.net_model.proofs.BestLinks.{BestLink-none, BestLink-more}

@@ -1,4 +1,4 @@
-use Rattle.std.proofs.Common.{◌≡◌, ◌<◌, length, get_or, sym, ap, ◌∙◌, arith, below_more}
+use Rattle.std.proofs.Common.{sym, ap, ◌∙◌, arith, below_more}
 use Rattle.net_model.specs.Configuration.{Configuration}
 use Rattle.net_model.proofs.Names.{named_at, named_from, named_within}
 use Rattle.net_model.proofs.naming.place_of.Goals as goal

@@ -1,4 +1,4 @@
-use Rattle.std.proofs.Common.{rules, ◌≡◌, List, MatchOption, subst, sym, ap, ◌∙◌, arith}
+use Rattle.std.proofs.Common.{◌≡◌, List, subst, ap, ◌∙◌}
 use Rattle.net_model.specs.Configuration.{Configuration}
 use Rattle.net_model.specs.Links.{BestLink}
 use Rattle.net_model.specs.declared.interface.Interface.{Interface}

@@ -1,10 +1,10 @@
 -- The sorted configurations keep what the given ones do, and a neighbour of one name shows the least such name.
-use Rattle.std.proofs.Common.{rules, ◌≡◌, ◌<◌, List, length, All, IsPermutation, sym, subst, ap, ◌∙◌}
+use Rattle.std.proofs.Common.{List, length, All, IsPermutation, sym, subst, ap, ◌∙◌}
 use Rattle.std.proofs.lemmas.List.Sorted.{All-permutation}
 use Rattle.net_model.specs.Configuration.{Configuration, IsConfiguration}
-use Rattle.net_model.specs.Doubles.{NoDoubles, IsFirstDouble}
+use Rattle.net_model.specs.Doubles.{NoDoubles, IsFirstDouble, IsTwoNames}
 use Rattle.net_model.specs.Limits.{IsWithinLimits}
-use Rattle.net_model.specs.Refusals.{IsNetwork, IsTwoNames, MakeNetwork, Refuses, IsLeastDouble}
+use Rattle.net_model.specs.Refusals.{Refuses, IsLeastDouble}
 use Rattle.net_model.specs.declared.refusal.NetRefusal.{NetRefusal}
 use Rattle.net_model.specs.declared.refusal.NetRefusal.TheVariants.{Limit, TwoNames, OutOfMemory}
 use Rattle.net_model.proofs.Dests.{IsWithinLimits-permutation}

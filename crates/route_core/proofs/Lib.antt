@@ -1,0 +1,3 @@
+mod MatchSteps
+pub mod TableLaws
+pub mod HopLaws

@@ -1,0 +1,94 @@
+ghost use Rattle.std.specs.Prelude.{◌≡◌, ◌<◌, [], ◌∷◌, IfOk};
+ghost use Rattle.route_core.specs.declared.entry.Entry.TheVariants.{Via};
+
+use super::*;
+use crate::entries::Entries;
+use crate::entry::{Entry, Hops};
+use net_addr::Prefix;
+use std::alloc::{AllocError, Global};
+use std::marker::Model;
+use std::test::Fail;
+
+/// Two routers with a link between them, each of which sends all packets to the other.
+#[derive(Drop)]
+struct Pair {
+    zero: Table,
+    one: Table,
+}
+
+impl Model for Pair {
+    ghost use Rattle.std.specs.Prelude.{◌≢◌, List, nat_eq, if◌then◌else◌};
+    ghost use Rattle.net_addr.specs.Addresses.{Block};
+    ghost use Rattle.route_core.specs.declared.entry.Entry.{Entry};
+    ghost use Rattle.route_core.specs.Tables.{AreTables};
+
+    ghost Value = { List (Block × Entry) × List (Block × Entry) };
+
+    ghost view = { λ x. (x.zero, x.one) };
+
+    ghost invariant = { λ x. AreTables 2 (λ u. if nat_eq u 0 then x.zero else x.one) (λ u v. u ≢ v) };
+}
+
+impl RouteSource for Pair {
+    ghost use Rattle.std.specs.Prelude.{◌≢◌, nat_eq, if◌then◌else◌};
+
+    ghost routers = { λ _. 2 };
+
+    ghost table = { λ s u. if nat_eq u 0 then s.0 else s.1 };
+
+    ghost linked = { λ _ u v. u ≢ v };
+
+    fn routers(&self) -> u32 {
+        let _ = &self.zero;
+        2
+    }
+
+    fn table(&self, router: u32) -> &Table {
+        if router == 0 { &self.zero } else { &self.one }
+    }
+
+    fn linked(&self, u: u32, v: u32) -> bool {
+        u != v
+    }
+}
+
+fn to_router(alloc: Global, all: Prefix, router: u32) -> Result<Table, AllocError>
+    ensures { IfOk result (λ table. table ≡ (all, Via (router ∷ [])) ∷ []) }
+{
+    let mut hops = Vec::new(alloc);
+    hops.push(router)?;
+    let mut entries = Vec::new(alloc);
+    entries.push((all, Entry::Via(Hops::from_vec(hops))))?;
+    Table::from_entries(alloc, Entries::from_vec(entries))
+}
+
+fn make_pair(alloc: Global, all: Prefix) -> Result<Pair, AllocError> {
+    let zero = to_router(alloc, all, 1)?;
+    let one = to_router(alloc, all, 0)?;
+    Ok(Pair { zero, one })
+}
+
+/// How many next hops a router has for an address.
+fn hops_at<S: RouteSource>(source: &S, router: u32, a: u32) -> usize
+    requires { router < S.routers source.now }
+{
+    let table = source.table(router);
+    let Some(place) = table.longest(a) else {
+        return 0;
+    };
+    match table.entry(place) {
+        Entry::Via(hops) => hops.as_slice().len(),
+        Entry::Discard => 0,
+    }
+}
+
+#[test]
+fn a_source_answers(rt: HostRuntime) -> Result<(), Fail> {
+    let all = Prefix::new(0, 0).ok_or("no prefix")?;
+    let source = make_pair(rt.alloc(), all)?;
+    assert_eq!(rt; source.routers(), 2);
+    assert!(rt; source.linked(0, 1));
+    assert!(rt; !source.linked(1, 1));
+    assert_eq!(rt; hops_at(&source, 1, 7), 1);
+    Ok(())
+}

@@ -1,0 +1,47 @@
+-- What a write does, and what the sinks in memory are.
+use Rattle.std.specs.Prelude.{◌≡◌, ℕ, ◌+◌, ◌<◌, List, ◌++◌, length, Contains, Option, Some, None, ◌⊎◌, nat_le, if◌then◌else◌}
+use Rattle.store_edge.specs.Faults.{next_count}
+
+-- these bytes came last, where the bytes written are still told afterwards
+abbrev pub Adds : Option (List ℕ) → Option (List ℕ) → List ℕ → Type 0
+Adds before None bytes = Unit {0}
+Adds None (Some after) bytes = ⊥
+Adds (Some before) (Some after) bytes = after ≡ before ++ bytes
+
+-- a cut write: a front of the piece came last
+pub record AddsFront (before after : Option (List ℕ)) (piece : List ℕ) : Type 0 where
+  pub front : List ℕ
+  pub rest : List ℕ
+  pub cut : front ++ rest ≡ piece
+  pub adds : Adds before after front
+
+-- bytes that are kept, and how many there is room for in all
+pub record Kept : Type 0 where
+  pub bytes : List ℕ
+  pub room : ℕ
+
+-- a sink in memory: the bytes written, how many it takes in all, the numbers of the writes that fail, how many
+-- writes there were, and the faults
+pub record MemorySinkState : Type 0 where
+  pub bytes : List ℕ
+  pub room : ℕ
+  pub failing : List ℕ
+  pub writes : ℕ
+  pub faults : ℕ
+
+-- the next write of this piece fails: its number is one that fails, counted from 1, or the piece passes the room
+abbrev pub WriteFails : MemorySinkState → List ℕ → Type 0
+WriteFails state piece = Contains state.failing (next_count state.writes) ⊎ (state.room < length state.bytes + length piece)
+
+-- a sink in memory that never fails: the bytes written, told as long as they fit into its room
+pub record SureSinkState : Type 0 where
+  pub told : Option (List ℕ)
+  pub room : ℕ
+
+-- what it tells after a write
+abbrev pub told_after : SureSinkState → List ℕ → Option (List ℕ)
+told_after state piece = fits state.told
+  where
+  fits : Option (List ℕ) → Option (List ℕ)
+  fits None = None
+  fits (Some bytes) = if nat_le (length bytes + length piece) state.room then Some (bytes ++ piece) else None
