@@ -1,5 +1,5 @@
 -- Adjacency is a link of the routers' interfaces.
-use Rattle.std.proofs.Common.{◌≡◌, ◌≢◌, ℕ, ◌⊎◌, ◌↔◌, ◌<◌, ◌≤◌, ◌+◌, get_or, inl, inr, List, length, Some, refl, subst, sym, ap, ◌∙◌, arith}
+use Rattle.std.proofs.Common.{◌≡◌, ◌≢◌, ℕ, ◌⊎◌, ◌<◌, ◌≤◌, ◌+◌, get_or, inl, inr, length, Some, subst, sym, ap, ◌∙◌, arith}
 use Rattle.std.proofs.lemmas.Bool.{cases_lt}
 use Rattle.std.proofs.lemmas.Option.{slice_get_within, slice_get-get_or}
 use Rattle.std.proofs.lemmas.List.Sums.{get_or-le-sum_by}
@@ -7,8 +7,7 @@ use Rattle.std.specs.List.{Contains}
 use Rattle.net_model.specs.Configuration.{Configuration}
 use Rattle.net_model.specs.Limits.{up_interfaces, all_up_interfaces}
 use Rattle.net_model.specs.Refusals.{IsNetwork}
-use Rattle.net_model.specs.Network.{Network, HasConfiguration, UpInterface, MayJoin, Adjacent}
-use Rattle.net_model.specs.declared.interface.Interface.{Interface}
+use Rattle.net_model.specs.Network.{Network, HasConfiguration, MayJoin, Adjacent}
 use Rattle.net_model.specs.declared.zone.Zone.{Zone}
 use Rattle.zone_graph.specs.Graphs.{ArcList, AddsArcs, AreArcsBelow}
 use Rattle.zone_graph.specs.Links.{Links}
@@ -43,7 +42,7 @@ pub adjacent_may_join : (net : Network) (within : Zone) (u v : ℕ) (near far : 
     HasConfiguration net u near → HasConfiguration net v far → Adjacent net within u v cost → MayJoin within near far
 adjacent_may_join net within u v near far cost near_is far_is adjacent =
     subst (λ (c : Configuration). MayJoin within c far) (same_configuration net u _ _ adjacent.near_up.router near_is)
-      (subst (λ (c : Configuration). MayJoin within adjacent.near_up.config c) (same_configuration net v _ _ adjacent.far_up.router far_is) adjacent.joined)
+    (subst (λ (c : Configuration). MayJoin within adjacent.near_up.config c) (same_configuration net v _ _ adjacent.far_up.router far_is) adjacent.joined)
 
 -- adjacent routers have a link
 pub link_from_adjacent : (net : Network) (within : Zone) (u v : ℕ) (near far : Configuration) (cost : ℕ) →
@@ -91,13 +90,13 @@ arcs_one_more net within u v old new below adds w cost = (
     | inl before ↦ let k = (below w cost).0 before in (omega arith, k.1)
     | inr here ↦ (
       omega arith,
-      subst (λ (x : ℕ). Adjacent net within u x cost) (sym here.0) here.1
+      subst (λ (x : ℕ). Adjacent net within u x cost) (sym here.0) here.1,
     )
   ]),
   (λ k. elim (cases_at w v k.0) [
     | inl less ↦ adds.kept w cost ((below w cost).1 (less, k.1))
     | inr same ↦ subst (λ (x : ℕ). Contains new (x, cost)) (sym same) (adds.added cost (subst (λ (x : ℕ). Adjacent net within u x cost) same k.1))
-  ])
+  ]),
 )
   where
     cases_at : (a b : ℕ) → a < b + 1 → (a < b) ⊎ (a ≡ b)

@@ -1,5 +1,5 @@
 -- Links of one more interface, and the arcs that they add.
-use Rattle.std.proofs.Common.{◌≡◌, ℕ, ◌⊎◌, ◌↔◌, inl, inr, List, [], ◌∷◌, ◌++◌, refl, subst, sym, ap, ◌+◌, ◌<◌, ◌≤◌, Bool, true, false, length, take, get_or, arith}
+use Rattle.std.proofs.Common.{◌≡◌, ℕ, ◌⊎◌, inl, inr, List, [], ◌∷◌, ◌++◌, refl, subst, sym, ap, ◌+◌, ◌<◌, ◌≤◌, Bool, true, false, length, take, get_or, arith}
 use Rattle.std.specs.List.{Contains, count_by}
 use Rattle.std.proofs.lemmas.List.Sums.{count_by_more_yes, count_by_more_no}
 use Rattle.std.proofs.lemmas.List.Elements.{Contains-append_left, Contains-push, Contains-push_cases}
@@ -28,7 +28,7 @@ links_cases zone front others near c link =
       | inl among ↦ inl (record { near = link.near; among = among; joins = link.joins; costs = link.costs })
       | inr same ↦ inr (
         let P : Interface → Type 0 = λ i. JoinsSome zone i others in subst P (sym same) link.joins,
-        let Q : Interface → Type 0 = λ i. cost_in zone i ≡ c in subst Q (sym same) link.costs
+        let Q : Interface → Type 0 = λ i. cost_in zone i ≡ c in subst Q (sym same) link.costs,
       )
     ]
 
@@ -47,12 +47,15 @@ adds_link zone front others near old arcs v adds joins = record {
       | inl kept ↦ inl kept
       | inr new ↦ inr (new.0, links_kept zone front others near c new.1)
     ]
-    | inr same ↦ inr (sym (ap (λ (p : ℕ × ℕ). p.0) same), record {
-      near = near;
-      among = Contains-push front near;
-      joins = joins;
-      costs = ap (λ (p : ℕ × ℕ). p.1) same;
-    })
+    | inr same ↦ inr (
+      sym (ap (λ (p : ℕ × ℕ). p.0) same),
+      record {
+        near = near;
+        among = Contains-push front near;
+        joins = joins;
+        costs = ap (λ (p : ℕ × ℕ). p.1) same;
+      },
+    )
   ];
 }
 

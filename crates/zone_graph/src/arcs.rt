@@ -1,4 +1,4 @@
-ghost use Rattle.std.specs.Prelude.{◌≡◌, ◌+◌, ◌*◌, ◌<◌, ◌≤◌, length, vec_len, IfOk, OnOk};
+ghost use Rattle.std.specs.Prelude.{◌≡◌, ◌+◌, ◌*◌, ◌<◌, ◌≤◌, length, vec_len, slice_index_or, IfOk, OnOk};
 ghost use Rattle.net_model.specs.Network.{Adjacent};
 ghost use Rattle.zone_graph.specs.Graphs.{AddsArcs, AreArcsFrom};
 
@@ -24,7 +24,12 @@ impl Model for Arcs {
 
 impl Arcs {
     /// The arcs that leave router `u` in the zone, one for each interface and router that it leads to.
-    pub(crate) fn from_router(alloc: Global, net: &Net, zone: Zone, u: u32) -> Result<Arcs, OutOfMemory>
+    pub(crate) fn from_router(
+        alloc: Global,
+        net: &Net,
+        zone: Zone,
+        u: u32,
+    ) -> Result<Arcs, OutOfMemory>
         requires { u < length net.now }
         ensures arcs { IfOk result (AreArcsFrom net.now zone u) }
         ensures few { IfOk result (λ arcs. length arcs ≤ 2000 * length net.now) }
@@ -42,10 +47,24 @@ impl Arcs {
     {
         self.all.len()
     }
+
+    /// Where an arc leads, and what it costs.
+    pub(crate) fn at(&self, i: usize) -> (u32, u32)
+        requires { i < length self.now }
+        ensures { result ≡ slice_index_or self.now i (0, 0) }
+    {
+        self.all[i]
+    }
 }
 
 /// Adds the arcs from router `u` to router `v`.
-fn push_arcs(arcs: &mut Vec<(u32, u32)>, net: &Net, zone: Zone, u: u32, v: u32) -> Result<(), OutOfMemory>
+fn push_arcs(
+    arcs: &mut Vec<(u32, u32)>,
+    net: &Net,
+    zone: Zone,
+    u: u32,
+    v: u32,
+) -> Result<(), OutOfMemory>
     requires near { u < length net.now }
     requires far { v < length net.now }
     ensures adds { OnOk result (AddsArcs arcs.old.items arcs.new.items v (Adjacent net.now zone u v)) }
@@ -56,5 +75,11 @@ fn push_arcs(arcs: &mut Vec<(u32, u32)>, net: &Net, zone: Zone, u: u32, v: u32) 
     if u == v || !may_join(zone, near, far) {
         return Ok(());
     }
-    push_links(arcs, zone, near.interfaces.as_slice(), far.interfaces.as_slice(), v)
+    push_links(
+        arcs,
+        zone,
+        near.interfaces.as_slice(),
+        far.interfaces.as_slice(),
+        v,
+    )
 }

@@ -39,3 +39,37 @@ fn all_arcs(alloc: Global, net: &Net, zone: Zone) -> Result<Vec<Arcs>, OutOfMemo
     }
     Ok(all)
 }
+
+impl CostGraph for ZoneGraph {
+    ghost use Rattle.std.specs.Prelude.{◌≡◌, ◌<◌, ◌≤◌, ℕ, length, slice_index_or};
+    ghost use Rattle.zone_graph.specs.Graphs.{HasArc, arcs_from};
+    ghost use Rattle.zone_graph.specs.GraphFacts.{counted_arc, arc_is_counted};
+
+    ghost vertex_count = { λ g. length g.arcs.items };
+
+    ghost arc_count = { λ g u. length (arcs_from g.arcs.items u) };
+
+    ghost arc_at = { λ g u i. slice_index_or (arcs_from g.arcs.items u) i (0, 0) };
+
+    ghost has_arc = { λ g. HasArc g.arcs.items };
+
+    ghost counted_is_arc = { λ g u i _ within. counted_arc g.arcs.items u i within };
+
+    ghost arc_is_counted = { λ g u v c _ has. arc_is_counted g.arcs.items u v c has };
+
+    ghost end_is_vertex = { λ g u v c _ has. g.end_is_vertex u v c has };
+
+    ghost cost_is_positive = { λ g u v c _ has. g.cost_is_positive u v c has };
+
+    fn vertices(&self) -> u32 {
+        self.arcs.len() as u32
+    }
+
+    fn arcs(&self, u: u32) -> u32 {
+        self.arcs[u as usize].len() as u32
+    }
+
+    fn arc(&self, u: u32, i: u32) -> (u32, u32) {
+        self.arcs[u as usize].at(i as usize)
+    }
+}

@@ -8,5 +8,5 @@ use Rattle.zone_graph.proofs.links.push_links.Given as goal
 abbrev pub invariant-loop-near : goal.invariant-loop-near
 invariant-loop-near l = record {
   adds : AddsArcs l.initial.arcs.items l.arcs.items l.v (Links l.zone (take l.near-index l.interfaces) l.others);
-  few : vec_len l.arcs ≤ vec_len l.initial.arcs + count_by (λ (i : Interface). i.up) (take l.near-index l.interfaces)
+  few : vec_len l.arcs ≤ vec_len l.initial.arcs + count_by (λ (i : Interface). i.up) (take l.near-index l.interfaces);
 }

@@ -6,5 +6,5 @@ abbrev pub invariant-loop-u : goal.invariant-loop-u
 invariant-loop-u l = record {
   long : length l.all.items ≡ l.u;
   each : (w : ℕ) → w < l.u → AreArcsFrom l.net l.zone w (arcs_from l.all.items w);
-  short : (w : ℕ) → w < l.u → length (arcs_from l.all.items w) ≤ 2000 * length l.net
+  short : (w : ℕ) → w < l.u → length (arcs_from l.all.items w) ≤ 2000 * length l.net;
 }

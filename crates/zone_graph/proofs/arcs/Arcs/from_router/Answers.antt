@@ -1,6 +1,4 @@
-use Rattle.std.proofs.Common.{◌≡◌, ◌<◌, ℕ, length, arith, sym, subst}
-use Rattle.net_model.specs.Network.{Adjacent}
-use Rattle.zone_graph.specs.Graphs.{ArcList, AddsArcs, AreArcsBelow}
+use Rattle.std.proofs.Common.{◌<◌, length, arith}
 use Rattle.zone_graph.proofs.AdjacencyFacts.{arcs_one_more, adjacent_is_below}
 use Rattle.zone_graph.proofs.arcs.Arcs.from_router.Goals as goal
 
@@ -14,5 +12,5 @@ pub returns-clause-arcs : goal.returns-clause-arcs
 returns-clause-arcs c v cost = (
   (λ h. ((c.loop-v.invariant.exact v cost).0 h).1),
   (λ adjacent. let below : v < length c.args.net.now = adjacent_is_below c.args.net.now c.args.zone c.args.u v cost adjacent in
-    (c.loop-v.invariant.exact v cost).1 (omega (arith, c.routers-v-end.ensures.count), adjacent))
+      (c.loop-v.invariant.exact v cost).1 (omega (arith, c.routers-v-end.ensures.count), adjacent)),
 )

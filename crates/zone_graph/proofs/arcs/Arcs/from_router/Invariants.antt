@@ -5,5 +5,5 @@ use Rattle.zone_graph.proofs.arcs.Arcs.from_router.Given as goal
 abbrev pub invariant-loop-v : goal.invariant-loop-v
 invariant-loop-v l = record {
   exact : AreArcsBelow l.net l.zone l.u l.v l.all.items;
-  few : vec_len l.all ≤ 2000 * l.v
+  few : vec_len l.all ≤ 2000 * l.v;
 }
