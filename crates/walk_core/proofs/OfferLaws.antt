@@ -1,14 +1,14 @@
 -- The best of a list of offers, element by element, and what it is over all walks.
-use Rattle.std.proofs.Common.{◌≡◌, ℕ, ◌⊎◌, ◌↔◌, ◌+◌, ◌<◌, ◌≤◌, List, [], ◌∷◌, ◌++◌, Option, Some, None, min, MatchOption, inl, inr, refl, sym, ap, subst, ◌∙◌, arith, length, length-append, take, get_or}
-use Rattle.std.specs.List.{Contains}
+use Rattle.std.proofs.Common.{◌≡◌, ℕ, ◌⊎◌, ◌↔◌, ◌+◌, ◌^◌, ◌<◌, ◌≤◌, List, [], ◌∷◌, ◌++◌, Option, Some, None, min, MatchOption, inl, inr, refl, sym, ap, subst, ◌∙◌, arith, length, length-append, take, get_or}
+use Rattle.std.specs.List.{Contains, All}
 use Rattle.std.proofs.lemmas.Bool.{cases_lt}
 use Rattle.std.proofs.lemmas.List.Elements.{Contains-append_left, Contains-push, Contains-push_cases, Contains-get_or}
 use Rattle.std.proofs.lemmas.List.{take_more, get_or_append_left, get_or_push}
 use Rattle.std.specs.List.Sorted.{IsStrictlyIncreasing}
 use Rattle.walk_core.specs.Walks.{Arcs, LeastCost, FirstHop}
 use Rattle.walk_core.specs.Offers.{Offers, OfferCosts, BestCost, BestHop}
-use Rattle.walk_core.specs.Reach.{Reach, distance_of, HasHop, AreLeastWalks}
-use Rattle.walk_core.specs.BestOffers.{ListsOffer, total_with, total_of, HasTotal, NoneTotals, IsBestTotal, least_cost_of, IsHopTowards, AreHopsTowards}
+use Rattle.walk_core.specs.Reach.{Reach, distance_of, HasHop, AreLeastWalks, AreNear}
+use Rattle.walk_core.specs.BestOffers.{ListsOffer, total_with, total_of, HasTotal, NoneTotals, IsBestTotal, least_cost_of, IsHopTowards, AreHopsTowards, AreInRange}
 use Rattle.walk_core.specs.declared.offers.Offer.{Offer}
 use Rattle.walk_core.proofs.WalkLaws.{best_cost_unique}
 
@@ -231,3 +231,11 @@ hops_no_more reach offers cost h hops before none = record {
     ]),
   );
 }
+
+-- over distances below 2^63 offers that ask less than 2^63 are in range
+pub near_offers_in_range : (count : ℕ) (reach : Reach) (offers : List Offer) → count ≤ 2 ^ 31 → AreNear count reach →
+    All (λ (o : Offer). o.asks < 2 ^ 63) offers → AreInRange reach offers
+near_offers_in_range count reach offers few near small k d within distance is =
+    let close = near (get_or offers k d).at distance is in
+    let asks = small k d within in
+    omega arith
