@@ -58,7 +58,7 @@ pub same_block : (p q : Block) (a : ℕ) → IsBlock p → IsBlock q → p.len �
 same_block p q a left right same_len in_p in_q =
     let one_size : block_size p ≡ block_size q = ap (λ (m : ℕ). 2 ^ (32 - m)) same_len in
     let same_bits : p.base / block_size q ≡ q.base / block_size q =
-        ap (λ (m : ℕ). p.base / m) (sym one_size) ∙ sym in_p ∙ ap (λ (m : ℕ). a / m) one_size ∙ in_q in
+    ap (λ (m : ℕ). p.base / m) (sym one_size) ∙ sym in_p ∙ ap (λ (m : ℕ). a / m) one_size ∙ in_q in
     let clear : p.base % block_size q ≡ 0 = ap (λ (m : ℕ). p.base % m) (sym one_size) ∙ left.clear in
     let p_whole : p.base ≡ p.base / block_size q * block_size q = multiple_of p.base (block_size q) (pow_pos (32 - q.len)) clear in
     let q_whole : q.base ≡ q.base / block_size q * block_size q = multiple_of q.base (block_size q) (pow_pos (32 - q.len)) right.clear in
@@ -98,3 +98,25 @@ Covers-through p q r block upper lower = record {
   longer = omega (arith, upper.longer, lower.longer);
   inside = ContainsAddress-covers p q r.base block upper lower.inside;
 }
+
+lone_multiple : (b n : ℕ) → n ≡ 2 ^ 32 → b < 2 ^ 32 → b % n ≡ 0 → b ≡ 0
+lone_multiple b n whole below clear =
+    let within : b % 2 ^ 32 ≡ 0 = subst (λ (m : ℕ). b % m ≡ 0) whole clear in omega arith
+
+-- a block of length 32 is one address, and the block of length 0 is all of them
+pub ContainsAddress-host : (p : Block) (a : ℕ) → IsBlock p → p.len ≡ 32 → ContainsAddress p a → a ≡ p.base
+ContainsAddress-host p a block host inside =
+    let one : block_size p ≡ 1 = ap (λ (len : ℕ). 2 ^ (32 - len)) host in
+    let bounds : (p.base ≤ a) × (a < p.base + block_size p) = ContainsAddress-bounds p a block inside in
+    omega arith
+
+pub ContainsAddress-all : (p : Block) (a : ℕ) → IsBlock p → p.len ≡ 0 → a < 2 ^ 32 → ContainsAddress p a
+ContainsAddress-all p a block none below =
+    let whole : block_size p ≡ 2 ^ 32 = ap (λ (len : ℕ). 2 ^ (32 - len)) none in
+    let first : p.base ≡ 0 = lone_multiple p.base (block_size p) whole block.address block.clear in
+    ContainsAddress-between p a block (omega arith) (omega arith)
+
+-- blocks that cover each other are one
+pub same_block-covers : (p q : Block) → IsBlock p → IsBlock q → Covers p q → Covers q p → p ≡ q
+same_block-covers p q left right over under =
+    same_block p q q.base left right (omega (arith, over.longer, under.longer)) over.inside refl

@@ -6,5 +6,4 @@ ghost use Rattle.net_addr.specs.Boundaries.{BoundaryLaw};
 /// after its last address, above a and at most b, the same of them contain a and b.
 pub fn boundary_law()
     ensures { BoundaryLaw }
-{
-}
+{}

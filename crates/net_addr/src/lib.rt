@@ -1,10 +1,27 @@
 //! IPv4 addresses and prefixes, and the lines, words and numbers of configuration texts.
 #![tactic(auto)]
 
-mod prefix;
+mod address;
+mod blank;
 mod boundary;
+mod line;
+mod mask;
 mod name;
+mod number;
+mod prefix;
+mod span;
+mod word;
 
+pub use address::read_addr;
 pub use boundary::boundary_law;
+pub use line::{Line, LineList, lines};
+pub use mask::read_mask;
 pub use name::{Bytes, Name};
+pub use number::read_number;
 pub use prefix::Prefix;
+pub use span::{Span, SpanList};
+pub use std::alloc::AllocError as OutOfMemory;
+pub use word::words;
+
+#[cfg(test)]
+mod tests;

@@ -1,5 +1,6 @@
 ghost use Rattle.std.specs.Prelude.{◌≡◌, ◌-◌, ◌^◌, ◌<◌, ◌≤◌, ◌↔◌, IsTrue, IsNone, IfSome, SomeIff};
 ghost use Rattle.net_addr.specs.Addresses.{block_at, ContainsAddress, Covers, IsBlock};
+ghost use Rattle.net_addr.specs.Boundaries.{last_address};
 
 use std::marker::Model;
 
@@ -25,7 +26,7 @@ impl Model for Prefix {
 }
 
 impl Prefix {
-    /// The prefix with this base and length, where they make one.
+    /// The prefix with this base and length; None where the length is above 32, or a bit of the base past it is set.
     pub fn new(base: u32, len: u8) -> Option<Prefix>
         ensures { SomeIff result (IsBlock (block_at base len)) (block_at base len) }
     {
@@ -35,7 +36,7 @@ impl Prefix {
         Some(Prefix { base, len })
     }
 
-    /// The prefix of this length that contains the address `a`.
+    /// The prefix of this length that contains the address `a`; None where the length is above 32.
     pub fn around(a: u32, len: u8) -> Option<Prefix>
         ensures none { IsNone result ↔ (32 < len) }
         ensures block { IfSome result IsBlock }
@@ -66,6 +67,13 @@ impl Prefix {
         self.len
     }
 
+    /// The last address of the prefix: all bits past its length are set.
+    pub fn last(self) -> u32
+        ensures { result ≡ last_address self }
+    {
+        (u64::from(self.base) + (block_size(self.len) - 1)) as u32
+    }
+
     /// Whether the address `a` is one of the prefix's.
     pub fn contains(self, a: u32) -> bool
         ensures { IsTrue result ↔ ContainsAddress self a }
@@ -83,7 +91,7 @@ impl Prefix {
 }
 
 /// How many addresses a prefix of this length has.
-fn block_size(len: u8) -> u64
+pub(crate) fn block_size(len: u8) -> u64
     requires { len ≤ 32 }
     ensures { result ≡ 2 ^ (32 - len) }
 {

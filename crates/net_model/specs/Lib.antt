@@ -1,2 +1,10 @@
 pub mod Configuration
 pub mod Network
+pub mod Limits
+pub mod Refusals
+pub mod BuildLaws
+pub mod Lookups
+pub mod DestLists
+pub mod Doubles
+pub mod Links
+pub mod Subnets

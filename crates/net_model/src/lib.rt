@@ -4,9 +4,19 @@
 mod area;
 mod config;
 mod interface;
+mod laws;
+mod limits;
+mod links;
+mod naming;
+mod net;
+mod refusal;
+mod subnets;
 mod zone;
 
 pub use area::{Range, Ranges, Stub, Stubs};
 pub use config::{Config, Configs, Distances, Levels};
 pub use interface::{Interface, Interfaces};
+pub use laws::build_laws;
+pub use net::Net;
+pub use refusal::{LimitWhat, NetRefusal};
 pub use zone::Zone;

@@ -1,6 +1,7 @@
 -- Laws of walks, least costs, first hops and best offers, over any arc relation.
 use Rattle.std.proofs.Common.{◌≡◌, ℕ, ◌+◌, ◌≤◌, ◌↔◌, List, [], ◌∷◌, refl, subst, arith}
 use Rattle.walk_core.specs.Walks.{Arcs, Leg, Walks, walk_cost, LeastWalk, LeastCost, FirstHop}
+use Rattle.walk_core.specs.Reach.{Reach, AreLeastWalks}
 use Rattle.walk_core.specs.Offers.{Offers, OfferCosts, BestCost, BestHop}
 
 -- a least cost is at most what each walk costs
@@ -207,3 +208,23 @@ pub best_hop_same : {arc other : Arcs} {offer others : Offers} → SameArcs arc 
     BestHop arc offer u h ↔ BestHop other others u h
 best_hop_same same offers u h =
     (best_hop_over same offers, best_hop_over (same_arcs_sym same) (same_offers_sym offers))
+
+-- what is known of the least walks is the same over the same arcs
+pub least_walks_over : {arc other : Arcs} {root : ℕ} {reach : Reach} → SameArcs arc other →
+    AreLeastWalks arc root reach → AreLeastWalks other root reach
+least_walks_over {arc} {other} {root} {reach} same walks = record {
+  distances = λ v d. (
+    λ is. least_cost_over same ((walks.distances v d).0 is),
+    λ least. (walks.distances v d).1 (least_cost_over (same_arcs_sym same) least),
+  );
+  unreached = λ v. (
+    λ is legs leads.
+        (walks.unreached v).0 is legs (walks_over (λ a b c. (same a b c).1) root legs v leads),
+    λ none. (walks.unreached v).1 (λ legs leads.
+        none legs (walks_over (λ a b c. (same a b c).0) root legs v leads)),
+  );
+  hops = λ v h. (
+    λ has. first_hop_over same ((walks.hops v h).0 has),
+    λ hop. (walks.hops v h).1 (first_hop_over (same_arcs_sym same) hop),
+  );
+}

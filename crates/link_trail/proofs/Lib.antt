@@ -1,0 +1,6 @@
+pub mod ListLemmas
+mod ChainLemmas
+mod SpliceLemmas
+mod MoveLemmas
+mod WholeLemmas
+mod UndoLemmas

@@ -1,0 +1,67 @@
+-- Moves: what each does to the lists, and the lists before and after many.
+use Rattle.std.specs.Prelude.{◌≡◌, ℕ, ◌<◌, ◌≤◌, ◌^◌, List, [], ◌∷◌, ◌++◌, length, Option, slice_set, replicate}
+use Rattle.link_trail.specs.declared.chain.Node.{Node}
+use Rattle.link_trail.specs.declared.chain.Ends.{Ends}
+use Rattle.link_trail.specs.declared.moves.Move.{Move}
+use Rattle.link_trail.specs.declared.moves.Move.TheVariants.{Linked, Unlinked}
+use Rattle.link_trail.specs.Lists.{linked, list_at, unlinked}
+use Rattle.link_trail.specs.Chains.{ShowsLists, last_of}
+
+-- the lists once the move is made
+abbrev pub moved : List (List ℕ) → Move → List (List ℕ)
+moved lists (Linked list node) = linked lists list node
+moved lists (Unlinked list node previous) = unlinked lists node
+
+-- the lists once these moves are made, in order
+abbrev pub lists_after : List (List ℕ) → List Move → List (List ℕ)
+lists_after lists [] = lists
+lists_after lists (move ∷ moves) = lists_after (moved lists move) moves
+
+-- the lists before each of these moves
+abbrev pub lists_before : List (List ℕ) → List Move → List (List (List ℕ))
+lists_before lists [] = []
+lists_before lists (move ∷ moves) = lists ∷ lists_before (moved lists move) moves
+
+-- so many lists without nodes
+abbrev pub no_lists : ℕ → List (List ℕ)
+no_lists count = replicate count []
+
+-- the node stood in this list alone, once, after `previous`
+pub record StoodAfter (nodes : ℕ) (lists : List (List ℕ)) (list node : ℕ) (previous : Option ℕ) : Type 0 where
+  pub before : List ℕ
+  pub after : List ℕ
+  pub list_in_range : list < length lists
+  pub node_in_range : node < nodes
+  pub stood : list_at lists list ≡ before ++ node ∷ after
+  pub follows : last_of before ≡ previous
+  pub alone : unlinked lists node ≡ slice_set lists list (before ++ after)
+
+-- the move tells what takes it back from the lists that it leads to
+abbrev pub Fits : ℕ → List (List ℕ) → Move → Type 0
+Fits nodes lists (Linked list node) = list < length lists
+Fits nodes lists (Unlinked list node previous) = StoodAfter nodes lists list node previous
+
+-- the move led from some lists to those that nodes and ends show
+pub record IsLatest (nodes : List Node) (ends : List Ends) (move : Move) : Type 0 where
+  pub lists : List (List ℕ)
+  pub fits : Fits (length nodes) lists move
+  pub shown : ShowsLists nodes ends (moved lists move)
+
+-- nodes and ends show the lists before the move, where they showed those after it
+pub record TakesBack (nodes : List Node) (ends : List Ends) (nodes' : List Node) (ends' : List Ends) (move : Move) : Type 0 where
+  pub shows : (lists : List (List ℕ)) → Fits (length nodes) lists move → ShowsLists nodes ends (moved lists move) →
+      ShowsLists nodes' ends' lists
+
+-- each of these moves tells what takes it back
+abbrev pub AllFit : ℕ → List (List ℕ) → List Move → Type 0
+AllFit nodes lists [] = Unit {0}
+AllFit nodes lists (move ∷ moves) = Fits nodes lists move × AllFit nodes (moved lists move) moves
+
+-- what holds of the fields of every `Links`: nodes and ends show the lists that the moves made, each
+-- move can be taken back, and there is memory for the moves that have room
+pub record IsWhole (nodes : List Node) (ends : List Ends) (moves : List Move) (room capacity : ℕ) : Type 0 where
+  pub shown : ShowsLists nodes ends (lists_after (no_lists (length ends)) moves)
+  pub fit : AllFit (length nodes) (no_lists (length ends)) moves
+  pub within : length moves ≤ room
+  pub reserved : room ≤ capacity
+  pub bound : room < 2 ^ 31

@@ -1,0 +1,55 @@
+-- A mask of `len` ones is what lacks a block of that length to all 32 bits.
+use Rattle.std.proofs.Common.{◌≡◌, ℕ, zero, suc, ◌+◌, ◌-◌, ◌*◌, ◌/◌, ◌%◌, ◌^◌, ◌<◌, ◌≤◌, List, arith, sym, ap, subst, Option, Some, None, ⊎_elim, ◌∙◌}
+use Rattle.std.proofs.lemmas.Nat.{pow_pos, pow_below, div-mul-add, mod-mul-add}
+use Rattle.std.proofs.lemmas.Bool.{cases_lt}
+use Rattle.net_addr.specs.AddressWords.{IsAddressWord, IsMask, IsMaskWord}
+use Rattle.net_addr.specs.Readers.{Reads}
+use Rattle.net_addr.proofs.AddressWordFacts.{IsAddressWord-unique}
+use Rattle.net_addr.proofs.BoundaryFacts.{whole_space}
+
+filled : (a n m : ℕ) → 0 < n → 0 < m → a / n ≡ m - 1 → a % n ≡ 0 → a + n ≡ m * n
+filled a n zero pos some ones zeros = absurd (omega arith)
+filled a n (suc k) pos some ones zeros =
+    let quotient : a / n ≡ k = omega arith in let whole : n * (a / n) ≡ n * k = ap (λ (x : ℕ). n * x) quotient in omega arith
+
+unfilled : (a n m : ℕ) → 0 < n → 0 < m → a + n ≡ m * n → (a / n ≡ m - 1) × (a % n ≡ 0)
+unfilled a n zero pos some e = absurd (omega arith)
+unfilled a n (suc k) pos some e =
+    let whole : a ≡ k * n + 0 = omega arith in
+    let quotient : a / n ≡ k = ap (λ (x : ℕ). x / n) whole ∙ div-mul-add k n 0 pos in
+    (omega arith, ap (λ (x : ℕ). x % n) whole ∙ mod-mul-add k n 0 pos)
+
+pub IsMask-sum : (a len : ℕ) → IsMask a len → a + 2 ^ (32 - len) ≡ 2 ^ 32
+IsMask-sum a len mask =
+    filled a (2 ^ (32 - len)) (2 ^ len) (pow_pos (32 - len)) (pow_pos len) mask.ones mask.zeros ∙ whole_space len mask.most
+
+pub IsMask-from_sum : (a len : ℕ) → 1 ≤ len → len ≤ 32 → a + 2 ^ (32 - len) ≡ 2 ^ 32 → IsMask a len
+IsMask-from_sum a len some most e =
+    let parts : (a / 2 ^ (32 - len) ≡ 2 ^ len - 1) × (a % 2 ^ (32 - len) ≡ 0) =
+    unfilled a (2 ^ (32 - len)) (2 ^ len) (pow_pos (32 - len)) (pow_pos len) (e ∙ sym (whole_space len most)) in
+    record { some = some; most = most; ones = parts.0; zeros = parts.1 }
+
+-- a word that is the address a stands for the count of ones of a
+pub Reads-mask : (word : List ℕ) (a : ℕ) (r : Option ℕ) → IsAddressWord word a → Reads r (IsMask a) → Reads r (IsMaskWord word)
+Reads-mask word a None written none = λ len stands.
+    none len (subst (λ (x : ℕ). IsMask x len) (IsAddressWord-unique word stands.address a stands.written written) stands.mask)
+Reads-mask word a (Some len) written mask = record { address = a; written = written; mask = mask }
+
+-- a mask has one count of ones, and a word stands for at most one
+pub IsMask-unique : (a l m : ℕ) → IsMask a l → IsMask a m → l ≡ m
+IsMask-unique a l m x y =
+    let same : 2 ^ (32 - l) ≡ 2 ^ (32 - m) = omega (arith, IsMask-sum a l x, IsMask-sum a m y) in
+    let fits_x : l ≤ 32 = x.most in
+    let fits_y : m ≤ 32 = y.most in
+    ⊎_elim
+    (λ (less : l < m). let wider : 2 ^ (32 - m) < 2 ^ (32 - l) = pow_below (32 - m) (32 - l) (omega arith) in absurd (omega arith))
+    (λ (more : m ≤ l).
+    ⊎_elim
+    (λ (less : m < l). let wider : 2 ^ (32 - l) < 2 ^ (32 - m) = pow_below (32 - l) (32 - m) (omega arith) in absurd (omega arith))
+    (λ (most : l ≤ m). omega arith)
+    (cases_lt m l))
+    (cases_lt l m)
+
+pub IsMaskWord-unique : (word : List ℕ) (l m : ℕ) → IsMaskWord word l → IsMaskWord word m → l ≡ m
+IsMaskWord-unique word l m x y =
+    IsMask-unique y.address l m (subst (λ (a : ℕ). IsMask a l) (IsAddressWord-unique word x.address y.address x.written y.written) x.mask) y.mask

@@ -1,0 +1,74 @@
+-- Which network configurations make, and why they make none.
+use Rattle.std.specs.Prelude.{◌≡◌, ◌≢◌, ℕ, ◌≤◌, ◌<◌, List, length, All, AllPairs, IsPermutation, min}
+use Rattle.std.specs.Cmp.Lexicographic.{slice_cmp}
+use Rattle.std.specs.Ordering.{nat_cmp}
+use Rattle.std.specs.declared.cmp.Ordering.TheVariants.{Less}
+use Rattle.net_model.specs.Configuration.{Configuration, IsConfiguration}
+use Rattle.net_model.specs.Limits.{all_up_interfaces, CountsDests, IsWithinLimits}
+use Rattle.net_model.specs.Lookups.{IsNamed}
+use Rattle.net_model.specs.Network.{Network}
+use Rattle.net_model.specs.declared.refusal.LimitWhat.TheVariants.{Routers, Interfaces, Dests}
+use Rattle.net_model.specs.declared.refusal.NetRefusal.{NetRefusal}
+use Rattle.net_model.specs.declared.refusal.NetRefusal.TheVariants.{Limit, TwoNames, OutOfMemory}
+
+-- byte order of names
+abbrev pub IsBelow : List ℕ → List ℕ → Type 0
+IsBelow a b = slice_cmp nat_cmp a b ≡ Less
+
+-- the names of the routers ascend, so no two are alike
+abbrev pub NamesAscend : Network → Type 0
+NamesAscend net = AllPairs (λ (c d : Configuration). IsBelow c.name d.name) net
+
+-- the network of configurations has the same ones, in byte order of their names
+pub record IsNetworkOf (configs : List Configuration) (net : Network) : Type 0 where
+  pub same : IsPermutation configs net
+  pub ascending : NamesAscend net
+
+-- configurations make a network: they are within the limits, and no two of them have one name
+pub record MakeNetwork (configs : List Configuration) (net : Network) : Type 0 where
+  pub limits : IsWithinLimits configs
+  pub network : IsNetworkOf configs net
+
+-- what every network keeps
+pub record IsNetwork (net : Network) : Type 0 where
+  pub limits : IsWithinLimits net
+  pub ascending : NamesAscend net
+  pub configurations : All IsConfiguration net
+
+-- a count as a refusal carries it: the greatest number of 64 bits stands for all above
+abbrev pub carried : ℕ → ℕ
+carried count = min count 18446744073709551615
+
+-- a count is above its limit, and the refusal carries it
+pub record IsAbove (most count number : ℕ) : Type 0 where
+  pub above : most < count
+  pub number_is : number ≡ carried count
+
+-- the configurations name more than 4,096 prefixes, and the refusal carries how many
+pub record NameTooMany (configs : List Configuration) (number : ℕ) : Type 0 where
+  pub dests : ℕ
+  pub counted : CountsDests configs dests
+  pub above : IsAbove 4096 dests number
+
+-- two configurations have this name
+pub record TwoHaveName (configs : List Configuration) (name : List ℕ) : Type 0 where
+  pub one : ℕ
+  pub two : ℕ
+  pub apart : one ≢ two
+  pub first : IsNamed configs name one
+  pub second : IsNamed configs name two
+
+-- the least name that two configurations have
+pub record IsLeastDouble (configs : List Configuration) (name : List ℕ) : Type 0 where
+  pub double : TwoHaveName configs name
+  pub least : (other : List ℕ) → TwoHaveName configs other → IsBelow other name → ⊥
+
+-- when each refusal comes: its condition holds, and none of those above it
+abbrev pub Refuses : NetRefusal → List Configuration → Type 0
+Refuses (Limit Routers number) configs = IsAbove 200 (length configs) number
+Refuses (Limit Interfaces number) configs =
+    (length configs ≤ 200) × IsAbove 2000 (all_up_interfaces configs) number
+Refuses (Limit Dests number) configs =
+    (length configs ≤ 200) × (all_up_interfaces configs ≤ 2000) × NameTooMany configs number
+Refuses (TwoNames name) configs = IsWithinLimits configs × IsLeastDouble configs name
+Refuses OutOfMemory configs = Unit {0}

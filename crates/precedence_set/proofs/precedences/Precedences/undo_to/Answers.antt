@@ -1,0 +1,28 @@
+-- Fewer pairs are of the same routers, and have no cycle either.
+use Rattle.std.proofs.Common.{◌≤◌, ◌<◌, ◌≡◌, List, length, take, arith, subst, ap}
+use Rattle.std.proofs.lemmas.List.{take-take, length-take-le}
+use Rattle.std.proofs.lemmas.List.Elements.{All-take}
+use Rattle.precedence_set.specs.Pairs.{Pair, AreBelow, HasNoCycle}
+use Rattle.precedence_set.specs.Assumed.{Assumed}
+use Rattle.precedence_set.proofs.Paths.{HasNoCycle-take}
+use Rattle.precedence_set.proofs.precedences.Precedences.undo_to.Goals as goal
+
+pub invariant_of-self : goal.invariant_of-self
+invariant_of-self c =
+    let a = c.self.inside in
+    let old = c.self.invariant in
+    let counted : length (take a.count a.room.items) ≡ a.count = length-take-le a.count a.room.items (omega (arith, old.counted, a.room.ok.0)) in
+    let le : c.args.mark ≤ a.count = omega (arith, c.requires, counted, ap (λ (x : Assumed). length x.pairs) c.self.view_is) in
+    let e = take-take c.args.mark a.count a.room.items le in
+    record {
+      few = old.few;
+      counted = omega (arith, le, old.counted);
+      bounded = old.bounded;
+      earlier_length = old.earlier_length;
+      cycle_length = old.cycle_length;
+      cycle_counted = old.cycle_counted;
+      waits_length = old.waits_length;
+      marks_length = old.marks_length;
+      below = subst (λ (xs : List Pair). AreBelow a.routers xs) e (All-take (λ (p : Pair). (p.0 < a.routers) × (p.1 < a.routers)) c.args.mark (take a.count a.room.items) old.below);
+      acyclic = subst (λ (xs : List Pair). HasNoCycle xs) e (HasNoCycle-take (take a.count a.room.items) c.args.mark old.acyclic);
+    }

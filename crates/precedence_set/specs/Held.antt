@@ -1,0 +1,27 @@
+-- How the fields of `Precedences` hold the assumed pairs.
+use Rattle.std.specs.Prelude.{◌≡◌, ◌-◌, ◌≤◌, take, vec_len}
+use Rattle.precedence_set.specs.Pairs.{AreBelow, HasNoCycle}
+use Rattle.precedence_set.specs.Assumed.{Assumed}
+use Rattle.precedence_set.specs.declared.precedences.Precedences.TheInside.{Inside}
+
+-- the pairs are the first ones of the room, and the cycle the first routers of its room
+abbrev pub assumed_of : Inside → Assumed
+assumed_of a = record {
+  routers = a.routers;
+  pairs = take a.count a.room.items;
+  cycle = take a.cycle_count a.cycle_room.items;
+  spare = vec_len a.room - a.count;
+}
+
+-- the counts are within their rooms, each room has its size, and the pairs have no cycle
+pub record IsSettled (a : Inside) : Type 0 where
+  pub few : a.routers ≤ 1000
+  pub counted : a.count ≤ vec_len a.room
+  pub bounded : vec_len a.room ≤ 1000000
+  pub earlier_length : vec_len a.room ≤ vec_len a.earlier
+  pub cycle_length : vec_len a.cycle_room ≡ a.routers
+  pub cycle_counted : a.cycle_count ≤ a.routers
+  pub waits_length : vec_len a.waits ≡ a.routers
+  pub marks_length : vec_len a.marks ≡ a.routers
+  pub below : AreBelow a.routers (take a.count a.room.items)
+  pub acyclic : HasNoCycle (take a.count a.room.items)

@@ -1,0 +1,13 @@
+//! Assumed precedences between routers: the cycle that a new one closes, and the least order that keeps them all.
+#![tactic(auto)]
+
+mod placing;
+mod precedences;
+mod reaching;
+mod tracing;
+
+pub use precedences::{Added, Precedences};
+pub use std::alloc::AllocError as OutOfMemory;
+
+#[cfg(test)]
+mod tests;

@@ -1,0 +1,172 @@
+ghost use Rattle.std.specs.Prelude.{◌≡◌, ◌≢◌, ◌+◌, ◌-◌, ◌<◌, ◌≤◌, ◌↔◌, [], ◌∷◌, ◌++◌, length, take, IfOk, OnOk, vec_len};
+ghost use Rattle.precedence_set.specs.Pairs.{AreBelow, HasNoCycle, Leads};
+ghost use Rattle.precedence_set.specs.LeastExtension.{IsLeastExtension};
+ghost use Rattle.precedence_set.specs.LeastCycle.{IsLeastCycle};
+
+use crate::placing::place_all;
+use crate::tracing::closed_cycle;
+use std::alloc::{AllocError, Global};
+use std::marker::Model;
+
+/// What came of a pair that was to be assumed.
+#[derive(Clone, Copy, Debug, PartialEq, Eq)]
+pub enum Added {
+    /// It is assumed now.
+    Kept,
+    /// It would close a cycle, and isn't assumed.
+    Closes,
+}
+
+/// Pairs of routers "u before v", assumed one after another and taken back in the reverse order. They
+/// never have a cycle.
+#[derive(Drop)]
+pub struct Precedences {
+    routers: u32,
+    /// How many pairs are assumed: the first ones of `room`.
+    count: usize,
+    room: Vec<(u32, u32)>,
+    /// The cycle of the latest pair that closed one: the first `cycle_count` routers of `cycle_room`.
+    cycle_count: usize,
+    cycle_room: Vec<u32>,
+    /// Room to work in: one for each pair, one for each router, one mark for each router.
+    earlier: Vec<u32>,
+    waits: Vec<u32>,
+    marks: Vec<bool>,
+}
+
+impl Model for Precedences {
+    ghost use Rattle.precedence_set.specs.Assumed.{Assumed};
+
+    ghost Value = { Assumed };
+
+    ghost use Rattle.precedence_set.specs.Held.{assumed_of, IsSettled};
+
+    ghost view = { assumed_of };
+
+    ghost invariant = { IsSettled };
+}
+
+impl Precedences {
+    /// No pair among this many routers.
+    pub fn new(alloc: Global, routers: u32) -> Result<Precedences, AllocError>
+        requires { routers ≤ 1000 }
+        ensures routers { IfOk result (λ p. p.routers ≡ routers) }
+        ensures pairs { IfOk result (λ p. p.pairs ≡ []) }
+        ensures cycle { IfOk result (λ p. p.cycle ≡ []) }
+    {
+        let each = routers as usize;
+        Ok(Precedences {
+            routers,
+            count: 0,
+            room: Vec::new(alloc),
+            cycle_count: 0,
+            cycle_room: vec![in alloc; 0; each]?,
+            earlier: Vec::new(alloc),
+            waits: vec![in alloc; 0; each]?,
+            marks: vec![in alloc; false; each]?,
+        })
+    }
+
+    /// Makes room for so many more pairs.
+    pub fn reserve(&mut self, pairs: u32) -> Result<(), AllocError>
+        requires { length self.old.pairs + pairs ≤ 1000000 }
+        ensures room { OnOk result (pairs ≤ self.new.spare) }
+        ensures no_less { self.old.spare ≤ self.new.spare }
+        ensures same { self.new ≡ record self.old { spare = self.new.spare } }
+    {
+        let wanted = self.count + pairs as usize;
+        widen(&mut self.earlier, &mut self.room, wanted)
+    }
+
+    /// Assumes "u before v", unless that would close a cycle: then only `cycle` changes.
+    pub fn add(&mut self, u: u32, v: u32) -> Added
+        requires u_in { u < self.old.routers }
+        requires v_in { v < self.old.routers }
+        requires differ { u ≢ v }
+        requires room { 1 ≤ self.old.spare }
+        ensures closes { (result ≡ Added.Closes) ↔ Leads self.old.pairs v u }
+        ensures kept { result ≡ Added.Kept
+            → self.new ≡ record self.old { pairs = self.old.pairs ++ (u, v) ∷ []; spare = self.old.spare - 1 } }
+        ensures same { result ≡ Added.Closes → self.new ≡ record self.old { cycle = self.new.cycle } }
+        ensures cycle { result ≡ Added.Closes → IsLeastCycle self.old.pairs u v self.new.cycle }
+    {
+        let pairs = &self.room[..self.count];
+        match closed_cycle(pairs, u, v, &mut self.marks, &mut self.cycle_room) {
+            Some(count) => {
+                self.cycle_count = count;
+                Added::Closes
+            }
+            None => {
+                self.room[self.count] = (u, v);
+                self.count += 1;
+                Added::Kept
+            }
+        }
+    }
+
+    /// The cycle of the latest pair that closed one; empty before the first.
+    pub fn cycle(&self) -> &[u32]
+        ensures { result.now ≡ self.now.cycle }
+    {
+        &self.cycle_room[..self.cycle_count]
+    }
+
+    /// How many pairs are assumed.
+    pub fn mark(&self) -> u32
+        ensures { result ≡ length self.now.pairs }
+    {
+        self.count as u32
+    }
+
+    /// Takes back all pairs but the first `mark`; there is room for them again.
+    pub fn undo_to(&mut self, mark: u32)
+        requires { mark ≤ length self.old.pairs }
+        ensures { self.new ≡ record self.old {
+          pairs = take mark self.old.pairs;
+          spare = self.old.spare + (length self.old.pairs - mark);
+        } }
+    {
+        self.count = mark as usize;
+    }
+
+    /// Writes the order that places each time the lowest-numbered router whose predecessors are placed.
+    pub fn least_extension(&mut self, out: &mut [u32])
+        requires { length out.old ≡ self.old.routers }
+        ensures least { IsLeastExtension self.old.routers self.old.pairs out.new }
+        ensures same { self.new ≡ self.old }
+        ensures acyclic { HasNoCycle self.old.pairs }
+        ensures below { AreBelow self.old.routers self.old.pairs }
+    {
+        place_all(
+            &self.room[..self.count],
+            &mut self.waits,
+            &mut self.earlier,
+            &mut self.marks,
+            out,
+        );
+    }
+}
+
+/// Lengthens both vectors to this length at least, the first one first.
+fn widen(
+    earlier: &mut Vec<u32>,
+    room: &mut Vec<(u32, u32)>,
+    wanted: usize,
+) -> Result<(), AllocError>
+    requires ahead { vec_len room.old ≤ vec_len earlier.old }
+    requires bound { vec_len room.old ≤ 1000000 }
+    requires small { wanted ≤ 1000000 }
+    ensures ahead { vec_len room.new ≤ vec_len earlier.new }
+    ensures bound { vec_len room.new ≤ 1000000 }
+    ensures enough { OnOk result (wanted ≤ vec_len room.new) }
+    ensures no_less { vec_len room.old ≤ vec_len room.new }
+    ensures kept { take (vec_len room.old) room.new.items ≡ room.old.items }
+{
+    while earlier.len() < wanted {
+        earlier.push(0)?;
+    }
+    while room.len() < wanted {
+        room.push((0, 0))?;
+    }
+    Ok(())
+}
