@@ -1,5 +1,5 @@
 -- Laws of counts of faults, and of pieces written one after another.
-use Rattle.std.proofs.Common.{◌≡◌, ℕ, ◌+◌, ◌<◌, ◌≤◌, ◌⊎◌, inl, inr, List, [], ◌++◌, Option, Some, None, append_assoc, append-nil, arith, ap, ◌∙◌, sym, subst}
+use Rattle.std.proofs.Common.{◌≡◌, ℕ, ◌≤◌, inl, inr, List, [], ◌++◌, Option, Some, None, append_assoc, append-nil, arith, ap, ◌∙◌, sym}
 use Rattle.std.proofs.lemmas.Bool.{cases_lt}
 use Rattle.store_edge.specs.Faults.{Rose}
 use Rattle.store_edge.specs.Sink.{Adds, AddsFront}

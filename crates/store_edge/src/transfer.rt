@@ -1,4 +1,4 @@
-ghost use Rattle.std.specs.Prelude.{◌≡◌, ◌<◌, ◌≤◌, [], length, take, IfOk, IfSome, OnOk, OnErr, IsOk};
+ghost use Rattle.std.specs.Prelude.{◌≡◌, ◌<◌, ◌≤◌, length, take, IfOk, IfSome, OnOk, OnErr};
 ghost use Rattle.std.specs.Io.KnownBytes.{Appends, Keeps};
 ghost use Rattle.store_edge.specs.Transfer.{AppendsFront, Takes};
 
@@ -45,7 +45,6 @@ fn read_some<F: Read>(file: &mut F, bytes: &mut Vec<u8>, left: u64) -> Result<u6
 pub fn write_whole<W: Write>(writer: &mut W, piece: &[u8]) -> Result<(), Failed>
     ensures ok { OnOk result (Appends (W.contents writer.old) (W.contents writer.new) piece.now) }
     ensures cut { OnErr result (AppendsFront (W.contents writer.old) (W.contents writer.new) piece.now) }
-    ensures empty { piece.now ≡ [] → IsOk result }
 {
     let mut done = 0;
     while done < piece.len() {
