@@ -6,7 +6,7 @@ use Rattle.link_trail.proofs.ListLemmas.{free-before, free-none}
 use Rattle.link_trail.specs.declared.chain.Node.{Node}
 use Rattle.link_trail.specs.declared.chain.Ends.{Ends}
 use Rattle.link_trail.specs.Lists.{first_of, first_or, IsFree, list_at}
-use Rattle.link_trail.specs.Chains.{free_node, node_at, ends_at, last_or, last_of, IsNoneOf, IsDistinct, AreChained, Shows, Show, with_next, with_previous, with_first, with_last}
+use Rattle.link_trail.specs.Chains.{free_node, node_at, ends_at, last_or, last_of, IsNoneOf, IsDistinct, AreChained, ShowsList, ShowsLists, with_next, with_previous, with_first, with_last}
 use Rattle.link_trail.proofs.ChainLemmas.{first-append, last-append, none-append, none-put, none-out, distinct-left, distinct-right, distinct-put, distinct-out, last-apart, first-apart, none-last, none-first, last-list, first-list, other-list, linked-in_range, next-other, previous-other, length-next, length-previous, chained-set, chained-next, chained-previous, chained-left, chained-right, chained-join, chained-onward, chained-origin, ends-first, ends-last, first-other, last-other, length-first, length-last}
 
 -- the nodes once both neighbours and the node itself are written
@@ -92,22 +92,22 @@ elsewhere nodes list other xs z ne h e =
     other-list nodes other None xs None h z (λ e'. ne (let q : other ≡ list = cc in q))
 
 -- what is shown once one list has changed
-pub Show-changed : (nodes nodes' : List Node) (ends ends' : List Ends) (lists : List (List ℕ)) (list : ℕ) (xs : List ℕ) →
-    Show nodes ends lists → list < length lists → length ends' ≡ length ends →
-    Shows nodes' list (ends_at ends' list) xs →
+pub ShowsLists-changed : (nodes nodes' : List Node) (ends ends' : List Ends) (lists : List (List ℕ)) (list : ℕ) (xs : List ℕ) →
+    ShowsLists nodes ends lists → list < length lists → length ends' ≡ length ends →
+    ShowsList nodes' list (ends_at ends' list) xs →
     ((other : ℕ) → other ≢ list → other < length lists → AreChained nodes' other None (list_at lists other) None) →
     ((other : ℕ) → other ≢ list → ends_at ends' other ≡ ends_at ends other) →
     ((z : ℕ) → IsFree (set lists list xs) z → node_at nodes' z ≡ free_node) →
-    Show nodes' ends' (set lists list xs)
-Show-changed nodes nodes' ends ends' lists list xs shows l count here chained others free = record {
+    ShowsLists nodes' ends' (set lists list xs)
+ShowsLists-changed nodes nodes' ends ends' lists list xs shows l count here chained others free = record {
   count = count ∙ shows.count ∙ sym (length-set lists list xs);
   each = λ other lo. ⊎_elim
-      (λ (e : other ≡ list). subst (λ k. Shows nodes' k (ends_at ends' k) (list_at (set lists list xs) k)) (sym e)
-      (subst (λ ys. Shows nodes' list (ends_at ends' list) ys) (sym (get_or-set_same lists list xs [] l)) here))
+      (λ (e : other ≡ list). subst (λ k. ShowsList nodes' k (ends_at ends' k) (list_at (set lists list xs) k)) (sym e)
+      (subst (λ ys. ShowsList nodes' list (ends_at ends' list) ys) (sym (get_or-set_same lists list xs [] l)) here))
       (λ (ne : other ≢ list).
       let lo' : other < length lists = omega (arith, length-set lists list xs) in
       let s = shows.each other lo' in
-      subst (λ ys. Shows nodes' other (ends_at ends' other) ys) (sym (get_or-set_other lists list other xs [] ne))
+      subst (λ ys. ShowsList nodes' other (ends_at ends' other) ys) (sym (get_or-set_other lists list other xs [] ne))
       (record {
         chained = chained other ne lo';
         distinct = s.distinct;
@@ -119,29 +119,29 @@ Show-changed nodes nodes' ends ends' lists list xs shows l count here chained ot
 }
 
 -- what the node of a list holds
-pub Show-node : (nodes : List Node) (ends : List Ends) (lists : List (List ℕ)) (list node : ℕ) (before after : List ℕ) →
-    Show nodes ends lists → list_at lists list ≡ before ++ node ∷ after → list < length lists →
+pub ShowsLists-node : (nodes : List Node) (ends : List Ends) (lists : List (List ℕ)) (list node : ℕ) (before after : List ℕ) →
+    ShowsLists nodes ends lists → list_at lists list ≡ before ++ node ∷ after → list < length lists →
     node_at nodes node ≡ record { list = Some list; previous = last_of before; next = first_of after }
-Show-node nodes ends lists list node before after shows is l =
+ShowsLists-node nodes ends lists list node before after shows is l =
     let s : AreChained nodes list None (before ++ node ∷ after) None =
     subst (λ ys. AreChained nodes list None ys None) is (shows.each list l).chained in
     (chained-right nodes list None before (node ∷ after) None s).0
 
 -- a node between two neighbours
-pub Show-put : (nodes : List Node) (ends : List Ends) (lists : List (List ℕ)) (list node : ℕ) (before after : List ℕ) →
-    Show nodes ends lists → IsFree lists node → list_at lists list ≡ before ++ after →
+pub ShowsLists-put : (nodes : List Node) (ends : List Ends) (lists : List (List ℕ)) (list node : ℕ) (before after : List ℕ) →
+    ShowsLists nodes ends lists → IsFree lists node → list_at lists list ≡ before ++ after →
     list < length ends → node < length nodes →
-    Show (spliced nodes (last_of before) (Some node) (first_of after) (Some node) node
+    ShowsLists (spliced nodes (last_of before) (Some node) (first_of after) (Some node) node
     (record { list = Some list; previous = last_of before; next = first_of after }))
     (ends_written ends list before after (Some node) (Some node))
     (set lists list (before ++ node ∷ after))
-Show-put nodes ends lists list node before after shows free is l n =
+ShowsLists-put nodes ends lists list node before after shows free is l n =
     let v : Node = record { list = Some list; previous = last_of before; next = first_of after } in
     let nodes' : List Node = spliced nodes (last_of before) (Some node) (first_of after) (Some node) node v in
     let ends' : List Ends = ends_written ends list before after (Some node) (Some node) in
     let ll : list < length lists = omega (arith, shows.count) in
-    let s : Shows nodes list (ends_at ends list) (before ++ after) =
-    subst (λ ys. Shows nodes list (ends_at ends list) ys) is (shows.each list ll) in
+    let s : ShowsList nodes list (ends_at ends list) (before ++ after) =
+    subst (λ ys. ShowsList nodes list (ends_at ends list) ys) is (shows.each list ll) in
     let none : IsNoneOf node (before ++ after) = subst (λ ys. IsNoneOf node ys) is (free-none lists node list free ll) in
     let parts = none-append node before after none in
     let front = chained-left nodes list None before after None s.chained in
@@ -152,7 +152,7 @@ Show-put nodes ends lists list node before after shows free is l n =
     first-list nodes list (last_of before) after None back in
     let e = ends_written-same ends list before after (Some node) (Some node) (first_or after None) (last_of before) l
     (s.first ∙ first-append before after None) (s.last ∙ last-append None before after) in
-    Show-changed nodes nodes' ends ends' lists list (before ++ node ∷ after) shows ll
+    ShowsLists-changed nodes nodes' ends ends' lists list (before ++ node ∷ after) shows ll
     (length-ends_written ends list before after (Some node) (Some node))
     (record {
       chained = chained-join nodes' list None before (node ∷ after) None
@@ -182,17 +182,17 @@ Show-put nodes ends lists list node before after shows free is l n =
     ∙ shows.free z (free-before lists z list (before ++ node ∷ after) fz (subst (λ ys. IsNoneOf z ys) (sym is) o.0)))
 
 -- the two neighbours without the node between them
-pub Show-out : (nodes : List Node) (ends : List Ends) (lists : List (List ℕ)) (list node : ℕ) (before after : List ℕ) →
-    Show nodes ends lists → list_at lists list ≡ before ++ node ∷ after → list < length ends →
-    Show (spliced nodes (last_of before) (first_of after) (first_of after) (last_of before) node free_node)
+pub ShowsLists-out : (nodes : List Node) (ends : List Ends) (lists : List (List ℕ)) (list node : ℕ) (before after : List ℕ) →
+    ShowsLists nodes ends lists → list_at lists list ≡ before ++ node ∷ after → list < length ends →
+    ShowsLists (spliced nodes (last_of before) (first_of after) (first_of after) (last_of before) node free_node)
     (ends_written ends list before after (first_of after) (last_of before))
     (set lists list (before ++ after))
-Show-out nodes ends lists list node before after shows is l =
+ShowsLists-out nodes ends lists list node before after shows is l =
     let nodes' : List Node = spliced nodes (last_of before) (first_of after) (first_of after) (last_of before) node free_node in
     let ends' : List Ends = ends_written ends list before after (first_of after) (last_of before) in
     let ll : list < length lists = omega (arith, shows.count) in
-    let s : Shows nodes list (ends_at ends list) (before ++ node ∷ after) =
-    subst (λ ys. Shows nodes list (ends_at ends list) ys) is (shows.each list ll) in
+    let s : ShowsList nodes list (ends_at ends list) (before ++ node ∷ after) =
+    subst (λ ys. ShowsList nodes list (ends_at ends list) ys) is (shows.each list ll) in
     let d = distinct-out node before after s.distinct in
     let parts = none-append node before after d.1 in
     let front = chained-left nodes list None before (node ∷ after) None s.chained in
@@ -204,7 +204,7 @@ Show-out nodes ends lists list node before after shows is l =
     first-list nodes list (Some node) after None back.1 in
     let e = ends_written-same ends list before after (first_of after) (last_of before) (Some node) (Some node) l
     (s.first ∙ first-append before (node ∷ after) None) (s.last ∙ last-append None before (node ∷ after)) in
-    Show-changed nodes nodes' ends ends' lists list (before ++ after) shows ll
+    ShowsLists-changed nodes nodes' ends ends' lists list (before ++ after) shows ll
     (length-ends_written ends list before after (first_of after) (last_of before))
     (record {
       chained = chained-join nodes' list None before after None

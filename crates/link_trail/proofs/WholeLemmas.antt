@@ -9,10 +9,10 @@ use Rattle.link_trail.specs.declared.chain.Ends.{Ends}
 use Rattle.link_trail.specs.declared.moves.Move.{Move}
 use Rattle.link_trail.specs.declared.moves.Move.TheVariants.{Linked, Unlinked}
 use Rattle.link_trail.specs.Lists.{first_of, first_or, IsApart, IsFree, IsLinked, linked, list_at, unlinked}
-use Rattle.link_trail.specs.Chains.{free_node, node_at, ends_at, last_of, next_after, AreChained, IsDistinct, Show, PutsBetween, TakesOut}
+use Rattle.link_trail.specs.Chains.{free_node, node_at, ends_at, last_of, next_after, AreChained, IsDistinct, ShowsLists, PutsBetween, TakesOut}
 use Rattle.link_trail.specs.Moves.{lists_after, no_lists, StoodAfter, IsWhole, IsLatest, TakesBack}
 use Rattle.link_trail.proofs.ChainLemmas.{distinct-out, last-list, first-list, linked-in_range, chained-left, chained-right, last-some}
-use Rattle.link_trail.proofs.SpliceLemmas.{elsewhere, Show-node}
+use Rattle.link_trail.proofs.SpliceLemmas.{elsewhere, ShowsLists-node}
 use Rattle.link_trail.proofs.MoveLemmas.{after-more, fit-more, fit-front, fit-last, fit-wider, last-next}
 
 set-set : {A : Type 0} (xs : List A) (i : ℕ) (a b : A) → set (set xs i a) i b ≡ set xs i b
@@ -30,7 +30,7 @@ read xs i r d l e = get_or_default xs i d r l ∙ sym e
 
 -- the neighbours of a node are nodes
 pub previous-in_range : (nodes : List Node) (ends : List Ends) (lists : List (List ℕ)) (list : ℕ) (before after : List ℕ) →
-    Show nodes ends lists → list_at lists list ≡ before ++ after → list < length lists →
+    ShowsLists nodes ends lists → list_at lists list ≡ before ++ after → list < length lists →
     (p : ℕ) → last_of before ≡ Some p → p < length nodes
 previous-in_range nodes ends lists list before after shows is l p e =
     let s = subst (λ ys. AreChained nodes list None ys None) is (shows.each list l).chained in
@@ -38,7 +38,7 @@ previous-in_range nodes ends lists list before after shows is l p e =
     (last-list nodes list None before (first_or after None) (chained-left nodes list None before after None s) p e)
 
 pub next-in_range : (nodes : List Node) (ends : List Ends) (lists : List (List ℕ)) (list : ℕ) (before after : List ℕ) →
-    Show nodes ends lists → list_at lists list ≡ before ++ after → list < length lists →
+    ShowsLists nodes ends lists → list_at lists list ≡ before ++ after → list < length lists →
     (n : ℕ) → first_of after ≡ Some n → n < length nodes
 next-in_range nodes ends lists list before after shows is l n e =
     let s = subst (λ ys. AreChained nodes list None ys None) is (shows.each list l).chained in
@@ -47,7 +47,7 @@ next-in_range nodes ends lists list before after shows is l n e =
 
 -- the node after a place between two neighbours
 pub next_after-is : (nodes : List Node) (ends : List Ends) (lists : List (List ℕ)) (list : ℕ) (before after : List ℕ) →
-    Show nodes ends lists → list_at lists list ≡ before ++ after → list < length lists →
+    ShowsLists nodes ends lists → list_at lists list ≡ before ++ after → list < length lists →
     next_after nodes ends list (last_of before) ≡ first_of after
 next_after-is nodes ends lists list [] after shows is l = (shows.each list l).first ∙ ap first_of is
 next_after-is nodes ends lists list (x ∷ before) after shows is l =
@@ -69,9 +69,9 @@ pub record Stands (nodes : List Node) (ends : List Ends) (lists : List (List ℕ
   pub alone : unlinked lists node ≡ set lists list (before ++ after)
 
 pub stands-at : (nodes : List Node) (ends : List Ends) (lists : List (List ℕ)) (node list : ℕ) (before after : List ℕ) →
-    Show nodes ends lists → list < length lists → list_at lists list ≡ before ++ node ∷ after → Stands nodes ends lists node
+    ShowsLists nodes ends lists → list < length lists → list_at lists list ≡ before ++ node ∷ after → Stands nodes ends lists node
 stands-at nodes ends lists node list before after shows l stood =
-    let is = Show-node nodes ends lists list node before after shows stood l in
+    let is = ShowsLists-node nodes ends lists list node before after shows stood l in
     let own : (node_at nodes node).list ≡ Some list = ap (λ (n : Node). n.list) is in
     record {
       list = list;
@@ -87,21 +87,21 @@ stands-at nodes ends lists node list before after shows l stood =
     }
 
 pub stands : (nodes : List Node) (ends : List Ends) (lists : List (List ℕ)) (node : ℕ) →
-    Show nodes ends lists → IsLinked lists node → Stands nodes ends lists node
+    ShowsLists nodes ends lists → IsLinked lists node → Stands nodes ends lists node
 stands nodes ends lists node shows linked =
     let parts = parts-at node (list_at lists linked.0) linked.2 in
     stands-at nodes ends lists node linked.0 parts.0 parts.1 shows linked.1 parts.2
 
 -- the list that a node knows is the one that contains it
-stands-list : (nodes : List Node) (ends : List Ends) (lists : List (List ℕ)) (node list : ℕ) → Show nodes ends lists →
+stands-list : (nodes : List Node) (ends : List Ends) (lists : List (List ℕ)) (node list : ℕ) → ShowsLists nodes ends lists →
     list < length lists → Contains (list_at lists list) node → (node_at nodes node).list ≡ Some list
 stands-list nodes ends lists node list shows l here =
     let parts = parts-at node (list_at lists list) here in
-    ap (λ (n : Node). n.list) (Show-node nodes ends lists list node parts.0 parts.1 shows parts.2 l)
+    ap (λ (n : Node). n.list) (ShowsLists-node nodes ends lists list node parts.0 parts.1 shows parts.2 l)
 
 -- no node is shown twice
-pub Show-apart : (nodes : List Node) (ends : List Ends) (lists : List (List ℕ)) → Show nodes ends lists → IsApart lists
-Show-apart nodes ends lists shows = record {
+pub ShowsLists-apart : (nodes : List Node) (ends : List Ends) (lists : List (List ℕ)) → ShowsLists nodes ends lists → IsApart lists
+ShowsLists-apart nodes ends lists shows = record {
   one_list = λ node list other l lo here there.
       let at : Some list ≡ Some other =
       sym (stands-list nodes ends lists node list shows l here)
@@ -121,7 +121,7 @@ whole-linked nodes nodes' ends ends' moves room capacity capacity' list node who
     let start = no_lists (length ends) in
     let lists = lists_after start moves in
     let ll : list < length lists = omega (arith, whole.shown.count) in
-    let shown : Show nodes' ends' (linked lists list node) =
+    let shown : ShowsLists nodes' ends' (linked lists list node) =
     puts.shows lists (list_at lists list) [] whole.shown free (sym (append-nil (list_at lists list)))
     (sym (whole.shown.each list ll).last) refl in
     record {
@@ -147,8 +147,8 @@ whole-unlinked nodes nodes' ends ends' moves room capacity capacity' list node p
     let same : s.list ≡ list = (let e : Some s.list ≡ Some list = sym (ap (λ (n : Node). n.list) s.is) ∙ own in cc) in
     let stood : list_at lists list ≡ s.before ++ node ∷ s.after = subst (λ k. list_at lists k ≡ s.before ++ node ∷ s.after) same s.stood in
     let alone : unlinked lists node ≡ set lists list (s.before ++ s.after) = subst (λ k. unlinked lists node ≡ set lists k (s.before ++ s.after)) same s.alone in
-    let shown : Show nodes' ends' (unlinked lists node) =
-    subst (λ ls. Show nodes' ends' ls) (sym alone) (takes.shows lists s.before s.after whole.shown stood) in
+    let shown : ShowsLists nodes' ends' (unlinked lists node) =
+    subst (λ ls. ShowsLists nodes' ends' ls) (sym alone) (takes.shows lists s.before s.after whole.shown stood) in
     let fits : StoodAfter (length nodes) lists list node previous = record {
       before = s.before;
       after = s.after;
@@ -172,7 +172,7 @@ pub take_back-linked : (nodes nodes' : List Node) (ends ends' : List Ends) (list
 take_back-linked nodes nodes' ends ends' list node takes = record {
   shows = λ lists l shown.
       let last : List ℕ = list_at lists list ++ node ∷ [] in
-      subst (λ ls. Show nodes' ends' ls)
+      subst (λ ls. ShowsLists nodes' ends' ls)
       (set-set lists list last (list_at lists list ++ [])
       ∙ ap (λ ys. set lists list ys) (append-nil (list_at lists list)) ∙ set-get_or lists list [])
       (takes.shows (linked lists list node) (list_at lists list) [] shown (get_or-set_same lists list last [] l));
@@ -185,14 +185,14 @@ pub take_back-unlinked : (nodes nodes' : List Node) (ends ends' : List Ends) (li
 take_back-unlinked nodes nodes' ends ends' list node previous next en puts = record {
   shows = λ lists f shown.
       let rest : List ℕ = f.before ++ f.after in
-      let shown' : Show nodes ends (set lists list rest) = subst (λ ls. Show nodes ends ls) f.alone shown in
+      let shown' : ShowsLists nodes ends (set lists list rest) = subst (λ ls. ShowsLists nodes ends ls) f.alone shown in
       let free : IsFree (set lists list rest) node = subst (λ ls. IsFree ls node) f.alone (unlinked-free lists node) in
       let here : list_at (set lists list rest) list ≡ rest = get_or-set_same lists list rest [] f.list_in_range in
       let l : list < length (set lists list rest) = omega (arith, f.list_in_range, length-set lists list rest) in
       let first : first_of f.after ≡ next =
       sym (next_after-is nodes ends (set lists list rest) list f.before f.after shown' here l)
       ∙ ap (λ o. next_after nodes ends list o) f.follows ∙ sym en in
-      subst (λ ls. Show nodes' ends' ls)
+      subst (λ ls. ShowsLists nodes' ends' ls)
       (set-set lists list rest (f.before ++ node ∷ f.after)
       ∙ ap (λ ys. set lists list ys) (sym f.stood) ∙ set-get_or lists list [])
       (puts.shows (set lists list rest) f.before f.after shown' free here f.follows first);
@@ -207,7 +207,7 @@ latest nodes ends all moves move room capacity e w =
     record {
       lists = lists_after start moves;
       fits = fit-last (length nodes) start moves move whole.fit;
-      shown = subst (λ ls. Show nodes ends ls) (after-more start moves move) whole.shown;
+      shown = subst (λ ls. ShowsLists nodes ends ls) (after-more start moves move) whole.shown;
     }
 
 pub whole-back : (nodes nodes' : List Node) (ends ends' : List Ends) (all moves : List Move) (move : Move) (room capacity capacity' : ℕ) →
@@ -218,7 +218,7 @@ whole-back nodes nodes' ends ends' all moves move room capacity capacity' e w ba
     let start = no_lists (length ends) in
     record {
       shown = rw le (back.shows (lists_after start moves) (fit-last (length nodes) start moves move whole.fit)
-          (subst (λ ls. Show nodes ends ls) (after-more start moves move) whole.shown));
+          (subst (λ ls. ShowsLists nodes ends ls) (after-more start moves move) whole.shown));
       fit = rw (le, ln) (fit-front (length nodes) start moves move whole.fit);
       within = omega (arith, whole.within, length-append moves (move ∷ []));
       reserved = omega (arith, whole.reserved);
@@ -233,9 +233,9 @@ pub record IsPlaced (nodes : List Node) (ends : List Ends) (list node : ℕ) : T
   pub next_in_range : (n : ℕ) → (node_at nodes node).next ≡ Some n → n < length nodes
 
 pub placed-at : (nodes : List Node) (ends : List Ends) (lists : List (List ℕ)) (list node : ℕ) (before after : List ℕ) →
-    Show nodes ends lists → list < length lists → list_at lists list ≡ before ++ node ∷ after → IsPlaced nodes ends list node
+    ShowsLists nodes ends lists → list < length lists → list_at lists list ≡ before ++ node ∷ after → IsPlaced nodes ends list node
 placed-at nodes ends lists list node before after shows l stood =
-    let is = Show-node nodes ends lists list node before after shows stood l in
+    let is = ShowsLists-node nodes ends lists list node before after shows stood l in
     record {
       list_in_range = omega (arith, shows.count);
       node_in_range = linked-in_range nodes list node (ap (λ (n : Node). n.list) is);
@@ -252,7 +252,7 @@ pub record IsGap (nodes : List Node) (ends : List Ends) (list : ℕ) (previous :
   pub next_in_range : (n : ℕ) → next_after nodes ends list previous ≡ Some n → n < length nodes
 
 pub gap-at : (nodes : List Node) (ends : List Ends) (lists : List (List ℕ)) (list : ℕ) (before after : List ℕ) →
-    Show nodes ends lists → list < length lists → list_at lists list ≡ before ++ after → IsGap nodes ends list (last_of before)
+    ShowsLists nodes ends lists → list < length lists → list_at lists list ≡ before ++ after → IsGap nodes ends list (last_of before)
 gap-at nodes ends lists list before after shows l is = record {
   list_in_range = omega (arith, shows.count);
   previous_in_range = previous-in_range nodes ends lists list before after shows is l;
@@ -275,21 +275,21 @@ gap-latest nodes ends move list node previous e h =
     let f = is.fits in
     let rest : List ℕ = f.before ++ f.after in (
       subst (λ o. IsGap nodes ends list o) f.follows
-          (gap-at nodes ends (set is.lists list rest) list f.before f.after (subst (λ ls. Show nodes ends ls) f.alone is.shown)
+          (gap-at nodes ends (set is.lists list rest) list f.before f.after (subst (λ ls. ShowsLists nodes ends ls) f.alone is.shown)
           (omega (arith, f.list_in_range, length-set is.lists list rest))
           (get_or-set_same is.lists list rest [] f.list_in_range)),
       f.node_in_range,
     )
 
 -- the last node of a list is a node
-pub last-in_range : (nodes : List Node) (ends : List Ends) (lists : List (List ℕ)) (list : ℕ) → Show nodes ends lists →
+pub last-in_range : (nodes : List Node) (ends : List Ends) (lists : List (List ℕ)) (list : ℕ) → ShowsLists nodes ends lists →
     list < length lists → (z : ℕ) → (ends_at ends list).last ≡ Some z → z < length nodes
 last-in_range nodes ends lists list shows l z e =
     previous-in_range nodes ends lists list (list_at lists list) [] shows (sym (append-nil (list_at lists list))) l z
     (sym (shows.each list l).last ∙ e)
 
 -- a linked node may be taken out
-pub placed : (nodes : List Node) (ends : List Ends) (lists : List (List ℕ)) (node list : ℕ) → Show nodes ends lists →
+pub placed : (nodes : List Node) (ends : List Ends) (lists : List (List ℕ)) (node list : ℕ) → ShowsLists nodes ends lists →
     IsLinked lists node → (node_at nodes node).list ≡ Some list → IsPlaced nodes ends list node
 placed nodes ends lists node list shows linked own =
     let s = stands nodes ends lists node shows linked in

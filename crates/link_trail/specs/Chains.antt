@@ -12,9 +12,11 @@ free_node = record { list = None; previous = None; next = None }
 abbrev pub no_ends : Ends
 no_ends = record { first = None; last = None }
 
+-- what is kept of the node of this number
 abbrev pub node_at : List Node → ℕ → Node
 node_at nodes node = slice_index_or nodes node free_node
 
+-- the ends of the list of this number
 abbrev pub ends_at : List Ends → ℕ → Ends
 ends_at ends list = slice_index_or ends list no_ends
 
@@ -45,16 +47,16 @@ AreChained nodes list previous (x ∷ xs) next =
     × AreChained nodes list (Some x) xs next
 
 -- the nodes of a list, from its first to its last, are these
-pub record Shows (nodes : List Node) (list : ℕ) (ends : Ends) (xs : List ℕ) : Type 0 where
+pub record ShowsList (nodes : List Node) (list : ℕ) (ends : Ends) (xs : List ℕ) : Type 0 where
   pub chained : AreChained nodes list None xs None
   pub distinct : IsDistinct xs
   pub first : ends.first ≡ first_of xs
   pub last : ends.last ≡ last_of xs
 
 -- nodes and ends show these lists, and a node in no list has no neighbours
-pub record Show (nodes : List Node) (ends : List Ends) (lists : List (List ℕ)) : Type 0 where
+pub record ShowsLists (nodes : List Node) (ends : List Ends) (lists : List (List ℕ)) : Type 0 where
   pub count : length ends ≡ length lists
-  pub each : (list : ℕ) → list < length lists → Shows nodes list (ends_at ends list) (list_at lists list)
+  pub each : (list : ℕ) → list < length lists → ShowsList nodes list (ends_at ends list) (list_at lists list)
   pub free : (node : ℕ) → IsFree lists node → node_at nodes node ≡ free_node
 
 -- the node that follows `previous`, or the list's first
@@ -89,14 +91,14 @@ with_last ends list (Some n) previous = ends
 -- nodes and ends show the node between these neighbours, where they showed the neighbours alone
 pub record PutsBetween (nodes : List Node) (ends : List Ends) (nodes' : List Node) (ends' : List Ends)
     (list node : ℕ) (previous next : Option ℕ) : Type 0 where
-  pub shows : (lists : List (List ℕ)) (before after : List ℕ) → Show nodes ends lists →
+  pub shows : (lists : List (List ℕ)) (before after : List ℕ) → ShowsLists nodes ends lists →
       IsFree lists node → list_at lists list ≡ before ++ after →
       last_of before ≡ previous → first_of after ≡ next →
-      Show nodes' ends' (slice_set lists list (before ++ node ∷ after))
+      ShowsLists nodes' ends' (slice_set lists list (before ++ node ∷ after))
 
 -- nodes and ends show the list without the node
 pub record TakesOut (nodes : List Node) (ends : List Ends) (nodes' : List Node) (ends' : List Ends)
     (list node : ℕ) : Type 0 where
-  pub shows : (lists : List (List ℕ)) (before after : List ℕ) → Show nodes ends lists →
+  pub shows : (lists : List (List ℕ)) (before after : List ℕ) → ShowsLists nodes ends lists →
       list_at lists list ≡ before ++ node ∷ after →
-      Show nodes' ends' (slice_set lists list (before ++ after))
+      ShowsLists nodes' ends' (slice_set lists list (before ++ after))

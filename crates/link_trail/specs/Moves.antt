@@ -5,7 +5,7 @@ use Rattle.link_trail.specs.declared.chain.Ends.{Ends}
 use Rattle.link_trail.specs.declared.moves.Move.{Move}
 use Rattle.link_trail.specs.declared.moves.Move.TheVariants.{Linked, Unlinked}
 use Rattle.link_trail.specs.Lists.{linked, list_at, unlinked}
-use Rattle.link_trail.specs.Chains.{Show, last_of}
+use Rattle.link_trail.specs.Chains.{ShowsLists, last_of}
 
 -- the lists once the move is made
 abbrev pub moved : List (List ℕ) → Move → List (List ℕ)
@@ -45,12 +45,12 @@ Fits nodes lists (Unlinked list node previous) = StoodAfter nodes lists list nod
 pub record IsLatest (nodes : List Node) (ends : List Ends) (move : Move) : Type 0 where
   pub lists : List (List ℕ)
   pub fits : Fits (length nodes) lists move
-  pub shown : Show nodes ends (moved lists move)
+  pub shown : ShowsLists nodes ends (moved lists move)
 
 -- nodes and ends show the lists before the move, where they showed those after it
 pub record TakesBack (nodes : List Node) (ends : List Ends) (nodes' : List Node) (ends' : List Ends) (move : Move) : Type 0 where
-  pub shows : (lists : List (List ℕ)) → Fits (length nodes) lists move → Show nodes ends (moved lists move) →
-      Show nodes' ends' lists
+  pub shows : (lists : List (List ℕ)) → Fits (length nodes) lists move → ShowsLists nodes ends (moved lists move) →
+      ShowsLists nodes' ends' lists
 
 -- each of these moves tells what takes it back
 abbrev pub AllFit : ℕ → List (List ℕ) → List Move → Type 0
@@ -60,7 +60,7 @@ AllFit nodes lists (move ∷ moves) = Fits nodes lists move × AllFit nodes (mov
 -- what holds of the fields of every `Links`: nodes and ends show the lists that the moves made, each
 -- move can be taken back, and there is memory for the moves that have room
 pub record IsWhole (nodes : List Node) (ends : List Ends) (moves : List Move) (room capacity : ℕ) : Type 0 where
-  pub shown : Show nodes ends (lists_after (no_lists (length ends)) moves)
+  pub shown : ShowsLists nodes ends (lists_after (no_lists (length ends)) moves)
   pub fit : AllFit (length nodes) (no_lists (length ends)) moves
   pub within : length moves ≤ room
   pub reserved : room ≤ capacity

@@ -8,7 +8,8 @@ use std::alloc::{AllocError as OutOfMemory, Global};
 use std::marker::Model;
 
 /// Doubly linked lists of numbered nodes. Each node stands in one list at most. Each link and each
-/// unlink is a move, and the moves can be taken back, the latest first.
+/// unlink is a move, and the moves can be taken back, the latest first. A move takes no memory: the
+/// room for it is made by `reserve`.
 #[derive(Debug, Drop)]
 pub struct Links {
     nodes: Vec<Node>,
@@ -126,7 +127,8 @@ impl Links {
         self.nodes[node as usize].next
     }
 
-    /// The count of standing moves, to come back to by `undo_to`.
+    /// The count of standing moves, to come back to by `undo_to`. What it says of the lists besides
+    /// holds of all `Links`.
     pub fn mark(&self) -> u32
         ensures count { result ≡ length self.now.trail }
         ensures apart { IsApart self.now.lists }
@@ -175,15 +177,33 @@ mod tests {
     use std::test::Fail;
 
     #[test]
-    fn lists_come_back(rt: HostRuntime) -> Result<(), Fail> {
-        let mut links = Links::new(rt.alloc(), 2, 2)?;
-        links.widen(4)?;
-        links.reserve(8)?;
+    fn moves_are_taken_back(rt: HostRuntime) -> Result<(), Fail> {
+        let mut links = Links::new(rt.alloc(), 2, 1)?;
+        links.widen(3)?;
+        links.reserve(5)?;
         links.link(0, 2);
         links.link(0, 1);
-        links.link(1, 3);
+        links.link(0, 0);
+        let mark = links.mark();
+        links.unlink(1);
+        links.link(1, 1);
+        // The lists are 2, 0 and 1.
+        assert_eq!(rt; links.first(0), Some(2));
+        assert_eq!(rt; links.next(2), Some(0));
+        assert_eq!(rt; links.next(0), None);
+        assert_eq!(rt; links.first(1), Some(1));
+        assert_eq!(rt; links.next(1), None);
+        links.undo_to(mark);
+        // The lists are 2, 1, 0 and none.
         assert_eq!(rt; links.first(0), Some(2));
         assert_eq!(rt; links.next(2), Some(1));
+        assert_eq!(rt; links.next(1), Some(0));
+        assert_eq!(rt; links.next(0), None);
+        assert_eq!(rt; links.first(1), None);
+        links.undo_to(1);
+        assert_eq!(rt; links.first(0), Some(2));
+        assert_eq!(rt; links.next(2), None);
+        assert_eq!(rt; links.next(1), None);
         Ok(())
     }
 }

@@ -6,10 +6,11 @@
 ghost use Rattle.std.specs.Prelude.{◌<◌, IfOk};
 
 mod mesh;
+mod shape;
 
 use anyhow::{Context, Result, ensure};
 use mesh::Mesh;
-use std::alloc::{AllocError, Global};
+use shape::Shape;
 use std::env;
 use std::rt::{Clock, Env};
 use std::time::Instant;
@@ -22,8 +23,9 @@ fn main(rt: HostRuntime) -> Result<()> {
 fn run(rt: &(impl AllocGlobal + Clock + Env + Eprint + Print)) -> Result<()> {
     let size = size_argument(rt)?;
     let alloc = rt.alloc();
-    report(rt, "ring", &Mesh::ring(alloc, size)?)?;
-    report(rt, "grid", &Mesh::grid(alloc, size, size.isqrt().max(1))?)
+    report(rt, "ring", &Mesh::new(alloc, Shape::Ring, size)?)?;
+    let width = size.isqrt().max(1);
+    report(rt, "grid", &Mesh::new(alloc, Shape::Grid(width), size)?)
 }
 
 /// The first argument, at least 1.
@@ -37,11 +39,7 @@ fn size_argument(rt: &(impl AllocGlobal + Env)) -> Result<u32>
 }
 
 /// Finds the least walks from every root, and prints what they come to and the time that took.
-fn report(
-    rt: &(impl AllocGlobal + Clock + Eprint + Print),
-    name: &str,
-    mesh: &Mesh,
-) -> Result<()> {
+fn report(rt: &(impl AllocGlobal + Clock + Eprint + Print), name: &str, mesh: &Mesh) -> Result<()> {
     let start = Instant::now(rt)?;
     let mut distances = 0u64;
     for root in 0..mesh.vertices() {

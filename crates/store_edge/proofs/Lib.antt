@@ -1,0 +1,2 @@
+mod TransferLaws
+pub mod OutsideLaws

@@ -1,5 +1,5 @@
 -- What a read does, and what the files in memory are.
-use Rattle.std.specs.Prelude.{◌≡◌, ℕ, ◌+◌, List, [], ◌∷◌, ◌++◌, length, Contains, Option, Some, None, Result, Ok, Err, unwrap_or, ◌⊎◌, bytes_eq}
+use Rattle.std.specs.Prelude.{◌≡◌, ℕ, ◌+◌, List, [], ◌∷◌, ◌++◌, length, Contains, Option, None, Result, Ok, Err, ◌⊎◌, bytes_eq}
 use Rattle.std.specs.Map.{lookup}
 use Rattle.store_edge.specs.declared.files.FileAnswer.{FileAnswer}
 use Rattle.store_edge.specs.declared.files.FileAnswer.TheVariants.{Failed, OutOfMemory}

@@ -42,6 +42,6 @@ pub record SureSinkState : Type 0 where
 abbrev pub told_after : SureSinkState → List ℕ → Option (List ℕ)
 told_after state piece = fits state.told
   where
-  fits : Option (List ℕ) → Option (List ℕ)
-  fits None = None
-  fits (Some bytes) = if nat_le (length bytes + length piece) state.room then Some (bytes ++ piece) else None
+    fits : Option (List ℕ) → Option (List ℕ)
+    fits None = None
+    fits (Some bytes) = if nat_le (length bytes + length piece) state.room then Some (bytes ++ piece) else None

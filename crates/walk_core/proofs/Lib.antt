@@ -3,3 +3,4 @@ pub mod RelaxLaws
 pub mod HopLaws
 pub mod DepartureLaws
 pub mod ReachLaws
+pub mod OfferLaws

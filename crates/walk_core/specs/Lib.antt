@@ -1,5 +1,6 @@
 pub mod Walks
 pub mod Offers
+pub mod BestOffers
 pub mod Distances
 pub mod Relaxing
 pub mod Reach

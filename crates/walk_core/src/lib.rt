@@ -3,11 +3,13 @@
 
 mod graph;
 mod hops;
+mod offers;
 mod relax;
 #[cfg(test)]
 mod tests;
 mod walks;
 
 pub use graph::CostGraph;
+pub use offers::Offer;
 pub use std::alloc::AllocError as OutOfMemory;
 pub use walks::{LeastWalks, least_walks};

@@ -2,7 +2,7 @@ ghost use Rattle.std.specs.Prelude.{◌≡◌, ◌+◌, ◌<◌, ◌≤◌, ◌=
 ghost use Rattle.std.proofs.Common.{rules, arith};
 ghost use Rattle.std.proofs.lemmas.Grind.{common_steps};
 
-use crate::{CostGraph, least_walks};
+use crate::{CostGraph, Offer, least_walks};
 use std::test::Fail;
 
 /// The graph that `least_walks` draws, with arcs of this cost.
@@ -81,5 +81,20 @@ fn greatest_costs(rt: HostRuntime) -> Result<(), Fail> {
     assert_eq!(rt; walks.distance(3), Some(8_589_934_590));
     assert!(rt; walks.first_hop(3, 2));
     assert_eq!(rt; walks.distance(u32::MAX), None);
+    Ok(())
+}
+
+#[test]
+fn best_offers(rt: HostRuntime) -> Result<(), Fail> {
+    let walks = least_walks(rt.alloc(), &Drawn { cost: 1 }, 0)?;
+    let offers = [
+        Offer { at: 1, asks: 6 },
+        Offer { at: 3, asks: 5 },
+        Offer { at: 4, asks: 0 },
+    ];
+    assert_eq!(rt; walks.best_cost(&offers), Some(7));
+    let hops = walks.hops_towards(rt.alloc(), &offers, 7, 5)?;
+    assert_eq!(rt; hops.as_slice(), [1, 2].as_slice());
+    assert_eq!(rt; walks.best_cost(&offers[2..]), None);
     Ok(())
 }

@@ -1,6 +1,6 @@
 use Rattle.std.proofs.Common.{arith}
 use Rattle.link_trail.proofs.MoveLemmas.{length-lists_before}
-use Rattle.link_trail.proofs.WholeLemmas.{Show-apart}
+use Rattle.link_trail.proofs.WholeLemmas.{ShowsLists-apart}
 use Rattle.link_trail.proofs.links.Links.mark.Goals as goal
 
 pub returns-clause-count : goal.returns-clause-count
@@ -8,4 +8,4 @@ returns-clause-count c = rw (← c.self.view_is, length-lists_before) (omega ari
 
 pub returns-clause-apart : goal.returns-clause-apart
 returns-clause-apart c =
-    rw (← c.self.view_is) (Show-apart c.self.inside.nodes.items c.self.inside.ends.items _ c.self.invariant.shown)
+    rw (← c.self.view_is) (ShowsLists-apart c.self.inside.nodes.items c.self.inside.ends.items _ c.self.invariant.shown)

@@ -2,7 +2,7 @@ use Rattle.std.proofs.Common.{◌≡◌, ◌<◌, length, ap, sym, ◌∙◌, su
 use Rattle.link_trail.specs.declared.chain.Node.{Node}
 use Rattle.link_trail.specs.Chains.{node_at, free_node}
 use Rattle.link_trail.specs.Lists.{LinkedLists}
-use Rattle.link_trail.proofs.SpliceLemmas.{Show-node}
+use Rattle.link_trail.proofs.SpliceLemmas.{ShowsLists-node}
 use Rattle.link_trail.proofs.WholeLemmas.{read}
 use Rattle.link_trail.proofs.links.Links.next.Goals as goal
 
@@ -14,6 +14,6 @@ returns c =
     let next = ap (λ (n : Node). n.next) is in
     rw (← c.self.view_is) (record {
       linked = λ list before after l' stood. sym next ∙ ap (λ (n : Node). n.next)
-          (Show-node c.self.inside.nodes.items c.self.inside.ends.items _ list c.args.node before after c.self.invariant.shown stood l');
+          (ShowsLists-node c.self.inside.nodes.items c.self.inside.ends.items _ list c.args.node before after c.self.invariant.shown stood l');
       free = λ free. sym next ∙ ap (λ (n : Node). n.next) (c.self.invariant.shown.free c.args.node free);
     })

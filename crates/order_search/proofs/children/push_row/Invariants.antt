@@ -1,0 +1,13 @@
+use Rattle.std.proofs.Common.{◌≡◌, ◌≤◌, ◌++◌, length, drop, map, reverse}
+use Rattle.order_search.specs.Waiting.{child_of}
+use Rattle.order_search.proofs.ChildLists.{cells}
+use Rattle.order_search.proofs.children.push_row.Given as goal
+
+abbrev pub invariant-loop-i : goal.invariant-loop-i
+invariant-loop-i l = record {
+  within : l.i ≤ length l.turns;
+  pushed : reverse l.waiting.items ≡ map (child_of l.above) (cells l.old.router (drop l.i l.turns)) ++ reverse l.initial.waiting.items;
+}
+
+abbrev pub decreases-loop-i : goal.decreases-loop-i
+decreases-loop-i l = l.i

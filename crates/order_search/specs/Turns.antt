@@ -1,0 +1,45 @@
+-- Turns of a ring: which routers still step by the old routes, and which by the new ones only.
+use Rattle.std.specs.Prelude.{ℕ, ◌<◌, Bool, true, false, if◌then◌else◌, List, [], ◌∷◌, length, map}
+use Rattle.std.specs.List.{filter, flat_map}
+use Rattle.precedence_set.specs.Pairs.{Pair}
+use Rattle.order_search.specs.declared.turn.Tag.{Tag}
+use Rattle.order_search.specs.declared.turn.Tag.TheVariants.{Old, New, Both}
+use Rattle.order_search.specs.declared.turn.Turn.{Turn}
+
+-- whether a tag is Old
+abbrev pub is_old : Tag → Bool
+is_old Old = true
+is_old New = false
+is_old Both = false
+
+-- whether a tag is New
+abbrev pub is_new : Tag → Bool
+is_new Old = false
+is_new New = true
+is_new Both = false
+
+-- the routers of the Old turns, in the order of the turns
+abbrev pub old_routers : List Turn → List ℕ
+old_routers turns = map (λ (t : Turn). t.router) (filter (λ (t : Turn). is_old t.tag) turns)
+
+-- the routers of the New turns, in the order of the turns
+abbrev pub new_routers : List Turn → List ℕ
+new_routers turns = map (λ (t : Turn). t.router) (filter (λ (t : Turn). is_new t.tag) turns)
+
+-- some turn is Old and some turn is New
+pub record HasBothTags (turns : List Turn) : Type 0 where
+  pub old : 0 < length (old_routers turns)
+  pub new : 0 < length (new_routers turns)
+
+-- what the children of a branch assume besides: each Old turn's router before each New turn's router,
+-- by the Old turn first and then by the New turn
+abbrev pub child_pairs : List Turn → List Pair
+child_pairs turns = flat_map (λ (u : ℕ). map (λ (v : ℕ). (u, v)) (new_routers turns)) (old_routers turns)
+
+-- the pairs of one Old turn's router with some New turns' routers
+abbrev pub row_of : List Turn → Turn → List Pair
+row_of turns turn = if is_old turn.tag then map (λ (v : ℕ). (turn.router, v)) (new_routers turns) else []
+
+-- the pair of a router with one New turn's router
+abbrev pub cell_of : ℕ → Turn → List Pair
+cell_of u turn = if is_new turn.tag then (u, turn.router) ∷ [] else []

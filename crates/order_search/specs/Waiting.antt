@@ -1,0 +1,37 @@
+-- The places that wait to be visited, told by the pairs that are assumed now.
+use Rattle.std.specs.Prelude.{◌≢◌, ℕ, ◌<◌, ◌≤◌, List, [], ◌∷◌, ◌++◌, length, take, slice_index_or}
+use Rattle.precedence_set.specs.Pairs.{Pair, Leads, HasNoCycle, AreBelow}
+use Rattle.order_search.specs.Trees.{Place}
+use Rattle.order_search.specs.declared.children.Child.{Child}
+
+-- the child of a branch that assumes so many pairs
+abbrev pub child_of : ℕ → Pair → Child
+child_of above p = record { before = p.0; after = p.1; above = above }
+
+-- the pairs of a child's place: the first ones of those assumed now, and its own
+abbrev pub place_of : List Pair → Child → Place
+place_of pairs c = take c.above pairs ++ (c.before, c.after) ∷ []
+
+-- the places of some children, the next one first; each stands no lower than those after it
+abbrev pub places_of : List Pair → List Child → List Place
+places_of pairs [] = []
+places_of pairs (c ∷ children) = place_of pairs c ∷ places_of (take c.above pairs) children
+
+-- a child's pair is of two routers below n, and isn't implied by the pairs above it
+pub record IsChild (n : ℕ) (pairs : List Pair) (c : Child) : Type 0 where
+  pub within : c.above ≤ length pairs
+  pub before_in : c.before < n
+  pub after_in : c.after < n
+  pub differ : c.before ≢ c.after
+  pub fresh : ¬ Leads (take c.above pairs) c.before c.after
+
+-- each of the children is one under the pairs that are left when it is visited
+abbrev pub AreChildren : ℕ → List Pair → List Child → Type 0
+AreChildren n pairs [] = Unit {0}
+AreChildren n pairs (c ∷ children) = IsChild n pairs c × AreChildren n (take c.above pairs) children
+
+-- pairs of routers below n without a cycle, none of them implied by those before it
+pub record AreFresh (n : ℕ) (pairs : List Pair) : Type 0 where
+  pub below : AreBelow n pairs
+  pub acyclic : HasNoCycle pairs
+  pub fresh : (k : ℕ) → k < length pairs → ¬ Leads (take k pairs) (slice_index_or pairs k (0, 0)).0 (slice_index_or pairs k (0, 0)).1

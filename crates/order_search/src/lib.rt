@@ -1,0 +1,20 @@
+//! The search for a good order, or for a proof that there is none, over any oracle that says what breaks an order.
+#![tactic(auto)]
+
+mod children;
+mod depth_first;
+mod found;
+mod oracle;
+mod places;
+mod tree;
+mod turn;
+
+pub use depth_first::search;
+pub use found::{Found, Sequence};
+pub use oracle::{Answer, Oracle};
+pub use std::alloc::AllocError as OutOfMemory;
+pub use tree::{Cycle, Node, Tree};
+pub use turn::{Tag, Turn, Turns};
+
+#[cfg(test)]
+mod tests;

@@ -1,0 +1,3 @@
+pub mod LinkFacts
+pub mod AdjacencyFacts
+pub mod RowFacts

@@ -1,0 +1,4 @@
+pub mod Links
+pub mod Graphs
+pub mod Walks
+pub mod GraphFacts
