@@ -64,3 +64,6 @@ impl RouteSource for IsisRoutes {
         self.neighbors[u as usize].contains(v)
     }
 }
+
+#[cfg(test)]
+mod tests;
