@@ -1,0 +1,115 @@
+-- The best of the offers is the route of the definitions.
+use Rattle.std.proofs.Common.{◌≡◌, ℕ, ◌<◌, ◌↔◌, List, length, Option, Some, None, MatchOption, sym, ap, subst}
+use Rattle.std.proofs.lemmas.Option.{none-some, same_Some}
+use Rattle.net_addr.specs.Addresses.{Block}
+use Rattle.net_model.proofs.NetworkFacts.{Adjacent-to_within}
+use Rattle.net_model.specs.Network.{Network, Adjacent}
+use Rattle.net_model.specs.declared.zone.Zone.TheVariants.{One as ZoneOne, Two as ZoneTwo}
+use Rattle.walk_core.specs.Walks.{Arcs}
+use Rattle.walk_core.specs.Offers.{Offers, BestCost, BestHop}
+use Rattle.walk_core.specs.Reach.{Reach, AreLeastWalks}
+use Rattle.walk_core.specs.BestOffers.{NoneTotals, IsBestTotal}
+use Rattle.walk_core.specs.declared.offers.Offer.{Offer}
+use Rattle.walk_core.proofs.OfferLaws.{best_total_is_best_cost, none_totals_no_best, hop_towards_is_best_hop}
+use Rattle.walk_core.proofs.WalkLaws.{best_cost_unique, best_hop_is_arc}
+use Rattle.route_core.specs.Hops.{AreHops}
+use Rattle.igp_theory.specs.Ospf.{OfOthers, default_prefix}
+use Rattle.igp_theory.specs.Isis.{RunsOne, RunsTwo, OffersOne, OneCost, OneHop, IsOne, LevelTwoAnnouncement, IsTwo, TwoHop, OffersDefault, DefaultHop}
+use Rattle.isis_routes.specs.Offered.{AreOffers}
+use Rattle.isis_routes.specs.Routing.{AreBestHops, IsLevelOneRoute, IsLevelTwoRoute, IsDefaultRoute, NoDefaultRoute}
+
+-- the best total is the best cost, and there is none without
+pub best_cost_is : (arc : Arcs) (u : ℕ) (reach : Reach) (offer : Offers) (offers : List Offer) → AreLeastWalks arc u reach → AreOffers offer offers →
+    (found : Option ℕ) → MatchOption found (NoneTotals reach offers) (IsBestTotal reach offers) → (cost : ℕ) → (found ≡ Some cost) ↔ BestCost arc offer u cost
+best_cost_is arc u reach offer offers walks are None none cost =
+    (λ is. absurd (none-some cost is), λ best. absurd (none_totals_no_best arc u reach offer offers walks are none cost best))
+best_cost_is arc u reach offer offers walks are (Some c) best cost =
+    let here : BestCost arc offer u c = (best_total_is_best_cost arc u reach offer offers c walks are).0 best in (
+      λ is. subst (λ (k : ℕ). BestCost arc offer u k) (same_Some c cost is) here,
+      λ other. ap Some (best_cost_unique here other),
+    )
+
+-- the hops are the first hops towards the best offers
+pub best_hops_are : (arc : Arcs) (u : ℕ) (reach : Reach) (offer : Offers) (offers : List Offer) (n : ℕ) (hops : List ℕ) → AreLeastWalks arc u reach → AreOffers offer offers →
+    ((h c : ℕ) → arc u h c → h < n) → AreBestHops reach offers n hops → AreHops (BestHop arc offer u) hops
+best_hops_are arc u reach offer offers n hops walks are below best =
+    let costs : BestCost arc offer u best.cost = (best_total_is_best_cost arc u reach offer offers best.cost walks are).0 best.best in
+    record {
+      ascending = best.towards.ascending;
+      exact = λ h. (
+        λ inside. (hop_towards_is_best_hop arc u reach offer offers best.cost h walks are costs).0 ((best.towards.exact h).0 inside).1,
+        λ hop. let over = best_hop_is_arc hop in
+            (best.towards.exact h).1 (below h over.0 over.1, (hop_towards_is_best_hop arc u reach offer offers best.cost h walks are costs).1 hop),
+      );
+    }
+
+-- hops of one kind are those of another that says the same
+pub hops_same : (hop other : ℕ → Type 0) (hops : List ℕ) → ((h : ℕ) → hop h ↔ other h) → AreHops hop hops → AreHops other hops
+hops_same hop other hops same are = record {
+  ascending = are.ascending;
+  exact = λ h. (λ inside. (same h).0 ((are.exact h).0 inside), λ is. (are.exact h).1 ((same h).1 is));
+}
+
+-- Level 1
+
+pub no_one_cost : (net : Network) (p : Block) (u : ℕ) → (RunsOne net u → ⊥) → (cost : ℕ) → (◌≡◌ {A = Option ℕ} None (Some cost)) ↔ OneCost net p u cost
+no_one_cost net p u idle cost = (λ is. absurd (none-some cost is), λ costs. absurd (idle costs.runs))
+
+pub one_cost_is : (net : Network) (p : Block) (u : ℕ) (reach : Reach) (offers given : List Offer) → RunsOne net u → AreLeastWalks (Adjacent net ZoneOne) u reach → AreOffers (OffersOne net p) offers → given ≡ offers →
+    (found : Option ℕ) → MatchOption found (NoneTotals reach given) (IsBestTotal reach given) → (cost : ℕ) → (found ≡ Some cost) ↔ OneCost net p u cost
+one_cost_is net p u reach offers given runs walks are same found best cost =
+    let is = best_cost_is (Adjacent net ZoneOne) u reach (OffersOne net p) given walks (subst (λ (l : List Offer). AreOffers (OffersOne net p) l) (sym same) are) found best cost in
+    (λ e. record { runs = runs; best = is.0 e }, λ costs. is.1 costs.best)
+
+pub one_route_is : (net : Network) (p : Block) (u : ℕ) (reach : Reach) (offers given : List Offer) → RunsOne net u → AreLeastWalks (Adjacent net ZoneOne) u reach → AreOffers (OffersOne net p) offers → given ≡ offers →
+    (n : ℕ) → n ≡ length net → (found : Option (List ℕ)) → MatchOption found (NoneTotals reach given) (AreBestHops reach given n) → MatchOption found (IsOne net p u → ⊥) (IsLevelOneRoute net p u)
+one_route_is net p u reach offers given runs walks are same n count None none = λ is.
+    none_totals_no_best (Adjacent net ZoneOne) u reach (OffersOne net p) given walks (subst (λ (l : List Offer). AreOffers (OffersOne net p) l) (sym same) are) none is.cost is.costs.best
+one_route_is net p u reach offers given runs walks are same n count (Some hops) best =
+    let listed : AreOffers (OffersOne net p) given = subst (λ (l : List Offer). AreOffers (OffersOne net p) l) (sym same) are in
+    record {
+      is = record {
+        cost = best.cost;
+        costs = record { runs = runs; best = (best_total_is_best_cost (Adjacent net ZoneOne) u reach (OffersOne net p) given best.cost walks listed).0 best.best };
+      };
+      hops_are = hops_same (BestHop (Adjacent net ZoneOne) (OffersOne net p) u) (OneHop net p u) hops
+          (λ h. (λ hop. record { runs = runs; best = hop }, λ hop. hop.best))
+          (best_hops_are (Adjacent net ZoneOne) u reach (OffersOne net p) given n hops walks listed
+          (λ h c over. subst (λ (m : ℕ). h < m) (sym count) (Adjacent-to_within net ZoneOne u h c over)) best);
+    }
+
+-- Level 2
+
+pub two_route_is : (net : Network) (p : Block) (u : ℕ) (reach : Reach) (given : List Offer) → RunsTwo net u → AreLeastWalks (Adjacent net ZoneTwo) u reach → AreOffers (OfOthers (LevelTwoAnnouncement net p) u) given →
+    (n : ℕ) → n ≡ length net → (found : Option (List ℕ)) → MatchOption found (NoneTotals reach given) (AreBestHops reach given n) → MatchOption found (IsTwo net p u → ⊥) (IsLevelTwoRoute net p u)
+two_route_is net p u reach given runs walks listed n count None none = λ is.
+    none_totals_no_best (Adjacent net ZoneTwo) u reach (OfOthers (LevelTwoAnnouncement net p) u) given walks listed none is.cost is.costs.best
+two_route_is net p u reach given runs walks listed n count (Some hops) best =
+    record {
+      is = record {
+        cost = best.cost;
+        costs = record { runs = runs; best = (best_total_is_best_cost (Adjacent net ZoneTwo) u reach (OfOthers (LevelTwoAnnouncement net p) u) given best.cost walks listed).0 best.best };
+      };
+      hops_are = hops_same (BestHop (Adjacent net ZoneTwo) (OfOthers (LevelTwoAnnouncement net p) u) u) (TwoHop net p u) hops
+          (λ h. (λ hop. record { runs = runs; best = hop }, λ hop. hop.best))
+          (best_hops_are (Adjacent net ZoneTwo) u reach (OfOthers (LevelTwoAnnouncement net p) u) given n hops walks listed
+          (λ h c over. subst (λ (m : ℕ). h < m) (sym count) (Adjacent-to_within net ZoneTwo u h c over)) best);
+    }
+
+-- The default
+
+pub default_route_is : (net : Network) (p : Block) (u : ℕ) (reach : Reach) (offers given : List Offer) → p ≡ default_prefix → RunsOne net u → (RunsTwo net u → ⊥) → AreLeastWalks (Adjacent net ZoneOne) u reach → AreOffers (OffersDefault net) offers → given ≡ offers →
+    (n : ℕ) → n ≡ length net → (found : Option (List ℕ)) → MatchOption found (NoneTotals reach given) (AreBestHops reach given n) → MatchOption found (NoDefaultRoute net p u) (IsDefaultRoute net p u)
+default_route_is net p u reach offers given all runs alone walks are same n count None none = λ cost _ costs.
+    none_totals_no_best (Adjacent net ZoneOne) u reach (OffersDefault net) given walks (subst (λ (l : List Offer). AreOffers (OffersDefault net) l) (sym same) are) none cost costs.best
+default_route_is net p u reach offers given all runs alone walks are same n count (Some hops) best =
+    let listed : AreOffers (OffersDefault net) given = subst (λ (l : List Offer). AreOffers (OffersDefault net) l) (sym same) are in
+    record {
+      all = all;
+      cost = best.cost;
+      costs = record { runs = runs; alone = alone; best = (best_total_is_best_cost (Adjacent net ZoneOne) u reach (OffersDefault net) given best.cost walks listed).0 best.best };
+      hops_are = hops_same (BestHop (Adjacent net ZoneOne) (OffersDefault net) u) (DefaultHop net u) hops
+          (λ h. (λ hop. record { runs = runs; alone = alone; best = hop }, λ hop. hop.best))
+          (best_hops_are (Adjacent net ZoneOne) u reach (OffersDefault net) given n hops walks listed
+          (λ h c over. subst (λ (m : ℕ). h < m) (sym count) (Adjacent-to_within net ZoneOne u h c over)) best);
+    }

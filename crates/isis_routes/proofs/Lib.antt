@@ -1,0 +1,9 @@
+mod OfferLists
+mod CostBounds
+mod BestRoutes
+mod Announced
+mod AreaFacts
+mod DestLists
+mod EntryFacts
+mod DestinationFacts
+mod TableRows

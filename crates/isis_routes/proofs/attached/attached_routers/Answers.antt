@@ -1,0 +1,30 @@
+use Rattle.std.proofs.Common.{ℕ, ◌+◌, ◌<◌, List, ◌++◌, ◌∷◌, [], length, refl, sym, ap, subst, ◌∙◌, arith}
+use Rattle.std.proofs.lemmas.Bool.{false≢true}
+use Rattle.walk_core.specs.declared.offers.Offer.{Offer}
+use Rattle.igp_theory.specs.Isis.{OffersDefault}
+use Rattle.isis_routes.specs.Offered.{AreOffersBelow}
+use Rattle.isis_routes.proofs.AreaFacts.{attached_added, attached_not_added, attached_at_router}
+use Rattle.isis_routes.proofs.OfferLists.{offers_more, offers_all}
+use Rattle.isis_routes.proofs.attached.attached_routers.Goals as goal
+use Rattle.isis_routes.proofs.attached.attached_routers.Goals.{then-is_attached+in_ok-push, else-is_attached}
+
+pub loop-u-preserved : goal.loop-u-preserved
+loop-u-preserved c =
+    let net = c.args.net.now in
+    let u : ℕ = c.loop-u.u in
+    let old : List Offer = c.loop-u.offers.items in
+    let Goal : List Offer → Type 0 = λ l. AreOffersBelow (OffersDefault net) (u + 1) l in
+    elim c.if-is_attached.branch [
+      | then-is_attached+in_ok-push w ↦
+          let one : Offer = record { at = u; asks = 0 } in
+          subst Goal (sym (ap (λ v. v.items) w.offers-is ∙ w.in_ok-push.ensures.items))
+          (offers_more (OffersDefault net) u old (old ++ one ∷ []) c.loop-u.invariant (attached_added net u old (w.if-is_attached.ensures.0 refl)))
+      | else-is_attached w ↦
+          subst Goal (sym (ap (λ v. v.items) w.offers-is))
+          (offers_more (OffersDefault net) u old old c.loop-u.invariant (attached_not_added net u old (λ is. false≢true (w.if-is_attached.ensures.1 is))))
+    ]
+
+pub returns : goal.returns
+returns c =
+    offers_all (OffersDefault c.args.net.now) c.loop-u.u c.loop-u.offers.items c.loop-u.invariant
+    (λ at asks offers. let within : at < length c.args.net.now = attached_at_router c.args.net.now at asks offers in omega (arith, c.routers-u-end.ensures.count))

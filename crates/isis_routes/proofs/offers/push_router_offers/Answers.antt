@@ -1,0 +1,23 @@
+use Rattle.std.proofs.Common.{◌≡◌, ℕ, List, ap, subst, ◌∙◌}
+use Rattle.std.proofs.lemmas.Result.{on_ok_weaker}
+use Rattle.net_model.specs.Configuration.{Configuration}
+use Rattle.net_model.specs.declared.interface.Interface.{Interface}
+use Rattle.isis_routes.specs.Offered.{AskedBy, OffersIn, AddsOffers}
+use Rattle.isis_routes.proofs.OfferLists.{adds_same, asked_is_offered, offered_is_asked}
+use Rattle.isis_routes.proofs.offers.push_router_offers.Goals as goal
+
+pub returns : goal.returns
+returns c =
+    let config : Configuration = c.config.result.now in
+    let are : c.as_slice.result.now ≡ config.interfaces = c.as_slice.ensures ∙ ap (λ (d : Configuration). d.interfaces) c.behind-net.view_is in
+    let old = c.args.offers.now.items in
+    let new = c.push_offers.new.offers.items in
+    let asked : ℕ → Type 0 = AskedBy c.args.level c.args.dest config.interfaces in
+    on_ok_weaker c.push_offers.result
+    (λ adds. adds_same old new c.args.w asked (OffersIn c.args.net.now c.args.level c.args.dest c.args.w)
+    (subst (λ (l : List Interface). AddsOffers old new c.args.w (AskedBy c.args.level c.args.dest l)) are adds)
+    (λ k. (
+      asked_is_offered c.args.net.now c.args.level c.args.dest c.args.w config c.config.ensures.router k,
+      offered_is_asked c.args.net.now c.args.level c.args.dest c.args.w config c.config.ensures.router k,
+    )))
+    c.push_offers.ensures

@@ -1,0 +1,33 @@
+-- What is known of an IS-IS domain before the tables are made.
+use Rattle.std.specs.Prelude.{List, map, All, Contains}
+use Rattle.net_addr.specs.Addresses.{Block}
+use Rattle.net_model.specs.Network.{Network}
+use Rattle.net_model.specs.declared.zone.Zone.TheVariants.{One, Two}
+use Rattle.igp_theory.specs.Isis.{OffersOne, LevelTwoAnnouncement, OffersDefault}
+use Rattle.zone_graph.specs.Walks.{AreZoneWalks}
+use Rattle.isis_routes.specs.Candidates.{AreDistinct, IsCandidate}
+use Rattle.isis_routes.specs.Offered.{AreOffers}
+use Rattle.isis_routes.specs.declared.domain.Destination.{Destination}
+use Rattle.isis_routes.specs.declared.domain.Domain.{Domain}
+
+-- a destination has what level 1 offers of its prefix, and what is announced of it into level 2
+pub record AreAnnounced (net : Network) (d : Destination) : Type 0 where
+  pub one : AreOffers (OffersOne net d.one.dest) d.one.offers.items
+  pub two : AreOffers (LevelTwoAnnouncement net d.one.dest) d.two.items
+
+-- the prefixes of destinations
+abbrev pub dests_of : List Destination → List Block
+dests_of destinations = map (λ (d : Destination). d.one.dest) destinations
+
+-- the destinations are distinct prefixes, each with what is known of it, and each candidate is one
+pub record AreDestinations (net : Network) (destinations : List Destination) : Type 0 where
+  pub announced : All (AreAnnounced net) destinations
+  pub distinct : AreDistinct (dests_of destinations)
+  pub every : (p : Block) → IsCandidate net p → Contains (dests_of destinations) p
+
+-- what is known is that of the network
+pub record IsDomain (net : Network) (domain : Domain) : Type 0 where
+  pub one : AreZoneWalks net One domain.one
+  pub two : AreZoneWalks net Two domain.two
+  pub destinations : AreDestinations net domain.destinations.items
+  pub attached : AreOffers (OffersDefault net) domain.attached.items

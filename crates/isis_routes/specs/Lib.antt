@@ -1,0 +1,6 @@
+pub mod Offered
+pub mod Attached
+pub mod Candidates
+pub mod Routing
+pub mod Domain
+pub mod RouteTables

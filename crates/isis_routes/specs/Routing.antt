@@ -1,0 +1,42 @@
+-- The routes of a router by level 1, by level 2 and by default.
+use Rattle.std.specs.Prelude.{◌≡◌, ℕ, List}
+use Rattle.net_addr.specs.Addresses.{Block}
+use Rattle.net_model.specs.Network.{Network}
+use Rattle.walk_core.specs.Reach.{Reach}
+use Rattle.walk_core.specs.BestOffers.{IsBestTotal, AreHopsTowards}
+use Rattle.walk_core.specs.declared.offers.Offer.{Offer}
+use Rattle.route_core.specs.Hops.{AreHops}
+use Rattle.igp_theory.specs.Ospf.{default_prefix}
+use Rattle.igp_theory.specs.Isis.{RunsOne, RunsTwo, IsOne, OneHop, IsTwo, TwoHop, DefaultCost, DefaultHop}
+
+-- router u runs level 1 and not level 2
+pub record RunsOneAlone (net : Network) (u : ℕ) : Type 0 where
+  pub runs : RunsOne net u
+  pub alone : RunsTwo net u → ⊥
+
+-- the hops below n towards the offers of the best cost
+pub record AreBestHops (reach : Reach) (offers : List Offer) (n : ℕ) (hops : List ℕ) : Type 0 where
+  pub cost : ℕ
+  pub best : IsBestTotal reach offers cost
+  pub towards : AreHopsTowards reach offers cost n hops
+
+-- p has a level 1 route at u, with these hops
+pub record IsLevelOneRoute (net : Network) (p : Block) (u : ℕ) (hops : List ℕ) : Type 0 where
+  pub is : IsOne net p u
+  pub hops_are : AreHops (OneHop net p u) hops
+
+-- p has a level 2 route at u, with these hops
+pub record IsLevelTwoRoute (net : Network) (p : Block) (u : ℕ) (hops : List ℕ) : Type 0 where
+  pub is : IsTwo net p u
+  pub hops_are : AreHops (TwoHop net p u) hops
+
+-- p is the prefix of all addresses, for which u has a default with these hops
+pub record IsDefaultRoute (net : Network) (p : Block) (u : ℕ) (hops : List ℕ) : Type 0 where
+  pub all : p ≡ default_prefix
+  pub cost : ℕ
+  pub costs : DefaultCost net u cost
+  pub hops_are : AreHops (DefaultHop net u) hops
+
+-- p isn't the prefix of all addresses, or u has no default
+abbrev pub NoDefaultRoute : Network → Block → ℕ → Type 0
+NoDefaultRoute net p u = (cost : ℕ) → p ≡ default_prefix → DefaultCost net u cost → ⊥

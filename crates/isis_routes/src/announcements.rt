@@ -1,0 +1,63 @@
+ghost use Rattle.std.specs.Prelude.{◌≡◌, ◌<◌, ℕ, length, Some, IfOk, OnOk};
+ghost use Rattle.net_model.specs.declared.zone.Zone.TheVariants.{One as ZoneOne};
+ghost use Rattle.igp_theory.specs.Isis.{OffersOne, LevelTwoAnnouncement};
+ghost use Rattle.zone_graph.specs.Walks.{AreZoneWalks};
+ghost use Rattle.isis_routes.specs.Offered.{AddsOffers, AreOffers};
+
+use crate::OutOfMemory;
+use crate::level::Level;
+use crate::level_one::LevelOne;
+use crate::offers::push_router_offers;
+use crate::runs::runs_two;
+use net_model::Net;
+use std::alloc::Global;
+use walk_core::Offer;
+use zone_graph::ZoneWalks;
+
+/// What is announced of a prefix into level 2 (RFC 1195, section 3.2).
+pub fn announcements(
+    alloc: Global,
+    net: &Net,
+    walks: &ZoneWalks,
+    one: &LevelOne,
+) -> Result<Vec<Offer>, OutOfMemory>
+    requires walks { AreZoneWalks net.now ZoneOne walks.now }
+    requires offers { AreOffers (OffersOne net.now one.now.dest) one.now.offers.items }
+    ensures { IfOk result (λ offers. AreOffers (LevelTwoAnnouncement net.now one.now.dest) offers.items) }
+{
+    let mut offers = Vec::new(alloc);
+    for b in 0..net.routers() {
+        push_announcements(&mut offers, net, walks, one, b)?;
+    }
+    Ok(offers)
+}
+
+/// Adds what router `b` announces: its own level 2 subnets, and what it reaches by level 1.
+fn push_announcements(
+    offers: &mut Vec<Offer>,
+    net: &Net,
+    walks: &ZoneWalks,
+    one: &LevelOne,
+    b: u32,
+) -> Result<(), OutOfMemory>
+    requires router { b < length net.now }
+    requires walks { AreZoneWalks net.now ZoneOne walks.now }
+    requires offers { AreOffers (OffersOne net.now one.now.dest) one.now.offers.items }
+    ensures { OnOk result (AddsOffers offers.old.items offers.new.items b (LevelTwoAnnouncement net.now one.now.dest b)) }
+{
+    if !runs_two(net, b) {
+        return Ok(());
+    }
+    push_router_offers(offers, net, Level::Two, one.dest, b)?;
+    push_cost(offers, b, one.cost(net, walks, b))
+}
+
+/// Adds an offer at this cost, if there is one.
+fn push_cost(offers: &mut Vec<Offer>, at: u32, cost: Option<u64>) -> Result<(), OutOfMemory>
+    ensures { OnOk result (AddsOffers offers.old.items offers.new.items at (λ asks. cost ≡ Some asks)) }
+{
+    match cost {
+        Some(asks) => Ok(offers.push(Offer { at, asks })?),
+        None => Ok(()),
+    }
+}

@@ -1,0 +1,74 @@
+ghost use Rattle.std.specs.Prelude.{◌≡◌, ◌<◌, ◌↔◌, ℕ, length, IfOk, IsTrue};
+ghost use Rattle.net_model.specs.declared.zone.Zone.TheVariants.{Two as ZoneTwo};
+ghost use Rattle.igp_theory.specs.Isis.{IsAttached, OffersDefault};
+ghost use Rattle.zone_graph.specs.Walks.{AreZoneWalks};
+ghost use Rattle.isis_routes.specs.Attached.{LeavesArea, LeadsOutside};
+ghost use Rattle.isis_routes.specs.Offered.{AreOffers};
+
+use crate::OutOfMemory;
+use crate::runs::{runs_one, runs_two};
+use net_model::{Config, Net};
+use std::alloc::Global;
+use walk_core::Offer;
+use zone_graph::ZoneWalks;
+
+/// The attached routers, each as an offer of all addresses at no cost (RFC 1195, section 3.2).
+pub fn attached_routers(
+    alloc: Global,
+    net: &Net,
+    walks: &ZoneWalks,
+) -> Result<Vec<Offer>, OutOfMemory>
+    requires { AreZoneWalks net.now ZoneTwo walks.now }
+    ensures { IfOk result (λ offers. AreOffers (OffersDefault net.now) offers.items) }
+{
+    let mut offers = Vec::new(alloc);
+    for u in 0..net.routers() {
+        if is_attached(net, walks, u) {
+            offers.push(Offer { at: u, asks: 0 })?;
+        }
+    }
+    Ok(offers)
+}
+
+/// Whether the router runs both levels and reaches a router of another area by level 2.
+fn is_attached(net: &Net, walks: &ZoneWalks, u: u32) -> bool
+    requires router { u < length net.now }
+    requires walks { AreZoneWalks net.now ZoneTwo walks.now }
+    ensures { IsTrue result ↔ IsAttached net.now u }
+{
+    runs_one(net, u) && runs_two(net, u) && leaves_area(net, walks, u)
+}
+
+/// Whether level 2 leads from the router to a router of another area.
+fn leaves_area(net: &Net, walks: &ZoneWalks, u: u32) -> bool
+    requires router { u < length net.now }
+    requires walks { AreZoneWalks net.now ZoneTwo walks.now }
+    ensures { IsTrue result ↔ LeavesArea net.now u }
+{
+    for v in 0..net.routers() {
+        if leads_outside(net, walks, u, v) {
+            return true;
+        }
+    }
+    false
+}
+
+/// Whether level 2 leads from router `u` to router `v`, which is in another area.
+fn leads_outside(net: &Net, walks: &ZoneWalks, u: u32, v: u32) -> bool
+    requires from_router { u < length net.now }
+    requires to_router { v < length net.now }
+    requires walks { AreZoneWalks net.now ZoneTwo walks.now }
+    ensures { IsTrue result ↔ LeadsOutside net.now u v }
+{
+    if have_one_area(net.config(u), net.config(v)) {
+        return false;
+    }
+    walks.from_router(u).distance(v).is_some()
+}
+
+/// Whether two routers have the same IS-IS area.
+fn have_one_area(one: &Config, other: &Config) -> bool
+    ensures { IsTrue result ↔ (one.now.isis_area ≡ other.now.isis_area) }
+{
+    one.isis_area.as_slice() == other.isis_area.as_slice()
+}

@@ -1,0 +1,19 @@
+//! The route tables of IS-IS: level 1, level 2, and the default towards attached routers (RFC 1195).
+#![tactic(auto)]
+
+mod announcements;
+mod attached;
+mod candidates;
+mod domain;
+mod entry;
+mod level;
+mod level_one;
+mod neighbors;
+mod offers;
+mod route;
+mod routes;
+mod runs;
+mod tables;
+
+pub use routes::IsisRoutes;
+pub use std::alloc::AllocError as OutOfMemory;

@@ -1,0 +1,75 @@
+ghost use Rattle.std.specs.Prelude.{◌≡◌, ◌<◌, ◌↔◌, ℕ, length, Some, IfOk, OnOk};
+ghost use Rattle.net_model.specs.Network.{Network};
+ghost use Rattle.isis_routes.specs.Offered.{Asks, AskedBy, OffersIn, AddsOffers, AreOffers};
+
+use crate::OutOfMemory;
+use crate::level::Level;
+use net_addr::Prefix;
+use net_model::{Interface, Net};
+use std::alloc::Global;
+use walk_core::Offer;
+
+/// What the subnets of all routers' interfaces in the level offer of a prefix.
+pub fn level_offers(
+    alloc: Global,
+    net: &Net,
+    level: Level,
+    dest: Prefix,
+) -> Result<Vec<Offer>, OutOfMemory>
+    ensures { IfOk result (λ offers. AreOffers (OffersIn net.now level dest) offers.items) }
+{
+    let mut offers = Vec::new(alloc);
+    for w in 0..net.routers() {
+        push_router_offers(&mut offers, net, level, dest, w)?;
+    }
+    Ok(offers)
+}
+
+/// Adds what a router's own interfaces offer.
+pub fn push_router_offers(
+    offers: &mut Vec<Offer>,
+    net: &Net,
+    level: Level,
+    dest: Prefix,
+    w: u32,
+) -> Result<(), OutOfMemory>
+    requires { w < length net.now }
+    ensures { OnOk result (AddsOffers offers.old.items offers.new.items w (OffersIn net.now level dest w)) }
+{
+    push_offers(offers, level, dest, net.config(w).interfaces.as_slice(), w)
+}
+
+/// Adds what the interfaces of router `w` offer.
+fn push_offers(
+    offers: &mut Vec<Offer>,
+    level: Level,
+    dest: Prefix,
+    interfaces: &[Interface],
+    w: u32,
+) -> Result<(), OutOfMemory>
+    ensures { OnOk result (AddsOffers offers.old.items offers.new.items w (AskedBy level dest interfaces.now)) }
+{
+    for interface in interfaces {
+        if let Some(asks) = asked(level, dest, interface) {
+            offers.push(Offer {
+                at: w,
+                asks: u64::from(asks),
+            })?;
+        }
+    }
+    Ok(())
+}
+
+/// What the interface asks of its subnet in the level, where the prefix is its subnet.
+fn asked(level: Level, dest: Prefix, interface: &Interface) -> Option<u32>
+    ensures { (cost : ℕ) → (result ≡ Some cost) ↔ Asks level dest interface.now cost }
+{
+    let (runs, metric) = match level {
+        Level::One => (interface.level1, interface.metric1),
+        Level::Two => (interface.level2, interface.metric2),
+    };
+    match interface.subnet {
+        Some(subnet) if interface.up && runs && subnet == dest => Some(metric),
+        _ => None,
+    }
+}
