@@ -4,4 +4,5 @@ pub mod LeastCycle
 pub mod Assumed
 pub mod Marks
 pub mod Waits
+pub mod Successors
 pub mod Held
