@@ -5,4 +5,5 @@ mod SuccessorFacts
 mod MarkedLinks
 mod MarkFacts
 mod WaitFacts
+mod StageFacts
 mod TraceFacts

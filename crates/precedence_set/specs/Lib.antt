@@ -5,4 +5,5 @@ pub mod Assumed
 pub mod Marks
 pub mod Waits
 pub mod Successors
+pub mod Stages
 pub mod Held

@@ -31,10 +31,13 @@ pub struct Precedences {
     cycle_room: Vec<u32>,
     /// For each router the numbers of the pairs from it, in order: a move for each pair.
     successors: Links,
-    /// Room to work in: one for each pair, one for each router, one mark for each router.
+    /// The ready and the placed routers, in two lists that are empty between calls.
+    stages: Links,
+    /// Room to work in: one for each pair, one for each router, two marks for each router.
     earlier: Vec<u32>,
     waits: Vec<u32>,
     marks: Vec<bool>,
+    listed: Vec<bool>,
 }
 
 impl Model for Precedences {
@@ -58,6 +61,8 @@ impl Precedences {
         ensures cycle { IfOk result (λ p. p.cycle ≡ []) }
     {
         let each = routers as usize;
+        let mut stages = Links::new(alloc, 2, routers)?;
+        stages.reserve(3 * routers)?;
         Ok(Precedences {
             routers,
             count: 0,
@@ -65,9 +70,11 @@ impl Precedences {
             cycle_count: 0,
             cycle_room: vec![in alloc; 0; each]?,
             successors: Links::new(alloc, routers, 0)?,
+            stages,
             earlier: Vec::new(alloc),
             waits: vec![in alloc; 0; each]?,
             marks: vec![in alloc; false; each]?,
+            listed: vec![in alloc; false; each]?,
         })
     }
 
@@ -160,6 +167,8 @@ impl Precedences {
             &mut self.waits,
             &mut self.earlier,
             &mut self.marks,
+            &mut self.listed,
+            &mut self.stages,
             out,
         );
     }
