@@ -1,6 +1,9 @@
 pub mod DistinctLists
 pub mod Paths
 pub mod Orders
+mod SuccessorFacts
+mod MarkedLinks
 mod MarkFacts
 mod WaitFacts
+mod StageFacts
 mod TraceFacts

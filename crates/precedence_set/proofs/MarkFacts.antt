@@ -2,13 +2,12 @@
 use Rattle.std.proofs.Common.{◌≡◌, ℕ, zero, suc, ◌+◌, ◌<◌, ◌≤◌, ◌⊎◌, inl, inr, Bool, true, false, List, [], ◌∷◌, length, get_or, set, arith, subst, sym, refl, ap, ◌∙◌, below_more}
 use Rattle.std.specs.Bool.{OnFalse}
 use Rattle.std.specs.List.{Contains}
-use Rattle.std.proofs.lemmas.List.{get_or-set_same, get_or-set_other, get_or_default, get_or_past}
-use Rattle.std.proofs.lemmas.List.Elements.{Contains-get_or}
+use Rattle.std.proofs.lemmas.List.{get_or-set_same, get_or-set_other, get_or_past}
+use Rattle.std.proofs.lemmas.List.Elements.{All-contains}
 use Rattle.std.proofs.lemmas.Bool.{false≢true, cases_lt}
 use Rattle.std.proofs.lemmas.Bool.Decides.{eqb_tells}
-use Rattle.precedence_set.specs.Pairs.{Pair, Reaches, IsPath}
+use Rattle.precedence_set.specs.Pairs.{Pair, AreBelow, Reaches, IsPath}
 use Rattle.precedence_set.specs.Marks.{IsMarked, unmarked_count}
-use Rattle.precedence_set.specs.Waits.{pair_at}
 use Rattle.precedence_set.proofs.Paths.{Reaches-step}
 
 -- a mark stays when another is set
@@ -62,36 +61,35 @@ pub marked_along : (pairs : List Pair) (marks : List Bool) → ((u v : ℕ) → 
 marked_along pairs marks closed r t [] onward marked = subst (λ (x : ℕ). IsMarked marks x) (sym onward) marked
 marked_along pairs marks closed r t (w ∷ path) onward marked = closed r w onward.0 (marked_along pairs marks closed w t path onward.1 marked)
 
--- what a pass over the pairs keeps, as far as it has come
+-- what a pass over the routers keeps, as far as it has come
 pub record IsSpread (pairs : List Pair) (start marks : List Bool) (grown : Bool) (i : ℕ) : Type 0 where
   pub kept : (r : ℕ) → IsMarked start r → IsMarked marks r
   pub sound : (r : ℕ) → IsMarked marks r → (s : ℕ) × IsMarked start s × Reaches pairs r s
   pub still : grown ≡ false → marks ≡ start
-  pub closed : grown ≡ false → (k : ℕ) → k < i → IsMarked marks (pair_at pairs k).1 → IsMarked marks (pair_at pairs k).0
+  pub closed : grown ≡ false → (u : ℕ) → u < i → (v : ℕ) → Contains pairs (u, v) → IsMarked marks v → IsMarked marks u
   pub bounded : unmarked_count marks ≤ unmarked_count start
   pub grows : grown ≡ true → unmarked_count marks < unmarked_count start
 
-pub IsSpread-same : (pairs : List Pair) (start marks : List Bool) (grown : Bool) (i : ℕ) → IsSpread pairs start marks grown i → (IsMarked marks (pair_at pairs i).1 → IsMarked marks (pair_at pairs i).0) → IsSpread pairs start marks grown (i + 1)
+pub IsSpread-same : (pairs : List Pair) (start marks : List Bool) (grown : Bool) (i : ℕ) → IsSpread pairs start marks grown i → ((v : ℕ) → Contains pairs (i, v) → IsMarked marks v → IsMarked marks i) → IsSpread pairs start marks grown (i + 1)
 IsSpread-same pairs start marks grown i spread here = record {
   kept = spread.kept;
   sound = spread.sound;
   still = spread.still;
-  closed = λ e. below_more (λ k. IsMarked marks (pair_at pairs k).1 → IsMarked marks (pair_at pairs k).0) i (spread.closed e) here;
+  closed = λ e. below_more (λ u. (v : ℕ) → Contains pairs (u, v) → IsMarked marks v → IsMarked marks u) i (spread.closed e) here;
   bounded = spread.bounded;
   grows = spread.grows;
 }
 
-pub IsSpread-set : (pairs : List Pair) (start marks : List Bool) (grown : Bool) (i : ℕ) → IsSpread pairs start marks grown i → i < length pairs → (pair_at pairs i).0 < length marks → IsMarked marks (pair_at pairs i).1 → ¬ IsMarked marks (pair_at pairs i).0 → IsSpread pairs start (set marks (pair_at pairs i).0 true) true (i + 1)
-IsSpread-set pairs start marks grown i spread i_in u_in marked fresh =
-    let u = (pair_at pairs i).0 in
-    let fewer = unmarked_count-set marks u u_in fresh in
+pub IsSpread-set : (pairs : List Pair) (start marks : List Bool) (grown : Bool) (i : ℕ) → IsSpread pairs start marks grown i → i < length marks → (v : ℕ) × Contains pairs (i, v) × IsMarked marks v → ¬ IsMarked marks i → IsSpread pairs start (set marks i true) true (i + 1)
+IsSpread-set pairs start marks grown i spread i_in to fresh =
+    let fewer = unmarked_count-set marks i i_in fresh in
     record {
-      kept = λ r old. IsMarked-kept marks u r u_in (spread.kept r old);
-      sound = λ r new. elim (IsMarked-cases marks u r new) [
+      kept = λ r old. IsMarked-kept marks i r i_in (spread.kept r old);
+      sound = λ r new. elim (IsMarked-cases marks i r new) [
         | inl old ↦ spread.sound r old
         | inr same ↦
-            let from = spread.sound (pair_at pairs i).1 marked in
-            (from.0, from.1, subst (λ (x : ℕ). Reaches pairs x from.0) (sym same) (Reaches-step pairs u (pair_at pairs i).1 from.0 (Contains-get_or pairs i (0, 0) i_in) from.2))
+            let from = spread.sound to.0 to.2 in
+            (from.0, from.1, subst (λ (x : ℕ). Reaches pairs x from.0) (sym same) (Reaches-step pairs i to.0 from.0 to.1 from.2))
       ];
       still = λ e. absurd (false≢true (sym e));
       closed = λ e. absurd (false≢true (sym e));
@@ -100,9 +98,8 @@ IsSpread-set pairs start marks grown i spread i_in u_in marked fresh =
     }
 
 -- after a pass that marked nothing new, each pair carries a mark back
-pub IsSpread-closed : (pairs : List Pair) (start marks : List Bool) (grown : Bool) (i : ℕ) → IsSpread pairs start marks grown i → length pairs ≤ i → OnFalse grown ((u v : ℕ) → Contains pairs (u, v) → IsMarked marks v → IsMarked marks u)
-IsSpread-closed pairs start marks true i spread whole = tt
-IsSpread-closed pairs start marks false i spread whole = λ u v has marked.
-    let e : pair_at pairs has.0 ≡ (u, v) = get_or_default pairs has.0 (0, 0) (u, v) has.1 ∙ has.2 in
-    subst (λ (x : ℕ). IsMarked marks x) (ap (λ (p : Pair). p.0) e)
-    (spread.closed refl has.0 (omega (arith, has.1, whole)) (subst (λ (x : ℕ). IsMarked marks x) (sym (ap (λ (p : Pair). p.1) e)) marked))
+pub IsSpread-closed : (n : ℕ) (pairs : List Pair) (start marks : List Bool) (grown : Bool) (i : ℕ) → AreBelow n pairs → IsSpread pairs start marks grown i → n ≤ i → OnFalse grown ((u v : ℕ) → Contains pairs (u, v) → IsMarked marks v → IsMarked marks u)
+IsSpread-closed n pairs start marks true i below spread whole = tt
+IsSpread-closed n pairs start marks false i below spread whole = λ u v has.
+    let u_in : u < n = (All-contains (λ (p : Pair). (p.0 < n) × (p.1 < n)) pairs (u, v) below has).0 in
+    spread.closed refl u (omega (arith, u_in, whole)) v has

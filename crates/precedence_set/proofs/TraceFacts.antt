@@ -1,6 +1,7 @@
 -- The way back from v to u, router by router.
 use Rattle.std.proofs.Common.{◌≡◌, ◌≢◌, ℕ, ◌<◌, ◌≤◌, List, [], ◌∷◌, ◌++◌, length, length-append, take, set, Bool, arith, subst, sym, refl, ap, ◌∙◌}
 use Rattle.std.specs.List.{Contains}
+use Rattle.std.proofs.lemmas.List.Elements.{All-contains}
 use Rattle.precedence_set.specs.Pairs.{Pair, Reaches, IsPath, AreBelow, HasNoCycle}
 use Rattle.precedence_set.specs.LeastCycle.{IsLowestBack, GoesBack, IsLeastCycle}
 use Rattle.precedence_set.specs.Marks.{IsMarked}
@@ -91,3 +92,12 @@ pub IsTraced-begins : (pairs : List Pair) (u v : ℕ) (cycle : List ℕ) → 2 �
 IsTraced-begins pairs u v [] long = absurd (omega (arith, long))
 IsTraced-begins pairs u v (x ∷ []) long = absurd (omega (arith, long))
 IsTraced-begins pairs u v (x ∷ y ∷ cycle) long = record { rest = []; begins = refl; went = refl }
+
+last_below : (n : ℕ) (pairs : List Pair) → AreBelow n pairs → (u x last : ℕ) (rest : List ℕ) → x < n → WentBack pairs u x rest last → last < n
+last_below n pairs below u x last [] x_in went = subst (λ (y : ℕ). y < n) went x_in
+last_below n pairs below u x last (w ∷ rest) x_in went =
+    last_below n pairs below u w last rest (All-contains (λ (p : Pair). (p.0 < n) × (p.1 < n)) pairs (x, w) below went.1.back.follows).1 went.2
+
+-- every router so far is within the number of routers
+pub IsTraced-below : (n : ℕ) (pairs : List Pair) → AreBelow n pairs → (u v last : ℕ) (cycle : List ℕ) → v < n → IsTraced pairs u v last cycle → last < n
+IsTraced-below n pairs below u v last cycle v_in traced = last_below n pairs below u v last traced.rest v_in traced.went

@@ -1,6 +1,8 @@
 -- How the fields of `Precedences` hold the assumed pairs.
-use Rattle.std.specs.Prelude.{◌≡◌, ◌-◌, ◌≤◌, take, vec_len}
+use Rattle.std.specs.Prelude.{◌≡◌, ℕ, ◌+◌, ◌-◌, ◌*◌, ◌≤◌, [], ◌∷◌, length, take, vec_len}
+use Rattle.link_trail.specs.Lists.{lists_at_mark}
 use Rattle.precedence_set.specs.Pairs.{AreBelow, HasNoCycle}
+use Rattle.precedence_set.specs.Successors.{AreSuccessors}
 use Rattle.precedence_set.specs.Assumed.{Assumed}
 use Rattle.precedence_set.specs.declared.precedences.Precedences.TheInside.{Inside}
 
@@ -13,11 +15,22 @@ assumed_of a = record {
   spare = vec_len a.room - a.count;
 }
 
--- the counts are within their rooms, each room has its size, and the pairs have no cycle
+-- the counts are within their rooms, each room has its size, the links held at each mark the
+-- successors by the pairs so far, with one move for each pair, the lists of ready and placed routers
+-- are empty and have room for three moves of each router, and the pairs have no cycle
 pub record IsSettled (a : Inside) : Type 0 where
   pub few : a.routers ≤ 1000
   pub counted : a.count ≤ vec_len a.room
   pub bounded : vec_len a.room ≤ 1000000
+  pub nodes : vec_len a.room ≤ a.successors.nodes
+  pub spare : vec_len a.room ≤ a.count + a.successors.spare
+  pub moves : length a.successors.trail ≡ a.count
+  pub marked : (i : ℕ) → i ≤ a.count → AreSuccessors a.routers (take i a.room.items) (lists_at_mark a.successors i)
+  pub stage_nodes : a.stages.nodes ≡ a.routers
+  pub stages_bare : a.stages.lists ≡ [] ∷ [] ∷ []
+  pub unmoved : a.stages.trail ≡ []
+  pub stage_spare : 3 * a.routers ≤ a.stages.spare
+  pub listed_length : vec_len a.listed ≡ a.routers
   pub earlier_length : vec_len a.room ≤ vec_len a.earlier
   pub cycle_length : vec_len a.cycle_room ≡ a.routers
   pub cycle_counted : a.cycle_count ≤ a.routers

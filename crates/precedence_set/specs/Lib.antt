@@ -4,4 +4,6 @@ pub mod LeastCycle
 pub mod Assumed
 pub mod Marks
 pub mod Waits
+pub mod Successors
+pub mod Stages
 pub mod Held

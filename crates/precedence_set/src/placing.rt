@@ -1,18 +1,28 @@
-ghost use Rattle.std.specs.Prelude.{◌≡◌, ℕ, ◌^◌, ◌<◌, ◌≤◌, length, slice_index};
+ghost use Rattle.std.specs.Prelude.{◌≡◌, ℕ, ◌+◌, ◌*◌, ◌^◌, ◌<◌, ◌≤◌, ◌⊎◌, [], ◌∷◌, length, slice_index, Contains, Some, None};
 ghost use Rattle.std.specs.Bool.{OnTrue, OnFalse};
+ghost use Rattle.link_trail.specs.Lists.{linked, list_at, lists_at_mark, unlinked};
 ghost use Rattle.precedence_set.specs.Pairs.{AreBelow, HasNoCycle};
 ghost use Rattle.precedence_set.specs.LeastExtension.{IsLeastExtension};
-ghost use Rattle.precedence_set.specs.Marks.{IsMarked};
+ghost use Rattle.precedence_set.specs.Marks.{IsMarked, unmarked_count};
 ghost use Rattle.precedence_set.specs.Waits.{HeadsChain, GoesOn, AllWait, IsFree, IsHeld};
+ghost use Rattle.precedence_set.specs.Stages.{AreStages, IsLowerOf, IsLowestOf};
 
 use crate::reaching::clear_marks;
+use link_trail::Links;
 
-/// Writes the least extension of the pairs; the other slices are room to work in.
+/// The list of the routers that can be placed next, and that of the placed ones.
+const READY: u32 = 0;
+
+const PLACED: u32 = 1;
+
+/// Writes the least extension of the pairs; the other arguments are room to work in.
 pub fn place_all(
     pairs: &[(u32, u32)],
     waits: &mut [u32],
     earlier: &mut [u32],
     placed: &mut [bool],
+    listed: &mut [bool],
+    stages: &mut Links,
     out: &mut [u32],
 )
     requires small { length out.old < 2 ^ 32 }
@@ -22,15 +32,27 @@ pub fn place_all(
     requires waits_length { length waits.old ≡ length out.old }
     requires earlier_length { length pairs.now ≤ length earlier.old }
     requires placed_length { length placed.old ≡ length out.old }
-    ensures { IsLeastExtension (length out.new) pairs.now out.new }
+    requires listed_length { length listed.old ≡ length out.old }
+    requires nodes { length out.old ≤ stages.old.nodes }
+    requires bare { stages.old.lists ≡ [] ∷ [] ∷ [] }
+    requires unmoved { stages.old.trail ≡ [] }
+    requires spare { 3 * length out.old ≤ stages.old.spare }
+    ensures order { IsLeastExtension (length out.new) pairs.now out.new }
+    ensures nodes { stages.new.nodes ≡ stages.old.nodes }
+    ensures bare { stages.new.lists ≡ stages.old.lists }
+    ensures unmoved { stages.new.trail ≡ stages.old.trail }
+    ensures spare { stages.old.spare ≤ stages.new.spare }
 {
     chain_up(pairs, waits, earlier);
     clear_marks(placed);
+    clear_marks(listed);
     for k in 0..out.len() {
-        let r = lowest_ready(pairs, earlier, waits, placed);
-        out[k] = r;
+        offer_all(pairs, earlier, waits, placed, listed, stages);
+        let r = take_lowest(stages);
         placed[r as usize] = true;
+        out[k] = r;
     }
+    stages.undo_to(0);
 }
 
 /// Chains the pairs into each router, from the last one back.
@@ -58,28 +80,128 @@ fn clear_heads(heads: &mut [u32])
     }
 }
 
-/// The lowest-numbered router that can be placed next; the waits of those before it move on.
-fn lowest_ready(pairs: &[(u32, u32)], earlier: &[u32], waits: &mut [u32], placed: &[bool]) -> u32
+/// Lists every router as ready that can be placed next and isn't listed yet.
+fn offer_all(
+    pairs: &[(u32, u32)],
+    earlier: &[u32],
+    waits: &mut [u32],
+    placed: &[bool],
+    listed: &mut [bool],
+    stages: &mut Links,
+)
     requires small { length waits.old < 2 ^ 32 }
     requires pairs_small { length pairs.now < 2 ^ 32 }
     requires below { AreBelow (length waits.old) pairs.now }
-    requires acyclic { HasNoCycle pairs.now }
     requires placed_length { length placed.now ≡ length waits.old }
+    requires listed_length { length listed.old ≡ length waits.old }
     requires earlier_length { length pairs.now ≤ length earlier.now }
     requires chained { GoesOn pairs.now earlier.now }
     requires waiting { AllWait pairs.now placed.now waits.old }
-    requires some { (r : ℕ) × (r < length waits.old) × (¬ IsMarked placed.now r) }
+    requires stages { AreStages (length waits.old) pairs.now placed.now listed.old stages.old.lists }
+    requires nodes { length waits.old ≤ stages.old.nodes }
+    requires spare { unmarked_count listed.old ≤ stages.old.spare }
     ensures waiting { AllWait pairs.now placed.now waits.new }
-    ensures within { result < length waits.new }
-    ensures free { IsFree pairs.now placed.now result }
-    ensures lowest { (q : ℕ) → q < result → IsHeld pairs.now placed.now q }
+    ensures stages { AreStages (length waits.new) pairs.now placed.now listed.new stages.new.lists }
+    ensures offered { (r : ℕ) → r < length waits.new → Contains (list_at stages.new.lists 0) r ⊎ IsHeld pairs.now placed.now r }
+    ensures nodes { stages.new.nodes ≡ stages.old.nodes }
+    ensures begun { lists_at_mark stages.new 0 ≡ lists_at_mark stages.old 0 }
+    ensures spare { stages.new.spare + unmarked_count listed.old ≡ stages.old.spare + unmarked_count listed.new }
+    ensures moves { stages.new.spare + length stages.new.trail ≡ stages.old.spare + length stages.old.trail }
 {
     for r in 0..waits.len() {
-        if is_free(pairs, earlier, waits, placed, r) {
-            return r as u32;
-        }
+        offer(pairs, earlier, waits, placed, listed, stages, r);
     }
-    unreachable!()
+}
+
+/// Lists router r as ready where it can be placed next and isn't listed yet.
+fn offer(
+    pairs: &[(u32, u32)],
+    earlier: &[u32],
+    waits: &mut [u32],
+    placed: &[bool],
+    listed: &mut [bool],
+    stages: &mut Links,
+    r: usize,
+)
+    requires within { r < length waits.old }
+    requires small { length waits.old < 2 ^ 32 }
+    requires pairs_small { length pairs.now < 2 ^ 32 }
+    requires below { AreBelow (length waits.old) pairs.now }
+    requires placed_length { length placed.now ≡ length waits.old }
+    requires listed_length { length listed.old ≡ length waits.old }
+    requires earlier_length { length pairs.now ≤ length earlier.now }
+    requires chained { GoesOn pairs.now earlier.now }
+    requires waiting { AllWait pairs.now placed.now waits.old }
+    requires stages { AreStages (length waits.old) pairs.now placed.now listed.old stages.old.lists }
+    requires nodes { length waits.old ≤ stages.old.nodes }
+    requires spare { unmarked_count listed.old ≤ stages.old.spare }
+    ensures waiting { AllWait pairs.now placed.now waits.new }
+    ensures stages { AreStages (length waits.new) pairs.now placed.now listed.new stages.new.lists }
+    ensures offered { Contains (list_at stages.new.lists 0) r ⊎ IsHeld pairs.now placed.now r }
+    ensures kept { (q : ℕ) → Contains (list_at stages.old.lists 0) q → Contains (list_at stages.new.lists 0) q }
+    ensures nodes { stages.new.nodes ≡ stages.old.nodes }
+    ensures begun { lists_at_mark stages.new 0 ≡ lists_at_mark stages.old 0 }
+    ensures spare { stages.new.spare + unmarked_count listed.old ≡ stages.old.spare + unmarked_count listed.new }
+    ensures moves { stages.new.spare + length stages.new.trail ≡ stages.old.spare + length stages.old.trail }
+{
+    if listed[r] {
+        return;
+    }
+    if !is_free(pairs, earlier, waits, placed, r) {
+        return;
+    }
+    listed[r] = true;
+    stages.link(READY, r as u32);
+}
+
+/// Takes the lowest-numbered ready router and puts it to the placed ones.
+fn take_lowest(stages: &mut Links) -> u32
+    requires two { length stages.old.lists ≡ 2 }
+    requires some { ¬ IsLowestOf (list_at stages.old.lists 0) None }
+    requires within { (r : ℕ) → Contains (list_at stages.old.lists 0) r → r < stages.old.nodes }
+    requires spare { 2 ≤ stages.old.spare }
+    ensures lowest { IsLowestOf (list_at stages.old.lists 0) (Some result) }
+    ensures lists { stages.new.lists ≡ linked (unlinked stages.old.lists result) 1 result }
+    ensures nodes { stages.new.nodes ≡ stages.old.nodes }
+    ensures begun { lists_at_mark stages.new 0 ≡ lists_at_mark stages.old 0 }
+    ensures spare { stages.new.spare + 2 ≡ stages.old.spare }
+    ensures moves { length stages.new.trail ≡ length stages.old.trail + 2 }
+{
+    match lowest_ready(stages) {
+        Some(r) => {
+            stages.unlink(r);
+            stages.link(PLACED, r);
+            r
+        }
+        None => unreachable!(),
+    }
+}
+
+/// The lowest-numbered ready router, if there is one.
+fn lowest_ready(stages: &Links) -> Option<u32>
+    requires two { length stages.now.lists ≡ 2 }
+    requires within { (r : ℕ) → Contains (list_at stages.now.lists 0) r → r < stages.now.nodes }
+    ensures { IsLowestOf (list_at stages.now.lists 0) result }
+{
+    // The mark's clause says that no router stands twice in a list, so the walk ends.
+    let _standing = stages.mark();
+    let mut lowest = None;
+    let mut at = stages.first(READY);
+    while let Some(router) = at {
+        lowest = Some(lower(lowest, router));
+        at = stages.next(router);
+    }
+    lowest
+}
+
+/// The lower of a router that may be known and another.
+fn lower(known: Option<u32>, v: u32) -> u32
+    ensures { IsLowerOf known v result }
+{
+    match known {
+        Some(w) => w.min(v),
+        None => v,
+    }
 }
 
 /// Whether router r can be placed next; its wait moves on past the pairs whose first router is placed.

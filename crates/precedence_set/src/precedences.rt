@@ -5,6 +5,7 @@ ghost use Rattle.precedence_set.specs.LeastCycle.{IsLeastCycle};
 
 use crate::placing::place_all;
 use crate::tracing::closed_cycle;
+use link_trail::Links;
 use std::alloc::{AllocError, Global};
 use std::marker::Model;
 
@@ -28,10 +29,15 @@ pub struct Precedences {
     /// The cycle of the latest pair that closed one: the first `cycle_count` routers of `cycle_room`.
     cycle_count: usize,
     cycle_room: Vec<u32>,
-    /// Room to work in: one for each pair, one for each router, one mark for each router.
+    /// For each router the numbers of the pairs from it, in order: a move for each pair.
+    successors: Links,
+    /// The ready and the placed routers, in two lists that are empty between calls.
+    stages: Links,
+    /// Room to work in: one for each pair, one for each router, two marks for each router.
     earlier: Vec<u32>,
     waits: Vec<u32>,
     marks: Vec<bool>,
+    listed: Vec<bool>,
 }
 
 impl Model for Precedences {
@@ -55,15 +61,20 @@ impl Precedences {
         ensures cycle { IfOk result (λ p. p.cycle ≡ []) }
     {
         let each = routers as usize;
+        let mut stages = Links::new(alloc, 2, routers)?;
+        stages.reserve(3 * routers)?;
         Ok(Precedences {
             routers,
             count: 0,
             room: Vec::new(alloc),
             cycle_count: 0,
             cycle_room: vec![in alloc; 0; each]?,
+            successors: Links::new(alloc, routers, 0)?,
+            stages,
             earlier: Vec::new(alloc),
             waits: vec![in alloc; 0; each]?,
             marks: vec![in alloc; false; each]?,
+            listed: vec![in alloc; false; each]?,
         })
     }
 
@@ -75,7 +86,12 @@ impl Precedences {
         ensures same { self.new ≡ record self.old { spare = self.new.spare } }
     {
         let wanted = self.count + pairs as usize;
-        widen(&mut self.earlier, &mut self.room, wanted)
+        widen(
+            &mut self.successors,
+            &mut self.earlier,
+            &mut self.room,
+            wanted,
+        )
     }
 
     /// Assumes "u before v", unless that would close a cycle: then only `cycle` changes.
@@ -91,12 +107,20 @@ impl Precedences {
         ensures cycle { result ≡ Added.Closes → IsLeastCycle self.old.pairs u v self.new.cycle }
     {
         let pairs = &self.room[..self.count];
-        match closed_cycle(pairs, u, v, &mut self.marks, &mut self.cycle_room) {
+        match closed_cycle(
+            &self.successors,
+            pairs,
+            u,
+            v,
+            &mut self.marks,
+            &mut self.cycle_room,
+        ) {
             Some(count) => {
                 self.cycle_count = count;
                 Added::Closes
             }
             None => {
+                self.successors.link(u, self.count as u32);
                 self.room[self.count] = (u, v);
                 self.count += 1;
                 Added::Kept
@@ -126,6 +150,7 @@ impl Precedences {
           spare = self.old.spare + (length self.old.pairs - mark);
         } }
     {
+        self.successors.undo_to(mark);
         self.count = mark as usize;
     }
 
@@ -142,26 +167,38 @@ impl Precedences {
             &mut self.waits,
             &mut self.earlier,
             &mut self.marks,
+            &mut self.listed,
+            &mut self.stages,
             out,
         );
     }
 }
 
-/// Lengthens both vectors to this length at least, the first one first.
+/// Makes room for so many pairs at least, in the vector of pairs last.
 fn widen(
+    successors: &mut Links,
     earlier: &mut Vec<u32>,
     room: &mut Vec<(u32, u32)>,
     wanted: usize,
 ) -> Result<(), AllocError>
+    requires nodes { vec_len room.old ≤ successors.old.nodes }
+    requires spare { vec_len room.old ≤ length successors.old.trail + successors.old.spare }
+    requires standing { length successors.old.trail ≤ wanted }
     requires ahead { vec_len room.old ≤ vec_len earlier.old }
     requires bound { vec_len room.old ≤ 1000000 }
     requires small { wanted ≤ 1000000 }
+    ensures lists { successors.new.lists ≡ successors.old.lists }
+    ensures trail { successors.new.trail ≡ successors.old.trail }
+    ensures nodes { vec_len room.new ≤ successors.new.nodes }
+    ensures spare { vec_len room.new ≤ length successors.new.trail + successors.new.spare }
     ensures ahead { vec_len room.new ≤ vec_len earlier.new }
     ensures bound { vec_len room.new ≤ 1000000 }
     ensures enough { OnOk result (wanted ≤ vec_len room.new) }
     ensures no_less { vec_len room.old ≤ vec_len room.new }
     ensures kept { take (vec_len room.old) room.new.items ≡ room.old.items }
 {
+    successors.widen(wanted as u32)?;
+    successors.reserve(wanted as u32 - successors.mark())?;
     while earlier.len() < wanted {
         earlier.push(0)?;
     }

@@ -2,11 +2,15 @@ ghost use Rattle.std.specs.Prelude.{◌≡◌, ◌≢◌, ℕ, ◌^◌, ◌<◌,
 ghost use Rattle.precedence_set.specs.Pairs.{AreBelow, HasNoCycle, Reaches};
 ghost use Rattle.precedence_set.specs.LeastCycle.{IsLeastCycle};
 ghost use Rattle.precedence_set.specs.Marks.{IsMarked};
+ghost use Rattle.precedence_set.specs.Successors.{AreSuccessors};
 
+use crate::following::lowest_marked_after;
 use crate::reaching::mark_reaching;
+use link_trail::Links;
 
 /// Where the pair (u, v) closes a cycle, writes that cycle and says how long it is.
 pub fn closed_cycle(
+    successors: &Links,
     pairs: &[(u32, u32)],
     u: u32,
     v: u32,
@@ -16,6 +20,8 @@ pub fn closed_cycle(
     requires below { AreBelow (length cycle.old) pairs.now }
     requires small { length cycle.old < 2 ^ 32 }
     requires marks_length { length marks.old ≡ length cycle.old }
+    requires successors { AreSuccessors (length cycle.old) pairs.now successors.now.lists }
+    requires nodes { length pairs.now ≤ successors.now.nodes }
     requires u_in { u < length cycle.old }
     requires v_in { v < length cycle.old }
     requires differ { u ≢ v }
@@ -26,18 +32,27 @@ pub fn closed_cycle(
     ensures open { IfNone result (¬ Reaches pairs.now v u) }
     ensures same { IfNone result (cycle.new ≡ cycle.old) }
 {
-    mark_reaching(pairs, u, marks);
+    mark_reaching(successors, pairs, u, marks);
     if !marks[v as usize] {
         return None;
     }
-    Some(trace_cycle(pairs, marks, u, v, cycle))
+    Some(trace_cycle(successors, pairs, marks, u, v, cycle))
 }
 
 /// Writes the cycle that the pair (u, v) closes, where the routers that reach u are marked; how long it is.
-fn trace_cycle(pairs: &[(u32, u32)], marks: &[bool], u: u32, v: u32, cycle: &mut [u32]) -> usize
+fn trace_cycle(
+    successors: &Links,
+    pairs: &[(u32, u32)],
+    marks: &[bool],
+    u: u32,
+    v: u32,
+    cycle: &mut [u32],
+) -> usize
     requires below { AreBelow (length cycle.old) pairs.now }
     requires small { length cycle.old < 2 ^ 32 }
     requires marks_length { length marks.now ≡ length cycle.old }
+    requires successors { AreSuccessors (length cycle.old) pairs.now successors.now.lists }
+    requires nodes { length pairs.now ≤ successors.now.nodes }
     requires u_in { u < length cycle.old }
     requires v_in { v < length cycle.old }
     requires differ { u ≢ v }
@@ -53,7 +68,7 @@ fn trace_cycle(pairs: &[(u32, u32)], marks: &[bool], u: u32, v: u32, cycle: &mut
     let mut count = 2;
     let mut last = v;
     loop {
-        let next = lowest_marked_after(pairs, marks, last);
+        let next = step_back(successors, pairs, marks, last);
         if next == u {
             return count;
         }
@@ -63,20 +78,19 @@ fn trace_cycle(pairs: &[(u32, u32)], marks: &[bool], u: u32, v: u32, cycle: &mut
     }
 }
 
-/// The lowest-numbered marked router that is assumed after x.
-fn lowest_marked_after(pairs: &[(u32, u32)], marks: &[bool], x: u32) -> u32
-    requires small { length marks.now < 2 ^ 32 }
+/// The lowest-numbered marked router that is assumed after x, where there is one.
+fn step_back(successors: &Links, pairs: &[(u32, u32)], marks: &[bool], x: u32) -> u32
+    requires x_in { x < length marks.now }
     requires below { AreBelow (length marks.now) pairs.now }
+    requires successors { AreSuccessors (length marks.now) pairs.now successors.now.lists }
+    requires nodes { length pairs.now ≤ successors.now.nodes }
     requires some { (w : ℕ) × Contains pairs.now (x, w) × IsMarked marks.now w }
     ensures after { Contains pairs.now (x, result) }
     ensures marked { IsMarked marks.now result }
     ensures lowest { (w : ℕ) → Contains pairs.now (x, w) → IsMarked marks.now w → result ≤ w }
 {
-    let mut lowest = u32::MAX;
-    for &(u, v) in pairs {
-        if u == x && marks[v as usize] && v < lowest {
-            lowest = v;
-        }
+    match lowest_marked_after(successors, pairs, marks, x) {
+        Some(next) => next,
+        None => unreachable!(),
     }
-    lowest
 }

@@ -1,16 +1,19 @@
--- Each router before this one is held, and not all of them can be.
-use Rattle.std.proofs.Common.{arith, below_more}
-use Rattle.precedence_set.specs.Waits.{IsHeld}
-use Rattle.precedence_set.proofs.WaitFacts.{some_free}
+-- Each step of the walk goes to the next ready router.
+use Rattle.std.proofs.Common.{arith}
+use Rattle.precedence_set.proofs.StageFacts.{IsSought-begin, IsSought-step, IsSought-end, nodes_from-smaller, in_first}
 use Rattle.precedence_set.proofs.placing.lowest_ready.Goals as goal
 
-pub loop-r-preserved : goal.loop-r-preserved
-loop-r-preserved c = record {
-  waiting = c.is_free.ensures.waiting;
-  held = below_more (λ q. IsHeld c.args.pairs.now c.args.placed.now q) c.loop-r.r c.loop-r.invariant.held c.if-is_free.ensures.held;
-}
+pub loop-at-init : goal.loop-at-init
+loop-at-init c = IsSought-begin c.args.stages.now.lists _ c.first-at.ensures
 
-pub unreachable-requires : goal.unreachable-requires
-unreachable-requires c =
-    let some = c.requires.some in
-    some_free _ c.args.pairs.now c.args.placed.now c.requires.below c.requires.acyclic (λ q lt. c.loop-r.invariant.held q (omega (arith, lt))) some.0 some.1 some.2
+pub loop-at-preserved : goal.loop-at-preserved
+loop-at-preserved c = IsSought-step c.args.stages.now.lists c.loop-at.at c.loop-at.lowest _ c.in-Some.router _ (omega (arith, c.requires.two)) c.loop-at.invariant c.in-Some.is c.next-at.ensures c.lower.ensures
+
+pub loop-at-smaller : goal.loop-at-smaller
+loop-at-smaller c = nodes_from-smaller c.args.stages.now.lists c.loop-at.at c.loop-at.lowest _ c.in-Some.router (omega (arith, c.requires.two)) c.mark-standing.ensures.apart c.loop-at.invariant c.in-Some.is c.next-at.ensures
+
+pub next-at-requires : goal.next-at-requires
+next-at-requires c = c.requires.within c.in-Some.router (in_first c.args.stages.now.lists c.loop-at.at c.loop-at.lowest c.in-Some.router c.loop-at.invariant c.in-Some.is)
+
+pub returns : goal.returns
+returns c = IsSought-end c.args.stages.now.lists c.loop-at.at c.loop-at.lowest c.loop-at.invariant c.in_default.not-Some

@@ -1,9 +1,9 @@
-use Rattle.std.proofs.Common.{ℕ, ◌<◌}
-use Rattle.precedence_set.specs.Waits.{AllWait, IsHeld}
+use Rattle.link_trail.specs.Lists.{list_at}
+use Rattle.precedence_set.proofs.StageFacts.{IsSought, nodes_from}
 use Rattle.precedence_set.proofs.placing.lowest_ready.Given as goal
 
-abbrev pub invariant-loop-r : goal.invariant-loop-r
-invariant-loop-r l = record {
-  waiting : AllWait l.pairs l.placed l.waits;
-  held : (q : ℕ) → q < l.r → IsHeld l.pairs l.placed q;
-}
+abbrev pub invariant-loop-at : goal.invariant-loop-at
+invariant-loop-at l = IsSought l.stages.lists l.at l.lowest
+
+abbrev pub decreases-loop-at : goal.decreases-loop-at
+decreases-loop-at l = nodes_from (list_at l.stages.lists 0) l.at

@@ -1,10 +1,12 @@
 -- A pair is kept where its second router doesn't reach its first.
-use Rattle.std.proofs.Common.{◌≡◌, ◌<◌, List, take, length, arith, subst, sym, ap, refl, ◌∙◌}
-use Rattle.std.proofs.lemmas.List.{take_more_set}
+use Rattle.std.proofs.Common.{◌≡◌, ◌<◌, List, take, length, arith, subst, sym, ap, refl, ◌∙◌, ℕ, ◌+◌}
+use Rattle.std.proofs.lemmas.List.{take_more_set, length_push, length-take-le}
 use Rattle.std.proofs.lemmas.List.Elements.{All-push}
 use Rattle.precedence_set.specs.Pairs.{Pair, AreBelow, HasNoCycle, Leads, Reaches}
 use Rattle.precedence_set.specs.Assumed.{Assumed}
 use Rattle.precedence_set.proofs.Paths.{HasNoCycle-push, Leads-from_Reaches, Reaches-from_Leads}
+use Rattle.precedence_set.specs.Successors.{AreSuccessors}
+use Rattle.precedence_set.proofs.MarkedLinks.{AreMarked-now, AreMarked-linked, IsFree-next}
 use Rattle.precedence_set.proofs.precedences.Precedences.add.Goals as goal
 
 pub closed_cycle-requires-clause-acyclic : goal.closed_cycle-requires-clause-acyclic
@@ -26,6 +28,15 @@ invariant_of-self-in-None c =
       few = old.few;
       counted = omega (arith, free);
       bounded = old.bounded;
+      nodes = omega (arith, old.nodes, c.link.ensures.nodes);
+      spare = omega (arith, old.spare, free, c.link.ensures.spare);
+      moves = ap (λ (t : List (List (List ℕ))). length t) c.link.ensures.trail ∙ length_push a.successors.trail a.successors.lists ∙ ap (λ (k : ℕ). k + 1) old.moves;
+      marked = AreMarked-linked a.routers a.room.items a.count c.args.u c.args.v a.successors c.link.new.self old.marked old.moves in' (omega (arith, c.requires.u_in, routers)) c.link.ensures.lists c.link.ensures.trail;
+      stage_nodes = old.stage_nodes;
+      stages_bare = old.stages_bare;
+      unmoved = old.unmoved;
+      stage_spare = old.stage_spare;
+      listed_length = old.listed_length;
       earlier_length = old.earlier_length;
       cycle_length = old.cycle_length;
       cycle_counted = old.cycle_counted;
@@ -46,3 +57,24 @@ returns-in-None-clause-closes c =
     let pairs : take c.self.inside.count c.deref.result.now ≡ c.args.self.now.pairs =
     ap (λ (xs : List Pair). take c.self.inside.count xs) c.deref.ensures.value ∙ ap (λ (x : Assumed). x.pairs) c.self.view_is in
     (λ same. cc, λ leads. absurd (c.in-None.ensures.open (Reaches-from_Leads _ _ _ (subst (λ (xs : List Pair). Leads xs c.args.v c.args.u) (sym pairs) leads))))
+
+pub closed_cycle-requires-clause-successors : goal.closed_cycle-requires-clause-successors
+closed_cycle-requires-clause-successors c =
+    let a = c.self.inside in
+    let now = AreMarked-now a.routers a.room.items a.count a.successors c.self.invariant.marked c.self.invariant.moves in
+    let same = subst (λ (xs : List Pair). AreSuccessors a.routers (take a.count xs) a.successors.lists) (sym c.deref.ensures.value) now in
+    let long : a.routers ≡ length c.deref_mut-2.result.now = omega (arith, c.self.invariant.cycle_length) in
+    subst (λ (n : ℕ). AreSuccessors n (take a.count c.deref.result.now) a.successors.lists) long same
+
+pub link-requires-clause-list : goal.link-requires-clause-list
+link-requires-clause-list c =
+    let a = c.self.inside in
+    let now = AreMarked-now a.routers a.room.items a.count a.successors c.self.invariant.marked c.self.invariant.moves in
+    let routers : a.routers ≡ c.args.self.now.routers = ap (λ (x : Assumed). x.routers) c.self.view_is in
+    omega (arith, now.count, routers, c.requires.u_in)
+
+pub link-requires-clause-free : goal.link-requires-clause-free
+link-requires-clause-free c =
+    let a = c.self.inside in
+    let now = AreMarked-now a.routers a.room.items a.count a.successors c.self.invariant.marked c.self.invariant.moves in
+    IsFree-next a.routers (take a.count a.room.items) a.successors.lists a.count now (omega (arith, length-take-le a.count a.room.items (omega (arith, c.self.invariant.counted, a.room.ok.0))))

@@ -14,7 +14,7 @@ returns-clause-least c =
     ap (λ (xs : List Pair). take c.self.inside.count xs) c.deref.ensures.value ∙ ap (λ (x : Assumed). x.pairs) c.self.view_is in
     let long : length c.place_all.new.out ≡ c.args.self.now.routers = omega (arith, c.requires, c.place_all.auto.out) in
     subst (λ (n : ℕ). IsLeastExtension n c.args.self.now.pairs c.place_all.new.out) long
-    (subst (λ (xs : List Pair). IsLeastExtension (length c.place_all.new.out) xs c.place_all.new.out) pairs c.place_all.ensures)
+    (subst (λ (xs : List Pair). IsLeastExtension (length c.place_all.new.out) xs c.place_all.new.out) pairs c.place_all.ensures.order)
 
 pub returns-clause-acyclic : goal.returns-clause-acyclic
 returns-clause-acyclic c = subst (λ (xs : List Pair). HasNoCycle xs) (ap (λ (x : Assumed). x.pairs) c.self.view_is) c.self.invariant.acyclic

@@ -1,7 +1,8 @@
 -- The pairs stay the first ones of the room.
-use Rattle.std.proofs.Common.{◌≡◌, List, take, arith, subst, sym, ap, ◌∙◌}
+use Rattle.std.proofs.Common.{◌≡◌, ◌≤◌, ℕ, List, length, take, arith, subst, sym, ap, ◌∙◌}
 use Rattle.std.proofs.lemmas.List.{take-take}
 use Rattle.precedence_set.specs.Pairs.{Pair, AreBelow, HasNoCycle}
+use Rattle.precedence_set.proofs.MarkedLinks.{AreMarked-same}
 use Rattle.precedence_set.proofs.precedences.Precedences.reserve.Goals as goal
 
 pub invariant_of-self : goal.invariant_of-self
@@ -10,10 +11,22 @@ invariant_of-self c =
     let old = c.self.invariant in
     let e : take a.count a.room.items ≡ take a.count c.widen.new.room.items =
     ap (λ (xs : List Pair). take a.count xs) (sym c.widen.ensures.kept) ∙ take-take a.count a.room.len c.widen.new.room.items old.counted in
+    let moves : length c.widen.new.successors.trail ≡ length a.successors.trail = ap (λ (t : List (List (List ℕ))). length t) c.widen.ensures.trail in
+    let kept : (i : ℕ) → i ≤ a.count → take i a.room.items ≡ take i c.widen.new.room.items =
+    λ (i : ℕ) (le : i ≤ a.count). ap (λ (xs : List Pair). take i xs) (sym c.widen.ensures.kept) ∙ take-take i a.room.len c.widen.new.room.items (omega (arith, le, old.counted)) in
     record {
       few = old.few;
       counted = omega (arith, old.counted, c.widen.ensures.no_less);
       bounded = c.widen.ensures.bound;
+      nodes = c.widen.ensures.nodes;
+      spare = omega (arith, c.widen.ensures.spare, moves, old.moves);
+      moves = moves ∙ old.moves;
+      marked = AreMarked-same a.routers a.room.items c.widen.new.room.items a.count a.successors c.widen.new.successors old.marked c.widen.ensures.lists c.widen.ensures.trail kept;
+      stage_nodes = old.stage_nodes;
+      stages_bare = old.stages_bare;
+      unmoved = old.unmoved;
+      stage_spare = old.stage_spare;
+      listed_length = old.listed_length;
       earlier_length = c.widen.ensures.ahead;
       cycle_length = old.cycle_length;
       cycle_counted = old.cycle_counted;

@@ -1,10 +1,11 @@
 -- Fewer pairs are of the same routers, and have no cycle either.
-use Rattle.std.proofs.Common.{◌≤◌, ◌<◌, ◌≡◌, List, length, take, arith, subst, ap}
+use Rattle.std.proofs.Common.{◌≤◌, ◌<◌, ◌≡◌, List, length, take, arith, subst, ap, ℕ, ◌∙◌}
 use Rattle.std.proofs.lemmas.List.{take-take, length-take-le}
 use Rattle.std.proofs.lemmas.List.Elements.{All-take}
 use Rattle.precedence_set.specs.Pairs.{Pair, AreBelow, HasNoCycle}
 use Rattle.precedence_set.specs.Assumed.{Assumed}
 use Rattle.precedence_set.proofs.Paths.{HasNoCycle-take}
+use Rattle.precedence_set.proofs.MarkedLinks.{AreMarked-undone}
 use Rattle.precedence_set.proofs.precedences.Precedences.undo_to.Goals as goal
 
 pub invariant_of-self : goal.invariant_of-self
@@ -18,6 +19,15 @@ invariant_of-self c =
       few = old.few;
       counted = omega (arith, le, old.counted);
       bounded = old.bounded;
+      nodes = omega (arith, old.nodes, c.undo_to.ensures.nodes);
+      spare = omega (arith, old.spare, old.moves, le, c.undo_to.ensures.spare);
+      moves = ap (λ (t : List (List (List ℕ))). length t) c.undo_to.ensures.trail ∙ length-take-le c.args.mark a.successors.trail (omega (arith, old.moves, le));
+      marked = AreMarked-undone a.routers a.room.items a.count c.args.mark a.successors c.undo_to.new.self old.marked old.moves le c.undo_to.ensures.lists c.undo_to.ensures.trail;
+      stage_nodes = old.stage_nodes;
+      stages_bare = old.stages_bare;
+      unmoved = old.unmoved;
+      stage_spare = old.stage_spare;
+      listed_length = old.listed_length;
       earlier_length = old.earlier_length;
       cycle_length = old.cycle_length;
       cycle_counted = old.cycle_counted;

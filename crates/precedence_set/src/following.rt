@@ -1,0 +1,48 @@
+ghost use Rattle.std.specs.Prelude.{◌≡◌, ℕ, ◌<◌, ◌≤◌, length, Contains, Some, ◌⊎◌, IfSome, IfNone};
+ghost use Rattle.precedence_set.specs.Pairs.{AreBelow};
+ghost use Rattle.precedence_set.specs.Marks.{IsMarked};
+ghost use Rattle.precedence_set.specs.Successors.{AreSuccessors, IsAtMost};
+
+use link_trail::Links;
+
+/// The lowest-numbered marked router that is assumed after x, if there is one.
+pub fn lowest_marked_after(
+    successors: &Links,
+    pairs: &[(u32, u32)],
+    marks: &[bool],
+    x: u32,
+) -> Option<u32>
+    requires x_in { x < length marks.now }
+    requires below { AreBelow (length marks.now) pairs.now }
+    requires successors { AreSuccessors (length marks.now) pairs.now successors.now.lists }
+    requires nodes { length pairs.now ≤ successors.now.nodes }
+    ensures after { IfSome result (λ w. Contains pairs.now (x, w)) }
+    ensures marked { IfSome result (λ w. IsMarked marks.now w) }
+    ensures lowest { IfSome result (λ w. (q : ℕ) → Contains pairs.now (x, q) → IsMarked marks.now q → w ≤ q) }
+    ensures none { IfNone result ((q : ℕ) → Contains pairs.now (x, q) → ¬ IsMarked marks.now q) }
+{
+    let mut lowest = None;
+    let mut at = successors.first(x);
+    while let Some(number) = at {
+        let (_, v) = pairs[number as usize];
+        lowest = lowest_with(marks, lowest, v);
+        at = successors.next(number);
+    }
+    lowest
+}
+
+/// The lower of a router that may be known and of v where that is marked.
+fn lowest_with(marks: &[bool], lowest: Option<u32>, v: u32) -> Option<u32>
+    requires { v < length marks.now }
+    ensures found { (w : ℕ) → result ≡ Some w → (lowest ≡ Some w) ⊎ ((w ≡ v) × IsMarked marks.now v) }
+    ensures no_higher { (q : ℕ) → IsAtMost lowest q → IsAtMost result q }
+    ensures at_most { IsMarked marks.now v → IsAtMost result v }
+{
+    if !marks[v as usize] {
+        return lowest;
+    }
+    match lowest {
+        Some(w) if w < v => lowest,
+        _ => Some(v),
+    }
+}
