@@ -146,3 +146,6 @@ fn shown(entry: &Entry) -> Next<'_>
         Entry::Discard => Next::Discard,
     }
 }
+
+#[cfg(test)]
+mod tests;
