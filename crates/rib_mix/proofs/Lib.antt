@@ -1,0 +1,4 @@
+pub mod UsedEntries
+mod FoundFacts
+mod RowSteps
+pub mod NextLaws

@@ -1,0 +1,34 @@
+-- What follows from an answer: the steps that a router makes.
+use Rattle.std.proofs.Common.{ℕ, ◌↔◌, ⊎_elim, sym, subst}
+use Rattle.net_model.specs.Network.{Network}
+use Rattle.route_core.specs.declared.entry.Entry.{Entry}
+use Rattle.igp_theory.specs.Forwarding.{Usable, connected, of_old, of_new, LeadsTo, MustForward, Steps}
+use Rattle.igp_theory.specs.Routes.{Tables, EntryLeadsTo}
+use Rattle.igp_theory.specs.declared.phase.Phase.{Phase}
+use Rattle.rib_mix.specs.Answers.{ShowsEntry, Says, IsNext, NextLeadsTo}
+use Rattle.rib_mix.specs.declared.next.Next.{Next}
+use Rattle.rib_mix.specs.declared.next.Next.TheVariants.{Via, Discard, Connected, Absent}
+
+-- an answer that shows an entry forwards where the entry does
+entry_leads : (next : Next) (e : Entry) (h : ℕ) → ShowsEntry next e → EntryLeadsTo e h ↔ NextLeadsTo next h
+entry_leads (Via hops) e h shows = (subst (λ (f : Entry). EntryLeadsTo f h) shows, subst (λ (f : Entry). EntryLeadsTo f h) (sym shows))
+entry_leads Discard e h shows = (subst (λ (f : Entry). EntryLeadsTo f h) shows, subst (λ (f : Entry). EntryLeadsTo f h) (sym shows))
+entry_leads Connected e h shows = absurd shows
+entry_leads Absent e h shows = absurd shows
+
+-- an answer that says what is used forwards where that does
+pub says_leads : (next : Next) (used : Usable) (h : ℕ) → Says next used → LeadsTo used h ↔ NextLeadsTo next h
+says_leads next connected h says = (λ f. absurd f, λ f. subst (λ (n : Next). NextLeadsTo n h) says f)
+says_leads next (of_old e) h says = entry_leads next e h says
+says_leads next (of_new e) h says = entry_leads next e h says
+
+-- a router that has to pass packets on steps exactly to the hops of its answer
+pub steps_to_hops : (net : Network) (old new : Tables) (u : ℕ) (phase : Phase) (a : ℕ) (next : Next) (h : ℕ) → IsNext net old new u phase a next
+    → MustForward net a u → Steps net old new u phase a h ↔ NextLeadsTo next h
+steps_to_hops net old new u phase a next h is must = (
+  λ s. (says_leads next s.used h (is.only s.used s.uses)).0 s.leads,
+  λ f. ⊎_elim
+      (λ absent. absurd (subst (λ (n : Next). NextLeadsTo n h) absent f))
+      (λ there. record { must = must; used = there.used; uses = there.uses; leads = (says_leads next there.used h there.says).1 f })
+      is.there,
+)

@@ -1,0 +1,107 @@
+-- Lists that are made place by place, and matches from places.
+use Rattle.std.proofs.Common.{◌≡◌, ℕ, zero, suc, ◌+◌, ◌<◌, ◌≤◌, List, [], ◌∷◌, ◌++◌, length, take, get_or, Option, Some, None, IfSome, All, Contains, slice_get, ⊎_elim, arith, sym, ap, subst, ◌∙◌, length-append}
+use Rattle.std.proofs.lemmas.Bool.{cases_lt}
+use Rattle.std.proofs.lemmas.List.{take_more, map-append, length-map, get_or-map}
+use Rattle.std.proofs.lemmas.Option.{slice_get_within, get_or_from_slice_get, same_Some}
+use Rattle.net_addr.specs.Addresses.{Block, ContainsAddress, IsBlock}
+use Rattle.route_core.specs.declared.entry.Entry.{Entry}
+use Rattle.route_core.specs.Tables.{HasDistinctPrefixes}
+use Rattle.prefix_atoms.specs.Lists.{IsLongest, AreLongest, table_prefixes}
+use Rattle.rib_mix.specs.Rows.{IsMatch, IsMatchAt, IsLawful}
+use Rattle.rib_mix.specs.declared.found.Match.{Match}
+
+slice_get_push_old : {X : Type 0} (xs : List X) (y : X) (k : ℕ) (x : X) → k < length xs → slice_get (xs ++ y ∷ []) k ≡ Some x → slice_get xs k ≡ Some x
+slice_get_push_old [] y k x l h = absurd (omega arith)
+slice_get_push_old (z ∷ xs) y zero x l h = h
+slice_get_push_old (z ∷ xs) y (suc k) x l h = slice_get_push_old xs y k x (omega arith) h
+
+slice_get_push_new : {X : Type 0} (xs : List X) (y : X) (k : ℕ) (x : X) → k ≡ length xs → slice_get (xs ++ y ∷ []) k ≡ Some x → x ≡ y
+slice_get_push_new [] y zero x l h = cc
+slice_get_push_new [] y (suc k) x l h = absurd (omega arith)
+slice_get_push_new (z ∷ xs) y zero x l h = absurd (omega arith)
+slice_get_push_new (z ∷ xs) y (suc k) x l h = slice_get_push_new xs y k x (omega arith) h
+
+-- each element of a list is what is asked for at its place, and so is one element more
+pub each_more : {X : Type 0} (P : ℕ → X → Type 0) (old new : List X) (x : X) (i : ℕ) → length old ≡ i → ((k : ℕ) (y : X) → slice_get old k ≡ Some y → P k y)
+    → new ≡ old ++ x ∷ [] → P i x → (k : ℕ) (y : X) → slice_get new k ≡ Some y → P k y
+each_more P old new x i count each is here k y at =
+    let at' : slice_get (old ++ x ∷ []) k ≡ Some y = subst (λ xs. slice_get xs k ≡ Some y) is at in
+    let within : k < length (old ++ x ∷ []) = slice_get_within (old ++ x ∷ []) k y at' in
+    let long : length (old ++ x ∷ []) ≡ length old + 1 = length-append old (x ∷ []) in
+    ⊎_elim
+    (λ (l : k < length old). each k y (slice_get_push_old old x k y l at'))
+    (λ (l : length old ≤ k).
+    let e : k ≡ length old = omega arith in
+    let same : y ≡ x = slice_get_push_new old x k y e at' in
+    subst (λ (n : ℕ). P n y) (sym (e ∙ count)) (subst (P i) (sym same) here))
+    (cases_lt k (length old))
+
+pub count_more : {X : Type 0} (old new : List X) (x : X) (i : ℕ) → length old ≡ i → new ≡ old ++ x ∷ [] → length new ≡ i + 1
+count_more old new x i count is = ap length is ∙ length-append old (x ∷ []) ∙ ap (λ (m : ℕ). m + 1) count
+
+-- the next entry's prefix
+pub table_more : (entries : List (Block × Entry)) (i : ℕ) (p : Block) (e : Entry) (old new : List Block) → slice_get entries i ≡ Some (p, e)
+    → old ≡ table_prefixes (take i entries) → new ≡ old ++ p ∷ [] → new ≡ table_prefixes (take (i + 1) entries)
+table_more entries i p e old new at has is =
+    is ∙ ap (λ (ps : List Block). ps ++ p ∷ []) has
+    ∙ sym (ap table_prefixes (take_more entries i (p, e) (slice_get_within entries i (p, e) at)
+    ∙ ap (λ (x : Block × Entry). take i entries ++ x ∷ []) (get_or_from_slice_get entries i (p, e) (p, e) at))
+    ∙ map-append (λ (x : Block × Entry). x.0) (take i entries) ((p, e) ∷ []))
+
+-- what holds of all prefixes holds of all entries
+entries_all : (P : Block → Type 0) (entries : List (Block × Entry)) → All P (table_prefixes entries) → All (λ x. P x.0) entries
+entries_all P entries h k d l =
+    let at : get_or (table_prefixes entries) k d.0 ≡ (get_or entries k d).0 = get_or-map (λ (x : Block × Entry). x.0) entries k d d.0 l in
+    subst P at (h k d.0 (omega (arith, length-map entries (λ (x : Block × Entry). x.0))))
+
+pub lawful_from : (entries : List (Block × Entry)) (prefixes : List Block) → prefixes ≡ table_prefixes entries → All IsBlock prefixes → HasDistinctPrefixes entries → IsLawful entries
+lawful_from entries prefixes same blocks distinct = record {
+  blocks = entries_all IsBlock entries (subst (All IsBlock) same blocks);
+  distinct = distinct;
+}
+
+-- an entry stands where its prefix does
+entry_at : (entries : List (Block × Entry)) (place : ℕ) (p : Block) → slice_get (table_prefixes entries) place ≡ Some p → (e : Entry) × (slice_get entries place ≡ Some (p, e))
+entry_at [] place p h = cc
+entry_at (x ∷ entries) zero p h = (x.1, ap Some (λ i. (same_Some x.0 p h i, x.1)))
+entry_at (x ∷ entries) (suc place) p h = entry_at entries place p h
+
+member_at : (entries : List (Block × Entry)) (place : ℕ) (x : Block × Entry) → slice_get entries place ≡ Some x → Contains entries x
+member_at entries place x h = (place, slice_get_within entries place x h, get_or_from_slice_get entries place x x h)
+
+-- the longest prefix's entry is the longest match
+pub match_from : (entries : List (Block × Entry)) (prefixes : List Block) (a : ℕ) (o : Option ℕ) (m : Option Match) → prefixes ≡ table_prefixes entries
+    → IsLongest prefixes a o → IsMatchAt prefixes o m → IsMatch entries a m
+match_from entries prefixes a None m same h at =
+    subst (IsMatch entries a) (sym at) (entries_all (λ q. ¬ ContainsAddress q a) entries (subst (All (λ q. ¬ ContainsAddress q a)) same h))
+match_from entries prefixes a (Some place) m same h at =
+    let one : h.prefix ≡ at.0 = same_Some h.prefix at.0 (sym h.stands ∙ at.1) in
+    let e : (e : Entry) × (slice_get entries place ≡ Some (h.prefix, e)) =
+    entry_at entries place h.prefix (subst (λ (ps : List Block). slice_get ps place ≡ Some h.prefix) same h.stands) in
+    subst (IsMatch entries a) (sym at.2) (record {
+      at = record {
+        dest = h.prefix;
+        entry = e.0;
+        stands = e.1;
+        longest = record {
+          listed = member_at entries place (h.prefix, e.0) e.1;
+          contains = h.contains;
+          longest = entries_all (λ q. ContainsAddress q a → q.len ≤ h.prefix.len) entries
+              (subst (All (λ q. ContainsAddress q a → q.len ≤ h.prefix.len)) same h.longest);
+        };
+      };
+      len_is = ap (λ (q : Block). q.len) one;
+    })
+
+-- what was found for the address at a place
+pub place_at : (prefixes p1 : List Block) (addresses : List ℕ) (places items : List (Option ℕ)) (i : ℕ) → AreLongest p1 addresses places → p1 ≡ prefixes → items ≡ places
+    → i < length items → IsLongest prefixes (get_or addresses i 0) (get_or items i None)
+place_at prefixes p1 addresses places items i are same_p same within =
+    let long : length items ≡ length places = ap length same in
+    let one : IsLongest p1 (get_or addresses i 0) (get_or items i None) =
+    subst (λ (os : List (Option ℕ)). IsLongest p1 (get_or addresses i 0) (get_or os i None)) (sym same) (are.each i (omega (arith, are.count))) in
+    subst (λ (ps : List Block). IsLongest ps (get_or addresses i 0) (get_or items i None)) same_p one
+
+pub place_within : (prefixes : List Block) (a : ℕ) (o : Option ℕ) → IsLongest prefixes a o → IfSome o (λ i. i < length prefixes)
+place_within prefixes a None h = tt
+place_within prefixes a (Some place) h = slice_get_within prefixes place h.prefix h.stands

@@ -1,0 +1,46 @@
+-- What a router does with the packets of an address, as an answer.
+use Rattle.std.specs.Prelude.{◌≡◌, ℕ, ◌⊎◌, Contains}
+use Rattle.net_model.specs.Network.{Network}
+use Rattle.route_core.specs.declared.entry.Entry.{Entry}
+use Rattle.route_core.specs.declared.entry.Entry.TheVariants as entry
+use Rattle.igp_theory.specs.Forwarding.{Usable, connected, of_old, of_new, Uses}
+use Rattle.igp_theory.specs.Routes.{Tables}
+use Rattle.igp_theory.specs.declared.phase.Phase.{Phase}
+use Rattle.rib_mix.specs.declared.next.Next.{Next}
+use Rattle.rib_mix.specs.declared.next.Next.TheVariants.{Via, Discard, Connected, Absent}
+
+-- the answer is what this entry says: its hops, or a discard
+abbrev pub ShowsEntry : Next → Entry → Type 0
+ShowsEntry (Via hops) e = e ≡ entry.Via hops.now
+ShowsEntry Discard e = e ≡ entry.Discard
+ShowsEntry Connected e = ⊥
+ShowsEntry Absent e = ⊥
+
+-- the answer is what the used entry says
+abbrev pub Says : Next → Usable → Type 0
+Says next connected = next ≡ Connected
+Says next (of_old e) = ShowsEntry next e
+Says next (of_new e) = ShowsEntry next e
+
+-- an entry is used, and the answer is what it says
+pub record SaysUsed (net : Network) (old new : Tables) (u : ℕ) (phase : Phase) (a : ℕ) (next : Next) : Type 0 where
+  pub used : Usable
+  pub uses : Uses net old new u phase a used
+  pub says : Says next used
+
+-- the answer is that no entry is used, or an entry is used
+abbrev pub IsThere : Network → Tables → Tables → ℕ → Phase → ℕ → Next → Type 0
+IsThere net old new u phase a next = (next ≡ Absent) ⊎ SaysUsed net old new u phase a next
+
+-- what router u does in a phase with the packets of an address: what its one used entry says, where it
+-- has one, and otherwise nothing
+pub record IsNext (net : Network) (old new : Tables) (u : ℕ) (phase : Phase) (a : ℕ) (next : Next) : Type 0 where
+  pub there : IsThere net old new u phase a next
+  pub only : (used : Usable) → Uses net old new u phase a used → Says next used
+
+-- the answer forwards to h
+abbrev pub NextLeadsTo : Next → ℕ → Type 0
+NextLeadsTo (Via hops) h = Contains hops.now h
+NextLeadsTo Discard h = ⊥
+NextLeadsTo Connected h = ⊥
+NextLeadsTo Absent h = ⊥

@@ -1,0 +1,9 @@
+pub use Rattle.igp_theory.specs.Forwarding
+pub use Rattle.igp_theory.specs.States
+pub use Rattle.igp_theory.specs.Loops
+pub use Rattle.prefix_atoms.specs.Classes
+pub mod Mixture
+pub mod Answers
+pub mod Candidates
+pub mod Rows
+pub mod Laws

@@ -1,0 +1,73 @@
+-- What was found for each router and class: the longest connected prefix and the longest entries of both tables.
+use Rattle.std.specs.Prelude.{◌≡◌, ℕ, ◌<◌, List, length, slice_get, slice_index, Option, Some, None, All}
+use Rattle.net_addr.specs.Addresses.{Block, ContainsAddress, IsBlock}
+use Rattle.net_model.specs.Lookups.{LongestConnected}
+use Rattle.net_model.specs.Network.{Network, Connected}
+use Rattle.net_model.specs.Refusals.{IsNetwork}
+use Rattle.route_core.specs.Tables.{NoneContains, LongestAt, HasDistinctPrefixes}
+use Rattle.route_core.specs.declared.entry.Entry.{Entry}
+use Rattle.prefix_atoms.specs.Classes.{Classes, AreClasses, SourceEntry}
+use Rattle.rib_mix.specs.declared.found.Match.{Match}
+use Rattle.rib_mix.specs.declared.found.Found.{Found}
+
+-- the longest connected prefix that contains the address has this length
+pub record ConnectedLength (net : Network) (u a len : ℕ) : Type 0 where
+  pub prefix : Block
+  pub longest : LongestConnected net u a prefix
+  pub len_is : prefix.len ≡ len
+
+-- the length of the longest connected prefix, none where no connected prefix contains the address
+abbrev pub IsConnectedLength : Network → ℕ → ℕ → Option ℕ → Type 0
+IsConnectedLength net u a None = (p : Block) → Connected net u p → ContainsAddress p a → ⊥
+IsConnectedLength net u a (Some len) = ConnectedLength net u a len
+
+-- the place of the longest entry, and the length of its prefix
+pub record MatchesAt (entries : List (Block × Entry)) (a : ℕ) (m : Match) : Type 0 where
+  pub at : LongestAt entries a m.place
+  pub len_is : at.dest.len ≡ m.len
+
+-- the longest entry of a table, none where no entry contains the address
+abbrev pub IsMatch : List (Block × Entry) → ℕ → Option Match → Type 0
+IsMatch entries a None = NoneContains entries a
+IsMatch entries a (Some m) = MatchesAt entries a m
+
+-- the longest entry of a table for each of some addresses
+pub record AreMatches (entries : List (Block × Entry)) (addresses : List ℕ) (matches : List (Option Match)) : Type 0 where
+  pub count : length matches ≡ length addresses
+  pub each : (k : ℕ) (m : Option Match) → k < length addresses → slice_get matches k ≡ Some m → IsMatch entries (slice_index addresses k) m
+
+-- the prefix at a place, with its length, none where there is no place
+abbrev pub IsMatchAt : List Block → Option ℕ → Option Match → Type 0
+IsMatchAt prefixes None m = m ≡ None
+IsMatchAt prefixes (Some place) m = (p : Block) × (slice_get prefixes place ≡ Some p) × (m ≡ Some (record { place = place; len = p.len }))
+
+-- what is found for a router and an address
+pub record IsFound (net : Network) (old new : List (Block × Entry)) (u a : ℕ) (found : Found) : Type 0 where
+  pub connected : IsConnectedLength net u a found.connected
+  pub old_match : IsMatch old a found.old
+  pub new_match : IsMatch new a found.new
+
+-- what is found for a router and each of some addresses
+pub record IsRow (net : Network) (old new : List (Block × Entry)) (u : ℕ) (addresses : List ℕ) (row : List Found) : Type 0 where
+  pub count : length row ≡ length addresses
+  pub each : (k : ℕ) (found : Found) → slice_get row k ≡ Some found → IsFound net old new u (slice_index addresses k) found
+
+-- what every table keeps: its prefixes are blocks of addresses, no two of them the same
+pub record IsLawful (entries : List (Block × Entry)) : Type 0 where
+  pub blocks : All (λ entry. IsBlock entry.0) entries
+  pub distinct : HasDistinctPrefixes entries
+
+-- what is found for each router and each of some addresses
+pub record AreRows (net : Network) (old new : ℕ → List (Block × Entry)) (addresses : List ℕ) (rows : List (List Found)) : Type 0 where
+  pub count : length rows ≡ length net
+  pub each : (u : ℕ) (row : List Found) → slice_get rows u ≡ Some row → IsRow net (old u) (new u) u addresses row
+  pub old_lawful : (u : ℕ) → u < length net → IsLawful (old u)
+  pub new_lawful : (u : ℕ) → u < length net → IsLawful (new u)
+
+-- what mixed forwarding is made of: a network, the tables of its routers, their classes, and what was found
+pub record IsMixed (net : Network) (old_routers new_routers : ℕ) (old new : ℕ → List (Block × Entry)) (classes : Classes) (rows : List (List Found)) : Type 0 where
+  pub network : IsNetwork net
+  pub old_count : old_routers ≡ length net
+  pub new_count : new_routers ≡ length net
+  pub classes_are : AreClasses net (SourceEntry (length net) old) (SourceEntry (length net) new) classes
+  pub rows_are : AreRows net old new classes.samples rows

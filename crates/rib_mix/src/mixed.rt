@@ -1,0 +1,151 @@
+ghost use Rattle.std.specs.Prelude.{◌≡◌, ◌<◌, ℕ, IfOk, length};
+ghost use Rattle.std.specs.List.Sorted.{IsStrictlyIncreasing};
+ghost use Rattle.net_model.specs.Refusals.{IsNetwork};
+ghost use Rattle.prefix_atoms.specs.Classes.{AreClasses, IsInClass, SourceEntry};
+ghost use Rattle.route_core.specs.Tables.{HasEntry};
+ghost use Rattle.rib_mix.specs.Answers.{IsNext, ShowsEntry};
+ghost use Rattle.rib_mix.specs.Candidates.{IsPlaced, ShowsWay};
+ghost use Rattle.rib_mix.specs.Rows.{AreRows};
+
+use crate::candidate::{Way, best_of};
+use crate::next::Next;
+use crate::row::{Row, row_of};
+use igp_theory::Phase;
+use net_model::Net;
+use prefix_atoms::Atoms;
+use route_core::{Entry, OutOfMemory, RouteSource, Table};
+use std::alloc::Global;
+use std::marker::Model;
+
+/// Mixed forwarding over a network, an old and a new source of tables: what each router does with the packets of each
+/// class of addresses while it is `Old`, `Middle` or `New`.
+#[derive(Drop)]
+pub struct Mixed<'a, O: RouteSource, N: RouteSource> {
+    net: &'a Net,
+    old: &'a O,
+    new: &'a N,
+    atoms: Atoms,
+    rows: Vec<Row>,
+}
+
+impl<'a, O: RouteSource, N: RouteSource> Model for Mixed<'a, O, N> {
+    ghost use Rattle.rib_mix.specs.Mixture.{Mixture};
+    ghost use Rattle.rib_mix.specs.Rows.{IsMixed};
+
+    ghost Value = { Mixture O N };
+
+    ghost view = { λ x. record { net = x.net.now; old = x.old.now; new = x.new.now; classes = x.atoms } };
+
+    ghost invariant = { λ x. IsMixed x.net.now (O.routers x.old.now) (N.routers x.new.now) (O.table x.old.now) (N.table x.new.now) x.atoms x.rows.items };
+}
+
+impl<'a, O: RouteSource, N: RouteSource> Mixed<'a, O, N> {
+    /// Mixed forwarding over a network and two sources that have its routers.
+    pub fn build(
+        alloc: Global,
+        net: &'a Net,
+        old: &'a O,
+        new: &'a N,
+    ) -> Result<Mixed<'a, O, N>, OutOfMemory>
+        requires old_routers { O.routers old.now ≡ length net.now }
+        requires new_routers { N.routers new.now ≡ length net.now }
+        ensures net { IfOk result (λ mixed. mixed.net ≡ net.now) }
+        ensures old { IfOk result (λ mixed. mixed.old ≡ old.now) }
+        ensures new { IfOk result (λ mixed. mixed.new ≡ new.now) }
+    {
+        let atoms = Atoms::build(alloc, net, old, new)?;
+        let rows = rows_of(alloc, net, old, new, atoms.samples())?;
+        Ok(Mixed {
+            net,
+            old,
+            new,
+            atoms,
+            rows,
+        })
+    }
+
+    /// The classes of addresses.
+    pub fn atoms(&self) -> &Atoms
+        ensures atoms { result.now ≡ self.now.classes }
+        ensures classes { AreClasses self.now.net (SourceEntry (length self.now.net) (O.table self.now.old)) (SourceEntry (length self.now.net) (N.table self.now.new)) self.now.classes }
+    {
+        &self.atoms
+    }
+
+    /// The network.
+    pub fn net(&self) -> &Net
+        ensures { result.now ≡ self.now.net }
+    {
+        self.net
+    }
+
+    /// What a router does in a phase with the packets of a class of addresses.
+    pub fn hops(&self, router: u32, atom: u32, phase: Phase) -> Next<'_>
+        requires router { router < length self.now.net }
+        requires atom { atom < length self.now.classes.samples }
+        ensures { (a : ℕ) → IsInClass self.now.classes atom a → IsNext self.now.net (HasEntry (O.table self.now.old)) (HasEntry (N.table self.now.new)) router phase a result }
+    {
+        let found = self.rows[router as usize].at(atom as usize);
+        let ospf = self.net.config(router).distances.ospf;
+        let old = self.old.table(router);
+        let new = self.new.table(router);
+        match best_of(found, phase, ospf) {
+            Some(best) => next_of(old, new, best.way),
+            None => Next::Absent,
+        }
+    }
+}
+
+/// What is found for each router of a network and each of some ascending addresses.
+fn rows_of<O: RouteSource, N: RouteSource>(
+    alloc: Global,
+    net: &Net,
+    old: &O,
+    new: &N,
+    addresses: &[u32],
+) -> Result<Vec<Row>, OutOfMemory>
+    requires old_routers { O.routers old.now ≡ length net.now }
+    requires new_routers { N.routers new.now ≡ length net.now }
+    requires ascending { IsStrictlyIncreasing addresses.now }
+    ensures rows { IfOk result (λ rows. AreRows net.now (O.table old.now) (N.table new.now) addresses.now rows.items) }
+    ensures network { IsNetwork net.now }
+{
+    let mut rows = Vec::new(alloc);
+    for router in 0..net.routers() {
+        let row = row_of(
+            alloc,
+            net,
+            router,
+            old.table(router),
+            new.table(router),
+            addresses,
+        )?;
+        rows.push(row)?;
+    }
+    Ok(rows)
+}
+
+/// What stands where a way leads.
+fn next_of<'a>(old: &'a Table, new: &'a Table, way: Way) -> Next<'a>
+    requires { IsPlaced old.now new.now way }
+    ensures { ShowsWay old.now new.now way result }
+{
+    match way {
+        Way::Connected => Next::Connected,
+        Way::Old(place) => shown(old.entry(place)),
+        Way::New(place) => shown(new.entry(place)),
+    }
+}
+
+/// What an entry says.
+fn shown(entry: &Entry) -> Next<'_>
+    ensures { ShowsEntry result entry.now }
+{
+    match entry {
+        Entry::Via(hops) => Next::Via(hops),
+        Entry::Discard => Next::Discard,
+    }
+}
+
+#[cfg(test)]
+mod tests;
