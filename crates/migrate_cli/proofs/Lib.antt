@@ -1,0 +1,4 @@
+mod WordFacts
+mod ReadingFacts
+mod SendingFacts
+mod StopFacts

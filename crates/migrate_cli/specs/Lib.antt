@@ -1,0 +1,4 @@
+pub mod CommandWords
+pub mod Reading
+pub mod Stops
+pub mod Codes

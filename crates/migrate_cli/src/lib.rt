@@ -1,0 +1,10 @@
+//! The program `migrate` as one call: what it answers to its words and its files.
+#![tactic(auto)]
+
+mod command;
+mod reading;
+mod sending;
+mod status;
+
+pub use status::Status;
+pub use std::alloc::AllocError as OutOfMemory;

@@ -1,0 +1,24 @@
+ghost use Rattle.std.specs.Prelude.{◌≤◌, OnOk, OnErr};
+ghost use Rattle.store_edge.specs.Faults.{Rose};
+ghost use Rattle.store_edge.specs.Sink.{Adds, AddsFront};
+
+use store_edge::{Failed, Sink};
+
+/// How many bytes are written at a time.
+const PIECE: usize = 4096;
+
+/// Writes a text in pieces of 4,096 bytes, of which the last one may be shorter and none is empty.
+pub fn send<S: Sink>(out: &mut S, text: &[u8]) -> Result<(), Failed>
+    ensures ok { OnOk result (Adds (S.written out.old) (S.written out.new) text.now) }
+    ensures cut { OnErr result (AddsFront (S.written out.old) (S.written out.new) text.now) }
+    ensures failed { OnErr result (Rose (S.faults out.old) (S.faults out.new)) }
+    ensures never_falls { S.faults out.old ≤ S.faults out.new }
+{
+    let mut done = 0;
+    while done < text.len() {
+        let stop = text.len().min(done + PIECE);
+        out.write(&text[done..stop])?;
+        done = stop;
+    }
+    Ok(())
+}
