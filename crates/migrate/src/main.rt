@@ -1,0 +1,26 @@
+//! `migrate`: plans the move of a network from OSPF to Integrated IS-IS.
+#![tactic(auto)]
+
+use migrate_cli::{Status, run};
+use std::env;
+use std::process::ExitCode;
+use store_edge::{RealFiles, RealSink};
+
+fn main(rt: HostRuntime) -> ExitCode {
+    ExitCode::from(answer(&rt).code())
+}
+
+/// Answers the words of the call, by the files of the system and on standard output.
+fn answer(rt: &HostRuntime) -> Status {
+    let alloc = rt.alloc();
+    let Ok(words) = words(rt) else {
+        return Status::Memory;
+    };
+    let mut files = RealFiles::new(rt, alloc);
+    let mut out = RealSink::new(rt.stdout());
+    run(alloc, words.as_slice(), &mut files, &mut out)
+}
+
+/// The words after the program's name.
+fn words(rt: &HostRuntime) -> Result<Vec<String>> {
+}
