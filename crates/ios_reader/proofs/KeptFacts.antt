@@ -8,6 +8,7 @@ use Rattle.std.proofs.lemmas.Bool.{false≢true}
 use Rattle.std.proofs.lemmas.List.Elements.{All-nil, All-map, All-weaker}
 use Rattle.std.proofs.lemmas.List.Sums.{AllPass-from_list_all}
 use Rattle.net_addr.specs.Addresses.{Block, block_at, IsBlock}
+use Rattle.net_addr.proofs.Blocks.{same_parts}
 use Rattle.net_model.specs.Configuration.{Configuration, IsNameByte, IsRouterName, IsInterface, IsRange, IsStub, AreDistances, AreRangesApart, IsConfiguration}
 use Rattle.net_model.specs.declared.area.Range.{Range}
 use Rattle.net_model.specs.declared.area.Stub.{Stub}
@@ -363,10 +364,7 @@ same_range r s e =
     let front : (nat_eq r.area s.area && nat_eq r.dest.base s.dest.base) ≡ true = and_left (nat_eq r.area s.area && nat_eq r.dest.base s.dest.base) (nat_eq r.dest.len s.dest.len) e in
     let base : r.dest.base ≡ s.dest.base = same_number r.dest.base s.dest.base (and_right (nat_eq r.area s.area) (nat_eq r.dest.base s.dest.base) front) in
     let len : r.dest.len ≡ s.dest.len = same_number r.dest.len s.dest.len (and_right (nat_eq r.area s.area && nat_eq r.dest.base s.dest.base) (nat_eq r.dest.len s.dest.len) e) in
-    (same_number r.area s.area (and_left (nat_eq r.area s.area) (nat_eq r.dest.base s.dest.base) front), same_block r.dest s.dest base len)
-  where
-    same_block : (p q : Block) → p.base ≡ q.base → p.len ≡ q.len → p ≡ q
-    same_block p q base len = cc
+    (same_number r.area s.area (and_left (nat_eq r.area s.area) (nat_eq r.dest.base s.dest.base) front), same_parts r.dest.base s.dest.base r.dest.len s.dest.len base len)
 
 equal_number : (a b : ℕ) → a ≡ b → nat_eq a b ≡ true
 equal_number a b h = grind (arith, nat_tests)

@@ -32,7 +32,8 @@ lines_first l m r s small little h = by_test (nat_lt l m) refl
     by_test true e = inl (grind (arith, nat_tests))
     by_test false e = let least : m ≤ l = grind (arith, nat_tests) in inr (omega arith, omega arith)
 
-by_order : (f g : Fault) → order_of f ≤ order_of g → IsNotAfter f g
+-- a fault that doesn't come after another
+pub by_order : (f g : Fault) → order_of f ≤ order_of g → IsNotAfter f g
 by_order f g h = lines_first f.line g.line (rank f.kind) (rank g.kind) (rank_small f.kind) (rank_small g.kind) h
 
 always_some : (t : Bool) (f g : Fault) → cond t (Some g) (Some f) ≡ None → ⊥

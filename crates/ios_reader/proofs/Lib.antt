@@ -17,3 +17,4 @@ pub mod GoodSections
 pub mod KeptFacts
 pub mod PartFacts
 pub mod ReadFacts
+pub mod ConfigurationFacts

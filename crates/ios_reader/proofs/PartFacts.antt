@@ -1,5 +1,5 @@
 -- The parts of a text, one more line at a time.
-use Rattle.std.proofs.Common.{sym, ◌≡◌, ℕ, ◌+◌, ◌-◌, ◌<◌, ◌≤◌, Bool, true, false, not, ◌&&◌, ◌||◌, List, [], ◌∷◌, ◌++◌, length, take, drop, get_or, Option, Some, None, Result, Ok, Err, refl, ap, ◌∙◌, cond, map, append_assoc, append-nil, arith}
+use Rattle.std.proofs.Common.{sym, ◌≡◌, ℕ, ◌+◌, ◌-◌, ◌<◌, ◌≤◌, Bool, true, false, not, ◌&&◌, ◌||◌, List, [], ◌∷◌, ◌++◌, length, take, drop, get_or, Option, Some, None, Result, Ok, Err, refl, ap, subst, ◌∙◌, cond, map, append_assoc, append-nil, arith}
 use Rattle.std.specs.Prelude.{flat_map}
 use Rattle.std.specs.List.{list_any, slice_range}
 use Rattle.std.proofs.lemmas.Grind.{common_steps}
@@ -174,3 +174,38 @@ flag_more lines i x was now ends within read before e f =
     ∙ ap (λ (b : Bool). not (b || is_end x)) (double_not was)
     ∙ ap (λ (b : Bool). not (was || b)) (sym e)
     ∙ ap not (sym f)
+
+-- ---- the loop over the lines ----
+
+module _ (lines : List TextLine) (i : ℕ) (x : TextLine) (within : i < length lines) (read : x ≡ get_or lines i x) where
+  -- no line stands behind an `end` line yet
+  pub rest_at_end : is_end x ≡ true → slice_range lines (i + 1) (i + 1) ≡ rest_after [] (take (i + 1) lines)
+  rest_at_end ends =
+      slice_none lines (i + 1)
+      ∙ sym (rest_more lines i x within read ∙ ap (λ (b : Bool). cond b [] (rest_after [] (take i lines) ++ x ∷ [])) ends)
+
+  -- another line goes behind those that are in no part yet
+  pub rest_on : (start : ℕ) → start ≤ i → slice_range lines start i ≡ rest_after [] (take i lines) → is_end x ≡ false → slice_range lines start (i + 1) ≡ rest_after [] (take (i + 1) lines)
+  rest_on start low before on =
+      slice_more lines start i x low within read
+      ∙ ap (λ (w : List TextLine). w ++ x ∷ []) before
+      ∙ sym (rest_more lines i x within read ∙ ap (λ (b : Bool). cond b [] (rest_after [] (take i lines) ++ x ∷ [])) on)
+
+  -- at an `end` line one more part is read
+  pub read_at_end : (slice : List TextLine) (number : ℕ) (r s : Reading) (part : Result Configuration Fault) → is_end x ≡ true → slice ≡ rest_after [] (take i lines) → number ≡ x.number →
+      IsReadingOf (parts_after [] (take i lines)) r → IsPartRead (part_at slice number) part →
+      s.fault ≡ lesser_fault r.fault (fault_read part) → s.configs ≡ r.configs ++ configurations_read part → IsReadingOf (parts_after [] (take (i + 1) lines)) s
+  read_at_end slice number r s part ends before same was now f g =
+      let parts : parts_after [] (take i lines) ++ part_at slice number ∷ [] ≡ parts_after [] (take (i + 1) lines) =
+      ap (λ (w : List TextLine). parts_after [] (take i lines) ++ part_at w number ∷ []) before
+      ∙ ap (λ (n : ℕ). parts_after [] (take i lines) ++ part_at (rest_after [] (take i lines)) n ∷ []) same
+      ∙ sym (parts_more lines i x within read ∙ ap (λ (b : Bool). parts_after [] (take i lines) ++ cond b (part_at (rest_after [] (take i lines)) x.number ∷ []) []) ends) in
+      subst (λ (ps : List Part). IsReadingOf ps s) parts (reading-push (parts_after [] (take i lines)) (part_at slice number) r s part was now f g)
+
+  -- at another line nothing more is read
+  pub read_on : (r : Reading) → is_end x ≡ false → IsReadingOf (parts_after [] (take i lines)) r → IsReadingOf (parts_after [] (take (i + 1) lines)) r
+  read_on r on was =
+      let parts : parts_after [] (take i lines) ≡ parts_after [] (take (i + 1) lines) =
+      sym (append-nil (parts_after [] (take i lines)))
+      ∙ sym (parts_more lines i x within read ∙ ap (λ (b : Bool). parts_after [] (take i lines) ++ cond b (part_at (rest_after [] (take i lines)) x.number ∷ []) []) on) in
+      subst (λ (ps : List Part). IsReadingOf ps r) parts was

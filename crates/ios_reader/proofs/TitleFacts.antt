@@ -1,5 +1,5 @@
 -- The `net` lines after the first one, one more line at a time.
-use Rattle.std.proofs.Common.{sym, ◌≡◌, ℕ, ◌+◌, ◌<◌, Bool, true, false, ◌&&◌, ◌||◌, List, [], ◌∷◌, ◌++◌, length, take, drop, get_or, map, refl, ap, ◌∙◌, cond, append-nil}
+use Rattle.std.proofs.Common.{sym, ◌≡◌, ℕ, ◌+◌, ◌<◌, Bool, true, false, ◌&&◌, ◌||◌, List, [], ◌∷◌, ◌++◌, Option, length, take, drop, get_or, map, refl, ap, ◌∙◌, cond, append-nil}
 use Rattle.std.specs.Prelude.{filter}
 use Rattle.std.specs.List.{list_any}
 use Rattle.std.proofs.lemmas.List.{map-append, take_more}
@@ -9,6 +9,14 @@ use Rattle.ios_reader.specs.Faults.{fault_at, faults_if, is_net, second_titles}
 use Rattle.ios_reader.specs.declared.fault.Fault.{Fault}
 use Rattle.ios_reader.specs.declared.kind.ReadKind.TheVariants.{Unsupported}
 use Rattle.ios_reader.specs.declared.isis_line.IsisStatement.{IsisStatement}
+use Rattle.ios_reader.specs.Lookups.{later, last_of}
+use Rattle.ios_reader.specs.Routers.{title_said}
+use Rattle.ios_reader.specs.Configurations.{title_given}
+use Rattle.ios_reader.specs.Statements.{title_after, title_by}
+use Rattle.ios_reader.specs.declared.title.Title.{Title}
+use Rattle.ios_reader.specs.declared.isis_line.IsisLine.{IsisLine}
+use Rattle.ios_reader.specs.declared.isis_line.IsisLine.TheVariants.{Net, Levels, MetricStyle, Metric, Distance, Passive, Faulty, Skipped}
+use Rattle.ios_reader.proofs.FactsFacts.{last_of-push}
 use Rattle.ios_reader.proofs.GatheringFacts.{least_fault-append}
 
 abbrev there : List IsisStatement → Bool
@@ -66,3 +74,18 @@ pub any_more : (xs : List IsisStatement) (i : ℕ) (x : IsisStatement) → i < l
     list_any is_net (take (i + 1) xs) ≡ (list_any is_net (take i xs) || is_net x)
 any_more xs i x within read =
     ap (list_any is_net) (take_more xs i x within) ∙ any-push (take i xs) (get_or xs i x) ∙ ap (λ (y : IsisStatement). list_any is_net (take i xs) || is_net y) (sym read)
+
+title_cases : (before : Option (Option Title)) (says : IsisLine) → title_given (later before (title_said says)) ≡ title_after (title_given before) says
+title_cases before (Net title) = refl
+title_cases before (Levels r) = refl
+title_cases before (MetricStyle wide) = refl
+title_cases before (Metric r) = refl
+title_cases before (Distance r) = refl
+title_cases before (Passive said) = refl
+title_cases before (Faulty kind) = refl
+title_cases before Skipped = refl
+
+-- the title of the last `net` line, with one more line
+pub title_push : (xs : List IsisStatement) (x : IsisStatement) → title_by (xs ++ x ∷ []) ≡ title_after (title_by xs) x.says
+title_push xs x =
+    ap title_given (last_of-push (λ (s : IsisStatement). title_said s.says) xs x) ∙ title_cases (last_of (λ (s : IsisStatement). title_said s.says) xs) x.says

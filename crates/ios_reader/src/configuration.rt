@@ -69,6 +69,7 @@ fn title_after(before: Option<Title>, says: IsisLine) -> Option<Title>
 }
 
 /// The title of the last `net` line.
+#[tactic(auto, using(crate::proofs::TitleFacts::title_push))]
 fn title_of_lines(lines: Vec<IsisStatement>) -> Option<Title>
     ensures { result ≡ title_by lines.items }
 {

@@ -76,10 +76,10 @@ fn read_parts(alloc: Global, lines: &[TextLine]) -> Result<Reading, OutOfMemory>
 }
 
 /// Whether a configuration is open after a line, as one was open before it or not.
-fn is_open(open: bool, line: &TextLine) -> bool
-    ensures { result ≡ (if is_end line.now then false else (open || begins_configuration line.now)) }
+fn is_unended(before: bool, line: &TextLine) -> bool
+    ensures { result ≡ (if is_end line.now then false else (before || begins_configuration line.now)) }
 {
-    !line.is_end() && (open || line.begins_configuration())
+    !line.is_end() && (before || line.begins_configuration())
 }
 
 /// Whether no `end` line is there, or a configuration is open after the last one.
@@ -87,12 +87,12 @@ fn lacks_end(lines: &[TextLine]) -> bool
     ensures { result ≡ (is_empty (parts_after [] lines.now) || list_any begins_configuration (rest_after [] lines.now)) }
 {
     let mut ended = false;
-    let mut open = false;
+    let mut unended = false;
     for line in lines {
-        open = is_open(open, line);
+        unended = is_unended(unended, line);
         ended = either(ended, line.is_end());
     }
-    !ended || open
+    !ended || unended
 }
 
 /// Reads the configurations of a text, each ended by its `end` line.
@@ -110,7 +110,8 @@ pub fn read_configs(alloc: Global, text: &[u8]) -> Result<Configs, ReadRefusal>
         Err(_) => return Err(ReadRefusal::OutOfMemory),
     };
     let reading = read_parts(alloc, counted.as_slice())?;
-    let end = fault_if(lacks_end(counted.as_slice()), lines.as_slice().len() as u32 + 1, ReadKind::NoEnd);
+    let last = lines.as_slice().len() as u32;
+    let end = fault_if(lacks_end(counted.as_slice()), last + 1, ReadKind::NoEnd);
     match lesser_fault(reading.fault, end) {
         Some(fault) => Err(ReadRefusal::Bad {
             line: fault.line,

@@ -6,5 +6,5 @@ use Rattle.ios_reader.proofs.reader.lacks_end.Given as goal
 abbrev pub invariant-loop-line : goal.invariant-loop-line
 invariant-loop-line l = record {
   ended : is_empty (parts_after [] (take l.line-index l.lines)) ≡ not l.ended;
-  open_now : l.open ≡ list_any begins_configuration (rest_after [] (take l.line-index l.lines));
+  unended : l.unended ≡ list_any begins_configuration (rest_after [] (take l.line-index l.lines));
 }
