@@ -1,0 +1,493 @@
+-- What is read keeps the facts of a configuration.
+use Rattle.std.proofs.Common.{sym, ◌≡◌, ◌≢◌, ℕ, ◌+◌, ◌*◌, ◌/◌, ◌^◌, ◌<◌, ◌≤◌, Bool, true, false, not, ◌&&◌, ◌||◌, List, [], ◌∷◌, length, get_or, Option, Some, None, Result, Ok, Err, refl, ap, subst, cond, map, nat_eq, nat_le, min, max, arith, inl, inr, ◌⊎◌}
+use Rattle.std.specs.Prelude.{IfSome, IfOk, IsSome, IsTrue, All, AllPairs, is_some, unwrap_or, option_map, filter_map, fold, take_while}
+use Rattle.std.specs.List.{list_all}
+use Rattle.std.specs.Char.{is_ascii_digit}
+use Rattle.std.proofs.lemmas.Bool.Decides.{nat_tests}
+use Rattle.std.proofs.lemmas.Bool.{false≢true}
+use Rattle.std.proofs.lemmas.List.Elements.{All-nil, All-map, All-weaker}
+use Rattle.std.proofs.lemmas.List.Sums.{AllPass-from_list_all}
+use Rattle.net_addr.specs.Addresses.{Block, block_at, IsBlock}
+use Rattle.net_addr.proofs.Blocks.{same_parts}
+use Rattle.net_model.specs.Configuration.{Configuration, IsNameByte, IsRouterName, IsInterface, IsRange, IsStub, AreDistances, AreRangesApart, IsConfiguration}
+use Rattle.net_model.specs.declared.area.Range.{Range}
+use Rattle.net_model.specs.declared.area.Stub.{Stub}
+use Rattle.net_model.specs.declared.interface.Interface.{Interface}
+use Rattle.ios_reader.specs.Words.{Word, is_letter}
+use Rattle.ios_reader.specs.Heads.{is_name_byte, is_router_name}
+use Rattle.ios_reader.specs.Lookups.{last_of, replaced, first_seen, good_value, value_or}
+use Rattle.ios_reader.specs.InterfaceFacts.{address_at, address_in, cost_said, area_said, metric_said, metric1_said, metric2_said, facts_of, counting}
+use Rattle.ios_reader.specs.Routers.{as_hostname, as_interface, merged, interfaces_in, process_of, ospf_lines, isis_lines, Router, router_of, range_said, is_same_range, ranges_in, stub_said, is_same_area, stub_lines_in, cost_if, default_cost_said, stub_of, stubs_in, title_said, router_metric_said, ospf_distance_said, isis_distance_said}
+use Rattle.ios_reader.specs.InterfacesAsRead.{address_given, is_loopback, is_up, interface_area, default_bandwidth, cost_of_bandwidth, cost_by_bandwidth, default_cost, cost_given, ospf_cost, runs_isis, metric_by, level_metric, subnet_field, cost_field, interface_with, interface_as_read}
+use Rattle.ios_reader.specs.Configurations.{title_given, system_in, configuration_of}
+use Rattle.ios_reader.specs.MaskedAddress.{MaskedAddress}
+use Rattle.ios_reader.specs.declared.kind.ReadKind.{ReadKind}
+use Rattle.ios_reader.specs.declared.facts.PlacedAddress.{PlacedAddress}
+use Rattle.ios_reader.specs.declared.facts.InterfaceFacts.{InterfaceFacts}
+use Rattle.ios_reader.specs.declared.interface_line.InterfaceLine.{InterfaceLine}
+use Rattle.ios_reader.specs.declared.interface_line.InterfaceLine.TheVariants.{Address, NoAddress, Shutdown, Vrf, Bandwidth, Cost, Area, PointToPoint, Isis, Circuit, Metric, Metric1, Metric2, Faulty, Skipped}
+use Rattle.ios_reader.specs.declared.interface_line.InterfaceStatement.{InterfaceStatement}
+use Rattle.ios_reader.specs.declared.ospf_line.StubLine.{StubLine}
+use Rattle.ios_reader.specs.declared.ospf_line.OspfLine.{OspfLine}
+use Rattle.ios_reader.specs.declared.ospf_line.OspfLine.TheVariants.{Network, Passive, PassiveDefault, Reference, Stub as StubSaid, DefaultCost, Range as RangeSaid, Distance, Rfc1583, Faulty as OspfFaulty, Skipped as OspfSkipped}
+use Rattle.ios_reader.specs.declared.ospf_line.OspfStatement.{OspfStatement}
+use Rattle.ios_reader.specs.declared.title.Title.{Title}
+use Rattle.ios_reader.specs.declared.isis_line.IsisLine.{IsisLine}
+use Rattle.ios_reader.specs.declared.isis_line.IsisLine.TheVariants.{Net, Levels, MetricStyle, Metric as IsisMetric, Distance as IsisDistance, Passive as IsisPassive, Faulty as IsisFaulty, Skipped as IsisSkipped}
+use Rattle.ios_reader.specs.declared.isis_line.IsisStatement.{IsisStatement}
+use Rattle.ios_reader.specs.declared.section.InterfaceSection.{InterfaceSection}
+use Rattle.ios_reader.specs.declared.section.Section.{Section}
+use Rattle.ios_reader.proofs.NumberFacts.{le_test, and_left, and_right}
+use Rattle.ios_reader.proofs.Picked.{by_if, all_taken, fold_keeps, last_keeps, pairs_map, all_replaced, pairs_replaced, names_apart}
+use Rattle.ios_reader.proofs.GoodLines.{IsFrom, IsGoodAddress, prefix_good, IsGoodInterfaceLine, IsOspfDistance, IsGoodOspfLine, IsIsisDistance, IsGoodIsisLine}
+use Rattle.ios_reader.proofs.GoodSections.{IsGoodStatement, IsGoodOspf, IsGoodIsis, IsGoodInterface, IsGoodSection, as_hostname_good, interfaces_good, counting_good, number_of_process, ospf_good, isis_good}
+
+-- ---- the name ----
+
+or_cases : (a b : Bool) → (a || b) ≡ true → (a ≡ true) ⊎ (b ≡ true)
+or_cases true b h = inl refl
+or_cases false b h = inr h
+
+is_from_tests : (low high b : ℕ) → (nat_le low b && nat_le b high) ≡ true → (low ≤ b) × (b ≤ high)
+is_from_tests low high b h = (le_test low b (and_left (nat_le low b) (nat_le b high) h), le_test b high (and_right (nat_le low b) (nat_le b high) h))
+
+digit_from : (b : ℕ) → is_ascii_digit b ≡ true → (48 ≤ b) × (b ≤ 57)
+digit_from b h = grind (arith, nat_tests)
+
+same_number : (a b : ℕ) → nat_eq a b ≡ true → a ≡ b
+same_number a b h = grind (arith, nat_tests)
+
+name_byte : (b : ℕ) → is_name_byte b ≡ true → IsNameByte b
+name_byte b h = four (or_cases (is_letter b || is_ascii_digit b || nat_eq b 45 || nat_eq b 95) (nat_eq b 46) h)
+  where
+    one : (is_letter b ≡ true) → IsNameByte b
+    one e = elim (or_cases (nat_le 65 b && nat_le b 90) (nat_le 97 b && nat_le b 122) e) as (λ _. IsNameByte b) [ inl f ↦ inr (inl (is_from_tests 65 90 b f)) | inr f ↦ inr (inr (inl (is_from_tests 97 122 b f))) ]
+    two : (is_letter b ≡ true) ⊎ (is_ascii_digit b ≡ true) → IsNameByte b
+    two (inl e) = one e
+    two (inr e) = inl (digit_from b e)
+    three : ((is_letter b || is_ascii_digit b) ≡ true) ⊎ (nat_eq b 45 ≡ true) → IsNameByte b
+    three (inl e) = two (or_cases (is_letter b) (is_ascii_digit b) e)
+    three (inr e) = inr (inr (inr (inl (same_number b 45 e))))
+    more : ((is_letter b || is_ascii_digit b || nat_eq b 45) ≡ true) ⊎ (nat_eq b 95 ≡ true) → IsNameByte b
+    more (inl e) = three (or_cases (is_letter b || is_ascii_digit b) (nat_eq b 45) e)
+    more (inr e) = inr (inr (inr (inr (inl (same_number b 95 e)))))
+    four : ((is_letter b || is_ascii_digit b || nat_eq b 45 || nat_eq b 95) ≡ true) ⊎ (nat_eq b 46 ≡ true) → IsNameByte b
+    four (inl e) = more (or_cases (is_letter b || is_ascii_digit b || nat_eq b 45) (nat_eq b 95) e)
+    four (inr e) = inr (inr (inr (inr (inr (same_number b 46 e)))))
+
+router_name : (name : Word) → is_router_name name ≡ true → IsRouterName name
+router_name name h =
+    let front : (nat_le 1 (length name) && nat_le (length name) 63) ≡ true = and_left (nat_le 1 (length name) && nat_le (length name) 63) (list_all is_name_byte name) h in
+    let passes = AllPass-from_list_all is_name_byte name (and_right (nat_le 1 (length name) && nat_le (length name) 63) (list_all is_name_byte name) h) in
+    record {
+      some = le_test 1 (length name) (and_left (nat_le 1 (length name)) (nat_le (length name) 63) front);
+      short = le_test (length name) 63 (and_right (nat_le 1 (length name)) (nat_le (length name) 63) front);
+      bytes = λ k d lt. name_byte (get_or name k d) (passes k d lt);
+    }
+
+there : {A : Type 0} (P : A → Type 0) (o : Option A) (d : A) → is_some o ≡ true → IfSome o P → P (unwrap_or o d)
+there P None d e h = absurd (false≢true e)
+there P (Some a) d e h = h
+
+or_default : {A : Type 0} (P : A → Type 0) (o : Option A) (d : A) → P d → IfSome o P → P (unwrap_or o d)
+or_default P None d e h = e
+or_default P (Some a) d e h = h
+
+-- ---- an interface ----
+
+abbrev IsGoodValue : ℕ → ℕ → Result ℕ ReadKind → Type 0
+IsGoodValue least most r = IfOk r (IsFrom least most)
+
+cost_in : (s : InterfaceLine) → IsGoodInterfaceLine s → IfSome (cost_said s) (IsGoodValue 1 65535)
+cost_in (Cost r) h = h
+cost_in (Address r) h = tt
+cost_in NoAddress h = tt
+cost_in (Shutdown b) h = tt
+cost_in Vrf h = tt
+cost_in (Bandwidth r) h = tt
+cost_in (Area r) h = tt
+cost_in (PointToPoint r) h = tt
+cost_in (Isis tag) h = tt
+cost_in (Circuit r) h = tt
+cost_in (Metric r) h = tt
+cost_in (Metric1 r) h = tt
+cost_in (Metric2 r) h = tt
+cost_in (Faulty kind) h = tt
+cost_in Skipped h = tt
+
+metric_in : (s : InterfaceLine) → IsGoodInterfaceLine s → IfSome (metric_said s) (IsGoodValue 1 16777214)
+metric_in (Metric r) h = h
+metric_in (Cost r) h = tt
+metric_in (Address r) h = tt
+metric_in NoAddress h = tt
+metric_in (Shutdown b) h = tt
+metric_in Vrf h = tt
+metric_in (Bandwidth r) h = tt
+metric_in (Area r) h = tt
+metric_in (PointToPoint r) h = tt
+metric_in (Isis tag) h = tt
+metric_in (Circuit r) h = tt
+metric_in (Metric1 r) h = tt
+metric_in (Metric2 r) h = tt
+metric_in (Faulty kind) h = tt
+metric_in Skipped h = tt
+
+metric1_in : (s : InterfaceLine) → IsGoodInterfaceLine s → IfSome (metric1_said s) (IsGoodValue 1 16777214)
+metric1_in (Metric1 r) h = h
+metric1_in (Metric r) h = tt
+metric1_in (Cost r) h = tt
+metric1_in (Address r) h = tt
+metric1_in NoAddress h = tt
+metric1_in (Shutdown b) h = tt
+metric1_in Vrf h = tt
+metric1_in (Bandwidth r) h = tt
+metric1_in (Area r) h = tt
+metric1_in (PointToPoint r) h = tt
+metric1_in (Isis tag) h = tt
+metric1_in (Circuit r) h = tt
+metric1_in (Metric2 r) h = tt
+metric1_in (Faulty kind) h = tt
+metric1_in Skipped h = tt
+
+metric2_in : (s : InterfaceLine) → IsGoodInterfaceLine s → IfSome (metric2_said s) (IsGoodValue 1 16777214)
+metric2_in (Metric2 r) h = h
+metric2_in (Metric r) h = tt
+metric2_in (Cost r) h = tt
+metric2_in (Address r) h = tt
+metric2_in NoAddress h = tt
+metric2_in (Shutdown b) h = tt
+metric2_in Vrf h = tt
+metric2_in (Bandwidth r) h = tt
+metric2_in (Area r) h = tt
+metric2_in (PointToPoint r) h = tt
+metric2_in (Isis tag) h = tt
+metric2_in (Circuit r) h = tt
+metric2_in (Metric1 r) h = tt
+metric2_in (Faulty kind) h = tt
+metric2_in Skipped h = tt
+
+abbrev IsGoodPlaced : Option PlacedAddress → Type 0
+IsGoodPlaced o = IfSome o (λ (p : PlacedAddress). IfOk p.address IsGoodAddress)
+
+placed_in : (line : ℕ) (s : InterfaceLine) → IsGoodInterfaceLine s → IfSome (address_at line s) IsGoodPlaced
+placed_in line (Address r) h = h
+placed_in line NoAddress h = tt
+placed_in line (Metric2 r) h = tt
+placed_in line (Metric r) h = tt
+placed_in line (Cost r) h = tt
+placed_in line (Shutdown b) h = tt
+placed_in line Vrf h = tt
+placed_in line (Bandwidth r) h = tt
+placed_in line (Area r) h = tt
+placed_in line (PointToPoint r) h = tt
+placed_in line (Isis tag) h = tt
+placed_in line (Circuit r) h = tt
+placed_in line (Metric1 r) h = tt
+placed_in line (Faulty kind) h = tt
+placed_in line Skipped h = tt
+
+given_good : (o : Option (Option PlacedAddress)) → IfSome o IsGoodPlaced → IfSome (address_given o) IsGoodAddress
+given_good None h = tt
+given_good (Some None) h = tt
+given_good (Some (Some placed)) h = value (placed.address) h
+  where
+    value : (r : Result MaskedAddress ReadKind) → IfOk r IsGoodAddress → IfSome (good_value (Some r)) IsGoodAddress
+    value (Ok a) g = g
+    value (Err kind) g = tt
+
+subnet_good : (o : Option MaskedAddress) → IfSome o IsGoodAddress → IfSome (subnet_field o) IsBlock
+subnet_good None h = tt
+subnet_good (Some a) h = prefix_good a.address a.len h.below h.short
+
+subnet_there : (o : Option MaskedAddress) → is_some o ≡ true → IsSome (subnet_field o)
+subnet_there None h = absurd (false≢true h)
+subnet_there (Some a) h = refl
+
+abbrev IsCost : ℕ → Type 0
+IsCost = IsFrom 1 65535
+
+cost_from : (reference bandwidth : ℕ) → IsCost (cost_of_bandwidth reference bandwidth)
+cost_from reference bandwidth = bounded (reference * 1000 / bandwidth)
+  where
+    bounded : (q : ℕ) → IsCost (min 65535 (max 1 q))
+    bounded q = record { low = omega arith; high = omega arith }
+
+one_cost : IsCost 1
+one_cost = record { low = omega arith; high = omega arith }
+
+kind_cost : (reference : ℕ) (kind : Option ℕ) → IfSome (option_map (cost_of_bandwidth reference) kind) IsCost
+kind_cost reference None = tt
+kind_cost reference (Some bandwidth) = cost_from reference bandwidth
+
+bandwidth_cost : (reference : ℕ) (own : Option (Result ℕ ReadKind)) (kind : Option ℕ) → IfSome (cost_by_bandwidth reference own kind) IsCost
+bandwidth_cost reference (Some (Ok bandwidth)) kind = cost_from reference bandwidth
+bandwidth_cost reference (Some (Err _)) kind = one_cost
+bandwidth_cost reference None kind = kind_cost reference kind
+
+otherwise_cost : (reference : ℕ) (name : Word) (bandwidth : Option (Result ℕ ReadKind)) → IfSome (default_cost reference name bandwidth) IsCost
+otherwise_cost reference name bandwidth =
+    by_if (λ (o : Option ℕ). IfSome o IsCost) (is_loopback name) (Some 1) (cost_by_bandwidth reference bandwidth (default_bandwidth (take_while is_letter name)))
+    one_cost (bandwidth_cost reference bandwidth (default_bandwidth (take_while is_letter name)))
+
+given_cost : (own : Option (Result ℕ ReadKind)) (otherwise : Option ℕ) → IfSome own (IsGoodValue 1 65535) → IfSome otherwise IsCost → IfSome (cost_given own otherwise) IsCost
+given_cost (Some (Ok cost)) otherwise h i = h
+given_cost (Some (Err _)) otherwise h i = one_cost
+given_cost None otherwise h i = i
+
+field_cost : (area cost : Option ℕ) → IfSome cost IsCost → IsCost (cost_field area cost)
+field_cost None cost h = one_cost
+field_cost (Some area) cost h = or_default IsCost cost 1 one_cost h
+
+abbrev IsMetric : ℕ → Type 0
+IsMetric = IsFrom 1 16777214
+
+ten_metric : IsMetric 10
+ten_metric = record { low = omega arith; high = omega arith }
+
+value_metric : (o : Option (Result ℕ ReadKind)) → IfSome o (IsGoodValue 1 16777214) → IfSome (good_value o) IsMetric
+value_metric None h = tt
+value_metric (Some (Ok metric)) h = h
+value_metric (Some (Err _)) h = tt
+
+by_metric : (own both : Option ℕ) (router : ℕ) → IfSome own IsMetric → IfSome both IsMetric → IsMetric router → IsMetric (metric_by own both router)
+by_metric (Some metric) both router h i j = h
+by_metric None both router h i j = or_default IsMetric both router j i
+
+pair : (least most n : ℕ) → IsFrom least most n → (least ≤ n) × (n ≤ most)
+pair least most n h = (h.low, h.high)
+
+module _ (router : Router) (name : Word) (lines : List InterfaceStatement) (good : All IsGoodStatement lines) (metric : IsMetric router.metric) where
+  own_metric : (own : Option (Result ℕ ReadKind)) → IfSome own (IsGoodValue 1 16777214) → IsMetric (level_metric router name (facts_of lines) own)
+  own_metric own h =
+      by_if IsMetric (runs_isis router name (facts_of lines)) (metric_by (good_value own) (good_value (facts_of lines).metric) router.metric) 10
+      (by_metric (good_value own) (good_value (facts_of lines).metric) router.metric (value_metric own h)
+      (value_metric (facts_of lines).metric (last_keeps (λ (s : InterfaceStatement). metric_said s.says) IsGoodStatement (IsGoodValue 1 16777214) (λ s g. metric_in s.says g) lines good)) metric)
+      ten_metric
+
+  interface_good : IsInterface (interface_with router name (facts_of lines))
+  interface_good = record {
+    cost = pair 1 65535 _ (field_cost (interface_area router (facts_of lines)) (ospf_cost router name (facts_of lines))
+        (given_cost (facts_of lines).cost (default_cost router.reference name (facts_of lines).bandwidth)
+        (last_keeps (λ (s : InterfaceStatement). cost_said s.says) IsGoodStatement (IsGoodValue 1 65535) (λ s g. cost_in s.says g) lines good)
+        (otherwise_cost router.reference name (facts_of lines).bandwidth)));
+    metric1 = pair 1 16777214 _ (own_metric (facts_of lines).metric1 (last_keeps (λ (s : InterfaceStatement). metric1_said s.says) IsGoodStatement (IsGoodValue 1 16777214) (λ s g. metric1_in s.says g) lines good));
+    metric2 = pair 1 16777214 _ (own_metric (facts_of lines).metric2 (last_keeps (λ (s : InterfaceStatement). metric2_said s.says) IsGoodStatement (IsGoodValue 1 16777214) (λ s g. metric2_in s.says g) lines good));
+    prefix = subnet_good (address_given (facts_of lines).address) (given_good (facts_of lines).address (last_keeps address_in IsGoodStatement IsGoodPlaced (λ s g. placed_in s.line s.says g) lines good));
+    subnet = λ up. subnet_there (address_given (facts_of lines).address) (and_left (is_some (address_given (facts_of lines).address)) (not (unwrap_or (facts_of lines).shut false)) up);
+  }
+
+interfaces_kept : (router : Router) (sections : List InterfaceSection) → IsMetric router.metric → All IsGoodInterface sections → All IsInterface (map (interface_as_read router) sections)
+interfaces_kept router sections metric good =
+    All-map IsInterface (interface_as_read router) sections
+    (λ k d lt. interface_good router (get_or sections k d).name (counting (get_or sections k d).lines) (counting_good (get_or sections k d).lines (good k d lt)) metric)
+
+-- two interfaces have two names
+apart_interfaces : (router : Router) (parts : List InterfaceSection) (names : List Word) → AllPairs (λ (n m : Word). n ≢ m) names → AllPairs (λ (i j : Interface). i.name ≢ j.name) (map (interface_as_read router) (map (merged parts) names))
+apart_interfaces router parts names h =
+    pairs_map (λ (i j : Interface). i.name ≢ j.name) (interface_as_read router) (map (merged parts) names)
+    (pairs_map (λ (s t : InterfaceSection). s.name ≢ t.name) (merged parts) names h)
+
+-- ---- the OSPF process ----
+
+range_in : (s : OspfLine) → IsGoodOspfLine s → IfSome (range_said s) IsRange
+range_in (RangeSaid (Ok range)) h = h
+range_in (RangeSaid (Err kind)) h = tt
+range_in (Network r) h = tt
+range_in (Passive r) h = tt
+range_in (PassiveDefault r) h = tt
+range_in (Reference r) h = tt
+range_in (StubSaid r) h = tt
+range_in (DefaultCost r) h = tt
+range_in (Distance r) h = tt
+range_in (Rfc1583 r) h = tt
+range_in (OspfFaulty r) h = tt
+range_in OspfSkipped h = tt
+
+stub_in : (s : OspfLine) → IsGoodOspfLine s → IfSome (stub_said s) (λ (t : StubLine). 1 ≤ t.area)
+stub_in (StubSaid (Ok stub)) h = h
+stub_in (StubSaid (Err kind)) h = tt
+stub_in (RangeSaid r) h = tt
+stub_in (Network r) h = tt
+stub_in (Passive r) h = tt
+stub_in (PassiveDefault r) h = tt
+stub_in (Reference r) h = tt
+stub_in (DefaultCost r) h = tt
+stub_in (Distance r) h = tt
+stub_in (Rfc1583 r) h = tt
+stub_in (OspfFaulty r) h = tt
+stub_in OspfSkipped h = tt
+
+default_in : (area : ℕ) (s : OspfLine) → IsGoodOspfLine s → IfSome (default_cost_said area s) (λ n. n ≤ 16777214)
+default_in area (DefaultCost (Ok said)) h = chosen (nat_eq said.area area) said.cost h
+  where
+    chosen : (t : Bool) (cost : ℕ) → cost ≤ 16777214 → IfSome (cost_if t cost) (λ n. n ≤ 16777214)
+    chosen true cost g = g
+    chosen false cost g = tt
+default_in area (DefaultCost (Err kind)) h = tt
+default_in area (StubSaid r) h = tt
+default_in area (RangeSaid r) h = tt
+default_in area (Network r) h = tt
+default_in area (Passive r) h = tt
+default_in area (PassiveDefault r) h = tt
+default_in area (Reference r) h = tt
+default_in area (Distance r) h = tt
+default_in area (Rfc1583 r) h = tt
+default_in area (OspfFaulty r) h = tt
+default_in area OspfSkipped h = tt
+
+distance_in : (s : OspfLine) → IsGoodOspfLine s → IfSome (ospf_distance_said s) (λ (r : Result ℕ ReadKind). IfOk r IsOspfDistance)
+distance_in (Distance r) h = h
+distance_in (DefaultCost r) h = tt
+distance_in (StubSaid r) h = tt
+distance_in (RangeSaid r) h = tt
+distance_in (Network r) h = tt
+distance_in (Passive r) h = tt
+distance_in (PassiveDefault r) h = tt
+distance_in (Reference r) h = tt
+distance_in (Rfc1583 r) h = tt
+distance_in (OspfFaulty r) h = tt
+distance_in OspfSkipped h = tt
+
+value_kept : {A : Type 0} (P : A → Type 0) (o : Option (Result A ReadKind)) (d : A) → P d → IfSome o (λ (r : Result A ReadKind). IfOk r P) → P (value_or o d)
+value_kept P None d h i = h
+value_kept P (Some (Ok a)) d h i = i
+value_kept P (Some (Err _)) d h i = h
+
+ranges_kept : (lines : List OspfStatement) → All IsGoodOspf lines → All IsRange (ranges_in lines)
+ranges_kept lines good =
+    fold_keeps (λ (w : List Range). All IsRange w) IsRange (replaced is_same_range) (λ xs x h p. all_replaced IsRange is_same_range xs x h p)
+    [] (filter_map (λ (s : OspfStatement). range_said s.says) lines) (All-nil IsRange)
+    (all_taken (λ (s : OspfStatement). range_said s.says) IsGoodOspf IsRange (λ s g. range_in s.says g) lines good)
+
+same_range : (r s : Range) → is_same_range r s ≡ true → (r.area ≡ s.area) × (r.dest ≡ s.dest)
+same_range r s e =
+    let front : (nat_eq r.area s.area && nat_eq r.dest.base s.dest.base) ≡ true = and_left (nat_eq r.area s.area && nat_eq r.dest.base s.dest.base) (nat_eq r.dest.len s.dest.len) e in
+    let base : r.dest.base ≡ s.dest.base = same_number r.dest.base s.dest.base (and_right (nat_eq r.area s.area) (nat_eq r.dest.base s.dest.base) front) in
+    let len : r.dest.len ≡ s.dest.len = same_number r.dest.len s.dest.len (and_right (nat_eq r.area s.area && nat_eq r.dest.base s.dest.base) (nat_eq r.dest.len s.dest.len) e) in
+    (same_number r.area s.area (and_left (nat_eq r.area s.area) (nat_eq r.dest.base s.dest.base) front), same_parts r.dest.base s.dest.base r.dest.len s.dest.len base len)
+
+equal_number : (a b : ℕ) → a ≡ b → nat_eq a b ≡ true
+equal_number a b h = grind (arith, nat_tests)
+
+range_same : (r s : Range) → (r.area ≡ s.area) × (r.dest ≡ s.dest) → is_same_range r s ≡ true
+range_same r s h = all_three (equal_number r.area s.area h.0) (equal_number r.dest.base s.dest.base (ap (λ (b : Block). b.base) h.1)) (equal_number r.dest.len s.dest.len (ap (λ (b : Block). b.len) h.1))
+  where
+    all_three : {a b c : Bool} → a ≡ true → b ≡ true → c ≡ true → (a && b && c) ≡ true
+    all_three e f g = rw (e, f, g) refl
+
+ranges_takes : (y x z : Range) → is_same_range y x ≡ true → AreRangesApart y z → AreRangesApart x z
+ranges_takes y x z e apart h =
+    let same : (y.area ≡ x.area) × (y.dest ≡ x.dest) = same_range y x e in
+    let area : y.area ≡ z.area = let p = same.0 in let q = h.0 in cc in
+    let dest : y.dest ≡ z.dest = let p = same.1 in let q = h.1 in cc in
+    apart (area, dest)
+
+ranges_new : (y x : Range) → is_same_range y x ≡ false → AreRangesApart y x
+ranges_new y x e h = let t : is_same_range y x ≡ true = range_same y x h in let f : false ≡ true = cc in false≢true f
+
+ranges_apart : (lines : List OspfStatement) → AllPairs AreRangesApart (ranges_in lines)
+ranges_apart lines =
+    fold_keeps (λ (w : List Range). AllPairs AreRangesApart w) (λ (r : Range). Unit {0}) (replaced is_same_range) (λ xs x h p. pairs_replaced AreRangesApart is_same_range ranges_takes ranges_new xs x h)
+    [] (filter_map (λ (s : OspfStatement). range_said s.says) lines) (λ i j d p q. absurd (omega arith)) (λ k d lt. tt)
+
+abbrev AreStubsApart : StubLine → StubLine → Type 0
+AreStubsApart s t = s.area ≢ t.area
+
+stubs_takes : (y x z : StubLine) → is_same_area y x ≡ true → AreStubsApart y z → AreStubsApart x z
+stubs_takes y x z e apart h = let same : y.area ≡ x.area = same_number y.area x.area e in apart cc
+
+stubs_new : (y x : StubLine) → is_same_area y x ≡ false → AreStubsApart y x
+stubs_new y x e h = let t : is_same_area y x ≡ true = equal_number y.area x.area h in let f : false ≡ true = cc in false≢true f
+
+stub_lines_apart : (lines : List OspfStatement) → AllPairs AreStubsApart (stub_lines_in lines)
+stub_lines_apart lines =
+    fold_keeps (λ (w : List StubLine). AllPairs AreStubsApart w) (λ (r : StubLine). Unit {0}) (replaced is_same_area) (λ xs x h p. pairs_replaced AreStubsApart is_same_area stubs_takes stubs_new xs x h)
+    [] (filter_map (λ (s : OspfStatement). stub_said s.says) lines) (λ i j d p q. absurd (omega arith)) (λ k d lt. tt)
+
+stub_lines_kept : (lines : List OspfStatement) → All IsGoodOspf lines → All (λ (t : StubLine). 1 ≤ t.area) (stub_lines_in lines)
+stub_lines_kept lines good =
+    fold_keeps (λ (w : List StubLine). All (λ (t : StubLine). 1 ≤ t.area) w) (λ (t : StubLine). 1 ≤ t.area) (replaced is_same_area) (λ xs x h p. all_replaced (λ (t : StubLine). 1 ≤ t.area) is_same_area xs x h p)
+    [] (filter_map (λ (s : OspfStatement). stub_said s.says) lines) (All-nil (λ (t : StubLine). 1 ≤ t.area))
+    (all_taken (λ (s : OspfStatement). stub_said s.says) IsGoodOspf (λ (t : StubLine). 1 ≤ t.area) (λ s g. stub_in s.says g) lines good)
+
+stubs_kept : (lines : List OspfStatement) → All IsGoodOspf lines → All IsStub (stubs_in lines)
+stubs_kept lines good =
+    All-map IsStub (stub_of lines) (stub_lines_in lines)
+    (λ k d lt. record {
+      area = stub_lines_kept lines good k d lt;
+      default_cost = or_default (λ (n : ℕ). n ≤ 16777214) (last_of (λ (s : OspfStatement). default_cost_said (get_or (stub_lines_in lines) k d).area s.says) lines) 1 (omega arith)
+          (last_keeps (λ (s : OspfStatement). default_cost_said (get_or (stub_lines_in lines) k d).area s.says) IsGoodOspf (λ (n : ℕ). n ≤ 16777214) (λ s g. default_in (get_or (stub_lines_in lines) k d).area s.says g) lines good);
+    })
+
+-- ---- the IS-IS process ----
+
+title_in : (s : IsisLine) → IsGoodIsisLine s → IfSome (title_said s) (λ (o : Option Title). IfSome o (λ (t : Title). t.system < 2 ^ 48))
+title_in (Net title) h = h
+title_in (Levels r) h = tt
+title_in (MetricStyle r) h = tt
+title_in (IsisMetric r) h = tt
+title_in (IsisDistance r) h = tt
+title_in (IsisPassive r) h = tt
+title_in (IsisFaulty r) h = tt
+title_in IsisSkipped h = tt
+
+router_metric_in : (s : IsisLine) → IsGoodIsisLine s → IfSome (router_metric_said s) (IsGoodValue 1 16777214)
+router_metric_in (IsisMetric r) h = h
+router_metric_in (Net r) h = tt
+router_metric_in (Levels r) h = tt
+router_metric_in (MetricStyle r) h = tt
+router_metric_in (IsisDistance r) h = tt
+router_metric_in (IsisPassive r) h = tt
+router_metric_in (IsisFaulty r) h = tt
+router_metric_in IsisSkipped h = tt
+
+isis_distance_in : (s : IsisLine) → IsGoodIsisLine s → IfSome (isis_distance_said s) (λ (r : Result ℕ ReadKind). IfOk r IsIsisDistance)
+isis_distance_in (IsisDistance r) h = h
+isis_distance_in (IsisMetric r) h = tt
+isis_distance_in (Net r) h = tt
+isis_distance_in (Levels r) h = tt
+isis_distance_in (MetricStyle r) h = tt
+isis_distance_in (IsisPassive r) h = tt
+isis_distance_in (IsisFaulty r) h = tt
+isis_distance_in IsisSkipped h = tt
+
+system_kept : (o : Option (Option Title)) → IfSome o (λ (p : Option Title). IfSome p (λ (t : Title). t.system < 2 ^ 48)) → system_in (title_given o) < 2 ^ 48
+system_kept None h = omega arith
+system_kept (Some None) h = omega arith
+system_kept (Some (Some title)) h = h
+
+process_kept : (o : Option ℕ) → IfSome o (IsFrom 1 65535) → IfSome o (λ p. (1 ≤ p) × (p ≤ 65535))
+process_kept None h = tt
+process_kept (Some p) h = (h.low, h.high)
+
+-- the configuration of sections that name the router keeps the facts of a configuration
+pub configuration_kept : (sections : List Section) → All IsGoodSection sections → is_some (last_of as_hostname sections) ≡ true → IsConfiguration (configuration_of sections)
+configuration_kept sections good named =
+    let ospf : All IsGoodOspf (ospf_lines sections) = ospf_good sections good in
+    let isis : All IsGoodIsis (isis_lines sections) = isis_good sections good in
+    let metric : IsMetric (router_of sections).metric = value_kept IsMetric (last_of (λ (s : IsisStatement). router_metric_said s.says) (isis_lines sections)) 10 ten_metric
+        (last_keeps (λ (s : IsisStatement). router_metric_said s.says) IsGoodIsis (IsGoodValue 1 16777214) (λ s g. router_metric_in s.says g) (isis_lines sections) isis) in
+    let distance : IsOspfDistance (value_or (last_of (λ (s : OspfStatement). ospf_distance_said s.says) (ospf_lines sections)) 110) =
+        value_kept IsOspfDistance (last_of (λ (s : OspfStatement). ospf_distance_said s.says) (ospf_lines sections)) 110
+        (record { some = omega arith; most = omega arith; apart = λ e. omega arith })
+        (last_keeps (λ (s : OspfStatement). ospf_distance_said s.says) IsGoodOspf (λ (r : Result ℕ ReadKind). IfOk r IsOspfDistance) (λ s g. distance_in s.says g) (ospf_lines sections) ospf) in
+    record {
+      name = router_name (unwrap_or (last_of as_hostname sections) [])
+          (there (λ (name : Word). is_router_name name ≡ true) (last_of as_hostname sections) [] named (last_keeps as_hostname IsGoodSection (λ (name : Word). is_router_name name ≡ true) as_hostname_good sections good));
+      interfaces = interfaces_kept (router_of sections) (interfaces_in sections) metric (interfaces_good sections good);
+      interface_names = apart_interfaces (router_of sections) (filter_map as_interface sections) (first_seen (map (λ (s : InterfaceSection). s.name) (filter_map as_interface sections))) (names_apart (map (λ (s : InterfaceSection). s.name) (filter_map as_interface sections)));
+      process = process_kept (process_of sections) (number_of_process sections good);
+      system = system_kept (last_of (λ (s : IsisStatement). title_said s.says) (isis_lines sections))
+          (last_keeps (λ (s : IsisStatement). title_said s.says) IsGoodIsis (λ (o : Option Title). IfSome o (λ (t : Title). t.system < 2 ^ 48)) (λ s g. title_in s.says g) (isis_lines sections) isis);
+      ranges = ranges_kept (ospf_lines sections) ospf;
+      ranges_apart = ranges_apart (ospf_lines sections);
+      stubs = stubs_kept (ospf_lines sections) ospf;
+      stubs_apart = pairs_map (λ (s t : Stub). s.area ≢ t.area) (stub_of (ospf_lines sections)) (stub_lines_in (ospf_lines sections)) (stub_lines_apart (ospf_lines sections));
+      distances = record {
+        some = distance.some;
+        most = distance.most;
+        apart = distance.apart;
+        isis = value_kept IsIsisDistance (last_of (λ (s : IsisStatement). isis_distance_said s.says) (isis_lines sections)) 115 (inl refl)
+            (last_keeps (λ (s : IsisStatement). isis_distance_said s.says) IsGoodIsis (λ (r : Result ℕ ReadKind). IfOk r IsIsisDistance) (λ s g. isis_distance_in s.says g) (isis_lines sections) isis);
+      };
+    }

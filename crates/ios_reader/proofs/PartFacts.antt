@@ -1,0 +1,211 @@
+-- The parts of a text, one more line at a time.
+use Rattle.std.proofs.Common.{sym, ◌≡◌, ℕ, ◌+◌, ◌-◌, ◌<◌, ◌≤◌, Bool, true, false, not, ◌&&◌, ◌||◌, List, [], ◌∷◌, ◌++◌, length, take, drop, get_or, Option, Some, None, Result, Ok, Err, refl, ap, subst, ◌∙◌, cond, map, append_assoc, append-nil, arith}
+use Rattle.std.specs.Prelude.{flat_map}
+use Rattle.std.specs.List.{list_any, slice_range}
+use Rattle.std.proofs.lemmas.Grind.{common_steps}
+use Rattle.std.proofs.lemmas.List.{take_more, map-append}
+use Rattle.std.proofs.lemmas.List.Concat.{flat_map-append}
+use Rattle.net_model.specs.Configuration.{Configuration}
+use Rattle.ios_reader.specs.TextLines.{TextLine, Part, is_end, parts_after, rest_after, is_empty, begins_configuration}
+use Rattle.ios_reader.specs.Faults.{sections_in, part_faults}
+use Rattle.ios_reader.specs.Configurations.{configuration_of}
+use Rattle.ios_reader.specs.Gathering.{lesser_fault, least_fault}
+use Rattle.ios_reader.specs.Parts.{part_at, IsPartRead, fault_read, configurations_read, Reading, IsReadingOf}
+use Rattle.ios_reader.specs.declared.fault.Fault.{Fault}
+use Rattle.ios_reader.proofs.GatheringFacts.{least_fault-append}
+
+-- ---- one more line ----
+
+abbrev ended : List TextLine → TextLine → List Part
+ended before x = cond (is_end x) (part_at before x.number ∷ []) []
+
+rest_cases : (t : Bool) (y : List TextLine) (a b : List TextLine) (r : List TextLine) → (t ≡ true → a ≡ r) → (t ≡ false → b ≡ r) → cond t a b ≡ r
+rest_cases true y a b r p q = p refl
+rest_cases false y a b r p q = q refl
+
+rest-choice : (t : Bool) (a b : List TextLine) (x : TextLine) → cond t (cond (is_end x) [] (a ++ x ∷ [])) (cond (is_end x) [] (b ++ x ∷ [])) ≡ cond (is_end x) [] (cond t a b ++ x ∷ [])
+rest-choice true a b x = refl
+rest-choice false a b x = refl
+
+cond_two : {A : Type 0} (t : Bool) (a b c d : A) → a ≡ c → b ≡ d → cond t a b ≡ cond t c d
+cond_two true a b c d p q = p
+cond_two false a b c d p q = q
+
+rest-push : (before xs : List TextLine) (x : TextLine) → rest_after before (xs ++ x ∷ []) ≡ cond (is_end x) [] (rest_after before xs ++ x ∷ [])
+rest-push before [] x = refl
+rest-push before (y ∷ ys) x =
+    cond_two (is_end y) (rest_after [] (ys ++ x ∷ [])) (rest_after (before ++ y ∷ []) (ys ++ x ∷ [])) _ _ (rest-push [] ys x) (rest-push (before ++ y ∷ []) ys x)
+    ∙ rest-choice (is_end y) (rest_after [] ys) (rest_after (before ++ y ∷ []) ys) x
+
+parts-choice : (t : Bool) (p : Part) (a b : List Part) (r s : List TextLine) (x : TextLine) →
+    cond t (p ∷ (a ++ ended r x)) (b ++ ended s x) ≡ cond t (p ∷ a) b ++ ended (cond t r s) x
+parts-choice true p a b r s x = refl
+parts-choice false p a b r s x = refl
+
+parts-push : (before xs : List TextLine) (x : TextLine) → parts_after before (xs ++ x ∷ []) ≡ parts_after before xs ++ ended (rest_after before xs) x
+parts-push before [] x = refl
+parts-push before (y ∷ ys) x =
+    cond_two (is_end y) (part_at before y.number ∷ parts_after [] (ys ++ x ∷ [])) (parts_after (before ++ y ∷ []) (ys ++ x ∷ [])) _ _
+    (ap (λ (ps : List Part). part_at before y.number ∷ ps) (parts-push [] ys x)) (parts-push (before ++ y ∷ []) ys x)
+    ∙ parts-choice (is_end y) (part_at before y.number) (parts_after [] ys) (parts_after (before ++ y ∷ []) ys) (rest_after [] ys) (rest_after (before ++ y ∷ []) ys) x
+
+module _ (lines : List TextLine) (i : ℕ) (x : TextLine) (within : i < length lines) (read : x ≡ get_or lines i x) where
+  one_more : take (i + 1) lines ≡ take i lines ++ x ∷ []
+  one_more = take_more lines i x within ∙ ap (λ (y : TextLine). take i lines ++ y ∷ []) (sym read)
+
+  -- the lines after the last `end` line, with one more line
+  pub rest_more : rest_after [] (take (i + 1) lines) ≡ cond (is_end x) [] (rest_after [] (take i lines) ++ x ∷ [])
+  rest_more = ap (rest_after []) one_more ∙ rest-push [] (take i lines) x
+
+  -- the parts, with one more line
+  pub parts_more : parts_after [] (take (i + 1) lines) ≡ parts_after [] (take i lines) ++ ended (rest_after [] (take i lines)) x
+  parts_more = ap (parts_after []) one_more ∙ parts-push [] (take i lines) x
+
+-- ---- the lines that are not in a part yet ----
+
+pub slice_none : (lines : List TextLine) (i : ℕ) → slice_range lines i i ≡ []
+slice_none lines i = let none : i - i ≡ 0 = omega arith in ap (λ (n : ℕ). take n (drop i lines)) none
+
+pub slice_more : (lines : List TextLine) (start i : ℕ) (x : TextLine) → start ≤ i → i < length lines → x ≡ get_or lines i x → slice_range lines start (i + 1) ≡ slice_range lines start i ++ x ∷ []
+slice_more lines start i x low within read =
+    let count : (i + 1) - start ≡ (i - start) + 1 = omega arith in
+    let inside : i - start < length (drop start lines) = grind (arith, common_steps) in
+    let place : start + (i - start) ≡ i = omega arith in
+    let same : get_or (drop start lines) (i - start) x ≡ x = grind (arith, common_steps) in
+    ap (λ (n : ℕ). take n (drop start lines)) count
+    ∙ take_more (drop start lines) (i - start) x inside
+    ∙ ap (λ (y : TextLine). take (i - start) (drop start lines) ++ y ∷ []) same
+
+-- ---- what is read ----
+
+least-push : (parts : List Part) (part : Part) → least_fault (flat_map part_faults (parts ++ part ∷ [])) ≡ lesser_fault (least_fault (flat_map part_faults parts)) (least_fault (part_faults part))
+least-push parts part =
+    ap least_fault (flat_map-append part_faults parts (part ∷ []))
+    ∙ least_fault-append (flat_map part_faults parts) (part_faults part ++ [])
+    ∙ ap (λ (w : List Fault). lesser_fault (least_fault (flat_map part_faults parts)) (least_fault w)) (append-nil (part_faults part))
+
+fault_is : (part : Part) (read : Result Configuration Fault) → IsPartRead part read → fault_read read ≡ least_fault (part_faults part)
+fault_is part (Ok configuration) h = sym (ap least_fault h.faultless)
+fault_is part (Err fault) h = sym h
+
+none_before : (a : Option Fault) → lesser_fault a None ≡ None → a ≡ None
+none_before None e = refl
+none_before (Some f) e = e
+
+either_some : (t : Bool) (f g : Fault) → cond t (Some g) (Some f) ≡ None → ⊥
+either_some true f g e = cc
+either_some false f g e = cc
+
+some_after : (a : Option Fault) (g : Fault) → lesser_fault a (Some g) ≡ None → ⊥
+some_after None g e = cc
+some_after (Some f) g e = either_some _ f g e
+
+abbrev made : List Part → List Configuration
+made parts = map (λ (part : Part). configuration_of (sections_in part)) parts
+
+configs_more : (parts : List Part) (part : Part) (r s : Reading) (read : Result Configuration Fault) → IsReadingOf parts r → IsPartRead part read →
+    s.fault ≡ lesser_fault r.fault (fault_read read) → s.configs ≡ r.configs ++ configurations_read read → s.fault ≡ None → s.configs ≡ made (parts ++ part ∷ [])
+configs_more parts part r s (Ok configuration) before h f g none =
+    let clean : r.fault ≡ None = none_before r.fault (sym f ∙ none) in
+    g ∙ ap (λ (w : List Configuration). w ++ configuration ∷ []) (before.configs clean)
+    ∙ ap (λ (x : Configuration). made parts ++ x ∷ []) h.made
+    ∙ sym (map-append (λ (part : Part). configuration_of (sections_in part)) parts (part ∷ []))
+configs_more parts part r s (Err fault) before h f g none = absurd (some_after r.fault fault (sym f ∙ none))
+
+-- one more part is read
+pub reading-push : (parts : List Part) (part : Part) (r s : Reading) (read : Result Configuration Fault) → IsReadingOf parts r → IsPartRead part read →
+    s.fault ≡ lesser_fault r.fault (fault_read read) → s.configs ≡ r.configs ++ configurations_read read → IsReadingOf (parts ++ part ∷ []) s
+reading-push parts part r s read before h f g = record {
+  fault =
+      f ∙ ap (λ (o : Option Fault). lesser_fault o (fault_read read)) before.fault
+      ∙ ap (lesser_fault (least_fault (flat_map part_faults parts))) (fault_is part read h)
+      ∙ sym (least-push parts part);
+  configs = configs_more parts part r s read before h f g;
+}
+
+-- nothing is read yet
+pub reading_none : (r : Reading) → r.fault ≡ None → r.configs ≡ [] → IsReadingOf [] r
+reading_none r f g = record { fault = f; configs = λ _. g }
+
+-- ---- whether a configuration is open ----
+
+any-push : (xs : List TextLine) (x : TextLine) → list_any begins_configuration (xs ++ x ∷ []) ≡ (list_any begins_configuration xs || begins_configuration x)
+any-push [] x = or_false (begins_configuration x)
+  where
+    or_false : (b : Bool) → (b || false) ≡ b
+    or_false true = refl
+    or_false false = refl
+any-push (y ∷ ys) x = or_assoc (begins_configuration y) (list_any begins_configuration ys) (begins_configuration x) (any-push ys x)
+  where
+    or_assoc : (a b c : Bool) {d : Bool} → d ≡ (b || c) → (a || d) ≡ ((a || b) || c)
+    or_assoc true b c e = refl
+    or_assoc false b c e = e
+
+any_cases : (t : Bool) (xs : List TextLine) (x : TextLine) → list_any begins_configuration (cond t [] (xs ++ x ∷ [])) ≡ cond t false (list_any begins_configuration xs || begins_configuration x)
+any_cases true xs x = refl
+any_cases false xs x = any-push xs x
+
+pub open_more : (lines : List TextLine) (i : ℕ) (x : TextLine) → i < length lines → x ≡ get_or lines i x →
+    list_any begins_configuration (rest_after [] (take (i + 1) lines)) ≡ cond (is_end x) false (list_any begins_configuration (rest_after [] (take i lines)) || begins_configuration x)
+open_more lines i x within read =
+    ap (list_any begins_configuration) (rest_more lines i x within read) ∙ any_cases (is_end x) (rest_after [] (take i lines)) x
+
+empty_cases : (t : Bool) (ps : List Part) (p : Part) → is_empty (ps ++ cond t (p ∷ []) []) ≡ not (not (is_empty ps) || t)
+empty_cases true [] p = refl
+empty_cases false [] p = refl
+empty_cases true (q ∷ qs) p = refl
+empty_cases false (q ∷ qs) p = refl
+
+pub ended_more : (lines : List TextLine) (i : ℕ) (x : TextLine) → i < length lines → x ≡ get_or lines i x →
+    is_empty (parts_after [] (take (i + 1) lines)) ≡ not (not (is_empty (parts_after [] (take i lines))) || is_end x)
+ended_more lines i x within read =
+    ap is_empty (parts_more lines i x within read) ∙ empty_cases (is_end x) (parts_after [] (take i lines)) (part_at (rest_after [] (take i lines)) x.number)
+
+double_not : (b : Bool) → not (not b) ≡ b
+double_not true = refl
+double_not false = refl
+
+-- the same, of the flag that an `end` line was there
+pub flag_more : (lines : List TextLine) (i : ℕ) (x : TextLine) (was now ends : Bool) → i < length lines → x ≡ get_or lines i x →
+    is_empty (parts_after [] (take i lines)) ≡ not was → ends ≡ is_end x → now ≡ (was || ends) → is_empty (parts_after [] (take (i + 1) lines)) ≡ not now
+flag_more lines i x was now ends within read before e f =
+    ended_more lines i x within read
+    ∙ ap (λ (b : Bool). not (not b || is_end x)) before
+    ∙ ap (λ (b : Bool). not (b || is_end x)) (double_not was)
+    ∙ ap (λ (b : Bool). not (was || b)) (sym e)
+    ∙ ap not (sym f)
+
+-- ---- the loop over the lines ----
+
+module _ (lines : List TextLine) (i : ℕ) (x : TextLine) (within : i < length lines) (read : x ≡ get_or lines i x) where
+  -- no line stands behind an `end` line yet
+  pub rest_at_end : is_end x ≡ true → slice_range lines (i + 1) (i + 1) ≡ rest_after [] (take (i + 1) lines)
+  rest_at_end ends =
+      slice_none lines (i + 1)
+      ∙ sym (rest_more lines i x within read ∙ ap (λ (b : Bool). cond b [] (rest_after [] (take i lines) ++ x ∷ [])) ends)
+
+  -- another line goes behind those that are in no part yet
+  pub rest_on : (start : ℕ) → start ≤ i → slice_range lines start i ≡ rest_after [] (take i lines) → is_end x ≡ false → slice_range lines start (i + 1) ≡ rest_after [] (take (i + 1) lines)
+  rest_on start low before on =
+      slice_more lines start i x low within read
+      ∙ ap (λ (w : List TextLine). w ++ x ∷ []) before
+      ∙ sym (rest_more lines i x within read ∙ ap (λ (b : Bool). cond b [] (rest_after [] (take i lines) ++ x ∷ [])) on)
+
+  -- at an `end` line one more part is read
+  pub read_at_end : (slice : List TextLine) (number : ℕ) (r s : Reading) (part : Result Configuration Fault) → is_end x ≡ true → slice ≡ rest_after [] (take i lines) → number ≡ x.number →
+      IsReadingOf (parts_after [] (take i lines)) r → IsPartRead (part_at slice number) part →
+      s.fault ≡ lesser_fault r.fault (fault_read part) → s.configs ≡ r.configs ++ configurations_read part → IsReadingOf (parts_after [] (take (i + 1) lines)) s
+  read_at_end slice number r s part ends before same was now f g =
+      let parts : parts_after [] (take i lines) ++ part_at slice number ∷ [] ≡ parts_after [] (take (i + 1) lines) =
+      ap (λ (w : List TextLine). parts_after [] (take i lines) ++ part_at w number ∷ []) before
+      ∙ ap (λ (n : ℕ). parts_after [] (take i lines) ++ part_at (rest_after [] (take i lines)) n ∷ []) same
+      ∙ sym (parts_more lines i x within read ∙ ap (λ (b : Bool). parts_after [] (take i lines) ++ cond b (part_at (rest_after [] (take i lines)) x.number ∷ []) []) ends) in
+      subst (λ (ps : List Part). IsReadingOf ps s) parts (reading-push (parts_after [] (take i lines)) (part_at slice number) r s part was now f g)
+
+  -- at another line nothing more is read
+  pub read_on : (r : Reading) → is_end x ≡ false → IsReadingOf (parts_after [] (take i lines)) r → IsReadingOf (parts_after [] (take (i + 1) lines)) r
+  read_on r on was =
+      let parts : parts_after [] (take i lines) ≡ parts_after [] (take (i + 1) lines) =
+      sym (append-nil (parts_after [] (take i lines)))
+      ∙ sym (parts_more lines i x within read ∙ ap (λ (b : Bool). parts_after [] (take i lines) ++ cond b (part_at (rest_after [] (take i lines)) x.number ∷ []) []) on) in
+      subst (λ (ps : List Part). IsReadingOf ps r) parts was

@@ -1,0 +1,234 @@
+-- The answer to a text, from what was read of its parts.
+use Rattle.std.proofs.Common.{sym, ◌≡◌, ℕ, ◌+◌, ◌<◌, ◌≤◌, ◌^◌, Bool, true, false, List, [], ◌∷◌, ◌++◌, length, Option, Some, None, refl, ap, subst, ◌∙◌, cond, map, arith, zero, suc, get_or, ◌⊎◌, inl, inr, nat_lt}
+use Rattle.std.specs.Prelude.{flat_map, All, Contains, filter_map, is_none, is_some, unwrap_or, count_by}
+use Rattle.std.specs.List.{slice_split}
+use Rattle.std.proofs.lemmas.List.{length-map}
+use Rattle.std.proofs.lemmas.List.Splits.{length-slice_split}
+use Rattle.std.proofs.lemmas.List.Sums.{count_by-le-length}
+use Rattle.std.proofs.lemmas.List.Elements.{All-nil, All-cons, All-weaker, Contains-append_right}
+use Rattle.std.proofs.lemmas.Bool.Decides.{nat_tests}
+use Rattle.net_addr.specs.declared.line.Line.{Line}
+use Rattle.net_addr.specs.Lines.{is_line_feed, without_empty_last, line_pieces, lines_of, text_lines}
+use Rattle.net_model.specs.Configuration.{Configuration, IsConfiguration}
+use Rattle.ios_reader.specs.Words.{Word}
+use Rattle.ios_reader.specs.TextLines.{TextLine, Part, text_line, lines_in, parts_of, lacks_end}
+use Rattle.ios_reader.specs.Faults.{fault_at, faults_if, second_processes, ospf_faults, ospf_statement_faults, isis_faults, isis_statement_faults, tag_faults, second_titles, lacking, first_isis_line, interface_faults, section_faults, sections_in, part_faults, faults_in}
+use Rattle.ios_reader.specs.Routers.{as_hostname, as_isis, as_fault, interfaces_in, first_isis, first_tag, ospf_lines, isis_lines, router_of, router_with, rfc1583_said, ospf_distance_said, isis_distance_said, ranges_in, stubs_in}
+use Rattle.ios_reader.specs.InterfacesAsRead.{interface_as_read}
+use Rattle.ios_reader.specs.Lookups.{last_of, value_or}
+use Rattle.ios_reader.specs.Configurations.{rank, IsNotAfter, IsLeastFault, AreConfigurations, configuration_of, tag_in, area_in, system_in}
+use Rattle.ios_reader.specs.Gathering.{order_of, is_before, lesser_fault, least_fault}
+use Rattle.ios_reader.specs.Statements.{Statements, statements_of, ospf_fault_by, isis_fault_by, fault_by, title_by, configuration_by}
+use Rattle.ios_reader.specs.Parts.{part_at, IsMadeOf, IsPartRead, Reading, IsReadingOf}
+use Rattle.ios_reader.specs.Texts.{ReadsText, IsRefusedText}
+use Rattle.ios_reader.specs.declared.kind.ReadKind.TheVariants.{NoHostname, NoEnd}
+use Rattle.ios_reader.specs.declared.fault.Fault.{Fault}
+use Rattle.ios_reader.specs.declared.ospf_line.OspfStatement.{OspfStatement}
+use Rattle.ios_reader.specs.declared.isis_line.IsisStatement.{IsisStatement}
+use Rattle.ios_reader.specs.declared.section.IsisSection.{IsisSection}
+use Rattle.ios_reader.specs.declared.section.Section.{Section}
+use Rattle.ios_reader.proofs.FaultFacts.{least_of_two}
+use Rattle.ios_reader.proofs.LeastFaults.{by_order, none_least}
+use Rattle.ios_reader.proofs.GoodSections.{sections_good}
+use Rattle.ios_reader.proofs.KeptFacts.{configuration_kept}
+
+-- ---- the least fault of a configuration ----
+
+isis_is : (sections : List Section) → isis_fault_by (statements_of sections) ≡ least_fault (isis_faults sections)
+isis_is sections =
+    let all : List IsisSection = filter_map as_isis sections in
+    least_of_two
+    (tag_faults (filter_map as_isis sections) ++ flat_map isis_statement_faults (isis_lines sections) ++ second_titles (isis_lines sections))
+    (lacking (first_isis_line (filter_map as_isis sections)) (isis_lines sections)) _ _
+    (least_of_two (tag_faults (filter_map as_isis sections) ++ flat_map isis_statement_faults (isis_lines sections)) (second_titles (isis_lines sections)) _ _
+    (least_of_two (tag_faults (filter_map as_isis sections)) (flat_map isis_statement_faults (isis_lines sections)) _ _ refl refl) refl) refl
+
+ospf_is : (sections : List Section) → ospf_fault_by (statements_of sections) ≡ least_fault (filter_map as_fault sections ++ second_processes sections ++ ospf_faults sections)
+ospf_is sections =
+    least_of_two (filter_map as_fault sections ++ second_processes sections) (ospf_faults sections) _ _
+    (least_of_two (filter_map as_fault sections) (second_processes sections) _ _ refl refl) refl
+
+pub fault_is : (sections : List Section) (ends : ℕ) → fault_by (statements_of sections) ends ≡ least_fault (section_faults sections ends)
+fault_is sections ends =
+    let first : List Fault = filter_map as_fault sections ++ second_processes sections ++ ospf_faults sections in
+    let interfaces : List Fault = flat_map (interface_faults (router_of sections) (first_tag (filter_map as_isis sections))) (interfaces_in sections) in
+    least_of_two
+    (filter_map as_fault sections ++ second_processes sections ++ ospf_faults sections ++ isis_faults sections ++ flat_map (interface_faults (router_of sections) (first_tag (filter_map as_isis sections))) (interfaces_in sections))
+    (faults_if (is_none (last_of as_hostname sections)) ends NoHostname) _ _
+    (least_of_two
+    (filter_map as_fault sections ++ second_processes sections ++ ospf_faults sections ++ isis_faults sections)
+    (flat_map (interface_faults (router_of sections) (first_tag (filter_map as_isis sections))) (interfaces_in sections)) _ _
+    (least_of_two (filter_map as_fault sections ++ second_processes sections ++ ospf_faults sections) (isis_faults sections) _ _ (ospf_is sections) (isis_is sections))
+    refl) refl
+
+-- ---- the configuration ----
+
+tag_there : (all : List IsisSection) → is_some (first_tag all) ≡ is_some (first_isis all)
+tag_there [] = refl
+tag_there (s ∷ ss) = refl
+
+append_none : (fs gs : List Fault) → fs ++ gs ≡ [] → gs ≡ []
+append_none [] gs e = e
+append_none (f ∷ fs) gs e = absurd cc
+
+no_fault : (t : Bool) (line : ℕ) → faults_if t line NoHostname ≡ [] → t ≡ false
+no_fault true line e = absurd cc
+no_fault false line e = refl
+
+tag_is : (all : List IsisSection) → unwrap_or (first_tag all) [] ≡ tag_in (first_isis all)
+tag_is [] = refl
+tag_is (s ∷ ss) = refl
+
+abbrev whole : Bool → Word → Statements → Configuration
+whole isis tag s = record {
+  name = unwrap_or s.name [];
+  interfaces = map (interface_as_read (router_with s.ospf s.isis)) s.interfaces;
+  process = s.process;
+  isis = isis;
+  tag = tag;
+  isis_area = area_in (title_by s.isis);
+  system = system_in (title_by s.isis);
+  levels = (router_with s.ospf s.isis).levels;
+  ranges = ranges_in s.ospf;
+  stubs = stubs_in s.ospf;
+  rfc1583 = unwrap_or (last_of (λ (t : OspfStatement). rfc1583_said t.says) s.ospf) true;
+  distances = record {
+    ospf = value_or (last_of (λ (t : OspfStatement). ospf_distance_said t.says) s.ospf) 110;
+    isis = value_or (last_of (λ (t : IsisStatement). isis_distance_said t.says) s.isis) 115;
+  };
+}
+
+configuration_is : (sections : List Section) → configuration_by (statements_of sections) ≡ configuration_of sections
+configuration_is sections =
+    ap (λ (b : Bool). whole b (unwrap_or (first_tag (filter_map as_isis sections)) []) (statements_of sections)) (tag_there (filter_map as_isis sections))
+    ∙ ap (λ (w : Word). whole (is_some (first_isis (filter_map as_isis sections))) w (statements_of sections)) (tag_is (filter_map as_isis sections))
+
+-- ---- a part ----
+
+some_name : (o : Option Word) → is_none o ≡ false → is_some o ≡ true
+some_name None e = cc
+some_name (Some name) e = refl
+
+part_named : (sections : List Section) (ends : ℕ) → section_faults sections ends ≡ [] → is_some (last_of as_hostname sections) ≡ true
+part_named sections ends e =
+    some_name (last_of as_hostname sections)
+    (no_fault (is_none (last_of as_hostname sections)) ends
+    (append_none
+    (filter_map as_fault sections ++ second_processes sections ++ ospf_faults sections ++ isis_faults sections ++ flat_map (interface_faults (router_of sections) (first_tag (filter_map as_isis sections))) (interfaces_in sections))
+    (faults_if (is_none (last_of as_hostname sections)) ends NoHostname) e))
+
+part_fault : (part : Part) (s : Statements) → s ≡ statements_of (sections_in part) → fault_by s part.ends ≡ least_fault (part_faults part)
+part_fault part s e = ap (λ (t : Statements). fault_by t part.ends) e ∙ fault_is (sections_in part) part.ends
+
+part_faultless : (part : Part) (s : Statements) → s ≡ statements_of (sections_in part) → fault_by s part.ends ≡ None → part_faults part ≡ []
+part_faultless part s e none = none_least (part_faults part) (sym (part_fault part s e) ∙ none)
+
+-- the configuration of a part without a fault keeps the facts of a configuration
+pub part_kept : (part : Part) (s : Statements) → s ≡ statements_of (sections_in part) → fault_by s part.ends ≡ None → IsConfiguration (configuration_by s)
+part_kept part s e none =
+    let named : is_some (last_of as_hostname (sections_in part)) ≡ true = part_named (sections_in part) part.ends (part_faultless part s e none) in
+    subst (λ (t : Statements). IsConfiguration (configuration_by t)) (sym e)
+    (subst IsConfiguration (sym (configuration_is (sections_in part))) (configuration_kept (sections_in part) (sections_good part) named))
+
+-- a part without a fault is read into its configuration
+pub part_made : (part : Part) (s : Statements) (c : Configuration) → s ≡ statements_of (sections_in part) → fault_by s part.ends ≡ None → c ≡ configuration_by s → IsMadeOf part c
+part_made part s c e none made = record {
+  faultless = part_faultless part s e none;
+  made = made ∙ ap configuration_by e ∙ configuration_is (sections_in part);
+}
+
+-- a faulty part is read into its least fault
+pub part_faulty : (part : Part) (s : Statements) (f : Fault) → s ≡ statements_of (sections_in part) → fault_by s part.ends ≡ Some f → least_fault (part_faults part) ≡ Some f
+part_faulty part s f e some = sym (part_fault part s e) ∙ some
+
+-- ---- the least fault of some ----
+
+not_after_trans : (f g h : Fault) → IsNotAfter f g → IsNotAfter g h → IsNotAfter f h
+not_after_trans f g h (inl p) (inl q) = inl (omega arith)
+not_after_trans f g h (inl p) (inr q) = inl (omega (arith, q.0))
+not_after_trans f g h (inr p) (inl q) = inl (omega (arith, p.0))
+not_after_trans f g h (inr p) (inr q) = inr (omega (arith, p.0, q.0), omega (arith, p.1, q.1))
+
+not_after_same : (f : Fault) → IsNotAfter f f
+not_after_same f = inr (refl, omega arith)
+
+first_least : (g : Fault) (gs : List Fault) → All (IsNotAfter g) gs → IsLeastFault (g ∷ gs) g
+first_least g gs h = record { among = (zero, omega arith, refl); least = All-cons (IsNotAfter g) g gs (not_after_same g) h }
+
+later_least : (g h : Fault) (gs : List Fault) → IsNotAfter h g → IsLeastFault gs h → IsLeastFault (g ∷ gs) h
+later_least g h gs before found = record {
+  among = (suc (found.among.0), omega (arith, found.among.1), found.among.2);
+  least = All-cons (IsNotAfter h) g gs before found.least;
+}
+
+least_choice : (g h f : Fault) (gs : List Fault) (t : Bool) → is_before h g ≡ t → IsLeastFault gs h → cond t (Some h) (Some g) ≡ Some f → IsLeastFault (g ∷ gs) f
+least_choice g h f gs true before found e =
+    let same : h ≡ f = cc in
+    subst (IsLeastFault (g ∷ gs)) same (later_least g h gs (by_order h g (grind (arith, nat_tests))) found)
+least_choice g h f gs false before found e =
+    let same : g ≡ f = cc in
+    let after : IsNotAfter g h = by_order g h (grind (arith, nat_tests)) in
+    subst (IsLeastFault (g ∷ gs)) same (first_least g gs (All-weaker (IsNotAfter h) (IsNotAfter g) (λ x n. not_after_trans g h x after n) gs found.least))
+
+least_cases : (g f : Fault) (gs : List Fault) (o : Option Fault) → least_fault gs ≡ o → ((h : Fault) → least_fault gs ≡ Some h → IsLeastFault gs h) → lesser_fault (Some g) o ≡ Some f → IsLeastFault (g ∷ gs) f
+least_cases g f gs None r later e =
+    let same : g ≡ f = cc in
+    let none : gs ≡ [] = none_least gs r in
+    subst (IsLeastFault (g ∷ gs)) same (first_least g gs (subst (λ (w : List Fault). All (IsNotAfter g) w) (sym none) (All-nil (IsNotAfter g))))
+least_cases g f gs (Some h) r later e = least_choice g h f gs (is_before h g) refl (later h r) e
+
+least_is : (fs : List Fault) (f : Fault) → least_fault fs ≡ Some f → IsLeastFault fs f
+least_is [] f e = absurd cc
+least_is (g ∷ gs) f e = least_cases g f gs (least_fault gs) refl (λ h r. least_is gs h r) e
+
+-- ---- a text ----
+
+least_in : (lines : List TextLine) (r : Reading) (end : Option Fault) → IsReadingOf (parts_of lines) r → end ≡ least_fault (faults_if (lacks_end lines) (length lines + 1) NoEnd) →
+    lesser_fault r.fault end ≡ least_fault (faults_in lines)
+least_in lines r end h e = least_of_two (flat_map part_faults (parts_of lines)) (faults_if (lacks_end lines) (length lines + 1) NoEnd) r.fault end h.fault e
+
+none_first : (a b : Option Fault) → lesser_fault a b ≡ None → a ≡ None
+none_first None b e = refl
+none_first (Some f) None e = e
+none_first (Some f) (Some g) e = absurd (chosen (is_before g f) f g e)
+  where
+    chosen : (t : Bool) (f g : Fault) → cond t (Some g) (Some f) ≡ None → ⊥
+    chosen true f g e = cc
+    chosen false f g e = cc
+
+-- a text without a faulty line is read into its configurations
+pub text_read : (text : List ℕ) (r : Reading) (end : Option Fault) → IsReadingOf (parts_of (lines_in text)) r → end ≡ least_fault (faults_if (lacks_end (lines_in text)) (length (lines_in text) + 1) NoEnd) →
+    lesser_fault r.fault end ≡ None → ReadsText text r.configs
+text_read text r end h e none = record {
+  faultless = none_least (faults_in (lines_in text)) (sym (least_in (lines_in text) r end h e) ∙ none);
+  made = h.configs (none_first r.fault end none);
+}
+
+-- a text with a faulty line is refused at the first one
+pub text_refused : (text : List ℕ) (r : Reading) (end : Option Fault) (f : Fault) → IsReadingOf (parts_of (lines_in text)) r → end ≡ least_fault (faults_if (lacks_end (lines_in text)) (length (lines_in text) + 1) NoEnd) →
+    lesser_fault r.fault end ≡ Some f → IsRefusedText text f.line f.kind
+text_refused text r end f h e some = least_is (faults_in (lines_in text)) f (sym (least_in (lines_in text) r end h e) ∙ some)
+
+-- ---- how many lines a text has ----
+
+lines_length : (number start : ℕ) (pieces : List (List ℕ)) → length (lines_of number start pieces) ≡ length pieces
+lines_length number start [] = refl
+lines_length number start (piece ∷ more) = ap suc (lines_length (number + 1) (start + length piece + 1) more)
+
+last_choice : (t : Bool) (piece : List ℕ) → length (cond t [] (piece ∷ [])) ≤ 1
+last_choice true piece = omega arith
+last_choice false piece = omega arith
+
+fewer : (pieces : List (List ℕ)) → length (without_empty_last pieces) ≤ length pieces
+fewer [] = omega arith
+fewer (piece ∷ []) = last_choice _ piece
+fewer (piece ∷ next ∷ more) = let h : length (without_empty_last (next ∷ more)) ≤ length (next ∷ more) = fewer (next ∷ more) in omega arith
+
+-- a text has at most one line more than bytes
+pub line_count : (text : List ℕ) → length (text_lines text) ≤ length text + 1
+line_count text =
+    omega (arith, lines_length 1 0 (line_pieces text), fewer (slice_split is_line_feed text), length-slice_split is_line_feed text, count_by-le-length is_line_feed text)
+
+-- the lines with their words are as many
+pub lines_in_length : (text : List ℕ) → length (lines_in text) ≡ length (text_lines text)
+lines_in_length text = length-map (text_lines text) (text_line text)

@@ -1,0 +1,42 @@
+-- What the lines of the two processes say in the end: of each form the last one.
+use Rattle.std.specs.Prelude.{List}
+use Rattle.ios_reader.specs.Lookups.{later, last_of}
+use Rattle.ios_reader.specs.Routers.{passive_default_said, reference_said, ospf_distance_said, rfc1583_said, levels_said, router_metric_said, isis_distance_said}
+use Rattle.ios_reader.specs.declared.ospf_line.OspfStatement.{OspfStatement}
+use Rattle.ios_reader.specs.declared.isis_line.IsisStatement.{IsisStatement}
+use Rattle.ios_reader.specs.declared.router.OspfFacts.{OspfFacts}
+use Rattle.ios_reader.specs.declared.router.IsisFacts.{IsisFacts}
+
+-- of each form the last line of an OSPF process
+abbrev pub ospf_facts_of : List OspfStatement → OspfFacts
+ospf_facts_of lines = record {
+  passive_default = last_of (λ (s : OspfStatement). passive_default_said s.says) lines;
+  reference = last_of (λ (s : OspfStatement). reference_said s.says) lines;
+  distance = last_of (λ (s : OspfStatement). ospf_distance_said s.says) lines;
+  rfc1583 = last_of (λ (s : OspfStatement). rfc1583_said s.says) lines;
+}
+
+-- the same, with one more line
+abbrev pub ospf_noted : OspfFacts → OspfStatement → OspfFacts
+ospf_noted facts s = record {
+  passive_default = later facts.passive_default (passive_default_said s.says);
+  reference = later facts.reference (reference_said s.says);
+  distance = later facts.distance (ospf_distance_said s.says);
+  rfc1583 = later facts.rfc1583 (rfc1583_said s.says);
+}
+
+-- of each form the last line of an IS-IS process
+abbrev pub isis_facts_of : List IsisStatement → IsisFacts
+isis_facts_of lines = record {
+  levels = last_of (λ (s : IsisStatement). levels_said s.says) lines;
+  metric = last_of (λ (s : IsisStatement). router_metric_said s.says) lines;
+  distance = last_of (λ (s : IsisStatement). isis_distance_said s.says) lines;
+}
+
+-- the same, with one more line
+abbrev pub isis_noted : IsisFacts → IsisStatement → IsisFacts
+isis_noted facts s = record {
+  levels = later facts.levels (levels_said s.says);
+  metric = later facts.metric (router_metric_said s.says);
+  distance = later facts.distance (isis_distance_said s.says);
+}

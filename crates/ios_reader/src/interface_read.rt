@@ -1,0 +1,346 @@
+ghost use Rattle.std.specs.Prelude.{◌≡◌, ◌≤◌, length, take_while, unwrap_or, map, IfOk};
+ghost use Rattle.std.specs.List.{prefix_len};
+ghost use Rattle.ios_reader.specs.Words.{is_letter};
+ghost use Rattle.ios_reader.specs.Lookups.{good_value};
+ghost use Rattle.ios_reader.specs.InterfacesAsRead.{address_given, is_loopback, is_up, area_by, interface_area, default_bandwidth, cost_of_bandwidth, cost_by_bandwidth, default_cost, cost_given, ospf_cost, has_one, has_two, is_isis_passive, is_ospf_passive, runs_isis, runs_level, metric_by, level_metric, address_field, subnet_field, cost_field, interface_with, interface_as_read};
+
+use crate::OutOfMemory;
+use crate::address::InterfaceAddress;
+use crate::facts::{InterfaceFacts, PlacedAddress, counting, facts_of};
+use crate::interface_line::ProcessArea;
+use crate::kind::ReadKind;
+use crate::ospf_line::prefix_of;
+use crate::router::{Router, isis_passive_at, levels_or_both, network_area, ospf_passive_at};
+use crate::section::InterfaceSection;
+use crate::words::{is, is_letter};
+use net_addr::{Name, Prefix};
+use net_model::{Interface, Levels};
+use std::alloc::Global;
+
+/// The address that the last address line gives.
+pub fn address_given(address: Option<Option<PlacedAddress>>) -> Option<InterfaceAddress>
+    ensures { result ≡ address_given address }
+{
+    match address {
+        Some(Some(placed)) => match placed.address {
+            Ok(given) => Some(given),
+            Err(_) => None,
+        },
+        _ => None,
+    }
+}
+
+/// Whether the interface is a loopback.
+pub fn is_loopback(name: &[u8]) -> bool
+    ensures { result ≡ is_loopback name.now }
+{
+    name.starts_with(b"Loopback".as_slice())
+}
+
+/// Whether an interface with these lines is up: it has an address, and isn't shut down.
+pub fn is_up(facts: &InterfaceFacts) -> bool
+    ensures { result ≡ is_up facts.now }
+{
+    address_given(facts.address).is_some() && !facts.shut.unwrap_or(false)
+}
+
+/// The area: of the interface's own line, else of the first network line that takes its address.
+fn area_by(own: Option<Result<ProcessArea, ReadKind>>, by_network: Option<u32>) -> Option<u32>
+    ensures { result ≡ area_by own by_network }
+{
+    match own {
+        None => by_network,
+        Some(Ok(said)) => Some(said.area),
+        Some(Err(_)) => None,
+    }
+}
+
+/// The area of an interface; without an address it has none.
+pub fn interface_area(router: &Router, facts: &InterfaceFacts) -> Option<u32>
+    ensures { result ≡ interface_area router.now facts.now }
+{
+    match address_given(facts.address) {
+        Some(given) => area_by(facts.area, network_area(router.ospf, given.address())),
+        None => None,
+    }
+}
+
+/// The bandwidth of a kind of interface, in kbit/s.
+fn default_bandwidth(letters: &[u8]) -> Option<u32>
+    ensures { result ≡ default_bandwidth letters.now }
+{
+    if is(letters, b"TenGigabitEthernet") {
+        return Some(10000000);
+    }
+    if is(letters, b"GigabitEthernet") {
+        return Some(1000000);
+    }
+    if is(letters, b"FastEthernet") {
+        return Some(100000);
+    }
+    if is(letters, b"Ethernet") {
+        return Some(10000);
+    }
+    if is(letters, b"Serial") {
+        return Some(1544);
+    }
+    None
+}
+
+/// How many letters a name begins with.
+fn letter_count(name: &[u8]) -> usize
+    ensures value { result ≡ prefix_len is_letter name.now }
+    ensures bound { result ≤ length name.now }
+{
+    name.iter().take_while(|byte| is_letter(**byte)).count()
+}
+
+/// The letters that a name begins with.
+fn letters_of(name: &[u8]) -> &[u8]
+    ensures { result.now ≡ take_while is_letter name.now }
+{
+    &name[..letter_count(name)]
+}
+
+/// The cost of a bandwidth in kbit/s, by a reference in Mbit/s: rounded down, from 1 to 65535.
+fn cost_of_bandwidth(reference: u32, bandwidth: u32) -> u32
+    ensures { result ≡ cost_of_bandwidth reference bandwidth }
+{
+    if bandwidth == 0 {
+        return 1;
+    }
+    let cost = u64::from(reference) * 1000 / u64::from(bandwidth);
+    cost.max(1).min(65535) as u32
+}
+
+/// A cost by the interface's own bandwidth, else by its kind's.
+fn cost_by_bandwidth(
+    reference: u32,
+    own: Option<Result<u32, ReadKind>>,
+    kind: Option<u32>,
+) -> Option<u32>
+    ensures { result ≡ cost_by_bandwidth reference own kind }
+{
+    match own {
+        Some(Ok(bandwidth)) => Some(cost_of_bandwidth(reference, bandwidth)),
+        Some(Err(_)) => Some(1),
+        None => match kind {
+            Some(bandwidth) => Some(cost_of_bandwidth(reference, bandwidth)),
+            None => None,
+        },
+    }
+}
+
+/// The cost without a cost line: 1 on a loopback, else by a bandwidth.
+fn default_cost(
+    reference: u32,
+    name: &[u8],
+    bandwidth: Option<Result<u32, ReadKind>>,
+) -> Option<u32>
+    ensures { result ≡ default_cost reference name.now bandwidth }
+{
+    if is_loopback(name) {
+        return Some(1);
+    }
+    cost_by_bandwidth(reference, bandwidth, default_bandwidth(letters_of(name)))
+}
+
+/// The cost of a cost line, else another one.
+fn cost_given(own: Option<Result<u32, ReadKind>>, otherwise: Option<u32>) -> Option<u32>
+    ensures { result ≡ cost_given own otherwise }
+{
+    match own {
+        Some(Ok(cost)) => Some(cost),
+        Some(Err(_)) => Some(1),
+        None => otherwise,
+    }
+}
+
+/// The OSPF cost of an interface, where anything gives one.
+pub fn ospf_cost(router: &Router, name: &[u8], facts: &InterfaceFacts) -> Option<u32>
+    ensures { result ≡ ospf_cost router.now name.now facts.now }
+{
+    cost_given(
+        facts.cost,
+        default_cost(router.reference, name, facts.bandwidth),
+    )
+}
+
+/// Whether the interface is passive for IS-IS.
+fn is_isis_passive(router: &Router, name: &[u8]) -> bool
+    ensures { result ≡ is_isis_passive router.now name.now }
+{
+    isis_passive_at(router.isis, name).unwrap_or(false)
+}
+
+/// Whether the interface is passive for OSPF.
+fn is_ospf_passive(router: &Router, name: &[u8]) -> bool
+    ensures { result ≡ is_ospf_passive router.now name.now }
+{
+    ospf_passive_at(router.ospf, name).unwrap_or(router.passive_default)
+}
+
+/// Whether the interface runs IS-IS: by its own line, or since it is passive.
+fn runs_isis(router: &Router, name: &[u8], facts: &InterfaceFacts) -> bool
+    ensures { result ≡ runs_isis router.now name.now facts.now }
+{
+    is_isis_passive(router, name) || facts.isis.is_some()
+}
+
+/// Whether the levels hold level 1.
+fn has_one(levels: Levels) -> bool
+    ensures { result ≡ has_one levels }
+{
+    match levels {
+        Levels::One | Levels::Both => true,
+        Levels::Two => false,
+    }
+}
+
+/// Whether the levels hold level 2.
+fn has_two(levels: Levels) -> bool
+    ensures { result ≡ has_two levels }
+{
+    match levels {
+        Levels::Two | Levels::Both => true,
+        Levels::One => false,
+    }
+}
+
+/// Whether the interface runs level 1.
+fn runs_one(router: &Router, name: &[u8], facts: &InterfaceFacts) -> bool
+    ensures { result ≡ runs_level has_one router.now name.now facts.now }
+{
+    runs_isis(router, name, facts)
+        && has_one(router.levels)
+        && (is_isis_passive(router, name) || has_one(levels_or_both(facts.circuit)))
+}
+
+/// Whether the interface runs level 2.
+fn runs_two(router: &Router, name: &[u8], facts: &InterfaceFacts) -> bool
+    ensures { result ≡ runs_level has_two router.now name.now facts.now }
+{
+    runs_isis(router, name, facts)
+        && has_two(router.levels)
+        && (is_isis_passive(router, name) || has_two(levels_or_both(facts.circuit)))
+}
+
+/// A number that is there and good.
+fn good_value(value: Option<Result<u32, ReadKind>>) -> Option<u32>
+    ensures { result ≡ good_value value }
+{
+    match value {
+        Some(Ok(value)) => Some(value),
+        _ => None,
+    }
+}
+
+/// The metric of a level: by a line with the level, else by one without, else the router's.
+fn metric_by(own: Option<u32>, both: Option<u32>, router: u32) -> u32
+    ensures { result ≡ metric_by own both router }
+{
+    match own {
+        Some(metric) => metric,
+        None => both.unwrap_or(router),
+    }
+}
+
+/// The metric of a level, 10 on an interface that runs no IS-IS.
+fn level_metric(
+    router: &Router,
+    name: &[u8],
+    facts: &InterfaceFacts,
+    own: Option<Result<u32, ReadKind>>,
+) -> u32
+    ensures { result ≡ level_metric router.now name.now facts.now own }
+{
+    if runs_isis(router, name, facts) {
+        metric_by(good_value(own), good_value(facts.metric), router.metric)
+    } else {
+        10
+    }
+}
+
+/// The address field: 0 where there is no address.
+fn address_field(given: Option<InterfaceAddress>) -> u32
+    ensures { result ≡ address_field given }
+{
+    match given {
+        Some(given) => given.address(),
+        None => 0,
+    }
+}
+
+/// The subnet field.
+fn subnet_field(given: Option<InterfaceAddress>) -> Option<Prefix>
+    ensures { result ≡ subnet_field given }
+{
+    match given {
+        Some(given) => Some(given.subnet()),
+        None => None,
+    }
+}
+
+/// The cost field: an interface without an area has the cost 1.
+fn cost_field(area: Option<u32>, cost: Option<u32>) -> u32
+    ensures { result ≡ cost_field area cost }
+{
+    match area {
+        Some(_) => cost.unwrap_or(1),
+        None => 1,
+    }
+}
+
+/// An interface as read, from what its lines say.
+pub fn interface_with(router: &Router, name: Name, facts: &InterfaceFacts) -> Interface
+    ensures { result ≡ interface_with router.now name facts.now }
+{
+    let area = interface_area(router, facts);
+    let cost = cost_field(area, ospf_cost(router, name.as_slice(), facts));
+    let up = is_up(facts);
+    let loopback = is_loopback(name.as_slice());
+    let ospf_passive = is_ospf_passive(router, name.as_slice());
+    let level1 = runs_one(router, name.as_slice(), facts);
+    let level2 = runs_two(router, name.as_slice(), facts);
+    let metric1 = level_metric(router, name.as_slice(), facts, facts.metric1);
+    let metric2 = level_metric(router, name.as_slice(), facts, facts.metric2);
+    let isis_passive = is_isis_passive(router, name.as_slice());
+    Interface {
+        name,
+        address: address_field(address_given(facts.address)),
+        subnet: subnet_field(address_given(facts.address)),
+        up,
+        loopback,
+        area,
+        cost,
+        ospf_passive,
+        level1,
+        level2,
+        metric1,
+        metric2,
+        isis_passive,
+    }
+}
+
+/// An interface as read, from its sections.
+fn interface_as_read(router: &Router, section: InterfaceSection) -> Interface
+    ensures { result ≡ interface_as_read router.now section }
+{
+    let facts = facts_of(counting(section.lines.as_slice()));
+    interface_with(router, section.name, &facts)
+}
+
+/// The interfaces of a router as read.
+pub fn interfaces_as_read(
+    alloc: Global,
+    router: &Router,
+    sections: Vec<InterfaceSection>,
+) -> Result<Vec<Interface>, OutOfMemory>
+    ensures { IfOk result (λ read. read.items ≡ map (interface_as_read router.now) sections.items) }
+{
+    let mut interfaces = Vec::new(alloc);
+    for section in sections {
+        interfaces.push(interface_as_read(router, section))?;
+    }
+    Ok(interfaces)
+}

@@ -1,0 +1,247 @@
+ghost use Rattle.std.specs.Prelude.{◌≡◌, unwrap_or};
+ghost use Rattle.ios_reader.specs.Lookups.{later, last_of, first_of, value_or};
+ghost use Rattle.ios_reader.specs.Routers.{area_taken, passive_if_named, ospf_passive_said, isis_passive_said, router_with};
+ghost use Rattle.ios_reader.specs.ProcessFacts.{ospf_noted, ospf_facts_of, isis_noted, isis_facts_of};
+
+use crate::isis_line::{IsisLine, IsisStatement};
+use crate::kind::ReadKind;
+use crate::ospf_line::{OspfLine, OspfStatement, PassiveLine};
+use crate::words::is;
+use net_model::Levels;
+use std::marker::Model;
+
+/// What the lines of an OSPF process say in the end: of each form the last line, `None` where there is none.
+#[derive(Clone, Copy, Debug)]
+pub struct OspfFacts {
+    /// `passive-interface default`, or with `no`.
+    pub passive_default: Option<bool>,
+    /// `auto-cost reference-bandwidth N`, in Mbit/s.
+    pub reference: Option<Result<u32, ReadKind>>,
+    /// `distance N`.
+    pub distance: Option<Result<u8, ReadKind>>,
+    /// `compatible rfc1583`, or with `no`.
+    pub rfc1583: Option<bool>,
+}
+
+/// What the lines of an IS-IS process say in the end: of each form the last line, `None` where there is none.
+#[derive(Clone, Copy, Debug)]
+pub struct IsisFacts {
+    /// `is-type L`.
+    pub levels: Option<Result<Levels, ReadKind>>,
+    /// `metric N`.
+    pub metric: Option<Result<u32, ReadKind>>,
+    /// `distance N`.
+    pub distance: Option<Result<u8, ReadKind>>,
+}
+
+/// What the lines of an OSPF process say in the end, with one more line.
+fn ospf_noted(facts: OspfFacts, statement: &OspfStatement) -> OspfFacts
+    ensures { result ≡ ospf_noted facts statement.now }
+{
+    let mut facts = facts;
+    match &statement.says {
+        OspfLine::PassiveDefault(passive) => facts.passive_default = Some(*passive),
+        OspfLine::Reference(reference) => facts.reference = Some(*reference),
+        OspfLine::Distance(distance) => facts.distance = Some(*distance),
+        OspfLine::Rfc1583(compatible) => facts.rfc1583 = Some(*compatible),
+        _ => {}
+    }
+    facts
+}
+
+/// What the lines of an OSPF process say in the end: of each form the last one.
+pub fn ospf_facts_of(lines: &[OspfStatement]) -> OspfFacts
+    ensures { result ≡ ospf_facts_of lines.now }
+{
+    let mut facts = OspfFacts {
+        passive_default: None,
+        reference: None,
+        distance: None,
+        rfc1583: None,
+    };
+    for statement in lines {
+        facts = ospf_noted(facts, statement);
+    }
+    facts
+}
+
+/// What the lines of an IS-IS process say in the end, with one more line.
+fn isis_noted(facts: IsisFacts, statement: &IsisStatement) -> IsisFacts
+    ensures { result ≡ isis_noted facts statement.now }
+{
+    let mut facts = facts;
+    match &statement.says {
+        IsisLine::Levels(levels) => facts.levels = Some(*levels),
+        IsisLine::Metric(metric) => facts.metric = Some(*metric),
+        IsisLine::Distance(distance) => facts.distance = Some(*distance),
+        _ => {}
+    }
+    facts
+}
+
+/// What the lines of an IS-IS process say in the end: of each form the last one.
+pub fn isis_facts_of(lines: &[IsisStatement]) -> IsisFacts
+    ensures { result ≡ isis_facts_of lines.now }
+{
+    let mut facts = IsisFacts {
+        levels: None,
+        metric: None,
+        distance: None,
+    };
+    for statement in lines {
+        facts = isis_noted(facts, statement);
+    }
+    facts
+}
+
+/// Whether a line names this interface, and makes it passive.
+fn passive_if_named(name: &[u8], said: &PassiveLine) -> Option<bool>
+    ensures { result ≡ passive_if_named name.now said.now }
+{
+    if is(said.name.as_slice(), name) {
+        Some(said.passive)
+    } else {
+        None
+    }
+}
+
+/// Whether a line of an OSPF process names this interface, and makes it passive.
+fn ospf_passive_said(name: &[u8], line: &OspfLine) -> Option<bool>
+    ensures { result ≡ ospf_passive_said name.now line.now }
+{
+    match line {
+        OspfLine::Passive(said) => passive_if_named(name, said),
+        _ => None,
+    }
+}
+
+/// Whether a line of an IS-IS process names this interface, and makes it passive.
+fn isis_passive_said(name: &[u8], line: &IsisLine) -> Option<bool>
+    ensures { result ≡ isis_passive_said name.now line.now }
+{
+    match line {
+        IsisLine::Passive(said) => passive_if_named(name, said),
+        _ => None,
+    }
+}
+
+/// The later of two, where there is one.
+fn later(before: Option<bool>, after: Option<bool>) -> Option<bool>
+    ensures { result ≡ later before after }
+{
+    match after {
+        Some(value) => Some(value),
+        None => before,
+    }
+}
+
+/// Whether the last line of an OSPF process that names this interface makes it passive.
+pub fn ospf_passive_at(lines: &[OspfStatement], name: &[u8]) -> Option<bool>
+    ensures { result ≡ last_of (λ s. ospf_passive_said name.now s.says) lines.now }
+{
+    let mut last = None;
+    for statement in lines {
+        last = later(last, ospf_passive_said(name, &statement.says));
+    }
+    last
+}
+
+/// Whether the last line of an IS-IS process that names this interface makes it passive.
+pub fn isis_passive_at(lines: &[IsisStatement], name: &[u8]) -> Option<bool>
+    ensures { result ≡ last_of (λ s. isis_passive_said name.now s.says) lines.now }
+{
+    let mut last = None;
+    for statement in lines {
+        last = later(last, isis_passive_said(name, &statement.says));
+    }
+    last
+}
+
+/// The area of a `network` line, where it takes the address.
+fn area_taken(address: u32, line: &OspfLine) -> Option<u32>
+    ensures { result ≡ area_taken address line.now }
+{
+    match line {
+        OspfLine::Network(Ok(network)) => {
+            if address | network.wildcard == network.address | network.wildcard {
+                Some(network.area)
+            } else {
+                None
+            }
+        }
+        _ => None,
+    }
+}
+
+/// The area of the first `network` line that takes the address.
+pub fn network_area(lines: &[OspfStatement], address: u32) -> Option<u32>
+    ensures { result ≡ first_of (λ s. area_taken address s.says) lines.now }
+{
+    for statement in lines {
+        if let Some(area) = area_taken(address, &statement.says) {
+            return Some(area);
+        }
+    }
+    None
+}
+
+/// What the two processes of a router say that concerns its interfaces.
+#[derive(Drop)]
+pub struct Router<'a> {
+    /// The lines of the OSPF process.
+    pub ospf: &'a [OspfStatement],
+    /// The lines of the IS-IS process.
+    pub isis: &'a [IsisStatement],
+    /// Whether interfaces that no line names are passive for OSPF.
+    pub passive_default: bool,
+    /// The reference bandwidth, in Mbit/s.
+    pub reference: u32,
+    /// The levels that the router runs.
+    pub levels: Levels,
+    /// The IS-IS metric of interfaces without one.
+    pub metric: u32,
+}
+
+impl<'a> Model for Router<'a> {
+    ghost use Rattle.ios_reader.specs.Routers.{Router};
+
+    ghost Value = { Router };
+
+    ghost view = { λ r. record { ospf = r.ospf.now; isis = r.isis.now; passive_default = r.passive_default; reference = r.reference; levels = r.levels; metric = r.metric } };
+}
+
+/// A number that is there and good, or else the one that holds without a line.
+pub fn value_or(value: Option<Result<u32, ReadKind>>, default: u32) -> u32
+    ensures { result ≡ value_or value default }
+{
+    match value {
+        Some(Ok(value)) => value,
+        _ => default,
+    }
+}
+
+/// Levels that are there and good, or else both.
+pub fn levels_or_both(levels: Option<Result<Levels, ReadKind>>) -> Levels
+    ensures { result ≡ value_or levels Levels.Both }
+{
+    match levels {
+        Some(Ok(levels)) => levels,
+        _ => Levels::Both,
+    }
+}
+
+/// A router by the lines of its two processes, and by what they say in the end.
+pub fn router_with<'a>(ospf: &'a [OspfStatement], isis: &'a [IsisStatement]) -> Router<'a>
+    ensures { result ≡ router_with ospf.entry.now isis.entry.now }
+{
+    let ospf_facts = ospf_facts_of(ospf);
+    let isis_facts = isis_facts_of(isis);
+    Router {
+        ospf,
+        isis,
+        passive_default: ospf_facts.passive_default.unwrap_or(false),
+        reference: value_or(ospf_facts.reference, 100),
+        levels: levels_or_both(isis_facts.levels),
+        metric: value_or(isis_facts.metric, 10),
+    }
+}
