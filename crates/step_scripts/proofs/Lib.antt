@@ -1,0 +1,5 @@
+pub mod Zips
+pub mod Routers
+pub mod LineNumbers
+pub mod FaultyLines
+pub mod Reading
