@@ -2,3 +2,5 @@ pub mod CommandWords
 pub mod Reading
 pub mod Stops
 pub mod Codes
+pub mod Configurations
+pub mod Unread

@@ -2,6 +2,7 @@
 #![tactic(auto)]
 
 mod command;
+mod configurations;
 mod reading;
 mod sending;
 mod status;

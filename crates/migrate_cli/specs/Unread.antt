@@ -1,0 +1,10 @@
+-- Why the configurations of some files aren't read.
+use Rattle.std.specs.Prelude.{ℕ, List}
+use Rattle.migrate_cli.specs.Configurations.{IsFirstRefused}
+use Rattle.migrate_cli.specs.declared.configurations.Unread.{Unread}
+use Rattle.migrate_cli.specs.declared.configurations.Unread.TheVariants.{Bad, OutOfMemory}
+
+-- the first file that has a faulty line, or want of memory
+abbrev pub IsUnread : List (List ℕ) → List (List ℕ) → Unread → Type 0
+IsUnread names texts (Bad file line kind) = IsFirstRefused names texts file.now line kind
+IsUnread names texts OutOfMemory = Unit {0}
