@@ -96,7 +96,7 @@ pub record DifferOnStub (net : Network) (u v area : ℕ) : Type 0 where
   pub one_in : InArea net u area
   pub two_in : InArea net v area
   pub differ :
-    (HasStubLine net u area × (HasStubLine net v area → ⊥)) ⊎ ((HasStubLine net u area → ⊥) × HasStubLine net v area)
+      (HasStubLine net u area × (HasStubLine net v area → ⊥)) ⊎ ((HasStubLine net u area → ⊥) × HasStubLine net v area)
 
 -- each condition above doesn't hold
 abbrev pub AddressesDiffer : Network → Type 0

@@ -37,7 +37,11 @@ impl Clash for OneAddress {
     fn least(configs: &[Config], one: u32, two: u32) -> Option<u32> {
         let near = &configs[one as usize];
         let far = &configs[two as usize];
-        least_address(one == two, near.interfaces.as_slice(), far.interfaces.as_slice())
+        least_address(
+            one == two,
+            near.interfaces.as_slice(),
+            far.interfaces.as_slice(),
+        )
     }
 }
 
@@ -56,11 +60,18 @@ fn least_address(same: bool, interfaces: &[Interface], others: &[Interface]) -> 
 fn clashing_address(same: bool, interface: &Interface, others: &[Interface]) -> Option<u32>
     ensures { IsBest (λ a b. a ≤ b) (λ a. OffersAddress same others.now a interface.now) result }
 {
-    if others.iter().any(|other| clash(same, interface, other)) {
+    if clashes(same, interface, others) {
         Some(interface.address)
     } else {
         None
     }
+}
+
+/// Whether the interface clashes with one of the others.
+fn clashes(same: bool, interface: &Interface, others: &[Interface]) -> bool
+    ensures { IsTrue result ↔ Any (ClashOnAddress same interface.now) others.now }
+{
+    others.iter().any(|other| clash(same, interface, other))
 }
 
 /// Whether two interfaces, of one router or of two, have one address and may not.

@@ -37,7 +37,14 @@ fn first_off_backbone(configs: &[Config]) -> Option<u32>
 fn leave_backbone(interfaces: &[Interface]) -> bool
     ensures { IsTrue result ↔ LeaveBackbone interfaces.now }
 {
-    !has_area(interfaces, 0) && interfaces.iter().any(|one| leaves_area(one, interfaces))
+    !has_area(interfaces, 0) && are_in_two_areas(interfaces)
+}
+
+/// Whether two of the interfaces are up and run OSPF in different areas.
+fn are_in_two_areas(interfaces: &[Interface]) -> bool
+    ensures { IsTrue result ↔ Any (λ i. Any (AreInTwoAreas i) interfaces.now) interfaces.now }
+{
+    interfaces.iter().any(|one| leaves_area(one, interfaces))
 }
 
 /// Whether the interface and one of the others are up and run OSPF in different areas.

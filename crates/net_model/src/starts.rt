@@ -20,5 +20,6 @@ pub fn first_off_start(configs: &[Config]) -> Option<u32>
 fn is_off_start(config: &Config) -> bool
     ensures { IsTrue result ↔ IsOffStart config.now }
 {
-    config.process.is_some() && config.distances.ospf == 255 || config.isis && config.distances.isis != 255
+    config.process.is_some() && config.distances.ospf == 255
+        || config.isis && config.distances.isis != 255
 }

@@ -2,7 +2,7 @@ ghost use Rattle.std.specs.Prelude.{◌≤◌, ◌↔◌, length, Any, IfErr, Is
 ghost use Rattle.net_model.specs.Conditions.{DifferOnStub, IsConsistent, PassesSystems};
 ghost use Rattle.net_model.specs.Least.{IsBest};
 ghost use Rattle.net_model.specs.Refusals.{RefusesNetwork};
-ghost use Rattle.net_model.specs.Scans.{ClashOnStub, HaveStub, OffersArea};
+ghost use Rattle.net_model.specs.Scans.{ClashOnStub, HaveStub, OffersArea, OneHasStub};
 
 use crate::areas::has_area;
 use crate::links::lower;
@@ -68,7 +68,14 @@ fn clash(area: u32, one: &Config, two: &Config) -> bool
     ensures { IsTrue result ↔ ClashOnStub area one.now two.now }
 {
     has_area(two.interfaces.as_slice(), area)
-        && has_stub(one.stubs.as_slice(), area) != has_stub(two.stubs.as_slice(), area)
+        && one_has_stub(area, one.stubs.as_slice(), two.stubs.as_slice())
+}
+
+/// Whether a stub line for the area is in one of the lists alone.
+fn one_has_stub(area: u32, ones: &[Stub], twos: &[Stub]) -> bool
+    ensures { IsTrue result ↔ OneHasStub area ones.now twos.now }
+{
+    has_stub(ones, area) != has_stub(twos, area)
 }
 
 /// Whether a stub line for the area is among these.

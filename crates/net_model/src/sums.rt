@@ -1,4 +1,4 @@
-ghost use Rattle.std.specs.Prelude.{◌≡◌, IfErr, OnOk, sum_by};
+ghost use Rattle.std.specs.Prelude.{◌≡◌, ◌<◌, ◌^◌, if◌then◌else◌, IfErr, OnOk, sum_by};
 ghost use Rattle.net_model.specs.Conditions.{PassesBorders, PassesIsisMetrics, PassesOspfCosts, isis_metric, isis_metric_sum, ospf_cost, ospf_cost_sum, ospf_costs, stated_cost};
 ghost use Rattle.net_model.specs.Refusals.{RefusesNetwork, carried};
 
@@ -127,10 +127,18 @@ fn interface_metrics(interfaces: &[Interface]) -> u64
 fn own_metrics(interface: &Interface) -> u64
     ensures { result ≡ isis_metric interface.now }
 {
-    if !interface.up {
-        return 0;
+    if interface.up {
+        level_metric(interface.level1, interface.metric1)
+            + level_metric(interface.level2, interface.metric2)
+    } else {
+        0
     }
-    let one = if interface.level1 { interface.metric1 } else { 0 };
-    let two = if interface.level2 { interface.metric2 } else { 0 };
-    u64::from(one) + u64::from(two)
+}
+
+/// The metric of a level, if the interface runs it.
+fn level_metric(runs: bool, metric: u32) -> u64
+    ensures value { result ≡ (if runs then metric else 0) }
+    ensures fits { result < 2 ^ 32 }
+{
+    if runs { u64::from(metric) } else { 0 }
 }
