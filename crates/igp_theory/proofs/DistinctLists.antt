@@ -1,5 +1,5 @@
 -- Lists of distinct numbers: where a number stands in one, and how one is turned to begin with its least.
-use Rattle.std.proofs.Common.{◌≡◌, ◌≢◌, ℕ, zero, suc, ◌≤◌, ◌⊎◌, inl, inr, List, [], ◌∷◌, ◌++◌, Contains, refl, sym, ap, ◌∙◌, subst, arith}
+use Rattle.std.proofs.Common.{◌≡◌, ◌≢◌, ℕ, suc, ◌≤◌, inl, inr, List, [], ◌∷◌, ◌++◌, Contains, refl, sym, ap, ◌∙◌, subst, arith}
 use Rattle.std.specs.List.{All, AllPairs}
 use Rattle.std.proofs.lemmas.List.{append-nil, append_assoc}
 use Rattle.std.proofs.lemmas.List.Elements.{All-cons, All-contains, Contains-append_left, Contains-append_right, Contains-append_cases}
@@ -42,7 +42,7 @@ same_place [] x after (y ∷ others) rest distinct same =
 same_place (y ∷ before) x after [] rest distinct same =
     let is : x ≡ y = cc in
     absurd (first_not_in_rest y (before ++ x ∷ after) distinct
-      (subst (λ (v : ℕ). Contains (before ++ x ∷ after) v) is (contains_middle before x after)))
+    (subst (λ (v : ℕ). Contains (before ++ x ∷ after) v) is (contains_middle before x after)))
 same_place (y ∷ before) x after (z ∷ others) rest distinct same =
     let first : y ≡ z = cc in
     let tails : before ++ x ∷ after ≡ others ++ x ∷ rest = cc in
@@ -74,7 +74,7 @@ least_of_turned ring turned front back lowest others found turns first least v i
     All-contains (λ (w : ℕ). lowest ≤ w) (lowest ∷ others) v
     (All-cons (λ (w : ℕ). lowest ≤ w) lowest others (omega arith) least)
     (subst (λ (l : List ℕ). Contains l v) (sym turns ∙ first)
-      (contains_turned front back v (subst (λ (l : List ℕ). Contains l v) found inside)))
+    (contains_turned front back v (subst (λ (l : List ℕ). Contains l v) found inside)))
 
 pub is_turned : (ring turned front back : List ℕ) (lowest : ℕ) (others : List ℕ) → ring ≡ front ++ back →
     turned ≡ back ++ front → turned ≡ lowest ∷ others → All (λ v. lowest ≤ v) others → IsTurned ring turned
@@ -101,9 +101,9 @@ same_lowest : {ring one other : List ℕ} (first : IsTurned ring one) (second : 
     first.lowest ≡ second.lowest
 same_lowest {ring} first second =
     let up : first.lowest ≤ second.lowest = first.least second.lowest
-      (subst (λ (l : List ℕ). Contains l second.lowest) (sym second.stands) (contains_middle second.before second.lowest second.after)) in
+    (subst (λ (l : List ℕ). Contains l second.lowest) (sym second.stands) (contains_middle second.before second.lowest second.after)) in
     let down : second.lowest ≤ first.lowest = second.least first.lowest
-      (subst (λ (l : List ℕ). Contains l first.lowest) (sym first.stands) (contains_middle first.before first.lowest first.after)) in
+    (subst (λ (l : List ℕ). Contains l first.lowest) (sym first.stands) (contains_middle first.before first.lowest first.after)) in
     omega arith
 
 -- a ring of distinct numbers is turned in one way
@@ -111,9 +111,9 @@ pub same_turned : {ring one other : List ℕ} → AreDistinct ring → IsTurned 
 same_turned {ring} {one} {other} distinct first second =
     let lowest : first.lowest ≡ second.lowest = same_lowest first second in
     let second_stands : ring ≡ second.before ++ first.lowest ∷ second.after =
-      second.stands ∙ ap (λ (v : ℕ). second.before ++ v ∷ second.after) (sym lowest) in
+    second.stands ∙ ap (λ (v : ℕ). second.before ++ v ∷ second.after) (sym lowest) in
     let place = same_place first.before first.lowest first.after second.before second.after
-      (subst AreDistinct first.stands distinct) (sym first.stands ∙ second_stands) in
+    (subst AreDistinct first.stands distinct) (sym first.stands ∙ second_stands) in
     first.is
     ∙ ap (λ (v : ℕ). (v ∷ first.after) ++ first.before) lowest
     ∙ ap (λ (l : List ℕ). (second.lowest ∷ l) ++ first.before) place.1

@@ -68,14 +68,14 @@ are_one_walk step n u (x ∷ xs) a [] b goes other = longer xs (ap (λ (v : ℕ)
 are_one_walk step n u (x ∷ xs) a (y ∷ ys) b goes other =
     let first : x ≡ y = same_hop goes.0 other.0 in
     are_one_walk_cons first (are_one_walk step n x xs a ys b goes.1
-      (subst (λ (v : ℕ). EachToNext (IsLowestLiveHop step n) b (v ∷ ys)) (sym first) other.1))
+    (subst (λ (v : ℕ). EachToNext (IsLowestLiveHop step n) b (v ∷ ys)) (sym first) other.1))
 
 -- a walk that goes on from a router that repeats isn't one of distinct routers
 goes_on_not_distinct : (u : ℕ) (xs lead : List ℕ) (a : ℕ) (rest ys more : List ℕ) → u ∷ xs ≡ lead ++ a ∷ rest →
     ys ≡ xs ++ a ∷ more → AreDistinct (u ∷ ys) → ⊥
 goes_on_not_distinct u xs lead a rest ys more in_order is distinct =
     let whole : u ∷ ys ≡ (lead ++ a ∷ rest) ++ a ∷ more =
-      ap (λ (l : List ℕ). u ∷ l) is ∙ ap (λ (l : List ℕ). l ++ a ∷ more) in_order in
+    ap (λ (l : List ℕ). u ∷ l) is ∙ ap (λ (l : List ℕ). l ++ a ∷ more) in_order in
     twice_not_distinct lead a rest more (subst AreDistinct whole distinct)
 
 -- One ring
@@ -103,7 +103,7 @@ same_part : {step : ℕ → ℕ → Type 0} {n : ℕ} {ring turn : List ℕ} (on
 same_part one other =
     let walk = same_walk one other in
     let splits : one.lead ++ one.again ∷ one.rest ≡ other.lead ++ one.again ∷ other.rest =
-      sym one.in_order ∙ walk.visited ∙ other.in_order ∙ ap (λ (v : ℕ). other.lead ++ v ∷ other.rest) (sym walk.again) in
+    sym one.in_order ∙ walk.visited ∙ other.in_order ∙ ap (λ (v : ℕ). other.lead ++ v ∷ other.rest) (sym walk.again) in
     let place = same_place one.lead one.again one.rest other.lead other.rest (subst AreDistinct one.in_order one.distinct) splits in
     ap (λ (v : ℕ). v ∷ one.rest) walk.again ∙ ap (λ (l : List ℕ). other.again ∷ l) place.1
 

@@ -172,13 +172,14 @@ abbrev pub fault_address : Fault → ℕ
 fault_address (missing a u) = a
 fault_address (loop a ring) = a
 
--- a state that has a fault isn't sound, and not for the fault's address
+-- a state that has a fault isn't sound for the fault's address, and so isn't sound
 abbrev pub FaultsAreUnsound : Tables → Tables → Type 0
 FaultsAreUnsound old new =
     (net : Network) (state : State) (fault : Fault) → IsFault net old new state fault →
     (IsSoundAt net old new state (fault_address fault) → ⊥) × (IsSound net old new state → ⊥)
 
--- an order that has a first fault isn't seamless
+-- an order that has a first fault isn't seamless. The number of the fault isn't bounded here: once all
+-- changes are made the state stays the last one
 abbrev pub FirstFaultsAreUnsound : Tables → Tables → Type 0
 FirstFaultsAreUnsound old new =
     (net : Network) (order : List ℕ) (k : ℕ) (fault : Fault) → IsFirstFault net old new order k fault →
@@ -190,7 +191,7 @@ FaultsAreUnique old new =
     (net : Network) (state : State) (fault other : Fault) →
     IsFault net old new state fault → IsFault net old new state other → fault ≡ other
 
--- an order has at most one first fault, in one of its states
+-- an order has at most one first fault: one number and one fault
 abbrev pub FirstFaultsAreUnique : Tables → Tables → Type 0
 FirstFaultsAreUnique old new =
     (net : Network) (order : List ℕ) (k j : ℕ) (fault other : Fault) →
