@@ -9,9 +9,9 @@ use Rattle.walk_core.specs.Offers.{Offers, BestCost}
 use Rattle.route_core.specs.declared.entry.Entry.{Entry}
 use Rattle.route_core.specs.declared.entry.Entry.TheVariants.{Discard}
 use Rattle.igp_theory.specs.Forwarding.{Usable, Uses, Steps}
-use Rattle.igp_theory.specs.Loops.{RingRouter, IsLoop, Arises, Fault, IsFault, IsFirstFault}
+use Rattle.igp_theory.specs.Loops.{RingRouter, IsLoop, Arises, Fault, missing, loop, IsFault, IsFirstFault}
 use Rattle.igp_theory.specs.Routes.{Tables, EntryLeadsTo, HaveSameEntries}
-use Rattle.igp_theory.specs.States.{State, IsSound, IsSeamless}
+use Rattle.igp_theory.specs.States.{State, IsSoundAt, IsSound, IsSeamless}
 use Rattle.igp_theory.specs.declared.phase.Phase.{Phase}
 use Rattle.igp_theory.specs.Ospf.{IntraAreaCost, BorderCost, InterAreaCost, OspfEntry}
 use Rattle.igp_theory.specs.Isis.{IsisEntry}
@@ -164,3 +164,35 @@ abbrev pub SameFirstFaults : Tables → Tables → Tables → Tables → Type 0
 SameFirstFaults old new other_old other_new =
     (net : Network) (order : List ℕ) (k : ℕ) (fault : Fault) → HaveSameTables net old new other_old other_new →
     IsFirstFault net old new order k fault ↔ IsFirstFault net other_old other_new order k fault
+
+-- Faults
+
+-- the address of a fault
+abbrev pub fault_address : Fault → ℕ
+fault_address (missing a u) = a
+fault_address (loop a ring) = a
+
+-- a state that has a fault isn't sound for the fault's address, and so isn't sound
+abbrev pub FaultsAreUnsound : Tables → Tables → Type 0
+FaultsAreUnsound old new =
+    (net : Network) (state : State) (fault : Fault) → IsFault net old new state fault →
+    (IsSoundAt net old new state (fault_address fault) → ⊥) × (IsSound net old new state → ⊥)
+
+-- an order that has a first fault isn't seamless. The number of the fault isn't bounded here: once all
+-- changes are made the state stays the last one
+abbrev pub FirstFaultsAreUnsound : Tables → Tables → Type 0
+FirstFaultsAreUnsound old new =
+    (net : Network) (order : List ℕ) (k : ℕ) (fault : Fault) → IsFirstFault net old new order k fault →
+    IsSeamless net old new order → ⊥
+
+-- a state has at most one fault
+abbrev pub FaultsAreUnique : Tables → Tables → Type 0
+FaultsAreUnique old new =
+    (net : Network) (state : State) (fault other : Fault) →
+    IsFault net old new state fault → IsFault net old new state other → fault ≡ other
+
+-- an order has at most one first fault: one number and one fault
+abbrev pub FirstFaultsAreUnique : Tables → Tables → Type 0
+FirstFaultsAreUnique old new =
+    (net : Network) (order : List ℕ) (k j : ℕ) (fault other : Fault) →
+    IsFirstFault net old new order k fault → IsFirstFault net old new order j other → (k ≡ j) × (fault ≡ other)

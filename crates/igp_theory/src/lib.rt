@@ -2,6 +2,7 @@
 #![tactic(auto)]
 
 mod cost_laws;
+mod fault_laws;
 mod forwarding_laws;
 mod phase;
 mod same_table_laws;
@@ -9,6 +10,7 @@ mod table_laws;
 mod tables;
 
 pub use cost_laws::{ArcRelation, OfferRelation, best_cost_is_unique, least_cost_is_unique};
+pub use fault_laws::{faults_are_unique, faults_are_unsound};
 pub use forwarding_laws::{every_mixture_forwards, middle_is_old_or_new};
 pub use phase::Phase;
 pub use same_table_laws::same_tables_act_alike;
