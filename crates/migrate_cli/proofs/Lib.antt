@@ -2,3 +2,4 @@ mod WordFacts
 mod ReadingFacts
 mod SendingFacts
 mod StopFacts
+mod ConfigurationFacts

@@ -1,5 +1,5 @@
 -- The configurations of several files, and the network that they make.
-use Rattle.std.specs.Prelude.{◌≡◌, ℕ, List, [], ◌∷◌, ◌++◌, map}
+use Rattle.std.specs.Prelude.{◌≡◌, ℕ, List, [], ◌∷◌, ◌++◌}
 use Rattle.ios_reader.specs.Texts.{ReadsText, IsRefusedText}
 use Rattle.ios_reader.specs.declared.kind.ReadKind.{ReadKind}
 use Rattle.net_model.specs.Configuration.{Configuration}
@@ -36,7 +36,3 @@ pub record GiveNetwork (texts : List (List ℕ)) (net : Network) : Type 0 where
 -- every router is where a migration starts: OSPF below distance 255, IS-IS at 255
 abbrev pub IsAtStart : Network → Type 0
 IsAtStart net = (u : ℕ) → StartsOff net u → ⊥
-
--- the names of the routers of a network, in byte order
-abbrev pub names_of : Network → List (List ℕ)
-names_of net = map (λ (c : Configuration). c.name) net

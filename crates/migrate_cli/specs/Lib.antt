@@ -4,3 +4,6 @@ pub mod Stops
 pub mod Codes
 pub mod Configurations
 pub mod Unread
+pub mod AnswerTexts
+pub mod Verdicts
+pub mod Answers

@@ -1,8 +1,14 @@
 -- Why the configurations of some files aren't read.
-use Rattle.std.specs.Prelude.{ℕ, List}
+use Rattle.std.specs.Prelude.{◌≡◌, ℕ, List}
+use Rattle.ios_reader.specs.Texts.{IsRefusedText}
 use Rattle.migrate_cli.specs.Configurations.{IsFirstRefused}
 use Rattle.migrate_cli.specs.declared.configurations.Unread.{Unread}
 use Rattle.migrate_cli.specs.declared.configurations.Unread.TheVariants.{Bad, OutOfMemory}
+
+-- the file of this name and text has a faulty line, or want of memory
+abbrev pub IsUnreadText : List ℕ → List ℕ → Unread → Type 0
+IsUnreadText name text (Bad file line kind) = (file.now ≡ name) × IsRefusedText text line kind
+IsUnreadText name text OutOfMemory = Unit {0}
 
 -- the first file that has a faulty line, or want of memory
 abbrev pub IsUnread : List (List ℕ) → List (List ℕ) → Unread → Type 0

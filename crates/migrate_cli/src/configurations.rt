@@ -1,11 +1,12 @@
 ghost use Rattle.std.specs.Prelude.{◌≡◌, All, IfErr, IfOk, length, map, string_bytes};
+ghost use Rattle.ios_reader.specs.Texts.{ReadsText};
 ghost use Rattle.migrate_cli.specs.Configurations.{ReadsTexts};
 ghost use Rattle.migrate_cli.specs.Reading.{IsShort};
-ghost use Rattle.migrate_cli.specs.Unread.{IsUnread};
+ghost use Rattle.migrate_cli.specs.Unread.{IsUnread, IsUnreadText};
 
 use ios_reader::{ReadKind, ReadRefusal, read_configs};
 use net_addr::Bytes;
-use net_model::Configs;
+use net_model::{Config, Configs};
 use std::alloc::Global;
 
 /// Why the configurations of some files aren't read.
@@ -36,18 +37,26 @@ pub fn read_all<'a>(
 {
     let mut all = Vec::new(alloc);
     for (i, text) in texts.iter().enumerate() {
-        let configs = match read_configs(alloc, text.as_slice()) {
-            Ok(configs) => configs,
-            Err(ReadRefusal::OutOfMemory) => return Err(Unread::OutOfMemory),
-            Err(ReadRefusal::Bad { line, kind }) => {
-                let file = names[i].as_str();
-                return Err(Unread::Bad { file, line, kind });
-            }
+        let mut more = match read_one(alloc, names[i].as_str(), text) {
+            Ok(more) => more,
+            Err(unread) => return Err(unread),
         };
-        let mut more = configs.into_vec();
         if all.append(&mut more).is_err() {
             return Err(Unread::OutOfMemory);
         }
     }
     Ok(Configs::from_vec(all))
+}
+
+/// The configurations of the text of one file.
+fn read_one<'a>(alloc: Global, file: &'a str, text: &Bytes) -> Result<Vec<Config>, Unread<'a>>
+    requires { IsShort text.now }
+    ensures ok { IfOk result (λ configs. ReadsText text.now configs.items) }
+    ensures err { IfErr result (IsUnreadText file.now text.now) }
+{
+    match read_configs(alloc, text.as_slice()) {
+        Ok(configs) => Ok(configs.into_vec()),
+        Err(ReadRefusal::Bad { line, kind }) => Err(Unread::Bad { file, line, kind }),
+        Err(ReadRefusal::OutOfMemory) => Err(Unread::OutOfMemory),
+    }
 }

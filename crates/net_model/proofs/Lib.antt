@@ -15,3 +15,4 @@ mod SystemClashes
 mod StubClashes
 mod BuildFacts
 pub mod RefusalLaws
+pub mod SortedNames

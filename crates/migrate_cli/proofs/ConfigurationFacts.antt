@@ -1,0 +1,57 @@
+-- Configurations read file by file.
+use Rattle.std.proofs.Common.{◌≡◌, ℕ, zero, suc, ◌+◌, ◌<◌, List, [], ◌∷◌, ◌++◌, length, take, get_or, map, refl, arith, ap, ◌∙◌, sym, subst, append_assoc, append-nil}
+use Rattle.std.proofs.lemmas.List.{take_more}
+use Rattle.ios_reader.specs.Texts.{ReadsText, IsRefusedText}
+use Rattle.ios_reader.specs.declared.kind.ReadKind.{ReadKind}
+use Rattle.net_model.specs.Configuration.{Configuration}
+use Rattle.migrate_cli.specs.Configurations.{ReadsFirst, ReadsTexts, IsFirstRefused}
+use Rattle.migrate_cli.specs.Configurations.IsFirstRefused.{here, later}
+use Rattle.migrate_cli.specs.Unread.{IsUnreadText, IsUnread}
+use Rattle.migrate_cli.specs.declared.configurations.Unread.{Unread}
+use Rattle.migrate_cli.specs.declared.configurations.Unread.TheVariants.{Bad, OutOfMemory}
+
+-- one more text was read
+pub ReadsTexts-more : (texts : List (List ℕ)) (text : List ℕ) (configs more : List Configuration) → ReadsTexts texts configs → ReadsText text more
+    → ReadsTexts (texts ++ text ∷ []) (configs ++ more)
+ReadsTexts-more [] text configs more none reads = record {
+  one = more;
+  others = [];
+  reads = reads;
+  rest = refl;
+  all = ap (λ some. some ++ more) none ∙ sym (append-nil more);
+}
+ReadsTexts-more (t ∷ texts) text configs more first reads = record {
+  one = first.one;
+  others = first.others ++ more;
+  reads = first.reads;
+  rest = ReadsTexts-more texts text first.others more first.rest reads;
+  all = ap (λ some. some ++ more) first.all ∙ append_assoc first.one first.others more;
+}
+
+-- the same, by place
+pub ReadsTexts-next : (texts : List (List ℕ)) (i : ℕ) (text : List ℕ) (configs more : List Configuration) → i < length texts → text ≡ get_or texts i text
+    → ReadsTexts (take i texts) configs → ReadsText text more → ReadsTexts (take (i + 1) texts) (configs ++ more)
+ReadsTexts-next texts i text configs more within at first reads =
+    let e : take i texts ++ text ∷ [] ≡ take (i + 1) texts = ap (λ t. take i texts ++ t ∷ []) at ∙ sym (take_more texts i text within) in
+    subst (λ some. ReadsTexts some (configs ++ more)) e (ReadsTexts-more (take i texts) text configs more first reads)
+
+-- after texts that were read the first faulty one
+pub first_refused : (names texts : List (List ℕ)) (i : ℕ) (name text : List ℕ) (configs : List Configuration) (line : ℕ) (kind : ReadKind) → length names ≡ length texts
+    → i < length texts → name ≡ get_or names i name → text ≡ get_or texts i text → ReadsTexts (take i texts) configs → IsRefusedText text line kind
+    → IsFirstRefused names texts name line kind
+first_refused names [] i name text configs line kind lengths within named at first refused = absurd (omega arith)
+first_refused [] (t ∷ texts) i name text configs line kind lengths within named at first refused = absurd (omega arith)
+first_refused (n ∷ names) (t ∷ texts) zero name text configs line kind lengths within named at first refused =
+    subst (λ file. IsFirstRefused (n ∷ names) (t ∷ texts) file line kind) (sym named)
+    (here (subst (λ some. IsRefusedText some line kind) at refused))
+first_refused (n ∷ names) (t ∷ texts) (suc i) name text configs line kind lengths within named at first refused =
+    later first.reads (first_refused names texts i name text first.others line kind (omega arith) (omega arith) named at first.rest refused)
+
+-- why one text isn't read is why some texts aren't
+pub unread_first : (names texts : List (List ℕ)) (i : ℕ) (name text : List ℕ) (configs : List Configuration) (unread : Unread) → length names ≡ length texts
+    → i < length texts → name ≡ get_or names i name → text ≡ get_or texts i text → ReadsTexts (take i texts) configs → IsUnreadText name text unread
+    → IsUnread names texts unread
+unread_first names texts i name text configs (Bad file line kind) lengths within named at first refused =
+    subst (λ some. IsFirstRefused names texts some line kind) (sym refused.0)
+    (first_refused names texts i name text configs line kind lengths within named at first refused.1)
+unread_first names texts i name text configs OutOfMemory lengths within named at first refused = tt

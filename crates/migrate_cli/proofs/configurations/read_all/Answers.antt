@@ -1,0 +1,25 @@
+use Rattle.std.proofs.Common.{◌≡◌, ◌+◌, ◌++◌, List, length, map, take, string_bytes, get_or, sym, ap, ◌∙◌, subst, arith}
+use Rattle.std.proofs.lemmas.List.{length-map, get_or-map}
+use Rattle.migrate_cli.specs.Configurations.{ReadsTexts}
+use Rattle.migrate_cli.proofs.ConfigurationFacts.{unread_first, ReadsTexts-next}
+use Rattle.migrate_cli.proofs.configurations.read_all.Goals as goal
+
+pub returns-in-Err-clause-err : goal.returns-in-Err-clause-err
+returns-in-Err-clause-err c =
+    let words = c.args.names.now in
+    let names = map string_bytes words in
+    let i = c.loop-i.i in
+    let name = c.as_str.result.now in
+    let lengths : length names ≡ length c.args.texts.now = length-map words string_bytes ∙ c.requires.lengths in
+    let value = c.as_str.ensures.value in
+    let named : name ≡ get_or names i name =
+        value ∙ ap string_bytes c.index-names-i.is ∙ sym (get_or-map string_bytes words i c.index-names-i.result name (omega (arith, c.requires.lengths))) in
+    unread_first names c.args.texts.now i name c.index-texts-i.result c.loop-i.all.items c.in-Err.unread lengths c.loop-i-test.true named c.index-texts-i.is
+        c.loop-i.invariant c.in-Err.ensures.err
+
+pub loop-i-preserved : goal.loop-i-preserved
+loop-i-preserved c =
+    let texts = c.args.texts.now in
+    let all : c.append.new.self.items ≡ c.loop-i.all.items ++ c.in-Ok.more.items = grind arith in
+    subst (ReadsTexts (take (c.loop-i.i + 1) texts)) (sym all)
+    (ReadsTexts-next texts c.loop-i.i c.index-texts-i.result c.loop-i.all.items c.in-Ok.more.items c.loop-i-test.true c.index-texts-i.is c.loop-i.invariant c.in-Ok.ensures.ok)

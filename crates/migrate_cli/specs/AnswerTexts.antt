@@ -1,0 +1,25 @@
+-- What the program writes.
+use Rattle.std.specs.Prelude.{ℕ, ◌*◌, List, [], ◌∷◌, length, map, codes, decimal}
+use Rattle.igp_theory.specs.Loops.{Fault, missing, loop, ring_routers}
+use Rattle.migration_report.specs.Words.{line, dotted, name_of}
+
+-- a line of a file is faulty
+abbrev pub faulty_text : List ℕ → ℕ → List ℕ → List ℕ
+faulty_text file number kind = line (codes "refused") (file ∷ decimal number ∷ kind ∷ [])
+
+-- a router isn't where a migration starts
+abbrev pub off_start_text : List ℕ → List ℕ
+off_start_text name = line (codes "refused") (codes "network" ∷ codes "NotAtStart" ∷ name ∷ [])
+
+-- an order is safe: so many distance changes
+abbrev pub safe_text : List ℕ → List ℕ
+safe_text order = line (codes "safe") (decimal (2 * length order) ∷ [])
+
+-- what is wrong in a state, by the names of the routers
+abbrev pub fault_words : List (List ℕ) → Fault → List (List ℕ)
+fault_words names (missing a u) = dotted a ∷ codes "missing" ∷ name_of names u ∷ []
+fault_words names (loop a ring) = dotted a ∷ codes "loop" ∷ map (name_of names) (ring_routers ring)
+
+-- an order isn't safe: the number of its first unsound state, and what is wrong there
+abbrev pub unsafe_text : List (List ℕ) → ℕ → Fault → List ℕ
+unsafe_text names state fault = line (codes "unsafe") (decimal state ∷ fault_words names fault)

@@ -1,0 +1,46 @@
+-- What `check` answers to its words and its files.
+use Rattle.std.specs.Prelude.{◌≡◌, ℕ, ◌<◌, ◌≤◌, List, [], ◌∷◌, ◌++◌, Option, length, codes, decimal}
+use Rattle.store_edge.specs.Sink.{Adds, AddsFront}
+use Rattle.migration_report.specs.Words.{line}
+use Rattle.migrate_cli.specs.CommandWords.{IsCheck}
+use Rattle.migrate_cli.specs.Reading.{Contents, AreRead, AreWithin, IsTooLong, PassesTotal, ReadUpTo}
+use Rattle.migrate_cli.specs.Stops.{IsFrontOf}
+use Rattle.migrate_cli.specs.Verdicts.{IsVerdict}
+use Rattle.migrate_cli.specs.declared.status.Status.{Status}
+use Rattle.migrate_cli.specs.declared.status.Status.TheVariants.{Words, ReadFault, WriteFault, Limit, Memory}
+
+-- each case, with the names that were asked for and the status and the text that answer it
+pub data IsAnswer (content : Contents) (words : List (List ℕ)) : List (List ℕ) → Status → List ℕ → Type 0 where
+  other_words : ((order : List ℕ) (files : List (List ℕ)) → IsCheck words order files → ⊥) →
+      IsAnswer content words [] Words (line (codes "words") (codes "refused" ∷ []))
+  many_files : (order : List ℕ) (files : List (List ℕ)) → IsCheck words order files → 200 < length files →
+      IsAnswer content words [] Limit (line (codes "limit") (codes "files" ∷ decimal (length files) ∷ []))
+  read_fault : (order : List ℕ) (files asked texts : List (List ℕ)) (file : List ℕ) → IsCheck words order files → length files ≤ 200 →
+      ReadUpTo content (order ∷ files) asked texts file →
+      IsAnswer content words asked ReadFault (line (codes "read") (codes "fault" ∷ file ∷ []))
+  long_file : (order : List ℕ) (files asked texts : List (List ℕ)) (file : List ℕ) → IsCheck words order files → length files ≤ 200 →
+      ReadUpTo content (order ∷ files) asked texts file → IsTooLong content file →
+      IsAnswer content words asked Limit (line (codes "limit") (codes "bytes" ∷ file ∷ []))
+  long_files : (order : List ℕ) (files asked texts : List (List ℕ)) (file : List ℕ) (number : ℕ) → IsCheck words order files → length files ≤ 200 →
+      ReadUpTo content (order ∷ files) asked texts file → PassesTotal content file texts number →
+      IsAnswer content words asked Limit (line (codes "limit") (codes "total" ∷ decimal number ∷ []))
+  judged : (order : List ℕ) (files : List (List ℕ)) (order_text : List ℕ) (texts : List (List ℕ)) (status : Status) (text : List ℕ) →
+      IsCheck words order files → length files ≤ 200 → AreRead content (order ∷ files) (order_text ∷ texts) → AreWithin (order_text ∷ texts) →
+      IsVerdict order files order_text texts status text → IsAnswer content words (order ∷ files) status text
+
+-- the names that were asked for when memory ran out
+pub data MayAsk (words : List (List ℕ)) : List (List ℕ) → Type 0 where
+  none : MayAsk words []
+  some : (order : List ℕ) (files asked : List (List ℕ)) → IsCheck words order files → IsFrontOf (order ∷ files) asked → MayAsk words asked
+
+-- how a call ends: its answer is written whole, or its front, or there was no memory and nothing is written
+pub data Ends (content : Contents) (words asked : List (List ℕ)) (before after : Option (List ℕ)) : Status → Type 0 where
+  whole : (status : Status) (text : List ℕ) → IsAnswer content words asked status text → Adds before after text → Ends content words asked before after status
+  cut : (status : Status) (text : List ℕ) → IsAnswer content words asked status text → AddsFront before after text → Ends content words asked before after WriteFault
+  no_memory : MayAsk words asked → after ≡ before → Ends content words asked before after Memory
+
+-- a call asked for these names besides those before, and ended so
+pub record Ran (content : Contents) (words asked_before asked_after : List (List ℕ)) (before after : Option (List ℕ)) (status : Status) : Type 0 where
+  pub asked : List (List ℕ)
+  pub asked_is : asked_after ≡ asked_before ++ asked
+  pub ends : Ends content words asked before after status
