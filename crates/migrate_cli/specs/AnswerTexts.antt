@@ -1,6 +1,11 @@
 -- What the program writes.
-use Rattle.std.specs.Prelude.{ℕ, ◌*◌, List, [], ◌∷◌, length, map, codes, decimal}
+use Rattle.std.specs.Prelude.{ℕ, ◌*◌, List, [], ◌∷◌, length, map, codes, decimal, Option, Some, None}
 use Rattle.igp_theory.specs.Loops.{Fault, missing, loop, ring_routers}
+use Rattle.net_model.specs.declared.refusal.NetRefusal.{NetRefusal}
+use Rattle.net_model.specs.declared.refusal.NetRefusal.TheVariants.{Limit, OutOfMemory}
+use Rattle.migrate_cli.specs.declared.status.Status.{Status}
+use Rattle.migrate_cli.specs.declared.status.Status.TheVariants.{Refused}
+use Rattle.migrate_cli.specs.declared.status.Status.TheVariants as status
 use Rattle.migration_report.specs.Words.{line, dotted, name_of}
 
 -- a line of a file is faulty
@@ -14,6 +19,12 @@ off_start_text name = line (codes "refused") (codes "network" ∷ codes "NotAtSt
 -- an order is safe: so many distance changes
 abbrev pub safe_text : List ℕ → List ℕ
 safe_text order = line (codes "safe") (decimal (2 * length order) ∷ [])
+
+-- how a call ends that a network refuses; want of memory is no refusal of it
+abbrev pub refusal_status : NetRefusal → Option Status
+refusal_status (Limit _ _) = Some status.Limit
+refusal_status OutOfMemory = None
+refusal_status _ = Some Refused
 
 -- what is wrong in a state, by the names of the routers
 abbrev pub fault_words : List (List ℕ) → Fault → List (List ℕ)

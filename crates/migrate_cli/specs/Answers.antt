@@ -1,11 +1,15 @@
 -- What `check` answers to its words and its files.
-use Rattle.std.specs.Prelude.{◌≡◌, ℕ, ◌<◌, ◌≤◌, List, [], ◌∷◌, ◌++◌, Option, length, codes, decimal}
+use Rattle.std.specs.Prelude.{◌≡◌, ℕ, ◌<◌, ◌≤◌, List, [], ◌∷◌, ◌++◌, Option, Result, Ok, Err, length, codes, decimal}
+use Rattle.std.specs.declared.alloc.AllocError.{AllocError}
 use Rattle.store_edge.specs.Sink.{Adds, AddsFront}
 use Rattle.migration_report.specs.Words.{line}
 use Rattle.migrate_cli.specs.CommandWords.{IsCheck}
 use Rattle.migrate_cli.specs.Reading.{Contents, AreRead, AreWithin, IsTooLong, PassesTotal, ReadUpTo}
 use Rattle.migrate_cli.specs.Stops.{IsFrontOf}
 use Rattle.migrate_cli.specs.Verdicts.{IsVerdict}
+use Rattle.migrate_cli.specs.declared.answer.Answer.{Answer}
+use Rattle.migrate_cli.specs.declared.reading.Stop.{Stop}
+use Rattle.migrate_cli.specs.declared.reading.Stop.TheVariants.{Fault, Long, Total, OutOfMemory}
 use Rattle.migrate_cli.specs.declared.status.Status.{Status}
 use Rattle.migrate_cli.specs.declared.status.Status.TheVariants.{Words, ReadFault, WriteFault, Limit, Memory}
 
@@ -30,8 +34,8 @@ pub data IsAnswer (content : Contents) (words : List (List ℕ)) : List (List �
 
 -- the names that were asked for when memory ran out
 pub data MayAsk (words : List (List ℕ)) : List (List ℕ) → Type 0 where
-  none : MayAsk words []
-  some : (order : List ℕ) (files asked : List (List ℕ)) → IsCheck words order files → IsFrontOf (order ∷ files) asked → MayAsk words asked
+  asks_none : MayAsk words []
+  asks_some : (order : List ℕ) (files asked : List (List ℕ)) → IsCheck words order files → IsFrontOf (order ∷ files) asked → MayAsk words asked
 
 -- how a call ends: its answer is written whole, or its front, or there was no memory and nothing is written
 pub data Ends (content : Contents) (words asked : List (List ℕ)) (before after : Option (List ℕ)) : Status → Type 0 where
@@ -44,3 +48,21 @@ pub record Ran (content : Contents) (words asked_before asked_after : List (List
   pub asked : List (List ℕ)
   pub asked_is : asked_after ≡ asked_before ++ asked
   pub ends : Ends content words asked before after status
+
+-- the answer that reading stopped
+abbrev pub StopAnswer : Stop → Status → List ℕ → Type 0
+StopAnswer (Fault file) status text = (status ≡ ReadFault) × (text ≡ line (codes "read") (codes "fault" ∷ file.now ∷ []))
+StopAnswer (Long file) status text = (status ≡ Limit) × (text ≡ line (codes "limit") (codes "bytes" ∷ file.now ∷ []))
+StopAnswer (Total number) status text = (status ≡ Limit) × (text ≡ line (codes "limit") (codes "total" ∷ decimal number ∷ []))
+StopAnswer OutOfMemory status text = ⊥
+
+-- an answer, or want of memory
+abbrev pub AnswersWith : Contents → List (List ℕ) → List (List ℕ) → Result Answer AllocError → Type 0
+AnswersWith content words asked (Ok answer) = IsAnswer content words asked answer.status answer.text
+AnswersWith content words asked (Err _) = MayAsk words asked
+
+-- some names were asked for besides those before, and this is the answer
+pub record HasAnswer (content : Contents) (words asked_before asked_after : List (List ℕ)) (answer : Result Answer AllocError) : Type 0 where
+  pub asked : List (List ℕ)
+  pub asked_is : asked_after ≡ asked_before ++ asked
+  pub answers : AnswersWith content words asked answer

@@ -12,6 +12,7 @@ use Rattle.net_model.specs.declared.refusal.NetRefusal.TheVariants.{Limit, TwoNa
 use Rattle.igp_theory.specs.Isis.{IsisEntry}
 use Rattle.igp_theory.specs.Loops.{Fault, IsFirstFault}
 use Rattle.igp_theory.specs.Ospf.{OspfEntry}
+use Rattle.igp_theory.specs.Routes.{Tables}
 use Rattle.igp_theory.specs.States.{IsSeamless}
 use Rattle.step_scripts.specs.Orders.{NamesOrder, IsLeastFaultyLine}
 use Rattle.step_scripts.specs.declared.kind.OrderKind.{OrderKind}
@@ -29,13 +30,14 @@ pub record GiveStart (texts : List (List ℕ)) (net : Network) : Type 0 where
   pub gives : GiveNetwork texts net
   pub start : IsAtStart net
 
--- the texts give such a network, and the order file an order of its routers
-pub record GiveOrder (texts : List (List ℕ)) (order_text : List ℕ) (net : Network) (order : List ℕ) : Type 0 where
-  pub gives : GiveStart texts net
-  pub names : NamesOrder net order_text order
+-- what is answered of an order, by the tables of the two protocols: it is safe where every packet to an originated
+-- address, along every equal-cost choice, is delivered in every state of it
+pub data IsOrderVerdict (net : Network) (old new : Tables) (order : List ℕ) : Status → List ℕ → Type 0 where
+  safe : IsSeamless net old new order → IsOrderVerdict net old new order Done (safe_text order)
+  unsafe : (state : ℕ) (fault : Fault) → (IsSeamless net old new order → ⊥) → IsFirstFault net old new order state fault →
+      IsOrderVerdict net old new order Negative (unsafe_text (names_of net) state fault)
 
--- each case, with the status and the text that answer it. In the last two every packet to an originated address, along
--- every equal-cost choice, is delivered in every state of the order, or in one state, the first, not so
+-- each case, with the status and the text that answer it
 pub data IsVerdict (order_file : List ℕ) (files : List (List ℕ)) (order_text : List ℕ) (texts : List (List ℕ)) : Status → List ℕ → Type 0 where
   faulty_configuration : (file : List ℕ) (number : ℕ) (kind : ReadKind) → IsFirstRefused files texts file number kind →
       IsVerdict order_file files order_text texts Refused (faulty_text file number (read_kind_name kind))
@@ -50,8 +52,5 @@ pub data IsVerdict (order_file : List ℕ) (files : List (List ℕ)) (order_text
       HasConfiguration net router config → IsVerdict order_file files order_text texts Refused (off_start_text config.name)
   faulty_order : (net : Network) (number : ℕ) (kind : OrderKind) → GiveStart texts net → IsLeastFaultyLine net order_text number kind →
       IsVerdict order_file files order_text texts Refused (faulty_text order_file number (order_kind_name kind))
-  safe : (net : Network) (order : List ℕ) → GiveOrder texts order_text net order → IsSeamless net (OspfEntry net) (IsisEntry net) order →
-      IsVerdict order_file files order_text texts Done (safe_text order)
-  unsafe : (net : Network) (order : List ℕ) (state : ℕ) (fault : Fault) → GiveOrder texts order_text net order →
-      (IsSeamless net (OspfEntry net) (IsisEntry net) order → ⊥) → IsFirstFault net (OspfEntry net) (IsisEntry net) order state fault →
-      IsVerdict order_file files order_text texts Negative (unsafe_text (names_of net) state fault)
+  of_order : (net : Network) (order : List ℕ) (status : Status) (text : List ℕ) → GiveStart texts net → NamesOrder net order_text order →
+      IsOrderVerdict net (OspfEntry net) (IsisEntry net) order status text → IsVerdict order_file files order_text texts status text

@@ -4,8 +4,14 @@
 mod command;
 mod configurations;
 mod reading;
+mod judging;
+mod names;
+mod answer;
+mod calls;
 mod sending;
 mod status;
+mod verdict;
 
+pub use calls::run;
 pub use status::Status;
 pub use std::alloc::AllocError as OutOfMemory;

@@ -1,9 +1,5 @@
-ghost use Rattle.std.specs.Prelude.{◌≡◌, IsPermutation};
-ghost use Rattle.std.specs.List.Sorted.{IsSortedByKey};
-ghost use Rattle.std.specs.Cmp.Lexicographic.{slice_cmp};
-ghost use Rattle.std.specs.Ordering.{nat_cmp};
+ghost use Rattle.std.specs.Prelude.{◌≡◌};
 
-use crate::naming::sort_by_name;
 use crate::{Interfaces, Ranges, Stubs};
 use net_addr::Name;
 use std::marker::Model;
@@ -98,14 +94,6 @@ impl Configs {
         ensures { result.now ≡ self.now }
     {
         self.all.as_slice()
-    }
-
-    /// Puts the configurations into byte order of the routers' names, in which a network numbers them.
-    pub fn sort_by_name(&mut self)
-        ensures same { IsPermutation self.old self.new }
-        ensures sorted { IsSortedByKey (λ c. c.name) (slice_cmp nat_cmp) self.new }
-    {
-        sort_by_name(&mut self.all);
     }
 
     /// The vector that the configurations stand in.

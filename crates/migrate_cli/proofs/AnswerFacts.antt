@@ -1,0 +1,130 @@
+-- Which answer each step of a call gives.
+use Rattle.std.proofs.Common.{◌≡◌, ◌≢◌, ℕ, ◌+◌, ◌<◌, ◌≤◌, List, [], ◌∷◌, ◌++◌, length, map, Result, Ok, Err, IfOk, codes, decimal, refl, arith, ap, ◌∙◌, sym, subst, append-nil, append_assoc}
+use Rattle.std.specs.declared.alloc.AllocError.{AllocError}
+use Rattle.igp_theory.specs.Routes.{Tables}
+use Rattle.net_model.specs.Network.{Network}
+use Rattle.migration_report.specs.Words.{line}
+use Rattle.migrate_cli.specs.Answers.{IsAnswer, MayAsk, StopAnswer, AnswersWith, HasAnswer}
+use Rattle.migrate_cli.specs.Answers.IsAnswer.{other_words, many_files, read_fault, long_file, long_files, judged}
+use Rattle.migrate_cli.specs.Answers.MayAsk.{asks_none, asks_some}
+use Rattle.migrate_cli.specs.CommandWords.{IsCheck}
+use Rattle.migrate_cli.specs.Reading.{Contents, AreRead, AreWithin, ReadUpTo}
+use Rattle.migrate_cli.specs.Stops.{IsFrontOf, HasRead, StopsIn}
+use Rattle.migrate_cli.specs.Verdicts.{IsVerdict, IsOrderVerdict}
+use Rattle.migrate_cli.specs.Verdicts.IsOrderVerdict.{safe, unsafe}
+use Rattle.migrate_cli.specs.Verdicts.IsVerdict.{faulty_configuration, above_limit, two_names, inconsistent, off_start, faulty_order, of_order}
+use Rattle.migrate_cli.specs.declared.answer.Answer.{Answer}
+use Rattle.migrate_cli.specs.declared.reading.Stop.{Stop}
+use Rattle.migrate_cli.specs.declared.reading.Stop.TheVariants.{Fault, Long, Total, OutOfMemory}
+use Rattle.migrate_cli.specs.declared.status.Status.{Status}
+use Rattle.migrate_cli.specs.declared.status.Status.TheVariants.{Done, Negative, Words, ReadFault, WriteFault, Refused, Limit, Memory}
+
+-- what is said of a status and a text holds of the answer that has them
+pub from_refusal : {E : Type 0} (r : Result Answer E) (status : Status) (text : List ℕ) (Q : Status → List ℕ → Type 0)
+    → IfOk r (λ (a : Answer). a.status ≡ status) → IfOk r (λ (a : Answer). a.text ≡ text) → Q status text → IfOk r (λ (a : Answer). Q a.status a.text)
+from_refusal (Ok a) status text Q same_status same_text holds = subst (λ s. Q s a.text) (sym same_status) (subst (Q status) (sym same_text) holds)
+from_refusal (Err e) status text Q same_status same_text holds = tt
+
+-- an answer after these names were asked for
+pub answered : (content : Contents) (words before after asked : List (List ℕ)) (r : Result Answer AllocError) → after ≡ before ++ asked
+    → IfOk r (λ (a : Answer). IsAnswer content words asked a.status a.text) → MayAsk words asked → HasAnswer content words before after r
+answered content words before after asked (Ok a) asked_is answer may_ask = record { asked = asked; asked_is = asked_is; answers = answer }
+answered content words before after asked (Err e) asked_is answer may_ask = record { asked = asked; asked_is = asked_is; answers = may_ask }
+
+-- as many texts are read as there are names
+pub AreRead-length : (content : Contents) (names texts : List (List ℕ)) → AreRead content names texts → length texts ≡ length names
+AreRead-length content [] [] read = refl
+AreRead-length content [] (t ∷ texts) read = absurd read
+AreRead-length content (n ∷ names) [] read = absurd read
+AreRead-length content (n ∷ names) (t ∷ texts) read = let e = AreRead-length content names texts read.1 in omega (arith, e)
+
+-- the verdict on all texts is the answer
+pub judged_answer : (content : Contents) (words : List (List ℕ)) (order : List ℕ) (files texts : List (List ℕ)) (status : Status) (text : List ℕ)
+    → IsCheck words order files → length files ≤ 200 → AreRead content (order ∷ files) texts → AreWithin texts
+    → ((order_text : List ℕ) (rest : List (List ℕ)) → texts ≡ order_text ∷ rest → IsVerdict order files order_text rest status text)
+    → IsAnswer content words (order ∷ files) status text
+judged_answer content words order files [] status text check few read within verdict = absurd read
+judged_answer content words order files (order_text ∷ rest) status text check few read within verdict =
+    judged order files order_text rest status text check few read within (verdict order_text rest refl)
+
+-- all names of a call may be asked for
+pub may_ask_all : (words : List (List ℕ)) (order : List ℕ) (files : List (List ℕ)) → IsCheck words order files → MayAsk words (order ∷ files)
+may_ask_all words order files check = asks_some order files (order ∷ files) check (record { rest = []; names_are = sym (append-nil (order ∷ files)) })
+
+-- the names up to one are the first
+front_up_to : (content : Contents) (names asked texts : List (List ℕ)) (name : List ℕ) → ReadUpTo content names asked texts name → IsFrontOf names asked
+front_up_to content names asked texts name up = record {
+  rest = up.after;
+  names_are = up.names_are ∙ sym (append_assoc up.before (name ∷ []) up.after) ∙ ap (λ some. some ++ up.after) (sym up.asked_are);
+}
+
+-- why reading stopped is the answer
+pub stop_answer : (content : Contents) (words before after : List (List ℕ)) (order : List ℕ) (files : List (List ℕ)) (stop : Stop) (r : Result Answer AllocError)
+    → IsCheck words order files → length files ≤ 200 → HasRead content (order ∷ files) before after (Err stop)
+    → IfOk r (λ (a : Answer). StopAnswer stop a.status a.text) → HasAnswer content words before after r
+stop_answer content words before after order files (Fault file) (Ok a) check few read answer =
+    let Q : Status → List ℕ → Type 0 = λ s t. IsAnswer content words read.asked s t in
+    let named = read.reads.stops in
+    record { asked = read.asked; asked_is = read.asked_is; answers =
+      subst (λ s. Q s a.text) (sym answer.0) (subst (Q ReadFault) (sym answer.1)
+      (subst (λ n. Q ReadFault (line (codes "read") (codes "fault" ∷ n ∷ []))) (sym named)
+      (read_fault order files read.asked read.reads.texts read.reads.name check few read.reads.up_to))) }
+stop_answer content words before after order files (Long file) (Ok a) check few read answer =
+    let Q : Status → List ℕ → Type 0 = λ s t. IsAnswer content words read.asked s t in
+    let named = read.reads.stops.0 in
+    record { asked = read.asked; asked_is = read.asked_is; answers =
+      subst (λ s. Q s a.text) (sym answer.0) (subst (Q Limit) (sym answer.1)
+      (subst (λ n. Q Limit (line (codes "limit") (codes "bytes" ∷ n ∷ []))) (sym named)
+      (long_file order files read.asked read.reads.texts read.reads.name check few read.reads.up_to read.reads.stops.1))) }
+stop_answer content words before after order files (Total number) (Ok a) check few read answer =
+    let Q : Status → List ℕ → Type 0 = λ s t. IsAnswer content words read.asked s t in
+    record { asked = read.asked; asked_is = read.asked_is; answers =
+      subst (λ s. Q s a.text) (sym answer.0) (subst (Q Limit) (sym answer.1)
+      (long_files order files read.asked read.reads.texts read.reads.name number check few read.reads.up_to read.reads.stops)) }
+stop_answer content words before after order files OutOfMemory (Ok a) check few read answer = absurd answer
+stop_answer content words before after order files (Fault file) (Err e) check few read answer =
+    record { asked = read.asked; asked_is = read.asked_is; answers = asks_some order files read.asked check
+      (front_up_to content (order ∷ files) read.asked read.reads.texts read.reads.name read.reads.up_to) }
+stop_answer content words before after order files (Long file) (Err e) check few read answer =
+    record { asked = read.asked; asked_is = read.asked_is; answers = asks_some order files read.asked check
+      (front_up_to content (order ∷ files) read.asked read.reads.texts read.reads.name read.reads.up_to) }
+stop_answer content words before after order files (Total number) (Err e) check few read answer =
+    record { asked = read.asked; asked_is = read.asked_is; answers = asks_some order files read.asked check
+      (front_up_to content (order ∷ files) read.asked read.reads.texts read.reads.name read.reads.up_to) }
+stop_answer content words before after order files OutOfMemory (Err e) check few read answer =
+    record { asked = read.asked; asked_is = read.asked_is; answers = asks_some order files read.asked check read.reads }
+
+-- a fault of reading or of writing is no verdict
+abbrev NoFault : Status → Type 0
+NoFault status = (status ≢ ReadFault) × (status ≢ WriteFault)
+
+order_verdict_no_fault : {net : Network} {old new : Tables} {order : List ℕ} {status : Status} {text : List ℕ}
+    → IsOrderVerdict net old new order status text → NoFault status
+order_verdict_no_fault (safe _) = (λ e. Prim.cc e, λ e. Prim.cc e)
+order_verdict_no_fault (unsafe _ _ _ _) = (λ e. Prim.cc e, λ e. Prim.cc e)
+
+pub verdict_no_fault : {order : List ℕ} {files : List (List ℕ)} {order_text : List ℕ} {texts : List (List ℕ)} {status : Status} {text : List ℕ}
+    → IsVerdict order files order_text texts status text → NoFault status
+verdict_no_fault (faulty_configuration _ _ _ _) = (λ e. Prim.cc e, λ e. Prim.cc e)
+verdict_no_fault (above_limit _ _ _ _ _) = (λ e. Prim.cc e, λ e. Prim.cc e)
+verdict_no_fault (two_names _ _ _ _) = (λ e. Prim.cc e, λ e. Prim.cc e)
+verdict_no_fault (inconsistent _ _ _ _ _ _ _) = (λ e. Prim.cc e, λ e. Prim.cc e)
+verdict_no_fault (off_start _ _ _ _ _ _) = (λ e. Prim.cc e, λ e. Prim.cc e)
+verdict_no_fault (faulty_order _ _ _ _ _) = (λ e. Prim.cc e, λ e. Prim.cc e)
+verdict_no_fault (of_order _ _ _ _ _ _ verdict) = order_verdict_no_fault verdict
+
+-- that a write failed is no answer
+pub answer_writes : {content : Contents} {words asked : List (List ℕ)} {status : Status} {text : List ℕ}
+    → IsAnswer content words asked status text → status ≢ WriteFault
+answer_writes (other_words _) = λ e. Prim.cc e
+answer_writes (many_files _ _ _ _) = λ e. Prim.cc e
+answer_writes (read_fault _ _ _ _ _ _ _ _) = λ e. Prim.cc e
+answer_writes (long_file _ _ _ _ _ _ _ _ _) = λ e. Prim.cc e
+answer_writes (long_files _ _ _ _ _ _ _ _ _ _) = λ e. Prim.cc e
+answer_writes (judged _ _ _ _ _ _ _ _ _ _ verdict) = (verdict_no_fault verdict).1
+
+-- the verdict on all texts is no fault of reading
+pub judged_no_fault : (content : Contents) (order : List ℕ) (files texts : List (List ℕ)) (status : Status) (text : List ℕ) → AreRead content (order ∷ files) texts
+    → ((order_text : List ℕ) (rest : List (List ℕ)) → texts ≡ order_text ∷ rest → IsVerdict order files order_text rest status text) → status ≢ ReadFault
+judged_no_fault content order files [] status text read verdict = absurd read
+judged_no_fault content order files (order_text ∷ rest) status text read verdict = (verdict_no_fault (verdict order_text rest refl)).0
