@@ -19,6 +19,8 @@ mod stubs;
 mod subnets;
 mod sums;
 mod systems;
+#[cfg(test)]
+mod tests;
 mod zone;
 
 pub use area::{Range, Ranges, Stub, Stubs};

@@ -69,7 +69,7 @@ pub enum NetRefusal {
         sum: u64,
     },
     /// The metrics of all up interfaces, once for each level that they run, sum to more than 4261412864, the
-    /// greatest metric of a path (RFC 5305, section 4).
+    /// greatest metric of a path (RFC 5305, section 3).
     #[error("the IS-IS metrics sum to {sum}")]
     IsisMetricSum {
         /// Their sum, or 2^64 - 1 where it is more.

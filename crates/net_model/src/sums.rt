@@ -7,7 +7,7 @@ use crate::{Config, Interface, NetRefusal, Range, Stub};
 /// The greatest sum of OSPF costs: one below the cost that stands for unreachable (RFC 2328, appendix B).
 const MOST_OSPF_COSTS: u64 = 16777214;
 
-/// The greatest sum of IS-IS metrics (RFC 5305, section 4).
+/// The greatest sum of IS-IS metrics (RFC 5305, section 3).
 const MOST_ISIS_METRICS: u64 = 4261412864;
 
 /// Refuses costs of OSPF whose sum is 16777215 or more.
