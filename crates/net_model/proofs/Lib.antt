@@ -5,4 +5,13 @@ mod BestLinks
 pub mod Adjacency
 mod BestSubnets
 pub mod NetworkFacts
+mod Bests
+mod PairFacts
+pub mod RouterFacts
+mod AddressClashes
+mod AreaClashes
+mod BorderFacts
+mod SystemClashes
+mod StubClashes
+mod BuildFacts
 pub mod RefusalLaws

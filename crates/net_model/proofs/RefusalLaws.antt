@@ -1,18 +1,22 @@
 -- Configurations make one network or are refused, and in one way.
-use Rattle.std.proofs.Common.{◌≡◌, ◌≢◌, ℕ, suc, List, [], ◌∷◌, Contains, refl, sym, ap, subst, ◌∙◌, ⊎_elim, arith}
+use Rattle.std.proofs.Common.{◌≡◌, ◌≢◌, ℕ, suc, ◌<◌, ◌≤◌, List, [], ◌∷◌, Contains, refl, sym, ap, subst, ◌∙◌, ⊎_elim, arith}
 use Rattle.std.specs.Cmp.Lexicographic.{nat_list_cmp_total}
 use Rattle.std.proofs.lemmas.List.Sorted.{Contains-permutation, IsPermutation-sym, IsPermutation-refl}
+use Rattle.net_addr.specs.Addresses.{Block}
+use Rattle.net_model.specs.Conditions.{HaveOneAddress, RunTwoAreas, LacksBackbone, HaveOneSystem, DifferOnStub, ospf_cost_sum, isis_metric_sum, IsConsistent}
 use Rattle.net_model.specs.Configuration.{Configuration}
+use Rattle.net_model.specs.Least.{IsBlockAtMost, IsLeastPair, IsLowest}
 use Rattle.net_model.specs.Limits.{CountsDests, IsWithinLimits}
 use Rattle.net_model.specs.Network.{Network}
-use Rattle.net_model.specs.Refusals.{IsBelow, NamesAscend, IsNetworkOf, MakeNetwork, IsNetwork, TwoHaveName, IsLeastDouble, Refuses}
+use Rattle.net_model.specs.Refusals.{IsBelow, NamesAscend, IsNetworkOf, MakeNetwork, IsNetwork, TwoHaveName, IsLeastDouble, IsAbove, HoldsOfNetwork, RefusesNetwork, Refuses}
 use Rattle.net_model.specs.declared.refusal.LimitWhat.{LimitWhat}
 use Rattle.net_model.specs.declared.refusal.LimitWhat.TheVariants.{Routers, Interfaces, Dests}
 use Rattle.net_model.specs.declared.refusal.NetRefusal.{NetRefusal}
-use Rattle.net_model.specs.declared.refusal.NetRefusal.TheVariants.{Limit, TwoNames, OutOfMemory}
+use Rattle.net_model.specs.declared.refusal.NetRefusal.TheVariants.{Limit, TwoNames, AddressTwice, PrefixInTwoAreas, BorderWithoutBackbone, OspfCostSum, IsisMetricSum, SystemIdTwice, StubMismatch, OutOfMemory}
 use Rattle.net_model.proofs.Members.{Contains-none, Contains-first, Contains-rest, Contains-cases, length-same_from_distinct}
 use Rattle.net_model.proofs.Names.{IsBelow-irrefl, TwoHaveName-permutation, neither_below}
 use Rattle.net_model.proofs.NetworkFacts.{IsNamed-unique}
+use Rattle.net_model.proofs.PairFacts.{IsLeastPair-unique}
 
 -- configurations name only so many prefixes
 pub CountsDests-unique : (configs : List Configuration) (m n : ℕ) → CountsDests configs m → CountsDests configs n → m ≡ n
@@ -32,40 +36,6 @@ limit_exceeded configs Routers number h w = omega (arith, h.above, w.routers)
 limit_exceeded configs Interfaces number h w = omega (arith, h.1.above, w.interfaces)
 limit_exceeded configs Dests number h w =
     omega (arith, h.2.above.above, w.few, CountsDests-unique configs h.2.dests w.dests h.2.counted w.counted)
-
--- where configurations make a network, only want of memory may refuse them
-pub MakeNetwork-refused : (configs : List Configuration) (net : Network) (refusal : NetRefusal) → MakeNetwork configs net → Refuses refusal configs → refusal ≡ OutOfMemory
-MakeNetwork-refused configs net (Limit what number) m h = absurd (limit_exceeded configs what number h m.limits)
-MakeNetwork-refused configs net (TwoNames name) m h = absurd (TwoHaveName-none configs net name m.network h.1.double)
-MakeNetwork-refused configs net OutOfMemory m h = refl
-
--- a network makes itself, so no refusal but want of memory stands of it
-pub IsNetwork-makes : (net : Network) → IsNetwork net → MakeNetwork net net
-IsNetwork-makes net n = record { limits = n.limits; network = record { same = IsPermutation-refl net; ascending = n.ascending } }
-
-same_limit : (configs : List Configuration) (what other : LimitWhat) (m n : ℕ) → Refuses (Limit what m) configs → Refuses (Limit other n) configs → Limit what m ≡ Limit other n
-same_limit configs Routers Routers m n h k = ap (Limit Routers) (h.number_is ∙ sym k.number_is)
-same_limit configs Routers Interfaces m n h k = absurd (omega (arith, h.above, k.0))
-same_limit configs Routers Dests m n h k = absurd (omega (arith, h.above, k.0))
-same_limit configs Interfaces Routers m n h k = absurd (omega (arith, k.above, h.0))
-same_limit configs Interfaces Interfaces m n h k = ap (Limit Interfaces) (h.1.number_is ∙ sym k.1.number_is)
-same_limit configs Interfaces Dests m n h k = absurd (omega (arith, h.1.above, k.1))
-same_limit configs Dests Routers m n h k = absurd (omega (arith, k.above, h.0))
-same_limit configs Dests Interfaces m n h k = absurd (omega (arith, k.1.above, h.1))
-same_limit configs Dests Dests m n h k =
-    ap (Limit Dests) (omega (arith, h.2.above.number_is, k.2.above.number_is, CountsDests-unique configs h.2.dests k.2.dests h.2.counted k.2.counted))
-
-IsLeastDouble-unique : (configs : List Configuration) (a b : List ℕ) → IsLeastDouble configs a → IsLeastDouble configs b → a ≡ b
-IsLeastDouble-unique configs a b h k = neither_below a b (k.least a h.double) (h.least b k.double)
-
--- one refusal at most stands, besides want of memory
-pub Refuses-unique : (configs : List Configuration) (one other : NetRefusal) → one ≢ OutOfMemory → other ≢ OutOfMemory → Refuses one configs → Refuses other configs → one ≡ other
-Refuses-unique configs (Limit what m) (Limit other n) a b h k = same_limit configs what other m n h k
-Refuses-unique configs (Limit what m) (TwoNames name) a b h k = absurd (limit_exceeded configs what m h k.0)
-Refuses-unique configs (TwoNames name) (Limit what m) a b h k = absurd (limit_exceeded configs what m k h.0)
-Refuses-unique configs (TwoNames name) (TwoNames other) a b h k = ap TwoNames (IsLeastDouble-unique configs name other h.1 k.1)
-Refuses-unique configs OutOfMemory other a b h k = absurd (a refl)
-Refuses-unique configs one OutOfMemory a b h k = absurd (b refl)
 
 below_all : (c : Configuration) (cs : List Configuration) (d : Configuration) → NamesAscend (c ∷ cs) → Contains cs d → IsBelow c.name d.name
 below_all c cs d up h =
@@ -108,3 +78,148 @@ IsNetworkOf-unique configs one other h k =
     same_ascending one other h.ascending k.ascending
     (λ c m. Contains-permutation configs other c k.same (Contains-permutation one configs c (IsPermutation-sym configs one h.same) m))
     (λ c m. Contains-permutation configs one c h.same (Contains-permutation other configs c (IsPermutation-sym configs other k.same) m))
+
+-- none of its conditions refuses a consistent network
+pub IsConsistent-refused : (net : Network) (refusal : NetRefusal) → IsConsistent net → RefusesNetwork refusal net → ⊥
+IsConsistent-refused net (Limit _ _) k h = h
+IsConsistent-refused net (TwoNames _) k h = h
+IsConsistent-refused net (AddressTwice one two address) k h = k.addresses one two address h.clash
+IsConsistent-refused net (PrefixInTwoAreas one two dest) k h = k.areas one two dest h.1.clash
+IsConsistent-refused net (BorderWithoutBackbone router) k h = k.borders router h.1.holds
+IsConsistent-refused net (OspfCostSum sum) k h = omega (arith, k.ospf_costs, h.1.above)
+IsConsistent-refused net (IsisMetricSum sum) k h = omega (arith, k.isis_metrics, h.1.above)
+IsConsistent-refused net (SystemIdTwice one two) k h = k.systems one two h.1.0 h.1.1.clash
+IsConsistent-refused net (StubMismatch one two area) k h = k.stubs one two area h.1.clash
+IsConsistent-refused net OutOfMemory k h = h
+
+refused_by_network : (configs : List Configuration) (net : Network) (refusal : NetRefusal) → MakeNetwork configs net → HoldsOfNetwork configs (RefusesNetwork refusal) → ⊥
+refused_by_network configs net refusal m h =
+    IsConsistent-refused net refusal m.consistent (subst (RefusesNetwork refusal) (IsNetworkOf-unique configs h.net net h.network m.network) h.holds)
+
+-- where configurations make a network, only want of memory may refuse them
+pub MakeNetwork-refused : (configs : List Configuration) (net : Network) (refusal : NetRefusal) → MakeNetwork configs net → Refuses refusal configs → refusal ≡ OutOfMemory
+MakeNetwork-refused configs net (Limit what number) m h = absurd (limit_exceeded configs what number h m.limits)
+MakeNetwork-refused configs net (TwoNames name) m h = absurd (TwoHaveName-none configs net name m.network h.1.double)
+MakeNetwork-refused configs net OutOfMemory m h = refl
+MakeNetwork-refused configs net refusal m h = absurd (refused_by_network configs net refusal m h)
+
+-- a network makes itself, so no refusal but want of memory stands of it
+pub IsNetwork-makes : (net : Network) → IsNetwork net → MakeNetwork net net
+IsNetwork-makes net n = record { limits = n.limits; network = record { same = IsPermutation-refl net; ascending = n.ascending }; consistent = n.consistent }
+
+same_limit : (configs : List Configuration) (what other : LimitWhat) (m n : ℕ) → Refuses (Limit what m) configs → Refuses (Limit other n) configs → Limit what m ≡ Limit other n
+same_limit configs Routers Routers m n h k = ap (Limit Routers) (h.number_is ∙ sym k.number_is)
+same_limit configs Routers Interfaces m n h k = absurd (omega (arith, h.above, k.0))
+same_limit configs Routers Dests m n h k = absurd (omega (arith, h.above, k.0))
+same_limit configs Interfaces Routers m n h k = absurd (omega (arith, k.above, h.0))
+same_limit configs Interfaces Interfaces m n h k = ap (Limit Interfaces) (h.1.number_is ∙ sym k.1.number_is)
+same_limit configs Interfaces Dests m n h k = absurd (omega (arith, h.1.above, k.1))
+same_limit configs Dests Routers m n h k = absurd (omega (arith, k.above, h.0))
+same_limit configs Dests Interfaces m n h k = absurd (omega (arith, k.1.above, h.1))
+same_limit configs Dests Dests m n h k =
+    ap (Limit Dests) (omega (arith, h.2.above.number_is, k.2.above.number_is, CountsDests-unique configs h.2.dests k.2.dests h.2.counted k.2.counted))
+
+IsLeastDouble-unique : (configs : List Configuration) (a b : List ℕ) → IsLeastDouble configs a → IsLeastDouble configs b → a ≡ b
+IsLeastDouble-unique configs a b h k = neither_below a b (k.least a h.double) (h.least b k.double)
+
+antisymmetric : (a b : ℕ) → a ≤ b → b ≤ a → a ≡ b
+antisymmetric a b l m = omega arith
+
+block_antisymmetric : (p q : Block) → IsBlockAtMost p q → IsBlockAtMost q p → p ≡ q
+block_antisymmetric p q l m =
+    let base : p.base ≡ q.base = ⊎_elim (λ a. ⊎_elim (λ b. absurd (omega arith)) (λ b. absurd (omega (arith, b.0))) m) (λ a. a.0) l in
+    let len : p.len ≡ q.len = ⊎_elim (λ a. absurd (omega (arith, base))) (λ a. ⊎_elim (λ b. absurd (omega (arith, base))) (λ b. omega (arith, a.1, b.1)) m) l in
+    λ i. record { base = base i; len = len i }
+
+least_same : (P : ℕ → Type 0) (m n : ℕ) → IsLowest P m → IsLowest P n → m ≡ n
+least_same P m n h k = omega (arith, h.least n k.holds, k.least m h.holds)
+
+carried_same : (most count m n : ℕ) → IsAbove most count m → IsAbove most count n → m ≡ n
+carried_same most count m n h k = h.number_is ∙ sym k.number_is
+
+-- of two refusals of one network the later one needs that the earlier one's condition doesn't hold
+RefusesNetwork-unique : (net : Network) (one other : NetRefusal) → RefusesNetwork one net → RefusesNetwork other net → one ≡ other
+RefusesNetwork-unique net (AddressTwice u1 v1 a1) (AddressTwice u2 v2 a2) h k =
+    let same = IsLeastPair-unique (λ a b. a ≤ b) (HaveOneAddress net) u1 v1 a1 u2 v2 a2 antisymmetric h k in
+    λ i. AddressTwice (same.0 i) (same.1 i) (same.2 i)
+RefusesNetwork-unique net (AddressTwice u1 v1 a1) (PrefixInTwoAreas u2 v2 p2) h k = absurd (k.0 u1 v1 a1 h.clash)
+RefusesNetwork-unique net (AddressTwice u1 v1 a1) (BorderWithoutBackbone u2) h k = absurd (k.0.0 u1 v1 a1 h.clash)
+RefusesNetwork-unique net (AddressTwice u1 v1 a1) (OspfCostSum s2) h k = absurd (k.0.0.0 u1 v1 a1 h.clash)
+RefusesNetwork-unique net (AddressTwice u1 v1 a1) (IsisMetricSum s2) h k = absurd (k.0.0.0.0 u1 v1 a1 h.clash)
+RefusesNetwork-unique net (AddressTwice u1 v1 a1) (SystemIdTwice u2 v2) h k = absurd (k.0.0.0.0.0 u1 v1 a1 h.clash)
+RefusesNetwork-unique net (AddressTwice u1 v1 a1) (StubMismatch u2 v2 n2) h k = absurd (k.0.0.0.0.0.0 u1 v1 a1 h.clash)
+RefusesNetwork-unique net (PrefixInTwoAreas u1 v1 p1) (AddressTwice u2 v2 a2) h k = absurd (h.0 u2 v2 a2 k.clash)
+RefusesNetwork-unique net (PrefixInTwoAreas u1 v1 p1) (PrefixInTwoAreas u2 v2 p2) h k =
+    let same = IsLeastPair-unique IsBlockAtMost (RunTwoAreas net) u1 v1 p1 u2 v2 p2 block_antisymmetric h.1 k.1 in
+    λ i. PrefixInTwoAreas (same.0 i) (same.1 i) (same.2 i)
+RefusesNetwork-unique net (PrefixInTwoAreas u1 v1 p1) (BorderWithoutBackbone u2) h k = absurd (k.0.1 u1 v1 p1 h.1.clash)
+RefusesNetwork-unique net (PrefixInTwoAreas u1 v1 p1) (OspfCostSum s2) h k = absurd (k.0.0.1 u1 v1 p1 h.1.clash)
+RefusesNetwork-unique net (PrefixInTwoAreas u1 v1 p1) (IsisMetricSum s2) h k = absurd (k.0.0.0.1 u1 v1 p1 h.1.clash)
+RefusesNetwork-unique net (PrefixInTwoAreas u1 v1 p1) (SystemIdTwice u2 v2) h k = absurd (k.0.0.0.0.1 u1 v1 p1 h.1.clash)
+RefusesNetwork-unique net (PrefixInTwoAreas u1 v1 p1) (StubMismatch u2 v2 n2) h k = absurd (k.0.0.0.0.0.1 u1 v1 p1 h.1.clash)
+RefusesNetwork-unique net (BorderWithoutBackbone u1) (AddressTwice u2 v2 a2) h k = absurd (h.0.0 u2 v2 a2 k.clash)
+RefusesNetwork-unique net (BorderWithoutBackbone u1) (PrefixInTwoAreas u2 v2 p2) h k = absurd (h.0.1 u2 v2 p2 k.1.clash)
+RefusesNetwork-unique net (BorderWithoutBackbone u1) (BorderWithoutBackbone u2) h k =
+    ap BorderWithoutBackbone (least_same (LacksBackbone net) u1 u2 h.1 k.1)
+RefusesNetwork-unique net (BorderWithoutBackbone u1) (OspfCostSum s2) h k = absurd (k.0.1 u1 h.1.holds)
+RefusesNetwork-unique net (BorderWithoutBackbone u1) (IsisMetricSum s2) h k = absurd (k.0.0.1 u1 h.1.holds)
+RefusesNetwork-unique net (BorderWithoutBackbone u1) (SystemIdTwice u2 v2) h k = absurd (k.0.0.0.1 u1 h.1.holds)
+RefusesNetwork-unique net (BorderWithoutBackbone u1) (StubMismatch u2 v2 n2) h k = absurd (k.0.0.0.0.1 u1 h.1.holds)
+RefusesNetwork-unique net (OspfCostSum s1) (AddressTwice u2 v2 a2) h k = absurd (h.0.0.0 u2 v2 a2 k.clash)
+RefusesNetwork-unique net (OspfCostSum s1) (PrefixInTwoAreas u2 v2 p2) h k = absurd (h.0.0.1 u2 v2 p2 k.1.clash)
+RefusesNetwork-unique net (OspfCostSum s1) (BorderWithoutBackbone u2) h k = absurd (h.0.1 u2 k.1.holds)
+RefusesNetwork-unique net (OspfCostSum s1) (OspfCostSum s2) h k =
+    ap OspfCostSum (carried_same 16777214 (ospf_cost_sum net) s1 s2 h.1 k.1)
+RefusesNetwork-unique net (OspfCostSum s1) (IsisMetricSum s2) h k = absurd (omega (arith, k.0.1, h.1.above))
+RefusesNetwork-unique net (OspfCostSum s1) (SystemIdTwice u2 v2) h k = absurd (omega (arith, k.0.0.1, h.1.above))
+RefusesNetwork-unique net (OspfCostSum s1) (StubMismatch u2 v2 n2) h k = absurd (omega (arith, k.0.0.0.1, h.1.above))
+RefusesNetwork-unique net (IsisMetricSum s1) (AddressTwice u2 v2 a2) h k = absurd (h.0.0.0.0 u2 v2 a2 k.clash)
+RefusesNetwork-unique net (IsisMetricSum s1) (PrefixInTwoAreas u2 v2 p2) h k = absurd (h.0.0.0.1 u2 v2 p2 k.1.clash)
+RefusesNetwork-unique net (IsisMetricSum s1) (BorderWithoutBackbone u2) h k = absurd (h.0.0.1 u2 k.1.holds)
+RefusesNetwork-unique net (IsisMetricSum s1) (OspfCostSum s2) h k = absurd (omega (arith, h.0.1, k.1.above))
+RefusesNetwork-unique net (IsisMetricSum s1) (IsisMetricSum s2) h k =
+    ap IsisMetricSum (carried_same 4261412864 (isis_metric_sum net) s1 s2 h.1 k.1)
+RefusesNetwork-unique net (IsisMetricSum s1) (SystemIdTwice u2 v2) h k = absurd (omega (arith, k.0.1, h.1.above))
+RefusesNetwork-unique net (IsisMetricSum s1) (StubMismatch u2 v2 n2) h k = absurd (omega (arith, k.0.0.1, h.1.above))
+RefusesNetwork-unique net (SystemIdTwice u1 v1) (AddressTwice u2 v2 a2) h k = absurd (h.0.0.0.0.0 u2 v2 a2 k.clash)
+RefusesNetwork-unique net (SystemIdTwice u1 v1) (PrefixInTwoAreas u2 v2 p2) h k = absurd (h.0.0.0.0.1 u2 v2 p2 k.1.clash)
+RefusesNetwork-unique net (SystemIdTwice u1 v1) (BorderWithoutBackbone u2) h k = absurd (h.0.0.0.1 u2 k.1.holds)
+RefusesNetwork-unique net (SystemIdTwice u1 v1) (OspfCostSum s2) h k = absurd (omega (arith, h.0.0.1, k.1.above))
+RefusesNetwork-unique net (SystemIdTwice u1 v1) (IsisMetricSum s2) h k = absurd (omega (arith, h.0.1, k.1.above))
+RefusesNetwork-unique net (SystemIdTwice u1 v1) (SystemIdTwice u2 v2) h k =
+    let same = IsLeastPair-unique (λ a b. a ≤ b) (HaveOneSystem net) u1 v1 h.1.0 u2 v2 k.1.0 antisymmetric h.1.1 k.1.1 in
+    λ i. SystemIdTwice (same.0 i) (same.1 i)
+RefusesNetwork-unique net (SystemIdTwice u1 v1) (StubMismatch u2 v2 n2) h k = absurd (k.0.1 u1 v1 h.1.0 h.1.1.clash)
+RefusesNetwork-unique net (StubMismatch u1 v1 n1) (AddressTwice u2 v2 a2) h k = absurd (h.0.0.0.0.0.0 u2 v2 a2 k.clash)
+RefusesNetwork-unique net (StubMismatch u1 v1 n1) (PrefixInTwoAreas u2 v2 p2) h k = absurd (h.0.0.0.0.0.1 u2 v2 p2 k.1.clash)
+RefusesNetwork-unique net (StubMismatch u1 v1 n1) (BorderWithoutBackbone u2) h k = absurd (h.0.0.0.0.1 u2 k.1.holds)
+RefusesNetwork-unique net (StubMismatch u1 v1 n1) (OspfCostSum s2) h k = absurd (omega (arith, h.0.0.0.1, k.1.above))
+RefusesNetwork-unique net (StubMismatch u1 v1 n1) (IsisMetricSum s2) h k = absurd (omega (arith, h.0.0.1, k.1.above))
+RefusesNetwork-unique net (StubMismatch u1 v1 n1) (SystemIdTwice u2 v2) h k = absurd (h.0.1 u2 v2 k.1.0 k.1.1.clash)
+RefusesNetwork-unique net (StubMismatch u1 v1 n1) (StubMismatch u2 v2 n2) h k =
+    let same = IsLeastPair-unique (λ a b. a ≤ b) (DifferOnStub net) u1 v1 n1 u2 v2 n2 antisymmetric h.1 k.1 in
+    λ i. StubMismatch (same.0 i) (same.1 i) (same.2 i)
+RefusesNetwork-unique net (Limit _ _) other h k = absurd h
+RefusesNetwork-unique net (TwoNames _) other h k = absurd h
+RefusesNetwork-unique net OutOfMemory other h k = absurd h
+RefusesNetwork-unique net one (Limit _ _) h k = absurd k
+RefusesNetwork-unique net one (TwoNames _) h k = absurd k
+RefusesNetwork-unique net one OutOfMemory h k = absurd k
+
+both_of_network : (configs : List Configuration) (one other : NetRefusal) → HoldsOfNetwork configs (RefusesNetwork one) → HoldsOfNetwork configs (RefusesNetwork other) → one ≡ other
+both_of_network configs one other h k =
+    RefusesNetwork-unique h.net one other h.holds (subst (RefusesNetwork other) (IsNetworkOf-unique configs k.net h.net k.network h.network) k.holds)
+
+-- one refusal at most stands, besides want of memory
+pub Refuses-unique : (configs : List Configuration) (one other : NetRefusal) → one ≢ OutOfMemory → other ≢ OutOfMemory → Refuses one configs → Refuses other configs → one ≡ other
+Refuses-unique configs OutOfMemory other a b h k = absurd (a refl)
+Refuses-unique configs one OutOfMemory a b h k = absurd (b refl)
+Refuses-unique configs (Limit what m) (Limit other n) a b h k = same_limit configs what other m n h k
+Refuses-unique configs (Limit what m) (TwoNames name) a b h k = absurd (limit_exceeded configs what m h k.0)
+Refuses-unique configs (TwoNames name) (Limit what m) a b h k = absurd (limit_exceeded configs what m k h.0)
+Refuses-unique configs (TwoNames name) (TwoNames other) a b h k = ap TwoNames (IsLeastDouble-unique configs name other h.1 k.1)
+Refuses-unique configs (Limit what m) other a b h k = absurd (limit_exceeded configs what m h k.limits)
+Refuses-unique configs one (Limit what m) a b h k = absurd (limit_exceeded configs what m k h.limits)
+Refuses-unique configs (TwoNames name) other a b h k = absurd (TwoHaveName-none configs k.net name k.network h.1.double)
+Refuses-unique configs one (TwoNames name) a b h k = absurd (TwoHaveName-none configs h.net name h.network k.1.double)
+Refuses-unique configs one other a b h k = both_of_network configs one other h k

@@ -2,7 +2,7 @@
 use Rattle.std.specs.Prelude.{◌≡◌, ℕ, ◌+◌, ◌<◌, List, length, slice_index_or}
 use Rattle.net_model.specs.Configuration.{Configuration}
 use Rattle.net_model.specs.declared.refusal.NetRefusal.{NetRefusal}
-use Rattle.net_model.specs.declared.refusal.NetRefusal.TheVariants.{Limit, TwoNames, OutOfMemory}
+use Rattle.net_model.specs.declared.refusal.NetRefusal.TheVariants.{TwoNames, OutOfMemory}
 
 -- the configuration at place k and the one after it have one name
 abbrev pub IsDouble : List Configuration → ℕ → Type 0
@@ -21,6 +21,6 @@ pub record IsFirstDouble (configs : List Configuration) (k : ℕ) : Type 0 where
 
 -- the refusal is that two configurations have this name, or want of memory
 abbrev pub IsTwoNames : List ℕ → NetRefusal → Type 0
-IsTwoNames name (Limit _ _) = ⊥
 IsTwoNames name (TwoNames least) = least ≡ name
 IsTwoNames name OutOfMemory = Unit {0}
+IsTwoNames name _ = ⊥

@@ -1,6 +1,8 @@
 pub mod Configuration
 pub mod Network
 pub mod Limits
+pub mod Least
+pub mod Conditions
 pub mod Refusals
 pub mod BuildLaws
 pub mod Lookups
@@ -8,3 +10,5 @@ pub mod DestLists
 pub mod Doubles
 pub mod Links
 pub mod Subnets
+pub mod OffStarts
+pub mod Scans

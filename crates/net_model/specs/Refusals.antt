@@ -3,13 +3,15 @@ use Rattle.std.specs.Prelude.{◌≡◌, ◌≢◌, ℕ, ◌≤◌, ◌<◌, Lis
 use Rattle.std.specs.Cmp.Lexicographic.{slice_cmp}
 use Rattle.std.specs.Ordering.{nat_cmp}
 use Rattle.std.specs.declared.cmp.Ordering.TheVariants.{Less}
+use Rattle.net_model.specs.Conditions.{HaveOneAddress, RunTwoAreas, LacksBackbone, HaveOneSystem, DifferOnStub, ospf_cost_sum, isis_metric_sum, IsConsistent, AddressesDiffer, PassesAreas, PassesBorders, PassesOspfCosts, PassesIsisMetrics, PassesSystems}
 use Rattle.net_model.specs.Configuration.{Configuration, IsConfiguration}
+use Rattle.net_model.specs.Least.{IsBlockAtMost, IsLeastPair, IsLowest}
 use Rattle.net_model.specs.Limits.{all_up_interfaces, CountsDests, IsWithinLimits}
 use Rattle.net_model.specs.Lookups.{IsNamed}
 use Rattle.net_model.specs.Network.{Network}
 use Rattle.net_model.specs.declared.refusal.LimitWhat.TheVariants.{Routers, Interfaces, Dests}
 use Rattle.net_model.specs.declared.refusal.NetRefusal.{NetRefusal}
-use Rattle.net_model.specs.declared.refusal.NetRefusal.TheVariants.{Limit, TwoNames, OutOfMemory}
+use Rattle.net_model.specs.declared.refusal.NetRefusal.TheVariants.{Limit, TwoNames, AddressTwice, PrefixInTwoAreas, BorderWithoutBackbone, OspfCostSum, IsisMetricSum, SystemIdTwice, StubMismatch, OutOfMemory}
 
 -- byte order of names
 abbrev pub IsBelow : List ℕ → List ℕ → Type 0
@@ -24,22 +26,24 @@ pub record IsNetworkOf (configs : List Configuration) (net : Network) : Type 0 w
   pub same : IsPermutation configs net
   pub ascending : NamesAscend net
 
--- configurations make a network: they are within the limits, and no two of them have one name
+-- configurations make a network: they are within the limits, no two of them have one name, and it is consistent
 pub record MakeNetwork (configs : List Configuration) (net : Network) : Type 0 where
   pub limits : IsWithinLimits configs
   pub network : IsNetworkOf configs net
+  pub consistent : IsConsistent net
 
 -- what every network keeps
 pub record IsNetwork (net : Network) : Type 0 where
   pub limits : IsWithinLimits net
   pub ascending : NamesAscend net
   pub configurations : All IsConfiguration net
+  pub consistent : IsConsistent net
 
 -- a count as a refusal carries it: the greatest number of 64 bits stands for all above
 abbrev pub carried : ℕ → ℕ
 carried count = min count 18446744073709551615
 
--- a count is above its limit, and the refusal carries it
+-- a count or sum is above its limit, and the refusal carries it
 pub record IsAbove (most count number : ℕ) : Type 0 where
   pub above : most < count
   pub number_is : number ≡ carried count
@@ -63,6 +67,33 @@ pub record IsLeastDouble (configs : List Configuration) (name : List ℕ) : Type
   pub double : TwoHaveName configs name
   pub least : (other : List ℕ) → TwoHaveName configs other → IsBelow other name → ⊥
 
+-- the refusal carries the least name that two configurations have, or is want of memory
+abbrev pub RefusesName : NetRefusal → List Configuration → Type 0
+RefusesName (TwoNames name) configs = IsLeastDouble configs name
+RefusesName OutOfMemory configs = Unit {0}
+RefusesName _ configs = ⊥
+
+-- when each refusal of a network comes: its condition holds, and none of those above it
+abbrev pub RefusesNetwork : NetRefusal → Network → Type 0
+RefusesNetwork (AddressTwice one two address) net = IsLeastPair (λ a b. a ≤ b) (HaveOneAddress net) one two address
+RefusesNetwork (PrefixInTwoAreas one two dest) net =
+    AddressesDiffer net × IsLeastPair IsBlockAtMost (RunTwoAreas net) one two dest
+RefusesNetwork (BorderWithoutBackbone router) net = PassesAreas net × IsLowest (LacksBackbone net) router
+RefusesNetwork (OspfCostSum sum) net = PassesBorders net × IsAbove 16777214 (ospf_cost_sum net) sum
+RefusesNetwork (IsisMetricSum sum) net = PassesOspfCosts net × IsAbove 4261412864 (isis_metric_sum net) sum
+RefusesNetwork (SystemIdTwice one two) net =
+    PassesIsisMetrics net × ((system : ℕ) × IsLeastPair (λ a b. a ≤ b) (HaveOneSystem net) one two system)
+RefusesNetwork (StubMismatch one two area) net =
+    PassesSystems net × IsLeastPair (λ a b. a ≤ b) (DifferOnStub net) one two area
+RefusesNetwork _ net = ⊥
+
+-- P holds of the network of configurations that are within the limits and have distinct names
+pub record HoldsOfNetwork (configs : List Configuration) (P : Network → Type 0) : Type 0 where
+  pub limits : IsWithinLimits configs
+  pub net : Network
+  pub network : IsNetworkOf configs net
+  pub holds : P net
+
 -- when each refusal comes: its condition holds, and none of those above it
 abbrev pub Refuses : NetRefusal → List Configuration → Type 0
 Refuses (Limit Routers number) configs = IsAbove 200 (length configs) number
@@ -72,3 +103,4 @@ Refuses (Limit Dests number) configs =
     (length configs ≤ 200) × (all_up_interfaces configs ≤ 2000) × NameTooMany configs number
 Refuses (TwoNames name) configs = IsWithinLimits configs × IsLeastDouble configs name
 Refuses OutOfMemory configs = Unit {0}
+Refuses refusal configs = HoldsOfNetwork configs (RefusesNetwork refusal)

@@ -1,7 +1,10 @@
 //! Router configurations and the network that they make: what a plan is computed from.
 #![tactic(auto)]
 
+mod addresses;
 mod area;
+mod areas;
+mod borders;
 mod config;
 mod interface;
 mod laws;
@@ -9,8 +12,13 @@ mod limits;
 mod links;
 mod naming;
 mod net;
+mod pairs;
 mod refusal;
+mod starts;
+mod stubs;
 mod subnets;
+mod sums;
+mod systems;
 mod zone;
 
 pub use area::{Range, Ranges, Stub, Stubs};

@@ -16,7 +16,7 @@ pub fn best_link(zone: Zone, nears: &[Interface], fars: &[Interface]) -> Option<
 }
 
 /// The lower of two costs, or the one that there is.
-fn lower(one: Option<u32>, other: Option<u32>) -> Option<u32>
+pub fn lower(one: Option<u32>, other: Option<u32>) -> Option<u32>
     ensures { result ≡ lower_of one other }
 {
     match (one, other) {
@@ -52,7 +52,7 @@ fn joins(zone: Zone, near: &Interface, far: &Interface) -> bool
 }
 
 /// Whether two interfaces have one subnet.
-fn share_subnet(near: &Interface, far: &Interface) -> bool
+pub fn share_subnet(near: &Interface, far: &Interface) -> bool
     ensures { IsTrue result ↔ ShareSubnet near.now far.now }
 {
     match (near.subnet, far.subnet) {

@@ -1,11 +1,14 @@
-ghost use Rattle.std.specs.Prelude.{◌≡◌, ◌<◌, ◌↔◌, ℕ, IfSome, IsPermutation, IsTrue, MatchOption, length};
+ghost use Rattle.std.specs.Prelude.{◌≡◌, ◌<◌, ◌↔◌, ℕ, IfErr, IfSome, IsPermutation, IsTrue, MatchOption, OnOk, length};
 ghost use Rattle.std.specs.List.Sorted.{IsSortedByKey};
 ghost use Rattle.std.specs.Cmp.Lexicographic.{slice_cmp};
 ghost use Rattle.std.specs.Ordering.{nat_cmp};
-ghost use Rattle.net_model.specs.Doubles.{IsFirstDouble, NoDoubles};
+ghost use Rattle.net_model.specs.Doubles.{IsFirstDouble, IsTwoNames, NoDoubles};
 ghost use Rattle.net_model.specs.Lookups.{IsNamed};
+ghost use Rattle.net_model.specs.Refusals.{NamesAscend, RefusesName};
 
-use crate::Config;
+use crate::{Config, NetRefusal};
+use net_addr::Name;
+use std::alloc::Global;
 use std::cmp::Ordering;
 
 /// Puts configurations into byte order of their names.
@@ -18,6 +21,30 @@ pub fn sort_by_name(configs: &mut Vec<Config>)
             ensures { result ≡ slice_cmp nat_cmp a.now.name b.now.name }
         { a.name.as_slice().cmp(b.name.as_slice()) },
     );
+}
+
+/// Refuses the least name that two configurations have. They stand in byte order of their names.
+pub fn check_names(alloc: Global, configs: &[Config]) -> Result<(), NetRefusal>
+    requires { IsSortedByKey (λ c. c.name) (slice_cmp nat_cmp) configs.now }
+    ensures ok { OnOk result (NamesAscend configs.now) }
+    ensures err { IfErr result (λ e. RefusesName e configs.now) }
+{
+    match first_double(configs) {
+        Some(place) => Err(two_names(alloc, &configs[place])),
+        None => Ok(()),
+    }
+}
+
+/// The refusal of a name that two configurations have.
+fn two_names(alloc: Global, config: &Config) -> NetRefusal
+    ensures { IsTwoNames config.now.name result }
+{
+    match Vec::from_slice(alloc, config.name.as_slice()) {
+        Ok(bytes) => NetRefusal::TwoNames {
+            name: Name::from_vec(bytes),
+        },
+        Err(_) => NetRefusal::OutOfMemory,
+    }
 }
 
 /// The first place whose configuration has the name of the next one.

@@ -1,23 +1,32 @@
-ghost use Rattle.std.specs.Prelude.{◌≡◌, ◌<◌, ◌≤◌, ◌↔◌, ℕ, length, IsTrue, IfOk, IfErr, MatchOption};
+ghost use Rattle.std.specs.Prelude.{◌≡◌, ◌<◌, ◌≤◌, ◌↔◌, ℕ, length, IsTrue, IfOk, IfErr, MatchOption, OnOk};
 ghost use Rattle.net_addr.specs.Addresses.{Block, ContainsAddress};
 ghost use Rattle.net_model.specs.Configuration.{IsInterface};
 ghost use Rattle.net_model.specs.Network.{HasConfiguration, Connected, Adjacent};
-ghost use Rattle.net_model.specs.Refusals.{IsNetwork, MakeNetwork, Refuses};
-ghost use Rattle.net_model.specs.Doubles.{IsTwoNames};
+ghost use Rattle.net_model.specs.Conditions.{IsConsistent};
+ghost use Rattle.net_model.specs.OffStarts.{IsLowestOffStart, StartsOff};
+ghost use Rattle.net_model.specs.Refusals.{IsNetwork, MakeNetwork, Refuses, RefusesNetwork};
 ghost use Rattle.net_model.specs.Lookups.{IsNamed, LeastArc, LongestConnected};
 
+use crate::addresses::check_addresses;
+use crate::areas::check_areas;
+use crate::borders::check_borders;
 use crate::limits::within_limits;
 use crate::links::{best_link, may_join};
-use crate::naming::{first_double, place_of, sort_by_name};
+use crate::naming::{check_names, place_of, sort_by_name};
+use crate::starts::first_off_start;
+use crate::stubs::check_stubs;
 use crate::subnets::{has_subnet, longest_subnet};
+use crate::sums::{check_isis_metrics, check_ospf_costs};
+use crate::systems::check_systems;
 use crate::{Config, Configs, NetRefusal, Zone};
-use net_addr::{Name, Prefix};
+use net_addr::Prefix;
 use std::alloc::Global;
 use std::marker::Model;
 
 /// A network: the configurations of its routers, which are numbered from 0 in byte order of their names.
 ///
-/// It keeps the limits, 200 routers, 2,000 up interfaces and 4,096 prefixes, and no two of its routers have one name.
+/// It keeps the limits, 200 routers, 2,000 up interfaces and 4,096 prefixes, no two of its routers have one name, and
+/// it is consistent in its addresses, areas, costs, system ids and stub areas (`IsConsistent`).
 #[derive(Debug, Drop)]
 pub struct Net {
     configs: Vec<Config>,
@@ -43,10 +52,9 @@ impl Net {
         let mut configs = configs.into_vec();
         within_limits(alloc, configs.as_slice())?;
         sort_by_name(&mut configs);
-        match first_double(configs.as_slice()) {
-            Some(place) => Err(two_names(alloc, &configs[place])),
-            None => Ok(Net { configs }),
-        }
+        check_names(alloc, configs.as_slice())?;
+        check_network(configs.as_slice())?;
+        Ok(Net { configs })
     }
 
     /// The count of routers, at most 200.
@@ -110,18 +118,29 @@ impl Net {
     {
         has_subnet(self.config(router).interfaces.as_slice(), dest)
     }
+
+    /// The lowest router that isn't where a migration starts: it has an OSPF process at OSPF distance 255, or
+    /// IS-IS at an IS-IS distance other than 255.
+    pub fn off_start(&self) -> Option<u32>
+        ensures { MatchOption result ((u : ℕ) → StartsOff self.now u → ⊥) (IsLowestOffStart self.now) }
+    {
+        first_off_start(self.configs.as_slice())
+    }
 }
 
-/// The refusal of a name that two configurations have.
-fn two_names(alloc: Global, config: &Config) -> NetRefusal
-    ensures { IsTwoNames config.now.name result }
+/// Refuses routers whose conditions on addresses, areas, costs, system ids or stub areas don't hold, by the first.
+fn check_network(configs: &[Config]) -> Result<(), NetRefusal>
+    requires { length configs.now ≤ 200 }
+    ensures ok { OnOk result (IsConsistent configs.now) }
+    ensures err { IfErr result (λ e. RefusesNetwork e configs.now) }
 {
-    match Vec::from_slice(alloc, config.name.as_slice()) {
-        Ok(bytes) => NetRefusal::TwoNames {
-            name: Name::from_vec(bytes),
-        },
-        Err(_) => NetRefusal::OutOfMemory,
-    }
+    check_addresses(configs)?;
+    check_areas(configs)?;
+    check_borders(configs)?;
+    check_ospf_costs(configs)?;
+    check_isis_metrics(configs)?;
+    check_systems(configs)?;
+    check_stubs(configs)
 }
 
 #[cfg(test)]

@@ -1,5 +1,6 @@
-use net_addr::Name;
+use net_addr::{Name, Prefix};
 use std::alloc::AllocError;
+use thiserror::Error;
 
 /// What a network may have too many of.
 #[derive(Clone, Copy, Debug, PartialEq, Eq)]
@@ -14,11 +15,14 @@ pub enum LimitWhat {
 
 /// Why configurations make no network.
 ///
-/// The reasons are looked at in this order, and the first that stands is the answer. Want of memory
-/// may be the answer in place of any other.
-#[derive(Debug, Drop)]
+/// The reasons are looked at in this order, and the first that stands is the answer. Routers are numbered in
+/// byte order of their names. Of several pairs of routers the least is carried, by the first and then by the
+/// second, with the least address, prefix or area that there is of it. Want of memory may be the answer in
+/// place of any other.
+#[derive(Debug, Drop, Error)]
 pub enum NetRefusal {
     /// There are more than a limit allows.
+    #[error("there are {number} of {what:?}, above the limit")]
     Limit {
         /// What there are too many of.
         what: LimitWhat,
@@ -26,11 +30,72 @@ pub enum NetRefusal {
         number: u64,
     },
     /// Two configurations have one name.
+    #[error("two routers have one name")]
     TwoNames {
         /// The least such name in byte order.
         name: Name,
     },
+    /// Two up interfaces have one address, and they belong to one router or one of them is no loopback.
+    #[error("routers {one} and {two} have the address {address}")]
+    AddressTwice {
+        /// The first router.
+        one: u32,
+        /// The second router, which may be the first one.
+        two: u32,
+        /// The address.
+        address: u32,
+    },
+    /// Two up interfaces of one subnet run OSPF in different areas.
+    #[error("routers {one} and {two} run a subnet in two areas")]
+    PrefixInTwoAreas {
+        /// The first router.
+        one: u32,
+        /// The second router, which may be the first one.
+        two: u32,
+        /// The subnet.
+        dest: Prefix,
+    },
+    /// A border router has no up interface in area 0 (RFC 2328, section 3.3).
+    #[error("border router {router} has no interface in area 0")]
+    BorderWithoutBackbone {
+        /// The lowest such router.
+        router: u32,
+    },
+    /// The costs of all up OSPF interfaces, the costs of ranges and the default costs of stub areas sum to
+    /// 16777215 or more, the cost that stands for unreachable (RFC 2328, appendix B).
+    #[error("the OSPF costs sum to {sum}")]
+    OspfCostSum {
+        /// Their sum, or 2^64 - 1 where it is more.
+        sum: u64,
+    },
+    /// The metrics of all up interfaces, once for each level that they run, sum to more than 4261412864, the
+    /// greatest metric of a path (RFC 5305, section 4).
+    #[error("the IS-IS metrics sum to {sum}")]
+    IsisMetricSum {
+        /// Their sum, or 2^64 - 1 where it is more.
+        sum: u64,
+    },
+    /// Two routers with IS-IS have one system id (RFC 1195).
+    #[error("routers {one} and {two} have one system id")]
+    SystemIdTwice {
+        /// The first router.
+        one: u32,
+        /// The second router.
+        two: u32,
+    },
+    /// Two routers have up interfaces in one area, and one of them alone has a stub line for it (RFC 2328,
+    /// section 3.6).
+    #[error("routers {one} and {two} differ on whether area {area} is a stub area")]
+    StubMismatch {
+        /// The first router.
+        one: u32,
+        /// The second router.
+        two: u32,
+        /// The area.
+        area: u32,
+    },
     /// Memory ran out.
+    #[error("memory ran out")]
     OutOfMemory,
 }
 

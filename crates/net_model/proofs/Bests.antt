@@ -1,0 +1,131 @@
+-- The least item that a list offers, element by element, and of things that say the same.
+use Rattle.std.proofs.Common.{◌≡◌, ℕ, ◌+◌, ◌<◌, ◌≤◌, true, false, ◌||◌, ◌&&◌, nat_lt, nat_eq, if◌then◌else◌, List, [], ◌∷◌, ◌++◌, length, get_or, take, Option, Some, None, Any, Contains, min, refl, sym, ap, ◌∙◌, subst, ◌⊎◌, inl, inr, ⊎_elim, arith}
+use Rattle.std.proofs.lemmas.Bool.{cases_lt, or_cases, or_parts, and_parts, and_cases, cond_both, ltb-true, ltb-false, eqb-true, eqb-false}
+use Rattle.std.proofs.lemmas.List.{take_more}
+use Rattle.std.proofs.lemmas.List.Elements.{Contains-append_left, Contains-push, Contains-push_cases}
+use Rattle.net_addr.specs.Addresses.{Block}
+use Rattle.net_model.specs.Least.{IsLeast, IsBest, IsBlockAtMost}
+use Rattle.net_model.specs.Links.{lower_of}
+use Rattle.net_model.specs.Scans.{first_block}
+
+-- the better of two optional items, by a choice of the better of two
+abbrev pub better_by : {A : Type 0} → (A → A → A) → Option A → Option A → Option A
+better_by pick None other = other
+better_by pick (Some a) None = Some a
+better_by pick (Some a) (Some b) = Some (pick a b)
+
+-- a choice of the lesser of two items
+pub record Picks {A : Type 0} (AtMost : A → A → Type 0) (pick : A → A → A) : Type 0 where
+  pub one_of : (a b : A) → (pick a b ≡ a) ⊎ (pick a b ≡ b)
+  pub left : (a b c : A) → AtMost a c → AtMost (pick a b) c
+  pub right : (a b c : A) → AtMost b c → AtMost (pick a b) c
+
+-- the best of what P or Q offers
+module _ {A : Type 0} (AtMost : A → A → Type 0) where
+  pub IsBest-same : (P Q : A → Type 0) (best : Option A) → ((a : A) → P a → Q a) → ((a : A) → Q a → P a) → IsBest AtMost P best → IsBest AtMost Q best
+  IsBest-same P Q None to back h = λ a q. h a (back a q)
+  IsBest-same P Q (Some b) to back h = record { holds = to b h.holds; least = λ a q. h.least a (back a q) }
+
+  pub IsBest-or : (pick : A → A → A) → Picks AtMost pick → (P Q R : A → Type 0) (a b : Option A) → ((x : A) → P x → R x) → ((x : A) → Q x → R x) → ((x : A) → R x → P x ⊎ Q x) → IsBest AtMost P a → IsBest AtMost Q b → IsBest AtMost R (better_by pick a b)
+  IsBest-or pick picks P Q R None None p q r h k = λ x c. ⊎_elim (h x) (k x) (r x c)
+  IsBest-or pick picks P Q R None (Some b) p q r h k = record {
+    holds = q b k.holds;
+    least = λ x c. ⊎_elim (λ l. absurd (h x l)) (k.least x) (r x c);
+  }
+  IsBest-or pick picks P Q R (Some a) None p q r h k = record {
+    holds = p a h.holds;
+    least = λ x c. ⊎_elim (h.least x) (λ l. absurd (k x l)) (r x c);
+  }
+  IsBest-or pick picks P Q R (Some a) (Some b) p q r h k = record {
+    holds = ⊎_elim (λ e. subst R (sym e) (p a h.holds)) (λ e. subst R (sym e) (q b k.holds)) (picks.one_of a b);
+    least = λ x c. ⊎_elim (λ l. picks.left a b x (h.least x l)) (λ l. picks.right a b x (k.least x l)) (r x c);
+  }
+
+module _ {X : Type 0} (P : X → Type 0) where
+  pub Any-none : Any P [] → ⊥
+  Any-none h = omega (arith, h.2)
+
+  pub Any-from : (xs : List X) (x : X) → Contains xs x → P x → Any P xs
+  Any-from xs x c p = (c.0, x, c.1, c.2, p)
+
+  Any-left : (xs ys : List X) → Any P xs → Any P (xs ++ ys)
+  Any-left xs ys h = Any-from (xs ++ ys) h.1 (Contains-append_left xs ys h.1 (h.0, h.2, h.3)) h.4
+
+  Any-last : (xs : List X) (x : X) → P x → Any P (xs ++ x ∷ [])
+  Any-last xs x p = Any-from (xs ++ x ∷ []) x (Contains-push xs x) p
+
+  Any-cases : (xs : List X) (x : X) → Any P (xs ++ x ∷ []) → Any P xs ⊎ P x
+  Any-cases xs x h =
+      ⊎_elim (λ c. inl (Any-from xs h.1 c h.4)) (λ e. inr (subst P (sym e) h.4))
+      (Contains-push_cases xs x h.1 (h.0, h.2, h.3))
+
+-- the best that the elements of a list offer
+module _ {X A : Type 0} (AtMost : A → A → Type 0) (pick : A → A → A) (picks : Picks AtMost pick) (Offer : A → X → Type 0) where
+  pub IsBest-none : IsBest AtMost (λ a. Any (Offer a) []) None
+  IsBest-none a h = Any-none (Offer a) h
+
+  pub IsBest-more : (xs : List X) (i : ℕ) (x : X) (a b : Option A) → i < length xs → x ≡ get_or xs i x → IsBest AtMost (λ z. Any (Offer z) (take i xs)) a → IsBest AtMost (λ z. Offer z x) b → IsBest AtMost (λ z. Any (Offer z) (take (i + 1) xs)) (better_by pick a b)
+  IsBest-more xs i x a b l e h k =
+      let P : List X → Type 0 = λ ys. IsBest AtMost (λ z. Any (Offer z) ys) (better_by pick a b) in
+      subst P (ap (λ y. take i xs ++ y ∷ []) e ∙ sym (take_more xs i x l))
+      (IsBest-or AtMost pick picks (λ z. Any (Offer z) (take i xs)) (λ z. Offer z x) (λ z. Any (Offer z) (take i xs ++ x ∷ [])) a b
+      (λ z c. Any-left (Offer z) (take i xs) (x ∷ []) c) (λ z c. Any-last (Offer z) (take i xs) x c) (λ z c. Any-cases (Offer z) (take i xs) x c) h k)
+
+-- the lower of two numbers
+pub picks_lower : Picks (λ (a b : ℕ). a ≤ b) min
+picks_lower = record {
+  one_of = λ a b. ⊎_elim (λ l. inl (omega arith)) (λ l. inr (omega arith)) (cases_lt a b);
+  left = λ a b c h. omega arith;
+  right = λ a b c h. omega arith;
+}
+
+pub lower_is : (a b : Option ℕ) → better_by min a b ≡ lower_of a b
+lower_is None b = refl
+lower_is (Some a) None = refl
+lower_is (Some a) (Some b) = refl
+
+-- the first of two prefixes
+abbrev pub pick_block : Block → Block → Block
+pick_block p q = if nat_lt q.base p.base || (nat_eq q.base p.base && nat_lt q.len p.len) then q else p
+
+pub first_is : (a b : Option Block) → better_by pick_block a b ≡ first_block a b
+first_is None b = refl
+first_is (Some a) None = refl
+first_is (Some a) (Some b) = refl
+
+block_below : (p q r : Block) → (q.base < p.base) ⊎ ((q.base ≡ p.base) × (q.len < p.len)) → IsBlockAtMost p r → IsBlockAtMost q r
+block_below p q r h k =
+    ⊎_elim
+    (λ b. ⊎_elim (λ l. inl (omega arith)) (λ l. inl (omega (arith, l.0))) k)
+    (λ b. ⊎_elim (λ l. inl (omega (arith, b.0))) (λ l. inr (b.0 ∙ l.0, omega (arith, b.1, l.1))) k)
+    h
+
+block_not_below : (p q r : Block) → p.base ≤ q.base → (q.base ≡ p.base → p.len ≤ q.len) → IsBlockAtMost q r → IsBlockAtMost p r
+block_not_below p q r h k =
+    ⊎_elim (λ l. inl (omega arith))
+    (λ l. ⊎_elim (λ s. inl (omega (arith, l.0))) (λ g. let e : q.base ≡ p.base = omega arith in inr (sym e ∙ l.0, omega (arith, k e, l.1))) (cases_lt p.base q.base))
+
+-- what the test of two prefixes says
+when_true : (p q : Block) → (nat_lt q.base p.base || (nat_eq q.base p.base && nat_lt q.len p.len)) ≡ true → (q.base < p.base) ⊎ ((q.base ≡ p.base) × (q.len < p.len))
+when_true p q e =
+    ⊎_elim (λ l. inl (ltb-true q.base p.base l))
+    (λ r. let parts = and_parts (nat_eq q.base p.base) (nat_lt q.len p.len) r in inr (eqb-true q.base p.base parts.0, ltb-true q.len p.len parts.1))
+    (or_cases (nat_lt q.base p.base) (nat_eq q.base p.base && nat_lt q.len p.len) e)
+
+when_false : (p q : Block) → (nat_lt q.base p.base || (nat_eq q.base p.base && nat_lt q.len p.len)) ≡ false → (p.base ≤ q.base) × (q.base ≡ p.base → p.len ≤ q.len)
+when_false p q e =
+    let parts = or_parts (nat_lt q.base p.base) (nat_eq q.base p.base && nat_lt q.len p.len) e in (
+      ltb-false q.base p.base parts.0,
+      λ same.
+          ⊎_elim (λ l. absurd (eqb-false q.base p.base l same)) (λ r. ltb-false q.len p.len r) (and_cases (nat_eq q.base p.base) (nat_lt q.len p.len) parts.1),
+    )
+
+pub picks_block : Picks IsBlockAtMost pick_block
+picks_block = record {
+  one_of = λ p q. by_test p q (λ b. (b ≡ p) ⊎ (b ≡ q)) (λ e. inr refl) (λ e. inl refl);
+  left = λ p q r h. by_test p q (λ b. IsBlockAtMost b r) (λ e. block_below p q r (when_true p q e) h) (λ e. h);
+  right = λ p q r h. by_test p q (λ b. IsBlockAtMost b r) (λ e. h) (λ e. let w = when_false p q e in block_not_below p q r w.0 w.1 h);
+}
+  where
+    by_test : (p q : Block) (P : Block → Type 0) → ((nat_lt q.base p.base || (nat_eq q.base p.base && nat_lt q.len p.len)) ≡ true → P q) → ((nat_lt q.base p.base || (nat_eq q.base p.base && nat_lt q.len p.len)) ≡ false → P p) → P (pick_block p q)
+    by_test p q P this that = cond_both (nat_lt q.base p.base || (nat_eq q.base p.base && nat_lt q.len p.len)) q p P this that

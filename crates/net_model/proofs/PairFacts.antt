@@ -1,0 +1,52 @@
+-- The first pair that a scan finds is the least, and where it finds none no two routers clash.
+use Rattle.std.proofs.Common.{◌≡◌, ℕ, ◌<◌, ◌≤◌, ◌⊎◌, ⊎_elim, refl, sym, subst, arith}
+use Rattle.std.proofs.lemmas.Bool.{cases_lt, cases_order}
+use Rattle.net_model.specs.Least.{ComesNoLater, IsLeastPair, NoneClash}
+use Rattle.net_model.specs.Least.ComesNoLater.{by_first, by_second, by_item}
+use Rattle.net_model.specs.Scans.{IsFirstPair, IsFirstPartner, NonePair, NonePartner}
+
+module _ {A : Type 0} (AtMost : A → A → Type 0) (Clash : ℕ → ℕ → A → Type 0) (count : ℕ) (within : (u v : ℕ) (a : A) → Clash u v a → v < count) where
+  pub IsLeastPair-first : (one two : ℕ) (item : A) → IsFirstPair AtMost Clash count one two item → IsLeastPair AtMost Clash one two item
+  IsLeastPair-first one two item f = record {
+    ordered = f.partner.ordered;
+    clash = f.partner.clash;
+    least = λ u v other up c.
+        ⊎_elim
+        (λ same. of_one u v other (sym same) up c)
+        (λ apart. ⊎_elim (λ l. absurd (f.none_before u l v other up (within u v other c) c)) by_first apart)
+        (cases_order u one);
+  }
+    where
+      of_two : (v : ℕ) (other : A) → two ≡ v → Clash one v other → ComesNoLater AtMost one two item one v other
+      of_two v other e c = by_item refl e (f.partner.least other (subst (λ w. Clash one w other) (sym e) c))
+
+      of_one : (u v : ℕ) (other : A) → one ≡ u → u ≤ v → Clash u v other → ComesNoLater AtMost one two item u v other
+      of_one u v other e up c =
+          let here = subst (λ w. Clash w v other) (sym e) c in
+          subst (λ w. ComesNoLater AtMost one two item w v other) e
+          (⊎_elim (λ same. of_two v other (sym same) here)
+          (λ apart. ⊎_elim (λ l. absurd (f.partner.none_before v other (omega arith) l here)) (by_second refl) apart)
+          (cases_order v two))
+
+  pub NoneClash-from : ((u v : ℕ) (a : A) → Clash u v a → Clash v u a) → NonePair Clash count → NoneClash Clash
+  NoneClash-from back none u v a c =
+      ⊎_elim
+      (λ l. none u (omega (arith, within v u a (back u v a c))) v a (omega arith) (within u v a c) c)
+      (λ g. none v (within u v a c) u a g (within v u a (back u v a c)) (back u v a c))
+      (cases_lt u v)
+
+ascending_same : {A : Type 0} → (AtMost : A → A → Type 0) (u v : ℕ) (a : A) (w x : ℕ) (b : A) → ((a b : A) → AtMost a b → AtMost b a → a ≡ b) → ComesNoLater AtMost u v a w x b → ComesNoLater AtMost w x b u v a → (u ≡ w) × (v ≡ x) × (a ≡ b)
+ascending_same AtMost u v a w x b anti (by_first l) (by_first m) = absurd (omega arith)
+ascending_same AtMost u v a w x b anti (by_first l) (by_second e m) = absurd (omega arith)
+ascending_same AtMost u v a w x b anti (by_first l) (by_item e f m) = absurd (omega arith)
+ascending_same AtMost u v a w x b anti (by_second e l) (by_first m) = absurd (omega arith)
+ascending_same AtMost u v a w x b anti (by_second e l) (by_second f m) = absurd (omega arith)
+ascending_same AtMost u v a w x b anti (by_second e l) (by_item f g m) = absurd (omega arith)
+ascending_same AtMost u v a w x b anti (by_item e f l) (by_first m) = absurd (omega arith)
+ascending_same AtMost u v a w x b anti (by_item e f l) (by_second g m) = absurd (omega arith)
+ascending_same AtMost u v a w x b anti (by_item e f l) (by_item g h m) = (e, f, anti a b l m)
+
+-- there is one least pair
+pub IsLeastPair-unique : {A : Type 0} → (AtMost : A → A → Type 0) (Clash : ℕ → ℕ → A → Type 0) (u v : ℕ) (a : A) (w x : ℕ) (b : A) → ((a b : A) → AtMost a b → AtMost b a → a ≡ b) → IsLeastPair AtMost Clash u v a → IsLeastPair AtMost Clash w x b → (u ≡ w) × (v ≡ x) × (a ≡ b)
+IsLeastPair-unique AtMost Clash u v a w x b anti h k =
+    ascending_same AtMost u v a w x b anti (h.least w x b k.ordered k.clash) (k.least u v a h.ordered h.clash)

@@ -1,0 +1,89 @@
+ghost use Rattle.std.specs.Prelude.{◌≤◌, ◌↔◌, ℕ, length, Any, IfErr, IsTrue, OnOk};
+ghost use Rattle.net_model.specs.Conditions.{AddressesDiffer, HaveOneAddress};
+ghost use Rattle.net_model.specs.Least.{IsBest};
+ghost use Rattle.net_model.specs.Refusals.{RefusesNetwork};
+ghost use Rattle.net_model.specs.Scans.{ClashOnAddress, OffersAddress};
+
+use crate::links::lower;
+use crate::pairs::{Clash, first_pair};
+use crate::{Config, Interface, NetRefusal};
+
+/// Refuses an address that two up interfaces have, if they belong to one router or one of them is no loopback.
+pub fn check_addresses(configs: &[Config]) -> Result<(), NetRefusal>
+    requires { length configs.now ≤ 200 }
+    ensures ok { OnOk result (AddressesDiffer configs.now) }
+    ensures err { IfErr result (λ e. RefusesNetwork e configs.now) }
+{
+    match first_pair::<OneAddress>(configs) {
+        Some(pair) => Err(NetRefusal::AddressTwice {
+            one: pair.one,
+            two: pair.two,
+            address: pair.item,
+        }),
+        None => Ok(()),
+    }
+}
+
+/// Two routers clash in an address that an interface of each has.
+struct OneAddress;
+
+impl Clash for OneAddress {
+    type Item = u32;
+
+    ghost clash = { HaveOneAddress };
+
+    ghost at_most = { λ a b. a ≤ b };
+
+    fn least(configs: &[Config], one: u32, two: u32) -> Option<u32> {
+        let near = &configs[one as usize];
+        let far = &configs[two as usize];
+        least_address(
+            one == two,
+            near.interfaces.as_slice(),
+            far.interfaces.as_slice(),
+        )
+    }
+}
+
+/// The least address over which an interface clashes with one of the others.
+fn least_address(same: bool, interfaces: &[Interface], others: &[Interface]) -> Option<u32>
+    ensures { IsBest (λ a b. a ≤ b) (λ a. Any (OffersAddress same others.now a) interfaces.now) result }
+{
+    let mut least = None;
+    for interface in interfaces {
+        least = lower(least, clashing_address(same, interface, others));
+    }
+    least
+}
+
+/// The interface's address, if it clashes over it with one of the others.
+fn clashing_address(same: bool, interface: &Interface, others: &[Interface]) -> Option<u32>
+    ensures { IsBest (λ a b. a ≤ b) (λ a. OffersAddress same others.now a interface.now) result }
+{
+    if clashes(same, interface, others) {
+        Some(interface.address)
+    } else {
+        None
+    }
+}
+
+/// Whether the interface clashes with one of the others.
+fn clashes(same: bool, interface: &Interface, others: &[Interface]) -> bool
+    ensures { IsTrue result ↔ Any (ClashOnAddress same interface.now) others.now }
+{
+    others.iter().any(|other| clash(same, interface, other))
+}
+
+/// Whether two interfaces, of one router or of two, have one address and may not.
+fn clash(same: bool, one: &Interface, two: &Interface) -> bool
+    ensures { IsTrue result ↔ ClashOnAddress same one.now two.now }
+{
+    one.up
+        && two.up
+        && one.address == two.address
+        && if same {
+            one.name.as_slice() != two.name.as_slice()
+        } else {
+            !one.loopback || !two.loopback
+        }
+}

@@ -1,0 +1,55 @@
+ghost use Rattle.std.specs.Prelude.{◌≤◌, ◌↔◌, length, Any, IfErr, IsTrue, MatchOption, OnOk};
+ghost use Rattle.net_model.specs.Conditions.{BordersMeetBackbone, LacksBackbone, PassesAreas, PassesBorders};
+ghost use Rattle.net_model.specs.Least.{IsLowest};
+ghost use Rattle.net_model.specs.Refusals.{RefusesNetwork};
+ghost use Rattle.net_model.specs.Scans.{AreInTwoAreas, LeaveBackbone};
+
+use crate::areas::{has_area, in_two_areas};
+use crate::{Config, Interface, NetRefusal};
+
+/// Refuses the lowest border router that has no up interface in area 0.
+pub fn check_borders(configs: &[Config]) -> Result<(), NetRefusal>
+    requires few { length configs.now ≤ 200 }
+    requires areas { PassesAreas configs.now }
+    ensures ok { OnOk result (PassesBorders configs.now) }
+    ensures err { IfErr result (λ e. RefusesNetwork e configs.now) }
+{
+    match first_off_backbone(configs) {
+        Some(router) => Err(NetRefusal::BorderWithoutBackbone { router }),
+        None => Ok(()),
+    }
+}
+
+/// The lowest border router that has no up interface in area 0.
+fn first_off_backbone(configs: &[Config]) -> Option<u32>
+    requires { length configs.now ≤ 200 }
+    ensures { MatchOption result (BordersMeetBackbone configs.now) (IsLowest (LacksBackbone configs.now)) }
+{
+    for (router, config) in configs.iter().enumerate() {
+        if leave_backbone(config.interfaces.as_slice()) {
+            return Some(router as u32);
+        }
+    }
+    None
+}
+
+/// Whether interfaces of a router are in two areas, and none is in area 0.
+fn leave_backbone(interfaces: &[Interface]) -> bool
+    ensures { IsTrue result ↔ LeaveBackbone interfaces.now }
+{
+    !has_area(interfaces, 0) && are_in_two_areas(interfaces)
+}
+
+/// Whether two of the interfaces are up and run OSPF in different areas.
+fn are_in_two_areas(interfaces: &[Interface]) -> bool
+    ensures { IsTrue result ↔ Any (λ i. Any (AreInTwoAreas i) interfaces.now) interfaces.now }
+{
+    interfaces.iter().any(|one| leaves_area(one, interfaces))
+}
+
+/// Whether the interface and one of the others are up and run OSPF in different areas.
+fn leaves_area(interface: &Interface, others: &[Interface]) -> bool
+    ensures { IsTrue result ↔ Any (AreInTwoAreas interface.now) others.now }
+{
+    others.iter().any(|other| in_two_areas(interface, other))
+}

@@ -1,0 +1,67 @@
+ghost use Rattle.std.specs.Prelude.{◌≡◌, ◌^◌, ◌<◌, ℕ, length, IfSome, MatchOption};
+ghost use Rattle.net_model.specs.Least.{IsBest};
+ghost use Rattle.net_model.specs.Network.{Network};
+ghost use Rattle.net_model.specs.Scans.{IsFirstPair, IsFirstPartner, NonePair, NonePartner};
+
+use crate::Config;
+
+/// What no two routers of a network may do.
+pub trait Clash {
+    /// What they clash in.
+    type Item: Copy;
+
+    /// Which two routers clash, and in what.
+    ghost clash: { Network → ℕ → ℕ → Self.Item → Type 0 };
+
+    /// The order of the items.
+    ghost at_most: { Self.Item → Self.Item → Type 0 };
+
+    /// The least item in which two routers clash.
+    fn least(configs: &[Config], one: u32, two: u32) -> Option<Self::Item>
+        requires one { one < length configs.now }
+        requires two { two < length configs.now }
+        ensures { IsBest at_most (clash configs.now one two) result };
+}
+
+/// Two routers that clash, and the item in which they do.
+#[derive(Clone, Copy, Debug)]
+pub struct Pair<T: Copy> {
+    /// The first router.
+    pub one: u32,
+    /// The second router.
+    pub two: u32,
+    /// What they clash in.
+    pub item: T,
+}
+
+/// The first pair of routers that clash, with their least item.
+pub fn first_pair<C: Clash>(configs: &[Config]) -> Option<Pair<C::Item>>
+    requires { length configs.now < 2 ^ 32 }
+    ensures { MatchOption result
+        (NonePair (C.clash configs.now) (length configs.now))
+        (λ p. IsFirstPair C.at_most (C.clash configs.now) (length configs.now) p.one p.two p.item) }
+{
+    for one in 0..configs.len() as u32 {
+        if let Some(pair) = first_partner::<C>(configs, one) {
+            return Some(pair);
+        }
+    }
+    None
+}
+
+/// The first router from `one` on that clashes with `one`, with their least item.
+fn first_partner<C: Clash>(configs: &[Config], one: u32) -> Option<Pair<C::Item>>
+    requires few { length configs.now < 2 ^ 32 }
+    requires within { one < length configs.now }
+    ensures partner { MatchOption result
+        (NonePartner (C.clash configs.now one) (length configs.now) one)
+        (λ p. IsFirstPartner C.at_most (C.clash configs.now one) (length configs.now) one p.two p.item) }
+    ensures same { IfSome result (λ p. p.one ≡ one) }
+{
+    for two in one..configs.len() as u32 {
+        if let Some(item) = C::least(configs, one, two) {
+            return Some(Pair { one, two, item });
+        }
+    }
+    None
+}

@@ -1,0 +1,25 @@
+ghost use Rattle.std.specs.Prelude.{◌≤◌, ◌<◌, ◌↔◌, ◌^◌, ℕ, length, IsTrue, MatchOption};
+ghost use Rattle.net_model.specs.OffStarts.{IsLowestOffStart, IsOffStart, StartsOff};
+
+use crate::Config;
+
+/// The lowest router that isn't where a migration starts.
+pub fn first_off_start(configs: &[Config]) -> Option<u32>
+    requires { length configs.now ≤ 200 }
+    ensures { MatchOption result ((u : ℕ) → StartsOff configs.now u → ⊥) (IsLowestOffStart configs.now) }
+{
+    for (router, config) in configs.iter().enumerate() {
+        if is_off_start(config) {
+            return Some(router as u32);
+        }
+    }
+    None
+}
+
+/// Whether a router has OSPF at distance 255, or IS-IS at another distance than 255.
+fn is_off_start(config: &Config) -> bool
+    ensures { IsTrue result ↔ IsOffStart config.now }
+{
+    config.process.is_some() && config.distances.ospf == 255
+        || config.isis && config.distances.isis != 255
+}

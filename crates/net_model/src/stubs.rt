@@ -1,0 +1,86 @@
+ghost use Rattle.std.specs.Prelude.{◌≤◌, ◌↔◌, length, Any, IfErr, IsTrue, OnOk};
+ghost use Rattle.net_model.specs.Conditions.{DifferOnStub, IsConsistent, PassesSystems};
+ghost use Rattle.net_model.specs.Least.{IsBest};
+ghost use Rattle.net_model.specs.Refusals.{RefusesNetwork};
+ghost use Rattle.net_model.specs.Scans.{ClashOnStub, HaveStub, OffersArea, OneHasStub};
+
+use crate::areas::has_area;
+use crate::links::lower;
+use crate::pairs::{Clash, first_pair};
+use crate::{Config, Interface, NetRefusal, Stub};
+
+/// Refuses an area of two routers for which one of them alone has a stub line.
+pub fn check_stubs(configs: &[Config]) -> Result<(), NetRefusal>
+    requires few { length configs.now ≤ 200 }
+    requires systems { PassesSystems configs.now }
+    ensures ok { OnOk result (IsConsistent configs.now) }
+    ensures err { IfErr result (λ e. RefusesNetwork e configs.now) }
+{
+    match first_pair::<OneStub>(configs) {
+        Some(pair) => Err(NetRefusal::StubMismatch {
+            one: pair.one,
+            two: pair.two,
+            area: pair.item,
+        }),
+        None => Ok(()),
+    }
+}
+
+/// Two routers clash in an area of both for which one alone has a stub line.
+struct OneStub;
+
+impl Clash for OneStub {
+    type Item = u32;
+
+    ghost clash = { DifferOnStub };
+
+    ghost at_most = { λ a b. a ≤ b };
+
+    fn least(configs: &[Config], one: u32, two: u32) -> Option<u32> {
+        least_area(&configs[one as usize], &configs[two as usize])
+    }
+}
+
+/// The least area of two routers for which one of them alone has a stub line.
+fn least_area(one: &Config, two: &Config) -> Option<u32>
+    ensures { IsBest (λ a b. a ≤ b) (λ a. Any (OffersArea one.now two.now a) one.now.interfaces) result }
+{
+    let mut least = None;
+    for interface in one.interfaces.as_slice() {
+        least = lower(least, clashing_area(interface, one, two));
+    }
+    least
+}
+
+/// The area that the interface runs in, if an interface of the second router does too, and one router alone has a
+/// stub line for it.
+fn clashing_area(interface: &Interface, one: &Config, two: &Config) -> Option<u32>
+    ensures { IsBest (λ a b. a ≤ b) (λ a. OffersArea one.now two.now a interface.now) result }
+{
+    match interface.area {
+        Some(area) if interface.up && clash(area, one, two) => Some(area),
+        _ => None,
+    }
+}
+
+/// Whether an interface of the second router is in the area, and one router alone has a stub line for it.
+fn clash(area: u32, one: &Config, two: &Config) -> bool
+    ensures { IsTrue result ↔ ClashOnStub area one.now two.now }
+{
+    has_area(two.interfaces.as_slice(), area)
+        && one_has_stub(area, one.stubs.as_slice(), two.stubs.as_slice())
+}
+
+/// Whether a stub line for the area is in one of the lists alone.
+fn one_has_stub(area: u32, ones: &[Stub], twos: &[Stub]) -> bool
+    ensures { IsTrue result ↔ OneHasStub area ones.now twos.now }
+{
+    has_stub(ones, area) != has_stub(twos, area)
+}
+
+/// Whether a stub line for the area is among these.
+fn has_stub(stubs: &[Stub], area: u32) -> bool
+    ensures { IsTrue result ↔ HaveStub area stubs.now }
+{
+    stubs.iter().any(|s| s.area == area)
+}

@@ -1,0 +1,43 @@
+ghost use Rattle.std.specs.Prelude.{◌≤◌, length, IfErr, OnOk};
+ghost use Rattle.net_model.specs.Conditions.{HaveOneSystem, PassesIsisMetrics, PassesSystems};
+ghost use Rattle.net_model.specs.Refusals.{RefusesNetwork};
+
+use crate::pairs::{Clash, first_pair};
+use crate::{Config, NetRefusal};
+
+/// Refuses a system id that two routers with IS-IS have.
+pub fn check_systems(configs: &[Config]) -> Result<(), NetRefusal>
+    requires few { length configs.now ≤ 200 }
+    requires metrics { PassesIsisMetrics configs.now }
+    ensures ok { OnOk result (PassesSystems configs.now) }
+    ensures err { IfErr result (λ e. RefusesNetwork e configs.now) }
+{
+    match first_pair::<OneSystem>(configs) {
+        Some(pair) => Err(NetRefusal::SystemIdTwice {
+            one: pair.one,
+            two: pair.two,
+        }),
+        None => Ok(()),
+    }
+}
+
+/// Two routers clash in a system id that both have.
+struct OneSystem;
+
+impl Clash for OneSystem {
+    type Item = u64;
+
+    ghost clash = { HaveOneSystem };
+
+    ghost at_most = { λ a b. a ≤ b };
+
+    fn least(configs: &[Config], one: u32, two: u32) -> Option<u64> {
+        let near = &configs[one as usize];
+        let far = &configs[two as usize];
+        if one != two && near.isis && far.isis && near.system == far.system {
+            Some(near.system)
+        } else {
+            None
+        }
+    }
+}
