@@ -1,27 +1,15 @@
 -- Names and numbers of routers.
 use Rattle.std.proofs.Common.{◌≡◌, ℕ, ◌<◌, List, length, refl, sym, ap, ◌∙◌, ⊎_elim, arith}
-use Rattle.std.proofs.lemmas.Bool.{cases_lt}
 use Rattle.std.proofs.lemmas.Option.{same_Some, slice_get_cases}
 use Rattle.net_model.specs.Configuration.{Configuration}
 use Rattle.net_model.specs.Lookups.{IsNamed}
 use Rattle.net_model.specs.Network.{Network}
 use Rattle.net_model.specs.Refusals.{IsNetwork}
-use Rattle.net_model.proofs.Names.{named_at, named_within, IsBelow-irrefl}
-
-not_twice : (net : Network) → IsNetwork net → (name : List ℕ) (u v : ℕ) → IsNamed net name u → IsNamed net name v → u < v → ⊥
-not_twice net network name u v n m l =
-    let below = network.ascending u v n.config l (named_within net name v m) in
-    let one = named_at net name u n.config n in
-    let two = named_at net name v n.config m in
-    IsBelow-irrefl name (rw (one, two) at below)
+use Rattle.net_model.proofs.NetworkFacts.{IsNamed-unique}
 
 -- a name is that of one router
 pub same_router : (net : Network) → IsNetwork net → (name : List ℕ) (u v : ℕ) → IsNamed net name u → IsNamed net name v → u ≡ v
-same_router net network name u v n m =
-    ⊎_elim
-    (λ l. absurd (not_twice net network name u v n m l))
-    (λ g. ⊎_elim (λ l. absurd (not_twice net network name v u m n l)) (λ h. omega arith) (cases_lt v u))
-    (cases_lt u v)
+same_router net network name u v = IsNamed-unique net name u v network.ascending
 
 -- a router has one name
 pub same_name : (net : Network) (one other : List ℕ) (u : ℕ) → IsNamed net one u → IsNamed net other u → one ≡ other

@@ -1,0 +1,75 @@
+ghost use Rattle.std.specs.Prelude.{◌≡◌, ◌<◌, ◌∷◌, ◌++◌, [], IfOk, codes, decimal, length};
+ghost use Rattle.migration_report.specs.Words.{line, name_of, spaced};
+ghost use Rattle.migration_report.specs.Texts.{NetworkBelow, network_text};
+
+use crate::Names;
+use crate::kinds::limit_name;
+use crate::line::LineBuilder;
+use net_addr::Bytes;
+use net_model::NetRefusal;
+use std::alloc::{AllocError, Global};
+
+/// The line for configurations that make no network.
+pub fn network_text(alloc: Global, refusal: &NetRefusal, names: &Names) -> Result<Bytes, AllocError>
+    requires { NetworkBelow (length names.now) refusal.now }
+    ensures { IfOk result (λ text. text ≡ network_text names.now refusal.now) }
+{
+    match refusal {
+        NetRefusal::Limit { what, number } => limit_text(alloc, limit_name(*what), *number),
+        NetRefusal::TwoNames { name } => refused(alloc, b"TwoNames")?
+            .word(name.as_slice())?
+            .finish(),
+        NetRefusal::AddressTwice { one, two, address } => {
+            let line = pair(refused(alloc, b"AddressTwice")?, names, *one, *two)?;
+            line.address(*address)?.finish()
+        }
+        NetRefusal::PrefixInTwoAreas { one, two, dest } => {
+            let line = pair(refused(alloc, b"PrefixInTwoAreas")?, names, *one, *two)?;
+            line.prefix(*dest)?.finish()
+        }
+        NetRefusal::BorderWithoutBackbone { router } => {
+            let line = refused(alloc, b"BorderWithoutBackbone")?;
+            line.word(names.name(*router))?.finish()
+        }
+        NetRefusal::OspfCostSum { sum } => refused(alloc, b"OspfCostSum")?.number(*sum)?.finish(),
+        NetRefusal::IsisMetricSum { sum } => refused(alloc, b"IsisMetricSum")?
+            .number(*sum)?
+            .finish(),
+        NetRefusal::SystemIdTwice { one, two } => {
+            pair(refused(alloc, b"SystemIdTwice")?, names, *one, *two)?.finish()
+        }
+        NetRefusal::StubMismatch { one, two, area } => {
+            let line = pair(refused(alloc, b"StubMismatch")?, names, *one, *two)?;
+            line.number(u64::from(*area))?.finish()
+        }
+        NetRefusal::OutOfMemory => unreachable!(),
+    }
+}
+
+/// The line for too many of something.
+pub fn limit_text(alloc: Global, what: &[u8], number: u64) -> Result<Bytes, AllocError>
+    ensures { IfOk result (λ text. text ≡ line (codes "limit") (what.now ∷ decimal number ∷ [])) }
+{
+    LineBuilder::start(alloc, b"limit")?
+        .word(what)?
+        .number(number)?
+        .finish()
+}
+
+/// A line that begins with the refusal of a network.
+pub fn refused(alloc: Global, name: &[u8]) -> Result<LineBuilder, AllocError>
+    ensures { IfOk result (λ text. text ≡ codes "refused" ++ spaced (codes "network" ∷ name.now ∷ [])) }
+{
+    LineBuilder::start(alloc, b"refused")?
+        .word(b"network")?
+        .word(name)
+}
+
+/// The line with the names of two routers more.
+fn pair(text: LineBuilder, names: &Names, one: u32, two: u32) -> Result<LineBuilder, AllocError>
+    requires first { one < length names.now }
+    requires second { two < length names.now }
+    ensures { IfOk result (λ longer. longer ≡ text ++ spaced (name_of names.now one ∷ name_of names.now two ∷ [])) }
+{
+    text.word(names.name(one))?.word(names.name(two))
+}

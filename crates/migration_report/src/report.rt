@@ -1,0 +1,89 @@
+ghost use Rattle.std.specs.Prelude.{◌≡◌, ◌<◌, ◌++◌, All, IfOk, length};
+ghost use Rattle.migration_report.specs.Words.{name_of, names_of, spaced};
+ghost use Rattle.migration_report.specs.Texts.{FaultBelow, ReportBelow, fault_words, report_text, ring_words};
+
+use crate::line::LineBuilder;
+use loop_finder::Fault;
+use net_addr::Bytes;
+use net_model::Net;
+use order_search::Turn;
+use std::alloc::{AllocError, Global};
+
+/// What the planner found of an order.
+#[derive(Clone, Copy, Debug)]
+pub enum Report<'a> {
+    /// All states of the order are sound.
+    Safe {
+        /// The count of its changes.
+        changes: u32,
+    },
+    /// A state of the order is unsound.
+    Unsafe {
+        /// The number of the first such state.
+        state: u32,
+        /// What is wrong in it.
+        fault: Fault,
+        /// The ring of a loop.
+        ring: &'a [Turn],
+    },
+}
+
+/// The line that tells what was found of an order. The only error is want of memory.
+pub fn report_text(alloc: Global, net: &Net, report: &Report<'_>) -> Result<Bytes, AllocError>
+    requires { ReportBelow (length net.now) report.now }
+    ensures { IfOk result (λ text. text ≡ report_text (names_of net.now) report.now) }
+{
+    match report {
+        Report::Safe { changes } => {
+            let line = LineBuilder::start(alloc, b"safe")?;
+            line.number(u64::from(*changes))?.finish()
+        }
+        Report::Unsafe { state, fault, ring } => {
+            let line = LineBuilder::start(alloc, b"unsafe")?;
+            let line = line.number(u64::from(*state))?;
+            fault_words(line, net, *fault, ring)?.finish()
+        }
+    }
+}
+
+/// The line with the words for a fault more.
+fn fault_words(
+    line: LineBuilder,
+    net: &Net,
+    fault: Fault,
+    ring: &[Turn],
+) -> Result<LineBuilder, AllocError>
+    requires fault { FaultBelow (length net.now) fault }
+    requires ring { All (λ turn. turn.router < length net.now) ring.now }
+    ensures { IfOk result (λ longer. longer ≡ line ++ spaced (fault_words (names_of net.now) fault ring.now)) }
+{
+    match fault {
+        Fault::Loop { address } => {
+            let line = line.address(address)?.word(b"loop")?;
+            ring_words(line, net, ring)
+        }
+        Fault::Missing { address, router } => {
+            let line = line.address(address)?.word(b"missing")?;
+            line.word(router_name(net, router))
+        }
+    }
+}
+
+/// The line with the names of the routers of a ring more.
+fn ring_words(mut line: LineBuilder, net: &Net, ring: &[Turn]) -> Result<LineBuilder, AllocError>
+    requires { All (λ turn. turn.router < length net.now) ring.now }
+    ensures { IfOk result (λ longer. longer ≡ line ++ spaced (ring_words (names_of net.now) ring.now)) }
+{
+    for turn in ring {
+        line = line.word(router_name(net, turn.router))?;
+    }
+    Ok(line)
+}
+
+/// The name of a router.
+fn router_name(net: &Net, router: u32) -> &[u8]
+    requires { router < length net.now }
+    ensures { result.now ≡ name_of (names_of net.now) router }
+{
+    net.config(router).name.as_slice()
+}

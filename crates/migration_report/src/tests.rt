@@ -1,0 +1,231 @@
+ghost use Rattle.std.specs.Prelude.{◌≤◌};
+ghost use Rattle.migration_report.specs.Texts.{HasNames, NetworkBelow};
+
+use super::*;
+use ios_reader::ReadKind;
+use loop_finder::Fault;
+use net_addr::{Name, Prefix};
+use net_model::{
+    Config, Configs, Distances, Interfaces, Levels, LimitWhat, Net, NetRefusal, Ranges, Stubs,
+};
+use order_search::{Tag, Turn};
+use std::alloc::{AllocError, Global};
+use std::process::Abort;
+use std::test::Fail;
+use step_scripts::OrderKind;
+
+/// A router that is named R and a digit, without interfaces.
+fn router(alloc: Global, digit: u8) -> Result<Config, AllocError>
+    requires low { 48 ≤ digit }
+    requires high { digit ≤ 57 }
+{
+    Ok(Config {
+        name: Name::from_vec(Vec::from_slice(alloc, &[b'R', digit])?),
+        interfaces: Interfaces::from_vec(Vec::new(alloc)),
+        process: Some(1),
+        isis: false,
+        tag: Name::from_vec(Vec::new(alloc)),
+        isis_area: Name::from_vec(Vec::new(alloc)),
+        system: 0,
+        levels: Levels::Both,
+        ranges: Ranges::from_vec(Vec::new(alloc)),
+        stubs: Stubs::from_vec(Vec::new(alloc)),
+        rfc1583: true,
+        distances: Distances {
+            ospf: 110,
+            isis: 255,
+        },
+    })
+}
+
+#[test]
+fn an_order_is_safe_or_unsafe(rt: HostRuntime) -> Result<(), Fail> {
+    let mut all = Vec::new(rt.alloc());
+    all.push(router(rt.alloc(), b'1')?)?;
+    all.push(router(rt.alloc(), b'2')?)?;
+    let net = Net::build(rt.alloc(), Configs::from_vec(all))?;
+    assert_eq!(rt; net.routers(), 2);
+    let ring = [
+        Turn {
+            router: 0,
+            tag: Tag::Old,
+        },
+        Turn {
+            router: 1,
+            tag: Tag::New,
+        },
+    ];
+    let looped = Report::Unsafe {
+        state: 2,
+        fault: Fault::Loop {
+            address: 0x0a00_0003,
+        },
+        ring: &ring,
+    };
+    let missing = Report::Unsafe {
+        state: 0,
+        fault: Fault::Missing {
+            address: 0x0a01_0000,
+            router: 1,
+        },
+        ring: &[],
+    };
+    let text = report_text(rt.alloc(), &net, &Report::Safe { changes: 6 })?;
+    assert_eq!(rt; text.as_slice(), b"safe 6\n".as_slice());
+    let text = report_text(rt.alloc(), &net, &looped)?;
+    assert_eq!(rt;
+        text.as_slice(),
+        b"unsafe 2 10.0.0.3 loop R1 R2\n".as_slice()
+    );
+    let text = report_text(rt.alloc(), &net, &missing)?;
+    assert_eq!(rt;
+        text.as_slice(),
+        b"unsafe 0 10.1.0.0 missing R2\n".as_slice()
+    );
+    Ok(())
+}
+
+/// The refusal is printed as this line.
+fn prints(
+    rt: &impl Abort,
+    alloc: Global,
+    refusal: Refusal<'_>,
+    expected: &[u8],
+) -> Result<(), AllocError>
+    requires { HasNames refusal }
+{
+    let text = refusal_text(alloc, &refusal)?;
+    assert_eq!(rt; text.as_slice(), expected);
+    Ok(())
+}
+
+#[test]
+fn input_is_refused(rt: HostRuntime) -> Result<(), Fail> {
+    let alloc = rt.alloc();
+    let file = "r1.cfg";
+    let name = Name::from_vec(b"R2".to_vec(alloc)?);
+    let config = Refusal::Config {
+        file,
+        line: 6,
+        kind: ReadKind::NoEnd,
+    };
+    let order = Refusal::Order {
+        file,
+        line: 4,
+        kind: OrderKind::Twice,
+    };
+    let start = Refusal::OffStart { name: &name };
+    prints(&rt, alloc, Refusal::Words, b"words refused\n")?;
+    prints(&rt, alloc, Refusal::Read { file }, b"read fault r1.cfg\n")?;
+    prints(&rt, alloc, config, b"refused r1.cfg 6 NoEnd\n")?;
+    prints(&rt, alloc, order, b"refused r1.cfg 4 Twice\n")?;
+    prints(&rt, alloc, start, b"refused network NotAtStart R2\n")?;
+    prints(
+        &rt,
+        alloc,
+        Refusal::Files { number: 201 },
+        b"limit files 201\n",
+    )?;
+    prints(
+        &rt,
+        alloc,
+        Refusal::Length { file },
+        b"limit bytes r1.cfg\n",
+    )?;
+    prints(
+        &rt,
+        alloc,
+        Refusal::Total { number: 67108865 },
+        b"limit total 67108865\n",
+    )?;
+    Ok(())
+}
+
+/// The refusal of a network of the routers R1 and R2 is printed as this line.
+fn prints_network(
+    rt: &impl Abort,
+    alloc: Global,
+    refusal: NetRefusal,
+    expected: &[u8],
+) -> Result<(), AllocError>
+    requires { NetworkBelow 2 refusal }
+{
+    let mut all = Vec::new(alloc);
+    all.push(Name::from_vec(b"R1".to_vec(alloc)?))?;
+    all.push(Name::from_vec(b"R2".to_vec(alloc)?))?;
+    let names = Names::from_vec(all);
+    let refusal = Refusal::Network {
+        refusal: &refusal,
+        names: &names,
+    };
+    prints(rt, alloc, refusal, expected)
+}
+
+#[test]
+fn clashes_are_refused(rt: HostRuntime) -> Result<(), Fail> {
+    let alloc = rt.alloc();
+    let (one, two) = (0, 1);
+    let address = 0x0aff_0001;
+    let name = Name::from_vec(b"R1".to_vec(alloc)?);
+    let dest = Prefix::around(address, 30).ok_or("no prefix")?;
+    let names = NetRefusal::TwoNames { name };
+    let addresses = NetRefusal::AddressTwice { one, two, address };
+    let areas = NetRefusal::PrefixInTwoAreas { one, two, dest };
+    let systems = NetRefusal::SystemIdTwice { one, two };
+    let stubs = NetRefusal::StubMismatch { one, two, area: 1 };
+    prints_network(&rt, alloc, names, b"refused network TwoNames R1\n")?;
+    prints_network(
+        &rt,
+        alloc,
+        addresses,
+        b"refused network AddressTwice R1 R2 10.255.0.1\n",
+    )?;
+    prints_network(
+        &rt,
+        alloc,
+        areas,
+        b"refused network PrefixInTwoAreas R1 R2 10.255.0.0/30\n",
+    )?;
+    prints_network(
+        &rt,
+        alloc,
+        systems,
+        b"refused network SystemIdTwice R1 R2\n",
+    )?;
+    prints_network(&rt, alloc, stubs, b"refused network StubMismatch R1 R2 1\n")?;
+    Ok(())
+}
+
+#[test]
+fn sums_and_limits_are_refused(rt: HostRuntime) -> Result<(), Fail> {
+    let alloc = rt.alloc();
+    let border = NetRefusal::BorderWithoutBackbone { router: 1 };
+    let costs = NetRefusal::OspfCostSum { sum: 16777215 };
+    let metrics = NetRefusal::IsisMetricSum { sum: u64::MAX };
+    prints_network(
+        &rt,
+        alloc,
+        border,
+        b"refused network BorderWithoutBackbone R2\n",
+    )?;
+    prints_network(&rt, alloc, costs, b"refused network OspfCostSum 16777215\n")?;
+    prints_network(
+        &rt,
+        alloc,
+        metrics,
+        b"refused network IsisMetricSum 18446744073709551615\n",
+    )?;
+    for (what, expected) in [
+        (LimitWhat::Routers, b"limit routers 4097\n".as_slice()),
+        (LimitWhat::Interfaces, b"limit interfaces 4097\n"),
+        (LimitWhat::Dests, b"limit prefixes 4097\n"),
+    ] {
+        prints_network(
+            &rt,
+            alloc,
+            NetRefusal::Limit { what, number: 4097 },
+            expected,
+        )?;
+    }
+    Ok(())
+}
