@@ -18,7 +18,7 @@ use Rattle.ios_reader.specs.Heads.{is_name_byte, is_router_name}
 use Rattle.ios_reader.specs.Lookups.{last_of, replaced, first_seen, good_value, value_or}
 use Rattle.ios_reader.specs.InterfaceFacts.{address_at, address_in, cost_said, area_said, metric_said, metric1_said, metric2_said, facts_of, counting}
 use Rattle.ios_reader.specs.Routers.{as_hostname, as_interface, merged, interfaces_in, process_of, ospf_lines, isis_lines, Router, router_of, range_said, is_same_range, ranges_in, stub_said, is_same_area, stub_lines_in, cost_if, default_cost_said, stub_of, stubs_in, title_said, router_metric_said, ospf_distance_said, isis_distance_said}
-use Rattle.ios_reader.specs.InterfacesAsRead.{address_given, is_loopback, is_up, interface_area, default_bandwidth, cost_of_bandwidth, cost_by_bandwidth, default_cost, cost_given, ospf_cost, runs_isis, metric_by, level_metric, subnet_field, cost_field, interface_with, interface_as_read}
+use Rattle.ios_reader.specs.InterfacesAsRead.{address_given, is_loopback, is_up, interface_area, default_bandwidth, cost_of_bandwidth, cost_by_bandwidth, default_cost, cost_given, ospf_cost, is_isis_passive, runs_isis, metric_by, level_metric, subnet_field, cost_field, interface_with, interface_as_read}
 use Rattle.ios_reader.specs.Configurations.{title_given, system_in, configuration_of}
 use Rattle.ios_reader.specs.MaskedAddress.{MaskedAddress}
 use Rattle.ios_reader.specs.declared.kind.ReadKind.{ReadKind}
@@ -257,9 +257,9 @@ pair : (least most n : ℕ) → IsFrom least most n → (least ≤ n) × (n ≤ 
 pair least most n h = (h.low, h.high)
 
 module _ (router : Router) (name : Word) (lines : List InterfaceStatement) (good : All IsGoodStatement lines) (metric : IsMetric router.metric) where
-  own_metric : (own : Option (Result ℕ ReadKind)) → IfSome own (IsGoodValue 1 16777214) → IsMetric (level_metric router name (facts_of lines) own)
+  own_metric : (own : Option (Result ℕ ReadKind)) → IfSome own (IsGoodValue 1 16777214) → IsMetric (level_metric router.metric (is_isis_passive router name) (facts_of lines) own)
   own_metric own h =
-      by_if IsMetric (runs_isis router name (facts_of lines)) (metric_by (good_value own) (good_value (facts_of lines).metric) router.metric) 10
+      by_if IsMetric (runs_isis (is_isis_passive router name) (facts_of lines)) (metric_by (good_value own) (good_value (facts_of lines).metric) router.metric) 10
       (by_metric (good_value own) (good_value (facts_of lines).metric) router.metric (value_metric own h)
       (value_metric (facts_of lines).metric (last_keeps (λ (s : InterfaceStatement). metric_said s.says) IsGoodStatement (IsGoodValue 1 16777214) (λ s g. metric_in s.says g) lines good)) metric)
       ten_metric

@@ -18,3 +18,5 @@ pub mod KeptFacts
 pub mod PartFacts
 pub mod ReadFacts
 pub mod ConfigurationFacts
+pub mod PassiveFacts
+pub mod KeyedFacts
