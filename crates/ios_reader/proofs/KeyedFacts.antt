@@ -1,15 +1,21 @@
 -- Tables whose values stand under their keys.
-use Rattle.std.proofs.Common.{sym, ◌≡◌, ℕ, zero, suc, ◌+◌, ◌<◌, Bool, true, false, List, [], ◌∷◌, ◌++◌, length, take, get_or, Option, Some, None, refl, ap, subst, ◌∙◌, cond, map, nat_eq, arith, add-one}
-use Rattle.std.specs.Prelude.{slice_get, All}
+use Rattle.std.proofs.Common.{sym, ◌≡◌, ℕ, zero, suc, ◌+◌, ◌<◌, Bool, true, false, ◌&&◌, List, [], ◌∷◌, ◌++◌, length, take, get_or, Option, Some, None, refl, ap, subst, ◌∙◌, cond, map, nat_eq, arith, add-one}
+use Rattle.std.specs.Prelude.{slice_get, unwrap_or, All}
 use Rattle.std.specs.List.{cons_option}
 use Rattle.std.proofs.lemmas.Bool.{false≢true}
+use Rattle.std.proofs.lemmas.List.{map-append}
 use Rattle.std.proofs.lemmas.Bool.Decides.{nat_tests}
 use Rattle.std.proofs.lemmas.List.Elements.{All-nil, All-cons, All-head, All-tail}
 use Rattle.std.specs.Map.{lookup}
 use Rattle.indexmap.specs.IndexMap.{insert_entry}
 use Rattle.ios_reader.specs.Lookups.{later, replaced, last_of}
-use Rattle.ios_reader.specs.Routers.{cost_if}
-use Rattle.ios_reader.specs.Tables.{values_in, AreKeyed}
+use Rattle.net_model.specs.declared.area.Range.{Range}
+use Rattle.net_model.specs.declared.area.Stub.{Stub}
+use Rattle.ios_reader.specs.declared.ospf_line.OspfStatement.{OspfStatement}
+use Rattle.ios_reader.specs.declared.ospf_line.StubLine.{StubLine}
+use Rattle.ios_reader.specs.Routers.{cost_if, default_cost_said, is_same_range, stub_of}
+use Rattle.ios_reader.specs.Tables.{values_in, AreKeyed, range_key, stub_made}
+use Rattle.ios_reader.proofs.NumberFacts.{and_left, and_right}
 use Rattle.ios_reader.proofs.ProcessLookups.{last_of_more}
 
 value_cases : {K : Type 0} {V : Type 0} (t u : Bool) (e : K × V) (v : V) (es rest : List (K × V)) (more : List V) → t ≡ u → values_in rest ≡ more →
@@ -54,7 +60,7 @@ value_more vs i = rw add-one (by_suc vs i)
 
 -- ---- numbers as keys ----
 
-same_number : (a b : ℕ) → nat_eq a b ≡ true → a ≡ b
+pub same_number : (a b : ℕ) → nat_eq a b ≡ true → a ≡ b
 same_number a b h = grind (arith, nat_tests)
 
 number_same : (a b : ℕ) → a ≡ b → nat_eq a b ≡ true
@@ -108,3 +114,32 @@ pub lookup_more : {A : Type 0} (form : ℕ → A → Option ℕ) (xs : List A) (
     (q : ℕ) → lookup (nat_eq q) new ≡ last_of (form q) (take (i + 1) xs)
 lookup_more form xs i x old new within read before step q =
     step q ∙ ap (λ (o : Option ℕ). later o (form q x)) (before q) ∙ sym (last_of_more (form q) xs i x within read)
+
+-- ---- stub areas ----
+
+-- one more stub area, read by its place
+pub stub_more : (cost : ℕ → Option ℕ) (vs : List StubLine) (i : ℕ) → map (stub_made cost) (take (i + 1) vs) ≡ map (stub_made cost) (take i vs) ++ map (stub_made cost) (cons_option (slice_get vs i) [])
+stub_more cost vs i = ap (map (stub_made cost)) (value_more vs i) ∙ map-append (stub_made cost) (take i vs) (cons_option (slice_get vs i) [])
+
+-- ---- ranges ----
+
+-- two keys of ranges are equal
+abbrev pub key_eq : ℕ × ℕ × ℕ → ℕ × ℕ × ℕ → Bool
+key_eq a b = (nat_eq a.0 b.0 && nat_eq a.1 b.1) && nat_eq a.2 b.2
+
+same_parts : (a1 b1 a2 b2 a3 b3 : ℕ) → a1 ≡ b1 → a2 ≡ b2 → a3 ≡ b3 → (let k : ℕ × ℕ × ℕ = (a1, a2, a3) in k) ≡ (b1, b2, b3)
+same_parts a1 b1 a2 b2 a3 b3 p q r = cc
+
+pub key_same : (a b : ℕ × ℕ × ℕ) → key_eq a b ≡ true → a ≡ b
+key_same a b e =
+    let front : (nat_eq a.0 b.0 && nat_eq a.1 b.1) ≡ true = and_left (nat_eq a.0 b.0 && nat_eq a.1 b.1) (nat_eq a.2 b.2) e in
+    same_parts a.0 b.0 a.1 b.1 a.2 b.2
+    (same_number a.0 b.0 (and_left (nat_eq a.0 b.0) (nat_eq a.1 b.1) front))
+    (same_number a.1 b.1 (and_right (nat_eq a.0 b.0) (nat_eq a.1 b.1) front))
+    (same_number a.2 b.2 (and_right (nat_eq a.0 b.0 && nat_eq a.1 b.1) (nat_eq a.2 b.2) e))
+
+pub keys_agree : (x y : Range) → key_eq (range_key x) (range_key y) ≡ is_same_range y x
+keys_agree x y =
+    ap (λ (b : Bool). b && nat_eq x.dest.base y.dest.base && nat_eq x.dest.len y.dest.len) (nat_eq_swap x.area y.area)
+    ∙ ap (λ (b : Bool). nat_eq y.area x.area && b && nat_eq x.dest.len y.dest.len) (nat_eq_swap x.dest.base y.dest.base)
+    ∙ ap (λ (b : Bool). nat_eq y.area x.area && nat_eq y.dest.base x.dest.base && b) (nat_eq_swap x.dest.len y.dest.len)

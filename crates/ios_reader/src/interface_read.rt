@@ -181,10 +181,7 @@ fn is_ospf_passive(router: &Router, passives: &Passives, name: &[u8]) -> bool
     requires { ArePassivesOf router.now passives.now }
     ensures { result ≡ is_ospf_passive router.now name.now }
 {
-    passives
-        .ospf
-        .get(name)
-        .unwrap_or(router.passive_default)
+    passives.ospf.get(name).unwrap_or(router.passive_default)
 }
 
 /// Whether an interface that is passive or not runs IS-IS: by its own line, or since it is passive.
@@ -336,11 +333,7 @@ fn interface_with(
 }
 
 /// An interface as read, from its sections.
-fn interface_as_read(
-    router: &Router,
-    passives: &Passives,
-    section: InterfaceSection,
-) -> Interface
+fn interface_as_read(router: &Router, passives: &Passives, section: InterfaceSection) -> Interface
     requires { ArePassivesOf router.now passives.now }
     ensures { result ≡ interface_as_read router.now section }
 {

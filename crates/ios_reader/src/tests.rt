@@ -41,35 +41,147 @@ fn each_faulty_line_has_its_kind(rt: HostRuntime) -> Result<(), Fail> {
         (b"interface E0\nend\n", 2, ReadKind::NoHostname),
         (b"hostname R1\nrouter ospf 1", 3, ReadKind::NoEnd),
         (b"", 1, ReadKind::NoEnd),
-        (b"hostname R1\nend\ninterface E0\n ip unnumbered E1\n", 5, ReadKind::NoEnd),
-        (b"hostname R1\ninterface default\nend", 2, ReadKind::Unsupported),
-        (b"hostname R1\nrouter ospf 0\nend", 2, ReadKind::SecondProcess),
-        (b"hostname R1\nrouter ospf 1\nrouter ospf 2\nend", 3, ReadKind::SecondProcess),
+        (
+            b"hostname R1\nend\ninterface E0\n ip unnumbered E1\n",
+            5,
+            ReadKind::NoEnd,
+        ),
+        (
+            b"hostname R1\ninterface default\nend",
+            2,
+            ReadKind::Unsupported,
+        ),
+        (
+            b"hostname R1\nrouter ospf 0\nend",
+            2,
+            ReadKind::SecondProcess,
+        ),
+        (
+            b"hostname R1\nrouter ospf 1\nrouter ospf 2\nend",
+            3,
+            ReadKind::SecondProcess,
+        ),
         (b"hostname R1\nrouter rip\nend", 2, ReadKind::Unsupported),
-        (b"hostname R1\nip route 0.0.0.0 0.0.0.0 10.0.0.1\nend", 2, ReadKind::Unsupported),
-        (b"hostname R1\ninterface E0\n ip address 10.0.0.256 255.0.0.0\nend", 3, ReadKind::BadAddress),
-        (b"hostname R1\ninterface E0\n ip address 10.0.0.1\nend", 3, ReadKind::BadMask),
-        (b"hostname R1\ninterface E0\n ip address dhcp\nend", 3, ReadKind::Unsupported),
-        (b"hostname R1\ninterface E0\n bandwidth 0\nend", 3, ReadKind::NoBandwidth),
-        (b"hostname R1\ninterface Tunnel0\n ip address 10.0.0.1 255.0.0.0\n ip ospf 1 area 0\nend", 2, ReadKind::NoBandwidth),
-        (b"hostname R1\ninterface Loopback0\n ip address 10.0.0.1 255.0.0.0\nend", 3, ReadKind::LoopbackMask),
-        (b"hostname R1\ninterface E0\n ip ospf cost 65536\nend", 3, ReadKind::BadCost),
-        (b"hostname R1\ninterface E0\n ip ospf x area x\nend", 3, ReadKind::BadArea),
-        (b"hostname R1\ninterface E0\n ip ospf x area 0\nend", 3, ReadKind::SecondProcess),
-        (b"hostname R1\ninterface E0\n isis circuit-type level-3\nend", 3, ReadKind::BadLevel),
-        (b"hostname R1\ninterface E0\n isis metric 0 level-3\nend", 3, ReadKind::BadLevel),
-        (b"hostname R1\ninterface E0\n isis metric 16777215 level-1\nend", 3, ReadKind::BadMetric),
-        (b"hostname R1\ninterface E0\n ip router isis\nend", 3, ReadKind::BadNet),
-        (b"hostname R1\nrouter ospf 1\n network 10.0.0.0 0.0.0.255 0\nend", 3, ReadKind::BadAddress),
-        (b"hostname R1\nrouter ospf 1\n area 0 stub\nend", 3, ReadKind::BadArea),
-        (b"hostname R1\nrouter ospf 1\n area x default-cost 16777215\nend", 3, ReadKind::BadCost),
-        (b"hostname R1\nrouter ospf 1\n area 1 range 10.0.0.0 255.0.0.0 cost 1 advertise\nend", 3, ReadKind::Unsupported),
-        (b"hostname R1\nrouter ospf 1\n distance 115\nend", 3, ReadKind::DistanceClash),
-        (b"hostname R1\nrouter ospf 1\n distance 256\nend", 3, ReadKind::BadDistance),
-        (b"hostname R1\nrouter isis\n metric-style wide\nend", 2, ReadKind::BadNet),
-        (b"hostname R1\nrouter isis\n metric-style wide\n net 49.0001.0000.0000.0001.01\nend", 4, ReadKind::BadNet),
-        (b"hostname R1\nrouter isis\n net 49.0001.0000.0000.0001.00\n distance 110\nend", 2, ReadKind::Unsupported),
-        (b"hostname R1\nrouter isis\n net 49.0001.0000.0000.0001.00\n metric-style wide\n distance 110\nend", 5, ReadKind::BadDistance),
+        (
+            b"hostname R1\nip route 0.0.0.0 0.0.0.0 10.0.0.1\nend",
+            2,
+            ReadKind::Unsupported,
+        ),
+        (
+            b"hostname R1\ninterface E0\n ip address 10.0.0.256 255.0.0.0\nend",
+            3,
+            ReadKind::BadAddress,
+        ),
+        (
+            b"hostname R1\ninterface E0\n ip address 10.0.0.1\nend",
+            3,
+            ReadKind::BadMask,
+        ),
+        (
+            b"hostname R1\ninterface E0\n ip address dhcp\nend",
+            3,
+            ReadKind::Unsupported,
+        ),
+        (
+            b"hostname R1\ninterface E0\n bandwidth 0\nend",
+            3,
+            ReadKind::NoBandwidth,
+        ),
+        (
+            b"hostname R1\ninterface Tunnel0\n ip address 10.0.0.1 255.0.0.0\n ip ospf 1 area 0\nend",
+            2,
+            ReadKind::NoBandwidth,
+        ),
+        (
+            b"hostname R1\ninterface Loopback0\n ip address 10.0.0.1 255.0.0.0\nend",
+            3,
+            ReadKind::LoopbackMask,
+        ),
+        (
+            b"hostname R1\ninterface E0\n ip ospf cost 65536\nend",
+            3,
+            ReadKind::BadCost,
+        ),
+        (
+            b"hostname R1\ninterface E0\n ip ospf x area x\nend",
+            3,
+            ReadKind::BadArea,
+        ),
+        (
+            b"hostname R1\ninterface E0\n ip ospf x area 0\nend",
+            3,
+            ReadKind::SecondProcess,
+        ),
+        (
+            b"hostname R1\ninterface E0\n isis circuit-type level-3\nend",
+            3,
+            ReadKind::BadLevel,
+        ),
+        (
+            b"hostname R1\ninterface E0\n isis metric 0 level-3\nend",
+            3,
+            ReadKind::BadLevel,
+        ),
+        (
+            b"hostname R1\ninterface E0\n isis metric 16777215 level-1\nend",
+            3,
+            ReadKind::BadMetric,
+        ),
+        (
+            b"hostname R1\ninterface E0\n ip router isis\nend",
+            3,
+            ReadKind::BadNet,
+        ),
+        (
+            b"hostname R1\nrouter ospf 1\n network 10.0.0.0 0.0.0.255 0\nend",
+            3,
+            ReadKind::BadAddress,
+        ),
+        (
+            b"hostname R1\nrouter ospf 1\n area 0 stub\nend",
+            3,
+            ReadKind::BadArea,
+        ),
+        (
+            b"hostname R1\nrouter ospf 1\n area x default-cost 16777215\nend",
+            3,
+            ReadKind::BadCost,
+        ),
+        (
+            b"hostname R1\nrouter ospf 1\n area 1 range 10.0.0.0 255.0.0.0 cost 1 advertise\nend",
+            3,
+            ReadKind::Unsupported,
+        ),
+        (
+            b"hostname R1\nrouter ospf 1\n distance 115\nend",
+            3,
+            ReadKind::DistanceClash,
+        ),
+        (
+            b"hostname R1\nrouter ospf 1\n distance 256\nend",
+            3,
+            ReadKind::BadDistance,
+        ),
+        (
+            b"hostname R1\nrouter isis\n metric-style wide\nend",
+            2,
+            ReadKind::BadNet,
+        ),
+        (
+            b"hostname R1\nrouter isis\n metric-style wide\n net 49.0001.0000.0000.0001.01\nend",
+            4,
+            ReadKind::BadNet,
+        ),
+        (
+            b"hostname R1\nrouter isis\n net 49.0001.0000.0000.0001.00\n distance 110\nend",
+            2,
+            ReadKind::Unsupported,
+        ),
+        (
+            b"hostname R1\nrouter isis\n net 49.0001.0000.0000.0001.00\n metric-style wide\n distance 110\nend",
+            5,
+            ReadKind::BadDistance,
+        ),
     ];
     for (text, line, kind) in rows.iter() {
         assert_eq!(rt; fault(&rt, rt.alloc(), text)?, (*line, *kind), "{text:?}");
@@ -107,13 +219,25 @@ fn a_router_of_both_protocols_is_read(rt: HostRuntime) -> Result<(), Fail> {
     assert_eq!(rt; configs.as_slice().len(), 1);
     let config = configs.as_slice().first().ok_or("no configuration")?;
     assert_eq!(rt; config.name.as_slice(), b"R1".as_slice());
-    assert_eq!(rt; (config.process, config.isis, config.system, config.levels, config.rfc1583), (Some(1), true, 1, Levels::Two, true));
+    assert_eq!(rt;
+        (
+            config.process,
+            config.isis,
+            config.system,
+            config.levels,
+            config.rfc1583
+        ),
+        (Some(1), true, 1, Levels::Two, true)
+    );
     assert_eq!(rt; config.isis_area.as_slice(), b"49.0001".as_slice());
     assert_eq!(rt; (config.distances.ospf, config.distances.isis), (110, 255));
     let rows: [(u32, u32); 3] = [(167772161, 1), (167775233, 1), (167775489, 10)];
     for (i, row) in config.interfaces.as_slice().iter().zip(rows.iter()) {
         assert_eq!(rt; (i.address, i.cost), *row);
-        assert_eq!(rt; (i.area, isis_row(i)), (Some(0), (false, true, 10, 10, false)));
+        assert_eq!(rt;
+            (i.area, isis_row(i)),
+            (Some(0), (false, true, 10, 10, false))
+        );
     }
     Ok(())
 }
@@ -130,7 +254,10 @@ end
 fn a_router_without_isis_is_read(rt: HostRuntime) -> Result<(), Fail> {
     let configs = read(&rt, rt.alloc(), SMALL)?;
     let config = configs.as_slice().first().ok_or("no configuration")?;
-    assert_eq!(rt; (config.process, config.isis, config.distances.isis), (Some(1), false, 115));
+    assert_eq!(rt;
+        (config.process, config.isis, config.distances.isis),
+        (Some(1), false, 115)
+    );
     let loopback = config.interfaces.as_slice().first().ok_or("no interface")?;
     assert_eq!(rt; loopback.name.as_slice(), b"Loopback0".as_slice());
     assert_eq!(rt; ospf_row(loopback), (Some(0), 1, false, true));
@@ -197,7 +324,10 @@ fn a_printed_configuration_is_read(rt: HostRuntime) -> Result<(), Fail> {
     assert_eq!(rt; configs.as_slice().len(), 1);
     let config = configs.as_slice().first().ok_or("no configuration")?;
     assert_eq!(rt; config.name.as_slice(), b"edge-1".as_slice());
-    assert_eq!(rt; (config.process, config.isis, config.distances.ospf), (Some(1), false, 110));
+    assert_eq!(rt;
+        (config.process, config.isis, config.distances.ospf),
+        (Some(1), false, 110)
+    );
     let rows: [(Option<u32>, u32, bool, bool); 5] = [
         (Some(0), 1, true, true),
         (Some(0), 10, false, true),
@@ -308,15 +438,27 @@ fn each_form_of_an_interface_line_is_read(rt: HostRuntime) -> Result<(), Fail> {
 #[test]
 fn each_form_of_a_process_line_is_read(rt: HostRuntime) -> Result<(), Fail> {
     let config = first_of_two(&rt, read(&rt, rt.alloc(), EACH_FORM)?)?;
-    assert_eq!(rt; (config.process, config.rfc1583, config.isis, config.system), (Some(7), false, true, 20015998343868));
-    assert_eq!(rt; (config.distances.ospf, config.distances.isis, config.levels), (120, 115, Levels::Both));
+    assert_eq!(rt;
+        (config.process, config.rfc1583, config.isis, config.system),
+        (Some(7), false, true, 20015998343868)
+    );
+    assert_eq!(rt;
+        (config.distances.ospf, config.distances.isis, config.levels),
+        (120, 115, Levels::Both)
+    );
     assert_eq!(rt; config.tag.as_slice(), b"A".as_slice());
-    let ranges: [(u32, u8, bool, Option<u32>); 2] = [(168034304, 16, true, Some(8)), (168099840, 16, true, None)];
+    let ranges: [(u32, u8, bool, Option<u32>); 2] = [
+        (168034304, 16, true, Some(8)),
+        (168099840, 16, true, None),
+    ];
     assert_eq!(rt; config.ranges.as_slice().len(), 2);
     for (r, row) in config.ranges.as_slice().iter().zip(ranges.iter()) {
         assert_eq!(rt; (r.dest.base(), r.dest.len(), r.advertise, r.cost), *row);
     }
     let stub = config.stubs.as_slice().first().ok_or("no stub area")?;
-    assert_eq!(rt; (stub.area, stub.no_summary, stub.default_cost), (1, true, 9));
+    assert_eq!(rt;
+        (stub.area, stub.no_summary, stub.default_cost),
+        (1, true, 9)
+    );
     Ok(())
 }
