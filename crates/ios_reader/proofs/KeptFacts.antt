@@ -18,7 +18,7 @@ use Rattle.ios_reader.specs.Heads.{is_name_byte, is_router_name}
 use Rattle.ios_reader.specs.Lookups.{last_of, replaced, first_seen, good_value, value_or}
 use Rattle.ios_reader.specs.InterfaceFacts.{address_at, address_in, cost_said, area_said, metric_said, metric1_said, metric2_said, facts_of, counting}
 use Rattle.ios_reader.specs.Routers.{as_hostname, as_interface, merged, interfaces_in, process_of, ospf_lines, isis_lines, Router, router_of, range_said, is_same_range, ranges_in, stub_said, is_same_area, stub_lines_in, cost_if, default_cost_said, stub_of, stubs_in, title_said, router_metric_said, ospf_distance_said, isis_distance_said}
-use Rattle.ios_reader.specs.InterfacesAsRead.{address_given, is_loopback, is_up, interface_area, default_bandwidth, cost_of_bandwidth, cost_by_bandwidth, default_cost, cost_given, ospf_cost, runs_isis, metric_by, level_metric, subnet_field, cost_field, interface_with, interface_as_read}
+use Rattle.ios_reader.specs.InterfacesAsRead.{address_given, is_loopback, is_up, interface_area, default_bandwidth, cost_of_bandwidth, cost_by_bandwidth, default_cost, cost_given, ospf_cost, is_isis_passive, runs_isis, metric_by, level_metric, subnet_field, cost_field, interface_with, interface_as_read}
 use Rattle.ios_reader.specs.Configurations.{title_given, system_in, configuration_of}
 use Rattle.ios_reader.specs.MaskedAddress.{MaskedAddress}
 use Rattle.ios_reader.specs.declared.kind.ReadKind.{ReadKind}
@@ -62,15 +62,19 @@ name_byte b h = four (or_cases (is_letter b || is_ascii_digit b || nat_eq b 45 |
   where
     one : (is_letter b ≡ true) → IsNameByte b
     one e = elim (or_cases (nat_le 65 b && nat_le b 90) (nat_le 97 b && nat_le b 122) e) as (λ _. IsNameByte b) [ inl f ↦ inr (inl (is_from_tests 65 90 b f)) | inr f ↦ inr (inr (inl (is_from_tests 97 122 b f))) ]
+
     two : (is_letter b ≡ true) ⊎ (is_ascii_digit b ≡ true) → IsNameByte b
     two (inl e) = one e
     two (inr e) = inl (digit_from b e)
+
     three : ((is_letter b || is_ascii_digit b) ≡ true) ⊎ (nat_eq b 45 ≡ true) → IsNameByte b
     three (inl e) = two (or_cases (is_letter b) (is_ascii_digit b) e)
     three (inr e) = inr (inr (inr (inl (same_number b 45 e))))
+
     more : ((is_letter b || is_ascii_digit b || nat_eq b 45) ≡ true) ⊎ (nat_eq b 95 ≡ true) → IsNameByte b
     more (inl e) = three (or_cases (is_letter b || is_ascii_digit b) (nat_eq b 45) e)
     more (inr e) = inr (inr (inr (inr (inl (same_number b 95 e)))))
+
     four : ((is_letter b || is_ascii_digit b || nat_eq b 45 || nat_eq b 95) ≡ true) ⊎ (nat_eq b 46 ≡ true) → IsNameByte b
     four (inl e) = more (or_cases (is_letter b || is_ascii_digit b || nat_eq b 45) (nat_eq b 95) e)
     four (inr e) = inr (inr (inr (inr (inr (same_number b 46 e)))))
@@ -257,9 +261,9 @@ pair : (least most n : ℕ) → IsFrom least most n → (least ≤ n) × (n ≤ 
 pair least most n h = (h.low, h.high)
 
 module _ (router : Router) (name : Word) (lines : List InterfaceStatement) (good : All IsGoodStatement lines) (metric : IsMetric router.metric) where
-  own_metric : (own : Option (Result ℕ ReadKind)) → IfSome own (IsGoodValue 1 16777214) → IsMetric (level_metric router name (facts_of lines) own)
+  own_metric : (own : Option (Result ℕ ReadKind)) → IfSome own (IsGoodValue 1 16777214) → IsMetric (level_metric router.metric (is_isis_passive router name) (facts_of lines) own)
   own_metric own h =
-      by_if IsMetric (runs_isis router name (facts_of lines)) (metric_by (good_value own) (good_value (facts_of lines).metric) router.metric) 10
+      by_if IsMetric (runs_isis (is_isis_passive router name) (facts_of lines)) (metric_by (good_value own) (good_value (facts_of lines).metric) router.metric) 10
       (by_metric (good_value own) (good_value (facts_of lines).metric) router.metric (value_metric own h)
       (value_metric (facts_of lines).metric (last_keeps (λ (s : InterfaceStatement). metric_said s.says) IsGoodStatement (IsGoodValue 1 16777214) (λ s g. metric_in s.says g) lines good)) metric)
       ten_metric
@@ -466,11 +470,11 @@ configuration_kept sections good named =
     let ospf : All IsGoodOspf (ospf_lines sections) = ospf_good sections good in
     let isis : All IsGoodIsis (isis_lines sections) = isis_good sections good in
     let metric : IsMetric (router_of sections).metric = value_kept IsMetric (last_of (λ (s : IsisStatement). router_metric_said s.says) (isis_lines sections)) 10 ten_metric
-        (last_keeps (λ (s : IsisStatement). router_metric_said s.says) IsGoodIsis (IsGoodValue 1 16777214) (λ s g. router_metric_in s.says g) (isis_lines sections) isis) in
+    (last_keeps (λ (s : IsisStatement). router_metric_said s.says) IsGoodIsis (IsGoodValue 1 16777214) (λ s g. router_metric_in s.says g) (isis_lines sections) isis) in
     let distance : IsOspfDistance (value_or (last_of (λ (s : OspfStatement). ospf_distance_said s.says) (ospf_lines sections)) 110) =
-        value_kept IsOspfDistance (last_of (λ (s : OspfStatement). ospf_distance_said s.says) (ospf_lines sections)) 110
-        (record { some = omega arith; most = omega arith; apart = λ e. omega arith })
-        (last_keeps (λ (s : OspfStatement). ospf_distance_said s.says) IsGoodOspf (λ (r : Result ℕ ReadKind). IfOk r IsOspfDistance) (λ s g. distance_in s.says g) (ospf_lines sections) ospf) in
+    value_kept IsOspfDistance (last_of (λ (s : OspfStatement). ospf_distance_said s.says) (ospf_lines sections)) 110
+    (record { some = omega arith; most = omega arith; apart = λ e. omega arith })
+    (last_keeps (λ (s : OspfStatement). ospf_distance_said s.says) IsGoodOspf (λ (r : Result ℕ ReadKind). IfOk r IsOspfDistance) (λ s g. distance_in s.says g) (ospf_lines sections) ospf) in
     record {
       name = router_name (unwrap_or (last_of as_hostname sections) [])
           (there (λ (name : Word). is_router_name name ≡ true) (last_of as_hostname sections) [] named (last_keeps as_hostname IsGoodSection (λ (name : Word). is_router_name name ≡ true) as_hostname_good sections good));

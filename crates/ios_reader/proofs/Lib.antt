@@ -2,13 +2,11 @@ pub mod NumberFacts
 pub mod AddressFacts
 pub mod MaskWordFacts
 pub mod PlaceFacts
-pub mod LineFacts
 pub mod FactsFacts
 pub mod GatheringFacts
 pub mod TableFacts
 pub mod ProcessLookups
 pub mod FaultFacts
-pub mod AreaFacts
 pub mod TitleFacts
 pub mod LeastFaults
 pub mod Picked
@@ -18,3 +16,5 @@ pub mod KeptFacts
 pub mod PartFacts
 pub mod ReadFacts
 pub mod ConfigurationFacts
+pub mod PassiveFacts
+pub mod KeyedFacts

@@ -19,10 +19,6 @@ use Rattle.ios_reader.proofs.GatheringFacts.{least_fault-append}
 abbrev ended : List TextLine → TextLine → List Part
 ended before x = cond (is_end x) (part_at before x.number ∷ []) []
 
-rest_cases : (t : Bool) (y : List TextLine) (a b : List TextLine) (r : List TextLine) → (t ≡ true → a ≡ r) → (t ≡ false → b ≡ r) → cond t a b ≡ r
-rest_cases true y a b r p q = p refl
-rest_cases false y a b r p q = q refl
-
 rest-choice : (t : Bool) (a b : List TextLine) (x : TextLine) → cond t (cond (is_end x) [] (a ++ x ∷ [])) (cond (is_end x) [] (b ++ x ∷ [])) ≡ cond (is_end x) [] (cond t a b ++ x ∷ [])
 rest-choice true a b x = refl
 rest-choice false a b x = refl
@@ -122,10 +118,6 @@ reading-push parts part r s read before h f g = record {
       ∙ sym (least-push parts part);
   configs = configs_more parts part r s read before h f g;
 }
-
--- nothing is read yet
-pub reading_none : (r : Reading) → r.fault ≡ None → r.configs ≡ [] → IsReadingOf [] r
-reading_none r f g = record { fault = f; configs = λ _. g }
 
 -- ---- whether a configuration is open ----
 

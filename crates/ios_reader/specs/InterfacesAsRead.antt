@@ -109,15 +109,13 @@ abbrev pub is_ospf_passive : Router → Word → Bool
 is_ospf_passive router name =
     unwrap_or (last_of (λ (s : OspfStatement). ospf_passive_said name s.says) router.ospf) router.passive_default
 
--- whether the interface runs IS-IS: by its own line, or since it is passive
-abbrev pub runs_isis : Router → Word → InterfaceFacts → Bool
-runs_isis router name facts = is_isis_passive router name || is_some facts.isis
+-- whether an interface that is passive or not runs IS-IS: by its own line, or since it is passive
+abbrev pub runs_isis : Bool → InterfaceFacts → Bool
+runs_isis passive facts = passive || is_some facts.isis
 
--- whether the interface runs a level: one of its router's that its circuit type has too, unless it is passive
-abbrev pub runs_level : (Levels → Bool) → Router → Word → InterfaceFacts → Bool
-runs_level has router name facts =
-    runs_isis router name facts && has router.levels
-    && (is_isis_passive router name || has (value_or facts.circuit Both))
+-- whether it runs a level: one of its router's that its circuit type has too, unless it is passive
+abbrev pub runs_level : (Levels → Bool) → Levels → Bool → InterfaceFacts → Bool
+runs_level has levels passive facts = runs_isis passive facts && has levels && (passive || has (value_or facts.circuit Both))
 
 -- the metric of a level: by a line with the level, else by one without, else the router's
 abbrev pub metric_by : Option ℕ → Option ℕ → ℕ → ℕ
@@ -125,9 +123,9 @@ metric_by (Some metric) both router = metric
 metric_by None both router = unwrap_or both router
 
 -- an interface that runs no IS-IS has the metric 10
-abbrev pub level_metric : Router → Word → InterfaceFacts → Option (Result ℕ ReadKind) → ℕ
-level_metric router name facts own =
-    if runs_isis router name facts then metric_by (good_value own) (good_value facts.metric) router.metric else 10
+abbrev pub level_metric : ℕ → Bool → InterfaceFacts → Option (Result ℕ ReadKind) → ℕ
+level_metric router passive facts own =
+    if runs_isis passive facts then metric_by (good_value own) (good_value facts.metric) router else 10
 
 -- the address field: 0 where there is none
 abbrev pub address_field : Option InterfaceAddress → ℕ
@@ -155,10 +153,10 @@ interface_with router name facts = record {
   area = interface_area router facts;
   cost = cost_field (interface_area router facts) (ospf_cost router name facts);
   ospf_passive = is_ospf_passive router name;
-  level1 = runs_level has_one router name facts;
-  level2 = runs_level has_two router name facts;
-  metric1 = level_metric router name facts facts.metric1;
-  metric2 = level_metric router name facts facts.metric2;
+  level1 = runs_level has_one router.levels (is_isis_passive router name) facts;
+  level2 = runs_level has_two router.levels (is_isis_passive router name) facts;
+  metric1 = level_metric router.metric (is_isis_passive router name) facts facts.metric1;
+  metric2 = level_metric router.metric (is_isis_passive router name) facts facts.metric2;
   isis_passive = is_isis_passive router name;
 }
 

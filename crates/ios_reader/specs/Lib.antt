@@ -17,3 +17,5 @@ pub mod ProcessFacts
 pub mod Statements
 pub mod Parts
 pub mod Texts
+pub mod Passives
+pub mod Tables

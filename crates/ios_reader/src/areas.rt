@@ -1,44 +1,35 @@
-ghost use Rattle.std.specs.Prelude.{◌≡◌, [], position, fold, OnOk, IfOk};
+ghost use Rattle.std.specs.Prelude.{◌≡◌, ℕ, [], ◌++◌, nat_eq, map, fold, slice_get, OnOk, IfOk};
 ghost use Rattle.std.specs.List.{cons_option};
+ghost use Rattle.indexmap.specs.IndexMap.{get};
 ghost use Rattle.ios_reader.specs.Lookups.{later, last_of, replaced};
-ghost use Rattle.ios_reader.specs.Routers.{is_same_range, is_same_area, range_said, ranges_in, stub_said, stub_lines_in, default_cost_said, stub_of, stubs_in};
+ghost use Rattle.ios_reader.specs.Routers.{is_same_range, is_same_area, range_said, ranges_in, stub_said, stub_lines_in, default_cost_said, stubs_in};
+ghost use Rattle.ios_reader.specs.Tables.{values_in, AreKeyed, range_key, stub_key, stub_made};
 
 use crate::OutOfMemory;
 use crate::ospf_line::{OspfLine, OspfStatement, StubLine};
+use indexmap::IndexMap;
 use net_model::{Range, Stub};
 use std::alloc::Global;
 
-/// Whether two ranges are of one area and one prefix.
-fn is_same_range(one: &Range, other: &Range) -> bool
-    ensures { result ≡ is_same_range one.now other.now }
-{
-    one.area == other.area
-        && one.dest.base() == other.dest.base()
-        && one.dest.len() == other.dest.len()
-}
+/// The area, the base and the length of the prefix of a range.
+type RangeKey = (u32, u32, u8);
 
-/// The place of the first range of the same area and prefix.
-fn place_of_range(ranges: &[Range], range: &Range) -> Option<usize>
-    ensures { result ≡ position (λ r. is_same_range r range.now) ranges.now }
+/// The area and the prefix of a range.
+fn range_key(range: &Range) -> RangeKey
+    ensures { result ≡ range_key range.now }
 {
-    ranges.iter().position(|other| is_same_range(other, range))
+    (range.area, range.dest.base(), range.dest.len())
 }
 
 /// Takes in a range: it replaces the earlier one for the same area and prefix.
-#[tactic(auto, using(crate::proofs::AreaFacts::at_place, crate::proofs::AreaFacts::at_end))]
-fn with_range(ranges: &mut Vec<Range>, range: Range) -> Result<(), OutOfMemory>
-    ensures { OnOk result (ranges.new.items ≡ replaced is_same_range ranges.old.items range) }
+fn with_range(ranges: &mut IndexMap<RangeKey, Range>, range: Range) -> Result<(), OutOfMemory>
+    requires { AreKeyed range_key ranges.old.entries }
+    ensures keyed { OnOk result (AreKeyed range_key ranges.new.entries) }
+    ensures ranges { OnOk result (values_in ranges.new.entries ≡ replaced is_same_range (values_in ranges.old.entries) range) }
 {
-    match place_of_range(ranges.as_slice(), &range) {
-        Some(place) => {
-            ranges[place] = range;
-            Ok(())
-        }
-        None => {
-            ranges.push(range)?;
-            Ok(())
-        }
-    }
+    let key = range_key(&range);
+    ranges.insert(key, range)?;
+    Ok(())
 }
 
 /// The range that a line gives.
@@ -52,8 +43,13 @@ fn range_said(line: &OspfLine) -> Option<Range>
 }
 
 /// Takes in the range of a line, where it gives one.
-fn add_range(ranges: &mut Vec<Range>, range: Option<Range>) -> Result<(), OutOfMemory>
-    ensures { OnOk result (ranges.new.items ≡ fold (replaced is_same_range) ranges.old.items (cons_option range [])) }
+fn add_range(
+    ranges: &mut IndexMap<RangeKey, Range>,
+    range: Option<Range>,
+) -> Result<(), OutOfMemory>
+    requires { AreKeyed range_key ranges.old.entries }
+    ensures keyed { OnOk result (AreKeyed range_key ranges.new.entries) }
+    ensures ranges { OnOk result (values_in ranges.new.entries ≡ fold (replaced is_same_range) (values_in ranges.old.entries) (cons_option range [])) }
 {
     match range {
         Some(range) => with_range(ranges, range),
@@ -61,46 +57,67 @@ fn add_range(ranges: &mut Vec<Range>, range: Option<Range>) -> Result<(), OutOfM
     }
 }
 
-/// The ranges of an OSPF process.
-pub fn ranges_in(alloc: Global, lines: &[OspfStatement]) -> Result<Vec<Range>, OutOfMemory>
-    ensures { IfOk result (λ ranges. ranges.items ≡ ranges_in lines.now) }
+/// The ranges of an OSPF process, each under its area and prefix.
+fn range_table(
+    alloc: Global,
+    lines: &[OspfStatement],
+) -> Result<IndexMap<RangeKey, Range>, OutOfMemory>
+    ensures { IfOk result (λ ranges. values_in ranges.entries ≡ ranges_in lines.now) }
 {
-    let mut ranges = Vec::new(alloc);
+    let mut ranges = IndexMap::new(alloc);
     for statement in lines {
         add_range(&mut ranges, range_said(&statement.says))?;
     }
     Ok(ranges)
 }
 
-/// Whether two stub lines are of one area.
-fn is_same_area(one: &StubLine, other: &StubLine) -> bool
-    ensures { result ≡ is_same_area one.now other.now }
+/// The range at a place of a table.
+fn range_at(ranges: &IndexMap<RangeKey, Range>, place: usize) -> Option<Range>
+    ensures { result ≡ slice_get (values_in ranges.now.entries) place }
 {
-    one.area == other.area
+    match ranges.get_index(place) {
+        Some((_, range)) => Some(*range),
+        None => None,
+    }
 }
 
-/// The place of the first stub line of the same area.
-fn place_of_stub(stubs: &[StubLine], stub: &StubLine) -> Option<usize>
-    ensures { result ≡ position (λ s. is_same_area s stub.now) stubs.now }
+/// Takes in a range, where there is one.
+fn push_range(ranges: &mut Vec<Range>, range: Option<Range>) -> Result<(), OutOfMemory>
+    ensures { OnOk result (ranges.new.items ≡ ranges.old.items ++ cons_option range []) }
 {
-    stubs.iter().position(|other| is_same_area(other, stub))
+    if let Some(range) = range {
+        ranges.push(range)?;
+    }
+    Ok(())
+}
+
+/// The ranges of a table, in order.
+fn ranges_of(alloc: Global, table: &IndexMap<RangeKey, Range>) -> Result<Vec<Range>, OutOfMemory>
+    ensures { IfOk result (λ ranges. ranges.items ≡ values_in table.now.entries) }
+{
+    let mut ranges = Vec::new(alloc);
+    for place in 0..table.len() {
+        push_range(&mut ranges, range_at(table, place))?;
+    }
+    Ok(ranges)
+}
+
+/// The ranges of an OSPF process.
+pub fn ranges_in(alloc: Global, lines: &[OspfStatement]) -> Result<Vec<Range>, OutOfMemory>
+    ensures { IfOk result (λ ranges. ranges.items ≡ ranges_in lines.now) }
+{
+    let table = range_table(alloc, lines)?;
+    ranges_of(alloc, &table)
 }
 
 /// Takes in a stub line: it replaces the earlier one for the same area.
-#[tactic(auto, using(crate::proofs::AreaFacts::at_place, crate::proofs::AreaFacts::at_end))]
-fn with_stub(stubs: &mut Vec<StubLine>, stub: StubLine) -> Result<(), OutOfMemory>
-    ensures { OnOk result (stubs.new.items ≡ replaced is_same_area stubs.old.items stub) }
+fn with_stub(stubs: &mut IndexMap<u32, StubLine>, stub: StubLine) -> Result<(), OutOfMemory>
+    requires { AreKeyed stub_key stubs.old.entries }
+    ensures keyed { OnOk result (AreKeyed stub_key stubs.new.entries) }
+    ensures stubs { OnOk result (values_in stubs.new.entries ≡ replaced is_same_area (values_in stubs.old.entries) stub) }
 {
-    match place_of_stub(stubs.as_slice(), &stub) {
-        Some(place) => {
-            stubs[place] = stub;
-            Ok(())
-        }
-        None => {
-            stubs.push(stub)?;
-            Ok(())
-        }
-    }
+    stubs.insert(stub.area, stub)?;
+    Ok(())
 }
 
 /// The stub area that a line gives.
@@ -114,8 +131,10 @@ fn stub_said(line: &OspfLine) -> Option<StubLine>
 }
 
 /// Takes in the stub area of a line, where it gives one.
-fn add_stub(stubs: &mut Vec<StubLine>, stub: Option<StubLine>) -> Result<(), OutOfMemory>
-    ensures { OnOk result (stubs.new.items ≡ fold (replaced is_same_area) stubs.old.items (cons_option stub [])) }
+fn add_stub(stubs: &mut IndexMap<u32, StubLine>, stub: Option<StubLine>) -> Result<(), OutOfMemory>
+    requires { AreKeyed stub_key stubs.old.entries }
+    ensures keyed { OnOk result (AreKeyed stub_key stubs.new.entries) }
+    ensures stubs { OnOk result (values_in stubs.new.entries ≡ fold (replaced is_same_area) (values_in stubs.old.entries) (cons_option stub [])) }
 {
     match stub {
         Some(stub) => with_stub(stubs, stub),
@@ -123,73 +142,109 @@ fn add_stub(stubs: &mut Vec<StubLine>, stub: Option<StubLine>) -> Result<(), Out
     }
 }
 
-/// The stub areas of an OSPF process, each by its last line.
-fn stub_lines_in(alloc: Global, lines: &[OspfStatement]) -> Result<Vec<StubLine>, OutOfMemory>
-    ensures { IfOk result (λ stubs. stubs.items ≡ stub_lines_in lines.now) }
+/// The stub areas of an OSPF process, each by its last line, under their numbers.
+fn stub_table(
+    alloc: Global,
+    lines: &[OspfStatement],
+) -> Result<IndexMap<u32, StubLine>, OutOfMemory>
+    ensures { IfOk result (λ stubs. values_in stubs.entries ≡ stub_lines_in lines.now) }
 {
-    let mut stubs = Vec::new(alloc);
+    let mut stubs = IndexMap::new(alloc);
     for statement in lines {
         add_stub(&mut stubs, stub_said(&statement.says))?;
     }
     Ok(stubs)
 }
 
-/// The default cost of an area that a line gives.
-fn default_cost_said(area: u32, line: &OspfLine) -> Option<u32>
-    ensures { result ≡ default_cost_said area line.now }
+/// Takes in the default cost of a line, where it gives one.
+fn add_default_cost(costs: &mut IndexMap<u32, u32>, line: &OspfLine) -> Result<(), OutOfMemory>
+    ensures { OnOk result ((area : ℕ) → get nat_eq costs.new area ≡ later (get nat_eq costs.old area) (default_cost_said area line.now)) }
 {
     match line {
         OspfLine::DefaultCost(Ok(said)) => {
-            if said.area == area {
-                Some(said.cost)
-            } else {
-                None
-            }
+            costs.insert(said.area, said.cost)?;
+            Ok(())
         }
-        _ => None,
+        _ => Ok(()),
     }
 }
 
-/// The later of two costs, where there is one.
-fn later_cost(before: Option<u32>, after: Option<u32>) -> Option<u32>
-    ensures { result ≡ later before after }
+/// The default costs of the areas of an OSPF process, each by its last line.
+fn default_costs(alloc: Global, lines: &[OspfStatement]) -> Result<IndexMap<u32, u32>, OutOfMemory>
+    ensures { IfOk result (λ costs. (area : ℕ) → get nat_eq costs area ≡ last_of (λ s. default_cost_said area s.says) lines.now) }
 {
-    match after {
-        Some(cost) => Some(cost),
-        None => before,
-    }
-}
-
-/// The default cost of an area: that of the last line for it.
-fn default_cost_at(lines: &[OspfStatement], area: u32) -> Option<u32>
-    ensures { result ≡ last_of (λ s. default_cost_said area s.says) lines.now }
-{
-    let mut last = None;
+    let mut costs = IndexMap::new(alloc);
     for statement in lines {
-        last = later_cost(last, default_cost_said(area, &statement.says));
+        add_default_cost(&mut costs, &statement.says)?;
     }
-    last
+    Ok(costs)
+}
+
+/// The default cost of an area, where there is one.
+fn default_cost_at(costs: &IndexMap<u32, u32>, area: u32) -> Option<u32>
+    ensures { result ≡ get nat_eq costs.now area }
+{
+    match costs.get(&area) {
+        Some(cost) => Some(*cost),
+        None => None,
+    }
+}
+
+/// The stub line at a place of a table.
+fn stub_at(stubs: &IndexMap<u32, StubLine>, place: usize) -> Option<StubLine>
+    ensures { result ≡ slice_get (values_in stubs.now.entries) place }
+{
+    match stubs.get_index(place) {
+        Some((_, stub)) => Some(*stub),
+        None => None,
+    }
 }
 
 /// A stub area with its default cost.
-fn stub_of(lines: &[OspfStatement], stub: &StubLine) -> Stub
-    ensures { result ≡ stub_of lines.now stub.now }
+fn stub_made(costs: &IndexMap<u32, u32>, stub: StubLine) -> Stub
+    ensures { result ≡ stub_made (get nat_eq costs.now) stub }
 {
     Stub {
         area: stub.area,
         no_summary: stub.no_summary,
-        default_cost: default_cost_at(lines, stub.area).unwrap_or(1),
+        default_cost: default_cost_at(costs, stub.area).unwrap_or(1),
     }
+}
+
+/// Takes in a stub area with its default cost, where there is one.
+fn push_stub(
+    stubs: &mut Vec<Stub>,
+    costs: &IndexMap<u32, u32>,
+    stub: Option<StubLine>,
+) -> Result<(), OutOfMemory>
+    ensures { OnOk result (stubs.new.items ≡ stubs.old.items ++ map (stub_made (get nat_eq costs.now)) (cons_option stub [])) }
+{
+    if let Some(stub) = stub {
+        stubs.push(stub_made(costs, stub))?;
+    }
+    Ok(())
+}
+
+/// The stub areas of a table, each with its default cost, in order.
+fn stubs_of(
+    alloc: Global,
+    table: &IndexMap<u32, StubLine>,
+    costs: &IndexMap<u32, u32>,
+) -> Result<Vec<Stub>, OutOfMemory>
+    ensures { IfOk result (λ stubs. stubs.items ≡ map (stub_made (get nat_eq costs.now)) (values_in table.now.entries)) }
+{
+    let mut stubs = Vec::new(alloc);
+    for place in 0..table.len() {
+        push_stub(&mut stubs, costs, stub_at(table, place))?;
+    }
+    Ok(stubs)
 }
 
 /// The stub areas of an OSPF process.
 pub fn stubs_in(alloc: Global, lines: &[OspfStatement]) -> Result<Vec<Stub>, OutOfMemory>
     ensures { IfOk result (λ stubs. stubs.items ≡ stubs_in lines.now) }
 {
-    let stub_lines = stub_lines_in(alloc, lines)?;
-    let mut stubs = Vec::new(alloc);
-    for stub in stub_lines.as_slice() {
-        stubs.push(stub_of(lines, stub))?;
-    }
-    Ok(stubs)
+    let table = stub_table(alloc, lines)?;
+    let costs = default_costs(alloc, lines)?;
+    stubs_of(alloc, &table, &costs)
 }

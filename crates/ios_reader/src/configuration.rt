@@ -14,6 +14,7 @@ use crate::interface_read::interfaces_as_read;
 use crate::isis_line::{IsisLine, IsisStatement};
 use crate::isis_process::{isis_line_faults, lacking, second_titles};
 use crate::kind::ReadKind;
+use crate::passive::passives_of;
 use crate::process::ospf_line_faults;
 use crate::read_section::read_sections;
 use crate::router::{isis_facts_of, ospf_facts_of, router_with};
@@ -127,7 +128,8 @@ fn config_of(alloc: Global, statements: Statements) -> Result<Config, OutOfMemor
     } = statements;
     let router = router_with(ospf.as_slice(), isis.as_slice());
     let levels = router.levels;
-    let interfaces = interfaces_as_read(alloc, &router, interfaces)?;
+    let passives = passives_of(alloc, ospf.as_slice(), isis.as_slice())?;
+    let interfaces = interfaces_as_read(alloc, &router, &passives, interfaces)?;
     let ranges = ranges_in(alloc, ospf.as_slice())?;
     let stubs = stubs_in(alloc, ospf.as_slice())?;
     let ospf_facts = ospf_facts_of(ospf.as_slice());

@@ -2,6 +2,7 @@ ghost use Rattle.std.specs.Prelude.{◌≡◌, ◌≤◌, length, take_while, un
 ghost use Rattle.std.specs.List.{prefix_len};
 ghost use Rattle.ios_reader.specs.Words.{is_letter};
 ghost use Rattle.ios_reader.specs.Lookups.{good_value};
+ghost use Rattle.ios_reader.specs.Passives.{ArePassivesOf};
 ghost use Rattle.ios_reader.specs.InterfacesAsRead.{address_given, is_loopback, is_up, area_by, interface_area, default_bandwidth, cost_of_bandwidth, cost_by_bandwidth, default_cost, cost_given, ospf_cost, has_one, has_two, is_isis_passive, is_ospf_passive, runs_isis, runs_level, metric_by, level_metric, address_field, subnet_field, cost_field, interface_with, interface_as_read};
 
 use crate::OutOfMemory;
@@ -10,7 +11,8 @@ use crate::facts::{InterfaceFacts, PlacedAddress, counting, facts_of};
 use crate::interface_line::ProcessArea;
 use crate::kind::ReadKind;
 use crate::ospf_line::prefix_of;
-use crate::router::{Router, isis_passive_at, levels_or_both, network_area, ospf_passive_at};
+use crate::passive::Passives;
+use crate::router::{Router, levels_or_both, network_area};
 use crate::section::InterfaceSection;
 use crate::words::{is, is_letter};
 use net_addr::{Name, Prefix};
@@ -167,24 +169,26 @@ pub fn ospf_cost(router: &Router, name: &[u8], facts: &InterfaceFacts) -> Option
 }
 
 /// Whether the interface is passive for IS-IS.
-fn is_isis_passive(router: &Router, name: &[u8]) -> bool
-    ensures { result ≡ is_isis_passive router.now name.now }
+fn is_isis_passive(_router: &Router, passives: &Passives, name: &[u8]) -> bool
+    requires { ArePassivesOf _router.now passives.now }
+    ensures { result ≡ is_isis_passive _router.now name.now }
 {
-    isis_passive_at(router.isis, name).unwrap_or(false)
+    passives.isis.get(name).unwrap_or(false)
 }
 
 /// Whether the interface is passive for OSPF.
-fn is_ospf_passive(router: &Router, name: &[u8]) -> bool
+fn is_ospf_passive(router: &Router, passives: &Passives, name: &[u8]) -> bool
+    requires { ArePassivesOf router.now passives.now }
     ensures { result ≡ is_ospf_passive router.now name.now }
 {
-    ospf_passive_at(router.ospf, name).unwrap_or(router.passive_default)
+    passives.ospf.get(name).unwrap_or(router.passive_default)
 }
 
-/// Whether the interface runs IS-IS: by its own line, or since it is passive.
-fn runs_isis(router: &Router, name: &[u8], facts: &InterfaceFacts) -> bool
-    ensures { result ≡ runs_isis router.now name.now facts.now }
+/// Whether an interface that is passive or not runs IS-IS: by its own line, or since it is passive.
+fn runs_isis(passive: bool, facts: &InterfaceFacts) -> bool
+    ensures { result ≡ runs_isis passive facts.now }
 {
-    is_isis_passive(router, name) || facts.isis.is_some()
+    passive || facts.isis.is_some()
 }
 
 /// Whether the levels hold level 1.
@@ -207,22 +211,22 @@ fn has_two(levels: Levels) -> bool
     }
 }
 
-/// Whether the interface runs level 1.
-fn runs_one(router: &Router, name: &[u8], facts: &InterfaceFacts) -> bool
-    ensures { result ≡ runs_level has_one router.now name.now facts.now }
+/// Whether an interface that is passive or not runs level 1, on a router of these levels.
+fn runs_one(levels: Levels, passive: bool, facts: &InterfaceFacts) -> bool
+    ensures { result ≡ runs_level has_one levels passive facts.now }
 {
-    runs_isis(router, name, facts)
-        && has_one(router.levels)
-        && (is_isis_passive(router, name) || has_one(levels_or_both(facts.circuit)))
+    runs_isis(passive, facts)
+        && has_one(levels)
+        && (passive || has_one(levels_or_both(facts.circuit)))
 }
 
-/// Whether the interface runs level 2.
-fn runs_two(router: &Router, name: &[u8], facts: &InterfaceFacts) -> bool
-    ensures { result ≡ runs_level has_two router.now name.now facts.now }
+/// Whether an interface that is passive or not runs level 2, on a router of these levels.
+fn runs_two(levels: Levels, passive: bool, facts: &InterfaceFacts) -> bool
+    ensures { result ≡ runs_level has_two levels passive facts.now }
 {
-    runs_isis(router, name, facts)
-        && has_two(router.levels)
-        && (is_isis_passive(router, name) || has_two(levels_or_both(facts.circuit)))
+    runs_isis(passive, facts)
+        && has_two(levels)
+        && (passive || has_two(levels_or_both(facts.circuit)))
 }
 
 /// A number that is there and good.
@@ -245,17 +249,17 @@ fn metric_by(own: Option<u32>, both: Option<u32>, router: u32) -> u32
     }
 }
 
-/// The metric of a level, 10 on an interface that runs no IS-IS.
+/// The metric of a level by the router's metric, 10 on an interface that runs no IS-IS.
 fn level_metric(
-    router: &Router,
-    name: &[u8],
+    router: u32,
+    passive: bool,
     facts: &InterfaceFacts,
     own: Option<Result<u32, ReadKind>>,
 ) -> u32
-    ensures { result ≡ level_metric router.now name.now facts.now own }
+    ensures { result ≡ level_metric router passive facts.now own }
 {
-    if runs_isis(router, name, facts) {
-        metric_by(good_value(own), good_value(facts.metric), router.metric)
+    if runs_isis(passive, facts) {
+        metric_by(good_value(own), good_value(facts.metric), router)
     } else {
         10
     }
@@ -292,19 +296,25 @@ fn cost_field(area: Option<u32>, cost: Option<u32>) -> u32
 }
 
 /// An interface as read, from what its lines say.
-pub fn interface_with(router: &Router, name: Name, facts: &InterfaceFacts) -> Interface
+fn interface_with(
+    router: &Router,
+    passives: &Passives,
+    name: Name,
+    facts: &InterfaceFacts,
+) -> Interface
+    requires { ArePassivesOf router.now passives.now }
     ensures { result ≡ interface_with router.now name facts.now }
 {
     let area = interface_area(router, facts);
     let cost = cost_field(area, ospf_cost(router, name.as_slice(), facts));
     let up = is_up(facts);
     let loopback = is_loopback(name.as_slice());
-    let ospf_passive = is_ospf_passive(router, name.as_slice());
-    let level1 = runs_one(router, name.as_slice(), facts);
-    let level2 = runs_two(router, name.as_slice(), facts);
-    let metric1 = level_metric(router, name.as_slice(), facts, facts.metric1);
-    let metric2 = level_metric(router, name.as_slice(), facts, facts.metric2);
-    let isis_passive = is_isis_passive(router, name.as_slice());
+    let ospf_passive = is_ospf_passive(router, passives, name.as_slice());
+    let isis_passive = is_isis_passive(router, passives, name.as_slice());
+    let level1 = runs_one(router.levels, isis_passive, facts);
+    let level2 = runs_two(router.levels, isis_passive, facts);
+    let metric1 = level_metric(router.metric, isis_passive, facts, facts.metric1);
+    let metric2 = level_metric(router.metric, isis_passive, facts, facts.metric2);
     Interface {
         name,
         address: address_field(address_given(facts.address)),
@@ -323,24 +333,27 @@ pub fn interface_with(router: &Router, name: Name, facts: &InterfaceFacts) -> In
 }
 
 /// An interface as read, from its sections.
-fn interface_as_read(router: &Router, section: InterfaceSection) -> Interface
+fn interface_as_read(router: &Router, passives: &Passives, section: InterfaceSection) -> Interface
+    requires { ArePassivesOf router.now passives.now }
     ensures { result ≡ interface_as_read router.now section }
 {
     let facts = facts_of(counting(section.lines.as_slice()));
-    interface_with(router, section.name, &facts)
+    interface_with(router, passives, section.name, &facts)
 }
 
 /// The interfaces of a router as read.
 pub fn interfaces_as_read(
     alloc: Global,
     router: &Router,
+    passives: &Passives,
     sections: Vec<InterfaceSection>,
 ) -> Result<Vec<Interface>, OutOfMemory>
+    requires { ArePassivesOf router.now passives.now }
     ensures { IfOk result (λ read. read.items ≡ map (interface_as_read router.now) sections.items) }
 {
     let mut interfaces = Vec::new(alloc);
     for section in sections {
-        interfaces.push(interface_as_read(router, section))?;
+        interfaces.push(interface_as_read(router, passives, section))?;
     }
     Ok(interfaces)
 }

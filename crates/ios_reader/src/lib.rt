@@ -26,6 +26,7 @@ mod facts;
 mod gather;
 mod isis_process;
 mod name_index;
+mod passive;
 mod process;
 mod router;
 

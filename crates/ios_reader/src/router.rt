@@ -1,12 +1,11 @@
 ghost use Rattle.std.specs.Prelude.{◌≡◌, unwrap_or};
-ghost use Rattle.ios_reader.specs.Lookups.{later, last_of, first_of, value_or};
-ghost use Rattle.ios_reader.specs.Routers.{area_taken, passive_if_named, ospf_passive_said, isis_passive_said, router_with};
+ghost use Rattle.ios_reader.specs.Lookups.{first_of, value_or};
+ghost use Rattle.ios_reader.specs.Routers.{area_taken, router_with};
 ghost use Rattle.ios_reader.specs.ProcessFacts.{ospf_noted, ospf_facts_of, isis_noted, isis_facts_of};
 
 use crate::isis_line::{IsisLine, IsisStatement};
 use crate::kind::ReadKind;
-use crate::ospf_line::{OspfLine, OspfStatement, PassiveLine};
-use crate::words::is;
+use crate::ospf_line::{OspfLine, OspfStatement};
 use net_model::Levels;
 use std::marker::Model;
 
@@ -92,69 +91,6 @@ pub fn isis_facts_of(lines: &[IsisStatement]) -> IsisFacts
         facts = isis_noted(facts, statement);
     }
     facts
-}
-
-/// Whether a line names this interface, and makes it passive.
-fn passive_if_named(name: &[u8], said: &PassiveLine) -> Option<bool>
-    ensures { result ≡ passive_if_named name.now said.now }
-{
-    if is(said.name.as_slice(), name) {
-        Some(said.passive)
-    } else {
-        None
-    }
-}
-
-/// Whether a line of an OSPF process names this interface, and makes it passive.
-fn ospf_passive_said(name: &[u8], line: &OspfLine) -> Option<bool>
-    ensures { result ≡ ospf_passive_said name.now line.now }
-{
-    match line {
-        OspfLine::Passive(said) => passive_if_named(name, said),
-        _ => None,
-    }
-}
-
-/// Whether a line of an IS-IS process names this interface, and makes it passive.
-fn isis_passive_said(name: &[u8], line: &IsisLine) -> Option<bool>
-    ensures { result ≡ isis_passive_said name.now line.now }
-{
-    match line {
-        IsisLine::Passive(said) => passive_if_named(name, said),
-        _ => None,
-    }
-}
-
-/// The later of two, where there is one.
-fn later(before: Option<bool>, after: Option<bool>) -> Option<bool>
-    ensures { result ≡ later before after }
-{
-    match after {
-        Some(value) => Some(value),
-        None => before,
-    }
-}
-
-/// Whether the last line of an OSPF process that names this interface makes it passive.
-pub fn ospf_passive_at(lines: &[OspfStatement], name: &[u8]) -> Option<bool>
-    ensures { result ≡ last_of (λ s. ospf_passive_said name.now s.says) lines.now }
-{
-    let mut last = None;
-    for statement in lines {
-        last = later(last, ospf_passive_said(name, &statement.says));
-    }
-    last
-}
-
-/// Whether the last line of an IS-IS process that names this interface makes it passive.
-pub fn isis_passive_at(lines: &[IsisStatement], name: &[u8]) -> Option<bool>
-    ensures { result ≡ last_of (λ s. isis_passive_said name.now s.says) lines.now }
-{
-    let mut last = None;
-    for statement in lines {
-        last = later(last, isis_passive_said(name, &statement.says));
-    }
-    last
 }
 
 /// The area of a `network` line, where it takes the address.

@@ -1,136 +1,267 @@
-use crate::facts::{counting, facts_of};
-use crate::gather::{Gathering, gather};
-use crate::interface_line::interface_line_fault;
-use crate::interface_read::interface_with;
-use crate::isis_line::isis_line_fault;
-use crate::kind::ReadKind;
-use crate::ospf_line::ospf_line_fault;
-use crate::process::{first_process, mentions_of, ospf_lines};
-use crate::read_section::read_sections;
-use crate::router::router_with;
-use crate::text::counted_lines;
-use net_addr::{Name, lines};
+use crate::{ReadKind, ReadRefusal, read_configs};
+use net_model::{Config, Configs, Interface, Levels};
 use std::alloc::Global;
 use std::process::Abort;
 use std::test::Fail;
 
-/// What a text without `end` lines says.
-fn gathered(rt: &impl Abort, alloc: Global, text: &[u8]) -> Result<Gathering, Fail> {
+/// The configurations of a text.
+fn read(rt: &impl Abort, alloc: Global, text: &[u8]) -> Result<Configs, Fail> {
     assert!(rt; text.len() < 10000);
-    let lines = lines(alloc, text)?;
-    match counted_lines(alloc, text, lines.as_slice()) {
-        Ok(counted) => Ok(gather(alloc, read_sections(alloc, counted.as_slice())?)?),
-        Err(error) => Err(Fail::from(error)),
+    match read_configs(alloc, text) {
+        Ok(configs) => Ok(configs),
+        Err(_) => Err(Fail::from("refused")),
     }
 }
 
-/// The fault of the last line of a text of one section.
-fn last_kind(rt: &impl Abort, alloc: Global, text: &[u8]) -> Result<Option<ReadKind>, Fail> {
-    let said = gathered(rt, alloc, text)?;
-    if let Some(fault) = said.fault {
-        return Ok(Some(fault.kind));
+/// The first faulty line of a text, and why it is faulty.
+fn fault(rt: &impl Abort, alloc: Global, text: &[u8]) -> Result<(u32, ReadKind), Fail> {
+    assert!(rt; text.len() < 10000);
+    match read_configs(alloc, text) {
+        Ok(_) => Err(Fail::from("read")),
+        Err(ReadRefusal::Bad { line, kind }) => Ok((line, kind)),
+        Err(ReadRefusal::OutOfMemory) => Err(Fail::from("out of memory")),
     }
-    if let Some(section) = said.interfaces.last() {
-        if let Some(statement) = section.lines.as_slice().last() {
-            return Ok(interface_line_fault(&statement.says));
-        }
-    }
-    if let Some(section) = said.ospf.last() {
-        if let Some(statement) = section.lines.as_slice().last() {
-            return Ok(ospf_line_fault(&statement.says));
-        }
-    }
-    if let Some(section) = said.isis.last() {
-        if let Some(statement) = section.lines.as_slice().last() {
-            return Ok(isis_line_fault(&statement.says));
-        }
-    }
-    Ok(None)
+}
+
+/// Area, cost, passive for OSPF, up.
+fn ospf_row(i: &Interface) -> (Option<u32>, u32, bool, bool) {
+    (i.area, i.cost, i.ospf_passive, i.up)
+}
+
+/// Level 1, level 2, their metrics, passive for IS-IS.
+fn isis_row(i: &Interface) -> (bool, bool, u32, u32, bool) {
+    (i.level1, i.level2, i.metric1, i.metric2, i.isis_passive)
 }
 
 #[test]
 fn each_faulty_line_has_its_kind(rt: HostRuntime) -> Result<(), Fail> {
-    let rows: [(&[u8], ReadKind); 31] = [
-        (b"hostname R/1", ReadKind::NoHostname),
-        (b"interface default", ReadKind::Unsupported),
-        (b"router ospf 0", ReadKind::SecondProcess),
-        (b"router rip", ReadKind::Unsupported),
-        (b"ip route 0.0.0.0 0.0.0.0 10.0.0.1", ReadKind::Unsupported),
+    let rows: [(&[u8], u32, ReadKind); 34] = [
+        (b"hostname R/1\nend\n", 1, ReadKind::NoHostname),
+        (b"router isis\nend\n", 1, ReadKind::Unsupported),
+        (b"interface E0\nend\n", 2, ReadKind::NoHostname),
+        (b"hostname R1\nrouter ospf 1", 3, ReadKind::NoEnd),
+        (b"", 1, ReadKind::NoEnd),
         (
-            b"interface E0\n ip address 10.0.0.256 255.0.0.0",
+            b"hostname R1\nend\ninterface E0\n ip unnumbered E1\n",
+            5,
+            ReadKind::NoEnd,
+        ),
+        (
+            b"hostname R1\ninterface default\nend",
+            2,
+            ReadKind::Unsupported,
+        ),
+        (
+            b"hostname R1\nrouter ospf 0\nend",
+            2,
+            ReadKind::SecondProcess,
+        ),
+        (
+            b"hostname R1\nrouter ospf 1\nrouter ospf 2\nend",
+            3,
+            ReadKind::SecondProcess,
+        ),
+        (b"hostname R1\nrouter rip\nend", 2, ReadKind::Unsupported),
+        (
+            b"hostname R1\nip route 0.0.0.0 0.0.0.0 10.0.0.1\nend",
+            2,
+            ReadKind::Unsupported,
+        ),
+        (
+            b"hostname R1\ninterface E0\n ip address 10.0.0.256 255.0.0.0\nend",
+            3,
             ReadKind::BadAddress,
         ),
-        (b"interface E0\n ip address 10.0.0.1", ReadKind::BadMask),
         (
-            b"interface E0\n ip address 10.0.0.1 255.0.255.0",
+            b"hostname R1\ninterface E0\n ip address 10.0.0.1\nend",
+            3,
             ReadKind::BadMask,
         ),
-        (b"interface E0\n ip address dhcp", ReadKind::Unsupported),
         (
-            b"interface E0\n ip address 10.0.0.1 255.0.0.0 secondary",
+            b"hostname R1\ninterface E0\n ip address dhcp\nend",
+            3,
             ReadKind::Unsupported,
         ),
         (
-            b"interface E0\n ip unnumbered Loopback0",
-            ReadKind::Unsupported,
-        ),
-        (b"interface E0\n bandwidth 0", ReadKind::NoBandwidth),
-        (b"interface E0\n ip ospf cost 65536", ReadKind::BadCost),
-        (b"interface E0\n ip ospf x area x", ReadKind::BadArea),
-        (b"interface E0\n ip ospf x area 0", ReadKind::SecondProcess),
-        (
-            b"interface E0\n ip ospf network non-broadcast",
-            ReadKind::Unsupported,
+            b"hostname R1\ninterface E0\n bandwidth 0\nend",
+            3,
+            ReadKind::NoBandwidth,
         ),
         (
-            b"interface E0\n isis circuit-type level-3",
-            ReadKind::BadLevel,
-        ),
-        (b"interface E0\n isis metric 0 level-3", ReadKind::BadLevel),
-        (
-            b"interface E0\n isis metric 16777215 level-1",
-            ReadKind::BadMetric,
+            b"hostname R1\ninterface Tunnel0\n ip address 10.0.0.1 255.0.0.0\n ip ospf 1 area 0\nend",
+            2,
+            ReadKind::NoBandwidth,
         ),
         (
-            b"router ospf 1\n network 10.0.0.0 0.0.0.255 0",
-            ReadKind::BadAddress,
+            b"hostname R1\ninterface Loopback0\n ip address 10.0.0.1 255.0.0.0\nend",
+            3,
+            ReadKind::LoopbackMask,
         ),
         (
-            b"router ospf 1\n network 10.0.0.0 0.0.0.255 area 4294967296",
-            ReadKind::BadArea,
-        ),
-        (b"router ospf 1\n area 0 stub", ReadKind::BadArea),
-        (
-            b"router ospf 1\n area x default-cost 16777215",
+            b"hostname R1\ninterface E0\n ip ospf cost 65536\nend",
+            3,
             ReadKind::BadCost,
         ),
         (
-            b"router ospf 1\n area 1 range 10.0.0.0 255.0.0.0 cost 1 advertise",
-            ReadKind::Unsupported,
+            b"hostname R1\ninterface E0\n ip ospf x area x\nend",
+            3,
+            ReadKind::BadArea,
         ),
         (
-            b"router ospf 1\n area 1 virtual-link 10.0.0.1",
-            ReadKind::Unsupported,
+            b"hostname R1\ninterface E0\n ip ospf x area 0\nend",
+            3,
+            ReadKind::SecondProcess,
         ),
-        (b"router ospf 1\n distance 115", ReadKind::DistanceClash),
-        (b"router ospf 1\n distance 256", ReadKind::BadDistance),
         (
-            b"router isis\n net 49.0001.0000.0000.0001.01",
+            b"hostname R1\ninterface E0\n isis circuit-type level-3\nend",
+            3,
+            ReadKind::BadLevel,
+        ),
+        (
+            b"hostname R1\ninterface E0\n isis metric 0 level-3\nend",
+            3,
+            ReadKind::BadLevel,
+        ),
+        (
+            b"hostname R1\ninterface E0\n isis metric 16777215 level-1\nend",
+            3,
+            ReadKind::BadMetric,
+        ),
+        (
+            b"hostname R1\ninterface E0\n ip router isis\nend",
+            3,
             ReadKind::BadNet,
         ),
         (
-            b"router isis\n metric-style wide level-1",
+            b"hostname R1\nrouter ospf 1\n network 10.0.0.0 0.0.0.255 0\nend",
+            3,
+            ReadKind::BadAddress,
+        ),
+        (
+            b"hostname R1\nrouter ospf 1\n area 0 stub\nend",
+            3,
+            ReadKind::BadArea,
+        ),
+        (
+            b"hostname R1\nrouter ospf 1\n area x default-cost 16777215\nend",
+            3,
+            ReadKind::BadCost,
+        ),
+        (
+            b"hostname R1\nrouter ospf 1\n area 1 range 10.0.0.0 255.0.0.0 cost 1 advertise\nend",
+            3,
             ReadKind::Unsupported,
         ),
-        (b"router isis\n distance 110", ReadKind::BadDistance),
         (
-            b"router isis\n passive-interface default",
+            b"hostname R1\nrouter ospf 1\n distance 115\nend",
+            3,
+            ReadKind::DistanceClash,
+        ),
+        (
+            b"hostname R1\nrouter ospf 1\n distance 256\nend",
+            3,
+            ReadKind::BadDistance,
+        ),
+        (
+            b"hostname R1\nrouter isis\n metric-style wide\nend",
+            2,
+            ReadKind::BadNet,
+        ),
+        (
+            b"hostname R1\nrouter isis\n metric-style wide\n net 49.0001.0000.0000.0001.01\nend",
+            4,
+            ReadKind::BadNet,
+        ),
+        (
+            b"hostname R1\nrouter isis\n net 49.0001.0000.0000.0001.00\n distance 110\nend",
+            2,
             ReadKind::Unsupported,
+        ),
+        (
+            b"hostname R1\nrouter isis\n net 49.0001.0000.0000.0001.00\n metric-style wide\n distance 110\nend",
+            5,
+            ReadKind::BadDistance,
         ),
     ];
-    for (text, kind) in rows.iter() {
-        assert_eq!(rt; last_kind(&rt, rt.alloc(), text)?, Some(*kind), "{text:?}");
+    for (text, line, kind) in rows.iter() {
+        assert_eq!(rt; fault(&rt, rt.alloc(), text)?, (*line, *kind), "{text:?}");
     }
+    Ok(())
+}
+
+const TRIANGLE: &[u8] = b"hostname R1
+interface Loopback0
+ ip address 10.0.0.1 255.255.255.255
+ ip router isis
+interface GigabitEthernet0/0
+ ip address 10.0.12.1 255.255.255.252
+ ip ospf cost 1
+ ip router isis
+ isis metric 10
+interface GigabitEthernet0/1
+ ip address 10.0.13.1 255.255.255.252
+ ip ospf cost 10
+ ip router isis
+ isis metric 10
+router ospf 1
+ network 10.0.0.0 0.0.255.255 area 0
+router isis
+ net 49.0001.0000.0000.0001.00
+ is-type level-2-only
+ metric-style wide
+ distance 255
+end
+";
+
+#[test]
+fn a_router_of_both_protocols_is_read(rt: HostRuntime) -> Result<(), Fail> {
+    let configs = read(&rt, rt.alloc(), TRIANGLE)?;
+    assert_eq!(rt; configs.as_slice().len(), 1);
+    let config = configs.as_slice().first().ok_or("no configuration")?;
+    assert_eq!(rt; config.name.as_slice(), b"R1".as_slice());
+    assert_eq!(rt;
+        (
+            config.process,
+            config.isis,
+            config.system,
+            config.levels,
+            config.rfc1583
+        ),
+        (Some(1), true, 1, Levels::Two, true)
+    );
+    assert_eq!(rt; config.isis_area.as_slice(), b"49.0001".as_slice());
+    assert_eq!(rt; (config.distances.ospf, config.distances.isis), (110, 255));
+    let rows: [(u32, u32); 3] = [(167772161, 1), (167775233, 1), (167775489, 10)];
+    for (i, row) in config.interfaces.as_slice().iter().zip(rows.iter()) {
+        assert_eq!(rt; (i.address, i.cost), *row);
+        assert_eq!(rt;
+            (i.area, isis_row(i)),
+            (Some(0), (false, true, 10, 10, false))
+        );
+    }
+    Ok(())
+}
+
+const SMALL: &[u8] = b"hostname R1
+interface Loopback0
+ ip address 10.0.0.1 255.255.255.255
+router ospf 1
+ network 0.0.0.0 255.255.255.255 area 0
+end
+";
+
+#[test]
+fn a_router_without_isis_is_read(rt: HostRuntime) -> Result<(), Fail> {
+    let configs = read(&rt, rt.alloc(), SMALL)?;
+    let config = configs.as_slice().first().ok_or("no configuration")?;
+    assert_eq!(rt;
+        (config.process, config.isis, config.distances.isis),
+        (Some(1), false, 115)
+    );
+    let loopback = config.interfaces.as_slice().first().ok_or("no interface")?;
+    assert_eq!(rt; loopback.name.as_slice(), b"Loopback0".as_slice());
+    assert_eq!(rt; ospf_row(loopback), (Some(0), 1, false, true));
+    assert_eq!(rt; isis_row(loopback), (false, false, 10, 10, false));
     Ok(())
 }
 
@@ -189,19 +320,14 @@ end
 
 #[test]
 fn a_printed_configuration_is_read(rt: HostRuntime) -> Result<(), Fail> {
-    let alloc = rt.alloc();
-    let said = gathered(&rt, alloc, PRINTED)?;
+    let configs = read(&rt, rt.alloc(), PRINTED)?;
+    assert_eq!(rt; configs.as_slice().len(), 1);
+    let config = configs.as_slice().first().ok_or("no configuration")?;
+    assert_eq!(rt; config.name.as_slice(), b"edge-1".as_slice());
     assert_eq!(rt;
-        said.name.ok_or("no name")?.as_slice(),
-        b"edge-1".as_slice()
+        (config.process, config.isis, config.distances.ospf),
+        (Some(1), false, 110)
     );
-    assert_eq!(rt; said.fault, None);
-    assert_eq!(rt; said.isis.len(), 0);
-    let mentions = mentions_of(alloc, said.ospf.as_slice(), said.interfaces.as_slice())?;
-    let process = first_process(mentions.as_slice());
-    assert_eq!(rt; process, Some(1));
-    let ospf = ospf_lines(alloc, process, said.ospf)?;
-    let router = router_with(ospf.as_slice(), &[]);
     let rows: [(Option<u32>, u32, bool, bool); 5] = [
         (Some(0), 1, true, true),
         (Some(0), 10, false, true),
@@ -209,11 +335,130 @@ fn a_printed_configuration_is_read(rt: HostRuntime) -> Result<(), Fail> {
         (None, 1, true, false),
         (None, 1, true, false),
     ];
-    assert_eq!(rt; said.interfaces.len(), 5);
-    for (section, row) in said.interfaces.iter().zip(rows.iter()) {
-        let name = Name::from_vec(Vec::from_slice(alloc, section.name.as_slice())?);
-        let read = interface_with(&router, name, &facts_of(counting(section.lines.as_slice())));
-        assert_eq!(rt; (read.area, read.cost, read.ospf_passive, read.up), *row);
+    assert_eq!(rt; config.interfaces.as_slice().len(), 5);
+    for (i, row) in config.interfaces.as_slice().iter().zip(rows.iter()) {
+        assert_eq!(rt; ospf_row(i), *row);
     }
+    Ok(())
+}
+
+const EACH_FORM: &[u8] = b"hostname R.1-a_B
+banner login ^Cinterface X^C
+interface Loopback 0
+ ip address 10.0.0.1 255.255.255.252
+ ip ospf network point-to-point
+ ip ospf 7 area 0
+interface GigabitEthernet0/1
+ ip address 10.1.0.1 255.255.255.0
+ no shutdown
+ bandwidth 100000
+ ip router isis A
+ isis circuit-type level-1
+ isis metric 20
+ isis metric 30 level-1
+interface Ethernet0
+  ip address 10.2.0.1 255.255.255.0
+  ip ospf network broadcast
+  ip ospf cost 5
+  isis metric 40 level-2
+interface Ethernet1
+ ip address 10.3.0.1 255.255.255.0
+ shutdown
+interface Ethernet2
+ ip address 10.4.0.1 255.255.255.0
+ no ip address
+interface GigabitEthernet0/1
+  isis metric 60
+router ospf 7
+ network 10.1.0.0 0.0.255.255 area 1
+ network 10.0.0.0 0.255.255.255 area 2
+ passive-interface default
+ no passive-interface GigabitEthernet0/1
+ auto-cost reference-bandwidth 1000
+ area 1 stub
+ area 1 stub no-summary
+ area 1 default-cost 9
+ area 0 range 10.4.0.1 255.255.0.0 not-advertise cost 6
+ area 0 range 10.5.0.0 255.255.0.0
+ area 0 range 10.4.0.0 255.255.0.0 advertise cost 8
+ distance 120
+ no compatible rfc1583
+router ospf 8 vrf X
+router isis A
+ net 49.0001.1234.5678.9abc.00
+ is-type level-1-2
+ metric-style wide
+ metric 50
+ distance 115 ip
+ passive-interface Ethernet0
+ no passive-interface GigabitEthernet0/1
+ip route vrf X 0.0.0.0 0.0.0.0 10.0.0.1
+end
+hostname R2
+end
+unread lines
+";
+
+/// The first of two configurations.
+fn first_of_two(rt: &impl Abort, configs: Configs) -> Result<Config, Fail> {
+    let mut configs = configs.into_vec();
+    assert_eq!(rt; configs.len(), 2);
+    let _second = configs.pop();
+    Ok(configs.pop().ok_or("no configuration")?)
+}
+
+#[test]
+fn each_form_of_an_interface_line_is_read(rt: HostRuntime) -> Result<(), Fail> {
+    let config = first_of_two(&rt, read(&rt, rt.alloc(), EACH_FORM)?)?;
+    assert_eq!(rt; config.name.as_slice(), b"R.1-a_B".as_slice());
+    let ospf: [(Option<u32>, u32, bool, bool); 5] = [
+        (Some(0), 1, true, true),
+        (Some(1), 10, false, true),
+        (Some(2), 5, true, true),
+        (Some(2), 100, true, false),
+        (None, 1, true, false),
+    ];
+    let isis: [(bool, bool, u32, u32, bool); 5] = [
+        (false, false, 10, 10, false),
+        (true, false, 30, 60, false),
+        (true, true, 50, 40, true),
+        (false, false, 10, 10, false),
+        (false, false, 10, 10, false),
+    ];
+    assert_eq!(rt; config.interfaces.as_slice().len(), 5);
+    for (i, row) in config.interfaces.as_slice().iter().zip(ospf.iter()) {
+        assert_eq!(rt; ospf_row(i), *row);
+    }
+    for (i, row) in config.interfaces.as_slice().iter().zip(isis.iter()) {
+        assert_eq!(rt; isis_row(i), *row);
+    }
+    Ok(())
+}
+
+#[test]
+fn each_form_of_a_process_line_is_read(rt: HostRuntime) -> Result<(), Fail> {
+    let config = first_of_two(&rt, read(&rt, rt.alloc(), EACH_FORM)?)?;
+    assert_eq!(rt;
+        (config.process, config.rfc1583, config.isis, config.system),
+        (Some(7), false, true, 20015998343868)
+    );
+    assert_eq!(rt;
+        (config.distances.ospf, config.distances.isis, config.levels),
+        (120, 115, Levels::Both)
+    );
+    assert_eq!(rt; config.tag.as_slice(), b"A".as_slice());
+    let ranges: [(u32, u8, bool, Option<u32>); 2] = [
+        (168034304, 16, true, Some(8)),
+        (168099840, 16, true, None),
+    ];
+    assert_eq!(rt; config.ranges.as_slice().len(), 2);
+    for (r, row) in config.ranges.as_slice().iter().zip(ranges.iter()) {
+        assert_eq!(rt; (r.dest.base(), r.dest.len(), r.advertise, r.cost), *row);
+    }
+    let stub = config.stubs.as_slice().first().ok_or("no stub area")?;
+    assert_eq!(rt;
+        (stub.area, stub.no_summary, stub.default_cost),
+        (1, true, 9)
+    );
     Ok(())
 }

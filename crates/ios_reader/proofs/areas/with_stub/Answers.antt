@@ -1,11 +1,16 @@
-use Rattle.std.proofs.Common.{sym, ap, ◌∙◌}
-use Rattle.std.specs.Prelude.{position}
+use Rattle.std.proofs.Common.{◌≡◌, ℕ, List, nat_eq, sym, ap, subst, ◌∙◌}
 use Rattle.ios_reader.specs.Routers.{is_same_area}
-use Rattle.ios_reader.proofs.AreaFacts.{at_end}
+use Rattle.ios_reader.specs.Tables.{values_in, AreKeyed, stub_key}
+use Rattle.ios_reader.specs.declared.ospf_line.StubLine.{StubLine}
+use Rattle.ios_reader.proofs.KeyedFacts.{insert_values, insert_keyed, nat_eq_swap, same_number}
 use Rattle.ios_reader.proofs.areas.with_stub.Goals as goal
 
-pub returns-in_ok-push-in-None : goal.returns-in_ok-push-in-None
-returns-in_ok-push-in-None c =
-    c.in_ok-push-in-None.ensures.items
-    ∙ at_end is_same_area c.args.stubs.now.items c.args.stub
-    (ap (position (λ r. is_same_area r c.args.stub)) (sym c.as_slice.ensures.value) ∙ sym c.in-None.ensures)
+pub returns-clause-keyed : goal.returns-clause-keyed
+returns-clause-keyed c =
+    subst (λ (es : List (ℕ × StubLine)). AreKeyed stub_key es) (sym c.in_ok-insert.ensures.entries)
+    (insert_keyed nat_eq stub_key same_number c.args.stubs.now.entries c.args.stub c.requires)
+
+pub returns-clause-stubs : goal.returns-clause-stubs
+returns-clause-stubs c =
+    ap (λ (es : List (ℕ × StubLine)). values_in es) c.in_ok-insert.ensures.entries
+    ∙ insert_values nat_eq stub_key is_same_area (λ x y. nat_eq_swap x.area y.area) c.args.stubs.now.entries c.args.stub c.requires

@@ -9,7 +9,7 @@ use Rattle.ios_reader.proofs.reader.read_parts.Goals as goal
 pub loop-i-preserved : goal.loop-i-preserved
 loop-i-preserved c =
     elim c.if-is_end.branch [
-      then-is_end+in_ok-read+in_ok-reading w ↦
+      | then-is_end+in_ok-read+in_ok-reading w ↦
           let ends : is_end c.index-lines-i.result ≡ true = sym c.is_end.ensures ∙ w.if-is_end.true in
           record {
             start = omega arith;

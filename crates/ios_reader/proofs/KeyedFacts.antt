@@ -1,0 +1,145 @@
+-- Tables whose values stand under their keys.
+use Rattle.std.proofs.Common.{sym, ◌≡◌, ℕ, zero, suc, ◌+◌, ◌<◌, Bool, true, false, ◌&&◌, List, [], ◌∷◌, ◌++◌, length, take, get_or, Option, Some, None, refl, ap, subst, ◌∙◌, cond, map, nat_eq, arith, add-one}
+use Rattle.std.specs.Prelude.{slice_get, unwrap_or, All}
+use Rattle.std.specs.List.{cons_option}
+use Rattle.std.proofs.lemmas.Bool.{false≢true}
+use Rattle.std.proofs.lemmas.List.{map-append}
+use Rattle.std.proofs.lemmas.Bool.Decides.{nat_tests}
+use Rattle.std.proofs.lemmas.List.Elements.{All-nil, All-cons, All-head, All-tail}
+use Rattle.std.specs.Map.{lookup}
+use Rattle.indexmap.specs.IndexMap.{insert_entry}
+use Rattle.ios_reader.specs.Lookups.{later, replaced, last_of}
+use Rattle.net_model.specs.declared.area.Range.{Range}
+use Rattle.net_model.specs.declared.area.Stub.{Stub}
+use Rattle.ios_reader.specs.declared.ospf_line.OspfStatement.{OspfStatement}
+use Rattle.ios_reader.specs.declared.ospf_line.StubLine.{StubLine}
+use Rattle.ios_reader.specs.Routers.{cost_if, default_cost_said, is_same_range, stub_of}
+use Rattle.ios_reader.specs.Tables.{values_in, AreKeyed, range_key, stub_made}
+use Rattle.ios_reader.proofs.NumberFacts.{and_left, and_right}
+use Rattle.ios_reader.proofs.ProcessLookups.{last_of_more}
+
+value_cases : {K : Type 0} {V : Type 0} (t u : Bool) (e : K × V) (v : V) (es rest : List (K × V)) (more : List V) → t ≡ u → values_in rest ≡ more →
+    values_in (cond t ((e.0, v) ∷ es) (e ∷ rest)) ≡ cond u (v ∷ values_in es) (e.1 ∷ more)
+value_cases true true e v es rest more same later = refl
+value_cases {K} {V} false false e v es rest more same later = ap (λ (w : List V). e.1 ∷ w) later
+value_cases true false e v es rest more same later = absurd (false≢true (sym same))
+value_cases false true e v es rest more same later = absurd (false≢true same)
+
+keyed_cases : {K : Type 0} {V : Type 0} (key : V → K) (t : Bool) (e : K × V) (v : V) (es rest : List (K × V)) → (t ≡ true → e.0 ≡ key v) → AreKeyed key (e ∷ es) → AreKeyed key rest → AreKeyed key (cond t ((e.0, v) ∷ es) (e ∷ rest))
+keyed_cases {K} {V} key true e v es rest same h later = All-cons (λ (p : K × V). p.0 ≡ key p.1) (e.0, v) es (same refl) (All-tail (λ (p : K × V). p.0 ≡ key p.1) e es h)
+keyed_cases {K} {V} key false e v es rest same h later = All-cons (λ (p : K × V). p.0 ≡ key p.1) e rest (All-head (λ (p : K × V). p.0 ≡ key p.1) e es h) later
+
+-- a value takes the place of the one with its key, or goes last
+pub insert_values : {K : Type 0} {V : Type 0} (eq : K → K → Bool) (key : V → K) (same : V → V → Bool) → ((x y : V) → eq (key x) (key y) ≡ same y x) →
+    (es : List (K × V)) (v : V) → AreKeyed key es → values_in (insert_entry eq es (key v) v) ≡ replaced same (values_in es) v
+insert_values eq key same agree [] v h = refl
+insert_values {K} {V} eq key same agree (e ∷ es) v h =
+    value_cases (eq (key v) e.0) (same e.1 v) e v es (insert_entry eq es (key v) v) (replaced same (values_in es) v)
+    (ap (eq (key v)) (All-head (λ (p : K × V). p.0 ≡ key p.1) e es h) ∙ agree v e.1)
+    (insert_values eq key same agree es v (All-tail (λ (p : K × V). p.0 ≡ key p.1) e es h))
+
+-- and the values stay under their keys
+pub insert_keyed : {K : Type 0} {V : Type 0} (eq : K → K → Bool) (key : V → K) → ((a b : K) → eq a b ≡ true → a ≡ b) →
+    (es : List (K × V)) (v : V) → AreKeyed key es → AreKeyed key (insert_entry eq es (key v) v)
+insert_keyed {K} {V} eq key alike [] v h = All-cons (λ (p : K × V). p.0 ≡ key p.1) (key v, v) [] refl h
+insert_keyed {K} {V} eq key alike (e ∷ es) v h =
+    keyed_cases key (eq (key v) e.0) e v es (insert_entry eq es (key v) v) (λ t. sym (alike (key v) e.0 t)) h
+    (insert_keyed eq key alike es v (All-tail (λ (p : K × V). p.0 ≡ key p.1) e es h))
+
+-- ---- reading the values off ----
+
+-- one more value, read by its place
+pub value_more : {V : Type 0} (vs : List V) (i : ℕ) → take (i + 1) vs ≡ take i vs ++ cons_option (slice_get vs i) []
+value_more vs i = rw add-one (by_suc vs i)
+  where
+    by_suc : {V : Type 0} (vs : List V) (i : ℕ) → take (suc i) vs ≡ take i vs ++ cons_option (slice_get vs i) []
+    by_suc [] zero = refl
+    by_suc [] (suc i) = refl
+    by_suc (v ∷ vs) zero = refl
+    by_suc {V} (v ∷ vs) (suc i) = ap (λ (w : List V). v ∷ w) (by_suc vs i)
+
+-- ---- numbers as keys ----
+
+pub same_number : (a b : ℕ) → nat_eq a b ≡ true → a ≡ b
+same_number a b h = grind (arith, nat_tests)
+
+number_same : (a b : ℕ) → a ≡ b → nat_eq a b ≡ true
+number_same a b h = grind (arith, nat_tests)
+
+pub nat_eq_swap : (a b : ℕ) → nat_eq a b ≡ nat_eq b a
+nat_eq_swap a b = choice (nat_eq a b) (nat_eq b a) refl refl
+  where
+    choice : (s t : Bool) → nat_eq a b ≡ s → nat_eq b a ≡ t → s ≡ t
+    choice true true e f = refl
+    choice false false e f = refl
+    choice true false e f = sym (number_same b a (sym (same_number a b e))) ∙ f
+    choice false true e f = sym e ∙ number_same a b (sym (same_number b a f))
+
+here_cases : (b : Bool) (old v : ℕ) (rest : Option ℕ) → cond b (Some v) rest ≡ later (cond b (Some old) rest) (cost_if b v)
+here_cases true old v rest = refl
+here_cases false old v rest = refl
+
+there_cases : (b : Bool) (old : ℕ) (rest more new : Option ℕ) → (b ≡ true → new ≡ None) → more ≡ later rest new → cond b (Some old) more ≡ later (cond b (Some old) rest) new
+there_cases true old rest more new none later_is = sym (ap (later (Some old)) (none refl))
+there_cases false old rest more new none later_is = later_is
+
+said_cases : (t : Bool) (e : ℕ × ℕ) (es : List (ℕ × ℕ)) (n v q : ℕ) → nat_eq n e.0 ≡ t →
+    lookup (nat_eq q) (insert_entry nat_eq es n v) ≡ later (lookup (nat_eq q) es) (cost_if (nat_eq n q) v) →
+    lookup (nat_eq q) (cond t ((e.0, v) ∷ es) (e ∷ insert_entry nat_eq es n v)) ≡ later (lookup (nat_eq q) (e ∷ es)) (cost_if (nat_eq n q) v)
+said_cases true e es n v q same rest =
+    let swap : nat_eq q e.0 ≡ nat_eq n q = nat_eq_swap q e.0 ∙ ap (λ (w : ℕ). nat_eq w q) (sym (same_number n e.0 same)) in
+    here_cases (nat_eq q e.0) e.1 v (lookup (nat_eq q) es)
+    ∙ ap (λ (b : Bool). later (cond (nat_eq q e.0) (Some e.1) (lookup (nat_eq q) es)) (cost_if b v)) swap
+said_cases false e es n v q same rest =
+    there_cases (nat_eq q e.0) e.1 (lookup (nat_eq q) es) (lookup (nat_eq q) (insert_entry nat_eq es n v)) (cost_if (nat_eq n q) v)
+    (λ there.
+    let other : nat_eq n q ≡ false = ap (nat_eq n) (same_number q e.0 there) ∙ same in
+    ap (λ (b : Bool). cost_if b v) other)
+    rest
+
+-- what a table says of a number after one more line
+pub lookup_insert : (es : List (ℕ × ℕ)) (n v q : ℕ) → lookup (nat_eq q) (insert_entry nat_eq es n v) ≡ later (lookup (nat_eq q) es) (cost_if (nat_eq n q) v)
+lookup_insert [] n v q = first (nat_eq q n) (nat_eq n q) (nat_eq_swap q n)
+  where
+    first : (s t : Bool) → s ≡ t → cond s (Some v) None ≡ later None (cost_if t v)
+    first true true e = refl
+    first false false e = refl
+    first true false e = absurd (false≢true (sym e))
+    first false true e = absurd (false≢true e)
+lookup_insert (e ∷ es) n v q = said_cases (nat_eq n e.0) e es n v q refl (lookup_insert es n v q)
+
+-- one more line of a loop
+pub lookup_more : {A : Type 0} (form : ℕ → A → Option ℕ) (xs : List A) (i : ℕ) (x : A) (old new : List (ℕ × ℕ)) → i < length xs → x ≡ get_or xs i x →
+    ((q : ℕ) → lookup (nat_eq q) old ≡ last_of (form q) (take i xs)) → ((q : ℕ) → lookup (nat_eq q) new ≡ later (lookup (nat_eq q) old) (form q x)) →
+    (q : ℕ) → lookup (nat_eq q) new ≡ last_of (form q) (take (i + 1) xs)
+lookup_more form xs i x old new within read before step q =
+    step q ∙ ap (λ (o : Option ℕ). later o (form q x)) (before q) ∙ sym (last_of_more (form q) xs i x within read)
+
+-- ---- stub areas ----
+
+-- one more stub area, read by its place
+pub stub_more : (cost : ℕ → Option ℕ) (vs : List StubLine) (i : ℕ) → map (stub_made cost) (take (i + 1) vs) ≡ map (stub_made cost) (take i vs) ++ map (stub_made cost) (cons_option (slice_get vs i) [])
+stub_more cost vs i = ap (map (stub_made cost)) (value_more vs i) ∙ map-append (stub_made cost) (take i vs) (cons_option (slice_get vs i) [])
+
+-- ---- ranges ----
+
+-- two keys of ranges are equal
+abbrev pub key_eq : ℕ × ℕ × ℕ → ℕ × ℕ × ℕ → Bool
+key_eq a b = (nat_eq a.0 b.0 && nat_eq a.1 b.1) && nat_eq a.2 b.2
+
+same_parts : (a1 b1 a2 b2 a3 b3 : ℕ) → a1 ≡ b1 → a2 ≡ b2 → a3 ≡ b3 → (let k : ℕ × ℕ × ℕ = (a1, a2, a3) in k) ≡ (b1, b2, b3)
+same_parts a1 b1 a2 b2 a3 b3 p q r = cc
+
+pub key_same : (a b : ℕ × ℕ × ℕ) → key_eq a b ≡ true → a ≡ b
+key_same a b e =
+    let front : (nat_eq a.0 b.0 && nat_eq a.1 b.1) ≡ true = and_left (nat_eq a.0 b.0 && nat_eq a.1 b.1) (nat_eq a.2 b.2) e in
+    same_parts a.0 b.0 a.1 b.1 a.2 b.2
+    (same_number a.0 b.0 (and_left (nat_eq a.0 b.0) (nat_eq a.1 b.1) front))
+    (same_number a.1 b.1 (and_right (nat_eq a.0 b.0) (nat_eq a.1 b.1) front))
+    (same_number a.2 b.2 (and_right (nat_eq a.0 b.0 && nat_eq a.1 b.1) (nat_eq a.2 b.2) e))
+
+pub keys_agree : (x y : Range) → key_eq (range_key x) (range_key y) ≡ is_same_range y x
+keys_agree x y =
+    ap (λ (b : Bool). b && nat_eq x.dest.base y.dest.base && nat_eq x.dest.len y.dest.len) (nat_eq_swap x.area y.area)
+    ∙ ap (λ (b : Bool). nat_eq y.area x.area && b && nat_eq x.dest.len y.dest.len) (nat_eq_swap x.dest.base y.dest.base)
+    ∙ ap (λ (b : Bool). nat_eq y.area x.area && nat_eq y.dest.base x.dest.base && b) (nat_eq_swap x.dest.len y.dest.len)

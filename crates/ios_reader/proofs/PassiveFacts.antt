@@ -1,0 +1,89 @@
+-- Tables of passive interfaces, against the last line that names an interface.
+use Rattle.std.proofs.Common.{sym, ◌≡◌, ℕ, ◌+◌, ◌<◌, Bool, true, false, List, [], ◌∷◌, ◌++◌, length, take, get_or, Option, Some, None, refl, ap, subst, ◌∙◌, cond, map, bytes_eq}
+use Rattle.std.proofs.lemmas.Bool.{false≢true}
+use Rattle.std.proofs.lemmas.Slice.Eq.{bytes_eq-Decides}
+use Rattle.std.specs.Map.{lookup}
+use Rattle.indexmap.specs.IndexMap.{insert_entry}
+use Rattle.ios_reader.specs.Words.{Word}
+use Rattle.ios_reader.specs.Lookups.{later, last_of}
+use Rattle.ios_reader.specs.Passives.{said_of, with_said}
+use Rattle.ios_reader.proofs.ProcessLookups.{last_of_more}
+
+same_word : (n m : Word) → bytes_eq n m ≡ true → n ≡ m
+same_word n m e = (bytes_eq-Decides n m).0 e
+
+word_same : (n m : Word) → n ≡ m → bytes_eq n m ≡ true
+word_same n m e = (bytes_eq-Decides n m).1 e
+
+eq_swap : (n m : Word) → bytes_eq n m ≡ bytes_eq m n
+eq_swap n m = choice (bytes_eq n m) (bytes_eq m n) refl refl
+  where
+    choice : (a b : Bool) → bytes_eq n m ≡ a → bytes_eq m n ≡ b → a ≡ b
+    choice true true e f = refl
+    choice false false e f = refl
+    choice true false e f = sym (word_same m n (sym (same_word n m e))) ∙ f
+    choice false true e f = sym e ∙ word_same n m (sym (same_word m n f))
+
+here_cases : (b : Bool) (old v : Bool) (rest : Option Bool) → cond b (Some v) rest ≡ later (cond b (Some old) rest) (cond b (Some v) None)
+here_cases true old v rest = refl
+here_cases false old v rest = refl
+
+there_cases : (b : Bool) (old : Bool) (rest more new : Option Bool) → (b ≡ true → new ≡ None) → more ≡ later rest new → cond b (Some old) more ≡ later (cond b (Some old) rest) new
+there_cases true old rest more new none later_is = sym (ap (later (Some old)) (none refl))
+there_cases false old rest more new none later_is = later_is
+
+said_cases : (t : Bool) (e : Word × Bool) (es : List (Word × Bool)) (n : Word) (v : Bool) (name : Word) → bytes_eq n e.0 ≡ t →
+    said_of (with_said es n v) name ≡ later (said_of es name) (cond (bytes_eq n name) (Some v) None) →
+    said_of (cond t ((e.0, v) ∷ es) (e ∷ with_said es n v)) name ≡ later (said_of (e ∷ es) name) (cond (bytes_eq n name) (Some v) None)
+said_cases true e es n v name same rest =
+    let swap : bytes_eq name e.0 ≡ bytes_eq n name = eq_swap name e.0 ∙ ap (λ (w : Word). bytes_eq w name) (sym (same_word n e.0 same)) in
+    here_cases (bytes_eq name e.0) e.1 v (said_of es name)
+    ∙ ap (λ (b : Bool). later (cond (bytes_eq name e.0) (Some e.1) (said_of es name)) (cond b (Some v) None)) swap
+said_cases false e es n v name same rest =
+    there_cases (bytes_eq name e.0) e.1 (said_of es name) (said_of (with_said es n v) name) (cond (bytes_eq n name) (Some v) None)
+    (λ there.
+    let other : bytes_eq n name ≡ false = ap (bytes_eq n) (same_word name e.0 there) ∙ same in
+    ap (λ (b : Bool). cond b (Some v) None) other)
+    rest
+
+-- what a table says of a name after one more line
+pub said_with : (es : List (Word × Bool)) (n : Word) (v : Bool) (name : Word) → said_of (with_said es n v) name ≡ later (said_of es name) (cond (bytes_eq n name) (Some v) None)
+said_with [] n v name = ap (λ (b : Bool). cond b (Some v) None) (eq_swap name n) ∙ sym (none_first (cond (bytes_eq n name) (Some v) None))
+  where
+    none_first : (o : Option Bool) → later None o ≡ o
+    none_first None = refl
+    none_first (Some b) = refl
+said_with (e ∷ es) n v name = said_cases (bytes_eq n e.0) e es n v name refl (said_with es n v name)
+
+-- ---- the map behind a table ----
+
+module _ {K : Type 0} (items : K → Word) where
+  abbrev shown : List (K × Bool) → List (Word × Bool)
+  shown es = map (λ (e : K × Bool). (items e.0, e.1)) es
+
+  insert_cases : (t : Bool) (e : K × Bool) (es rest : List (K × Bool)) (v : Bool) (more : List (Word × Bool)) → shown rest ≡ more →
+      shown (cond t ((e.0, v) ∷ es) (e ∷ rest)) ≡ cond t ((items e.0, v) ∷ shown es) ((items e.0, e.1) ∷ more)
+  insert_cases true e es rest v more h = refl
+  insert_cases false e es rest v more h = ap (λ (w : List (Word × Bool)). (items e.0, e.1) ∷ w) h
+
+  pub table_insert : (es : List (K × Bool)) (k : K) (v : Bool) → shown (insert_entry (λ (a b : K). bytes_eq (items a) (items b)) es k v) ≡ with_said (shown es) (items k) v
+  table_insert [] k v = refl
+  table_insert (e ∷ es) k v =
+      insert_cases (bytes_eq (items k) (items e.0)) e es (insert_entry (λ (a b : K). bytes_eq (items a) (items b)) es k v) v (with_said (shown es) (items k) v) (table_insert es k v)
+
+  lookup_cases : (t : Bool) (v : Bool) (a b : Option Bool) → a ≡ b → cond t (Some v) a ≡ cond t (Some v) b
+  lookup_cases true v a b h = refl
+  lookup_cases false v a b h = h
+
+  pub table_lookup : (es : List (K × Bool)) (name : Word) → lookup (λ (k : K). bytes_eq name (items k)) es ≡ said_of (shown es) name
+  table_lookup [] name = refl
+  table_lookup (e ∷ es) name = lookup_cases (bytes_eq name (items e.0)) e.1 _ _ (table_lookup es name)
+
+-- ---- a loop over the lines of a process ----
+
+-- one more line
+pub table_more : {A : Type 0} (form : Word → A → Option Bool) (xs : List A) (i : ℕ) (x : A) (old new : List (Word × Bool)) → i < length xs → x ≡ get_or xs i x →
+    ((name : Word) → said_of old name ≡ last_of (form name) (take i xs)) → ((name : Word) → said_of new name ≡ later (said_of old name) (form name x)) →
+    (name : Word) → said_of new name ≡ last_of (form name) (take (i + 1) xs)
+table_more form xs i x old new within read before step name =
+    step name ∙ ap (λ (o : Option Bool). later o (form name x)) (before name) ∙ sym (last_of_more (form name) xs i x within read)

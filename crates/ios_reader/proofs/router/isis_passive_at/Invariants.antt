@@ -1,7 +1,0 @@
-use Rattle.std.proofs.Common.{◌≡◌, take}
-use Rattle.ios_reader.specs.Lookups.{last_of}
-use Rattle.ios_reader.specs.Routers.{isis_passive_said}
-use Rattle.ios_reader.proofs.router.isis_passive_at.Given as goal
-
-abbrev pub invariant-loop-statement : goal.invariant-loop-statement
-invariant-loop-statement l = l.last ≡ last_of (λ s. isis_passive_said l.name s.says) (take l.statement-index l.lines)

@@ -1,0 +1,27 @@
+-- Which interfaces the lines of the two processes make passive, by name.
+use Rattle.std.specs.Prelude.{◌≡◌, Bool, List, [], ◌∷◌, Option, Some, None, bytes_eq, if◌then◌else◌}
+use Rattle.ios_reader.specs.Words.{Word}
+use Rattle.ios_reader.specs.Lookups.{last_of}
+use Rattle.ios_reader.specs.Routers.{Router, ospf_passive_said, isis_passive_said}
+use Rattle.ios_reader.specs.declared.ospf_line.OspfStatement.{OspfStatement}
+use Rattle.ios_reader.specs.declared.isis_line.IsisStatement.{IsisStatement}
+
+-- what a table says of a name
+abbrev pub said_of : List (Word × Bool) → Word → Option Bool
+said_of [] name = None
+said_of (e ∷ es) name = if bytes_eq name e.0 then Some e.1 else said_of es name
+
+-- a table, where a name takes a value in the place of the one that it has
+abbrev pub with_said : List (Word × Bool) → Word → Bool → List (Word × Bool)
+with_said [] name passive = (name, passive) ∷ []
+with_said (e ∷ es) name passive = if bytes_eq name e.0 then (e.0, passive) ∷ es else e ∷ with_said es name passive
+
+-- what tables say of each name: for OSPF and for IS-IS
+pub record Passives : Type 0 where
+  pub ospf : List (Word × Bool)
+  pub isis : List (Word × Bool)
+
+-- the tables say of each name what the last line of the process says that names it
+pub record ArePassivesOf (router : Router) (passives : Passives) : Type 0 where
+  pub ospf : (name : Word) → said_of passives.ospf name ≡ last_of (λ (s : OspfStatement). ospf_passive_said name s.says) router.ospf
+  pub isis : (name : Word) → said_of passives.isis name ≡ last_of (λ (s : IsisStatement). isis_passive_said name s.says) router.isis
