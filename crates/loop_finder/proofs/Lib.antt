@@ -1,0 +1,5 @@
+mod Peeling
+mod LowestSteps
+mod RingLaws
+mod LiveLaws
+mod WalkSteps

@@ -1,0 +1,11 @@
+//! The faults of states and of orders: routers without a step, and loops with their rings.
+#![tactic(auto)]
+
+mod class_steps;
+mod fault;
+mod graph;
+mod live;
+mod ring;
+
+pub use fault::Fault;
+pub use rib_mix::OutOfMemory;
