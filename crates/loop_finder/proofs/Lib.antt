@@ -3,3 +3,5 @@ mod LowestSteps
 mod RingLaws
 mod LiveLaws
 mod WalkSteps
+mod ClassFacts
+mod TagSteps

@@ -40,12 +40,8 @@ pub follows_around : (step : ℕ → ℕ → Type 0) (f u : ℕ) (rest : List �
 follows_around step f u [] goes = (goes, refl)
 follows_around step f u (s ∷ rest) goes = (goes.0, follows_around step f s rest goes.1)
 
--- what stands next to place k of a ring, where `first` stands next to its last element
-abbrev pub next_in : {A : Type 0} → A → List A → ℕ → A
-next_in first xs k = get_or xs (suc k) first
-
--- each element goes to the next one
-pub each_at : {A : Type 0} (R : A → A → Type 0) (f d : A) (xs : List A) (k : ℕ) → EachToNext R f xs → k < length xs → R (get_or xs k d) (next_in f xs k)
+-- each element goes to the next one, and the last one to `f`
+pub each_at : {A : Type 0} (R : A → A → Type 0) (f d : A) (xs : List A) (k : ℕ) → EachToNext R f xs → k < length xs → R (get_or xs k d) (get_or xs (suc k) f)
 each_at R f d [] k goes within = absurd (omega (arith, within))
 each_at R f d (x ∷ []) zero goes within = goes
 each_at R f d (x ∷ []) (suc k) goes within = absurd (omega (arith, within))

@@ -5,3 +5,5 @@ pub mod Faults
 pub mod Live
 pub mod Walks
 pub mod Steps
+pub mod Rooms
+pub mod Rings

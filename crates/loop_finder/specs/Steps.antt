@@ -1,5 +1,5 @@
 -- The steps of a state, for the addresses of one class.
-use Rattle.std.specs.Prelude.{◌≡◌, ℕ, ◌<◌, ◌↔◌, Bool, List, length, slice_index, slice_index_or, Option, Some, None}
+use Rattle.std.specs.Prelude.{◌≡◌, ℕ, ◌<◌, ◌↔◌, ◌^◌, Bool, List, length, slice_index, slice_index_or, Option, Some, None}
 use Rattle.net_addr.specs.Addresses.{Block}
 use Rattle.net_model.specs.Network.{Network}
 use Rattle.route_core.specs.Tables.{HasEntry}
@@ -35,6 +35,7 @@ AreForwarders net a forwards = (u : ℕ) → IsMarked forwards u ↔ MustForward
 -- what a state and a class keep
 pub record IsClassState {O N : Type 0} (c : ClassState O N) : Type 0 where
   pub inside : c.atom < length c.mixture.classes.samples
+  pub address : sample_of c.mixture c.atom < 2 ^ 32
   pub phased : length c.phases ≡ length c.mixture.net
   pub many : length c.forwards ≡ length c.mixture.net
   pub forwarders : AreForwarders c.mixture.net (sample_of c.mixture c.atom) c.forwards

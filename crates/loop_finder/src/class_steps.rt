@@ -1,6 +1,8 @@
-ghost use Rattle.std.specs.Prelude.{◌≡◌, ◌<◌, ◌↔◌, ℕ, Contains, IsTrue, length};
+ghost use Rattle.std.specs.Prelude.{◌≡◌, ◌<◌, ◌↔◌, ◌^◌, ℕ, Contains, IsTrue, length};
 ghost use Rattle.std.specs.Bool.{OnFalse, OnTrue};
+ghost use Rattle.igp_theory.specs.Forwarding.{MustForward};
 ghost use Rattle.rib_mix.specs.Answers.{NextLeadsTo};
+ghost use Rattle.loop_finder.specs.Faults.{state_in};
 ghost use Rattle.loop_finder.specs.Steps.{AreForwarders, FirstStuck, IsStuck, Moves, StepsBy, sample_of};
 
 use crate::graph::StepGraph;
@@ -36,6 +38,7 @@ impl<'s, 'm, O: RouteSource, N: RouteSource> ClassSteps<'s, 'm, O, N> {
         atom: u32,
     ) -> ClassSteps<'s, 'm, O, N>
         requires atom { atom < length mixed.now.classes.samples }
+        requires address { sample_of mixed.now atom < 2 ^ 32 }
         requires phases { length phases.now ≡ length mixed.now.net }
         requires many { length forwards.now ≡ length mixed.now.net }
         requires forwards { AreForwarders mixed.now.net (sample_of mixed.now atom) forwards.now }
@@ -54,7 +57,7 @@ impl<'s, 'm, O: RouteSource, N: RouteSource> ClassSteps<'s, 'm, O, N> {
         requires { router < length self.now.mixture.net }
         ensures { (h : ℕ) → Contains result.now h ↔ StepsBy O.table N.table self.now router phase h }
     {
-        if !self.forwards[router as usize] {
+        if !self.must_forward(router) {
             return &[];
         }
         hops_of(self.mixed.hops(router, self.atom, phase))
@@ -65,7 +68,7 @@ impl<'s, 'm, O: RouteSource, N: RouteSource> ClassSteps<'s, 'm, O, N> {
         requires { router < length self.now.mixture.net }
         ensures { IsTrue result ↔ StepsBy O.table N.table self.now router phase hop }
     {
-        self.hops_in(router, phase).contains(&hop)
+        is_among(self.hops_in(router, phase), hop)
     }
 
     /// The lowest-numbered router that has to pass packets on and has no step.
@@ -86,10 +89,26 @@ impl<'s, 'm, O: RouteSource, N: RouteSource> ClassSteps<'s, 'm, O, N> {
         ensures stuck { OnTrue result (IsStuck O.table N.table self.now router) }
         ensures moves { OnFalse result (Moves O.table N.table self.now router) }
     {
-        if !self.forwards[router as usize] {
+        if !self.must_forward(router) {
             return false;
         }
         self.hops(router).is_empty()
+    }
+
+    /// Whether a router has to pass packets on.
+    fn must_forward(&self, router: u32) -> bool
+        requires { router < length self.now.mixture.net }
+        ensures { IsTrue result ↔ MustForward self.now.mixture.net (sample_of self.now.mixture self.now.atom) router }
+    {
+        self.forwards[router as usize]
+    }
+
+    /// The phase of a router.
+    fn phase_of(&self, router: u32) -> Phase
+        requires { router < length self.now.mixture.net }
+        ensures { result ≡ state_in self.now.phases router }
+    {
+        self.phases[router as usize]
     }
 }
 
@@ -106,16 +125,23 @@ impl<'s, 'm, O: RouteSource, N: RouteSource> StepGraph for ClassSteps<'s, 'm, O,
     }
 
     fn hops(&self, router: u32) -> &[u32] {
-        self.hops_in(router, self.phases[router as usize])
+        self.hops_in(router, self.phase_of(router))
     }
 }
 
 /// The hops of an answer.
 fn hops_of(next: Next<'_>) -> &[u32]
-    ensures { (h : ℕ) → Contains result.now h ↔ NextLeadsTo next h }
+    ensures { (h : ℕ) → Contains result.now h ↔ NextLeadsTo next.entry h }
 {
     match next {
         Next::Via(hops) => hops.as_slice(),
         Next::Discard | Next::Connected | Next::Absent => &[],
     }
+}
+
+/// Whether a router is among some.
+fn is_among(routers: &[u32], router: u32) -> bool
+    ensures { IsTrue result ↔ Contains routers.now router }
+{
+    routers.contains(&router)
 }

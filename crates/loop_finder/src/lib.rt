@@ -6,6 +6,8 @@ mod fault;
 mod graph;
 mod live;
 mod ring;
+mod room;
+mod tags;
 
 pub use fault::Fault;
 pub use rib_mix::OutOfMemory;
