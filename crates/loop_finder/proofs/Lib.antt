@@ -5,3 +5,6 @@ mod LiveLaws
 mod WalkSteps
 mod ClassFacts
 mod TagSteps
+mod ClassVerdicts
+mod StateVerdicts
+mod OrderStates

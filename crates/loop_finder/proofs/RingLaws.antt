@@ -1,6 +1,8 @@
 -- Rings: each router and the next one.
 use Rattle.std.proofs.Common.{ℕ, zero, suc, ◌<◌, List, [], ◌∷◌, ◌++◌, length, get_or, refl, sym, subst, arith}
+use Rattle.std.specs.List.{All}
 use Rattle.std.proofs.lemmas.List.{append-nil}
+use Rattle.std.proofs.lemmas.List.Elements.{All-nil, All-cons}
 use Rattle.igp_theory.specs.Loops.{EachToNext, AroundRing}
 use Rattle.igp_theory.specs.States.{Follows}
 
@@ -47,3 +49,9 @@ each_at R f d (x ∷ []) zero goes within = goes
 each_at R f d (x ∷ []) (suc k) goes within = absurd (omega (arith, within))
 each_at R f d (x ∷ y ∷ rest) zero goes within = goes.0
 each_at R f d (x ∷ y ∷ rest) (suc k) goes within = each_at R f d (y ∷ rest) k goes.1 (omega (arith, within))
+
+-- what holds of whatever goes to something holds of each element
+pub all_from_each : {A : Type 0} (R : A → A → Type 0) (P : A → Type 0) (f : A) (xs : List A) → ((u h : A) → R u h → P u) → EachToNext R f xs → All P xs
+all_from_each R P f [] over goes = All-nil P
+all_from_each R P f (x ∷ []) over goes = All-cons P x [] (over x f goes) (All-nil P)
+all_from_each R P f (x ∷ y ∷ rest) over goes = All-cons P x (y ∷ rest) (over x y goes.0) (all_from_each R P f (y ∷ rest) over goes.1)

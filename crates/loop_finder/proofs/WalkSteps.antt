@@ -1,7 +1,7 @@
 -- A walk goes on, and the ring that it ends in.
 use Rattle.std.proofs.Common.{◌≡◌, ◌≢◌, ℕ, ◌+◌, ◌-◌, ◌<◌, ◌≤◌, Bool, List, [], ◌∷◌, ◌++◌, length, get_or, take, drop, arith, refl, sym, ap, ◌∙◌, subst}
 use Rattle.std.specs.List.{All, AllPairs}
-use Rattle.std.proofs.lemmas.List.{take-append-drop, drop_more, length_push, get_or_default, take_at, length-drop}
+use Rattle.std.proofs.lemmas.List.{take-append-drop, drop_more, length_push, get_or_default, take_at, length-drop, length-append}
 use Rattle.std.proofs.lemmas.List.Elements.{All-append, All-drop, All-take, All-push, All-weaker}
 use Rattle.std.proofs.lemmas.List.Quantifiers.{all_pairs_push}
 use Rattle.igp_theory.specs.Loops.{EachToNext, AroundRing, IsLive, IsLowestLive, IsLowestLiveHop, IsFoundRing}
@@ -11,7 +11,7 @@ use Rattle.precedence_set.proofs.DistinctLists.{length-le_from_distinct}
 use Rattle.loop_finder.specs.Live.{ArePeeled}
 use Rattle.loop_finder.specs.Walks.{IsMarkedHop, IsWalk, IsTurned}
 use Rattle.loop_finder.proofs.LiveLaws.{marked_below, live_from_marked, marked_from_live}
-use Rattle.loop_finder.proofs.RingLaws.{each_to_next_push, each_to_next_drop, around_turned}
+use Rattle.loop_finder.proofs.RingLaws.{each_to_next_push, each_to_next_drop, around_turned, all_from_each}
 
 -- what a walk keeps, as far as it has come
 pub record IsOnWay (step : ℕ → ℕ → Type 0) (marks : List Bool) (start : ℕ) (path : List ℕ) (last : ℕ) : Type 0 where
@@ -135,3 +135,11 @@ turned_to path moved kept seen ring place low moved_is kept_is seen_is ring_is w
     let kept_same : kept ≡ drop place path = sym seen_is ∙ same in
     subst (λ (xs : List ℕ). IsTurned (drop place path) xs) (sym (ring_is ∙ ap (λ (xs : List ℕ). drop low xs ++ take low xs) kept_same))
     (turned_from (drop place path) low (subst (λ (xs : List ℕ). low < length xs) same within) (subst (λ (xs : List ℕ). All (λ u. get_or xs low 0 ≤ u) xs) same least))
+
+-- the ring is no longer than there are routers
+pub found_short : (step : ℕ → ℕ → Type 0) (n : ℕ) (ring : List ℕ) → ((u h : ℕ) → step u h → u < n) → IsFoundRing step n ring → length ring ≤ n
+found_short step n ring inside found =
+    let all : List ℕ = found.start ∷ found.visited in
+    let below : All (λ u. u < n) all = all_from_each (IsLowestLiveHop step n) (λ u. u < n) found.again all (λ u h hop. inside u h hop.steps) found.goes in
+    omega (arith, length-le_from_distinct all n found.distinct below, ap length found.in_order, length-append found.lead (found.again ∷ found.rest), ap length found.found, length-append found.front found.back,
+    ap length found.turned, length-append found.back found.front)

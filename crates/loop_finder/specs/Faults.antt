@@ -49,3 +49,8 @@ abbrev pub KeepsRing : Option Fault → List Turn → List Turn → Type 0
 KeepsRing None old new = new ≡ old
 KeepsRing (Some (Loop _)) old new = Unit {0}
 KeepsRing (Some (Missing _ _)) old new = new ≡ old
+
+-- the fault alone, of an answer with the number of its state
+abbrev pub told : Option (ℕ × Fault) → Option Fault
+told None = None
+told (Some found) = Some found.1

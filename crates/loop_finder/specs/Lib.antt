@@ -7,3 +7,5 @@ pub mod Walks
 pub mod Steps
 pub mod Rooms
 pub mod Rings
+pub mod Verdicts
+pub mod Orders

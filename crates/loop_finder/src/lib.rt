@@ -1,10 +1,12 @@
 //! The faults of states and of orders: routers without a step, and loops with their rings.
 #![tactic(auto)]
 
+mod class_fault;
 mod class_steps;
 mod fault;
 mod graph;
 mod live;
+mod order_fault;
 mod ring;
 mod room;
 mod tags;
