@@ -8,3 +8,4 @@ mod TagSteps
 mod ClassVerdicts
 mod StateVerdicts
 mod OrderStates
+mod FaultLaws

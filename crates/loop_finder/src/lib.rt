@@ -4,6 +4,7 @@
 mod class_fault;
 mod class_steps;
 mod fault;
+mod finder;
 mod graph;
 mod live;
 mod order_fault;
@@ -12,4 +13,5 @@ mod room;
 mod tags;
 
 pub use fault::Fault;
+pub use finder::Finder;
 pub use rib_mix::OutOfMemory;
