@@ -1,0 +1,11 @@
+mod Peeling
+mod LowestSteps
+mod RingLaws
+mod LiveLaws
+mod WalkSteps
+mod ClassFacts
+mod TagSteps
+mod ClassVerdicts
+mod StateVerdicts
+mod OrderStates
+mod FaultLaws

@@ -1,0 +1,64 @@
+-- Marked routers are the live ones, and where none is marked no list of steps returns.
+use Rattle.std.proofs.Common.{◌≡◌, ℕ, zero, suc, ◌+◌, ◌<◌, ◌≤◌, ◌↔◌, Bool, true, false, List, [], ◌∷◌, ◌++◌, length, get_or, set, arith, refl, sym, ap, ◌∙◌, subst, inl, inr}
+use Rattle.std.proofs.lemmas.Bool.{false≢true, cases_lt}
+use Rattle.std.proofs.lemmas.List.{get_or_past, length-append}
+use Rattle.igp_theory.specs.Loops.{IsLive}
+use Rattle.igp_theory.specs.States.{Follows}
+use Rattle.precedence_set.specs.Marks.{IsMarked}
+use Rattle.loop_finder.specs.Live.{marked_count, HasMarkedHop, ArePeeled}
+use Rattle.loop_finder.specs.Walks.{ReturnsNever}
+use Rattle.loop_finder.proofs.LowestSteps.{marked_cases}
+use Rattle.loop_finder.proofs.Peeling.{marked_count-set}
+
+-- a marked router is one of those that there are marks for
+pub marked_below : (marks : List Bool) (u : ℕ) → IsMarked marks u → u < length marks
+marked_below marks u marked = elim (cases_lt u (length marks)) [
+  | inl below ↦ below
+  | inr past ↦ absurd (false≢true (sym (get_or_past marks u false past) ∙ marked))
+]
+
+-- lists of steps, one after the other
+follows_append : (step : ℕ → ℕ → Type 0) (u : ℕ) (xs : List ℕ) (v : ℕ) (ys : List ℕ) (w : ℕ) → Follows step u xs v → Follows step v ys w → Follows step u (xs ++ ys) w
+follows_append step u [] v ys w one two = subst (λ (x : ℕ). Follows step x ys w) (sym one) two
+follows_append step u (x ∷ xs) v ys w one two = (one.0, follows_append step x xs v ys w one.1 two)
+
+-- a list of so many steps at least, from u back to u
+record LongReturn (step : ℕ → ℕ → Type 0) (u k : ℕ) : Type 0 where
+  pub hops : List ℕ
+  pub follows : Follows step u hops u
+  pub many : k ≤ length hops
+
+-- a list of steps that returns can be gone again and again
+long_return : (step : ℕ → ℕ → Type 0) (u h : ℕ) (hops : List ℕ) → Follows step u (h ∷ hops) u → (k : ℕ) → LongReturn step u k
+long_return step u h hops returns zero = record { hops = []; follows = refl; many = omega arith }
+long_return step u h hops returns (suc k) =
+    let rest : LongReturn step u k = long_return step u h hops returns k in
+    record {
+      hops = (h ∷ hops) ++ rest.hops;
+      follows = follows_append step u (h ∷ hops) u rest.hops u returns rest.follows;
+      many = let e : length ((h ∷ hops) ++ rest.hops) ≡ length (h ∷ hops) + length rest.hops = length-append (h ∷ hops) rest.hops in omega (arith, e, rest.many);
+    }
+
+-- where no router is marked no list of steps returns
+pub returns_never : (step : ℕ → ℕ → Type 0) (marks : List Bool) → ArePeeled step marks → ((q : ℕ) → ¬ IsMarked marks q) → ReturnsNever step
+returns_never step marks peeled bare u h hops returns =
+    let long : LongReturn step u (suc (length marks)) = long_return step u h hops returns (suc (length marks)) in
+    let few : length long.hops + marked_count marks ≤ length marks = peeled.bounded u long.hops u (bare u) long.follows in
+    omega (arith, few, long.many)
+
+-- from a marked router lists of steps of any length lead on
+pub live_from_marked : (step : ℕ → ℕ → Type 0) (marks : List Bool) → ArePeeled step marks → (n u : ℕ) → IsMarked marks u → IsLive step n u
+live_from_marked step marks peeled zero u marked = record { hops = []; last = u; many = refl; follows = refl }
+live_from_marked step marks peeled (suc n) u marked =
+    let first : HasMarkedHop step marks u = peeled.closed u marked in
+    let rest : IsLive step n first.hop = live_from_marked step marks peeled n first.hop first.marked in
+    record { hops = first.hop ∷ rest.hops; last = rest.last; many = ap suc rest.many; follows = (first.steps, rest.follows) }
+
+-- where some router is marked each live one is
+pub marked_from_live : (step : ℕ → ℕ → Type 0) (marks : List Bool) (s : ℕ) → ArePeeled step marks → IsMarked marks s → (u : ℕ) → IsLive step (length marks) u → IsMarked marks u
+marked_from_live step marks s peeled some u live = elim (marked_cases marks u) [
+  | inl marked ↦ marked
+  | inr bare ↦
+      let few : length live.hops + marked_count marks ≤ length marks = peeled.bounded u live.hops live.last bare live.follows in
+      absurd (omega (arith, few, live.many, marked_count-set marks s (marked_below marks s some) some))
+]

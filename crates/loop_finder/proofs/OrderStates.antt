@@ -1,0 +1,89 @@
+-- The changes of an order, one after another.
+use Rattle.std.proofs.Common.{◌≡◌, ◌≢◌, ℕ, zero, suc, ◌+◌, ◌*◌, ◌/◌, ◌<◌, ◌≤◌, ◌==◌, if◌then◌else◌, List, [], ◌∷◌, ◌++◌, length, get_or, take, Contains, Bool, true, false, arith, refl, sym, ap, ◌∙◌, subst, inl, inr}
+use Rattle.std.specs.List.{All, AllPairs}
+use Rattle.std.proofs.lemmas.Bool.{cases_lt}
+use Rattle.std.proofs.lemmas.Bool.Decides.{eqb_tells}
+use Rattle.std.proofs.lemmas.List.{take_more, take_all}
+use Rattle.std.proofs.lemmas.List.Elements.{All-contains_itself, All-weaker}
+use Rattle.std.proofs.lemmas.Map.Steps.{le-length_from_below}
+use Rattle.std.proofs.lemmas.Map.Views.{list_any-from_Contains}
+use Rattle.std.specs.Cmp.{nat_eq_equiv}
+use Rattle.igp_theory.specs.States.{State, IsOrder, changes_of, changes_on, phase_after, state_of}
+use Rattle.igp_theory.specs.declared.phase.Phase.{Phase}
+use Rattle.igp_theory.specs.declared.phase.Phase.TheVariants.{Old, Middle, New}
+use Rattle.precedence_set.proofs.DistinctLists.{length-le_from_distinct}
+use Rattle.loop_finder.specs.Faults.{state_in}
+use Rattle.loop_finder.specs.Orders.{next_phase, IsStateOf, IsAdvanced}
+
+-- two states that give each router one phase are one
+pub same_state : (one other : State) → ((u : ℕ) → one u ≡ other u) → one ≡ other
+same_state one other same = λ i u. same u i
+
+-- an order lists as many routers as there are
+pub order_length : (n : ℕ) (order : List ℕ) → IsOrder n order → length order ≡ n
+order_length n order is =
+    let few : length order ≤ n = length-le_from_distinct order n is.once (All-weaker (Contains order) (λ u. u < n) (λ u among. (is.all u).0 among) order (All-contains_itself order)) in
+    let many : n ≤ length order = le-length_from_below order n (λ q below. list_any-from_Contains nat_eq_equiv q order ((is.all q).1 below)) in
+    omega (arith, few, many)
+
+-- two changes for each router
+changes_length : (order : List ℕ) → length (changes_of order) ≡ 2 * length order
+changes_length [] = refl
+changes_length (u ∷ order) = let e : length (changes_of order) ≡ 2 * length order = changes_length order in omega (arith, e)
+
+-- change k is of the router at place k / 2
+change_at : (order : List ℕ) (k : ℕ) → get_or (changes_of order) k 0 ≡ get_or order (k / 2) 0
+change_at [] k = refl
+change_at (u ∷ order) zero = refl
+change_at (u ∷ order) (suc zero) = refl
+change_at (u ∷ order) (suc (suc k)) =
+    let half : suc (k / 2) ≡ suc (suc k) / 2 = omega arith in
+    change_at order k ∙ ap (λ (n : ℕ). get_or (u ∷ order) n 0) half
+
+-- a test as a count, and what a change of router v counts for u
+abbrev tally : Bool → ℕ
+tally b = if b then 1 else 0
+
+abbrev counted : ℕ → ℕ → ℕ
+counted u v = tally (u == v)
+
+-- one more change counts for its router
+changes_on-push : (u : ℕ) (changes : List ℕ) (v : ℕ) → changes_on u (changes ++ v ∷ []) ≡ changes_on u changes + counted u v
+changes_on-push u [] v = omega arith
+changes_on-push u (w ∷ changes) v = let e : changes_on u (changes ++ v ∷ []) ≡ changes_on u changes + counted u v = changes_on-push u changes v in omega (arith, e)
+
+phase_after-more : (c : ℕ) → phase_after (c + 1) ≡ next_phase (phase_after c)
+phase_after-more zero = refl
+phase_after-more (suc zero) = refl
+phase_after-more (suc (suc c)) = let e : suc (suc c) + 1 ≡ suc (suc (suc c)) = omega arith in ap phase_after e
+
+-- at first no change is made
+pub state_first : (order : List ℕ) (u : ℕ) → state_of order 0 u ≡ Old
+state_first order u = refl
+
+-- a change more
+state_more : (order : List ℕ) (k u : ℕ) → k < 2 * length order → state_of order (k + 1) u ≡ phase_after (changes_on u (take k (changes_of order)) + counted u (get_or order (k / 2) 0))
+state_more order k u within =
+    let fits : k < length (changes_of order) = omega (arith, within, changes_length order) in
+    ap (λ (xs : List ℕ). phase_after (changes_on u xs)) (take_more (changes_of order) k 0 fits)
+    ∙ ap phase_after (changes_on-push u (take k (changes_of order)) (get_or (changes_of order) k 0))
+    ∙ ap (λ (v : ℕ). phase_after (changes_on u (take k (changes_of order)) + counted u v)) (change_at order k)
+
+-- the phases after change k, which the router at place k / 2 makes
+pub state_advanced : (order : List ℕ) (phases next : List Phase) (k r : ℕ) → k / 2 < length order → r ≡ get_or order (k / 2) 0 → IsAdvanced phases next r → IsStateOf phases order k → IsStateOf next order (k + 1)
+state_advanced order phases next k r within at advanced state u = elim (eqb_tells u r) [
+  | inl same ↦
+      let one : counted u (get_or order (k / 2) 0) ≡ tally true = ap (λ (v : ℕ). counted u v) (sym at) ∙ ap tally same.0 in
+      subst (λ (v : ℕ). state_in next v ≡ next_phase (state_in phases v)) (sym same.1) advanced.here ∙ ap next_phase (state u) ∙ sym (phase_after-more (changes_on u (take k (changes_of order))))
+      ∙ ap (λ (n : ℕ). phase_after (changes_on u (take k (changes_of order)) + n)) (sym one) ∙ sym (state_more order k u (omega (arith, within)))
+  | inr apart ↦
+      let none : counted u (get_or order (k / 2) 0) ≡ tally false = ap (λ (v : ℕ). counted u v) (sym at) ∙ ap tally apart.0 in
+      let same : changes_on u (take k (changes_of order)) ≡ changes_on u (take k (changes_of order)) + counted u (get_or order (k / 2) 0) = omega (arith, none) in
+      advanced.others u apart.1 ∙ state u ∙ ap phase_after same ∙ sym (state_more order k u (omega (arith, within)))
+]
+
+-- past its changes an order stays in its last state
+pub state_stays : (order : List ℕ) (phases : List Phase) (k : ℕ) → length order ≤ k / 2 → IsStateOf phases order k → IsStateOf phases order (k + 1)
+state_stays order phases k past state u =
+    let long : length (changes_of order) ≤ k = omega (arith, changes_length order, past) in
+    state u ∙ ap (λ (xs : List ℕ). phase_after (changes_on u xs)) (take_all k (changes_of order) long ∙ sym (take_all (k + 1) (changes_of order) (omega (arith, long))))

@@ -1,0 +1,99 @@
+-- Marks that are taken one after another.
+use Rattle.std.proofs.Common.{◌≡◌, ℕ, zero, suc, ◌+◌, ◌<◌, ◌≤◌, Bool, true, false, cond, List, [], ◌∷◌, length, get_or, set, arith, subst, sym, refl, ap, ◌∙◌, below_more, inl, inr}
+use Rattle.std.proofs.lemmas.List.{get_or-set_same, get_or-set_other, get_or_past, length-set}
+use Rattle.std.proofs.lemmas.List.Sums.{sum_by-set, count_by-le-length}
+use Rattle.std.proofs.lemmas.Bool.{false≢true, cases_lt}
+use Rattle.std.proofs.lemmas.Bool.Decides.{eqb_tells}
+use Rattle.std.specs.Bool.{OnFalse}
+use Rattle.igp_theory.specs.States.{Follows}
+use Rattle.precedence_set.specs.Marks.{IsMarked}
+use Rattle.loop_finder.specs.Live.{marked_count, HasMarkedHop, AreBounded, ArePeeled}
+
+-- a mark that is there stays where another is taken
+marked_before : (marks : List Bool) (u r : ℕ) → u < length marks → IsMarked (set marks u false) r → IsMarked marks r
+marked_before marks u r within marked = elim (eqb_tells r u) [
+  | inl same ↦ absurd (false≢true (sym (get_or-set_same marks u false false within) ∙ subst (λ (x : ℕ). get_or (set marks u false) x false ≡ true) same.1 marked))
+  | inr apart ↦ sym (get_or-set_other marks u r false false apart.1) ∙ marked
+]
+
+-- a router without a mark, once another's is taken: it is that one, or had none
+unmarked_before : (marks : List Bool) (u r : ℕ) → (¬ IsMarked (set marks u false) r) → ¬ (r ≡ u) → ¬ IsMarked marks r
+unmarked_before marks u r bare apart marked = bare (get_or-set_other marks u r false false apart ∙ marked)
+
+-- one mark less
+pub marked_count-set : (marks : List Bool) (u : ℕ) → u < length marks → IsMarked marks u → marked_count (set marks u false) + 1 ≡ marked_count marks
+marked_count-set marks u within marked =
+    let one : Bool → ℕ = λ b. cond b 1 0 in
+    let k : one (get_or marks u false) ≡ one true = ap one marked in
+    omega (arith, sum_by-set one marks u false false within, k)
+
+-- at first no router has no mark, so nothing is to be shown of one
+pub bounded_first : (step : ℕ → ℕ → Type 0) (marks : List Bool) → ((u h : ℕ) → step u h → u < length marks) → ((r : ℕ) → r < length marks → IsMarked marks r) → AreBounded step marks
+bounded_first step marks inside all u [] last bare follows = omega (arith, count_by-le-length (λ (b : Bool). b) marks)
+bounded_first step marks inside all u (h ∷ hops) last bare follows = absurd (bare (all u (inside u h follows.0)))
+
+-- where a router steps to no marked one, its mark can be taken
+pub bounded_more : (step : ℕ → ℕ → Type 0) (marks : List Bool) (u : ℕ) → u < length marks → IsMarked marks u → ((h : ℕ) → step u h → ¬ IsMarked marks h) → AreBounded step marks
+    → AreBounded step (set marks u false)
+bounded_more step marks u within marked stuck bounded r hops last bare follows = elim (eqb_tells r u) [
+  | inl same ↦ at_u hops (subst (λ (x : ℕ). Follows step x hops last) same.1 follows)
+  | inr apart ↦
+      let few : length hops + marked_count marks ≤ length marks = bounded r hops last (unmarked_before marks u r bare apart.1) follows in
+      omega (arith, few, fewer, many)
+]
+  where
+    fewer : marked_count (set marks u false) + 1 ≡ marked_count marks
+    fewer = marked_count-set marks u within marked
+
+    many : length (set marks u false) ≡ length marks
+    many = length-set marks u false
+
+    at_u : (hops : List ℕ) → Follows step u hops last → length hops + marked_count (set marks u false) ≤ length (set marks u false)
+    at_u [] follows = omega (arith, fewer, many, count_by-le-length (λ (b : Bool). b) marks)
+    at_u (h ∷ rest) follows =
+        let few : length rest + marked_count marks ≤ length marks = bounded h rest last (stuck h follows.0) follows.1 in
+        omega (arith, few, fewer, many)
+
+-- what a pass over the routers keeps, as far as it has come
+pub record IsPeel (step : ℕ → ℕ → Type 0) (start marks : List Bool) (peeled : Bool) (i : ℕ) : Type 0 where
+  pub bounded : AreBounded step marks
+  pub closed : peeled ≡ false → (u : ℕ) → u < i → IsMarked marks u → HasMarkedHop step marks u
+  pub no_more : marked_count marks ≤ marked_count start
+  pub fewer : peeled ≡ true → marked_count marks < marked_count start
+
+pub IsPeel-first : (step : ℕ → ℕ → Type 0) (marks : List Bool) → AreBounded step marks → IsPeel step marks marks false 0
+IsPeel-first step marks bounded = record {
+  bounded = bounded;
+  closed = λ e u below. absurd (omega (arith, below));
+  no_more = omega arith;
+  fewer = λ e. absurd (false≢true e);
+}
+
+pub IsPeel-same : (step : ℕ → ℕ → Type 0) (start marks : List Bool) (peeled : Bool) (i : ℕ) → IsPeel step start marks peeled i → (IsMarked marks i → HasMarkedHop step marks i)
+    → IsPeel step start marks peeled (i + 1)
+IsPeel-same step start marks peeled i peel leads = record {
+  bounded = peel.bounded;
+  closed = λ e. below_more (λ u. IsMarked marks u → HasMarkedHop step marks u) i (peel.closed e) leads;
+  no_more = peel.no_more;
+  fewer = peel.fewer;
+}
+
+pub IsPeel-taken : (step : ℕ → ℕ → Type 0) (start marks : List Bool) (peeled : Bool) (i : ℕ) → IsPeel step start marks peeled i → i < length marks → IsMarked marks i
+    → ((h : ℕ) → step i h → ¬ IsMarked marks h) → IsPeel step start (set marks i false) true (i + 1)
+IsPeel-taken step start marks peeled i peel within marked stuck =
+    let less : marked_count (set marks i false) + 1 ≡ marked_count marks = marked_count-set marks i within marked in
+    record {
+      bounded = bounded_more step marks i within marked stuck peel.bounded;
+      closed = λ e. absurd (false≢true (sym e));
+      no_more = omega (arith, less, peel.no_more);
+      fewer = λ e. omega (arith, less, peel.no_more);
+    }
+
+-- after a pass that took nothing every marked router steps to a marked one
+pub IsPeel-closed : (step : ℕ → ℕ → Type 0) (start marks : List Bool) (peeled : Bool) (n : ℕ) → IsPeel step start marks peeled n → length marks ≤ n
+    → OnFalse peeled ((u : ℕ) → IsMarked marks u → HasMarkedHop step marks u)
+IsPeel-closed step start marks true n peel whole = tt
+IsPeel-closed step start marks false n peel whole = λ u marked. elim (cases_lt u n) [
+  | inl below ↦ peel.closed refl u below marked
+  | inr past ↦ absurd (false≢true (sym (get_or_past marks u false (omega (arith, past, whole))) ∙ marked))
+]

@@ -1,0 +1,95 @@
+-- A state is sound for all addresses where it is for the least address of each class.
+use Rattle.std.proofs.Common.{◌≡◌, ◌≢◌, ℕ, ◌^◌, ◌<◌, ◌≤◌, ◌↔◌, List, length, get_or, arith, subst, sym, inl, inr}
+use Rattle.std.specs.List.{AllPairs}
+use Rattle.std.proofs.lemmas.Bool.{cases_lt}
+use Rattle.std.proofs.lemmas.List.Kept.{AllPairs-from_increasing}
+use Rattle.net_addr.specs.Addresses.{Block}
+use Rattle.net_addr.specs.Boundaries.{SameBlocksContain}
+use Rattle.net_model.specs.Network.{Network}
+use Rattle.route_core.specs.Tables.{HasEntry}
+use Rattle.route_core.specs.declared.entry.Entry.{Entry}
+use Rattle.igp_theory.specs.Laws.{HaveSameTables}
+use Rattle.igp_theory.specs.States.{State, IsSoundAt}
+use Rattle.igp_theory.proofs.SameTables.{sound_at_over, same_tables_sym}
+use Rattle.prefix_atoms.specs.Classes.{AreSamples, Classes, AreClasses, IsInClass, SourceEntry}
+use Rattle.prefix_atoms.specs.Laws.{ActAlike}
+use Rattle.prefix_atoms.proofs.ClassLaws.{one_class_acts_alike}
+use Rattle.precedence_set.proofs.DistinctLists.{length-le_from_distinct}
+use Rattle.rib_mix.specs.Mixture.{Mixture}
+use Rattle.loop_finder.specs.Steps.{Listing, sample_of}
+use Rattle.loop_finder.specs.Verdicts.{SoundAt, SoundBelow, Sound}
+use Rattle.loop_finder.proofs.ClassVerdicts.{sample_in}
+
+-- the samples ascend
+sample_before : (prefixes : List Block) (samples : List ℕ) (i j : ℕ) → AreSamples prefixes samples → i < j → j < length samples → get_or samples i 0 < get_or samples j 0
+sample_before prefixes samples i j are before within = AllPairs-from_increasing samples are.ascending i j 0 before within
+
+-- so their number is one of 32 bits
+pub classes_few : (prefixes : List Block) (samples : List ℕ) → AreSamples prefixes samples → length samples ≤ 2 ^ 32
+classes_few prefixes samples are =
+    let apart : AllPairs (λ u v. u ≢ v) samples = λ i j d before within same. let less : get_or samples i d < get_or samples j d = AllPairs-from_increasing samples are.ascending i j d before within in omega (arith, less, same) in
+    length-le_from_distinct samples (2 ^ 32) apart are.addresses
+
+-- the classes of what is mixed
+abbrev pub ClassesOf : {O N : Type 0} → Listing O → Listing N → Mixture O N → Type 0
+ClassesOf old new m = AreClasses m.net (SourceEntry (length m.net) (old m.old)) (SourceEntry (length m.net) (new m.new)) m.classes
+
+-- at the routers of the network a source has the entries of its tables
+same_entries : (net : Network) (old new : ℕ → List (Block × Entry)) → HaveSameTables net (HasEntry old) (HasEntry new) (SourceEntry (length net) old) (SourceEntry (length net) new)
+same_entries net old new = record {
+  same_old = λ u p e within. (λ has. (within, has), λ has. has.1);
+  same_new = λ u p e within. (λ has. (within, has), λ has. has.1);
+}
+
+-- a state that is sound for one address of a class is sound for another
+sound_alike : {O N : Type 0} (old : Listing O) (new : Listing N) (m : Mixture O N) (state : State) (k a b : ℕ) → ClassesOf old new m → IsInClass m.classes k a → IsInClass m.classes k b
+    → SoundAt old new m state a → SoundAt old new m state b
+sound_alike old new m state k a b are in_a in_b sound =
+    let same : HaveSameTables m.net (HasEntry (old m.old)) (HasEntry (new m.new)) (SourceEntry (length m.net) (old m.old)) (SourceEntry (length m.net) (new m.new)) = same_entries m.net (old m.old) (new m.new) in
+    let alike : ActAlike m.net (SourceEntry (length m.net) (old m.old)) (SourceEntry (length m.net) (new m.new)) a b =
+        one_class_acts_alike m.net (SourceEntry (length m.net) (old m.old)) (SourceEntry (length m.net) (new m.new)) m.classes k a b are in_a in_b in
+    sound_at_over (same_tables_sym same) ((alike.sound state).0 (sound_at_over same sound))
+
+-- an address is in a class whose least address isn't above it
+record HasClass (c : Classes) (a : ℕ) : Type 0 where
+  pub class : ℕ
+  pub inside : IsInClass c class a
+  pub least : get_or c.samples class 0 ≤ a
+
+class_of : (c : Classes) (a : ℕ) → AreSamples c.prefixes c.samples → a < 2 ^ 32 → HasClass c a
+class_of c a are address =
+    let at : (k : ℕ) × (k < length c.samples) × SameBlocksContain c.prefixes (get_or c.samples k 0) a = are.all a address in
+    record {
+      class = at.0;
+      inside = record { class = at.1; address = address; alike = at.2 };
+      least = elim (cases_lt a (get_or c.samples at.0 0)) [
+        | inl below ↦ absurd (are.least at.0 a at.1 below at.2)
+        | inr above ↦ above
+      ];
+    }
+
+-- where a state is sound for the least addresses of the classes before one, it's sound for all lower addresses
+pub below_from : {O N : Type 0} (old : Listing O) (new : Listing N) (m : Mixture O N) (state : State) (k : ℕ) → ClassesOf old new m → k < length m.classes.samples
+    → ((j : ℕ) → j < k → SoundAt old new m state (sample_of m j)) → SoundBelow old new m state (sample_of m k)
+below_from old new m state k are within sound b below =
+    let address : get_or m.classes.samples k 0 < 2 ^ 32 = are.classing.samples.addresses k 0 within in
+    let at : HasClass m.classes b = class_of m.classes b are.classing.samples (omega (arith, address, below)) in
+    elim (cases_lt at.class k) [
+      | inl before ↦ sound_alike old new m state at.class (sample_of m at.class) b are (sample_in m.classes at.class are at.inside.class) at.inside (sound at.class before)
+      | inr after ↦ elim (cases_lt k at.class) [
+        | inl past ↦
+            let less : get_or m.classes.samples k 0 < get_or m.classes.samples at.class 0 = sample_before m.classes.prefixes m.classes.samples k at.class are.classing.samples past at.inside.class in
+            absurd (omega (arith, less, below, at.least))
+        | inr equal ↦
+            let same : at.class ≡ k = omega (arith, after, equal) in
+            let least : get_or m.classes.samples k 0 ≤ b = subst (λ (n : ℕ). get_or m.classes.samples n 0 ≤ b) same at.least in
+            absurd (omega (arith, least, below))
+      ]
+    ]
+
+-- where it is for the least addresses of all classes, it's sound
+pub sound_from_classes : {O N : Type 0} (old : Listing O) (new : Listing N) (m : Mixture O N) (state : State) (n : ℕ) → ClassesOf old new m → length m.classes.samples ≤ n
+    → ((j : ℕ) → j < n → SoundAt old new m state (sample_of m j)) → Sound old new m state
+sound_from_classes old new m state n are whole sound a address =
+    let at : HasClass m.classes a = class_of m.classes a are.classing.samples address in
+    sound_alike old new m state at.class (sample_of m at.class) a are (sample_in m.classes at.class are at.inside.class) at.inside (sound at.class (omega (arith, at.inside.class, whole)))

@@ -1,0 +1,42 @@
+use Rattle.std.proofs.Common.{◌≡◌, ℕ, ◌<◌, ◌↔◌, List, Bool, Some, None, length, ap, ◌∙◌, subst, sym, arith}
+use Rattle.std.proofs.lemmas.List.{take_at}
+use Rattle.net_model.specs.Network.{Network, Connected}
+use Rattle.net_model.specs.Refusals.{IsNetwork}
+use Rattle.igp_theory.specs.Forwarding.{IsTarget}
+use Rattle.precedence_set.specs.Marks.{IsMarked}
+use Rattle.loop_finder.specs.Faults.{state_in}
+use Rattle.loop_finder.specs.Steps.{ClassState, sample_of, AreForwarders}
+use Rattle.loop_finder.specs.Verdicts.{Verdict}
+use Rattle.loop_finder.proofs.ClassVerdicts.{forwarders_from, sound_without, sound_cases, fault_cases, sample_in, target_at}
+use Rattle.loop_finder.proofs.class_fault.class_fault.Goals as goal
+
+pub returns-in-None-clause-sound : goal.returns-in-None-clause-sound
+returns-in-None-clause-sound g c =
+    sound_without g.O.RouteSource.table g.N.RouteSource.table c.args.mixed.now (state_in c.args.phases.now) (sample_of c.args.mixed.now c.args.atom)
+    (target_at c.args.mixed.now.classes c.atoms-atoms.result.now c.args.atom None c.atoms-atoms.ensures.classes c.requires.atom c.atoms-atoms.ensures.atoms c.in-None.ensures)
+
+pub new-steps-requires-clause-forwards : goal.new-steps-requires-clause-forwards
+new-steps-requires-clause-forwards g c =
+    let many : length c.mark_forwarders.new.forwards ≡ c.args.room.now.forwards.len =
+        omega (arith, c.mark_forwarders.auto.forwards, ap length c.deref_mut.ensures.value, c.args.room.now.forwards.ok.0) in
+    let same : c.as_slice.result.now ≡ c.mark_forwarders.new.forwards = c.as_slice.ensures.value ∙ take_at _ _ _ many in
+    let target : IsTarget c.args.mixed.now.net (sample_of c.args.mixed.now c.args.atom) c.in-Some.target =
+        target_at c.args.mixed.now.classes c.atoms-atoms.result.now c.args.atom (Some c.in-Some.target) c.atoms-atoms.ensures.classes c.requires.atom c.atoms-atoms.ensures.atoms c.in-Some.ensures in
+    let network : IsNetwork c.args.mixed.now.net = subst IsNetwork c.net.ensures c.mark_forwarders.ensures.network in
+    let marks : (u : ℕ) → IsMarked c.mark_forwarders.new.forwards u ↔ ((u < length c.args.mixed.now.net) × (¬ Connected c.args.mixed.now.net u c.in-Some.target)) =
+        subst (λ (n : Network). (u : ℕ) → IsMarked c.mark_forwarders.new.forwards u ↔ ((u < length n) × (¬ Connected n u c.in-Some.target))) c.net.ensures c.mark_forwarders.ensures.marks in
+    subst (λ (fs : List Bool). AreForwarders c.args.mixed.now.net (sample_of c.args.mixed.now c.args.atom) fs) (sym same)
+    (forwarders_from c.args.mixed.now.net (sample_of c.args.mixed.now c.args.atom) c.in-Some.target c.mark_forwarders.new.forwards network target marks)
+
+pub returns-clause-sound : goal.returns-clause-sound
+returns-clause-sound g c =
+    let made : ClassState g.row.O.Denot g.row.N.Denot = record { mixture = c.args.mixed.now; phases = c.args.phases.now; forwards = c.as_slice.result.now; atom = c.args.atom } in
+    sound_cases g.O.RouteSource.table g.N.RouteSource.table made c.steps_fault.result c.steps_fault.new.ring.items
+    (subst (λ (x : ClassState g.row.O.Denot g.row.N.Denot). Verdict g.O.RouteSource.table g.N.RouteSource.table x c.steps_fault.result c.steps_fault.new.ring.items) c.new-steps.ensures c.steps_fault.ensures.verdict)
+
+pub returns-clause-fault : goal.returns-clause-fault
+returns-clause-fault g c =
+    let made : ClassState g.row.O.Denot g.row.N.Denot = record { mixture = c.args.mixed.now; phases = c.args.phases.now; forwards = c.as_slice.result.now; atom = c.args.atom } in
+    fault_cases g.O.RouteSource.table g.N.RouteSource.table made c.steps_fault.result c.steps_fault.new.ring.items
+    (sample_in c.args.mixed.now.classes c.args.atom c.atoms-atoms.ensures.classes c.requires.atom).address c.requires.below
+    (subst (λ (x : ClassState g.row.O.Denot g.row.N.Denot). Verdict g.O.RouteSource.table g.N.RouteSource.table x c.steps_fault.result c.steps_fault.new.ring.items) c.new-steps.ensures c.steps_fault.ensures.verdict)

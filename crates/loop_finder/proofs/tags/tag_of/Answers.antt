@@ -1,0 +1,7 @@
+use Rattle.std.proofs.lemmas.Bool.{false≢true}
+use Rattle.loop_finder.proofs.TagSteps.{tagged_new}
+use Rattle.loop_finder.proofs.tags.tag_of.Goals as goal
+
+pub returns-in-false-default : goal.returns-in-false-default
+returns-in-false-default g c =
+    tagged_new g.O.RouteSource.table g.N.RouteSource.table c.args.steps.now c.args.router c.args.next (λ steps. false≢true (c.in-false-default.ensures.1 steps)) c.requires.some

@@ -1,0 +1,11 @@
+pub use Rattle.igp_theory.specs.Forwarding
+pub use Rattle.igp_theory.specs.States
+pub use Rattle.igp_theory.specs.Loops
+pub mod Faults
+pub mod Live
+pub mod Walks
+pub mod Steps
+pub mod Rooms
+pub mod Rings
+pub mod Verdicts
+pub mod Orders

@@ -1,0 +1,46 @@
+-- Which routers of a step relation are live: marks that are taken from those that can't step on.
+use Rattle.std.specs.Prelude.{◌≡◌, ℕ, ◌+◌, ◌≤◌, Bool, List, length, count_by, Contains, Option, Some, None, min}
+use Rattle.igp_theory.specs.States.{Follows}
+use Rattle.precedence_set.specs.Marks.{IsMarked}
+
+-- how many routers are marked
+abbrev pub marked_count : List Bool → ℕ
+marked_count marks = count_by (λ b. b) marks
+
+-- the router steps to a marked one
+pub record HasMarkedHop (step : ℕ → ℕ → Type 0) (marks : List Bool) (u : ℕ) : Type 0 where
+  pub hop : ℕ
+  pub steps : step u hop
+  pub marked : IsMarked marks hop
+
+-- from a router that isn't marked lead at most as many steps as there are such routers
+abbrev pub AreBounded : (ℕ → ℕ → Type 0) → List Bool → Type 0
+AreBounded step marks =
+    (u : ℕ) (hops : List ℕ) (last : ℕ) → ¬ IsMarked marks u → Follows step u hops last → length hops + marked_count marks ≤ length marks
+
+-- every marked router steps to a marked one, and from the others few steps lead on
+pub record ArePeeled (step : ℕ → ℕ → Type 0) (marks : List Bool) : Type 0 where
+  pub bounded : AreBounded step marks
+  pub closed : (u : ℕ) → IsMarked marks u → HasMarkedHop step marks u
+
+-- the lowest-numbered marked router among some
+pub record IsLowestMarked (routers : List ℕ) (marks : List Bool) (h : ℕ) : Type 0 where
+  pub among : Contains routers h
+  pub marked : IsMarked marks h
+  pub lowest : (q : ℕ) → Contains routers q → IsMarked marks q → h ≤ q
+
+-- that router, none where none of them is marked
+abbrev pub LowestMarked : List ℕ → List Bool → Option ℕ → Type 0
+LowestMarked routers marks None = (q : ℕ) → Contains routers q → ¬ IsMarked marks q
+LowestMarked routers marks (Some h) = IsLowestMarked routers marks h
+
+-- the lowest-numbered marked router of all, none where none is marked
+abbrev pub FirstMarked : List Bool → Option ℕ → Type 0
+FirstMarked marks None = (q : ℕ) → ¬ IsMarked marks q
+FirstMarked marks (Some h) = IsMarked marks h × ((q : ℕ) → IsMarked marks q → h ≤ q)
+
+-- the lower of a router that may be known and of another where that is marked
+pub record IsLowerMarked (marks : List Bool) (known : Option ℕ) (router : ℕ) (lower : Option ℕ) : Type 0 where
+  pub unmarked : ¬ IsMarked marks router → lower ≡ known
+  pub only : known ≡ None → IsMarked marks router → lower ≡ Some router
+  pub least : (w : ℕ) → known ≡ Some w → IsMarked marks router → lower ≡ Some (min w router)

@@ -1,0 +1,40 @@
+-- Walks along marked routers, and the rings that they end in.
+use Rattle.std.specs.Prelude.{◌≡◌, ◌≢◌, ℕ, ◌≤◌, ◌<◌, Bool, List, ◌∷◌, ◌++◌, length, slice_index, Option, Some, None, All, AllPairs}
+use Rattle.igp_theory.specs.Loops.{EachToNext}
+use Rattle.igp_theory.specs.States.{Follows}
+use Rattle.precedence_set.specs.Marks.{IsMarked}
+
+-- no non-empty list of steps returns to its first router
+abbrev pub ReturnsNever : (ℕ → ℕ → Type 0) → Type 0
+ReturnsNever step = (u h : ℕ) (hops : List ℕ) → Follows step u (h ∷ hops) u → ⊥
+
+-- the lowest-numbered marked hop of u
+pub record IsMarkedHop (step : ℕ → ℕ → Type 0) (marks : List Bool) (u h : ℕ) : Type 0 where
+  pub steps : step u h
+  pub marked : IsMarked marks h
+  pub lowest : (v : ℕ) → step u v → IsMarked marks v → h ≤ v
+
+-- a walk from a router, each time to the lowest-numbered marked hop, over distinct routers; the hop of the
+-- last one is the router at this place
+pub record IsWalk (step : ℕ → ℕ → Type 0) (marks : List Bool) (start : ℕ) (path : List ℕ) (place : ℕ) : Type 0 where
+  pub visited : List ℕ
+  pub begins : path ≡ start ∷ visited
+  pub within : place < length path
+  pub distinct : AllPairs (λ u v. u ≢ v) path
+  pub goes : EachToNext (IsMarkedHop step marks) (slice_index path place) path
+
+-- a place of the router in the list, none where it isn't there
+abbrev pub PlaceOf : List ℕ → ℕ → Option ℕ → Type 0
+PlaceOf routers router None = (k : ℕ) → k < length routers → slice_index routers k ≢ router
+PlaceOf routers router (Some place) = (place < length routers) × (slice_index routers place ≡ router)
+
+-- a ring is turned so that its lowest-numbered router is first
+pub record IsTurned (ring turned : List ℕ) : Type 0 where
+  pub front : List ℕ
+  pub back : List ℕ
+  pub found : ring ≡ front ++ back
+  pub turned_is : turned ≡ back ++ front
+  pub lowest : ℕ
+  pub others : List ℕ
+  pub first : turned ≡ lowest ∷ others
+  pub least : All (λ u. lowest ≤ u) others

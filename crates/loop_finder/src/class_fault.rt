@@ -1,0 +1,91 @@
+ghost use Rattle.std.specs.Prelude.{◌≡◌, ◌<◌, ◌≤◌, ◌↔◌, ℕ, IfNone, IfSome, length};
+ghost use Rattle.std.specs.Vec.{vec_capacity};
+ghost use Rattle.net_model.specs.Network.{Connected};
+ghost use Rattle.net_model.specs.Refusals.{IsNetwork};
+ghost use Rattle.precedence_set.specs.Marks.{IsMarked};
+ghost use Rattle.loop_finder.specs.Faults.{KeepsRing, state_in};
+ghost use Rattle.loop_finder.specs.Rooms.{HasRoom};
+ghost use Rattle.loop_finder.specs.Steps.{sample_of};
+ghost use Rattle.loop_finder.specs.Verdicts.{Faulty, SoundAt, SoundBelow, Verdict};
+
+use crate::class_steps::ClassSteps;
+use crate::fault::Fault;
+use crate::ring::find_ring;
+use crate::room::Room;
+use crate::tags::write_ring;
+use net_addr::Prefix;
+use net_model::Net;
+use order_search::Turn;
+use rib_mix::{Mixed, Phase};
+use route_core::RouteSource;
+
+/// The fault of a state for a class, where it's sound for all lower addresses.
+pub fn class_fault<O: RouteSource, N: RouteSource>(
+    mixed: &Mixed<'_, O, N>,
+    phases: &[Phase],
+    atom: u32,
+    room: &mut Room,
+) -> Option<Fault>
+    requires atom { atom < length mixed.now.classes.samples }
+    requires phases { length phases.now ≡ length mixed.now.net }
+    requires room { HasRoom (length mixed.now.net) room.old }
+    requires below { SoundBelow O.table N.table mixed.now (state_in phases.now) (sample_of mixed.now atom) }
+    ensures room { HasRoom (length mixed.now.net) room.new }
+    ensures sound { IfNone result (SoundAt O.table N.table mixed.now (state_in phases.now) (sample_of mixed.now atom)) }
+    ensures fault { IfSome result (λ fault. Faulty O.table N.table mixed.now (state_in phases.now) fault room.new.ring.items) }
+    ensures ring { KeepsRing result room.old.ring.items room.new.ring.items }
+{
+    let atoms = mixed.atoms();
+    let target = match atoms.target(atom) {
+        Some(target) => target,
+        None => return None,
+    };
+    let address = atoms.sample(atom);
+    mark_forwarders(mixed.net(), target, &mut room.forwards);
+    let steps = ClassSteps::new(mixed, phases, room.forwards.as_slice(), atom);
+    steps_fault(
+        &steps,
+        address,
+        &mut room.live,
+        &mut room.path,
+        &mut room.ring,
+    )
+}
+
+/// Marks the routers at which a prefix isn't connected.
+fn mark_forwarders(net: &Net, target: Prefix, forwards: &mut [bool])
+    requires { length forwards.old ≡ length net.now }
+    ensures marks { (u : ℕ) → IsMarked forwards.new u ↔ ((u < length net.now) × ¬ Connected net.now u target) }
+    ensures network { IsNetwork net.now }
+{
+    for router in 0..net.routers() {
+        forwards[router as usize] = !net.originates(router, target);
+    }
+}
+
+/// The fault of the steps of a state and a class, at the class's least address.
+fn steps_fault<O: RouteSource, N: RouteSource>(
+    steps: &ClassSteps<'_, '_, O, N>,
+    address: u32,
+    live: &mut [bool],
+    path: &mut Vec<u32>,
+    ring: &mut Vec<Turn>,
+) -> Option<Fault>
+    requires address { address ≡ sample_of steps.now.mixture steps.now.atom }
+    requires live { length live.old ≡ length steps.now.mixture.net }
+    requires path { length steps.now.mixture.net ≤ vec_capacity path.old }
+    requires ring { length steps.now.mixture.net ≤ vec_capacity ring.old }
+    ensures path { vec_capacity path.old ≤ vec_capacity path.new }
+    ensures capacity { vec_capacity ring.old ≤ vec_capacity ring.new }
+    ensures verdict { Verdict O.table N.table steps.now result ring.new.items }
+    ensures ring { KeepsRing result ring.old.items ring.new.items }
+{
+    if let Some(router) = steps.first_stuck() {
+        return Some(Fault::Missing { address, router });
+    }
+    if !find_ring(steps, live, path) {
+        return None;
+    }
+    write_ring(steps, path.as_slice(), ring);
+    Some(Fault::Loop { address })
+}

@@ -1,0 +1,111 @@
+ghost use Rattle.std.specs.Prelude.{◌≡◌, ◌<◌, ◌^◌, ◌↔◌, ℕ, false, length, slice_set, IsTrue};
+ghost use Rattle.std.specs.Bool.{OnFalse, OnTrue};
+ghost use Rattle.precedence_set.specs.Marks.{IsMarked};
+ghost use Rattle.loop_finder.specs.Live.{AreBounded, ArePeeled, FirstMarked, HasMarkedHop, IsLowerMarked, LowestMarked, marked_count};
+
+use crate::graph::StepGraph;
+
+/// Marks the routers from which steps lead on for ever: all routers at first, less those that step to no
+/// marked one, until none is left to be taken.
+pub fn mark_live<G: StepGraph>(graph: &G, live: &mut [bool])
+    requires { length live.old ≡ G.size graph.now }
+    ensures peeled { ArePeeled (G.step graph.now) live.new }
+    ensures few { length live.new < 2 ^ 32 }
+{
+    let routers = graph.size();
+    mark_all(live);
+    while peel(graph, routers, live) {}
+}
+
+/// Marks every router.
+fn mark_all(marks: &mut [bool])
+    ensures { (r : ℕ) → r < length marks.new → IsMarked marks.new r }
+{
+    for mark in marks.iter_mut() {
+        *mark = true;
+    }
+}
+
+/// Goes once over the routers and takes the mark from each that steps to no marked one; whether any had it.
+fn peel<G: StepGraph>(graph: &G, routers: u32, live: &mut [bool]) -> bool
+    requires routers { routers ≡ G.size graph.now }
+    requires size { length live.old ≡ G.size graph.now }
+    requires bounded { AreBounded (G.step graph.now) live.old }
+    ensures bounded { AreBounded (G.step graph.now) live.new }
+    ensures closed { OnFalse result ((u : ℕ) → IsMarked live.new u → HasMarkedHop (G.step graph.now) live.new u) }
+    ensures fewer { OnTrue result (marked_count live.new < marked_count live.old) }
+{
+    let mut peeled = false;
+    for u in 0..routers {
+        if peel_one(graph, live, u) {
+            peeled = true;
+        }
+    }
+    peeled
+}
+
+/// Takes the mark from a router that steps to no marked one; whether it had it.
+fn peel_one<G: StepGraph>(graph: &G, live: &mut [bool], u: u32) -> bool
+    requires size { length live.old ≡ G.size graph.now }
+    requires router { u < G.size graph.now }
+    ensures same { OnFalse result (live.new ≡ live.old) }
+    ensures leads { OnFalse result (IsMarked live.old u → HasMarkedHop (G.step graph.now) live.old u) }
+    ensures taken { OnTrue result (live.new ≡ slice_set live.old u false) }
+    ensures marked { OnTrue result (IsMarked live.old u) }
+    ensures stuck { OnTrue result ((h : ℕ) → G.step graph.now u h → ¬ IsMarked live.old h) }
+{
+    if !live[u as usize] {
+        return false;
+    }
+    match lowest_marked(graph.hops(u), live) {
+        Some(_) => false,
+        None => {
+            live[u as usize] = false;
+            true
+        }
+    }
+}
+
+/// The lowest-numbered of some routers that is marked.
+pub fn lowest_marked(routers: &[u32], marks: &[bool]) -> Option<u32>
+    ensures { LowestMarked routers.now marks.now result }
+{
+    let mut lowest = None;
+    for router in routers {
+        lowest = lower(marks, lowest, *router);
+    }
+    lowest
+}
+
+/// The lower of a router that may be known and of another where that is marked.
+fn lower(marks: &[bool], known: Option<u32>, router: u32) -> Option<u32>
+    ensures { IsLowerMarked marks.now known router result }
+{
+    if !is_marked(marks, router) {
+        return known;
+    }
+    match known {
+        Some(other) => Some(other.min(router)),
+        None => Some(router),
+    }
+}
+
+/// Whether a router is marked.
+pub fn is_marked(marks: &[bool], router: u32) -> bool
+    ensures { IsTrue result ↔ IsMarked marks.now router }
+{
+    marks.get(router as usize).copied().unwrap_or(false)
+}
+
+/// The lowest-numbered marked router of all.
+pub fn first_marked(marks: &[bool]) -> Option<u32>
+    requires { length marks.now < 2 ^ 32 }
+    ensures { FirstMarked marks.now result }
+{
+    for (router, mark) in marks.iter().enumerate() {
+        if *mark {
+            return Some(router as u32);
+        }
+    }
+    None
+}
