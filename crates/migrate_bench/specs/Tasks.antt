@@ -1,5 +1,5 @@
 -- What the tasks need.
-use Rattle.std.specs.Prelude.{ℕ, ◌≤◌}
+use Rattle.std.specs.Prelude.{◌≤◌}
 use Rattle.migrate_bench.specs.declared.task.Task.{Task}
 use Rattle.migrate_bench.specs.declared.task.Task.TheVariants.{Walks, Search}
 

@@ -1,5 +1,5 @@
 ghost use Rattle.std.specs.Prelude.{◌≡◌, ◌≤◌};
-ghost use Rattle.order_search.specs.Trees.{branch_count};
+ghost use Rattle.order_search.specs.Trees.{branches_at as branches_of, branch_count};
 
 use crate::seconds::print_seconds;
 use anyhow::Result;
@@ -21,29 +21,43 @@ pub fn measure(
     let start = Instant::now(rt)?;
     let found = search(rt.alloc(), &mut oracle, budget)?;
     print_seconds(rt, "search", size, start)?;
+    report(rt, &found)
+}
+
+/// Prints what was found, and with how many branches.
+fn report(rt: &impl Print, found: &Found) -> Result<()> {
     match found {
         Found::Order { trail, .. } => {
-            println!(rt; "order with {} branches", branches(trail.as_slice()))?;
+            println!(rt; "order with {} branches", count_branches(trail.as_slice()))?;
         }
         Found::Refuted { tree } => {
-            println!(rt; "refuted with {} branches", branches(tree.as_slice()))?;
+            println!(rt; "refuted with {} branches", count_branches(tree.as_slice()))?;
         }
         Found::Spent { tree } => {
-            println!(rt; "spent {} branches", branches(tree.as_slice()))?;
+            println!(rt; "spent {} branches", count_branches(tree.as_slice()))?;
         }
     }
     Ok(())
 }
 
 /// How many of the nodes are branches.
-fn branches(nodes: &[Node]) -> usize
+fn count_branches(nodes: &[Node]) -> usize
     ensures { result ≡ branch_count nodes.now }
 {
     let mut count = 0;
     for node in nodes {
-        if matches!(node, Node::Branch { .. }) {
-            count += 1;
-        }
+        count += branches_at(node);
     }
     count
+}
+
+/// How many branches a node is.
+fn branches_at(node: &Node) -> usize
+    ensures count { result ≡ branches_of node.now }
+    ensures few { result ≤ 1 }
+{
+    match node {
+        Node::Branch { .. } => 1,
+        Node::Leaf { .. } | Node::Unvisited => 0,
+    }
 }

@@ -44,6 +44,9 @@ fn read_count(words: &mut Args, most: u32) -> Result<u32>
 {
     let word = words.next().context(USAGE)?;
     let count = word.parse().context("no number")?;
-    ensure!(1 <= count && count <= most, "{count} isn't from 1 to {most}");
+    ensure!(
+        1 <= count && count <= most,
+        "{count} isn't from 1 to {most}"
+    );
     Ok(count)
 }
