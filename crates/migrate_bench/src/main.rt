@@ -1,62 +1,33 @@
-//! Prints how long least walks take from every root of a ring and of a grid, each with as many
-//! routers as the argument says: what the walks come to on standard output, and the times on
-//! standard error.
+//! Measures the parts of the planner, by hand. What a task comes to is printed on standard output, and
+//! how long it took on standard error.
+//!
+//! - `migrate_bench walks SIZE`: the least walks from every root of a ring and of a grid of SIZE routers.
+//! - `migrate_bench search SIZE BUDGET`: the search for an order of SIZE routers of which only the
+//!   descending one is good, with at most BUDGET branches.
 #![tactic(auto)]
 
-ghost use Rattle.std.specs.Prelude.{◌<◌, IfOk};
-
 mod mesh;
+mod searches;
+mod seconds;
 mod shape;
+mod task;
+mod walks;
 
-use anyhow::{Context, Result, ensure};
-use mesh::Mesh;
-use shape::Shape;
+use anyhow::Result;
 use std::env;
 use std::rt::{Clock, Env};
-use std::time::Instant;
-use walk_core::{CostGraph, LeastWalks, least_walks};
+use task::Task;
 
 fn main(rt: HostRuntime) -> Result<()> {
     run(&rt)
 }
 
+/// Does the task that the arguments name.
 fn run(rt: &(impl AllocGlobal + Clock + Env + Eprint + Print)) -> Result<()> {
-    let size = size_argument(rt)?;
-    let alloc = rt.alloc();
-    report(rt, "ring", &Mesh::new(alloc, Shape::Ring, size)?)?;
-    let width = size.isqrt().max(1);
-    report(rt, "grid", &Mesh::new(alloc, Shape::Grid(width), size)?)
-}
-
-/// The first argument, at least 1.
-fn size_argument(rt: &(impl AllocGlobal + Env)) -> Result<u32>
-    ensures { IfOk result (λ n. 0 < n) }
-{
-    let word = env::args(rt)?.nth(1).context("usage: migrate_bench SIZE")?;
-    let size: u32 = word.parse().context("SIZE is no number")?;
-    ensure!(size > 0, "SIZE is 0");
-    Ok(size)
-}
-
-/// Finds the least walks from every root, and prints what they come to and the time that took.
-fn report(rt: &(impl AllocGlobal + Clock + Eprint + Print), name: &str, mesh: &Mesh) -> Result<()> {
-    let start = Instant::now(rt)?;
-    let mut distances = 0u64;
-    for root in 0..mesh.vertices() {
-        let walks = least_walks(rt.alloc(), mesh, root)?;
-        distances = distances.saturating_add(sum_of_distances(&walks, mesh.vertices()));
+    let mut words = env::args(rt)?;
+    let _program = words.next();
+    match Task::read(words)? {
+        Task::Walks { size } => walks::measure(rt, size),
+        Task::Search { size, budget } => searches::measure(rt, size, budget),
     }
-    let seconds = start.elapsed(rt)?.as_secs_f64();
-    println!(rt; "{name} of {}: distances {distances}", mesh.vertices())?;
-    eprintln!(rt; "{name} of {}: {seconds:.3} seconds", mesh.vertices())?;
-    Ok(())
-}
-
-/// The sum of the distances of all vertices from the root.
-fn sum_of_distances(walks: &LeastWalks, vertices: u32) -> u64 {
-    let mut sum = 0u64;
-    for v in 0..vertices {
-        sum = sum.saturating_add(walks.distance(v).unwrap_or(0));
-    }
-    sum
 }

@@ -9,13 +9,15 @@ use Rattle.precedence_set.proofs.Orders.{distinct_least, IsBefore-trans, IsBefor
 use Rattle.order_search.specs.Turns.{old_routers, new_routers, HasBothTags, child_pairs, is_old, is_new}
 use Rattle.order_search.specs.Trees.{Place, Real, Picked, Fill, IsTreeNode, IsVisited, HasOneChild, branch_count}
 use Rattle.order_search.specs.Oracles.{Break, PlacesSomeOldFirst}
-use Rattle.order_search.specs.Answers.{IsFoundNode, IsFoundOrder, IsRefutation, IsSpent}
-use Rattle.order_search.specs.Waiting.{child_of, place_of, places_of, AreChildren, AreFresh}
+use Rattle.order_search.specs.Answers.{IsFoundNode, IsFoundOrder, IsRefutation, IsSpent, IsFound, RefutesAll}
+use Rattle.order_search.specs.Waiting.{child_of, place_of, places_of, children_below, AreChildren, AreFresh}
 use Rattle.order_search.specs.Leaves.{IsLeaf, GrowsLeaves}
 use Rattle.order_search.specs.declared.turn.Turn.{Turn}
 use Rattle.order_search.specs.declared.children.Child.{Child}
 use Rattle.order_search.specs.declared.tree.Node.{Node}
 use Rattle.order_search.specs.declared.tree.Node.TheVariants.{Branch, Leaf, Unvisited}
+use Rattle.order_search.specs.declared.found.Found.{Found}
+use Rattle.order_search.specs.declared.found.Found.TheVariants.{Order, Spent}
 use Rattle.order_search.proofs.Fills.{Fill-push, Fill-append, Fill-weaker, branch_count-append}
 use Rattle.order_search.proofs.Refuting.{closed_refutes}
 use Rattle.order_search.proofs.FreshPairs.{AreFresh-nil, fresh_bound}
@@ -280,18 +282,14 @@ Break-moved real real' picked picked' n n' order address turns keeps_real keeps_
 }
 
 -- the step of the search that makes a branch, in the words of its calls
-pub branch_step : (real told_real : Real) (picked told_picked : Picked) (n told_n routers budget : ℕ) (nodes made : List Node) (pairs held : List Pair) (children waiting : List Child) (branches above : ℕ) (order : List ℕ) (address : ℕ) (turns copied : List Turn) → IsSearching real picked n budget nodes pairs children branches → HasNoCycle pairs → IsLeastExtension routers pairs order → routers ≡ n → Break told_real told_picked told_n order address turns → (told_real address turns → real address turns) → (told_picked order address turns → picked order address turns) → told_n ≡ n → branches ≢ budget → copied ≡ turns → held ≡ pairs → above ≡ length held → made ≡ nodes ++ Branch address copied ∷ [] → waiting ≡ map (child_of above) (child_pairs copied) ++ children → IsBranched real picked n budget made held waiting (branches + 1)
-branch_step real told_real picked told_picked n told_n routers budget nodes made pairs held children waiting branches above order address turns copied searching acyclic least routers_is told keeps_real keeps_picked n_is more copied_is held_is above_is made_is waiting_is =
-    let here = Break-moved told_real real told_picked picked told_n n order address turns keeps_real keeps_picked n_is told in
+pub branch_step : (real told_real : Real) (picked told_picked : Picked) (n told_n routers budget : ℕ) (nodes : List Node) (pairs held : List Pair) (children : List Child) (branches : ℕ) (order : List ℕ) (address : ℕ) (turns told_turns : List Turn) → IsSearching real picked n budget nodes pairs children branches → HasNoCycle pairs → IsLeastExtension routers pairs order → routers ≡ n → Break told_real told_picked told_n order address told_turns → (told_real address told_turns → real address told_turns) → (told_picked order address told_turns → picked order address told_turns) → told_n ≡ n → branches ≢ budget → turns ≡ told_turns → held ≡ pairs → IsBranched real picked n budget (nodes ++ Branch address turns ∷ []) held (children_below held turns children) (branches + 1)
+branch_step real told_real picked told_picked n told_n routers budget nodes pairs held children branches order address turns told_turns searching acyclic least routers_is told keeps_real keeps_picked n_is more turns_is held_is =
+    let here = Break-moved told_real real told_picked picked told_n n order address told_turns keeps_real keeps_picked n_is told in
     let least_here = subst (λ (m : ℕ). IsLeastExtension m pairs order) routers_is least in
     let free : branches < budget = omega (arith, searching.within, more) in
-    let above_here : above ≡ length pairs = above_is ∙ ap (λ (xs : List Pair). length xs) held_is in
-    let branched = branch_is_made real picked n budget nodes pairs children branches above order address turns searching acyclic least_here here free above_here in
-    let made_here : made ≡ nodes ++ Branch address turns ∷ [] = made_is ∙ ap (λ (ts : List Turn). nodes ++ Branch address ts ∷ []) copied_is in
-    let waiting_here : waiting ≡ map (child_of above) (child_pairs turns) ++ children = waiting_is ∙ ap (λ (ts : List Turn). map (child_of above) (child_pairs ts) ++ children) copied_is in
-    subst (λ (xs : List Pair). IsBranched real picked n budget made xs waiting (branches + 1)) (sym held_is)
-    (subst (λ (xs : List Node). IsBranched real picked n budget xs pairs waiting (branches + 1)) (sym made_here)
-    (subst (λ (cs : List Child). IsBranched real picked n budget (nodes ++ Branch address turns ∷ []) pairs cs (branches + 1)) (sym waiting_here) branched))
+    let branched = branch_is_made real picked n budget nodes pairs children branches (length pairs) order address told_turns searching acyclic least_here here free refl in
+    subst (λ (ts : List Turn). IsBranched real picked n budget (nodes ++ Branch address ts ∷ []) held (children_below held ts children) (branches + 1)) (sym turns_is)
+    (subst (λ (xs : List Pair). IsBranched real picked n budget (nodes ++ Branch address told_turns ∷ []) xs (children_below xs told_turns children) (branches + 1)) (sym held_is) branched)
 
 -- what refutes refutes every order
 pub refutation_refutes : (real : Real) (good : List ℕ → Type 0) (picked : Picked) (n budget : ℕ) → ((address : ℕ) (turns : List Turn) (order : List ℕ) → real address turns → HasBothTags turns → good order → PlacesSomeOldFirst order turns) → (tree : List Node) → IsRefutation real picked n budget tree → (order : List ℕ) → IsOrder n order → ¬ good order
@@ -300,3 +298,17 @@ refutation_refutes real good picked n budget decides tree refutation =
       tree = Fill-weaker (IsFoundNode real picked n) (IsTreeNode real) (λ place node found. found.is_node) ([] ∷ []) [] tree refutation.closed.tree;
       visited = refutation.closed.visited;
     })
+
+-- an order or a stopped tree is what was found, and refutes nothing
+pub IsFound-order : (good : List ℕ → Type 0) (real : Real) (picked : Picked) (n budget : ℕ) (order told : List ℕ) (trail : List Node) (found : Found) → IsFoundOrder good real picked n budget order trail → told ≡ order → found ≡ Order told trail → IsFound good real picked n budget found
+IsFound-order good real picked n budget order told trail found is same e =
+    subst (λ (f : Found). IsFound good real picked n budget f) (sym e) (subst (λ (o : List ℕ). IsFoundOrder good real picked n budget o trail) (sym same) is)
+
+pub IsFound-spent : (good : List ℕ → Type 0) (real : Real) (picked : Picked) (n budget : ℕ) (tree : List Node) (found : Found) → IsSpent good real picked n budget tree → found ≡ Spent tree → IsFound good real picked n budget found
+IsFound-spent good real picked n budget tree found is e = subst (λ (f : Found). IsFound good real picked n budget f) (sym e) is
+
+pub RefutesAll-order : (good : List ℕ → Type 0) (n : ℕ) (order : List ℕ) (trail : List Node) (found : Found) → found ≡ Order order trail → RefutesAll good n found
+RefutesAll-order good n order trail found e = subst (λ (f : Found). RefutesAll good n f) (sym e) tt
+
+pub RefutesAll-spent : (good : List ℕ → Type 0) (n : ℕ) (tree : List Node) (found : Found) → found ≡ Spent tree → RefutesAll good n found
+RefutesAll-spent good n tree found e = subst (λ (f : Found). RefutesAll good n f) (sym e) tt

@@ -1,4 +1,4 @@
--- Two oracles for tests: one to which only the descending order is good, and one to which none is.
+-- Two oracles for tests and measurements: one to which only the descending order is good, and one to which none is.
 use Rattle.std.specs.Prelude.{◌≡◌, ℕ, ◌<◌, List, [], ◌∷◌, refl}
 use Rattle.std.proofs.Common.{arith, subst, sym}
 use Rattle.precedence_set.specs.Pairs.{IsBefore}

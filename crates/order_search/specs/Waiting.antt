@@ -1,12 +1,18 @@
 -- The places that wait to be visited, told by the pairs that are assumed now.
-use Rattle.std.specs.Prelude.{◌≢◌, ℕ, ◌<◌, ◌≤◌, List, [], ◌∷◌, ◌++◌, length, take, slice_index_or}
+use Rattle.std.specs.Prelude.{◌≢◌, ℕ, ◌<◌, ◌≤◌, List, [], ◌∷◌, ◌++◌, length, map, take, slice_index_or}
 use Rattle.precedence_set.specs.Pairs.{Pair, Leads, HasNoCycle, AreBelow}
+use Rattle.order_search.specs.Turns.{child_pairs}
 use Rattle.order_search.specs.Trees.{Place}
+use Rattle.order_search.specs.declared.turn.Turn.{Turn}
 use Rattle.order_search.specs.declared.children.Child.{Child}
 
 -- the child of a branch that assumes so many pairs
 abbrev pub child_of : ℕ → Pair → Child
 child_of above p = record { before = p.0; after = p.1; above = above }
+
+-- the children that wait when a place has become a branch with these turns: its own, and those that waited
+abbrev pub children_below : List Pair → List Turn → List Child → List Child
+children_below pairs turns children = map (child_of (length pairs)) (child_pairs turns) ++ children
 
 -- the pairs of a child's place: the first ones of those assumed now, and its own
 abbrev pub place_of : List Pair → Child → Place

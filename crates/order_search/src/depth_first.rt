@@ -1,10 +1,12 @@
-ghost use Rattle.std.specs.Prelude.{◌≡◌, ℕ, List, ◌≤◌, ◌∷◌, [], ◌++◌, ◌↔◌, IfOk, OnOk, length, map, replicate, reverse};
+ghost use Rattle.std.specs.Prelude.{◌≡◌, ℕ, List, ◌+◌, ◌≤◌, ◌∷◌, [], ◌++◌, ◌↔◌, IfOk, OnOk, length, map, replicate, reverse};
+ghost use Rattle.std.specs.Bool.{OnTrue, OnFalse};
 ghost use Rattle.precedence_set.specs.LeastExtension.{IsLeastExtension};
 ghost use Rattle.precedence_set.specs.Pairs.{AreBelow, HasNoCycle};
 ghost use Rattle.order_search.specs.Turns.{child_pairs};
 ghost use Rattle.order_search.specs.Oracles.{Break};
 ghost use Rattle.order_search.specs.Answers.{IsFound, RefutesAll};
-ghost use Rattle.order_search.specs.Waiting.{child_of};
+ghost use Rattle.order_search.specs.Waiting.{child_of, places_of, children_below, AreChildren, AreFresh};
+ghost use Rattle.order_search.specs.Leaves.{GrowsLeaves};
 ghost use Rattle.order_search.specs.declared.turn.Turn.{Turn};
 
 use crate::children::{Child, push_children};
@@ -38,27 +40,15 @@ pub fn search<Q: Oracle>(alloc: Global, oracle: &mut Q, budget: u32) -> Result<F
     let mut branches = 0;
     loop {
         let address = match visit(oracle, &mut held, &mut order) {
-            Answer::Fine => {
-                tree.push(Node::Unvisited)?;
-                let order = Sequence::from_vec(order);
-                return Ok(Found::Order { order, trail: tree });
-            }
+            Answer::Fine => return found_order(tree, order),
             Answer::Breaks { address } => address,
         };
         if branches == budget {
-            leave_unvisited(&mut tree, waiting.len() + 1)?;
-            return Ok(Found::Spent { tree });
+            return stopped(tree, &waiting);
         }
-        branch_on(
-            alloc,
-            &mut tree,
-            &mut waiting,
-            address,
-            oracle.turns(),
-            held.mark(),
-        )?;
         branches += 1;
-        if !next_place(alloc, &mut tree, &mut held, &mut waiting)? {
+        let turns = oracle.turns();
+        if !go_below(alloc, &mut tree, &mut held, &mut waiting, address, turns)? {
             return Ok(Found::Refuted { tree });
         }
     }
@@ -81,6 +71,49 @@ fn visit<Q: Oracle>(oracle: &mut Q, held: &mut Precedences, order: &mut [u32]) -
 {
     held.least_extension(order);
     oracle.ask(order)
+}
+
+/// The order that was found, with the nodes up to its place.
+fn found_order(mut tree: Tree, order: Vec<u32>) -> Result<Found, AllocError>
+    ensures { IfOk result (λ found. found ≡ Found.Order order.items (tree ++ Node.Unvisited ∷ [])) }
+{
+    tree.push(Node::Unvisited)?;
+    let order = Sequence::from_vec(order);
+    Ok(Found::Order { order, trail: tree })
+}
+
+/// The tree where the budget is spent: the place that was asked stays unvisited, and so do those that wait.
+fn stopped(mut tree: Tree, waiting: &[Child]) -> Result<Found, AllocError>
+    ensures { IfOk result (λ found. found ≡ Found.Spent (tree ++ replicate (length waiting.now + 1) Node.Unvisited)) }
+{
+    leave_unvisited(&mut tree, waiting.len() + 1)?;
+    Ok(Found::Spent { tree })
+}
+
+/// Makes the place a branch, and goes on to the next place. Whether there is one.
+fn go_below(
+    alloc: Global,
+    tree: &mut Tree,
+    held: &mut Precedences,
+    waiting: &mut Vec<Child>,
+    address: u32,
+    turns: &[Turn],
+) -> Result<bool, AllocError>
+    requires few { held.old.routers ≤ 1000 }
+    requires fresh { AreFresh held.old.routers held.old.pairs }
+    requires children { AreChildren held.old.routers held.old.pairs
+        (children_below held.old.pairs turns.now (reverse waiting.old.items)) }
+    ensures routers { held.new.routers ≡ held.old.routers }
+    ensures fresh { OnOk result (AreFresh held.new.routers held.new.pairs) }
+    ensures children { OnOk result (AreChildren held.new.routers held.new.pairs (reverse waiting.new.items)) }
+    ensures found { IfOk result (λ found. OnTrue found (GrowsLeaves (tree.old ++ Node.Branch address turns.now ∷ []) tree.new
+        (places_of held.old.pairs (children_below held.old.pairs turns.now (reverse waiting.old.items)))
+        (held.new.pairs ∷ places_of held.new.pairs (reverse waiting.new.items)))) }
+    ensures none { IfOk result (λ found. OnFalse found (GrowsLeaves (tree.old ++ Node.Branch address turns.now ∷ []) tree.new
+        (places_of held.old.pairs (children_below held.old.pairs turns.now (reverse waiting.old.items))) [])) }
+{
+    branch_on(alloc, tree, waiting, address, turns, held.mark())?;
+    next_place(alloc, tree, held, waiting)
 }
 
 /// Adds a branch to the tree, and its children to those that wait.

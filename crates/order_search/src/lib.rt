@@ -3,6 +3,7 @@
 
 mod children;
 mod depth_first;
+mod descending;
 mod found;
 mod oracle;
 mod places;
@@ -10,6 +11,7 @@ mod tree;
 mod turn;
 
 pub use depth_first::search;
+pub use descending::Descending;
 pub use found::{Found, Sequence};
 pub use oracle::{Answer, Oracle};
 pub use std::alloc::AllocError as OutOfMemory;

@@ -1,55 +1,13 @@
-ghost use Rattle.std.specs.Prelude.{◌≡◌, ℕ, ◌+◌, ◌<◌, ◌≤◌, length, slice_index, IfSome, IfNone};
-ghost use Rattle.order_search.specs.SampleOracles.{turns_of};
+ghost use Rattle.std.specs.Prelude.{◌≤◌};
 
 use crate::depth_first::search;
+use crate::descending::{Descending, NO_TURNS, turns_at};
 use crate::found::Found;
 use crate::oracle::{Answer, Oracle};
 use crate::tree::Node;
-use crate::turn::{Tag, Turn};
+use crate::turn::Turn;
 use std::alloc::AllocError;
 use std::process::Abort;
-
-/// Calls only the descending order good. Of another one it tells the first neighbours that rise.
-#[derive(Drop)]
-struct Descending {
-    size: u32,
-    turns: [Turn; 2],
-}
-
-impl Oracle for Descending {
-    ghost use Rattle.std.specs.Prelude.{List, ℕ};
-    ghost use Rattle.order_search.specs.SampleOracles.{IsDescending, AreTurnsOfTwo, PlacesSomeOldFirst-descending};
-
-    ghost good = { λ o order. IsDescending o.size order };
-
-    ghost real = { λ o address turns. AreTurnsOfTwo o.size turns };
-
-    ghost picked = { λ o order address turns. Unit {0} };
-
-    ghost size = { λ o. o.size };
-
-    ghost shown = { λ o. o.turns };
-
-    ghost decides = { λ o address turns order two _ descending. PlacesSomeOldFirst-descending o.size turns order two descending };
-
-    fn size(&self) -> u32 {
-        self.size
-    }
-
-    fn ask(&mut self, order: &[u32]) -> Answer {
-        match first_rise(order) {
-            Some(i) => {
-                self.turns = turns_at(order, i, i + 1);
-                Answer::Breaks { address: 0 }
-            }
-            None => Answer::Fine,
-        }
-    }
-
-    fn turns(&self) -> &[Turn] {
-        &self.turns
-    }
-}
 
 /// Calls no order good, of two routers or more. Of each it tells the first router and the last.
 #[derive(Drop)]
@@ -87,43 +45,6 @@ impl Oracle for Never {
         &self.turns
     }
 }
-
-/// The place of the first router that is lower than the next one.
-fn first_rise(order: &[u32]) -> Option<usize>
-    ensures some { IfSome result (λ i. i + 1 < length order.now) }
-    ensures rise { IfSome result (λ i. slice_index order.now i < slice_index order.now (i + 1)) }
-    ensures none { IfNone result ((i : ℕ) → i + 1 < length order.now → slice_index order.now (i + 1) ≤ slice_index order.now i) }
-{
-    for i in 1..order.len() {
-        if order[i - 1] < order[i] {
-            return Some(i - 1);
-        }
-    }
-    None
-}
-
-/// The turns of two routers of an order, the first one New and the second one Old.
-fn turns_at(order: &[u32], i: usize, j: usize) -> [Turn; 2]
-    requires first { i < length order.now }
-    requires second { j < length order.now }
-    ensures { result ≡ turns_of (slice_index order.now i) (slice_index order.now j) }
-{
-    [
-        Turn {
-            router: order[i],
-            tag: Tag::New,
-        },
-        Turn {
-            router: order[j],
-            tag: Tag::Old,
-        },
-    ]
-}
-
-const NO_TURNS: [Turn; 2] = [Turn {
-    router: 0,
-    tag: Tag::Both,
-}; 2];
 
 /// The nodes in short: B for a branch, L for a leaf, U for an unvisited place.
 fn shape(nodes: &[Node], text: &mut String) -> Result<(), AllocError> {
@@ -177,10 +98,7 @@ fn small_searches(rt: HostRuntime) -> Result<(), AllocError> {
         (2, "spent", "BBU"),
         (1, "spent", "BU"),
     ] {
-        let mut oracle = Descending {
-            size: 3,
-            turns: NO_TURNS,
-        };
+        let mut oracle = Descending::new(3);
         let found = search(rt.alloc(), &mut oracle, budget)?;
         check_found(&rt, &found, expected, nodes, &[2, 1, 0])?;
     }
@@ -197,10 +115,7 @@ fn small_searches(rt: HostRuntime) -> Result<(), AllocError> {
 
 #[test]
 fn descending_order_of_two_hundred(rt: HostRuntime) -> Result<(), AllocError> {
-    let mut oracle = Descending {
-        size: 200,
-        turns: NO_TURNS,
-    };
+    let mut oracle = Descending::new(200);
     match search(rt.alloc(), &mut oracle, 19901)? {
         Found::Order { order, trail } => {
             assert!(&rt; order.as_slice().iter().copied().eq((0..200).rev()));

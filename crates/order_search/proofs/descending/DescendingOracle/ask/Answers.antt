@@ -1,6 +1,6 @@
 use Rattle.std.proofs.Common.{◌+◌, ◌<◌, arith}
 use Rattle.order_search.proofs.SampleFacts.{IsDescending-from_falls, Break-of_two, AreTurnsOfTwo-at}
-use Rattle.order_search.proofs.tests.DescendingOracle.ask.Goals as goal
+use Rattle.order_search.proofs.descending.DescendingOracle.ask.Goals as goal
 
 pub returns-in-Some-clause-breaks : goal.returns-in-Some-clause-breaks
 returns-in-Some-clause-breaks c = λ address e.
