@@ -1,5 +1,6 @@
 ghost use Rattle.std.specs.Prelude.{◌≡◌, ◌<◌, ◌↔◌, ℕ, length, Some, Any, Contains, IfOk, IfNone, IfSome, IsTrue, OnOk, MatchOption};
 ghost use Rattle.net_model.specs.Network.{InArea, IsBorderRouter};
+ghost use Rattle.net_model.specs.Refusals.{IsNetwork};
 ghost use Rattle.igp_theory.specs.Ospf.{ListensTo};
 ghost use Rattle.ospf_routes.specs.Areas.{AreAreas, AreNumbered, HasArea, HasWalks, IsReach, IsInside, RunsArea, RunsOther};
 ghost use Rattle.ospf_routes.specs.Lists.{Adds};
@@ -48,6 +49,7 @@ fn walks_of_areas(
 
 /// The numbers of the backbone and of every area that a router is in, each once.
 fn area_numbers(alloc: Global, net: &Net) -> Result<Vec<u32>, OutOfMemory>
+    ensures network { OnOk result (IsNetwork net.now) }
     ensures backbone { IfOk result (λ numbers. Contains numbers.items 0) }
     ensures every { IfOk result (λ numbers. (u n : ℕ) → InArea net.now u n → Contains numbers.items n) }
 {
@@ -90,7 +92,7 @@ fn area_of(interface: &Interface) -> Option<u32>
 fn runs_area(interface: &Interface, number: u32) -> bool
     ensures { IsTrue result ↔ RunsArea number interface.now }
 {
-    area_of(interface) == Some(number)
+    interface.up && interface.area == Some(number)
 }
 
 /// Whether the router is in the area.
@@ -207,5 +209,8 @@ pub fn reach_inside<'a>(
     if !in_area(net, u, number) {
         return None;
     }
-    reach(net, areas, number, u)
+    match reach(net, areas, number, u) {
+        Some(walks) => Some(walks),
+        None => None,
+    }
 }

@@ -93,9 +93,13 @@ pub fn intra_cost(
     requires destination { IsDestination net.now destination.now }
     ensures { (cost : ℕ) → (result ≡ Some cost) ↔ IntraAreaCost net.now area destination.now.dest u cost }
 {
-    let walks = reach_inside(net, areas, area, u)?;
-    let part = part_of(destination.parts.as_slice(), area)?;
-    walks.best_cost(part.offers.as_slice())
+    match reach_inside(net, areas, area, u) {
+        Some(walks) => match part_of(destination.parts.as_slice(), area) {
+            Some(part) => walks.best_cost(part.offers.as_slice()),
+            None => None,
+        },
+        None => None,
+    }
 }
 
 /// Whether the prefix has an intra-area route at router `u`.

@@ -105,9 +105,10 @@ fn border_ranges(
     requires domain { IsDomain net.now domain.now }
     ensures { IfOk result (AreActiveRanges net.now b) }
 {
+    let ranges = net.config(b).ranges.as_slice();
     let mut all = Vec::new(alloc);
-    for range in net.config(b).ranges.as_slice() {
-        push_option(&mut all, active_range(alloc, net, domain, b, *range)?)?;
+    for range in ranges {
+        push_option(&mut all, active_range(alloc, net, domain, b, range)?)?;
     }
     Ok(ActiveRanges { all })
 }
@@ -118,16 +119,19 @@ fn active_range(
     net: &Net,
     domain: &Domain,
     b: u32,
-    range: Range,
+    range: &Range,
 ) -> Result<Option<ActiveRange>, OutOfMemory>
     requires router { b < length net.now }
-    requires has { HasRange net.now b range }
+    requires has { HasRange net.now b range.now }
     requires domain { IsDomain net.now domain.now }
-    ensures { IfOk result (λ found. MatchOption found (IsActive net.now b range → ⊥) (IsActiveAt net.now b range)) }
+    ensures { IfOk result (λ found. MatchOption found (IsActive net.now b range.now → ⊥) (IsActiveAt net.now b range.now)) }
 {
     let costs = component_costs(alloc, net, domain, b, range)?;
-    match picked(range, net.config(b).rfc1583, costs.as_slice()) {
-        Some(cost) => Ok(Some(ActiveRange { range, cost })),
+    match picked(*range, net.config(b).rfc1583, costs.as_slice()) {
+        Some(cost) => Ok(Some(ActiveRange {
+            range: *range,
+            cost,
+        })),
         None => Ok(None),
     }
 }
@@ -172,12 +176,12 @@ fn component_costs(
     net: &Net,
     domain: &Domain,
     b: u32,
-    range: Range,
+    range: &Range,
 ) -> Result<Vec<u64>, OutOfMemory>
     requires router { b < length net.now }
-    requires has { HasRange net.now b range }
+    requires has { HasRange net.now b range.now }
     requires domain { IsDomain net.now domain.now }
-    ensures { IfOk result (λ costs. Exactly (HasComponentCost net.now b range) costs.items) }
+    ensures { IfOk result (λ costs. Exactly (HasComponentCost net.now b range.now) costs.items) }
 {
     let mut costs = Vec::new(alloc);
     for destination in &domain.destinations {
@@ -193,16 +197,16 @@ fn component_cost(
     areas: &[AreaWalks],
     destination: &Destination,
     b: u32,
-    range: Range,
+    range: &Range,
 ) -> Option<u64>
     requires router { b < length net.now }
-    requires has { HasRange net.now b range }
+    requires has { HasRange net.now b range.now }
     requires areas { AreAreas net.now areas.now }
     requires destination { IsDestination net.now destination.now }
-    ensures { (cost : ℕ) → (result ≡ Some cost) ↔ IsComponent net.now b range destination.now.dest cost }
+    ensures { (cost : ℕ) → (result ≡ Some cost) ↔ IsComponent net.now b range.now destination.now.dest cost }
 {
     let ranges = net.config(b).ranges.as_slice();
-    if !range.dest.covers(destination.dest) || has_longer(ranges, range, destination.dest) {
+    if !range.dest.covers(destination.dest) || has_longer(ranges, *range, destination.dest) {
         return None;
     }
     intra_cost(net, areas, destination, range.area, b)
@@ -235,8 +239,9 @@ pub fn is_component(
     requires destination { IsDestination net.now destination.now }
     ensures { IsTrue result ↔ IsComponentOfSome net.now b destination.now.dest }
 {
-    for range in net.config(b).ranges.as_slice() {
-        if component_cost(net, areas, destination, b, *range).is_some() {
+    let ranges = net.config(b).ranges.as_slice();
+    for range in ranges {
+        if component_cost(net, areas, destination, b, range).is_some() {
             return true;
         }
     }

@@ -110,7 +110,10 @@ fn push_subnets(
     requires destination { IsDestination net.now destination.now }
     ensures { OnOk result (Adds routes.old.items routes.new.items (λ r. SummarizedSubnet net.now destination.now.dest b r)) }
 {
-    if !is_border(net, b) || is_component(net, areas, destination, b) {
+    if !is_border(net, b) {
+        return Ok(());
+    }
+    if is_component(net, areas, destination, b) {
         return Ok(());
     }
     for area in areas {
@@ -230,7 +233,10 @@ fn border_cost(
     requires backbone { AreOffers (BackboneSummary net.now destination.now.dest) backbone.now }
     ensures { IfOk result (λ found. (cost : ℕ) → (found ≡ Some cost) ↔ BorderCost net.now destination.now.dest u cost) }
 {
-    if !is_border(net, u) || ranges.contains(destination.dest) {
+    if !is_border(net, u) {
+        return Ok(None);
+    }
+    if ranges.contains(destination.dest) {
         return Ok(None);
     }
     if has_intra(net, areas, destination, u) {
