@@ -18,13 +18,17 @@ use Rattle.walk_core.specs.declared.offers.Offer.{Offer}
 use Rattle.walk_core.proofs.OfferLaws.{best_total_is_best_cost, none_totals_no_best, hop_towards_is_best_hop}
 use Rattle.walk_core.proofs.WalkLaws.{best_hop_is_arc}
 use Rattle.route_core.specs.Hops.{AreHops}
-use Rattle.igp_theory.specs.Ospf.{OffersSubnet, IntraAreaCost, IntraAreaHop, IsIntraArea, ListensTo, OfOthers, Summary, InterAreaHop}
+use Rattle.igp_theory.specs.Ospf.{OffersSubnet, IntraAreaCost, IntraAreaHop, IsIntraArea, ListensTo, backbone, one_area, OfOthers, Summary, InterAreaHop}
 use Rattle.igp_theory.proofs.TableLaws.{listens_to_one_area}
 use Rattle.ospf_routes.specs.Areas.{AreAreas, HasArea, IsInside, IsReach}
 use Rattle.ospf_routes.specs.Offered.{AreOffers}
 use Rattle.ospf_routes.specs.Lists.{Adds}
-use Rattle.ospf_routes.specs.Routing.{AreBestHops, AreUnited, IsAreaRoute, AreAreaRoutes, IsIntraRoute, ListenedCost, IsListenedRoute}
+use Rattle.ospf_routes.specs.Routing.{AreBestHops, AreUnited, AreSomeUnited, IsAreaRoute, AreAreaRoutes, IsIntraRoute, ListenedCost, IsListenedRoute}
+use Rattle.ospf_routes.specs.Destinations.{HasPart}
+use Rattle.ospf_routes.specs.Summarized.{AreSummaries, IsSummaryOf}
 use Rattle.ospf_routes.specs.declared.areas.AreaWalks.{AreaWalks}
+use Rattle.ospf_routes.specs.declared.intra_area.AreaOffers.{AreaOffers}
+use Rattle.ospf_routes.specs.declared.summaries.Summaries.{Summaries}
 use Rattle.ospf_routes.proofs.IntraFacts.{lists_from}
 use Rattle.ospf_routes.proofs.SummaryFacts.{OfReached, reached_best, reached_hop}
 use Rattle.ospf_routes.proofs.ListFacts.{any_of, any_in}
@@ -197,6 +201,15 @@ united_route net p u lists given count hops are same some is united =
         in_area : {list : List ℕ} → IsAreaRoute net hop.area p u list → Contains list h ↔ BestHop (Adjacent net (Area hop.area)) (OffersSubnet net hop.area p) u h
         in_area route = route.hops_are.exact h
 
+pub intra_route_is : (net : Network) (p : Block) (u : ℕ) (lists given : List (List ℕ)) (count : ℕ) → AreAreaRoutes net p u lists → given ≡ lists → count ≡ length net → (found : Option (List ℕ)) →
+    MatchOption found (length given ≡ 0) (AreSomeUnited given count) → MatchOption found (IsIntraArea net p u → ⊥) (IsIntraRoute net p u)
+intra_route_is net p u lists given count are same counted None none =
+    let e : length given ≡ length lists = ap length same in no_lists net p u lists are (omega arith)
+intra_route_is net p u lists given count are same counted (Some hops) some =
+    let e : length given ≡ length lists = ap length same in
+    let many : 0 < length given = some.some in
+    united_route net p u lists given count hops are same (λ none. omega arith) counted some.united
+
 -- Between areas
 
 pub listened_route_is : (net : Network) (n : ℕ) (p : Block) (u : ℕ) (reach : Reach) (others given : List Offer) → ListensTo net u n → IsReach net n u reach →
@@ -223,3 +236,19 @@ listened_route_is net n p u reach others given listens is are same count counted
           (best_hops_are arc u reach (OfReached arc offer u) given count hops is.least listed
           (λ h c over. subst (λ (m : ℕ). h < m) (sym counted) (Adjacent-to_within net (Area n) u h c over)) best);
     }
+
+-- The announcements into an area
+
+pub summary_part_is : (net : Network) (areas : List AreaWalks) (s : Summaries) (given : List AreaOffers) (part : AreaOffers) (n : ℕ) → AreSummaries net areas s → given ≡ s.parts.items → Contains given part → part.area ≡ n → AreOffers (Summary net s.dest n) part.offers.items
+summary_part_is net areas s given part n are same among area =
+    subst (λ (m : ℕ). AreOffers (Summary net s.dest m) part.offers.items) area
+    (All-contains (IsSummaryOf net s.dest) s.parts.items part are.exact (subst (λ (l : List AreaOffers). Contains l part) same among))
+
+-- the area that a router listens to is there
+pub listened_area : (net : Network) (areas : List AreaWalks) (n u : ℕ) → AreAreas net areas → ListensTo net u n → HasArea areas n
+listened_area net areas _ u are (backbone border) = are.backbone
+listened_area net areas n u are (one_area _ inside) = are.every u n inside
+
+pub summary_part_there : (net : Network) (areas : List AreaWalks) (s : Summaries) (given : List AreaOffers) (n u : ℕ) → AreAreas net areas → AreSummaries net areas s → given ≡ s.parts.items → ListensTo net u n → HasPart given n
+summary_part_there net areas s given n u are summaries same listens =
+    subst (λ (l : List AreaOffers). HasPart l n) (sym same) (summaries.every n (listened_area net areas n u are listens))

@@ -1,5 +1,5 @@
 -- The routes of a router within and between areas.
-use Rattle.std.specs.Prelude.{◌≡◌, ◌≢◌, ◌↔◌, ◌<◌, ℕ, List, Some, Any, Contains}
+use Rattle.std.specs.Prelude.{◌≡◌, ◌≢◌, ◌↔◌, ◌<◌, ℕ, List, length, Some, Any, Contains}
 use Rattle.std.specs.List.Sorted.{IsStrictlyIncreasing}
 use Rattle.net_addr.specs.Addresses.{Block}
 use Rattle.net_model.specs.Network.{Network, InArea, Adjacent}
@@ -28,6 +28,11 @@ pub record IsReachedOther (reach : Reach) (u : ℕ) (o offer : Offer) : Type 0 w
 pub record AreUnited (lists : List (List ℕ)) (n : ℕ) (hops : List ℕ) : Type 0 where
   pub ascending : IsStrictlyIncreasing hops
   pub exact : (h : ℕ) → Contains hops h ↔ ((h < n) × Any (λ (list : List ℕ). Contains list h) lists)
+
+-- and there are some lists
+pub record AreSomeUnited (lists : List (List ℕ)) (n : ℕ) (hops : List ℕ) : Type 0 where
+  pub some : 0 < length lists
+  pub united : AreUnited lists n hops
 
 -- p has an intra-area route at u in area n, with these hops
 pub record IsAreaRoute (net : Network) (n : ℕ) (p : Block) (u : ℕ) (hops : List ℕ) : Type 0 where

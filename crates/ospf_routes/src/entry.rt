@@ -12,7 +12,7 @@ use crate::areas::{AreaWalks, listens_to, reach, reach_inside};
 use crate::intra_area::{Destination, part_of};
 use crate::lists::push_option;
 use crate::ranges::ActiveRanges;
-use crate::route::{best_hops, reached_others, united};
+use crate::route::{best_hops, reached_others, united_some};
 use crate::summaries::Summaries;
 use net_model::Net;
 use route_core::{Entry, Hops};
@@ -70,10 +70,7 @@ fn intra_hops(
         (IsIntraRoute net.now destination.now.dest u)) }
 {
     let lists = area_lists(alloc, net, areas, destination, u)?;
-    if lists.is_empty() {
-        return Ok(None);
-    }
-    Ok(Some(united(alloc, lists.as_slice(), net.routers())?))
+    united_some(alloc, lists.as_slice(), net.routers())
 }
 
 /// The hops of the intra-area route in each area that has one.
@@ -164,8 +161,10 @@ fn listened_hops(
     match reach(net, areas, area, u) {
         Some(walks) => match part_of(summaries.parts.as_slice(), area) {
             Some(part) => {
-                let others = reached_others(alloc, walks, part.offers.as_slice(), u)?;
-                best_hops(alloc, walks, others.as_slice(), net.routers())
+                let offers = part.offers.as_slice();
+                let others = reached_others(alloc, walks, offers, u)?;
+                let reached = others.as_slice();
+                best_hops(alloc, walks, reached, net.routers())
             }
             None => Ok(None),
         },

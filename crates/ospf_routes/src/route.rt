@@ -1,8 +1,8 @@
-ghost use Rattle.std.specs.Prelude.{◌≡◌, ◌↔◌, Some, Any, Contains, IfOk, IsTrue, MatchOption};
+ghost use Rattle.std.specs.Prelude.{◌≡◌, ◌↔◌, length, Some, Any, Contains, IfOk, IsTrue, MatchOption};
 ghost use Rattle.walk_core.specs.BestOffers.{AreInRange, NoneTotals};
 ghost use Rattle.walk_core.specs.declared.offers.Offer.{Offer as OfferValue};
 ghost use Rattle.ospf_routes.specs.Lists.{Exactly};
-ghost use Rattle.ospf_routes.specs.Routing.{AreBestHops, AreUnited, IsReachedOther};
+ghost use Rattle.ospf_routes.specs.Routing.{AreBestHops, AreSomeUnited, AreUnited, IsReachedOther};
 
 use crate::OutOfMemory;
 use crate::lists::push_option;
@@ -57,8 +57,19 @@ fn reached_other(walks: &LeastWalks, offer: Offer, u: u32) -> Option<Offer>
     }
 }
 
+/// The hops below `count` that are in one of the lists, and `None` where there are no lists.
+pub fn united_some(alloc: Global, lists: &[Hops], count: u32) -> Result<Option<Hops>, OutOfMemory>
+    ensures { IfOk result (λ found. MatchOption found (length lists.now ≡ 0) (AreSomeUnited lists.now count)) }
+{
+    if lists.is_empty() {
+        return Ok(None);
+    }
+    let hops = united(alloc, lists, count)?;
+    Ok(Some(hops))
+}
+
 /// The hops below `count` that are in one of the lists.
-pub fn united(alloc: Global, lists: &[Hops], count: u32) -> Result<Hops, OutOfMemory>
+fn united(alloc: Global, lists: &[Hops], count: u32) -> Result<Hops, OutOfMemory>
     ensures { IfOk result (AreUnited lists.now count) }
 {
     let mut hops = Vec::new(alloc);

@@ -290,7 +290,8 @@ fn summaries_into(
     ensures { IfOk result (λ offers. AreOffers (Summary net.now dest area) offers.items) }
 {
     let outside = offers_outside(alloc, routes, area)?;
-    if area == 0 {
+    let is_backbone = area == 0;
+    if is_backbone {
         return Ok(outside);
     }
     area_summaries(alloc, net, area, dest, outside.as_slice(), borders)

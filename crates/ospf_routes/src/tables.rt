@@ -85,8 +85,9 @@ fn table_of(
     ensures { IfOk result (IsTableOf net.now u) }
 {
     let areas = domain.areas.as_slice();
+    let destinations = domain.destinations.as_slice();
     let mut entries = Vec::new(alloc);
-    for (k, destination) in domain.destinations.iter().enumerate() {
+    for (k, destination) in destinations.iter().enumerate() {
         let entry = entry_of(alloc, net, areas, ranges, destination, &summaries[k], u)?;
         push_entry(&mut entries, destination.dest, entry)?;
     }

@@ -1,9 +1,8 @@
-use Rattle.std.proofs.Common.{◌≡◌, ◌++◌, ◌∷◌, [], ◌+◌, take, List, refl, sym, subst, ℕ, ◌<◌, length, get_or}
-use Rattle.std.proofs.lemmas.List.{take_more, take_all}
-use Rattle.net_addr.specs.Addresses.{Block}
+use Rattle.std.proofs.Common.{ℕ, List, take, subst}
 use Rattle.net_model.specs.declared.area.Range.{Range}
 use Rattle.ospf_routes.specs.Candidates.{AddsDests, HaveRange}
 use Rattle.ospf_routes.proofs.DestLists.{ranges_more, ranges_none}
+use Rattle.ospf_routes.proofs.ListFacts.{one_more}
 use Rattle.ospf_routes.proofs.candidates.add_ranges.Goals as goal
 
 pub loop-range-init : goal.loop-range-init
@@ -13,6 +12,6 @@ pub loop-range-preserved : goal.loop-range-preserved
 loop-range-preserved c =
     let n : ℕ = c.loop-range.range-index in
     let all : List Range = c.args.ranges.now in
-    let r : Range = get_or all n _ in
-    subst (λ (l : List Range). AddsDests c.args.dests.now.items c.add_dest.new.dests.items (HaveRange l)) (sym (take_more all n _ c.loop-range-test.true))
+    let r : Range = c.range-item.result in
+    subst (λ (l : List Range). AddsDests c.args.dests.now.items c.add_dest.new.dests.items (HaveRange l)) (one_more all n r c.loop-range-test.true c.range-item.is)
     (ranges_more c.args.dests.now.items c.loop-range.dests.items c.add_dest.new.dests.items (take n all) r c.loop-range.invariant c.in_ok-add_dest.ensures)

@@ -19,8 +19,8 @@ pub loop-u-preserved : goal.loop-u-preserved
 loop-u-preserved c =
     let config : Configuration = c.config.result.now in
     let are : c.as_slice.result.now ≡ config.interfaces = c.as_slice.ensures ∙ ap (λ (d : Configuration). d.interfaces) c.behind-net.view_is in
-    let same : c.config-2.result.now ≡ config = HasConfiguration-unique c.args.net.now c.loop-u.u c.config-2.result.now config c.config-2.ensures.router c.config.ensures.router in
-    let ranges_are : c.as_slice-2.result.now ≡ config.ranges = c.as_slice-2.ensures ∙ ap (λ (d : Configuration). d.ranges) (c.behind-net-2.view_is ∙ same) in
+    let same : c.config-in-loop-u.result.now ≡ config = HasConfiguration-unique c.args.net.now c.loop-u.u c.config-in-loop-u.result.now config c.config-in-loop-u.ensures.router c.config.ensures.router in
+    let ranges_are : c.as_slice-in-loop-u.result.now ≡ config.ranges = c.as_slice-in-loop-u.ensures ∙ ap (λ (d : Configuration). d.ranges) (c.behind-net-in-loop-u.view_is ∙ same) in
     candidates_more c.args.net.now c.loop-u.u config c.loop-u.dests.items c.add_subnets.new.dests.items c.add_ranges.new.dests.items c.config.ensures.router c.loop-u.invariant
     (subst (λ (l : List Interface). AddsDests c.loop-u.dests.items c.add_subnets.new.dests.items (HaveSubnet l)) are c.in_ok-add_subnets.ensures)
     (subst (λ (l : List Range). AddsDests c.add_subnets.new.dests.items c.add_ranges.new.dests.items (HaveRange l)) ranges_are c.in_ok-add_ranges.ensures)
