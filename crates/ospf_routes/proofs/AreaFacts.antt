@@ -1,6 +1,6 @@
 -- Areas: which there are, who is in them, who is a border router and who listens to whom.
-use Rattle.std.proofs.Common.{◌≡◌, ◌≢◌, ℕ, ◌+◌, ◌<◌, ◌≤◌, ◌↔◌, ◌⊎◌, inl, inr, ⊎_elim, List, [], ◌∷◌, ◌++◌, length, take, get_or, Option, Some, None, MatchOption, Bool, true, false, not, ◌==◌, IsTrue, refl, sym, ap, subst, ◌∙◌, arith}
-use Rattle.std.specs.List.{Contains, Any, All}
+use Rattle.std.proofs.Common.{◌≡◌, ◌≢◌, ℕ, ◌+◌, ◌<◌, ◌↔◌, inl, inr, ⊎_elim, List, [], ◌∷◌, ◌++◌, length, Option, Some, None, MatchOption, Bool, true, false, not, ◌==◌, IsTrue, refl, sym, ap, subst, ◌∙◌, arith}
+use Rattle.std.specs.List.{Contains, Any}
 use Rattle.std.proofs.lemmas.Bool.{eqb-true, eqb-false, cases_eq, cases_lt, false≢true}
 use Rattle.std.proofs.lemmas.Option.{none-some, same_Some}
 use Rattle.std.proofs.lemmas.List.Elements.{All-push, All-contains, Contains-append_left, Contains-push, Contains-push_cases}
@@ -15,7 +15,7 @@ use Rattle.walk_core.specs.Reach.{Reach}
 use Rattle.zone_graph.specs.Walks.{AreZoneWalks}
 use Rattle.igp_theory.specs.Ospf.{ListensTo, backbone, one_area}
 use Rattle.igp_theory.proofs.TableLaws.{listens_to_one_area}
-use Rattle.ospf_routes.specs.Areas.{RunsArea, RunsOther, HasArea, HasWalks, HaveWalks, AreNumbered, AreAreas, IsReach}
+use Rattle.ospf_routes.specs.Areas.{RunsArea, RunsOther, HasArea, HasWalks, AreNumbered, AreAreas, IsReach}
 use Rattle.ospf_routes.specs.Lists.{Adds}
 use Rattle.ospf_routes.specs.declared.areas.AreaWalks.{AreaWalks}
 use Rattle.ospf_routes.proofs.ListFacts.{any_of, any_in}

@@ -1,23 +1,23 @@
 -- No sum of a distance and of what an offer asks is too large.
-use Rattle.std.proofs.Common.{◌≡◌, ℕ, ◌+◌, ◌*◌, ◌^◌, ◌<◌, ◌≤◌, List, [], length, get_or, Option, Some, None, refl, sym, subst, arith, ap}
+use Rattle.std.proofs.Common.{◌≡◌, ℕ, ◌+◌, ◌*◌, ◌^◌, ◌<◌, ◌≤◌, List, [], length, get_or, Option, Some, None, sym, subst, arith}
 use Rattle.std.specs.Option.{IfSome}
 use Rattle.std.proofs.lemmas.List.Elements.{Contains-get_or, All-contains}
 use Rattle.std.proofs.lemmas.Option.{slice_get-get_or}
 use Rattle.net_addr.specs.Addresses.{Block}
-use Rattle.net_model.proofs.NetworkFacts.{HasConfiguration-keeps, HasConfiguration-within, UpInterface-keeps, InArea-within}
+use Rattle.net_model.proofs.NetworkFacts.{HasConfiguration-keeps, UpInterface-keeps, InArea-within}
 use Rattle.net_model.specs.Configuration.{IsInterface, IsRange, IsStub}
 use Rattle.net_model.specs.Network.{Network, Adjacent}
 use Rattle.net_model.specs.Refusals.{IsNetwork}
 use Rattle.net_model.specs.declared.zone.Zone.TheVariants.{Area}
-use Rattle.walk_core.specs.Offers.{Offers, BestCost}
+use Rattle.walk_core.specs.Offers.{Offers}
 use Rattle.walk_core.specs.Walks.{LeastCost}
-use Rattle.walk_core.specs.Reach.{Reach, distance_of, AreNear, AreLeastWalks}
+use Rattle.walk_core.specs.Reach.{Reach, AreNear}
 use Rattle.walk_core.specs.BestOffers.{AreInRange}
 use Rattle.walk_core.specs.declared.offers.Offer.{Offer}
 use Rattle.zone_graph.specs.Walks.{AreZoneWalks}
-use Rattle.igp_theory.specs.Ospf.{OffersSubnet, IntraAreaCost, HasRange, IsComponent, IsActive, RangeCost, stated, least, greatest, SummarizesSubnet, SummarizesRange, BackboneSummary, AreaSummary, BorderCost, Summary, into_backbone, into_area, OfOthers}
+use Rattle.igp_theory.specs.Ospf.{OffersSubnet, IntraAreaCost, RangeCost, stated, least, greatest, BackboneSummary, AreaSummary, BorderCost, Summary, into_backbone, into_area}
 use Rattle.net_model.specs.declared.area.Range.{Range}
-use Rattle.ospf_routes.specs.Areas.{AreAreas, HasArea, IsReach}
+use Rattle.ospf_routes.specs.Areas.{AreAreas, HasArea}
 use Rattle.ospf_routes.specs.Offered.{AreOffers}
 use Rattle.ospf_routes.specs.declared.areas.AreaWalks.{AreaWalks}
 

@@ -1,7 +1,7 @@
 -- Destinations by their prefixes, and what is announced of each.
 use Rattle.std.proofs.Common.{◌≡◌, ◌+◌, ◌<◌, ℕ, [], ◌∷◌, ◌++◌, length, map, take, get_or, ap, ◌∙◌, List, Result, Ok, Err, IfOk, sym, subst, arith}
 use Rattle.std.specs.List.{All, Contains}
-use Rattle.std.proofs.lemmas.List.{map-append, take_more, length-map, get_or-map, get_or_default}
+use Rattle.std.proofs.lemmas.List.{map-append, take_more, length-map, get_or-map}
 use Rattle.net_addr.specs.Addresses.{Block}
 use Rattle.net_model.specs.Network.{Network}
 use Rattle.ospf_routes.specs.Candidates.{AreDistinct, IsCandidate}

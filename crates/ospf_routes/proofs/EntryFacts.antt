@@ -1,11 +1,11 @@
 -- The entries of a router, by its routes.
-use Rattle.std.proofs.Common.{◌≡◌, ℕ, List, refl}
+use Rattle.std.proofs.Common.{ℕ, List, refl}
 use Rattle.net_addr.specs.Addresses.{Block}
 use Rattle.net_model.specs.Network.{Network, Connected}
 use Rattle.route_core.specs.declared.entry.Entry.{Entry}
 use Rattle.route_core.specs.declared.entry.Entry.TheVariants.{Via, Discard}
-use Rattle.igp_theory.specs.Ospf.{IsIntraArea, IsActiveRange, RangeCost, SummarizesSubnet, SummarizesRange, BackboneSummary, BorderCost, AreaSummary, Summary, into_backbone, into_area, InterAreaCost, OspfEntry, intra_area, discard, inter_area}
-use Rattle.ospf_routes.specs.Candidates.{IsCandidate, all, subnet, range}
+use Rattle.igp_theory.specs.Ospf.{IsIntraArea, IsActiveRange, SummarizesSubnet, SummarizesRange, BackboneSummary, BorderCost, AreaSummary, Summary, into_backbone, into_area, InterAreaCost, OspfEntry, intra_area, discard, inter_area}
+use Rattle.ospf_routes.specs.Candidates.{IsCandidate, all, range}
 use Rattle.ospf_routes.specs.Routing.{IsIntraRoute, IsListenedRoute, ListenedCost}
 use Rattle.ospf_routes.proofs.RangeFacts.{intra_is_candidate, range_cost_active}
 

@@ -1,27 +1,27 @@
 -- What the interfaces of each area offer of a prefix, and its intra-area costs.
-use Rattle.std.proofs.Common.{◌≡◌, ℕ, ◌+◌, ◌<◌, ◌↔◌, ◌⊎◌, inl, inr, ⊎_elim, List, [], ◌∷◌, ◌++◌, length, get_or, Option, Some, None, MatchOption, refl, sym, ap, subst, ◌∙◌, arith}
+use Rattle.std.proofs.Common.{◌≡◌, ℕ, ◌<◌, ◌↔◌, ⊎_elim, List, [], ◌∷◌, ◌++◌, length, Option, Some, None, MatchOption, refl, sym, ap, subst, ◌∙◌, arith}
 use Rattle.std.specs.List.{Contains, Any, All}
 use Rattle.std.proofs.lemmas.Option.{none-some, same_Some}
 use Rattle.std.proofs.lemmas.List.Elements.{All-push, All-weaker, All-contains, Contains-append_left, Contains-push, Contains-push_cases}
 use Rattle.net_addr.specs.Addresses.{Block}
 use Rattle.net_model.proofs.Adjacency.{UpInterface-among}
-use Rattle.net_model.proofs.NetworkFacts.{Adjacent-to_within, InArea-within, UpInterface-within}
+use Rattle.net_model.proofs.NetworkFacts.{UpInterface-within}
 use Rattle.net_model.specs.Configuration.{Configuration}
 use Rattle.net_model.specs.Network.{Network, HasConfiguration, InArea, Adjacent}
 use Rattle.net_model.specs.declared.interface.Interface.{Interface}
 use Rattle.net_model.specs.declared.zone.Zone.TheVariants.{Area}
 use Rattle.walk_core.specs.Walks.{Arcs}
-use Rattle.walk_core.specs.Offers.{Offers, BestCost, BestHop}
+use Rattle.walk_core.specs.Offers.{Offers, BestCost}
 use Rattle.walk_core.specs.Reach.{Reach, AreLeastWalks}
 use Rattle.walk_core.specs.BestOffers.{ListsOffer, NoneTotals, IsBestTotal}
 use Rattle.walk_core.specs.declared.offers.Offer.{Offer}
-use Rattle.walk_core.proofs.OfferLaws.{best_total_is_best_cost, none_totals_no_best, hop_towards_is_best_hop}
-use Rattle.walk_core.proofs.WalkLaws.{best_cost_unique, best_hop_is_arc}
+use Rattle.walk_core.proofs.OfferLaws.{best_total_is_best_cost, none_totals_no_best}
+use Rattle.walk_core.proofs.WalkLaws.{best_cost_unique}
 use Rattle.igp_theory.specs.Ospf.{OffersSubnet, IntraAreaCost, IsIntraArea}
-use Rattle.ospf_routes.specs.Areas.{AreAreas, HasArea, IsInside, IsReach}
+use Rattle.ospf_routes.specs.Areas.{AreAreas, HasArea, IsInside}
 use Rattle.ospf_routes.specs.declared.areas.AreaWalks.{AreaWalks}
 use Rattle.ospf_routes.specs.Destinations.{HasPart, IsDestination, IsPartOf}
-use Rattle.ospf_routes.specs.Lists.{Exactly, Adds}
+use Rattle.ospf_routes.specs.Lists.{Exactly}
 use Rattle.ospf_routes.specs.Offered.{AreOffers, InsideOf, IsSubnetRoute}
 use Rattle.ospf_routes.specs.declared.intra_area.AreaOffers.{AreaOffers}
 use Rattle.ospf_routes.specs.declared.intra_area.Destination.{Destination}
@@ -38,14 +38,16 @@ pub router_subnet_is : (net : Network) (p : Block) (w : ℕ) (config : Configura
     Any (λ (i : Interface). IsSubnetRoute i p w r) given ↔ RouterSubnet net p w r
 router_subnet_is net p w config given router are r = (
   λ any.
-      let f = any_in (λ (i : Interface). IsSubnetRoute i p w r) given any in
-      (f.holds.at, subst (λ (k : ℕ). OffersSubnet net r.area p k r.asks) (sym f.holds.at) (record {
-        interface = f.item;
-        up = record { config = config; router = router; among = subst (λ (l : List Interface). Contains l f.item) are f.among; up = f.holds.up };
-        subnet = f.holds.subnet;
-        area = f.holds.area;
-        costs = f.holds.costs;
-      })),
+      let f = any_in (λ (i : Interface). IsSubnetRoute i p w r) given any in (
+        f.holds.at,
+        subst (λ (k : ℕ). OffersSubnet net r.area p k r.asks) (sym f.holds.at) (record {
+          interface = f.item;
+          up = record { config = config; router = router; among = subst (λ (l : List Interface). Contains l f.item) are f.among; up = f.holds.up };
+          subnet = f.holds.subnet;
+          area = f.holds.area;
+          costs = f.holds.costs;
+        }),
+      ),
   λ both.
       let offers : OffersSubnet net r.area p w r.asks = subst (λ (k : ℕ). OffersSubnet net r.area p k r.asks) both.0 both.1 in
       any_of (λ (i : Interface). IsSubnetRoute i p w r) given offers.interface

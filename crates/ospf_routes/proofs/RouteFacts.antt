@@ -1,6 +1,6 @@
 -- The routes of a router within and between areas.
-use Rattle.std.proofs.Common.{◌≡◌, ℕ, ◌+◌, ◌<◌, ◌≤◌, ◌↔◌, ◌⊎◌, inl, inr, ⊎_elim, List, [], ◌∷◌, ◌++◌, length, get_or, Option, Some, None, MatchOption, refl, sym, ap, subst, ◌∙◌, arith, length-append}
-use Rattle.std.specs.List.{Contains, Any, All}
+use Rattle.std.proofs.Common.{◌≡◌, ℕ, ◌+◌, ◌<◌, ◌↔◌, ◌⊎◌, inl, inr, ⊎_elim, List, [], ◌∷◌, ◌++◌, length, get_or, Option, Some, None, MatchOption, refl, sym, ap, subst, ◌∙◌, arith, length-append}
+use Rattle.std.specs.List.{Contains, Any}
 use Rattle.std.specs.List.Sorted.{IsStrictlyIncreasing}
 use Rattle.std.proofs.lemmas.Bool.{cases_lt}
 use Rattle.std.proofs.lemmas.Option.{none-some, same_Some}
@@ -8,12 +8,12 @@ use Rattle.std.proofs.lemmas.List.{get_or_append_left, get_or_push}
 use Rattle.std.proofs.lemmas.List.Elements.{All-contains, Contains-append_left, Contains-get_or, Contains-push, Contains-push_cases}
 use Rattle.net_addr.specs.Addresses.{Block}
 use Rattle.net_model.proofs.NetworkFacts.{Adjacent-to_within}
-use Rattle.net_model.specs.Network.{Network, InArea, Adjacent}
+use Rattle.net_model.specs.Network.{Network, Adjacent}
 use Rattle.net_model.specs.declared.zone.Zone.TheVariants.{Area}
 use Rattle.walk_core.specs.Walks.{Arcs}
 use Rattle.walk_core.specs.Offers.{Offers, BestCost, BestHop}
 use Rattle.walk_core.specs.Reach.{Reach, AreLeastWalks}
-use Rattle.walk_core.specs.BestOffers.{ListsOffer, NoneTotals, IsBestTotal}
+use Rattle.walk_core.specs.BestOffers.{ListsOffer, NoneTotals}
 use Rattle.walk_core.specs.declared.offers.Offer.{Offer}
 use Rattle.walk_core.proofs.OfferLaws.{best_total_is_best_cost, none_totals_no_best, hop_towards_is_best_hop}
 use Rattle.walk_core.proofs.WalkLaws.{best_hop_is_arc}

@@ -1,23 +1,22 @@
 -- What border routers summarize of a prefix, and announce into each area.
-use Rattle.std.proofs.Common.{◌≡◌, ◌≢◌, ℕ, ◌+◌, ◌<◌, ◌≤◌, ◌↔◌, ◌⊎◌, inl, inr, ⊎_elim, List, [], ◌∷◌, ◌++◌, length, get_or, Option, Some, None, MatchOption, IsTrue, refl, sym, ap, subst, ◌∙◌, arith}
+use Rattle.std.proofs.Common.{◌≡◌, ◌≢◌, ℕ, ◌<◌, ◌↔◌, ◌⊎◌, inl, inr, ⊎_elim, List, [], ◌∷◌, ◌++◌, length, get_or, Option, Some, None, MatchOption, IsTrue, refl, sym, ap, subst, ◌∙◌, arith}
 use Rattle.std.specs.List.{Contains, Any, All}
 use Rattle.std.proofs.lemmas.Option.{none-some, same_Some}
-use Rattle.std.proofs.lemmas.List.Elements.{All-push, All-contains, Contains-get_or}
+use Rattle.std.proofs.lemmas.List.Elements.{All-push, Contains-get_or}
 use Rattle.net_addr.specs.Addresses.{Block}
 use Rattle.net_model.proofs.Adjacency.{HasConfiguration-unique}
 use Rattle.net_model.proofs.NetworkFacts.{InArea-within}
 use Rattle.net_model.specs.Configuration.{Configuration}
 use Rattle.net_model.specs.Network.{Network, HasConfiguration, IsBorderRouter, Adjacent}
-use Rattle.net_model.specs.declared.area.Range.{Range}
 use Rattle.net_model.specs.declared.area.Stub.{Stub}
 use Rattle.net_model.specs.declared.zone.Zone.TheVariants.{Area}
 use Rattle.walk_core.specs.Walks.{Arcs, LeastCost}
 use Rattle.walk_core.specs.Offers.{Offers, OfferCosts, BestCost, BestHop}
-use Rattle.walk_core.specs.Reach.{Reach, distance_of, AreLeastWalks}
-use Rattle.walk_core.specs.BestOffers.{ListsOffer, NoneTotals, IsBestTotal}
+use Rattle.walk_core.specs.Reach.{Reach, AreLeastWalks}
+use Rattle.walk_core.specs.BestOffers.{NoneTotals, IsBestTotal}
 use Rattle.walk_core.specs.declared.offers.Offer.{Offer}
 use Rattle.walk_core.proofs.WalkLaws.{best_cost_unique}
-use Rattle.igp_theory.specs.Ospf.{IntraAreaCost, IsComponent, IsIntraArea, IsActiveRange, SummarizesSubnet, SummarizesRange, BackboneSummary, AreaSummary, BorderCost, RangeCost, HasStub, IsTotallyStubby, Summary, into_backbone, into_area, OfOthers, default_prefix}
+use Rattle.igp_theory.specs.Ospf.{IntraAreaCost, IsIntraArea, IsActiveRange, BackboneSummary, AreaSummary, BorderCost, RangeCost, HasStub, IsTotallyStubby, Summary, into_backbone, into_area, OfOthers, default_prefix}
 use Rattle.ospf_routes.specs.Areas.{AreAreas, IsReach}
 use Rattle.ospf_routes.specs.Lists.{Exactly, Adds}
 use Rattle.ospf_routes.specs.Offered.{AreOffers, OutsideOf}

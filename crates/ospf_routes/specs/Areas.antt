@@ -1,5 +1,5 @@
 -- The areas of a network, each with its least walks.
-use Rattle.std.specs.Prelude.{◌≡◌, ◌≢◌, ℕ, List, length, Some, IsTrue, All, Contains}
+use Rattle.std.specs.Prelude.{◌≡◌, ◌≢◌, ℕ, List, Some, IsTrue, All, Contains}
 use Rattle.net_model.specs.Network.{Network, InArea, Adjacent}
 use Rattle.net_model.specs.Refusals.{IsNetwork}
 use Rattle.net_model.specs.declared.interface.Interface.{Interface}

@@ -1,5 +1,5 @@
 -- Routes of a prefix in areas, and the offers that they are.
-use Rattle.std.specs.Prelude.{◌≡◌, ◌≢◌, ◌↔◌, ℕ, List, Option, Some, IsTrue, Contains}
+use Rattle.std.specs.Prelude.{◌≡◌, ◌≢◌, ◌↔◌, ℕ, List, Option, Some, IsTrue}
 use Rattle.net_addr.specs.Addresses.{Block}
 use Rattle.net_model.specs.declared.interface.Interface.{Interface}
 use Rattle.walk_core.specs.Offers.{Offers}

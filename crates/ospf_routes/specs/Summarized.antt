@@ -1,5 +1,5 @@
 -- What border routers summarize of a prefix, and announce into each area.
-use Rattle.std.specs.Prelude.{◌≡◌, ◌≢◌, ℕ, List, map, Option, Some, IsTrue, All, Contains}
+use Rattle.std.specs.Prelude.{◌≡◌, ℕ, List, map, Option, Some, IsTrue, All}
 use Rattle.net_addr.specs.Addresses.{Block}
 use Rattle.net_model.specs.Network.{Network, IsBorderRouter}
 use Rattle.net_model.specs.declared.area.Range.{Range}

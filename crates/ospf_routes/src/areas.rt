@@ -30,11 +30,7 @@ pub fn all_areas(alloc: Global, net: &Net) -> Result<Vec<AreaWalks>, OutOfMemory
 }
 
 /// The least walks of each of these areas.
-fn walks_of_areas(
-    alloc: Global,
-    net: &Net,
-    numbers: &[u32],
-) -> Result<Vec<AreaWalks>, OutOfMemory>
+fn walks_of_areas(alloc: Global, net: &Net, numbers: &[u32]) -> Result<Vec<AreaWalks>, OutOfMemory>
     ensures { IfOk result (λ areas. AreNumbered net.now numbers.now areas.items) }
 {
     let mut areas = Vec::new(alloc);
@@ -177,12 +173,7 @@ fn walks_of(areas: &[AreaWalks], number: u32) -> Option<&ZoneWalks>
 }
 
 /// The least walks from the router in an area.
-pub fn reach<'a>(
-    net: &Net,
-    areas: &'a [AreaWalks],
-    number: u32,
-    u: u32,
-) -> Option<&'a LeastWalks>
+pub fn reach<'a>(net: &Net, areas: &'a [AreaWalks], number: u32, u: u32) -> Option<&'a LeastWalks>
     requires router { u < length net.now }
     requires areas { AreAreas net.now areas.now }
     ensures none { IfNone result (HasArea areas.now number → ⊥) }

@@ -227,12 +227,7 @@ fn is_longer(other: Range, range: Range, dest: Prefix) -> bool
 }
 
 /// Whether the prefix is a component of a range of the border router.
-pub fn is_component(
-    net: &Net,
-    areas: &[AreaWalks],
-    destination: &Destination,
-    b: u32,
-) -> bool
+pub fn is_component(net: &Net, areas: &[AreaWalks], destination: &Destination, b: u32) -> bool
     requires router { b < length net.now }
     requires border { IsBorderRouter net.now b }
     requires areas { AreAreas net.now areas.now }

@@ -23,11 +23,7 @@ pub struct AreaRoute {
 }
 
 /// The interfaces of all routers that have the prefix as their subnet, each as a route at its cost.
-pub fn subnet_routes(
-    alloc: Global,
-    net: &Net,
-    dest: Prefix,
-) -> Result<Vec<AreaRoute>, OutOfMemory>
+pub fn subnet_routes(alloc: Global, net: &Net, dest: Prefix) -> Result<Vec<AreaRoute>, OutOfMemory>
     ensures { IfOk result (λ routes. Exactly (λ r. OffersSubnet net.now r.area dest r.at r.asks) routes.items) }
 {
     let mut routes = Vec::new(alloc);

@@ -52,7 +52,14 @@ impl Summaries {
         let routes = summarized(alloc, net, areas, ranges, destination)?;
         let backbone = offers_outside(alloc, routes.as_slice(), 0)?;
         let borders = border_offers(alloc, net, areas, ranges, destination, backbone.as_slice())?;
-        let parts = area_parts(alloc, net, areas, dest, routes.as_slice(), borders.as_slice())?;
+        let parts = area_parts(
+            alloc,
+            net,
+            areas,
+            dest,
+            routes.as_slice(),
+            borders.as_slice(),
+        )?;
         Ok(Summaries { dest, parts })
     }
 }

@@ -156,13 +156,33 @@ fn ring(
     other: Option<u32>,
 ) -> Result<Net, Fail> {
     let mut all = Vec::new(alloc);
-    let zero = interfaces(alloc, (0x0a00_0001, 32, 0), (0x0a00_0c01, 0, 1), (0x0a00_0e01, 0, 5))?;
+    let zero = interfaces(
+        alloc,
+        (0x0a00_0001, 32, 0),
+        (0x0a00_0c01, 0, 1),
+        (0x0a00_0e01, 0, 5),
+    )?;
     all.push(router(alloc, 0, zero, false, None, true)?)?;
-    let one = interfaces(alloc, (0x0a01_0201, 24, 1), (0x0a00_0c02, 0, 1), (0x0a01_1701, 1, 10))?;
+    let one = interfaces(
+        alloc,
+        (0x0a01_0201, 24, 1),
+        (0x0a00_0c02, 0, 1),
+        (0x0a01_1701, 1, 10),
+    )?;
     all.push(router(alloc, 1, one, ranged, stub, rfc1583)?)?;
-    let two = interfaces(alloc, (0x0a01_0003, 32, 1), (0x0a01_1702, 1, 1), (0x0a01_2201, 1, 1))?;
+    let two = interfaces(
+        alloc,
+        (0x0a01_0003, 32, 1),
+        (0x0a01_1702, 1, 1),
+        (0x0a01_2201, 1, 1),
+    )?;
     all.push(router(alloc, 2, two, false, other, true)?)?;
-    let three = interfaces(alloc, (0x0a00_0004, 32, 0), (0x0a00_0e02, 0, 5), (0x0a01_2202, 1, 1))?;
+    let three = interfaces(
+        alloc,
+        (0x0a00_0004, 32, 0),
+        (0x0a00_0e02, 0, 5),
+        (0x0a01_2202, 1, 1),
+    )?;
     all.push(router(alloc, 3, three, ranged, other, rfc1583)?)?;
     let net = Net::build(alloc, Configs::from_vec(all))?;
     Ok(net)

@@ -1,6 +1,5 @@
 use Rattle.std.proofs.Common.{refl}
 use Rattle.std.proofs.lemmas.Bool.{false≢true}
-use Rattle.ospf_routes.proofs.AreaFacts.{reach_is}
 use Rattle.ospf_routes.proofs.areas.reach_inside.Goals as goal
 
 pub returns-then-not-in_area-clause-none : goal.returns-then-not-in_area-clause-none

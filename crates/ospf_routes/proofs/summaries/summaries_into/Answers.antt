@@ -1,5 +1,4 @@
-use Rattle.std.proofs.Common.{refl, subst, List, sym, arith}
-use Rattle.std.proofs.lemmas.Bool.{eqb-true, eqb-false}
+use Rattle.std.proofs.Common.{refl, subst, List, sym}
 use Rattle.std.proofs.lemmas.Result.{IfOk-weaker}
 use Rattle.std.specs.List.{Any}
 use Rattle.igp_theory.specs.Ospf.{AreaSummary, Summary}
@@ -16,10 +15,10 @@ area_summaries-requires-clause-outside c =
 
 pub returns-then-is_backbone : goal.returns-then-is_backbone
 returns-then-is_backbone c =
-    summaries_into_backbone c.args.net.now c.args.dest c.args.area c.in_ok-outside.outside.items (eqb-true c.args.area 0 c.if-is_backbone.true)
+    summaries_into_backbone c.args.net.now c.args.dest c.args.area c.in_ok-outside.outside.items c.if-is_backbone.true
     (outside_are c.args.net.now c.args.area c.args.dest c.args.routes.now c.args.routes.now c.in_ok-outside.outside.items c.requires.routes refl c.in_ok-outside.ensures)
 
 pub returns : goal.returns
 returns c =
     IfOk-weaker c.area_summaries.result (λ offers. AreOffers (AreaSummary c.args.net.now c.args.area c.args.dest) offers.items) (λ offers. AreOffers (Summary c.args.net.now c.args.dest c.args.area) offers.items)
-    (λ offers are. summaries_into_area c.args.net.now c.args.dest c.args.area offers.items (eqb-false c.args.area 0 c.if-is_backbone.false) are) c.area_summaries.ensures
+    (λ offers are. summaries_into_area c.args.net.now c.args.dest c.args.area offers.items c.if-is_backbone.false are) c.area_summaries.ensures
