@@ -1,0 +1,168 @@
+-- What the interfaces of each area offer of a prefix, and its intra-area costs.
+use Rattle.std.proofs.Common.{◌≡◌, ℕ, ◌<◌, ◌↔◌, ⊎_elim, List, [], ◌∷◌, ◌++◌, length, Option, Some, None, MatchOption, refl, sym, ap, subst, ◌∙◌, arith}
+use Rattle.std.specs.List.{Contains, Any, All}
+use Rattle.std.proofs.lemmas.Option.{none-some, same_Some}
+use Rattle.std.proofs.lemmas.List.Elements.{All-push, All-weaker, All-contains, Contains-append_left, Contains-push, Contains-push_cases}
+use Rattle.net_addr.specs.Addresses.{Block}
+use Rattle.net_model.proofs.Adjacency.{UpInterface-among}
+use Rattle.net_model.proofs.NetworkFacts.{UpInterface-within}
+use Rattle.net_model.specs.Configuration.{Configuration}
+use Rattle.net_model.specs.Network.{Network, HasConfiguration, InArea, Adjacent}
+use Rattle.net_model.specs.declared.interface.Interface.{Interface}
+use Rattle.net_model.specs.declared.zone.Zone.TheVariants.{Area}
+use Rattle.walk_core.specs.Walks.{Arcs}
+use Rattle.walk_core.specs.Offers.{Offers, BestCost}
+use Rattle.walk_core.specs.Reach.{Reach, AreLeastWalks}
+use Rattle.walk_core.specs.BestOffers.{ListsOffer, NoneTotals, IsBestTotal}
+use Rattle.walk_core.specs.declared.offers.Offer.{Offer}
+use Rattle.walk_core.proofs.OfferLaws.{best_total_is_best_cost, none_totals_no_best}
+use Rattle.walk_core.proofs.WalkLaws.{best_cost_unique}
+use Rattle.igp_theory.specs.Ospf.{OffersSubnet, IntraAreaCost, IsIntraArea}
+use Rattle.ospf_routes.specs.Areas.{AreAreas, HasArea, IsInside}
+use Rattle.ospf_routes.specs.declared.areas.AreaWalks.{AreaWalks}
+use Rattle.ospf_routes.specs.Destinations.{HasPart, IsDestination, IsPartOf}
+use Rattle.ospf_routes.specs.Lists.{Exactly}
+use Rattle.ospf_routes.specs.Offered.{AreOffers, InsideOf, IsSubnetRoute}
+use Rattle.ospf_routes.specs.declared.intra_area.AreaOffers.{AreaOffers}
+use Rattle.ospf_routes.specs.declared.intra_area.Destination.{Destination}
+use Rattle.ospf_routes.specs.declared.subnets.AreaRoute.{AreaRoute}
+use Rattle.ospf_routes.proofs.ListFacts.{AnyBelow, any_of, any_in, exactly_same}
+
+-- The subnets of a router
+
+-- the routes of router w's own subnets
+abbrev pub RouterSubnet : Network → Block → ℕ → AreaRoute → Type 0
+RouterSubnet net p w r = (r.at ≡ w) × OffersSubnet net r.area p r.at r.asks
+
+pub router_subnet_is : (net : Network) (p : Block) (w : ℕ) (config : Configuration) (given : List Interface) → HasConfiguration net w config → given ≡ config.interfaces → (r : AreaRoute) →
+    Any (λ (i : Interface). IsSubnetRoute i p w r) given ↔ RouterSubnet net p w r
+router_subnet_is net p w config given router are r = (
+  λ any.
+      let f = any_in (λ (i : Interface). IsSubnetRoute i p w r) given any in (
+        f.holds.at,
+        subst (λ (k : ℕ). OffersSubnet net r.area p k r.asks) (sym f.holds.at) (record {
+          interface = f.item;
+          up = record { config = config; router = router; among = subst (λ (l : List Interface). Contains l f.item) are f.among; up = f.holds.up };
+          subnet = f.holds.subnet;
+          area = f.holds.area;
+          costs = f.holds.costs;
+        }),
+      ),
+  λ both.
+      let offers : OffersSubnet net r.area p w r.asks = subst (λ (k : ℕ). OffersSubnet net r.area p k r.asks) both.0 both.1 in
+      any_of (λ (i : Interface). IsSubnetRoute i p w r) given offers.interface
+      (subst (λ (l : List Interface). Contains l offers.interface) (sym are) (UpInterface-among net w config offers.interface router offers.up))
+      (record { up = offers.up.up; subnet = offers.subnet; area = offers.area; at = both.0; costs = offers.costs }),
+)
+
+pub subnet_below : (net : Network) (p : Block) (n : ℕ) → length net ≡ n → (r : AreaRoute) → OffersSubnet net r.area p r.at r.asks → AnyBelow (RouterSubnet net p) n r
+subnet_below net p n count r offers =
+    let within : r.at < length net = UpInterface-within net r.at offers.interface offers.up in
+    record { source = r.at; below = omega arith; given = (refl, offers) }
+
+-- The offers of an area
+
+pub part_more : (routes : List AreaRoute) (parts : List AreaOffers) (part : AreaOffers) → All (IsPartOf routes) parts → IsPartOf routes part → All (IsPartOf routes) (parts ++ part ∷ [])
+part_more routes parts part all is = All-push (IsPartOf routes) parts part all is
+
+pub has_part_left : (parts : List AreaOffers) (part : AreaOffers) (n : ℕ) → HasPart parts n → HasPart (parts ++ part ∷ []) n
+has_part_left parts part n has = record { part = has.part; among = Contains-append_left parts (part ∷ []) has.part has.among; area = has.area }
+
+pub has_part_here : (parts : List AreaOffers) (part : AreaOffers) → HasPart (parts ++ part ∷ []) part.area
+has_part_here parts part = record { part = part; among = Contains-push parts part; area = refl }
+
+-- what is offered in an area
+pub part_offers : (net : Network) (p : Block) (routes given : List AreaRoute) (part : AreaOffers) → Exactly (λ (r : AreaRoute). OffersSubnet net r.area p r.at r.asks) routes → given ≡ routes → IsPartOf given part →
+    AreOffers (OffersSubnet net part.area p) part.offers.items
+part_offers net p routes given part are same is =
+    exactly_same part.offers.items (λ (o : Offer). Any (λ (r : AreaRoute). InsideOf part.area r o) given) (λ (o : Offer). OffersSubnet net part.area p o.at o.asks) is
+    (λ o. (
+      λ any.
+          let f = any_in (λ (r : AreaRoute). InsideOf part.area r o) given any in
+          let offers : OffersSubnet net f.item.area p f.item.at f.item.asks = (are f.item).0 (subst (λ (l : List AreaRoute). Contains l f.item) same f.among) in
+          moved f.item o f.holds offers,
+      λ offers.
+          let r : AreaRoute = record { area = part.area; at = o.at; asks = o.asks } in
+          any_of (λ (x : AreaRoute). InsideOf part.area x o) given r (subst (λ (l : List AreaRoute). Contains l r) (sym same) ((are r).1 offers)) (record { area = refl; at = refl; asks = refl }),
+    ))
+  where
+    moved : (r : AreaRoute) (o : Offer) → InsideOf part.area r o → OffersSubnet net r.area p r.at r.asks → OffersSubnet net part.area p o.at o.asks
+    moved r o inside offers =
+        subst (λ (c : ℕ). OffersSubnet net part.area p o.at c) (sym inside.asks)
+        (subst (λ (w : ℕ). OffersSubnet net part.area p w r.asks) (sym inside.at)
+        (subst (λ (n : ℕ). OffersSubnet net n p r.at r.asks) inside.area offers))
+
+pub destination_is : (net : Network) (areas : List AreaWalks) (routes given : List AreaRoute) (d : Destination) → AreAreas net areas → Exactly (λ (r : AreaRoute). OffersSubnet net r.area d.dest r.at r.asks) routes → given ≡ routes →
+    All (IsPartOf given) d.parts.items → ((n : ℕ) → HasArea areas n → HasPart d.parts.items n) → IsDestination net d
+destination_is net areas routes given d are exact same parts every = record {
+  exact = All-weaker (IsPartOf given) (λ (part : AreaOffers). AreOffers (OffersSubnet net part.area d.dest) part.offers.items) (λ part is. part_offers net d.dest routes given part exact same is) d.parts.items parts;
+  every = λ n w cost offers. every n (are.every w n (record { interface = offers.interface; up = offers.up; area = offers.area }));
+}
+
+-- the parts so far, and one more
+pub record PartsSoFar (P : AreaOffers → Type 0) (front : List AreaWalks) (parts : List AreaOffers) : Type 0 where
+  pub exact : All P parts
+  pub every : (n : ℕ) → HasArea front n → HasPart parts n
+
+pub parts_none : (P : AreaOffers → Type 0) → PartsSoFar P [] []
+parts_none P = record { exact = λ k d within. absurd (omega arith); every = λ n has. absurd (omega (arith, has.among.1)) }
+
+pub parts_more : (P : AreaOffers → Type 0) (front : List AreaWalks) (a : AreaWalks) (parts : List AreaOffers) (part : AreaOffers) → PartsSoFar P front parts → part.area ≡ a.number → P part → PartsSoFar P (front ++ a ∷ []) (parts ++ part ∷ [])
+parts_more P front a parts part before area is = record {
+  exact = All-push P parts part before.exact is;
+  every = λ n has. ⊎_elim
+      (λ among. has_part_left parts part n (before.every n (record { area = has.area; among = among; number = has.number })))
+      (λ same. subst (λ (m : ℕ). HasPart (parts ++ part ∷ []) m) (area ∙ ap (λ (x : AreaWalks). x.number) same ∙ has.number) (has_part_here parts part))
+      (Contains-push_cases front a has.area has.among);
+}
+
+-- Lists of offers
+
+pub lists_from : (offer : Offers) (offers given : List Offer) → AreOffers offer offers → given ≡ offers → (at asks : ℕ) → ListsOffer given at asks ↔ offer at asks
+lists_from offer offers given are same at asks =
+    let listed : AreOffers offer given = subst (λ (l : List Offer). AreOffers offer l) (sym same) are in (
+      λ l. subst (λ (w : ℕ). offer w asks) l.made (subst (λ (c : ℕ). offer l.offer.at c) l.asked ((listed l.offer).0 l.among)),
+      λ o. let one : Offer = record { at = at; asks = asks } in record { offer = one; among = (listed one).1 o; made = refl; asked = refl },
+    )
+
+-- the best total is the best cost, and there is none without
+pub best_cost_is : (arc : Arcs) (u : ℕ) (reach : Reach) (offer : Offers) (given : List Offer) → AreLeastWalks arc u reach → ((at asks : ℕ) → ListsOffer given at asks ↔ offer at asks) →
+    (found : Option ℕ) → MatchOption found (NoneTotals reach given) (IsBestTotal reach given) → (cost : ℕ) → (found ≡ Some cost) ↔ BestCost arc offer u cost
+best_cost_is arc u reach offer given walks are None none cost =
+    (λ is. absurd (none-some cost is), λ best. absurd (none_totals_no_best arc u reach offer given walks are none cost best))
+best_cost_is arc u reach offer given walks are (Some c) best cost =
+    let here : BestCost arc offer u c = (best_total_is_best_cost arc u reach offer given c walks are).0 best in (
+      λ is. subst (λ (k : ℕ). BestCost arc offer u k) (same_Some c cost is) here,
+      λ other. ap Some (best_cost_unique here other),
+    )
+
+-- Intra-area costs
+
+pub no_intra_outside : (net : Network) (n : ℕ) (p : Block) (u : ℕ) → (InArea net u n → ⊥) → (cost : ℕ) → (◌≡◌ {A = Option ℕ} None (Some cost)) ↔ IntraAreaCost net n p u cost
+no_intra_outside net n p u outside cost = (λ is. absurd (none-some cost is), λ costs. absurd (outside costs.inside))
+
+pub no_intra_cost : (net : Network) (n : ℕ) (p : Block) (u : ℕ) → ((cost : ℕ) → IntraAreaCost net n p u cost → ⊥) → (cost : ℕ) → (◌≡◌ {A = Option ℕ} None (Some cost)) ↔ IntraAreaCost net n p u cost
+no_intra_cost net n p u none cost = (λ is. absurd (none-some cost is), λ costs. absurd (none cost costs))
+
+pub no_intra_anywhere : (net : Network) (areas : List AreaWalks) (p : Block) (u : ℕ) → AreAreas net areas → All (λ (a : AreaWalks). (c : ℕ) → IntraAreaCost net a.number p u c → ⊥) areas → IsIntraArea net p u → ⊥
+no_intra_anywhere net areas p u are none is =
+    let has = are.every u is.area is.costs.inside in
+    All-contains (λ (a : AreaWalks). (c : ℕ) → IntraAreaCost net a.number p u c → ⊥) areas has.area none has.among is.cost
+    (subst (λ (n : ℕ). IntraAreaCost net n p u is.cost) (sym has.number) is.costs)
+
+pub no_intra_part : (net : Network) (d : Destination) (n u : ℕ) → IsDestination net d → (HasPart d.parts.items n → ⊥) → (cost : ℕ) → IntraAreaCost net n d.dest u cost → ⊥
+no_intra_part net d n u is none cost costs = none (is.every n costs.best.at costs.best.attained.asks costs.best.attained.offered)
+
+pub no_intra_given : (net : Network) (d : Destination) (given : List AreaOffers) (n u : ℕ) → IsDestination net d → given ≡ d.parts.items → (HasPart given n → ⊥) → (cost : ℕ) → IntraAreaCost net n d.dest u cost → ⊥
+no_intra_given net d given n u is same none = no_intra_part net d n u is (subst (λ (l : List AreaOffers). HasPart l n → ⊥) same none)
+
+pub part_is : (net : Network) (d : Destination) (given : List AreaOffers) (part : AreaOffers) (n : ℕ) → IsDestination net d → given ≡ d.parts.items → Contains given part → part.area ≡ n → AreOffers (OffersSubnet net n d.dest) part.offers.items
+part_is net d given part n is same among area =
+    subst (λ (m : ℕ). AreOffers (OffersSubnet net m d.dest) part.offers.items) area
+    (All-contains (λ (x : AreaOffers). AreOffers (OffersSubnet net x.area d.dest) x.offers.items) d.parts.items part is.exact (subst (λ (l : List AreaOffers). Contains l part) same among))
+
+pub intra_cost_is : (net : Network) (n : ℕ) (p : Block) (u : ℕ) (reach : Reach) (offers given : List Offer) → IsInside net n u reach → AreOffers (OffersSubnet net n p) offers → given ≡ offers →
+    (found : Option ℕ) → MatchOption found (NoneTotals reach given) (IsBestTotal reach given) → (cost : ℕ) → (found ≡ Some cost) ↔ IntraAreaCost net n p u cost
+intra_cost_is net n p u reach offers given inside are same found best cost =
+    let is = best_cost_is (Adjacent net (Area n)) u reach (OffersSubnet net n p) given inside.reach_is.least (lists_from (OffersSubnet net n p) offers given are same) found best cost in
+    (λ e. record { inside = inside.inside; best = is.0 e }, λ costs. is.1 costs.best)

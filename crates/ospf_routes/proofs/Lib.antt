@@ -1,0 +1,11 @@
+mod ListFacts
+mod AreaFacts
+mod DestLists
+mod CostBounds
+mod IntraFacts
+mod RangeFacts
+mod SummaryFacts
+mod RouteFacts
+mod EntryFacts
+mod TableRows
+mod DestinationFacts

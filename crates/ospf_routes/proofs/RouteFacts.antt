@@ -1,0 +1,254 @@
+-- The routes of a router within and between areas.
+use Rattle.std.proofs.Common.{◌≡◌, ℕ, ◌+◌, ◌<◌, ◌↔◌, ◌⊎◌, inl, inr, ⊎_elim, List, [], ◌∷◌, ◌++◌, length, get_or, Option, Some, None, MatchOption, refl, sym, ap, subst, ◌∙◌, arith, length-append}
+use Rattle.std.specs.List.{Contains, Any}
+use Rattle.std.specs.List.Sorted.{IsStrictlyIncreasing}
+use Rattle.std.proofs.lemmas.Bool.{cases_lt}
+use Rattle.std.proofs.lemmas.Option.{none-some, same_Some}
+use Rattle.std.proofs.lemmas.List.{get_or_append_left, get_or_push}
+use Rattle.std.proofs.lemmas.List.Elements.{All-contains, Contains-append_left, Contains-get_or, Contains-push, Contains-push_cases}
+use Rattle.net_addr.specs.Addresses.{Block}
+use Rattle.net_model.proofs.NetworkFacts.{Adjacent-to_within}
+use Rattle.net_model.specs.Network.{Network, Adjacent}
+use Rattle.net_model.specs.declared.zone.Zone.TheVariants.{Area}
+use Rattle.walk_core.specs.Walks.{Arcs}
+use Rattle.walk_core.specs.Offers.{Offers, BestCost, BestHop}
+use Rattle.walk_core.specs.Reach.{Reach, AreLeastWalks}
+use Rattle.walk_core.specs.BestOffers.{ListsOffer, NoneTotals}
+use Rattle.walk_core.specs.declared.offers.Offer.{Offer}
+use Rattle.walk_core.proofs.OfferLaws.{best_total_is_best_cost, none_totals_no_best, hop_towards_is_best_hop}
+use Rattle.walk_core.proofs.WalkLaws.{best_hop_is_arc}
+use Rattle.route_core.specs.Hops.{AreHops}
+use Rattle.igp_theory.specs.Ospf.{OffersSubnet, IntraAreaCost, IntraAreaHop, IsIntraArea, ListensTo, backbone, one_area, OfOthers, Summary, InterAreaHop}
+use Rattle.igp_theory.proofs.TableLaws.{listens_to_one_area}
+use Rattle.ospf_routes.specs.Areas.{AreAreas, HasArea, IsInside, IsReach}
+use Rattle.ospf_routes.specs.Offered.{AreOffers}
+use Rattle.ospf_routes.specs.Lists.{Adds}
+use Rattle.ospf_routes.specs.Routing.{AreBestHops, AreUnited, AreSomeUnited, IsAreaRoute, AreAreaRoutes, IsIntraRoute, ListenedCost, IsListenedRoute}
+use Rattle.ospf_routes.specs.Destinations.{HasPart}
+use Rattle.ospf_routes.specs.Summarized.{AreSummaries, IsSummaryOf}
+use Rattle.ospf_routes.specs.declared.areas.AreaWalks.{AreaWalks}
+use Rattle.ospf_routes.specs.declared.intra_area.AreaOffers.{AreaOffers}
+use Rattle.ospf_routes.specs.declared.summaries.Summaries.{Summaries}
+use Rattle.ospf_routes.proofs.IntraFacts.{lists_from}
+use Rattle.ospf_routes.proofs.SummaryFacts.{OfReached, reached_best, reached_hop}
+use Rattle.ospf_routes.proofs.ListFacts.{any_of, any_in}
+
+-- the hops are the first hops towards the best offers
+pub best_hops_are : (arc : Arcs) (u : ℕ) (reach : Reach) (offer : Offers) (offers : List Offer) (n : ℕ) (hops : List ℕ) → AreLeastWalks arc u reach → ((at asks : ℕ) → ListsOffer offers at asks ↔ offer at asks) →
+    ((h c : ℕ) → arc u h c → h < n) → AreBestHops reach offers n hops → AreHops (BestHop arc offer u) hops
+best_hops_are arc u reach offer offers n hops walks are below best =
+    let costs : BestCost arc offer u best.cost = (best_total_is_best_cost arc u reach offer offers best.cost walks are).0 best.best in
+    record {
+      ascending = best.towards.ascending;
+      exact = λ h. (
+        λ inside. (hop_towards_is_best_hop arc u reach offer offers best.cost h walks are costs).0 ((best.towards.exact h).0 inside).1,
+        λ hop. let over = best_hop_is_arc hop in
+            (best.towards.exact h).1 (below h over.0 over.1, (hop_towards_is_best_hop arc u reach offer offers best.cost h walks are costs).1 hop),
+      );
+    }
+
+-- hops of one kind are those of another that says the same
+pub hops_same : (hop other : ℕ → Type 0) (hops : List ℕ) → ((h : ℕ) → hop h ↔ other h) → AreHops hop hops → AreHops other hops
+hops_same hop other hops same are = record {
+  ascending = are.ascending;
+  exact = λ h. (λ inside. (same h).0 ((are.exact h).0 inside), λ is. (are.exact h).1 ((same h).1 is));
+}
+
+-- Within an area
+
+pub area_route_is : (net : Network) (n : ℕ) (p : Block) (u : ℕ) (reach : Reach) (offers given : List Offer) → IsInside net n u reach → AreOffers (OffersSubnet net n p) offers → given ≡ offers →
+    (count : ℕ) → count ≡ length net → (found : Option (List ℕ)) → MatchOption found (NoneTotals reach given) (AreBestHops reach given count) →
+    MatchOption found ((cost : ℕ) → IntraAreaCost net n p u cost → ⊥) (IsAreaRoute net n p u)
+area_route_is net n p u reach offers given inside are same count is None none = λ cost costs.
+    none_totals_no_best (Adjacent net (Area n)) u reach (OffersSubnet net n p) given inside.reach_is.least (lists_from (OffersSubnet net n p) offers given are same) none cost costs.best
+area_route_is net n p u reach offers given inside are same count is (Some hops) best =
+    let arc : Arcs = Adjacent net (Area n) in
+    let listed = lists_from (OffersSubnet net n p) offers given are same in
+    record {
+      inside = inside.inside;
+      cost = best.cost;
+      costs = record { inside = inside.inside; best = (best_total_is_best_cost arc u reach (OffersSubnet net n p) given best.cost inside.reach_is.least listed).0 best.best };
+      hops_are = best_hops_are arc u reach (OffersSubnet net n p) given count hops inside.reach_is.least listed
+          (λ h c over. subst (λ (m : ℕ). h < m) (sym is) (Adjacent-to_within net (Area n) u h c over)) best;
+    }
+
+-- the routes in the first areas
+pub record AreaListsSoFar (net : Network) (p : Block) (u : ℕ) (front : List AreaWalks) (lists : List (List ℕ)) : Type 0 where
+  pub each : (hops : List ℕ) → Contains lists hops → (n : ℕ) × IsAreaRoute net n p u hops
+  pub every : (n cost : ℕ) → HasArea front n → IntraAreaCost net n p u cost → (hops : List ℕ) × Contains lists hops × IsAreaRoute net n p u hops
+
+pub area_lists_none : (net : Network) (p : Block) (u : ℕ) → AreaListsSoFar net p u [] []
+area_lists_none net p u = record { each = λ hops has. absurd (omega (arith, has.1)); every = λ n cost has costs. absurd (omega (arith, has.among.1)) }
+
+area_cases : (front : List AreaWalks) (a : AreaWalks) (n : ℕ) → HasArea (front ++ a ∷ []) n → HasArea front n ⊎ (a.number ≡ n)
+area_cases front a n has = ⊎_elim
+    (λ among. inl (record { area = has.area; among = among; number = has.number }))
+    (λ same. inr (ap (λ (x : AreaWalks). x.number) same ∙ has.number))
+    (Contains-push_cases front a has.area has.among)
+
+pub area_lists_more : (net : Network) (p : Block) (u : ℕ) (front : List AreaWalks) (a : AreaWalks) (old new : List (List ℕ)) (found : Option (List ℕ)) → AreaListsSoFar net p u front old →
+    MatchOption found ((cost : ℕ) → IntraAreaCost net a.number p u cost → ⊥) (IsAreaRoute net a.number p u) → Adds old new (λ x. found ≡ Some x) → AreaListsSoFar net p u (front ++ a ∷ []) new
+area_lists_more net p u front a old new None before none adds = record {
+  each = λ hops has. ⊎_elim (λ older. before.each hops older) (λ no. absurd (none-some hops no)) ((adds hops).0 has);
+  every = λ n cost has costs. ⊎_elim
+      (λ earlier. let e = before.every n cost earlier costs in (e.0, (adds e.0).1 (inl e.1), e.2))
+      (λ same. absurd (none cost (subst (λ (m : ℕ). IntraAreaCost net m p u cost) (sym same) costs)))
+      (area_cases front a n has);
+}
+area_lists_more net p u front a old new (Some x) before route adds = record {
+  each = λ hops has. ⊎_elim
+      (λ older. before.each hops older)
+      (λ same. (a.number, subst (IsAreaRoute net a.number p u) (same_Some x hops same) route))
+      ((adds hops).0 has);
+  every = λ n cost has costs. ⊎_elim
+      (λ earlier. let e = before.every n cost earlier costs in (e.0, (adds e.0).1 (inl e.1), e.2))
+      (λ same. (x, (adds x).1 (inr refl), subst (λ (m : ℕ). IsAreaRoute net m p u x) same route))
+      (area_cases front a n has);
+}
+
+pub area_lists_all : (net : Network) (areas : List AreaWalks) (p : Block) (u : ℕ) (lists : List (List ℕ)) → AreAreas net areas → AreaListsSoFar net p u areas lists → AreAreaRoutes net p u lists
+area_lists_all net areas p u lists are so_far = record { each = so_far.each; every = λ n cost costs. so_far.every n cost (are.every u n costs.inside) costs }
+
+-- United lists
+
+pub united_none : (lists : List (List ℕ)) → AreUnited lists 0 []
+united_none lists = record { ascending = λ k within. absurd (omega arith); exact = λ h. (λ has. absurd (omega (arith, has.1)), λ both. absurd (omega (arith, both.0))) }
+
+-- a number above all of an ascending list goes to its end
+push_above : (xs : List ℕ) (y : ℕ) → IsStrictlyIncreasing xs → ((x : ℕ) → Contains xs x → x < y) → IsStrictlyIncreasing (xs ++ y ∷ [])
+push_above xs y ascending above k within =
+    let long : length (xs ++ y ∷ []) ≡ length xs + 1 = length-append xs (y ∷ []) in
+    elim (cases_lt (k + 1) (length xs)) [
+      | inl inside ↦
+          let one = get_or_append_left xs (y ∷ []) 0 k (omega arith) in
+          let two = get_or_append_left xs (y ∷ []) 0 (k + 1) inside in
+          let lower = ascending k inside in
+          omega arith
+      | inr not ↦
+          let last : length xs ≡ k + 1 = omega arith in
+          let one = get_or_append_left xs (y ∷ []) 0 k (omega arith) in
+          let two = get_or_push xs y 0 (k + 1) last in
+          let lower = above (get_or xs k 0) (Contains-get_or xs k 0 (omega arith)) in
+          omega arith
+    ]
+
+below_cases : (a i : ℕ) → a < i + 1 → (a < i) ⊎ (a ≡ i)
+below_cases a i h = elim (cases_lt a i) [ inl less ↦ inl less | inr more ↦ inr (omega arith) ]
+
+pub united_more : (lists : List (List ℕ)) (n : ℕ) (hops : List ℕ) → AreUnited lists n hops → Any (λ (l : List ℕ). Contains l n) lists → AreUnited lists (n + 1) (hops ++ n ∷ [])
+united_more lists n hops are has = record {
+  ascending = push_above hops n are.ascending (λ x inside. ((are.exact x).0 inside).0);
+  exact = λ h. (
+    λ inside. ⊎_elim
+        (λ earlier. let both = (are.exact h).0 earlier in (omega (arith, both.0), both.1))
+        (λ same. (omega arith, subst (λ (k : ℕ). Any (λ (l : List ℕ). Contains l k) lists) same has))
+        (Contains-push_cases hops n h inside),
+    λ both. ⊎_elim
+        (λ less. Contains-append_left hops (n ∷ []) h ((are.exact h).1 (less, both.1)))
+        (λ same. subst (λ (k : ℕ). Contains (hops ++ n ∷ []) k) (sym same) (Contains-push hops n))
+        (below_cases h n both.0),
+  );
+}
+
+pub united_no_more : (lists : List (List ℕ)) (n : ℕ) (hops : List ℕ) → AreUnited lists n hops → (Any (λ (l : List ℕ). Contains l n) lists → ⊥) → AreUnited lists (n + 1) hops
+united_no_more lists n hops are none = record {
+  ascending = are.ascending;
+  exact = λ h. (
+    λ inside. let both = (are.exact h).0 inside in (omega (arith, both.0), both.1),
+    λ both. ⊎_elim
+        (λ less. (are.exact h).1 (less, both.1))
+        (λ same. absurd (none (subst (λ (k : ℕ). Any (λ (l : List ℕ). Contains l k) lists) same both.1)))
+        (below_cases h n both.0),
+  );
+}
+
+-- All areas together
+
+pub no_lists : (net : Network) (p : Block) (u : ℕ) (lists : List (List ℕ)) → AreAreaRoutes net p u lists → length lists ≡ 0 → IsIntraArea net p u → ⊥
+no_lists net p u lists are empty is =
+    let e = are.every is.area is.cost is.costs in
+    let inside : Contains lists e.0 = e.1 in
+    omega (arith, inside.1)
+
+pub united_route : (net : Network) (p : Block) (u : ℕ) (lists given : List (List ℕ)) (count : ℕ) (hops : List ℕ) → AreAreaRoutes net p u lists → given ≡ lists → (length lists ≡ 0 → ⊥) → count ≡ length net → AreUnited given count hops →
+    IsIntraRoute net p u hops
+united_route net p u lists given count hops are same some is united =
+    record {
+      is = intra (are.each (get_or lists 0 []) (Contains-get_or lists 0 [] (omega arith)));
+      hops_are = record { ascending = united.ascending; exact = λ h. (there h, back h) };
+    }
+  where
+    intra : (n : ℕ) × IsAreaRoute net n p u (get_or lists 0 []) → IsIntraArea net p u
+    intra route = record { area = route.0; cost = route.1.cost; costs = route.1.costs }
+
+    all : AreAreaRoutes net p u given
+    all = subst (AreAreaRoutes net p u) (sym same) are
+
+    there : (h : ℕ) → Contains hops h → IntraAreaHop net p u h
+    there h inside =
+        let both = (united.exact h).0 inside in
+        let f = any_in (λ (l : List ℕ). Contains l h) given both.1 in
+        let route = all.each f.item f.among in
+        record { area = route.0; inside = route.1.inside; best = (route.1.hops_are.exact h).0 f.holds }
+
+    back : (h : ℕ) → IntraAreaHop net p u h → Contains hops h
+    back h hop =
+        let over = best_hop_is_arc hop.best in
+        let within : h < length net = Adjacent-to_within net (Area hop.area) u h over.0 over.1 in
+        let route = all.every hop.area hop.best.cost (record { inside = hop.inside; best = hop.best.best }) in
+        (united.exact h).1 (omega arith, any_of (λ (l : List ℕ). Contains l h) given route.0 route.1 ((in_area route.2).1 hop.best))
+      where
+        in_area : {list : List ℕ} → IsAreaRoute net hop.area p u list → Contains list h ↔ BestHop (Adjacent net (Area hop.area)) (OffersSubnet net hop.area p) u h
+        in_area route = route.hops_are.exact h
+
+pub intra_route_is : (net : Network) (p : Block) (u : ℕ) (lists given : List (List ℕ)) (count : ℕ) → AreAreaRoutes net p u lists → given ≡ lists → count ≡ length net → (found : Option (List ℕ)) →
+    MatchOption found (length given ≡ 0) (AreSomeUnited given count) → MatchOption found (IsIntraArea net p u → ⊥) (IsIntraRoute net p u)
+intra_route_is net p u lists given count are same counted None none =
+    let e : length given ≡ length lists = ap length same in no_lists net p u lists are (omega arith)
+intra_route_is net p u lists given count are same counted (Some hops) some =
+    let e : length given ≡ length lists = ap length same in
+    let many : 0 < length given = some.some in
+    united_route net p u lists given count hops are same (λ none. omega arith) counted some.united
+
+-- Between areas
+
+pub listened_route_is : (net : Network) (n : ℕ) (p : Block) (u : ℕ) (reach : Reach) (others given : List Offer) → ListensTo net u n → IsReach net n u reach →
+    AreOffers (OfReached (Adjacent net (Area n)) (OfOthers (Summary net p n) u) u) others → given ≡ others → (count : ℕ) → count ≡ length net → (found : Option (List ℕ)) → MatchOption found (NoneTotals reach given) (AreBestHops reach given count) →
+    MatchOption found ((cost : ℕ) → ListenedCost net p u cost → ⊥) (IsListenedRoute net p u)
+listened_route_is net n p u reach others given listens is are same count counted None none = λ cost costs.
+    let arc : Arcs = Adjacent net (Area n) in
+    let offer : Offers = OfOthers (Summary net p n) u in
+    let here : BestCost arc offer u cost = subst (λ (m : ℕ). BestCost (Adjacent net (Area m)) (OfOthers (Summary net p m) u) u cost) (listens_to_one_area costs.listens listens) costs.best in
+    none_totals_no_best arc u reach (OfReached arc offer u) given is.least (lists_from (OfReached arc offer u) others given are same) none cost ((reached_best arc offer u cost).1 here)
+listened_route_is net n p u reach others given listens is are same count counted (Some hops) best =
+    let arc : Arcs = Adjacent net (Area n) in
+    let offer : Offers = OfOthers (Summary net p n) u in
+    let listed = lists_from (OfReached arc offer u) others given are same in
+    let costs : BestCost arc (OfReached arc offer u) u best.cost = (best_total_is_best_cost arc u reach (OfReached arc offer u) given best.cost is.least listed).0 best.best in
+    record {
+      cost = best.cost;
+      costs = record { area = n; listens = listens; best = (reached_best arc offer u best.cost).0 costs };
+      hops_are = hops_same (BestHop arc (OfReached arc offer u) u) (InterAreaHop net p u) hops
+          (λ h. (
+            λ hop. record { area = n; listens = listens; best = (reached_hop arc offer u h).0 hop },
+            λ hop. (reached_hop arc offer u h).1 (subst (λ (m : ℕ). BestHop (Adjacent net (Area m)) (OfOthers (Summary net p m) u) u h) (listens_to_one_area hop.listens listens) hop.best),
+          ))
+          (best_hops_are arc u reach (OfReached arc offer u) given count hops is.least listed
+          (λ h c over. subst (λ (m : ℕ). h < m) (sym counted) (Adjacent-to_within net (Area n) u h c over)) best);
+    }
+
+-- The announcements into an area
+
+pub summary_part_is : (net : Network) (areas : List AreaWalks) (s : Summaries) (given : List AreaOffers) (part : AreaOffers) (n : ℕ) → AreSummaries net areas s → given ≡ s.parts.items → Contains given part → part.area ≡ n → AreOffers (Summary net s.dest n) part.offers.items
+summary_part_is net areas s given part n are same among area =
+    subst (λ (m : ℕ). AreOffers (Summary net s.dest m) part.offers.items) area
+    (All-contains (IsSummaryOf net s.dest) s.parts.items part are.exact (subst (λ (l : List AreaOffers). Contains l part) same among))
+
+-- the area that a router listens to is there
+pub listened_area : (net : Network) (areas : List AreaWalks) (n u : ℕ) → AreAreas net areas → ListensTo net u n → HasArea areas n
+listened_area net areas _ u are (backbone border) = are.backbone
+listened_area net areas n u are (one_area _ inside) = are.every u n inside
+
+pub summary_part_there : (net : Network) (areas : List AreaWalks) (s : Summaries) (given : List AreaOffers) (n u : ℕ) → AreAreas net areas → AreSummaries net areas s → given ≡ s.parts.items → ListensTo net u n → HasPart given n
+summary_part_there net areas s given n u are summaries same listens =
+    subst (λ (l : List AreaOffers). HasPart l n) (sym same) (summaries.every n (listened_area net areas n u are listens))

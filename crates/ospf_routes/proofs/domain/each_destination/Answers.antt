@@ -1,0 +1,20 @@
+use Rattle.std.proofs.Common.{◌≡◌, ◌+◌, ℕ, List, All, take, sym, subst}
+use Rattle.std.proofs.lemmas.List.Elements.{All-push}
+use Rattle.net_addr.specs.Addresses.{Block}
+use Rattle.ospf_routes.specs.Destinations.{IsDestination, dests_of}
+use Rattle.ospf_routes.specs.declared.intra_area.Destination.{Destination}
+use Rattle.ospf_routes.proofs.DestinationFacts.{one_more_dest}
+use Rattle.ospf_routes.proofs.domain.each_destination.Goals as goal
+
+pub loop-dest-preserved : goal.loop-dest-preserved
+loop-dest-preserved c =
+    let d : Destination = c.in_ok-build.field-0 in
+    let k : ℕ = c.loop-dest.dest-index in
+    let dests : List Block = c.args.dests.now in
+    let all : List Destination = c.loop-dest.all.items in
+    record {
+      dests = subst (λ (l : List Destination). dests_of l ≡ take (k + 1) dests) (sym c.in_ok-push.ensures.items)
+          (one_more_dest dests k all d c.dest-item.result c.loop-dest-test.true c.dest-item.is c.loop-dest.invariant.dests c.in_ok-build.ensures.dest);
+      each = subst (λ (l : List Destination). All (IsDestination c.args.net.now) l) (sym c.in_ok-push.ensures.items)
+          (All-push (IsDestination c.args.net.now) all d c.loop-dest.invariant.each c.in_ok-build.ensures.offers);
+    }

@@ -1,0 +1,7 @@
+use Rattle.std.proofs.Common.{take}
+use Rattle.ospf_routes.specs.Destinations.{IsPartOf}
+use Rattle.ospf_routes.proofs.IntraFacts.{PartsSoFar}
+use Rattle.ospf_routes.proofs.intra_area.area_parts.Given as goal
+
+abbrev pub invariant-loop-area : goal.invariant-loop-area
+invariant-loop-area l = PartsSoFar (IsPartOf l.routes) (take l.area-index l.areas) l.parts.items

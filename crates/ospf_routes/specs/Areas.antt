@@ -1,0 +1,60 @@
+-- The areas of a network, each with its least walks.
+use Rattle.std.specs.Prelude.{◌≡◌, ◌≢◌, ℕ, List, Some, IsTrue, All, Contains}
+use Rattle.net_model.specs.Network.{Network, InArea, Adjacent}
+use Rattle.net_model.specs.Refusals.{IsNetwork}
+use Rattle.net_model.specs.declared.interface.Interface.{Interface}
+use Rattle.net_model.specs.declared.zone.Zone.TheVariants.{Area}
+use Rattle.walk_core.specs.Reach.{Reach, AreLeastWalks, AreNear}
+use Rattle.zone_graph.specs.Walks.{AreZoneWalks}
+use Rattle.ospf_routes.specs.declared.areas.AreaWalks.{AreaWalks}
+
+-- the interface is up and runs OSPF in area n
+pub record RunsArea (n : ℕ) (i : Interface) : Type 0 where
+  pub up : IsTrue i.up
+  pub area : i.area ≡ Some n
+
+-- the interface is up and runs OSPF in another area than n
+pub record RunsOther (n : ℕ) (i : Interface) : Type 0 where
+  pub area : ℕ
+  pub other : area ≢ n
+  pub runs : RunsArea area i
+
+-- area n is among these
+pub record HasArea (areas : List AreaWalks) (n : ℕ) : Type 0 where
+  pub area : AreaWalks
+  pub among : Contains areas area
+  pub number : area.number ≡ n
+
+-- area n is among these, with these least walks
+pub record HasWalks (areas : List AreaWalks) (n : ℕ) (walks : List Reach) : Type 0 where
+  pub area : AreaWalks
+  pub among : Contains areas area
+  pub number : area.number ≡ n
+  pub walks_are : area.walks ≡ walks
+
+-- each area has its least walks
+abbrev pub HaveWalks : Network → List AreaWalks → Type 0
+HaveWalks net areas = All (λ (a : AreaWalks). AreZoneWalks net (Area a.number) a.walks) areas
+
+-- the areas of these numbers have their least walks
+pub record AreNumbered (net : Network) (numbers : List ℕ) (areas : List AreaWalks) : Type 0 where
+  pub walks : HaveWalks net areas
+  pub every : (n : ℕ) → Contains numbers n → HasArea areas n
+
+-- the areas of a network have their least walks, and are the backbone and every area that a router is in
+pub record AreAreas (net : Network) (areas : List AreaWalks) : Type 0 where
+  pub network : IsNetwork net
+  pub walks : HaveWalks net areas
+  pub backbone : HasArea areas 0
+  pub every : (u n : ℕ) → InArea net u n → HasArea areas n
+
+-- these are the least walks from router u in area n, none of them longer than one arc of 2^32 for each of
+-- 200 routers
+pub record IsReach (net : Network) (n u : ℕ) (reach : Reach) : Type 0 where
+  pub least : AreLeastWalks (Adjacent net (Area n)) u reach
+  pub near : AreNear 200 reach
+
+-- and u is in the area
+pub record IsInside (net : Network) (n u : ℕ) (reach : Reach) : Type 0 where
+  pub inside : InArea net u n
+  pub reach_is : IsReach net n u reach

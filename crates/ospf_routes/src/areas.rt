@@ -1,0 +1,207 @@
+ghost use Rattle.std.specs.Prelude.{◌≡◌, ◌<◌, ◌↔◌, ℕ, length, Some, Any, Contains, IfOk, IfNone, IfSome, IsTrue, OnOk, MatchOption};
+ghost use Rattle.net_model.specs.Network.{InArea, IsBorderRouter};
+ghost use Rattle.net_model.specs.Refusals.{IsNetwork};
+ghost use Rattle.igp_theory.specs.Ospf.{ListensTo};
+ghost use Rattle.ospf_routes.specs.Areas.{AreAreas, AreNumbered, HasArea, HasWalks, IsReach, IsInside, RunsArea, RunsOther};
+ghost use Rattle.ospf_routes.specs.Lists.{Adds};
+
+use crate::OutOfMemory;
+use crate::lists::push_option;
+use net_model::{Interface, Net, Zone};
+use std::alloc::Global;
+use walk_core::LeastWalks;
+use zone_graph::ZoneWalks;
+
+/// An area with its least walks.
+#[derive(Debug, Drop)]
+pub struct AreaWalks {
+    /// The number of the area.
+    pub number: u32,
+    /// The least walks of the area.
+    pub walks: ZoneWalks,
+}
+
+/// The backbone and every area that a router is in, each with its least walks.
+pub fn all_areas(alloc: Global, net: &Net) -> Result<Vec<AreaWalks>, OutOfMemory>
+    ensures { IfOk result (λ areas. AreAreas net.now areas.items) }
+{
+    let numbers = area_numbers(alloc, net)?;
+    walks_of_areas(alloc, net, numbers.as_slice())
+}
+
+/// The least walks of each of these areas.
+fn walks_of_areas(alloc: Global, net: &Net, numbers: &[u32]) -> Result<Vec<AreaWalks>, OutOfMemory>
+    ensures { IfOk result (λ areas. AreNumbered net.now numbers.now areas.items) }
+{
+    let mut areas = Vec::new(alloc);
+    for number in numbers {
+        areas.push(AreaWalks {
+            number: *number,
+            walks: ZoneWalks::build(alloc, net, Zone::Area(*number))?,
+        })?;
+    }
+    Ok(areas)
+}
+
+/// The numbers of the backbone and of every area that a router is in, each once.
+fn area_numbers(alloc: Global, net: &Net) -> Result<Vec<u32>, OutOfMemory>
+    ensures network { OnOk result (IsNetwork net.now) }
+    ensures backbone { IfOk result (λ numbers. Contains numbers.items 0) }
+    ensures every { IfOk result (λ numbers. (u n : ℕ) → InArea net.now u n → Contains numbers.items n) }
+{
+    let mut numbers = Vec::new(alloc);
+    numbers.push(0)?;
+    for u in 0..net.routers() {
+        add_areas(&mut numbers, net.config(u).interfaces.as_slice())?;
+    }
+    Ok(numbers)
+}
+
+/// Adds the areas of interfaces that are up and run OSPF.
+fn add_areas(numbers: &mut Vec<u32>, interfaces: &[Interface]) -> Result<(), OutOfMemory>
+    ensures { OnOk result (Adds numbers.old.items numbers.new.items (λ n. Any (RunsArea n) interfaces.now)) }
+{
+    for interface in interfaces {
+        add_area(numbers, area_of(interface))?;
+    }
+    Ok(())
+}
+
+/// Adds an area, unless there is none or it is there.
+fn add_area(numbers: &mut Vec<u32>, area: Option<u32>) -> Result<(), OutOfMemory>
+    ensures { OnOk result (Adds numbers.old.items numbers.new.items (λ n. area ≡ Some n)) }
+{
+    match area {
+        Some(number) if numbers.contains(&number) => Ok(()),
+        other => push_option(numbers, other),
+    }
+}
+
+/// The area of an interface that is up and runs OSPF.
+fn area_of(interface: &Interface) -> Option<u32>
+    ensures { (n : ℕ) → (result ≡ Some n) ↔ RunsArea n interface.now }
+{
+    if interface.up { interface.area } else { None }
+}
+
+/// Whether the interface is up and runs OSPF in the area.
+fn runs_area(interface: &Interface, number: u32) -> bool
+    ensures { IsTrue result ↔ RunsArea number interface.now }
+{
+    interface.up && interface.area == Some(number)
+}
+
+/// Whether the router is in the area.
+pub fn in_area(net: &Net, u: u32, number: u32) -> bool
+    requires { u < length net.now }
+    ensures { IsTrue result ↔ InArea net.now u number }
+{
+    some_runs(net.config(u).interfaces.as_slice(), number)
+}
+
+/// Whether one of the interfaces is up and runs OSPF in the area.
+fn some_runs(interfaces: &[Interface], number: u32) -> bool
+    ensures { IsTrue result ↔ Any (RunsArea number) interfaces.now }
+{
+    interfaces.iter().any(|i| runs_area(i, number))
+}
+
+/// The area of the first interface that is up and runs OSPF.
+fn first_area(interfaces: &[Interface]) -> Option<u32>
+    ensures { MatchOption result ((n : ℕ) → Any (RunsArea n) interfaces.now → ⊥) (λ n. Any (RunsArea n) interfaces.now) }
+{
+    for interface in interfaces {
+        if let Some(number) = area_of(interface) {
+            return Some(number);
+        }
+    }
+    None
+}
+
+/// Whether the interface is up and runs OSPF in another area.
+fn runs_other(interface: &Interface, number: u32) -> bool
+    ensures { IsTrue result ↔ RunsOther number interface.now }
+{
+    match area_of(interface) {
+        Some(area) => area != number,
+        None => false,
+    }
+}
+
+/// Whether one of the interfaces is up and runs OSPF in another area.
+fn some_runs_other(interfaces: &[Interface], number: u32) -> bool
+    ensures { IsTrue result ↔ Any (RunsOther number) interfaces.now }
+{
+    interfaces.iter().any(|i| runs_other(i, number))
+}
+
+/// Whether the router is a border router (RFC 2328, section 3.3).
+pub fn is_border(net: &Net, u: u32) -> bool
+    requires { u < length net.now }
+    ensures { IsTrue result ↔ IsBorderRouter net.now u }
+{
+    let interfaces = net.config(u).interfaces.as_slice();
+    match first_area(interfaces) {
+        Some(number) => some_runs_other(interfaces, number),
+        None => false,
+    }
+}
+
+/// The area whose announcements the router listens to: the backbone at a border router, else its one
+/// area (RFC 2328, section 16.2).
+pub fn listens_to(net: &Net, u: u32) -> Option<u32>
+    requires { u < length net.now }
+    ensures { (n : ℕ) → (result ≡ Some n) ↔ ListensTo net.now u n }
+{
+    if is_border(net, u) {
+        return Some(0);
+    }
+    first_area(net.config(u).interfaces.as_slice())
+}
+
+/// The least walks of an area.
+fn walks_of(areas: &[AreaWalks], number: u32) -> Option<&ZoneWalks>
+    ensures none { IfNone result (HasArea areas.now number → ⊥) }
+    ensures some { IfSome result (λ walks. HasWalks areas.now number walks.now) }
+{
+    for area in areas {
+        if area.number == number {
+            return Some(&area.walks);
+        }
+    }
+    None
+}
+
+/// The least walks from the router in an area.
+pub fn reach<'a>(net: &Net, areas: &'a [AreaWalks], number: u32, u: u32) -> Option<&'a LeastWalks>
+    requires router { u < length net.now }
+    requires areas { AreAreas net.now areas.now }
+    ensures none { IfNone result (HasArea areas.now number → ⊥) }
+    ensures some { IfSome result (λ walks. IsReach net.now number u walks.now) }
+{
+    match walks_of(areas, number) {
+        Some(walks) => Some(walks.from_router(u)),
+        None => None,
+    }
+}
+
+/// The least walks from the router in an area that it is in.
+pub fn reach_inside<'a>(
+    net: &Net,
+    areas: &'a [AreaWalks],
+    number: u32,
+    u: u32,
+) -> Option<&'a LeastWalks>
+    requires router { u < length net.now }
+    requires areas { AreAreas net.now areas.now }
+    ensures none { IfNone result (InArea net.now u number → ⊥) }
+    ensures some { IfSome result (λ walks. IsInside net.now number u walks.now) }
+{
+    if !in_area(net, u, number) {
+        return None;
+    }
+    match reach(net, areas, number, u) {
+        Some(walks) => Some(walks),
+        None => None,
+    }
+}

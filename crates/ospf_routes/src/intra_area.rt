@@ -1,0 +1,118 @@
+ghost use Rattle.std.specs.Prelude.{◌≡◌, ◌<◌, ◌↔◌, ℕ, length, Some, All, Contains, IfOk, IfNone, IfSome, IsTrue};
+ghost use Rattle.igp_theory.specs.Ospf.{IntraAreaCost, IsIntraArea};
+ghost use Rattle.ospf_routes.specs.Areas.{AreAreas, HasArea};
+ghost use Rattle.ospf_routes.specs.Destinations.{HasPart, IsDestination, IsPartOf};
+
+use crate::OutOfMemory;
+use crate::areas::{AreaWalks, reach_inside};
+use crate::subnets::{AreaRoute, offers_inside, subnet_routes};
+use net_addr::Prefix;
+use net_model::Net;
+use std::alloc::Global;
+use walk_core::Offer;
+
+/// Offers of a prefix in one area.
+#[derive(Debug, Drop)]
+pub struct AreaOffers {
+    /// The area.
+    pub area: u32,
+    /// The offers.
+    pub offers: Vec<Offer>,
+}
+
+/// A prefix with what the interfaces of each area offer of it.
+#[derive(Debug, Drop)]
+pub struct Destination {
+    /// The prefix.
+    pub dest: Prefix,
+    /// The offers of each area.
+    pub parts: Vec<AreaOffers>,
+}
+
+impl Destination {
+    /// A prefix with what the interfaces of each area offer of it.
+    pub fn build(
+        alloc: Global,
+        net: &Net,
+        areas: &[AreaWalks],
+        dest: Prefix,
+    ) -> Result<Destination, OutOfMemory>
+        requires { AreAreas net.now areas.now }
+        ensures dest { IfOk result (λ d. d.dest ≡ dest) }
+        ensures offers { IfOk result (IsDestination net.now) }
+    {
+        let routes = subnet_routes(alloc, net, dest)?;
+        let parts = area_parts(alloc, areas, routes.as_slice())?;
+        Ok(Destination { dest, parts })
+    }
+}
+
+/// The routes of each area, as offers.
+fn area_parts(
+    alloc: Global,
+    areas: &[AreaWalks],
+    routes: &[AreaRoute],
+) -> Result<Vec<AreaOffers>, OutOfMemory>
+    ensures exact { IfOk result (λ parts. All (IsPartOf routes.now) parts.items) }
+    ensures every { IfOk result (λ parts. (n : ℕ) → HasArea areas.now n → HasPart parts.items n) }
+{
+    let mut parts = Vec::new(alloc);
+    for area in areas {
+        parts.push(AreaOffers {
+            area: area.number,
+            offers: offers_inside(alloc, routes, area.number)?,
+        })?;
+    }
+    Ok(parts)
+}
+
+/// The offers of an area.
+pub fn part_of(parts: &[AreaOffers], area: u32) -> Option<&AreaOffers>
+    ensures none { IfNone result (HasPart parts.now area → ⊥) }
+    ensures among { IfSome result (λ part. Contains parts.now part.now) }
+    ensures area { IfSome result (λ part. part.now.area ≡ area) }
+{
+    for part in parts {
+        if part.area == area {
+            return Some(part);
+        }
+    }
+    None
+}
+
+/// The intra-area cost of the prefix at router `u` in an area (RFC 2328, section 16.1).
+pub fn intra_cost(
+    net: &Net,
+    areas: &[AreaWalks],
+    destination: &Destination,
+    area: u32,
+    u: u32,
+) -> Option<u64>
+    requires router { u < length net.now }
+    requires areas { AreAreas net.now areas.now }
+    requires destination { IsDestination net.now destination.now }
+    ensures { (cost : ℕ) → (result ≡ Some cost) ↔ IntraAreaCost net.now area destination.now.dest u cost }
+{
+    match reach_inside(net, areas, area, u) {
+        Some(walks) => match part_of(destination.parts.as_slice(), area) {
+            Some(part) => walks.best_cost(part.offers.as_slice()),
+            None => None,
+        },
+        None => None,
+    }
+}
+
+/// Whether the prefix has an intra-area route at router `u`.
+pub fn has_intra(net: &Net, areas: &[AreaWalks], destination: &Destination, u: u32) -> bool
+    requires router { u < length net.now }
+    requires areas { AreAreas net.now areas.now }
+    requires destination { IsDestination net.now destination.now }
+    ensures { IsTrue result ↔ IsIntraArea net.now destination.now.dest u }
+{
+    for area in areas {
+        if intra_cost(net, areas, destination, area.number, u).is_some() {
+            return true;
+        }
+    }
+    false
+}

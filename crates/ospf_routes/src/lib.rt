@@ -1,0 +1,19 @@
+//! The route tables of OSPF: intra-area routes, ranges and summaries, inter-area routes (RFC 2328).
+#![tactic(auto)]
+
+mod areas;
+mod candidates;
+mod domain;
+mod entry;
+mod intra_area;
+mod lists;
+mod neighbors;
+mod ranges;
+mod route;
+mod routes;
+mod subnets;
+mod summaries;
+mod tables;
+
+pub use routes::OspfRoutes;
+pub use std::alloc::AllocError as OutOfMemory;

@@ -1,0 +1,244 @@
+ghost use Rattle.std.specs.Prelude.{◌≡◌, ◌<◌, ◌≤◌, ◌↔◌, ℕ, length, Some, All, Any, Contains, IfOk, IfNone, IfSome, IsTrue, MatchOption};
+ghost use Rattle.net_model.specs.Network.{IsBorderRouter};
+ghost use Rattle.igp_theory.specs.Ospf.{HasRange, IsActive, IsActiveRange, IsComponent, RangeCost};
+ghost use Rattle.ospf_routes.specs.Areas.{AreAreas};
+ghost use Rattle.ospf_routes.specs.Destinations.{IsDestination};
+ghost use Rattle.ospf_routes.specs.Domain.{IsDomain};
+ghost use Rattle.ospf_routes.specs.Lists.{Exactly};
+ghost use Rattle.ospf_routes.specs.Ranges.{AreActiveRanges, AreRangesBelow, HasComponentCost, IsActiveAt, IsComponentOfSome, IsGreatestOf, IsLeastOf, IsLonger, IsPicked};
+
+use crate::OutOfMemory;
+use crate::areas::{AreaWalks, is_border};
+use crate::domain::Domain;
+use crate::intra_area::{Destination, intra_cost};
+use crate::lists::push_option;
+use net_addr::Prefix;
+use net_model::{Net, Range};
+use std::alloc::Global;
+use std::marker::Model;
+
+/// An active range of a border router, and what it costs.
+#[derive(Clone, Copy, Debug)]
+pub struct ActiveRange {
+    /// The range.
+    pub range: Range,
+    /// What it costs.
+    pub cost: u64,
+}
+
+/// The active ranges of a router.
+#[derive(Debug, Drop)]
+pub struct ActiveRanges {
+    all: Vec<ActiveRange>,
+}
+
+impl Model for ActiveRanges {
+    ghost use Rattle.std.specs.Prelude.{List};
+    ghost use Rattle.ospf_routes.specs.declared.ranges.ActiveRange.{ActiveRange};
+
+    ghost Value = { List ActiveRange };
+
+    ghost view = { λ x. x.all.items };
+}
+
+impl ActiveRanges {
+    /// The active ranges of router `b`, none where it isn't a border router.
+    fn of_router(
+        alloc: Global,
+        net: &Net,
+        domain: &Domain,
+        b: u32,
+    ) -> Result<ActiveRanges, OutOfMemory>
+        requires router { b < length net.now }
+        requires domain { IsDomain net.now domain.now }
+        ensures { IfOk result (AreActiveRanges net.now b) }
+    {
+        if is_border(net, b) {
+            border_ranges(alloc, net, domain, b)
+        } else {
+            Ok(ActiveRanges {
+                all: Vec::new(alloc),
+            })
+        }
+    }
+
+    /// The ranges as a slice.
+    pub fn as_slice(&self) -> &[ActiveRange]
+        ensures { result.now ≡ self.now }
+    {
+        self.all.as_slice()
+    }
+
+    /// Whether the prefix is that of an active range.
+    pub fn contains(&self, dest: Prefix) -> bool
+        ensures { IsTrue result ↔ Any (λ a. a.range.dest ≡ dest) self.now }
+    {
+        self.all.iter().any(|a| a.range.dest == dest)
+    }
+}
+
+/// The active ranges of every router.
+pub fn all_ranges(
+    alloc: Global,
+    net: &Net,
+    domain: &Domain,
+) -> Result<Vec<ActiveRanges>, OutOfMemory>
+    requires { IsDomain net.now domain.now }
+    ensures { IfOk result (λ ranges. AreRangesBelow net.now (length net.now) ranges.items) }
+{
+    let mut ranges = Vec::new(alloc);
+    for b in 0..net.routers() {
+        ranges.push(ActiveRanges::of_router(alloc, net, domain, b)?)?;
+    }
+    Ok(ranges)
+}
+
+/// The active ranges of a border router.
+fn border_ranges(
+    alloc: Global,
+    net: &Net,
+    domain: &Domain,
+    b: u32,
+) -> Result<ActiveRanges, OutOfMemory>
+    requires router { b < length net.now }
+    requires border { IsBorderRouter net.now b }
+    requires domain { IsDomain net.now domain.now }
+    ensures { IfOk result (AreActiveRanges net.now b) }
+{
+    let ranges = net.config(b).ranges.as_slice();
+    let mut all = Vec::new(alloc);
+    for range in ranges {
+        push_option(&mut all, active_range(alloc, net, domain, b, range)?)?;
+    }
+    Ok(ActiveRanges { all })
+}
+
+/// The range with its cost, where it is active.
+fn active_range(
+    alloc: Global,
+    net: &Net,
+    domain: &Domain,
+    b: u32,
+    range: &Range,
+) -> Result<Option<ActiveRange>, OutOfMemory>
+    requires router { b < length net.now }
+    requires has { HasRange net.now b range.now }
+    requires domain { IsDomain net.now domain.now }
+    ensures { IfOk result (λ found. MatchOption found (IsActive net.now b range.now → ⊥) (IsActiveAt net.now b range.now)) }
+{
+    let costs = component_costs(alloc, net, domain, b, range)?;
+    match picked(*range, net.config(b).rfc1583, costs.as_slice()) {
+        Some(cost) => Ok(Some(ActiveRange {
+            range: *range,
+            cost,
+        })),
+        None => Ok(None),
+    }
+}
+
+/// What a range costs over these costs of its components: what its line states, else the least of
+/// them, and without RFC 1583 compatibility the greatest.
+fn picked(range: Range, compatible: bool, costs: &[u64]) -> Option<u64>
+    ensures { MatchOption result (length costs.now ≡ 0) (IsPicked range compatible costs.now) }
+{
+    if costs.is_empty() {
+        return None;
+    }
+    match range.cost {
+        Some(cost) => Some(u64::from(cost)),
+        None => {
+            if compatible {
+                least(costs)
+            } else {
+                greatest(costs)
+            }
+        }
+    }
+}
+
+/// The least of some costs.
+fn least(costs: &[u64]) -> Option<u64>
+    ensures { MatchOption result (length costs.now ≡ 0) (IsLeastOf costs.now) }
+{
+    costs.iter().copied().min()
+}
+
+/// The greatest of some costs.
+fn greatest(costs: &[u64]) -> Option<u64>
+    ensures { MatchOption result (length costs.now ≡ 0) (IsGreatestOf costs.now) }
+{
+    costs.iter().copied().max()
+}
+
+/// The costs of the range's components.
+fn component_costs(
+    alloc: Global,
+    net: &Net,
+    domain: &Domain,
+    b: u32,
+    range: &Range,
+) -> Result<Vec<u64>, OutOfMemory>
+    requires router { b < length net.now }
+    requires has { HasRange net.now b range.now }
+    requires domain { IsDomain net.now domain.now }
+    ensures { IfOk result (λ costs. Exactly (HasComponentCost net.now b range.now) costs.items) }
+{
+    let mut costs = Vec::new(alloc);
+    for destination in &domain.destinations {
+        let cost = component_cost(net, domain.areas.as_slice(), destination, b, range);
+        push_option(&mut costs, cost)?;
+    }
+    Ok(costs)
+}
+
+/// What the prefix costs as a component of the range.
+fn component_cost(
+    net: &Net,
+    areas: &[AreaWalks],
+    destination: &Destination,
+    b: u32,
+    range: &Range,
+) -> Option<u64>
+    requires router { b < length net.now }
+    requires has { HasRange net.now b range.now }
+    requires areas { AreAreas net.now areas.now }
+    requires destination { IsDestination net.now destination.now }
+    ensures { (cost : ℕ) → (result ≡ Some cost) ↔ IsComponent net.now b range.now destination.now.dest cost }
+{
+    let ranges = net.config(b).ranges.as_slice();
+    if !range.dest.covers(destination.dest) || has_longer(ranges, *range, destination.dest) {
+        return None;
+    }
+    intra_cost(net, areas, destination, range.area, b)
+}
+
+/// Whether a longer one of these ranges, of the same area, covers the prefix.
+fn has_longer(ranges: &[Range], range: Range, dest: Prefix) -> bool
+    ensures { IsTrue result ↔ Any (IsLonger range dest) ranges.now }
+{
+    ranges.iter().any(|other| is_longer(*other, range, dest))
+}
+
+/// Whether the other range is longer, of the same area, and covers the prefix.
+fn is_longer(other: Range, range: Range, dest: Prefix) -> bool
+    ensures { IsTrue result ↔ IsLonger range dest other }
+{
+    other.area == range.area && other.dest.covers(dest) && range.dest.len() < other.dest.len()
+}
+
+/// Whether the prefix is a component of a range of the border router.
+pub fn is_component(net: &Net, areas: &[AreaWalks], destination: &Destination, b: u32) -> bool
+    requires router { b < length net.now }
+    requires border { IsBorderRouter net.now b }
+    requires areas { AreAreas net.now areas.now }
+    requires destination { IsDestination net.now destination.now }
+    ensures { IsTrue result ↔ IsComponentOfSome net.now b destination.now.dest }
+{
+    let ranges = net.config(b).ranges.as_slice();
+    for range in ranges {
+        if component_cost(net, areas, destination, b, range).is_some() {
+            return true;
+        }
+    }
+    false
+}

@@ -1,0 +1,89 @@
+ghost use Rattle.std.specs.Prelude.{◌≡◌, ◌↔◌, length, Some, Any, Contains, IfOk, IsTrue, MatchOption};
+ghost use Rattle.walk_core.specs.BestOffers.{AreInRange, NoneTotals};
+ghost use Rattle.walk_core.specs.declared.offers.Offer.{Offer as OfferValue};
+ghost use Rattle.ospf_routes.specs.Lists.{Exactly};
+ghost use Rattle.ospf_routes.specs.Routing.{AreBestHops, AreSomeUnited, AreUnited, IsReachedOther};
+
+use crate::OutOfMemory;
+use crate::lists::push_option;
+use route_core::Hops;
+use std::alloc::Global;
+use walk_core::{LeastWalks, Offer};
+
+/// The first hops below `count` of all least-cost routes to the best of some offers, and `None` where
+/// no offer is reached.
+pub fn best_hops(
+    alloc: Global,
+    walks: &LeastWalks,
+    offers: &[Offer],
+    count: u32,
+) -> Result<Option<Hops>, OutOfMemory>
+    requires { AreInRange walks.now offers.now }
+    ensures { IfOk result (λ found. MatchOption found (NoneTotals walks.now offers.now) (AreBestHops walks.now offers.now count)) }
+{
+    match walks.best_cost(offers) {
+        Some(cost) => {
+            let hops = walks.hops_towards(alloc, offers, cost, count)?;
+            Ok(Some(Hops::from_vec(hops)))
+        }
+        None => Ok(None),
+    }
+}
+
+/// The offers that other routers than `u` make and that are reached.
+pub fn reached_others(
+    alloc: Global,
+    walks: &LeastWalks,
+    offers: &[Offer],
+    u: u32,
+) -> Result<Vec<Offer>, OutOfMemory>
+    ensures { IfOk result (λ others. Exactly (λ o. Any (IsReachedOther walks.now u o) offers.now) others.items) }
+{
+    let mut others = Vec::new(alloc);
+    for offer in offers {
+        push_option(&mut others, reached_other(walks, *offer, u))?;
+    }
+    Ok(others)
+}
+
+/// The offer, where another router than `u` makes it and it is reached.
+fn reached_other(walks: &LeastWalks, offer: Offer, u: u32) -> Option<Offer>
+    ensures { (o : OfferValue) → (result ≡ Some o) ↔ IsReachedOther walks.now u o offer }
+{
+    if offer.at != u && walks.distance(offer.at).is_some() {
+        Some(offer)
+    } else {
+        None
+    }
+}
+
+/// The hops below `count` that are in one of the lists, and `None` where there are no lists.
+pub fn united_some(alloc: Global, lists: &[Hops], count: u32) -> Result<Option<Hops>, OutOfMemory>
+    ensures { IfOk result (λ found. MatchOption found (length lists.now ≡ 0) (AreSomeUnited lists.now count)) }
+{
+    if lists.is_empty() {
+        return Ok(None);
+    }
+    let hops = united(alloc, lists, count)?;
+    Ok(Some(hops))
+}
+
+/// The hops below `count` that are in one of the lists.
+fn united(alloc: Global, lists: &[Hops], count: u32) -> Result<Hops, OutOfMemory>
+    ensures { IfOk result (AreUnited lists.now count) }
+{
+    let mut hops = Vec::new(alloc);
+    for h in 0..count {
+        if some_contains(lists, h) {
+            hops.push(h)?;
+        }
+    }
+    Ok(Hops::from_vec(hops))
+}
+
+/// Whether one of the lists has the hop.
+fn some_contains(lists: &[Hops], h: u32) -> bool
+    ensures { IsTrue result ↔ Any (λ list. Contains list h) lists.now }
+{
+    lists.iter().any(|list| list.as_slice().contains(&h))
+}
