@@ -3,7 +3,9 @@
 
 use migrate_cli::{Status, run};
 use std::env;
+use std::io;
 use std::process::ExitCode;
+use std::rt::Env;
 use store_edge::{RealFiles, RealSink};
 
 fn main(rt: HostRuntime) -> ExitCode {
@@ -17,10 +19,17 @@ fn answer(rt: &HostRuntime) -> Status {
         return Status::Memory;
     };
     let mut files = RealFiles::new(rt, alloc);
-    let mut out = RealSink::new(rt.stdout());
+    let mut out = RealSink::new(io::writer(rt));
     run(alloc, words.as_slice(), &mut files, &mut out)
 }
 
 /// The words after the program's name.
-fn words(rt: &HostRuntime) -> Result<Vec<String>> {
+fn words(rt: &(impl AllocGlobal + Env)) -> io::Result<Vec<String>> {
+    let mut words = env::args(rt)?;
+    let _program = words.next();
+    let mut all = Vec::new(rt.alloc());
+    for word in words {
+        all.push(word)?;
+    }
+    Ok(all)
 }

@@ -6,3 +6,4 @@ mod ConfigurationFacts
 mod NameFacts
 mod VerdictFacts
 mod AnswerFacts
+mod FaultFacts

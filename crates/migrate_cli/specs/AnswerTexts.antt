@@ -1,5 +1,5 @@
 -- What the program writes.
-use Rattle.std.specs.Prelude.{ℕ, ◌*◌, List, [], ◌∷◌, length, map, codes, decimal, Option, Some, None}
+use Rattle.std.specs.Prelude.{ℕ, ◌*◌, List, [], ◌∷◌, map, codes, decimal, Option, Some, None}
 use Rattle.igp_theory.specs.Loops.{Fault, missing, loop, ring_routers}
 use Rattle.net_model.specs.declared.refusal.NetRefusal.{NetRefusal}
 use Rattle.net_model.specs.declared.refusal.NetRefusal.TheVariants.{Limit, OutOfMemory}
@@ -16,9 +16,9 @@ faulty_text file number kind = line (codes "refused") (file ∷ decimal number �
 abbrev pub off_start_text : List ℕ → List ℕ
 off_start_text name = line (codes "refused") (codes "network" ∷ codes "NotAtStart" ∷ name ∷ [])
 
--- an order is safe: so many distance changes
-abbrev pub safe_text : List ℕ → List ℕ
-safe_text order = line (codes "safe") (decimal (2 * length order) ∷ [])
+-- an order of so many routers is safe: two distance changes for each
+abbrev pub safe_text : ℕ → List ℕ
+safe_text routers = line (codes "safe") (decimal (2 * routers) ∷ [])
 
 -- how a call ends that a network refuses; want of memory is no refusal of it
 abbrev pub refusal_status : NetRefusal → Option Status

@@ -7,3 +7,4 @@ pub mod Unread
 pub mod AnswerTexts
 pub mod Verdicts
 pub mod Answers
+pub mod Faults

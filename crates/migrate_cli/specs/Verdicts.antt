@@ -1,5 +1,5 @@
 -- What `check` answers to the texts of an order file and of configuration files.
-use Rattle.std.specs.Prelude.{◌≡◌, ℕ, List, []}
+use Rattle.std.specs.Prelude.{ℕ, List, [], length}
 use Rattle.ios_reader.specs.declared.kind.ReadKind.{ReadKind}
 use Rattle.net_model.specs.Configuration.{Configuration}
 use Rattle.net_model.specs.Limits.{IsWithinLimits}
@@ -33,7 +33,7 @@ pub record GiveStart (texts : List (List ℕ)) (net : Network) : Type 0 where
 -- what is answered of an order, by the tables of the two protocols: it is safe where every packet to an originated
 -- address, along every equal-cost choice, is delivered in every state of it
 pub data IsOrderVerdict (net : Network) (old new : Tables) (order : List ℕ) : Status → List ℕ → Type 0 where
-  safe : IsSeamless net old new order → IsOrderVerdict net old new order Done (safe_text order)
+  safe : IsSeamless net old new order → IsOrderVerdict net old new order Done (safe_text (length net))
   unsafe : (state : ℕ) (fault : Fault) → (IsSeamless net old new order → ⊥) → IsFirstFault net old new order state fault →
       IsOrderVerdict net old new order Negative (unsafe_text (names_of net) state fault)
 

@@ -1,0 +1,60 @@
+-- What is printed of a fault.
+use Rattle.std.proofs.Common.{◌≡◌, ℕ, zero, suc, ◌<◌, ⊎_elim, List, [], ◌∷◌, length, get_or, map, All, decimal, codes, refl, arith, ap}
+use Rattle.net_model.specs.Network.{Network}
+use Rattle.igp_theory.specs.Loops.{RingRouter, IsTag, EachToNext, AroundRing, IsFault, missing_step, loop_arises, ring_routers}
+use Rattle.igp_theory.specs.Routes.{Tables}
+use Rattle.igp_theory.specs.States.{State}
+use Rattle.loop_finder.specs.Faults.{ring_of, ring_router, told_fault}
+use Rattle.loop_finder.specs.declared.fault.Fault.{Fault}
+use Rattle.loop_finder.specs.declared.fault.Fault.TheVariants.{Loop, Missing}
+use Rattle.order_search.specs.declared.turn.Turn.{Turn}
+use Rattle.migration_report.specs.Texts as report
+use Rattle.migration_report.specs.Words.{line, dotted, name_of}
+use Rattle.migrate_cli.specs.AnswerTexts.{fault_words, unsafe_text}
+
+-- the names of the routers of a ring are those of its turns
+ring_names : (names : List (List ℕ)) (turns : List Turn) → report.ring_words names turns ≡ map (name_of names) (ring_routers (ring_of turns))
+ring_names names [] = refl
+ring_names names (turn ∷ turns) = ap (λ some. name_of names turn.router ∷ some) (ring_names names turns)
+
+-- the words of a fault with the turns beside it are those of the fault that they tell
+words_of : (names : List (List ℕ)) (fault : Fault) (turns : List Turn) → report.fault_words names fault turns ≡ fault_words names (told_fault fault turns)
+words_of names (Loop a) turns = ap (λ some. dotted a ∷ codes "loop" ∷ some) (ring_names names turns)
+words_of names (Missing a u) turns = refl
+
+-- and so are their lines
+pub text_of : (names : List (List ℕ)) (state : ℕ) (fault : Fault) (turns : List Turn)
+    → line (codes "unsafe") (decimal state ∷ report.fault_words names fault turns) ≡ unsafe_text names state (told_fault fault turns)
+text_of names state fault turns = ap (λ some. line (codes "unsafe") (decimal state ∷ some)) (words_of names fault turns)
+
+-- a list of one element more
+All-cons : {X : Type 0} (P : X → Type 0) (x : X) (xs : List X) → P x → All P xs → All P (x ∷ xs)
+All-cons P x xs first others zero d within = first
+All-cons P x xs first others (suc k) d within = others k d (omega arith)
+
+module _ (net : Network) (old new : Tables) (a : ℕ) where
+  -- a router with a tag is one of the network
+  tag_within : (r : RingRouter) (next : ℕ) → IsTag net old new a r next → r.router < length net
+  tag_within r next tag = ⊎_elim (λ by_old. (tag.of_old.0 by_old).must.router) (λ by_new. (tag.of_new.0 by_new).must.router) tag.some
+
+  each_within : (first : RingRouter) (turns : List Turn) → EachToNext (λ (r s : RingRouter). IsTag net old new a r s.router) first (ring_of turns)
+      → All (λ (turn : Turn). turn.router < length net) turns
+  each_within first [] tags = λ k d within. absurd (omega arith)
+  each_within first (turn ∷ []) tags = All-cons (λ (t : Turn). t.router < length net) turn [] (tag_within (ring_router turn) first.router tags) (λ k d within. absurd (omega arith))
+  each_within first (turn ∷ next ∷ turns) tags =
+      All-cons (λ (t : Turn). t.router < length net) turn (next ∷ turns) (tag_within (ring_router turn) next.router tags.0) (each_within first (next ∷ turns) tags.1)
+
+  -- so are the routers of a ring with its tags
+  around_within : (turns : List Turn) → AroundRing (λ (r s : RingRouter). IsTag net old new a r s.router) (ring_of turns)
+      → All (λ (turn : Turn). turn.router < length net) turns
+  around_within [] tags = λ k d within. absurd (omega arith)
+  around_within (turn ∷ turns) tags = each_within (ring_router turn) (turn ∷ turns) tags
+
+-- the routers that a fault of a state names are those of the network
+pub loop_within : (net : Network) (old new : Tables) (state : State) (a : ℕ) (turns : List Turn) → IsFault net old new state (told_fault (Loop a) turns)
+    → All (λ (turn : Turn). turn.router < length net) turns
+loop_within net old new state a turns (loop_arises _ _ _ _ tags) = around_within net old new a turns tags
+
+pub missing_within : (net : Network) (old new : Tables) (state : State) (a u : ℕ) (turns : List Turn) → IsFault net old new state (told_fault (Missing a u) turns)
+    → u < length net
+missing_within net old new state a u turns (missing_step _ _ must _ _) = must.router
