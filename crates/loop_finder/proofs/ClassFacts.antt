@@ -28,7 +28,7 @@ pub hops_from_next : {O N : Type 0} (old : Listing O) (new : Listing N) (c : Cla
     → MustForward c.mixture.net (sample_of c.mixture c.atom) u → ((h : ℕ) → Contains hops h ↔ NextLeadsTo next h) → (h : ℕ) → Contains hops h ↔ StepsBy old new c u phase h
 hops_from_next old new c u phase next hops is answers must same h =
     let law : Steps c.mixture.net (HasEntry (old c.mixture.old)) (HasEntry (new c.mixture.new)) u phase (sample_of c.mixture c.atom) h ↔ NextLeadsTo next h =
-        steps_to_hops c.mixture.net (HasEntry (old c.mixture.old)) (HasEntry (new c.mixture.new)) u phase (sample_of c.mixture c.atom) next h (answers (sample_of c.mixture c.atom) (sample_inside c is)) must in
+    steps_to_hops c.mixture.net (HasEntry (old c.mixture.old)) (HasEntry (new c.mixture.new)) u phase (sample_of c.mixture c.atom) next h (answers (sample_of c.mixture c.atom) (sample_inside c is)) must in
     (λ among. law.1 ((same h).0 among), λ steps. (same h).1 (law.0 steps))
 
 -- a router that doesn't has no steps

@@ -47,7 +47,7 @@ sound_alike : {O N : Type 0} (old : Listing O) (new : Listing N) (m : Mixture O 
 sound_alike old new m state k a b are in_a in_b sound =
     let same : HaveSameTables m.net (HasEntry (old m.old)) (HasEntry (new m.new)) (SourceEntry (length m.net) (old m.old)) (SourceEntry (length m.net) (new m.new)) = same_entries m.net (old m.old) (new m.new) in
     let alike : ActAlike m.net (SourceEntry (length m.net) (old m.old)) (SourceEntry (length m.net) (new m.new)) a b =
-        one_class_acts_alike m.net (SourceEntry (length m.net) (old m.old)) (SourceEntry (length m.net) (new m.new)) m.classes k a b are in_a in_b in
+    one_class_acts_alike m.net (SourceEntry (length m.net) (old m.old)) (SourceEntry (length m.net) (new m.new)) m.classes k a b are in_a in_b in
     sound_at_over (same_tables_sym same) ((alike.sound state).0 (sound_at_over same sound))
 
 -- an address is in a class whose least address isn't above it

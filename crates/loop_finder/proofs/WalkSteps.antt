@@ -120,10 +120,10 @@ found_from_walk step marks n start place path ring many peeled some lowest walk 
 pub found_steps : (step : ℕ → ℕ → Type 0) (n : ℕ) (ring : List ℕ) → IsFoundRing step n ring → AroundRing step ring
 found_steps step n ring found =
     let all : EachToNext step found.again (found.lead ++ found.again ∷ found.rest) =
-        subst (λ (xs : List ℕ). EachToNext step found.again xs) found.in_order
-        (each_to_next_over (λ (u h : ℕ) (hop : IsLowestLiveHop step n u h). hop.steps) found.again (found.start ∷ found.visited) found.goes) in
+    subst (λ (xs : List ℕ). EachToNext step found.again xs) found.in_order
+    (each_to_next_over (λ (u h : ℕ) (hop : IsLowestLiveHop step n u h). hop.steps) found.again (found.start ∷ found.visited) found.goes) in
     let ring : AroundRing step (found.front ++ found.back) =
-        subst (AroundRing step) found.found (each_to_next_drop step found.again found.again found.lead found.rest all) in
+    subst (AroundRing step) found.found (each_to_next_drop step found.again found.again found.lead found.rest all) in
     subst (AroundRing step) (sym found.turned) (around_turned step found.front found.back ring)
 
 -- what is left when the routers before a place are cut off, turned
@@ -131,7 +131,7 @@ pub turned_to : (path moved kept seen ring : List ℕ) (place low : ℕ) → mov
     → ring ≡ drop low kept ++ take low kept → low < length seen → All (λ u. get_or seen low 0 ≤ u) seen → IsTurned (drop place path) ring
 turned_to path moved kept seen ring place low moved_is kept_is seen_is ring_is within least =
     let same : seen ≡ drop place path =
-        seen_is ∙ kept_is ∙ ap (λ (xs : List ℕ). take (length path - place) xs) moved_is ∙ take_at (drop place path) (take place path) (length path - place) (length-drop place path) in
+    seen_is ∙ kept_is ∙ ap (λ (xs : List ℕ). take (length path - place) xs) moved_is ∙ take_at (drop place path) (take place path) (length path - place) (length-drop place path) in
     let kept_same : kept ≡ drop place path = sym seen_is ∙ same in
     subst (λ (xs : List ℕ). IsTurned (drop place path) xs) (sym (ring_is ∙ ap (λ (xs : List ℕ). drop low xs ++ take low xs) kept_same))
     (turned_from (drop place path) low (subst (λ (xs : List ℕ). low < length xs) same within) (subst (λ (xs : List ℕ). All (λ u. get_or xs low 0 ≤ u) xs) same least))
@@ -141,5 +141,13 @@ pub found_short : (step : ℕ → ℕ → Type 0) (n : ℕ) (ring : List ℕ) �
 found_short step n ring inside found =
     let all : List ℕ = found.start ∷ found.visited in
     let below : All (λ u. u < n) all = all_from_each (IsLowestLiveHop step n) (λ u. u < n) found.again all (λ u h hop. inside u h hop.steps) found.goes in
-    omega (arith, length-le_from_distinct all n found.distinct below, ap length found.in_order, length-append found.lead (found.again ∷ found.rest), ap length found.found, length-append found.front found.back,
-    ap length found.turned, length-append found.back found.front)
+    omega (
+      arith,
+      length-le_from_distinct all n found.distinct below,
+      ap length found.in_order,
+      length-append found.lead (found.again ∷ found.rest),
+      ap length found.found,
+      length-append found.front found.back,
+      ap length found.turned,
+      length-append found.back found.front,
+    )

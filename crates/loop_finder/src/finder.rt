@@ -38,10 +38,7 @@ impl<'a, O: RouteSource, N: RouteSource> Model for Finder<'a, O, N> {
 
 impl<'a, O: RouteSource, N: RouteSource> Finder<'a, O, N> {
     /// A finder over mixed forwarding, with no ring yet.
-    pub fn new(
-        alloc: Global,
-        mixed: &'a Mixed<'a, O, N>,
-    ) -> Result<Finder<'a, O, N>, OutOfMemory>
+    pub fn new(alloc: Global, mixed: &'a Mixed<'a, O, N>) -> Result<Finder<'a, O, N>, OutOfMemory>
         ensures mixture { IfOk result (λ finder. finder.mixture ≡ mixed.now) }
         ensures ring { IfOk result (λ finder. finder.ring ≡ []) }
     {
@@ -90,3 +87,6 @@ impl<'a, O: RouteSource, N: RouteSource> Finder<'a, O, N> {
         self.room.ring.as_slice()
     }
 }
+
+#[cfg(test)]
+mod tests;

@@ -18,13 +18,13 @@ returns-in-None-clause-sound g c =
 pub new-steps-requires-clause-forwards : goal.new-steps-requires-clause-forwards
 new-steps-requires-clause-forwards g c =
     let many : length c.mark_forwarders.new.forwards ≡ c.args.room.now.forwards.len =
-        omega (arith, c.mark_forwarders.auto.forwards, ap length c.deref_mut.ensures.value, c.args.room.now.forwards.ok.0) in
+    omega (arith, c.mark_forwarders.auto.forwards, ap length c.deref_mut.ensures.value, c.args.room.now.forwards.ok.0) in
     let same : c.as_slice.result.now ≡ c.mark_forwarders.new.forwards = c.as_slice.ensures.value ∙ take_at _ _ _ many in
     let target : IsTarget c.args.mixed.now.net (sample_of c.args.mixed.now c.args.atom) c.in-Some.target =
-        target_at c.args.mixed.now.classes c.atoms-atoms.result.now c.args.atom (Some c.in-Some.target) c.atoms-atoms.ensures.classes c.requires.atom c.atoms-atoms.ensures.atoms c.in-Some.ensures in
+    target_at c.args.mixed.now.classes c.atoms-atoms.result.now c.args.atom (Some c.in-Some.target) c.atoms-atoms.ensures.classes c.requires.atom c.atoms-atoms.ensures.atoms c.in-Some.ensures in
     let network : IsNetwork c.args.mixed.now.net = subst IsNetwork c.net.ensures c.mark_forwarders.ensures.network in
     let marks : (u : ℕ) → IsMarked c.mark_forwarders.new.forwards u ↔ ((u < length c.args.mixed.now.net) × (¬ Connected c.args.mixed.now.net u c.in-Some.target)) =
-        subst (λ (n : Network). (u : ℕ) → IsMarked c.mark_forwarders.new.forwards u ↔ ((u < length n) × (¬ Connected n u c.in-Some.target))) c.net.ensures c.mark_forwarders.ensures.marks in
+    subst (λ (n : Network). (u : ℕ) → IsMarked c.mark_forwarders.new.forwards u ↔ ((u < length n) × (¬ Connected n u c.in-Some.target))) c.net.ensures c.mark_forwarders.ensures.marks in
     subst (λ (fs : List Bool). AreForwarders c.args.mixed.now.net (sample_of c.args.mixed.now c.args.atom) fs) (sym same)
     (forwarders_from c.args.mixed.now.net (sample_of c.args.mixed.now c.args.atom) c.in-Some.target c.mark_forwarders.new.forwards network target marks)
 

@@ -12,5 +12,5 @@ write_ring-requires-clause-around g c =
 pub write_ring-requires-clause-room : goal.write_ring-requires-clause-room
 write_ring-requires-clause-room g c =
     let short : length c.find_ring.new.path.items ≤ length c.args.steps.now.mixture.net =
-        found_short (ClassStep g.O.RouteSource.table g.N.RouteSource.table c.args.steps.now) (length c.args.steps.now.mixture.net) c.find_ring.new.path.items (λ u h step. step.must.router) c.if-not-find_ring.ensures.found in
+    found_short (ClassStep g.O.RouteSource.table g.N.RouteSource.table c.args.steps.now) (length c.args.steps.now.mixture.net) c.find_ring.new.path.items (λ u h step. step.must.router) c.if-not-find_ring.ensures.found in
     omega (arith, short, ap length c.as_slice.ensures.value, c.requires.ring)

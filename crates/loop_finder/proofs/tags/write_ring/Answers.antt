@@ -10,14 +10,14 @@ use Rattle.loop_finder.proofs.tags.write_ring.Goals as goal
 pub tag_of-tag-requires-clause-router : goal.tag_of-tag-requires-clause-router
 tag_of-tag-requires-clause-router g c =
     let step : ClassStep g.O.RouteSource.table g.N.RouteSource.table c.args.steps.now (get_or c.args.routers.now c.loop-place.place 0) (next_in c.args.routers.now c.loop-place.place) =
-        ring_step (ClassStep g.O.RouteSource.table g.N.RouteSource.table c.args.steps.now) c.args.routers.now c.loop-place.place c.requires.around c.loop-place-test.true in
+    ring_step (ClassStep g.O.RouteSource.table g.N.RouteSource.table c.args.steps.now) c.args.routers.now c.loop-place.place c.requires.around c.loop-place-test.true in
     step.must.router
 
 pub tag_of-tag-requires-clause-some : goal.tag_of-tag-requires-clause-some
 tag_of-tag-requires-clause-some g c =
     let router : ℕ = get_or c.args.routers.now c.loop-place.place 0 in
     let step : ClassStep g.O.RouteSource.table g.N.RouteSource.table c.args.steps.now router (next_in c.args.routers.now c.loop-place.place) =
-        ring_step (ClassStep g.O.RouteSource.table g.N.RouteSource.table c.args.steps.now) c.args.routers.now c.loop-place.place c.requires.around c.loop-place-test.true in
+    ring_step (ClassStep g.O.RouteSource.table g.N.RouteSource.table c.args.steps.now) c.args.routers.now c.loop-place.place c.requires.around c.loop-place-test.true in
     subst (λ (n : ℕ). StepsBy g.O.RouteSource.table g.N.RouteSource.table c.args.steps.now router Old n ⊎ StepsBy g.O.RouteSource.table g.N.RouteSource.table c.args.steps.now router New n) (sym c.next_router-next.ensures)
     (old_or_new g.O.RouteSource.table g.N.RouteSource.table c.args.steps.now router (state_in c.args.steps.now.phases router) (next_in c.args.routers.now c.loop-place.place) step)
 
@@ -26,7 +26,7 @@ loop-place-preserved g c =
     let router : ℕ = get_or c.args.routers.now c.loop-place.place 0 in
     let turn : Turn = record { router = router; tag = c.tag_of-tag.result } in
     let tagged : IsTagged g.O.RouteSource.table g.N.RouteSource.table c.args.steps.now (ring_router turn) (next_in c.args.routers.now c.loop-place.place) =
-        subst (λ (n : ℕ). IsTagged g.O.RouteSource.table g.N.RouteSource.table c.args.steps.now (ring_router turn) n) c.next_router-next.ensures c.tag_of-tag.ensures in
+    subst (λ (n : ℕ). IsTagged g.O.RouteSource.table g.N.RouteSource.table c.args.steps.now (ring_router turn) n) c.next_router-next.ensures c.tag_of-tag.ensures in
     record {
       part = subst (λ (ts : List Turn). IsPartRing g.O.RouteSource.table g.N.RouteSource.table c.args.steps.now c.args.routers.now ts (c.loop-place.place + 1)) (sym c.add_turn.ensures.items)
           (IsPartRing-more g.O.RouteSource.table g.N.RouteSource.table c.args.steps.now c.args.routers.now c.loop-place.ring.items c.loop-place.place turn c.loop-place-test.true refl tagged c.loop-place.invariant.part);
@@ -37,7 +37,7 @@ loop-place-preserved g c =
 pub add_turn-requires : goal.add_turn-requires
 add_turn-requires g c =
     let many : length c.loop-place.ring.items ≡ c.loop-place.place =
-        part_length g.O.RouteSource.table g.N.RouteSource.table c.args.steps.now c.args.routers.now c.loop-place.ring.items c.loop-place.place c.loop-place-test.true c.loop-place.invariant.part in
+    part_length g.O.RouteSource.table g.N.RouteSource.table c.args.steps.now c.args.routers.now c.loop-place.ring.items c.loop-place.place c.loop-place-test.true c.loop-place.invariant.part in
     omega (arith, many, c.loop-place.ring.ok.0, c.loop-place.invariant.room)
 
 pub returns-clause-routers : goal.returns-clause-routers
