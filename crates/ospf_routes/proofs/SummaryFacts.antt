@@ -243,10 +243,10 @@ reached_hop arc offer u h = (
 pub no_border_cost : (net : Network) (p : Block) (u : ℕ) → (IsBorderRouter net u → (IsIntraArea net p u → ⊥) → (IsActiveRange net p u → ⊥) → ⊥) → (cost : ℕ) → (◌≡◌ {A = Option ℕ} None (Some cost)) ↔ BorderCost net p u cost
 no_border_cost net p u none cost = (λ no. absurd (none-some cost no), λ costs. absurd (none costs.border costs.no_intra costs.no_range))
 
-pub border_cost_is : (net : Network) (p : Block) (u : ℕ) (reach : Reach) (backbone given others given_others : List Offer) → IsBorderRouter net u → (IsIntraArea net p u → ⊥) → (IsActiveRange net p u → ⊥) → IsReach net 0 u reach →
+pub border_cost_is : (net : Network) (p : Block) (u : ℕ) (reach : Reach) (others given_others : List Offer) → IsBorderRouter net u → (IsIntraArea net p u → ⊥) → (IsActiveRange net p u → ⊥) → IsReach net 0 u reach →
     AreOffers (OfReached (Adjacent net (Area 0)) (OfOthers (BackboneSummary net p) u) u) others → given_others ≡ others →
     (found : Option ℕ) → MatchOption found (NoneTotals reach given_others) (IsBestTotal reach given_others) → (cost : ℕ) → (found ≡ Some cost) ↔ BorderCost net p u cost
-border_cost_is net p u reach backbone given others given_others border no_intra no_range is are same found best cost =
+border_cost_is net p u reach others given_others border no_intra no_range is are same found best cost =
     let arc : Arcs = Adjacent net (Area 0) in
     let offer : Offers = OfOthers (BackboneSummary net p) u in
     let listed = best_cost_is arc u reach (OfReached arc offer u) given_others is.least (lists_from (OfReached arc offer u) others given_others are same) found best cost in (
@@ -399,8 +399,3 @@ default_some s n b area o =
   where
     same_offer : IsDefault n b o s → ◌≡◌ {A = Offer} (record { at = b; asks = s.default_cost }) o
     same_offer is = λ i. record { at = (sym is.at) i; asks = (sym is.costs) i }
-
--- One more part
-
-pub summary_part_more : (net : Network) (p : Block) (parts : List AreaOffers) (part : AreaOffers) → All (IsSummaryOf net p) parts → IsSummaryOf net p part → All (IsSummaryOf net p) (parts ++ part ∷ [])
-summary_part_more net p parts part all is = All-push (IsSummaryOf net p) parts part all is
