@@ -1,8 +1,8 @@
 -- What border routers summarize of a prefix, and announce into each area.
-use Rattle.std.proofs.Common.{◌≡◌, ◌≢◌, ℕ, ◌<◌, ◌↔◌, ◌⊎◌, inl, inr, ⊎_elim, List, [], ◌∷◌, ◌++◌, length, get_or, Option, Some, None, MatchOption, IsTrue, refl, sym, ap, subst, ◌∙◌, arith}
+use Rattle.std.proofs.Common.{◌≡◌, ◌≢◌, ℕ, ◌<◌, ◌↔◌, ◌⊎◌, inl, inr, ⊎_elim, List, [], length, get_or, Option, Some, None, MatchOption, IsTrue, refl, sym, ap, subst, ◌∙◌, arith}
 use Rattle.std.specs.List.{Contains, Any, All}
 use Rattle.std.proofs.lemmas.Option.{none-some, same_Some}
-use Rattle.std.proofs.lemmas.List.Elements.{All-push, Contains-get_or}
+use Rattle.std.proofs.lemmas.List.Elements.{Contains-get_or}
 use Rattle.net_addr.specs.Addresses.{Block}
 use Rattle.net_model.proofs.Adjacency.{HasConfiguration-unique}
 use Rattle.net_model.proofs.NetworkFacts.{InArea-within}
@@ -22,9 +22,8 @@ use Rattle.ospf_routes.specs.Lists.{Exactly, Adds}
 use Rattle.ospf_routes.specs.Offered.{AreOffers, OutsideOf}
 use Rattle.ospf_routes.specs.Ranges.{IsComponentOfSome, AreActiveRanges}
 use Rattle.ospf_routes.specs.Routing.{IsReachedOther}
-use Rattle.ospf_routes.specs.Summarized.{IsSubnetSummary, SummarizedSubnet, IsRangeRoute, SummarizedRange, SummarizedFrom, AreSummarized, OutsideSummary, IsBorderOffer, IsAllowed, IsAlone, IsDefault, RouterDefault, HasDefault, IsSummaryOf}
+use Rattle.ospf_routes.specs.Summarized.{IsSubnetSummary, SummarizedSubnet, IsRangeRoute, SummarizedRange, SummarizedFrom, AreSummarized, OutsideSummary, IsBorderOffer, IsAllowed, IsAlone, IsDefault, RouterDefault, HasDefault}
 use Rattle.ospf_routes.specs.declared.areas.AreaWalks.{AreaWalks}
-use Rattle.ospf_routes.specs.declared.intra_area.AreaOffers.{AreaOffers}
 use Rattle.ospf_routes.specs.declared.ranges.ActiveRange.{ActiveRange}
 use Rattle.ospf_routes.specs.declared.subnets.AreaRoute.{AreaRoute}
 use Rattle.ospf_routes.proofs.ListFacts.{AnyBelow, any_of, any_in, exactly_same, exactly_added, adds_nothing, adds_same, adds_both}
