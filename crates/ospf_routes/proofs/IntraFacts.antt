@@ -7,7 +7,7 @@ use Rattle.net_addr.specs.Addresses.{Block}
 use Rattle.net_model.proofs.Adjacency.{UpInterface-among}
 use Rattle.net_model.proofs.NetworkFacts.{UpInterface-within}
 use Rattle.net_model.specs.Configuration.{Configuration}
-use Rattle.net_model.specs.Network.{Network, HasConfiguration, InArea, Adjacent}
+use Rattle.net_model.specs.Network.{Network, HasConfiguration, Adjacent}
 use Rattle.net_model.specs.declared.interface.Interface.{Interface}
 use Rattle.net_model.specs.declared.zone.Zone.TheVariants.{Area}
 use Rattle.walk_core.specs.Walks.{Arcs}
@@ -61,9 +61,6 @@ subnet_below net p n count r offers =
     record { source = r.at; below = omega arith; given = (refl, offers) }
 
 -- The offers of an area
-
-pub part_more : (routes : List AreaRoute) (parts : List AreaOffers) (part : AreaOffers) → All (IsPartOf routes) parts → IsPartOf routes part → All (IsPartOf routes) (parts ++ part ∷ [])
-part_more routes parts part all is = All-push (IsPartOf routes) parts part all is
 
 pub has_part_left : (parts : List AreaOffers) (part : AreaOffers) (n : ℕ) → HasPart parts n → HasPart (parts ++ part ∷ []) n
 has_part_left parts part n has = record { part = has.part; among = Contains-append_left parts (part ∷ []) has.part has.among; area = has.area }
@@ -137,9 +134,6 @@ best_cost_is arc u reach offer given walks are (Some c) best cost =
     )
 
 -- Intra-area costs
-
-pub no_intra_outside : (net : Network) (n : ℕ) (p : Block) (u : ℕ) → (InArea net u n → ⊥) → (cost : ℕ) → (◌≡◌ {A = Option ℕ} None (Some cost)) ↔ IntraAreaCost net n p u cost
-no_intra_outside net n p u outside cost = (λ is. absurd (none-some cost is), λ costs. absurd (outside costs.inside))
 
 pub no_intra_cost : (net : Network) (n : ℕ) (p : Block) (u : ℕ) → ((cost : ℕ) → IntraAreaCost net n p u cost → ⊥) → (cost : ℕ) → (◌≡◌ {A = Option ℕ} None (Some cost)) ↔ IntraAreaCost net n p u cost
 no_intra_cost net n p u none cost = (λ is. absurd (none-some cost is), λ costs. absurd (none cost costs))

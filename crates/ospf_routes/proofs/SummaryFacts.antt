@@ -1,8 +1,8 @@
 -- What border routers summarize of a prefix, and announce into each area.
-use Rattle.std.proofs.Common.{◌≡◌, ◌≢◌, ℕ, ◌<◌, ◌↔◌, ◌⊎◌, inl, inr, ⊎_elim, List, [], ◌∷◌, ◌++◌, length, get_or, Option, Some, None, MatchOption, IsTrue, refl, sym, ap, subst, ◌∙◌, arith}
+use Rattle.std.proofs.Common.{◌≡◌, ◌≢◌, ℕ, ◌<◌, ◌↔◌, ◌⊎◌, inl, inr, ⊎_elim, List, [], length, get_or, Option, Some, None, MatchOption, IsTrue, refl, sym, ap, subst, ◌∙◌, arith}
 use Rattle.std.specs.List.{Contains, Any, All}
 use Rattle.std.proofs.lemmas.Option.{none-some, same_Some}
-use Rattle.std.proofs.lemmas.List.Elements.{All-push, Contains-get_or}
+use Rattle.std.proofs.lemmas.List.Elements.{Contains-get_or}
 use Rattle.net_addr.specs.Addresses.{Block}
 use Rattle.net_model.proofs.Adjacency.{HasConfiguration-unique}
 use Rattle.net_model.proofs.NetworkFacts.{InArea-within}
@@ -22,9 +22,8 @@ use Rattle.ospf_routes.specs.Lists.{Exactly, Adds}
 use Rattle.ospf_routes.specs.Offered.{AreOffers, OutsideOf}
 use Rattle.ospf_routes.specs.Ranges.{IsComponentOfSome, AreActiveRanges}
 use Rattle.ospf_routes.specs.Routing.{IsReachedOther}
-use Rattle.ospf_routes.specs.Summarized.{IsSubnetSummary, SummarizedSubnet, IsRangeRoute, SummarizedRange, SummarizedFrom, AreSummarized, OutsideSummary, IsBorderOffer, IsAllowed, IsAlone, IsDefault, RouterDefault, HasDefault, IsSummaryOf}
+use Rattle.ospf_routes.specs.Summarized.{IsSubnetSummary, SummarizedSubnet, IsRangeRoute, SummarizedRange, SummarizedFrom, AreSummarized, OutsideSummary, IsBorderOffer, IsAllowed, IsAlone, IsDefault, RouterDefault, HasDefault}
 use Rattle.ospf_routes.specs.declared.areas.AreaWalks.{AreaWalks}
-use Rattle.ospf_routes.specs.declared.intra_area.AreaOffers.{AreaOffers}
 use Rattle.ospf_routes.specs.declared.ranges.ActiveRange.{ActiveRange}
 use Rattle.ospf_routes.specs.declared.subnets.AreaRoute.{AreaRoute}
 use Rattle.ospf_routes.proofs.ListFacts.{AnyBelow, any_of, any_in, exactly_same, exactly_added, adds_nothing, adds_same, adds_both}
@@ -243,10 +242,10 @@ reached_hop arc offer u h = (
 pub no_border_cost : (net : Network) (p : Block) (u : ℕ) → (IsBorderRouter net u → (IsIntraArea net p u → ⊥) → (IsActiveRange net p u → ⊥) → ⊥) → (cost : ℕ) → (◌≡◌ {A = Option ℕ} None (Some cost)) ↔ BorderCost net p u cost
 no_border_cost net p u none cost = (λ no. absurd (none-some cost no), λ costs. absurd (none costs.border costs.no_intra costs.no_range))
 
-pub border_cost_is : (net : Network) (p : Block) (u : ℕ) (reach : Reach) (backbone given others given_others : List Offer) → IsBorderRouter net u → (IsIntraArea net p u → ⊥) → (IsActiveRange net p u → ⊥) → IsReach net 0 u reach →
+pub border_cost_is : (net : Network) (p : Block) (u : ℕ) (reach : Reach) (others given_others : List Offer) → IsBorderRouter net u → (IsIntraArea net p u → ⊥) → (IsActiveRange net p u → ⊥) → IsReach net 0 u reach →
     AreOffers (OfReached (Adjacent net (Area 0)) (OfOthers (BackboneSummary net p) u) u) others → given_others ≡ others →
     (found : Option ℕ) → MatchOption found (NoneTotals reach given_others) (IsBestTotal reach given_others) → (cost : ℕ) → (found ≡ Some cost) ↔ BorderCost net p u cost
-border_cost_is net p u reach backbone given others given_others border no_intra no_range is are same found best cost =
+border_cost_is net p u reach others given_others border no_intra no_range is are same found best cost =
     let arc : Arcs = Adjacent net (Area 0) in
     let offer : Offers = OfOthers (BackboneSummary net p) u in
     let listed = best_cost_is arc u reach (OfReached arc offer u) given_others is.least (lists_from (OfReached arc offer u) others given_others are same) found best cost in (
@@ -399,8 +398,3 @@ default_some s n b area o =
   where
     same_offer : IsDefault n b o s → ◌≡◌ {A = Offer} (record { at = b; asks = s.default_cost }) o
     same_offer is = λ i. record { at = (sym is.at) i; asks = (sym is.costs) i }
-
--- One more part
-
-pub summary_part_more : (net : Network) (p : Block) (parts : List AreaOffers) (part : AreaOffers) → All (IsSummaryOf net p) parts → IsSummaryOf net p part → All (IsSummaryOf net p) (parts ++ part ∷ [])
-summary_part_more net p parts part all is = All-push (IsSummaryOf net p) parts part all is

@@ -2,6 +2,7 @@
 #![tactic(auto)]
 
 mod areas;
+mod border_routes;
 mod candidates;
 mod domain;
 mod entry;
@@ -11,8 +12,10 @@ mod neighbors;
 mod ranges;
 mod route;
 mod routes;
+mod stub_areas;
 mod subnets;
 mod summaries;
+mod summarized;
 mod tables;
 
 pub use routes::OspfRoutes;

@@ -141,13 +141,12 @@ fn router(
 /// between 0 and 3.
 ///
 /// ```text
-///      area 0      area 1
-///          1 10 --- 2
-///         /          \
-///        0 -- 5 --- 3
+///   1 -- 10 -- 2
+///   |          |
+///   0 --- 5 -- 3
 /// ```
 ///
-/// 1 and 3 are border routers. 1 has 10.1.2.0/24 in area 1 as well, and 2 the loopback 10.1.0.3/32.
+/// The links of 0 are in area 0 and those of 2 in area 1, so 1 and 3 are border routers. 1 has 10.1.2.0/24 in area 1 as well, and 2 the loopback 10.1.0.3/32.
 fn ring(
     alloc: Global,
     ranged: bool,

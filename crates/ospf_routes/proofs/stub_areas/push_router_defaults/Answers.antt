@@ -7,7 +7,7 @@ use Rattle.walk_core.specs.declared.offers.Offer.{Offer}
 use Rattle.ospf_routes.proofs.ListFacts.{adds_same}
 use Rattle.ospf_routes.proofs.SummaryFacts.{no_router_default, router_default_is}
 use Rattle.ospf_routes.specs.Summarized.{IsDefault, RouterDefault}
-use Rattle.ospf_routes.proofs.summaries.push_router_defaults.Goals as goal
+use Rattle.ospf_routes.proofs.stub_areas.push_router_defaults.Goals as goal
 
 pub returns-then-not-is_border : goal.returns-then-not-is_border
 returns-then-not-is_border c =

@@ -6,7 +6,7 @@ use Rattle.ospf_routes.proofs.SummaryFacts.{subnets_nothing, subnets_are}
 use Rattle.ospf_routes.specs.Summarized.{IsSubnetSummary, SummarizedSubnet}
 use Rattle.ospf_routes.specs.declared.areas.AreaWalks.{AreaWalks}
 use Rattle.ospf_routes.specs.declared.subnets.AreaRoute.{AreaRoute}
-use Rattle.ospf_routes.proofs.summaries.push_subnets.Goals as goal
+use Rattle.ospf_routes.proofs.summarized.push_subnets.Goals as goal
 
 pub returns-then-not-is_border : goal.returns-then-not-is_border
 returns-then-not-is_border c =

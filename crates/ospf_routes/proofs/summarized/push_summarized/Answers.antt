@@ -5,7 +5,7 @@ use Rattle.ospf_routes.proofs.SummaryFacts.{ranges_are, summarized_both}
 use Rattle.ospf_routes.specs.Summarized.{SummarizedSubnet, SummarizedRange, SummarizedFrom, IsRangeRoute}
 use Rattle.ospf_routes.specs.declared.ranges.ActiveRange.{ActiveRange}
 use Rattle.ospf_routes.specs.declared.subnets.AreaRoute.{AreaRoute}
-use Rattle.ospf_routes.proofs.summaries.push_summarized.Goals as goal
+use Rattle.ospf_routes.proofs.summarized.push_summarized.Goals as goal
 
 pub returns : goal.returns
 returns c =

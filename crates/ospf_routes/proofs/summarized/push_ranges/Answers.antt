@@ -2,7 +2,7 @@ use Rattle.ospf_routes.proofs.ListFacts.{adds_start, adds_step, adds_end}
 use Rattle.ospf_routes.specs.Summarized.{IsRangeRoute}
 use Rattle.ospf_routes.specs.declared.ranges.ActiveRange.{ActiveRange}
 use Rattle.ospf_routes.specs.declared.subnets.AreaRoute.{AreaRoute}
-use Rattle.ospf_routes.proofs.summaries.push_ranges.Goals as goal
+use Rattle.ospf_routes.proofs.summarized.push_ranges.Goals as goal
 
 pub loop-active-init : goal.loop-active-init
 loop-active-init c =

@@ -1,6 +1,6 @@
 use Rattle.std.proofs.Common.{refl}
 use Rattle.ospf_routes.proofs.SummaryFacts.{subnet_summary_some, subnet_summary_none}
-use Rattle.ospf_routes.proofs.summaries.subnet_summary.Goals as goal
+use Rattle.ospf_routes.proofs.summarized.subnet_summary.Goals as goal
 
 pub returns-in-Some : goal.returns-in-Some
 returns-in-Some c =

@@ -3,7 +3,7 @@ use Rattle.std.proofs.lemmas.Bool.{false≢true}
 use Rattle.ospf_routes.proofs.ListFacts.{below_start, below_step}
 use Rattle.ospf_routes.proofs.SummaryFacts.{no_default, defaults_are}
 use Rattle.ospf_routes.specs.Summarized.{RouterDefault}
-use Rattle.ospf_routes.proofs.summaries.push_defaults.Goals as goal
+use Rattle.ospf_routes.proofs.stub_areas.push_defaults.Goals as goal
 
 pub returns-then-not-is_all_addresses : goal.returns-then-not-is_all_addresses
 returns-then-not-is_all_addresses c =

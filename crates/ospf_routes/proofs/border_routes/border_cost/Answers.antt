@@ -6,7 +6,7 @@ use Rattle.net_model.specs.declared.zone.Zone.TheVariants.{Area}
 use Rattle.ospf_routes.proofs.CostBounds.{in_range, backbone_is_small}
 use Rattle.ospf_routes.proofs.RangeFacts.{active_range_is}
 use Rattle.ospf_routes.proofs.SummaryFacts.{no_border_cost, OfReached, reached_are, border_cost_is}
-use Rattle.ospf_routes.proofs.summaries.border_cost.Goals as goal
+use Rattle.ospf_routes.proofs.border_routes.border_cost.Goals as goal
 
 pub returns-then-not-is_border : goal.returns-then-not-is_border
 returns-then-not-is_border c =
@@ -27,5 +27,5 @@ best_cost-requires c =
 
 pub returns-in_ok-others-in-Some : goal.returns-in_ok-others-in-Some
 returns-in_ok-others-in-Some c =
-    border_cost_is c.args.net.now c.args.destination.now.dest c.args.u c.in-Some.walks.now c.args.backbone.now c.args.backbone.now c.in_ok-others-in-Some.others.items c.as_slice.result.now (c.if-not-is_border.ensures.0 refl)
+    border_cost_is c.args.net.now c.args.destination.now.dest c.args.u c.in-Some.walks.now c.in_ok-others-in-Some.others.items c.as_slice.result.now (c.if-not-is_border.ensures.0 refl)
     (λ is. false≢true (c.if-has_intra.ensures.1 is)) (λ is. false≢true (c.if-contains.ensures.1 ((active_range_is c.args.net.now c.args.u c.args.destination.now.dest c.args.ranges.now c.requires.ranges).1 is))) c.in-Some.ensures.some (reached_are (Adjacent c.args.net.now (Area 0)) c.args.u c.in-Some.walks.now (BackboneSummary c.args.net.now c.args.destination.now.dest) c.args.backbone.now c.args.backbone.now c.in_ok-others-in-Some.others.items c.in-Some.ensures.some.least c.requires.backbone refl c.in_ok-others-in-Some.ensures) c.as_slice.ensures.value c.best_cost.result c.best_cost.ensures

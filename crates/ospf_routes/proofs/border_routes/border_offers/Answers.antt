@@ -4,7 +4,7 @@ use Rattle.walk_core.specs.declared.offers.Offer.{Offer}
 use Rattle.ospf_routes.proofs.ListFacts.{below_start, below_step, adds_same, exactly_below}
 use Rattle.ospf_routes.proofs.RangeFacts.{ranges_of}
 use Rattle.ospf_routes.proofs.SummaryFacts.{BorderOfRouter, border_of_router, border_below}
-use Rattle.ospf_routes.proofs.summaries.border_offers.Goals as goal
+use Rattle.ospf_routes.proofs.border_routes.border_offers.Goals as goal
 
 pub border_cost-requires-clause-ranges : goal.border_cost-requires-clause-ranges
 border_cost-requires-clause-ranges c =

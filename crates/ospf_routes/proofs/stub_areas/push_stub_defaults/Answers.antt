@@ -2,7 +2,7 @@ use Rattle.net_model.specs.declared.area.Stub.{Stub}
 use Rattle.walk_core.specs.declared.offers.Offer.{Offer}
 use Rattle.ospf_routes.proofs.ListFacts.{adds_start, adds_at, adds_end}
 use Rattle.ospf_routes.specs.Summarized.{IsDefault}
-use Rattle.ospf_routes.proofs.summaries.push_stub_defaults.Goals as goal
+use Rattle.ospf_routes.proofs.stub_areas.push_stub_defaults.Goals as goal
 
 pub loop-stub-init : goal.loop-stub-init
 loop-stub-init c =

@@ -4,7 +4,7 @@ use Rattle.ospf_routes.specs.Lists.{Adds}
 use Rattle.ospf_routes.specs.Summarized.{IsSubnetSummary}
 use Rattle.ospf_routes.specs.declared.areas.AreaWalks.{AreaWalks}
 use Rattle.ospf_routes.specs.declared.subnets.AreaRoute.{AreaRoute}
-use Rattle.ospf_routes.proofs.summaries.push_subnets.Given as goal
+use Rattle.ospf_routes.proofs.summarized.push_subnets.Given as goal
 
 abbrev pub invariant-loop-area : goal.invariant-loop-area
 invariant-loop-area l = Adds l.initial.routes.items l.routes.items (λ (r : AreaRoute). Any (λ (a : AreaWalks). IsSubnetSummary l.net l.destination.dest a.number l.b r) (take l.area-index l.areas))

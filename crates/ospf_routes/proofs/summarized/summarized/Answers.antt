@@ -4,7 +4,7 @@ use Rattle.ospf_routes.proofs.RangeFacts.{ranges_of}
 use Rattle.ospf_routes.proofs.SummaryFacts.{summarized_below, summarized_back}
 use Rattle.ospf_routes.specs.Summarized.{SummarizedFrom}
 use Rattle.ospf_routes.specs.declared.subnets.AreaRoute.{AreaRoute}
-use Rattle.ospf_routes.proofs.summaries.summarized.Goals as goal
+use Rattle.ospf_routes.proofs.summarized.summarized.Goals as goal
 
 pub push_summarized-requires-clause-ranges : goal.push_summarized-requires-clause-ranges
 push_summarized-requires-clause-ranges c =

@@ -2,7 +2,7 @@ use Rattle.std.proofs.Common.{◌∙◌, ap}
 use Rattle.net_model.specs.Configuration.{Configuration}
 use Rattle.ospf_routes.proofs.ListFacts.{iff_then}
 use Rattle.ospf_routes.proofs.SummaryFacts.{totally_stubby_is}
-use Rattle.ospf_routes.proofs.summaries.is_totally_stubby.Goals as goal
+use Rattle.ospf_routes.proofs.stub_areas.is_totally_stubby.Goals as goal
 
 pub returns : goal.returns
 returns c =

@@ -1,0 +1,98 @@
+ghost use Rattle.std.specs.Prelude.{◌≡◌, ◌<◌, ◌↔◌, length, Some, Any, IsTrue, OnOk};
+ghost use Rattle.igp_theory.specs.Ospf.{IsTotallyStubby};
+ghost use Rattle.walk_core.specs.declared.offers.Offer.{Offer as OfferValue};
+ghost use Rattle.ospf_routes.specs.Lists.{Adds};
+ghost use Rattle.ospf_routes.specs.Summarized.{HasDefault, IsAlone, IsDefault, RouterDefault};
+
+use crate::OutOfMemory;
+use crate::areas::is_border;
+use crate::candidates::is_all_addresses;
+use crate::lists::push_option;
+use net_addr::Prefix;
+use net_model::{Net, Stub};
+use walk_core::Offer;
+
+/// Whether router `b` announces nothing but a default route into the area.
+pub fn is_totally_stubby(net: &Net, b: u32, area: u32) -> bool
+    requires { b < length net.now }
+    ensures { IsTrue result ↔ IsTotallyStubby net.now b area }
+{
+    some_alone(net.config(b).stubs.as_slice(), area)
+}
+
+/// Whether one of the stub areas is this one, with a default route alone.
+fn some_alone(stubs: &[Stub], area: u32) -> bool
+    ensures { IsTrue result ↔ Any (IsAlone area) stubs.now }
+{
+    stubs.iter().any(|stub| is_alone(*stub, area))
+}
+
+/// Whether the stub area is this one, with a default route alone.
+fn is_alone(stub: Stub, area: u32) -> bool
+    ensures { IsTrue result ↔ IsAlone area stub }
+{
+    stub.area == area && stub.no_summary
+}
+
+/// Adds the default route of each border router that says of the area that it is a stub area.
+pub fn push_defaults(
+    offers: &mut Vec<Offer>,
+    net: &Net,
+    area: u32,
+    dest: Prefix,
+) -> Result<(), OutOfMemory>
+    ensures { OnOk result (Adds offers.old.items offers.new.items (λ o. HasDefault net.now area dest o)) }
+{
+    if !is_all_addresses(dest) {
+        return Ok(());
+    }
+    for b in 0..net.routers() {
+        push_router_defaults(offers, net, area, b)?;
+    }
+    Ok(())
+}
+
+/// Adds the default route of router `b`, where it is a border router.
+fn push_router_defaults(
+    offers: &mut Vec<Offer>,
+    net: &Net,
+    area: u32,
+    b: u32,
+) -> Result<(), OutOfMemory>
+    requires { b < length net.now }
+    ensures { OnOk result (Adds offers.old.items offers.new.items (λ o. RouterDefault net.now area b o)) }
+{
+    if !is_border(net, b) {
+        return Ok(());
+    }
+    push_stub_defaults(offers, net.config(b).stubs.as_slice(), area, b)
+}
+
+/// Adds the default route of each of the stub areas that is this one.
+fn push_stub_defaults(
+    offers: &mut Vec<Offer>,
+    stubs: &[Stub],
+    area: u32,
+    b: u32,
+) -> Result<(), OutOfMemory>
+    ensures { OnOk result (Adds offers.old.items offers.new.items (λ o. Any (IsDefault area b o) stubs.now)) }
+{
+    for stub in stubs {
+        push_option(offers, default_offer(*stub, area, b))?;
+    }
+    Ok(())
+}
+
+/// The default route into a stub area, where it is this one.
+fn default_offer(stub: Stub, area: u32, b: u32) -> Option<Offer>
+    ensures { (o : OfferValue) → (result ≡ Some o) ↔ IsDefault area b o stub }
+{
+    if stub.area == area {
+        Some(Offer {
+            at: b,
+            asks: u64::from(stub.default_cost),
+        })
+    } else {
+        None
+    }
+}
