@@ -1,5 +1,5 @@
 -- Two routers have one address exactly where their lists of interfaces clash over it.
-use Rattle.std.proofs.Common.{◌≡◌, ℕ, ◌<◌, ◌≤◌, Bool, ◌↔◌, List, length, Option, IsTrue, Any, sym, ◌∙◌, ◌⊎◌, inl, inr, ⊎_elim}
+use Rattle.std.proofs.Common.{◌≡◌, ℕ, ◌<◌, ◌≤◌, Bool, ◌↔◌, length, Option, IsTrue, Any, sym, ◌∙◌, inl, inr, ⊎_elim}
 use Rattle.net_model.specs.Conditions.{HaveOneAddress}
 use Rattle.net_model.specs.Configuration.{Configuration}
 use Rattle.net_model.specs.Least.{IsBest}

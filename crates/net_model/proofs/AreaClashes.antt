@@ -1,5 +1,5 @@
 -- Two routers run a subnet in two areas exactly where their lists of interfaces do.
-use Rattle.std.proofs.Common.{◌≡◌, ℕ, ◌<◌, List, length, Option, Any, sym, ◌∙◌}
+use Rattle.std.proofs.Common.{ℕ, ◌<◌, length, Option, Any, sym, ◌∙◌}
 use Rattle.net_addr.specs.Addresses.{Block}
 use Rattle.net_model.specs.Conditions.{RunTwoAreas}
 use Rattle.net_model.specs.Configuration.{Configuration}

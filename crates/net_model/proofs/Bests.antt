@@ -4,7 +4,7 @@ use Rattle.std.proofs.lemmas.Bool.{cases_lt, or_cases, or_parts, and_parts, and_
 use Rattle.std.proofs.lemmas.List.{take_more}
 use Rattle.std.proofs.lemmas.List.Elements.{Contains-append_left, Contains-push, Contains-push_cases}
 use Rattle.net_addr.specs.Addresses.{Block}
-use Rattle.net_model.specs.Least.{IsLeast, IsBest, IsBlockAtMost}
+use Rattle.net_model.specs.Least.{IsBest, IsBlockAtMost}
 use Rattle.net_model.specs.Links.{lower_of}
 use Rattle.net_model.specs.Scans.{first_block}
 

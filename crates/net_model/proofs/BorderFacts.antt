@@ -1,9 +1,9 @@
 -- A router is a border router without the backbone exactly where its list of interfaces leaves the backbone.
-use Rattle.std.proofs.Common.{◌≡◌, ℕ, ◌<◌, List, length, Any, ◌↔◌}
+use Rattle.std.proofs.Common.{ℕ, ◌<◌, length, Any}
 use Rattle.net_model.specs.Conditions.{LacksBackbone}
 use Rattle.net_model.specs.Configuration.{Configuration}
 use Rattle.net_model.specs.Network.{Network, HasConfiguration, IsBorderRouter}
-use Rattle.net_model.specs.Scans.{AreInTwoAreas, LeaveBackbone, RunsArea}
+use Rattle.net_model.specs.Scans.{AreInTwoAreas, LeaveBackbone}
 use Rattle.net_model.specs.declared.interface.Interface.{Interface}
 use Rattle.net_model.proofs.Adjacency.{UpInterface-among}
 use Rattle.net_model.proofs.Bests.{Any-from}

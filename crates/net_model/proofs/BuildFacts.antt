@@ -6,7 +6,7 @@ use Rattle.net_model.specs.Limits.{IsWithinLimits}
 use Rattle.net_model.specs.Network.{Network}
 use Rattle.net_model.specs.Refusals.{IsLeastDouble, IsNetworkOf, RefusesName, RefusesNetwork, Refuses}
 use Rattle.net_model.specs.declared.refusal.NetRefusal.{NetRefusal}
-use Rattle.net_model.specs.declared.refusal.NetRefusal.TheVariants.{Limit, TwoNames, AddressTwice, PrefixInTwoAreas, BorderWithoutBackbone, OspfCostSum, IsisMetricSum, SystemIdTwice, StubMismatch, OutOfMemory}
+use Rattle.net_model.specs.declared.refusal.NetRefusal.TheVariants.{Limit, TwoNames, OutOfMemory}
 use Rattle.net_model.proofs.Names.{TwoHaveName-permutation}
 
 IsLeastDouble-permutation : (xs ys : List Configuration) (name : List ℕ) → IsPermutation xs ys → IsLeastDouble ys name → IsLeastDouble xs name

@@ -1,9 +1,9 @@
 -- The first pair that a scan finds is the least, and where it finds none no two routers clash.
-use Rattle.std.proofs.Common.{◌≡◌, ℕ, ◌<◌, ◌≤◌, ◌⊎◌, ⊎_elim, refl, sym, subst, arith}
+use Rattle.std.proofs.Common.{◌≡◌, ℕ, ◌<◌, ◌≤◌, ⊎_elim, refl, sym, subst, arith}
 use Rattle.std.proofs.lemmas.Bool.{cases_lt, cases_order}
 use Rattle.net_model.specs.Least.{ComesNoLater, IsLeastPair, NoneClash}
 use Rattle.net_model.specs.Least.ComesNoLater.{by_first, by_second, by_item}
-use Rattle.net_model.specs.Scans.{IsFirstPair, IsFirstPartner, NonePair, NonePartner}
+use Rattle.net_model.specs.Scans.{IsFirstPair, NonePair}
 
 module _ {A : Type 0} (AtMost : A → A → Type 0) (Clash : ℕ → ℕ → A → Type 0) (count : ℕ) (within : (u v : ℕ) (a : A) → Clash u v a → v < count) where
   pub IsLeastPair-first : (one two : ℕ) (item : A) → IsFirstPair AtMost Clash count one two item → IsLeastPair AtMost Clash one two item

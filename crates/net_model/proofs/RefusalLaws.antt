@@ -1,11 +1,11 @@
 -- Configurations make one network or are refused, and in one way.
-use Rattle.std.proofs.Common.{◌≡◌, ◌≢◌, ℕ, suc, ◌<◌, ◌≤◌, List, [], ◌∷◌, Contains, refl, sym, ap, subst, ◌∙◌, ⊎_elim, arith}
+use Rattle.std.proofs.Common.{◌≡◌, ◌≢◌, ℕ, suc, ◌≤◌, List, [], ◌∷◌, Contains, refl, sym, ap, subst, ◌∙◌, ⊎_elim, arith}
 use Rattle.std.specs.Cmp.Lexicographic.{nat_list_cmp_total}
 use Rattle.std.proofs.lemmas.List.Sorted.{Contains-permutation, IsPermutation-sym, IsPermutation-refl}
 use Rattle.net_addr.specs.Addresses.{Block}
 use Rattle.net_model.specs.Conditions.{HaveOneAddress, RunTwoAreas, LacksBackbone, HaveOneSystem, DifferOnStub, ospf_cost_sum, isis_metric_sum, IsConsistent}
 use Rattle.net_model.specs.Configuration.{Configuration}
-use Rattle.net_model.specs.Least.{IsBlockAtMost, IsLeastPair, IsLowest}
+use Rattle.net_model.specs.Least.{IsBlockAtMost, IsLowest}
 use Rattle.net_model.specs.Limits.{CountsDests, IsWithinLimits}
 use Rattle.net_model.specs.Network.{Network}
 use Rattle.net_model.specs.Refusals.{IsBelow, NamesAscend, IsNetworkOf, MakeNetwork, IsNetwork, TwoHaveName, IsLeastDouble, IsAbove, HoldsOfNetwork, RefusesNetwork, Refuses}

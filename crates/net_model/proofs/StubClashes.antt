@@ -1,5 +1,5 @@
 -- Two routers differ on a stub area exactly where their lists of interfaces and stub lines do.
-use Rattle.std.proofs.Common.{◌≡◌, ℕ, ◌<◌, ◌≤◌, List, length, Option, Any, inl, inr, ⊎_elim}
+use Rattle.std.proofs.Common.{ℕ, ◌<◌, ◌≤◌, length, Option, Any, inl, inr, ⊎_elim}
 use Rattle.net_model.specs.Conditions.{DifferOnStub}
 use Rattle.net_model.specs.Configuration.{Configuration}
 use Rattle.net_model.specs.Least.{IsBest}

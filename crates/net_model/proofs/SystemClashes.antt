@@ -1,5 +1,5 @@
 -- Two routers with one system id.
-use Rattle.std.proofs.Common.{◌≡◌, ◌≢◌, ℕ, ◌<◌, ◌≤◌, List, length, Option, Some, None, IsTrue, refl, sym, ap, subst, ◌∙◌, arith}
+use Rattle.std.proofs.Common.{◌≡◌, ◌≢◌, ℕ, ◌<◌, ◌≤◌, length, Some, IsTrue, refl, sym, ap, subst, ◌∙◌, arith}
 use Rattle.net_model.specs.Conditions.{HaveOneSystem}
 use Rattle.net_model.specs.Configuration.{Configuration}
 use Rattle.net_model.specs.Least.{IsBest}

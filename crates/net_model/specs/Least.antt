@@ -1,5 +1,5 @@
 -- The least of what is found: an item, or a pair of routers with an item.
-use Rattle.std.specs.Prelude.{◌≡◌, ℕ, ◌<◌, ◌≤◌, ◌⊎◌, List, Option, None, Some, Contains, MatchOption}
+use Rattle.std.specs.Prelude.{◌≡◌, ℕ, ◌<◌, ◌≤◌, ◌⊎◌, Option, MatchOption}
 use Rattle.net_addr.specs.Addresses.{Block}
 
 -- the least item of which P holds, in an order of items

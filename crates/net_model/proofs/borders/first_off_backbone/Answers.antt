@@ -1,4 +1,4 @@
-use Rattle.std.proofs.Common.{List, ap, sym, subst, ◌∙◌, arith, below_more}
+use Rattle.std.proofs.Common.{ap, sym, subst, ◌∙◌, arith, below_more}
 use Rattle.net_model.specs.Conditions.{LacksBackbone}
 use Rattle.net_model.specs.Configuration.{Configuration}
 use Rattle.net_model.specs.Scans.{LeaveBackbone}

@@ -1,4 +1,4 @@
-use Rattle.std.proofs.Common.{ℕ, sym, subst, ◌∙◌}
+use Rattle.std.proofs.Common.{sym, subst, ◌∙◌}
 use Rattle.std.proofs.lemmas.Option.{same_Some}
 use Rattle.net_model.specs.Scans.{ClashOnStub}
 use Rattle.net_model.proofs.stubs.clashing_area.Goals as goal

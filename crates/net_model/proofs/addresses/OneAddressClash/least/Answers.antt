@@ -1,4 +1,4 @@
-use Rattle.std.proofs.Common.{◌≡◌, ◌≤◌, ◌↔◌, IsTrue, List, nat_eq, Any, ap, subst, ◌∙◌}
+use Rattle.std.proofs.Common.{◌≤◌, List, nat_eq, Any, ap, subst, ◌∙◌}
 use Rattle.std.proofs.lemmas.Bool.{eqb-true, eq-eqb}
 use Rattle.net_model.specs.Configuration.{Configuration}
 use Rattle.net_model.specs.Least.{IsBest}

@@ -1,4 +1,4 @@
-use Rattle.std.proofs.Common.{◌≡◌, List, Any, ap, subst, ◌∙◌}
+use Rattle.std.proofs.Common.{List, Any, ap, subst, ◌∙◌}
 use Rattle.net_model.specs.Configuration.{Configuration}
 use Rattle.net_model.specs.Least.{IsBest, IsBlockAtMost}
 use Rattle.net_model.specs.Scans.{OffersDest}

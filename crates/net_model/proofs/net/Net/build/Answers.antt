@@ -1,5 +1,5 @@
 -- The sorted configurations keep what the given ones do, and what refuses them refuses the given ones.
-use Rattle.std.proofs.Common.{◌≡◌, List, length, All, IsPermutation, ap, sym, subst, ◌∙◌, arith}
+use Rattle.std.proofs.Common.{List, length, All, IsPermutation, ap, subst, ◌∙◌, arith}
 use Rattle.std.proofs.lemmas.List.Sorted.{All-permutation, length_permutation}
 use Rattle.std.proofs.lemmas.Result.{err_from_is_err_and}
 use Rattle.net_model.specs.Conditions.{IsConsistent}
