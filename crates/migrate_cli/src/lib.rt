@@ -15,3 +15,6 @@ mod verdict;
 pub use calls::run;
 pub use status::Status;
 pub use std::alloc::AllocError as OutOfMemory;
+
+#[cfg(test)]
+mod tests;
