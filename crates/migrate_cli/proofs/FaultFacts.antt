@@ -1,16 +1,17 @@
 -- What is printed of a fault.
-use Rattle.std.proofs.Common.{◌≡◌, ℕ, zero, suc, ◌<◌, ⊎_elim, List, [], ◌∷◌, length, get_or, map, All, decimal, codes, refl, arith, ap}
+use Rattle.std.proofs.Common.{◌≡◌, ℕ, zero, suc, ◌<◌, ⊎_elim, List, [], ◌∷◌, length, get_or, map, All, decimal, codes, Some, refl, arith, ap, sym, ◌∙◌, subst}
 use Rattle.net_model.specs.Network.{Network}
 use Rattle.igp_theory.specs.Loops.{RingRouter, IsTag, EachToNext, AroundRing, IsFault, missing_step, loop_arises, ring_routers}
 use Rattle.igp_theory.specs.Routes.{Tables}
 use Rattle.igp_theory.specs.States.{State}
-use Rattle.loop_finder.specs.Faults.{ring_of, ring_router, told_fault}
+use Rattle.loop_finder.specs.Faults.{ring_of, ring_router, told_fault, KeepsRing}
 use Rattle.loop_finder.specs.declared.fault.Fault.{Fault}
 use Rattle.loop_finder.specs.declared.fault.Fault.TheVariants.{Loop, Missing}
 use Rattle.order_search.specs.declared.turn.Turn.{Turn}
 use Rattle.migration_report.specs.Texts as report
 use Rattle.migration_report.specs.Words.{line, dotted, name_of}
 use Rattle.migrate_cli.specs.AnswerTexts.{fault_words, unsafe_text}
+use Rattle.migrate_cli.specs.Faults.{NamesRouters}
 
 -- the names of the routers of a ring are those of its turns
 ring_names : (names : List (List ℕ)) (turns : List Turn) → report.ring_words names turns ≡ map (name_of names) (ring_routers (ring_of turns))
@@ -58,3 +59,12 @@ loop_within net old new state a turns (loop_arises _ _ _ _ tags) = around_within
 pub missing_within : (net : Network) (old new : Tables) (state : State) (a u : ℕ) (turns : List Turn) → IsFault net old new state (told_fault (Missing a u) turns)
     → u < length net
 missing_within net old new state a u turns (missing_step _ _ must _ _) = must.router
+
+-- so are all routers that an answer tells, where no ring was told before
+pub names_routers : (net : Network) (old new : Tables) (state : State) (fault : Fault) (before turns : List Turn) → IsFault net old new state (told_fault fault turns)
+    → KeepsRing (Some fault) before turns → before ≡ [] → NamesRouters (length net) fault turns
+names_routers net old new state (Loop a) before turns fault kept none = record { named = tt; turned = loop_within net old new state a turns fault }
+names_routers net old new state (Missing a u) before turns fault kept none = record {
+  named = missing_within net old new state a u turns fault;
+  turned = subst (All (λ (turn : Turn). turn.router < length net)) (sym (kept ∙ none)) (λ k d within. absurd (omega arith));
+}

@@ -7,3 +7,4 @@ mod NameFacts
 mod VerdictFacts
 mod AnswerFacts
 mod FaultFacts
+mod OrderFacts

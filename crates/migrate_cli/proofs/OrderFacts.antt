@@ -1,0 +1,26 @@
+-- Verdicts on an order, over tables with the same entries.
+use Rattle.std.proofs.Common.{◌≡◌, ℕ, List, subst}
+use Rattle.net_model.specs.Network.{Network}
+use Rattle.igp_theory.specs.Laws.{HaveSameTables}
+use Rattle.igp_theory.specs.Routes.{Tables}
+use Rattle.igp_theory.proofs.SameTables.{seamless_over, first_fault_over}
+use Rattle.migrate_cli.specs.Verdicts.{IsOrderVerdict}
+use Rattle.migrate_cli.specs.Verdicts.IsOrderVerdict.{safe, unsafe}
+use Rattle.migrate_cli.specs.declared.status.Status.{Status}
+
+-- what holds of three things holds of what equals them
+pub moved : {A B C : Type 0} (P : A → B → C → Type 0) {a b : A} {c d : B} {e f : C} → a ≡ b → c ≡ d → e ≡ f → P a c e → P b d f
+moved P {a} {b} {c} {d} {e} {f} one two three holds = subst (P b d) three (subst (λ x. P b x e) two (subst (λ x. P x c e) one holds))
+
+-- tables with the same entries, the other way round
+same_tables_back : {net : Network} {old new old' new' : Tables} → HaveSameTables net old new old' new' → HaveSameTables net old' new' old new
+same_tables_back same = record {
+  same_old = λ u p e within. ((same.same_old u p e within).1, (same.same_old u p e within).0);
+  same_new = λ u p e within. ((same.same_new u p e within).1, (same.same_new u p e within).0);
+}
+
+-- they give an order the same verdict
+pub verdict_over : {net : Network} {old new old' new' : Tables} {order : List ℕ} {status : Status} {text : List ℕ} → HaveSameTables net old new old' new'
+    → IsOrderVerdict net old new order status text → IsOrderVerdict net old' new' order status text
+verdict_over same (safe seamless) = safe (seamless_over same seamless)
+verdict_over same (unsafe state fault broken first) = unsafe state fault (λ seamless. broken (seamless_over (same_tables_back same) seamless)) (first_fault_over same first)
