@@ -2,10 +2,9 @@
 #![tactic(auto)]
 
 use migrate_cli::{Status, run};
-use std::env;
-use std::io;
 use std::process::ExitCode;
 use std::rt::Env;
+use std::{env, io};
 use store_edge::{RealFiles, RealSink};
 
 fn main(rt: HostRuntime) -> ExitCode {

@@ -1,15 +1,15 @@
 -- Which answer each step of a call gives.
-use Rattle.std.proofs.Common.{◌≡◌, ◌≢◌, ℕ, ◌+◌, ◌<◌, ◌≤◌, List, [], ◌∷◌, ◌++◌, length, map, Result, Ok, Err, IfOk, codes, decimal, refl, arith, ap, ◌∙◌, sym, subst, append-nil, append_assoc}
+use Rattle.std.proofs.Common.{◌≡◌, ◌≢◌, ℕ, ◌≤◌, List, [], ◌∷◌, ◌++◌, length, Result, Ok, Err, IfOk, codes, refl, arith, ap, ◌∙◌, sym, subst, append-nil, append_assoc}
 use Rattle.std.specs.declared.alloc.AllocError.{AllocError}
 use Rattle.igp_theory.specs.Routes.{Tables}
 use Rattle.net_model.specs.Network.{Network}
 use Rattle.migration_report.specs.Words.{line}
-use Rattle.migrate_cli.specs.Answers.{IsAnswer, MayAsk, StopAnswer, AnswersWith, HasAnswer}
+use Rattle.migrate_cli.specs.Answers.{IsAnswer, MayAsk, StopAnswer, HasAnswer}
 use Rattle.migrate_cli.specs.Answers.IsAnswer.{other_words, many_files, read_fault, long_file, long_files, judged}
-use Rattle.migrate_cli.specs.Answers.MayAsk.{asks_none, asks_some}
+use Rattle.migrate_cli.specs.Answers.MayAsk.{asks_some}
 use Rattle.migrate_cli.specs.CommandWords.{IsCheck}
 use Rattle.migrate_cli.specs.Reading.{Contents, AreRead, AreWithin, ReadUpTo}
-use Rattle.migrate_cli.specs.Stops.{IsFrontOf, HasRead, StopsIn}
+use Rattle.migrate_cli.specs.Stops.{IsFrontOf, HasRead}
 use Rattle.migrate_cli.specs.Verdicts.{IsVerdict, IsOrderVerdict}
 use Rattle.migrate_cli.specs.Verdicts.IsOrderVerdict.{safe, unsafe}
 use Rattle.migrate_cli.specs.Verdicts.IsVerdict.{faulty_configuration, above_limit, two_names, inconsistent, off_start, faulty_order, of_order}
@@ -17,7 +17,7 @@ use Rattle.migrate_cli.specs.declared.answer.Answer.{Answer}
 use Rattle.migrate_cli.specs.declared.reading.Stop.{Stop}
 use Rattle.migrate_cli.specs.declared.reading.Stop.TheVariants.{Fault, Long, Total, OutOfMemory}
 use Rattle.migrate_cli.specs.declared.status.Status.{Status}
-use Rattle.migrate_cli.specs.declared.status.Status.TheVariants.{Done, Negative, Words, ReadFault, WriteFault, Refused, Limit, Memory}
+use Rattle.migrate_cli.specs.declared.status.Status.TheVariants.{ReadFault, WriteFault, Limit}
 
 -- what is said of a status and a text holds of the answer that has them
 pub from_refusal : {E : Type 0} (r : Result Answer E) (status : Status) (text : List ℕ) (Q : Status → List ℕ → Type 0)
@@ -65,32 +65,56 @@ pub stop_answer : (content : Contents) (words before after : List (List ℕ)) (o
 stop_answer content words before after order files (Fault file) (Ok a) check few read answer =
     let Q : Status → List ℕ → Type 0 = λ s t. IsAnswer content words read.asked s t in
     let named = read.reads.stops in
-    record { asked = read.asked; asked_is = read.asked_is; answers =
-      subst (λ s. Q s a.text) (sym answer.0) (subst (Q ReadFault) (sym answer.1)
-      (subst (λ n. Q ReadFault (line (codes "read") (codes "fault" ∷ n ∷ []))) (sym named)
-      (read_fault order files read.asked read.reads.texts read.reads.name check few read.reads.up_to))) }
+    record {
+      asked = read.asked;
+      asked_is = read.asked_is;
+      answers =
+          subst (λ s. Q s a.text) (sym answer.0) (subst (Q ReadFault) (sym answer.1)
+          (subst (λ n. Q ReadFault (line (codes "read") (codes "fault" ∷ n ∷ []))) (sym named)
+          (read_fault order files read.asked read.reads.texts read.reads.name check few read.reads.up_to)));
+    }
 stop_answer content words before after order files (Long file) (Ok a) check few read answer =
     let Q : Status → List ℕ → Type 0 = λ s t. IsAnswer content words read.asked s t in
     let named = read.reads.stops.0 in
-    record { asked = read.asked; asked_is = read.asked_is; answers =
-      subst (λ s. Q s a.text) (sym answer.0) (subst (Q Limit) (sym answer.1)
-      (subst (λ n. Q Limit (line (codes "limit") (codes "bytes" ∷ n ∷ []))) (sym named)
-      (long_file order files read.asked read.reads.texts read.reads.name check few read.reads.up_to read.reads.stops.1))) }
+    record {
+      asked = read.asked;
+      asked_is = read.asked_is;
+      answers =
+          subst (λ s. Q s a.text) (sym answer.0) (subst (Q Limit) (sym answer.1)
+          (subst (λ n. Q Limit (line (codes "limit") (codes "bytes" ∷ n ∷ []))) (sym named)
+          (long_file order files read.asked read.reads.texts read.reads.name check few read.reads.up_to read.reads.stops.1)));
+    }
 stop_answer content words before after order files (Total number) (Ok a) check few read answer =
     let Q : Status → List ℕ → Type 0 = λ s t. IsAnswer content words read.asked s t in
-    record { asked = read.asked; asked_is = read.asked_is; answers =
-      subst (λ s. Q s a.text) (sym answer.0) (subst (Q Limit) (sym answer.1)
-      (long_files order files read.asked read.reads.texts read.reads.name number check few read.reads.up_to read.reads.stops)) }
+    record {
+      asked = read.asked;
+      asked_is = read.asked_is;
+      answers =
+          subst (λ s. Q s a.text) (sym answer.0) (subst (Q Limit) (sym answer.1)
+          (long_files order files read.asked read.reads.texts read.reads.name number check few read.reads.up_to read.reads.stops));
+    }
 stop_answer content words before after order files OutOfMemory (Ok a) check few read answer = absurd answer
 stop_answer content words before after order files (Fault file) (Err e) check few read answer =
-    record { asked = read.asked; asked_is = read.asked_is; answers = asks_some order files read.asked check
-      (front_up_to content (order ∷ files) read.asked read.reads.texts read.reads.name read.reads.up_to) }
+    record {
+      asked = read.asked;
+      asked_is = read.asked_is;
+      answers = asks_some order files read.asked check
+          (front_up_to content (order ∷ files) read.asked read.reads.texts read.reads.name read.reads.up_to);
+    }
 stop_answer content words before after order files (Long file) (Err e) check few read answer =
-    record { asked = read.asked; asked_is = read.asked_is; answers = asks_some order files read.asked check
-      (front_up_to content (order ∷ files) read.asked read.reads.texts read.reads.name read.reads.up_to) }
+    record {
+      asked = read.asked;
+      asked_is = read.asked_is;
+      answers = asks_some order files read.asked check
+          (front_up_to content (order ∷ files) read.asked read.reads.texts read.reads.name read.reads.up_to);
+    }
 stop_answer content words before after order files (Total number) (Err e) check few read answer =
-    record { asked = read.asked; asked_is = read.asked_is; answers = asks_some order files read.asked check
-      (front_up_to content (order ∷ files) read.asked read.reads.texts read.reads.name read.reads.up_to) }
+    record {
+      asked = read.asked;
+      asked_is = read.asked_is;
+      answers = asks_some order files read.asked check
+          (front_up_to content (order ∷ files) read.asked read.reads.texts read.reads.name read.reads.up_to);
+    }
 stop_answer content words before after order files OutOfMemory (Err e) check few read answer =
     record { asked = read.asked; asked_is = read.asked_is; answers = asks_some order files read.asked check read.reads }
 

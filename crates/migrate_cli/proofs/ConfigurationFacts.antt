@@ -1,10 +1,10 @@
 -- Configurations read file by file.
-use Rattle.std.proofs.Common.{◌≡◌, ℕ, zero, suc, ◌+◌, ◌<◌, List, [], ◌∷◌, ◌++◌, length, take, get_or, map, refl, arith, ap, ◌∙◌, sym, subst, append_assoc, append-nil}
+use Rattle.std.proofs.Common.{◌≡◌, ℕ, zero, suc, ◌+◌, ◌<◌, List, [], ◌∷◌, ◌++◌, length, take, get_or, refl, arith, ap, ◌∙◌, sym, subst, append_assoc, append-nil}
 use Rattle.std.proofs.lemmas.List.{take_more}
 use Rattle.ios_reader.specs.Texts.{ReadsText, IsRefusedText}
 use Rattle.ios_reader.specs.declared.kind.ReadKind.{ReadKind}
 use Rattle.net_model.specs.Configuration.{Configuration}
-use Rattle.migrate_cli.specs.Configurations.{ReadsFirst, ReadsTexts, IsFirstRefused}
+use Rattle.migrate_cli.specs.Configurations.{ReadsTexts, IsFirstRefused}
 use Rattle.migrate_cli.specs.Configurations.IsFirstRefused.{here, later}
 use Rattle.migrate_cli.specs.Unread.{IsUnreadText, IsUnread}
 use Rattle.migrate_cli.specs.declared.configurations.Unread.{Unread}

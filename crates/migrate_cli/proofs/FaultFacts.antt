@@ -1,5 +1,5 @@
 -- What is printed of a fault.
-use Rattle.std.proofs.Common.{◌≡◌, ℕ, zero, suc, ◌<◌, ⊎_elim, List, [], ◌∷◌, length, get_or, map, All, decimal, codes, Some, refl, arith, ap, sym, ◌∙◌, subst}
+use Rattle.std.proofs.Common.{◌≡◌, ℕ, zero, suc, ◌<◌, ⊎_elim, List, [], ◌∷◌, length, map, All, decimal, codes, Some, refl, arith, ap, sym, ◌∙◌, subst}
 use Rattle.net_model.specs.Network.{Network}
 use Rattle.igp_theory.specs.Loops.{RingRouter, IsTag, EachToNext, AroundRing, IsFault, missing_step, loop_arises, ring_routers}
 use Rattle.igp_theory.specs.Routes.{Tables}

@@ -42,7 +42,7 @@ sorted_alone names up k d low within =
     let this = get_or-map named_alone names k d.name d (omega (arith, long)) in
     let P : Configuration → Configuration → Bool = λ a b. is_lt (slice_cmp nat_cmp a.name b.name) in
     ap (λ c. P c (get_or (map named_alone names) k d)) next ∙ ap (λ c. P (named_alone (get_or names (k + 1) d.name)) c) this
-        ∙ up k d.name low (omega (arith, long))
+    ∙ up k d.name low (omega (arith, long))
 
 -- the names of a network ascend
 ascend_alone : (net : Network) → NamesAscend net → NamesAscend (map named_alone (names_of net))
@@ -50,7 +50,7 @@ ascend_alone net up i j d l h =
     let name : Configuration → List ℕ = λ c. c.name in
     let long = length-map (names_of net) named_alone ∙ length-map net name in
     let at : (k : ℕ) → k < length net → (get_or (map named_alone (names_of net)) k d).name ≡ (get_or net k d).name =
-        λ k within. ap name (get_or-map named_alone (names_of net) k d.name d (subst (λ n. k < n) (sym (length-map net name)) within)) ∙ get_or-map name net k d d.name within in
+    λ k within. ap name (get_or-map named_alone (names_of net) k d.name d (subst (λ n. k < n) (sym (length-map net name)) within)) ∙ get_or-map name net k d d.name within in
     let second : j < length net = subst (λ n. j < n) long h in
     let first : i < length net = omega arith in
     subst (λ n. IsBelow n (get_or (map named_alone (names_of net)) j d).name) (sym (at i first))
@@ -62,9 +62,9 @@ pub names_in_order : (configs : List Configuration) (names : List (List ℕ)) (n
 names_in_order configs names net same up network =
     let routers = names_of net in
     let between : IsPermutation routers names =
-        IsPermutation-trans routers (names_of configs) names (IsPermutation-map (λ (c : Configuration). c.name) net configs (IsPermutation-sym configs net network.same)) same in
+    IsPermutation-trans routers (names_of configs) names (IsPermutation-map (λ (c : Configuration). c.name) net configs (IsPermutation-sym configs net network.same)) same in
     let alone : map named_alone names ≡ map named_alone routers =
-        sorted_is_network (map named_alone routers) (map named_alone names) (map named_alone routers)
-        (IsPermutation-map named_alone routers names between) (sorted_alone names up)
-        (record { same = IsPermutation-refl (map named_alone routers); ascending = ascend_alone net network.ascending }) in
+    sorted_is_network (map named_alone routers) (map named_alone names) (map named_alone routers)
+    (IsPermutation-map named_alone routers names between) (sorted_alone names up)
+    (record { same = IsPermutation-refl (map named_alone routers); ascending = ascend_alone net network.ascending }) in
     sym (names_alone names) ∙ ap names_of alone ∙ names_alone routers

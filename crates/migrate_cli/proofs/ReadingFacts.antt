@@ -1,5 +1,5 @@
 -- Files read one after another.
-use Rattle.std.proofs.Common.{◌≡◌, ℕ, zero, suc, ◌+◌, ◌<◌, ◌≤◌, List, [], ◌∷◌, ◌++◌, length, get_or, All, refl, lit≤, arith, ap, ◌∙◌, sym, append_assoc}
+use Rattle.std.proofs.Common.{◌≡◌, ℕ, zero, suc, ◌+◌, ◌<◌, ◌≤◌, List, [], ◌∷◌, ◌++◌, length, All, refl, lit≤, arith}
 use Rattle.std.proofs.lemmas.List.Elements.{All-append}
 use Rattle.migrate_cli.specs.Reading.{Contents, IsReadOf, AreRead, total_of, total_of_configs, IsShort, AreWithin}
 

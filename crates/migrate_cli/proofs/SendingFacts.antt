@@ -1,5 +1,5 @@
 -- A text that is written piece by piece.
-use Rattle.std.proofs.Common.{◌≡◌, ℕ, ◌+◌, ◌-◌, ◌<◌, ◌≤◌, List, ◌++◌, length, take, drop, Option, Result, Ok, Err, OnErr, arith, ap, ◌∙◌, sym, subst}
+use Rattle.std.proofs.Common.{◌≡◌, ℕ, ◌+◌, ◌-◌, ◌≤◌, List, ◌++◌, take, drop, Option, Result, Ok, Err, OnErr, arith, ap, ◌∙◌, sym, subst}
 use Rattle.std.proofs.lemmas.List.{take-append-drop}
 use Rattle.std.proofs.Math.Seq.{take-add}
 use Rattle.store_edge.specs.Sink.{Adds, AddsFront}
@@ -27,5 +27,5 @@ pub adds_part : (a b c : Option (List ℕ)) (text : List ℕ) (done stop : ℕ) 
     → AddsFront b c (take (stop - done) (drop done text)) → AddsFront a c text
 adds_part a b c text done stop up first next =
     let front : AddsFront a c (take stop text) =
-        subst (AddsFront a c) (front_and_piece text done stop up) (AddsFront-then a b c (take done text) (take (stop - done) (drop done text)) first next) in
+    subst (AddsFront a c) (front_and_piece text done stop up) (AddsFront-then a b c (take done text) (take (stop - done) (drop done text)) first next) in
     subst (AddsFront a c) (take-append-drop stop text) (AddsFront-longer a c (take stop text) (drop stop text) front)

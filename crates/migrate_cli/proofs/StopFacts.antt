@@ -1,9 +1,9 @@
 -- Where the reading of several files stands after one more.
-use Rattle.std.proofs.Common.{◌≡◌, ℕ, zero, suc, ◌+◌, ◌<◌, List, [], ◌∷◌, ◌++◌, length, take, drop, map, get_or, Option, Result, Ok, Err, IfSome, refl, arith, ap, ◌∙◌, sym, subst, append_assoc, append-nil}
+use Rattle.std.proofs.Common.{◌≡◌, ℕ, zero, suc, ◌+◌, ◌<◌, List, [], ◌∷◌, ◌++◌, length, take, drop, map, get_or, Option, Ok, Err, IfSome, arith, ap, ◌∙◌, sym, subst, append_assoc}
 use Rattle.std.proofs.lemmas.List.{take_more, map-append}
-use Rattle.migrate_cli.specs.Reading.{Contents, IsReadOf, AreRead, AreWithin, IsTooLong, PassesTotal, ReadUpTo}
+use Rattle.migrate_cli.specs.Reading.{Contents, IsReadOf, AreRead, AreWithin, ReadUpTo}
 use Rattle.migrate_cli.proofs.ReadingFacts.{AreRead-more}
-use Rattle.migrate_cli.specs.Stops.{StopsAt, IsFrontOf, HasAsked, IsNextText, StopsIn, HasRead}
+use Rattle.migrate_cli.specs.Stops.{StopsAt, HasAsked, IsNextText, HasRead}
 use Rattle.migrate_cli.specs.declared.reading.Stop.{Stop}
 use Rattle.migrate_cli.specs.declared.reading.Stop.TheVariants.{Fault, Long, Total, OutOfMemory}
 
@@ -18,11 +18,14 @@ IsReadOf-same content other name text same read = record {
 pub StopsAt-same : (content other : Contents) (name : List ℕ) (texts : List (List ℕ)) (stop : Stop) → content name ≡ other name
     → StopsAt content name texts stop → StopsAt other name texts stop
 StopsAt-same content other name texts (Fault file) same stops = stops
-StopsAt-same content other name texts (Long file) same stops = (stops.0, record {
-  text = stops.1.text;
-  read = IsReadOf-same content other name stops.1.text same stops.1.read;
-  long = stops.1.long;
-})
+StopsAt-same content other name texts (Long file) same stops = (
+  stops.0,
+  record {
+    text = stops.1.text;
+    read = IsReadOf-same content other name stops.1.text same stops.1.read;
+    long = stops.1.long;
+  },
+)
 StopsAt-same content other name texts (Total number) same stops = record {
   text = stops.text;
   read = IsReadOf-same content other name stops.text same stops.read;

@@ -1,5 +1,5 @@
 -- What is read of the files of a call, and where reading stops.
-use Rattle.std.specs.Prelude.{◌≡◌, ℕ, ◌+◌, ◌<◌, ◌≤◌, List, [], ◌∷◌, ◌++◌, Option, length, take, drop, All, IfSome}
+use Rattle.std.specs.Prelude.{◌≡◌, ℕ, ◌+◌, ◌<◌, ◌≤◌, List, [], ◌∷◌, ◌++◌, Option, length, take, All, IfSome}
 
 -- what a name's file holds, where the files tell it
 abbrev pub Contents : Type 0

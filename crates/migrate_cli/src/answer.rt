@@ -16,11 +16,7 @@ pub struct Answer {
 }
 
 /// The answer that something is refused.
-pub fn refuse(
-    alloc: Global,
-    status: Status,
-    refusal: &Refusal<'_>,
-) -> Result<Answer, OutOfMemory>
+pub fn refuse(alloc: Global, status: Status, refusal: &Refusal<'_>) -> Result<Answer, OutOfMemory>
     requires { HasNames refusal.now }
     ensures status { IfOk result (λ answer. answer.status ≡ status) }
     ensures text { IfOk result (λ answer. answer.text ≡ refusal_text refusal.now) }

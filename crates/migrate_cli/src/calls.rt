@@ -20,12 +20,7 @@ const FILES_MOST: usize = 200;
 /// Answers the words of a call, by its files, and writes the answer.
 ///
 /// The words are `check ORDER CONFIG...`. The answer is built whole before its first byte is written.
-pub fn run<F: Files, S: Sink>(
-    alloc: Global,
-    words: &[String],
-    files: &mut F,
-    out: &mut S,
-) -> Status
+pub fn run<F: Files, S: Sink>(alloc: Global, words: &[String], files: &mut F, out: &mut S) -> Status
     ensures ran { Ran (F.content files.old) (map string_bytes words.now) (F.asked files.old) (F.asked files.new) (S.written out.old) (S.written out.new) result }
     ensures read_fault { result ≡ Status.ReadFault → Rose (F.faults files.old) (F.faults files.new) }
     ensures write_fault { result ≡ Status.WriteFault → Rose (S.faults out.old) (S.faults out.new) }
@@ -40,11 +35,7 @@ pub fn run<F: Files, S: Sink>(
 }
 
 /// The answer to the words of a call.
-fn answer<F: Files>(
-    alloc: Global,
-    words: &[String],
-    files: &mut F,
-) -> Result<Answer, OutOfMemory>
+fn answer<F: Files>(alloc: Global, words: &[String], files: &mut F) -> Result<Answer, OutOfMemory>
     ensures answer { HasAnswer (F.content files.old) (map string_bytes words.now) (F.asked files.old) (F.asked files.new) result }
     ensures fault { IfOk result (λ answer. answer.status ≡ Status.ReadFault → Rose (F.faults files.old) (F.faults files.new)) }
 {

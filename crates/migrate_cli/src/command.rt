@@ -27,7 +27,11 @@ impl<'a> Check<'a> {
             order: order.as_str(),
             configs,
         };
-        if check.names_files() { Some(check) } else { None }
+        if check.names_files() {
+            Some(check)
+        } else {
+            None
+        }
     }
 
     /// Whether all its names can be those of files.

@@ -64,12 +64,7 @@ fn status_of(refusal: &NetRefusal) -> Option<Status>
 }
 
 /// The answer to a network and the text of an order file.
-fn judge_network(
-    alloc: Global,
-    file: &str,
-    text: &Bytes,
-    net: &Net,
-) -> Result<Answer, OutOfMemory>
+fn judge_network(alloc: Global, file: &str, text: &Bytes, net: &Net) -> Result<Answer, OutOfMemory>
     requires { IsShort text.now }
     ensures { IfOk result (λ answer. (files texts : List (List ℕ)) → GiveNetwork texts net.now → IsVerdict file.now files text.now texts answer.status answer.text) }
 {

@@ -1,13 +1,13 @@
 //! The program `migrate` as one call: what it answers to its words and its files.
 #![tactic(auto)]
 
-mod command;
-mod configurations;
-mod reading;
-mod judging;
-mod names;
 mod answer;
 mod calls;
+mod command;
+mod configurations;
+mod judging;
+mod names;
+mod reading;
 mod sending;
 mod status;
 mod verdict;

@@ -104,18 +104,14 @@ impl Texts {
 }
 
 /// Reads a file that is no longer than a file may be.
-fn read_whole<'a, F: Files>(
-    alloc: Global,
-    files: &mut F,
-    name: &'a str,
-) -> Result<Bytes, Stop<'a>>
+fn read_whole<'a, F: Files>(alloc: Global, files: &mut F, name: &'a str) -> Result<Bytes, Stop<'a>>
     ensures read { IfOk result (IsReadOf (F.content files.old) name.now) }
     ensures short { IfOk result IsShort }
     ensures stop { IfErr result (StopsAlone (F.content files.old) name.now) }
     ensures asked { HasAsked name.now (F.asked files.old) (F.asked files.new) result }
     ensures contents_stay { (other : List ℕ) → F.content files.new other ≡ F.content files.old other }
-        ensures fault { IfErr result (λ stop. IsFault stop → Rose (F.faults files.old) (F.faults files.new)) }
-        ensures never_falls { F.faults files.old ≤ F.faults files.new }
+    ensures fault { IfErr result (λ stop. IsFault stop → Rose (F.faults files.old) (F.faults files.new)) }
+    ensures never_falls { F.faults files.old ≤ F.faults files.new }
 {
     match files.read(alloc, name, FILE_MOST + 1) {
         Ok(text) if text.as_slice().len() as u64 > FILE_MOST => Err(Stop::Long(name)),

@@ -2,9 +2,7 @@ mod networks;
 
 use crate::{Status, run};
 use net_addr::{Bytes, Name};
-use networks::{
-    BORDER_1, BORDER_2, BORDER_3, BORDER_4, TRIANGLE_1, TRIANGLE_2, TRIANGLE_3,
-};
+use networks::{BORDER_1, BORDER_2, BORDER_3, BORDER_4, TRIANGLE_1, TRIANGLE_2, TRIANGLE_3};
 use std::alloc::{AllocError, Global};
 use std::process::Abort;
 use std::test::Fail;
@@ -86,6 +84,7 @@ fn check(
 }
 
 const IN_ORDER: &[u8] = b"order 1\nR1\nR2\nR3\n";
+
 const OUT_OF_ORDER: &[u8] = b"order 1\nR2\nR1\nR3\n";
 
 #[test]
@@ -142,18 +141,45 @@ fn faults_of_files_and_of_the_sink_are_answers(rt: HostRuntime) -> Result<(), Fa
 }
 
 const ALONE: &[u8] = b"order 1\nR1\n";
-const ONE_ROUTER: &[u8] = b"hostname R1\ninterface Loopback0\n ip address 10.0.0.1 255.255.255.255\nrouter ospf 1\n network 0.0.0.0 255.255.255.255 area 0\nend\n";
+
+const ONE_ROUTER: &[u8] =
+    b"hostname R1\ninterface Loopback0\n ip address 10.0.0.1 255.255.255.255\nrouter ospf 1\n network 0.0.0.0 255.255.255.255 area 0\nend\n";
 
 #[test]
 fn what_is_refused_is_told(rt: HostRuntime) -> Result<(), Fail> {
     let rows: [(&[u8], &[u8], Status, &str); 7] = [
         (ALONE, ONE_ROUTER, Status::Done, "safe 2\n"),
         (b"", ONE_ROUTER, Status::Refused, "refused o.txt 1 Header\n"),
-        (b"order 1\nR9\n", ONE_ROUTER, Status::Refused, "refused o.txt 2 NotInNetwork\n"),
-        (ALONE, b"hostname R1\n", Status::Refused, "refused r1.cfg 2 NoEnd\n"),
-        (ALONE, b"hostname R1\nrouter ospf 1\n distance 115\nend\n", Status::Refused, "refused r1.cfg 3 DistanceClash\n"),
-        (ALONE, b"hostname R1\nrouter ospf 1\n distance 255\nend\n", Status::Refused, "refused network NotAtStart R1\n"),
-        (ALONE, b"hostname R1\nrouter ospf 1\n area 0 range 10.0.0.0 255.0.0.0 cost 16777214\n area 1 stub\nend\n", Status::Refused, "refused network OspfCostSum 16777215\n"),
+        (
+            b"order 1\nR9\n",
+            ONE_ROUTER,
+            Status::Refused,
+            "refused o.txt 2 NotInNetwork\n",
+        ),
+        (
+            ALONE,
+            b"hostname R1\n",
+            Status::Refused,
+            "refused r1.cfg 2 NoEnd\n",
+        ),
+        (
+            ALONE,
+            b"hostname R1\nrouter ospf 1\n distance 115\nend\n",
+            Status::Refused,
+            "refused r1.cfg 3 DistanceClash\n",
+        ),
+        (
+            ALONE,
+            b"hostname R1\nrouter ospf 1\n distance 255\nend\n",
+            Status::Refused,
+            "refused network NotAtStart R1\n",
+        ),
+        (
+            ALONE,
+            b"hostname R1\nrouter ospf 1\n area 0 range 10.0.0.0 255.0.0.0 cost 16777214\n area 1 stub\nend\n",
+            Status::Refused,
+            "refused network OspfCostSum 16777215\n",
+        ),
     ];
     for (order, config, status, text) in rows {
         let files = [("o.txt", order), ("r1.cfg", config)];

@@ -18,7 +18,7 @@ returns-in_default-clause-answer g c =
     let asked = g.F.Files.asked c.args.files.now in
     answered content words asked asked [] c.refuse.result (sym (append-nil asked))
     (from_refusal c.refuse.result Words (line (codes "words") (codes "refused" ∷ [])) (λ s t. IsAnswer content words [] s t) c.refuse.ensures.status c.refuse.ensures.text
-      (other_words c.in_default.ensures))
+    (other_words c.in_default.ensures))
     asks_none
 
 pub returns-then-number-gt-FILES_MOST-clause-answer : goal.returns-then-number-gt-FILES_MOST-clause-answer
@@ -33,7 +33,7 @@ returns-then-number-gt-FILES_MOST-clause-answer g c =
     let many : 200 < length files = grind (arith, long) in
     answered content words asked asked [] r.result (sym (append-nil asked))
     (from_refusal r.result Limit (line (codes "limit") (codes "files" ∷ decimal (length configs) ∷ [])) (λ s t. IsAnswer content words [] s t) r.ensures.status r.ensures.text
-      (subst (λ n. IsAnswer content words [] Limit (line (codes "limit") (codes "files" ∷ decimal n ∷ []))) long (many_files c.in-Some.check.order.now files c.in-Some.ensures many)))
+    (subst (λ n. IsAnswer content words [] Limit (line (codes "limit") (codes "files" ∷ decimal n ∷ []))) long (many_files c.in-Some.check.order.now files c.in-Some.ensures many)))
     asks_none
 
 pub judge_texts-requires-clause-lengths : goal.judge_texts-requires-clause-lengths
@@ -54,9 +54,9 @@ returns-in-Ok-clause-answer g c =
     let few : length files ≤ 200 = grind (arith, length-map configs string_bytes) in
     answered content words (g.F.Files.asked c.args.files.now) (g.F.Files.asked c.read_texts.new.files) read.asked r read.asked_is
     (subst (λ asked. IfOk r (λ a. IsAnswer content words asked a.status a.text)) (sym read.reads.0)
-      (IfOk-weaker r (λ a. (o : List ℕ) (rest : List (List ℕ)) → c.in-Ok.texts ≡ o ∷ rest → IsVerdict order files o rest a.status a.text)
-        (λ a. IsAnswer content words (order ∷ files) a.status a.text)
-        (λ a verdict. judged_answer content words order files c.in-Ok.texts a.status a.text c.in-Some.ensures few read.reads.1 read.reads.2 verdict) c.judge_texts.ensures))
+    (IfOk-weaker r (λ a. (o : List ℕ) (rest : List (List ℕ)) → c.in-Ok.texts ≡ o ∷ rest → IsVerdict order files o rest a.status a.text)
+    (λ a. IsAnswer content words (order ∷ files) a.status a.text)
+    (λ a verdict. judged_answer content words order files c.in-Ok.texts a.status a.text c.in-Some.ensures few read.reads.1 read.reads.2 verdict) c.judge_texts.ensures))
     (subst (MayAsk words) (sym read.reads.0) (may_ask_all words order files c.in-Some.ensures))
 
 pub returns-in-Ok-clause-fault : goal.returns-in-Ok-clause-fault

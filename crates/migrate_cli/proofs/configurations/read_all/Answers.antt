@@ -1,4 +1,4 @@
-use Rattle.std.proofs.Common.{◌≡◌, ◌+◌, ◌++◌, List, length, map, take, string_bytes, get_or, sym, ap, ◌∙◌, subst, arith}
+use Rattle.std.proofs.Common.{◌≡◌, ◌+◌, ◌++◌, length, map, take, string_bytes, get_or, sym, ap, ◌∙◌, subst, arith}
 use Rattle.std.proofs.lemmas.List.{length-map, get_or-map}
 use Rattle.migrate_cli.specs.Configurations.{ReadsTexts}
 use Rattle.migrate_cli.proofs.ConfigurationFacts.{unread_first, ReadsTexts-next}
@@ -13,9 +13,9 @@ returns-in-Err-clause-err c =
     let lengths : length names ≡ length c.args.texts.now = length-map words string_bytes ∙ c.requires.lengths in
     let value = c.as_str.ensures.value in
     let named : name ≡ get_or names i name =
-        value ∙ ap string_bytes c.index-names-i.is ∙ sym (get_or-map string_bytes words i c.index-names-i.result name (omega (arith, c.requires.lengths))) in
+    value ∙ ap string_bytes c.index-names-i.is ∙ sym (get_or-map string_bytes words i c.index-names-i.result name (omega (arith, c.requires.lengths))) in
     unread_first names c.args.texts.now i name c.index-texts-i.result c.loop-i.all.items c.in-Err.unread lengths c.loop-i-test.true named c.index-texts-i.is
-        c.loop-i.invariant c.in-Err.ensures.err
+    c.loop-i.invariant c.in-Err.ensures.err
 
 pub loop-i-preserved : goal.loop-i-preserved
 loop-i-preserved c =

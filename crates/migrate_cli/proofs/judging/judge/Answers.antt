@@ -1,9 +1,7 @@
-use Rattle.std.proofs.Common.{◌≡◌, ◌∙◌, List, ℕ, map, string_bytes, sym, subst}
-use Rattle.net_model.specs.Network.{Network}
+use Rattle.std.proofs.Common.{◌∙◌, map, string_bytes, sym, subst}
 use Rattle.net_model.specs.Refusals.{IsNetworkOf}
 use Rattle.migration_report.specs.Kinds.{read_kind_name}
 use Rattle.migration_report.specs.Texts.{network_text}
-use Rattle.migration_report.specs.Words.{names_of}
 use Rattle.migrate_cli.specs.AnswerTexts.{faulty_text}
 use Rattle.migrate_cli.specs.Unread.{IsUnread}
 use Rattle.migrate_cli.specs.Verdicts.{IsVerdict}
@@ -27,7 +25,7 @@ pub refuse-requires-2 : goal.refuse-requires-2
 refuse-requires-2 c =
     let configs = c.in-Ok.configs in
     let named : Named configs c.in_ok-names.names = λ net network.
-        c.in_ok-names.ensures net (subst (λ some. IsNetworkOf some net) (sym c.as_slice.ensures) network) in
+    c.in_ok-names.ensures net (subst (λ some. IsNetworkOf some net) (sym c.as_slice.ensures) network) in
     refusal_below configs c.in_ok-names.names named c.in-Err.refusal c.in-Some.status c.in-Err.ensures.err (sym c.status_of.ensures ∙ c.in-Some.is)
 
 pub returns : goal.returns
@@ -37,8 +35,8 @@ returns c =
     let names = c.in_ok-names.names in
     let refusal = c.in-Err.refusal in
     let named : Named configs names = λ net network.
-        c.in_ok-names.ensures net (subst (λ some. IsNetworkOf some net) (sym c.as_slice.ensures) network) in
+    c.in_ok-names.ensures net (subst (λ some. IsNetworkOf some net) (sym c.as_slice.ensures) network) in
     from_refusal c.refuse-2.result c.in-Some.status (network_text names refusal)
     (λ s t. IsVerdict c.args.check.now.order.now files c.args.order.now c.args.texts.now s t) c.refuse-2.ensures.status c.refuse-2.ensures.text
     (refused_verdict c.args.check.now.order.now files c.args.order.now c.args.texts.now configs names c.in-Ok.ensures.ok named refusal c.in-Some.status
-      c.in-Err.ensures.err (sym c.status_of.ensures ∙ c.in-Some.is))
+    c.in-Err.ensures.err (sym c.status_of.ensures ∙ c.in-Some.is))

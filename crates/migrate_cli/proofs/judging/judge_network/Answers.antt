@@ -1,4 +1,4 @@
-use Rattle.std.proofs.Common.{◌≡◌, ℕ, List, ap, sym, subst}
+use Rattle.std.proofs.Common.{ℕ, List, ap, sym, subst}
 use Rattle.std.proofs.lemmas.Result.{IfOk-weaker}
 use Rattle.net_model.specs.Configuration.{Configuration}
 use Rattle.step_scripts.specs.Orders.{NamesOrder, IsLeastFaultyLine, RefusesOrder}
@@ -21,7 +21,7 @@ returns-in-Some c =
     from_refusal c.refuse.result Refused (off_start_text c.behind-net.inside.name)
     (λ s t. (files texts : List (List ℕ)) → GiveNetwork texts net → IsVerdict c.args.file.now files c.args.text.now texts s t) c.refuse.ensures.status c.refuse.ensures.text
     (λ files texts gives. subst (λ name. IsVerdict c.args.file.now files c.args.text.now texts Refused (off_start_text name)) (sym same)
-      (off_start net c.in-Some.router config gives c.in-Some.ensures c.config.ensures.router))
+    (off_start net c.in-Some.router config gives c.in-Some.ensures c.config.ensures.router))
 
 pub returns-in-Err-Bad : goal.returns-in-Err-Bad
 returns-in-Err-Bad c =
@@ -32,8 +32,8 @@ returns-in-Err-Bad c =
     (λ s t. (files texts : List (List ℕ)) → GiveNetwork texts net → IsVerdict c.args.file.now files c.args.text.now texts s t) c.refuse-in-Err-Bad.ensures.status
     c.refuse-in-Err-Bad.ensures.text
     (λ files texts gives. faulty_order net line kind (record { gives = gives; start = c.in_default.ensures })
-      (subst (λ text. IsLeastFaultyLine net text line kind) c.as_slice.ensures
-        (subst (RefusesOrder net c.as_slice.result.now) c.in-Err-Bad.field-0-is c.in-Err-Bad.ensures.err)))
+    (subst (λ text. IsLeastFaultyLine net text line kind) c.as_slice.ensures
+    (subst (RefusesOrder net c.as_slice.result.now) c.in-Err-Bad.field-0-is c.in-Err-Bad.ensures.err)))
 
 pub returns : goal.returns
 returns c =
@@ -42,5 +42,5 @@ returns c =
     IfOk-weaker c.judge_order.result (λ a. IsOrderVerdict net (OspfEntry net) (IsisEntry net) order a.status a.text)
     (λ a. (files texts : List (List ℕ)) → GiveNetwork texts net → IsVerdict c.args.file.now files c.args.text.now texts a.status a.text)
     (λ a verdict files texts gives. of_order net order a.status a.text (record { gives = gives; start = c.in_default.ensures })
-      (subst (NamesOrder net c.args.text.now) (sym c.as_slice-2.ensures) (subst (λ text. NamesOrder net text c.in-Ok.order) c.as_slice.ensures c.in-Ok.ensures.ok)) verdict)
+    (subst (NamesOrder net c.args.text.now) (sym c.as_slice-2.ensures) (subst (λ text. NamesOrder net text c.in-Ok.order) c.as_slice.ensures c.in-Ok.ensures.ok)) verdict)
     c.judge_order.ensures

@@ -1,4 +1,4 @@
-use Rattle.std.proofs.Common.{◌≡◌, ◌≤◌, ℕ, List, [], ◌∷◌, ◌++◌, map, string_bytes, take}
+use Rattle.std.proofs.Common.{◌≡◌, ◌≤◌, ℕ, List, ◌∷◌, ◌++◌, map, string_bytes, take}
 use Rattle.migrate_cli.specs.Reading.{AreRead, AreWithin}
 use Rattle.migrate_cli.proofs.reading.read_texts.Given as goal
 

@@ -1,4 +1,4 @@
-use Rattle.std.proofs.Common.{rules, string_bytes, map, ap, sym, ◌∙◌, ◌≡◌, ◌∷◌, ◌-◌, length, take, drop, arith, codes}
+use Rattle.std.proofs.Common.{string_bytes, map, ap, sym, ◌∙◌, ◌≡◌, ◌-◌, length, take, drop, arith, codes}
 use Rattle.std.proofs.lemmas.List.{length-map}
 use Rattle.migrate_cli.proofs.WordFacts.{first_two}
 use Rattle.migrate_cli.proofs.command.Check.of_words.Goals as goal

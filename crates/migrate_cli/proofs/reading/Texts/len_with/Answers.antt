@@ -1,4 +1,4 @@
-use Rattle.std.proofs.Common.{◌<◌, ◌≢◌, length, arith, ◌≡◌, ◌∙◌}
+use Rattle.std.proofs.Common.{◌<◌, length, arith}
 use Rattle.migrate_cli.proofs.ReadingFacts.{total_of_configs-more}
 use Rattle.migrate_cli.proofs.reading.Texts.len_with.Goals as goal
 

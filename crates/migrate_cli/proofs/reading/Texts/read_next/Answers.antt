@@ -1,4 +1,4 @@
-use Rattle.std.proofs.Common.{refl, arith, ◌≡◌, ◌++◌, ◌∷◌, [], sym, subst}
+use Rattle.std.proofs.Common.{arith, ◌≡◌, ◌++◌, ◌∷◌, [], sym, subst}
 use Rattle.migrate_cli.specs.Reading.{AreWithin}
 use Rattle.migrate_cli.proofs.ReadingFacts.{AreWithin-more}
 use Rattle.migrate_cli.proofs.reading.Texts.read_next.Goals as goal
