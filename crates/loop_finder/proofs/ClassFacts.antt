@@ -1,14 +1,12 @@
 -- What is read of the steps of a state and a class.
-use Rattle.std.proofs.Common.{◌≡◌, ℕ, ◌<◌, ◌↔◌, Bool, true, false, IsTrue, List, length, get_or, ◌==◌, Contains, eqb-true, eq-eqb, arith, refl, sym, ap, ◌∙◌, subst}
+use Rattle.std.proofs.Common.{◌≡◌, ℕ, ◌<◌, ◌↔◌, Bool, true, false, List, length, get_or, ◌==◌, Contains, eqb-true, eq-eqb, arith, sym, ◌∙◌, subst}
 use Rattle.std.specs.Bool.{OnTrue, OnFalse}
 use Rattle.std.proofs.lemmas.Bool.{false≢true}
 use Rattle.std.proofs.lemmas.List.Elements.{Contains-get_or}
-use Rattle.net_model.specs.Network.{Network}
 use Rattle.route_core.specs.Tables.{HasEntry}
 use Rattle.igp_theory.specs.Forwarding.{MustForward, Steps}
-use Rattle.igp_theory.specs.Routes.{Tables}
 use Rattle.igp_theory.specs.declared.phase.Phase.{Phase}
-use Rattle.prefix_atoms.specs.Classes.{Classes, IsInClass}
+use Rattle.prefix_atoms.specs.Classes.{IsInClass}
 use Rattle.rib_mix.specs.Answers.{IsNext, NextLeadsTo}
 use Rattle.rib_mix.specs.declared.next.Next.{Next}
 use Rattle.rib_mix.proofs.NextLaws.{steps_to_hops}

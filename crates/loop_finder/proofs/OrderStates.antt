@@ -1,7 +1,5 @@
 -- The changes of an order, one after another.
-use Rattle.std.proofs.Common.{◌≡◌, ◌≢◌, ℕ, zero, suc, ◌+◌, ◌*◌, ◌/◌, ◌<◌, ◌≤◌, ◌==◌, if◌then◌else◌, List, [], ◌∷◌, ◌++◌, length, get_or, take, Contains, Bool, true, false, arith, refl, sym, ap, ◌∙◌, subst, inl, inr}
-use Rattle.std.specs.List.{All, AllPairs}
-use Rattle.std.proofs.lemmas.Bool.{cases_lt}
+use Rattle.std.proofs.Common.{◌≡◌, ℕ, zero, suc, ◌+◌, ◌*◌, ◌/◌, ◌<◌, ◌≤◌, ◌==◌, if◌then◌else◌, List, [], ◌∷◌, ◌++◌, length, get_or, take, Contains, Bool, true, false, arith, refl, sym, ap, ◌∙◌, subst, inl, inr}
 use Rattle.std.proofs.lemmas.Bool.Decides.{eqb_tells}
 use Rattle.std.proofs.lemmas.List.{take_more, take_all}
 use Rattle.std.proofs.lemmas.List.Elements.{All-contains_itself, All-weaker}
@@ -10,7 +8,7 @@ use Rattle.std.proofs.lemmas.Map.Views.{list_any-from_Contains}
 use Rattle.std.specs.Cmp.{nat_eq_equiv}
 use Rattle.igp_theory.specs.States.{State, IsOrder, changes_of, changes_on, phase_after, state_of}
 use Rattle.igp_theory.specs.declared.phase.Phase.{Phase}
-use Rattle.igp_theory.specs.declared.phase.Phase.TheVariants.{Old, Middle, New}
+use Rattle.igp_theory.specs.declared.phase.Phase.TheVariants.{Old}
 use Rattle.precedence_set.proofs.DistinctLists.{length-le_from_distinct}
 use Rattle.loop_finder.specs.Faults.{state_in}
 use Rattle.loop_finder.specs.Orders.{next_phase, IsStateOf, IsAdvanced}

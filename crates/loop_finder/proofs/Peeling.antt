@@ -1,5 +1,5 @@
 -- Marks that are taken one after another.
-use Rattle.std.proofs.Common.{◌≡◌, ℕ, zero, suc, ◌+◌, ◌<◌, ◌≤◌, Bool, true, false, cond, List, [], ◌∷◌, length, get_or, set, arith, subst, sym, refl, ap, ◌∙◌, below_more, inl, inr}
+use Rattle.std.proofs.Common.{◌≡◌, ℕ, ◌+◌, ◌<◌, ◌≤◌, Bool, true, false, cond, List, [], ◌∷◌, length, get_or, set, arith, subst, sym, refl, ap, ◌∙◌, below_more, inl, inr}
 use Rattle.std.proofs.lemmas.List.{get_or-set_same, get_or-set_other, get_or_past, length-set}
 use Rattle.std.proofs.lemmas.List.Sums.{sum_by-set, count_by-le-length}
 use Rattle.std.proofs.lemmas.Bool.{false≢true, cases_lt}
@@ -7,7 +7,7 @@ use Rattle.std.proofs.lemmas.Bool.Decides.{eqb_tells}
 use Rattle.std.specs.Bool.{OnFalse}
 use Rattle.igp_theory.specs.States.{Follows}
 use Rattle.precedence_set.specs.Marks.{IsMarked}
-use Rattle.loop_finder.specs.Live.{marked_count, HasMarkedHop, AreBounded, ArePeeled}
+use Rattle.loop_finder.specs.Live.{marked_count, HasMarkedHop, AreBounded}
 
 -- a mark that is there stays where another is taken
 marked_before : (marks : List Bool) (u r : ℕ) → u < length marks → IsMarked (set marks u false) r → IsMarked marks r

@@ -1,5 +1,5 @@
 -- A state is sound for all addresses where it is for the least address of each class.
-use Rattle.std.proofs.Common.{◌≡◌, ◌≢◌, ℕ, ◌^◌, ◌<◌, ◌≤◌, ◌↔◌, List, length, get_or, arith, subst, sym, inl, inr}
+use Rattle.std.proofs.Common.{◌≡◌, ◌≢◌, ℕ, ◌^◌, ◌<◌, ◌≤◌, List, length, get_or, arith, subst, inl, inr}
 use Rattle.std.specs.List.{AllPairs}
 use Rattle.std.proofs.lemmas.Bool.{cases_lt}
 use Rattle.std.proofs.lemmas.List.Kept.{AllPairs-from_increasing}
@@ -9,7 +9,7 @@ use Rattle.net_model.specs.Network.{Network}
 use Rattle.route_core.specs.Tables.{HasEntry}
 use Rattle.route_core.specs.declared.entry.Entry.{Entry}
 use Rattle.igp_theory.specs.Laws.{HaveSameTables}
-use Rattle.igp_theory.specs.States.{State, IsSoundAt}
+use Rattle.igp_theory.specs.States.{State}
 use Rattle.igp_theory.proofs.SameTables.{sound_at_over, same_tables_sym}
 use Rattle.prefix_atoms.specs.Classes.{AreSamples, Classes, AreClasses, IsInClass, SourceEntry}
 use Rattle.prefix_atoms.specs.Laws.{ActAlike}

@@ -1,8 +1,7 @@
 -- The turns of a ring, one after another.
-use Rattle.std.proofs.Common.{◌≡◌, ℕ, zero, suc, ◌+◌, ◌<◌, ◌≤◌, ◌⊎◌, inl, inr, Bool, true, false, IsTrue, List, [], ◌∷◌, ◌++◌, length, get_or, take, map, arith, refl, sym, ap, ◌∙◌, subst}
+use Rattle.std.proofs.Common.{◌≡◌, ℕ, suc, ◌+◌, ◌<◌, ◌≤◌, ◌⊎◌, inl, inr, false, List, [], ◌∷◌, ◌++◌, length, get_or, take, arith, refl, sym, ap, ◌∙◌, subst}
 use Rattle.std.proofs.lemmas.Bool.{false≢true}
 use Rattle.std.proofs.lemmas.List.{take_more, take_all, map_push, length-map, length-take-le, get_or_default, get_or_past}
-use Rattle.igp_theory.specs.Forwarding.{Steps}
 use Rattle.igp_theory.specs.Loops.{RingRouter, EachToNext, AroundRing, ring_routers}
 use Rattle.igp_theory.specs.declared.phase.Phase.{Phase}
 use Rattle.igp_theory.specs.declared.phase.Phase.TheVariants.{Old, Middle, New}
@@ -11,7 +10,7 @@ use Rattle.order_search.specs.declared.turn.Tag.TheVariants as tag
 use Rattle.order_search.specs.declared.turn.Turn.{Turn}
 use Rattle.loop_finder.specs.Faults.{ring_of, ring_router}
 use Rattle.loop_finder.specs.Rings.{next_in}
-use Rattle.loop_finder.specs.Steps.{Listing, ClassState, StepsBy, ClassStep, IsTagged}
+use Rattle.loop_finder.specs.Steps.{Listing, ClassState, StepsBy, IsTagged}
 use Rattle.loop_finder.proofs.RingLaws.{each_at, each_to_next_push}
 
 -- a step of a phase is a step of Old or of New

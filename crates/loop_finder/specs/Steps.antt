@@ -1,12 +1,11 @@
 -- The steps of a state, for the addresses of one class.
-use Rattle.std.specs.Prelude.{◌≡◌, ℕ, ◌<◌, ◌↔◌, ◌^◌, Bool, List, length, slice_index, slice_index_or, Option, Some, None}
+use Rattle.std.specs.Prelude.{◌≡◌, ℕ, ◌<◌, ◌↔◌, ◌^◌, Bool, List, length, slice_index, Option, Some, None}
 use Rattle.net_addr.specs.Addresses.{Block}
 use Rattle.net_model.specs.Network.{Network}
 use Rattle.route_core.specs.Tables.{HasEntry}
 use Rattle.route_core.specs.declared.entry.Entry.{Entry}
-use Rattle.igp_theory.specs.Forwarding.{MustForward, Steps, HasStep}
+use Rattle.igp_theory.specs.Forwarding.{MustForward, Steps}
 use Rattle.igp_theory.specs.Loops.{IsTag, RingRouter}
-use Rattle.igp_theory.specs.States.{IsSoundAt}
 use Rattle.igp_theory.specs.declared.phase.Phase.{Phase}
 use Rattle.precedence_set.specs.Marks.{IsMarked}
 use Rattle.rib_mix.specs.Mixture.{Mixture}

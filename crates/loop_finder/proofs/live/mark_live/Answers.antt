@@ -1,4 +1,4 @@
-use Rattle.std.proofs.Common.{ℕ, ◌<◌, length, subst, sym, ◌∙◌}
+use Rattle.std.proofs.Common.{ℕ, ◌<◌, subst, sym, ◌∙◌}
 use Rattle.loop_finder.proofs.Peeling.{bounded_first}
 use Rattle.loop_finder.proofs.live.mark_live.Goals as goal
 

@@ -1,5 +1,5 @@
 use Rattle.std.proofs.Common.{arith}
-use Rattle.loop_finder.proofs.Peeling.{IsPeel-first, IsPeel-same, IsPeel-taken, IsPeel-closed}
+use Rattle.loop_finder.proofs.Peeling.{IsPeel-same, IsPeel-taken, IsPeel-closed}
 use Rattle.loop_finder.proofs.live.peel.Goals as goal
 use Rattle.loop_finder.proofs.live.peel.Goals.{then-peel_one, else-peel_one}
 
