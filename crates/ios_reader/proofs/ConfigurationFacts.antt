@@ -1,5 +1,5 @@
 -- A configuration and its least fault, from their parts.
-use Rattle.std.proofs.Common.{sym, ◌≡◌, ℕ, Bool, true, false, not, List, Option, Some, None, refl, ap, ◌∙◌}
+use Rattle.std.proofs.Common.{◌≡◌, ℕ, Bool, true, false, not, List, Option, Some, None, refl, ap, ◌∙◌}
 use Rattle.std.specs.Prelude.{flat_map, is_none, is_some}
 use Rattle.net_model.specs.Configuration.{Configuration}
 use Rattle.net_model.specs.declared.area.Range.{Range}

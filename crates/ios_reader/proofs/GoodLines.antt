@@ -1,5 +1,5 @@
 -- The values that lines give are in their ranges.
-use Rattle.std.proofs.Common.{sym, ◌≡◌, ◌≢◌, ℕ, ◌+◌, ◌-◌, ◌*◌, ◌/◌, ◌^◌, ◌<◌, ◌≤◌, Bool, true, false, not, ◌&&◌, ◌||◌, List, [], ◌∷◌, length, get_or, drop, Option, Some, None, Result, Ok, Err, refl, ap, subst, cond, map, nat_eq, nat_le, nat_lt, bytes_eq, arith, ◌⊎◌, inl, inr}
+use Rattle.std.proofs.Common.{◌≡◌, ◌≢◌, ℕ, ◌+◌, ◌-◌, ◌^◌, ◌<◌, ◌≤◌, Bool, true, false, not, ◌&&◌, ◌||◌, List, length, get_or, Option, Some, None, Result, Ok, Err, refl, cond, nat_eq, nat_le, nat_lt, arith, ◌⊎◌, inl, inr}
 use Rattle.std.specs.Prelude.{IfSome, IfOk, codes}
 use Rattle.std.specs.List.{list_all}
 use Rattle.std.specs.Char.{is_ascii_digit}
@@ -9,24 +9,23 @@ use Rattle.net_addr.specs.Addresses.{IsBlock}
 use Rattle.net_addr.specs.AddressWords.{IsAddressWord}
 use Rattle.net_addr.proofs.Blocks.{IsBlock-around}
 use Rattle.net_model.specs.Configuration.{IsRange}
-use Rattle.net_model.specs.declared.area.Range.{Range}
-use Rattle.ios_reader.specs.Words.{Word, word_at, says, begins2, begins3, lacks, number_of, at_least, number_from, address_of, mask_of, area_of, levels_of}
-use Rattle.ios_reader.specs.InterfaceLines.{masked_address, address_line, process_area, area_line, network_kind, ospf_of_interface, ip_of_interface, metric_line, isis_of_interface, bandwidth_line, plain_of_interface, interface_line}
-use Rattle.ios_reader.specs.OspfLines.{network_line, stub_values, stub_line, default_cost_values, default_cost_line, prefix_of, cost_place, optional_cost, range_cost, range_ends, range_values, range_line, is_unsupported_area, area_line as ospf_area_line, apart_distance, ospf_distance, ospf_passive, is_unsupported_ospf, plain_of_ospf, ospf_line}
-use Rattle.ios_reader.specs.IsisLines.{hex_value, group_value, system_value, system_part, area_part, is_title, title_of, is_wide, isis_distance, isis_passive, is_unsupported_isis, plain_of_isis, isis_line}
+use Rattle.ios_reader.specs.Words.{Word, word_at, says, begins2, begins3, lacks, number_of, at_least, number_from, address_of, mask_of, area_of}
+use Rattle.ios_reader.specs.InterfaceLines.{masked_address, address_line, process_area, ospf_of_interface, ip_of_interface, metric_line, isis_of_interface, bandwidth_line, plain_of_interface, interface_line}
+use Rattle.ios_reader.specs.OspfLines.{stub_values, default_cost_values, prefix_of, cost_place, optional_cost, range_cost, range_ends, range_values, range_line, is_unsupported_area, area_line as ospf_area_line, apart_distance, ospf_distance, ospf_passive, is_unsupported_ospf, plain_of_ospf, ospf_line}
+use Rattle.ios_reader.specs.IsisLines.{hex_value, group_value, system_value, system_part, is_title, title_of, isis_distance, isis_passive, is_unsupported_isis, plain_of_isis, isis_line}
 use Rattle.ios_reader.specs.MaskedAddress.{MaskedAddress}
 use Rattle.ios_reader.specs.declared.kind.ReadKind.{ReadKind}
-use Rattle.ios_reader.specs.declared.kind.ReadKind.TheVariants.{BadAddress, BadMask, BadCost, BadArea, SecondProcess, Unsupported, BadLevel, BadMetric, BadDistance, DistanceClash, NoBandwidth}
+use Rattle.ios_reader.specs.declared.kind.ReadKind.TheVariants.{BadCost, BadArea, SecondProcess, Unsupported, BadMetric, BadDistance, DistanceClash}
 use Rattle.ios_reader.specs.declared.interface_line.ProcessArea.{ProcessArea}
 use Rattle.ios_reader.specs.declared.interface_line.InterfaceLine.{InterfaceLine}
-use Rattle.ios_reader.specs.declared.interface_line.InterfaceLine.TheVariants.{Address, NoAddress, Shutdown, Vrf, Bandwidth, Cost, Area, PointToPoint, Isis, Circuit, Metric, Metric1, Metric2, Faulty, Skipped}
+use Rattle.ios_reader.specs.declared.interface_line.InterfaceLine.TheVariants.{Address, Cost, Area, Metric, Metric1, Metric2}
 use Rattle.ios_reader.specs.declared.ospf_line.StubLine.{StubLine}
 use Rattle.ios_reader.specs.declared.ospf_line.DefaultCost.{DefaultCost as AreaCost}
 use Rattle.ios_reader.specs.declared.ospf_line.OspfLine.{OspfLine}
-use Rattle.ios_reader.specs.declared.ospf_line.OspfLine.TheVariants.{Network, Passive, PassiveDefault, Reference, Stub, DefaultCost, Range as RangeLine, Distance, Rfc1583, Faulty as OspfFaulty, Skipped as OspfSkipped}
+use Rattle.ios_reader.specs.declared.ospf_line.OspfLine.TheVariants.{Stub, DefaultCost, Range as RangeLine, Distance}
 use Rattle.ios_reader.specs.declared.title.Title.{Title}
 use Rattle.ios_reader.specs.declared.isis_line.IsisLine.{IsisLine}
-use Rattle.ios_reader.specs.declared.isis_line.IsisLine.TheVariants.{Net, Levels as LevelsLine, MetricStyle, Metric as IsisMetric, Distance as IsisDistance, Passive as IsisPassive, Faulty as IsisFaulty, Skipped as IsisSkipped}
+use Rattle.ios_reader.specs.declared.isis_line.IsisLine.TheVariants.{Net, Metric as IsisMetric, Distance as IsisDistance}
 use Rattle.ios_reader.proofs.Picked.{by_if, by_some}
 use Rattle.ios_reader.proofs.NumberFacts.{le_test, number_stands}
 use Rattle.ios_reader.proofs.AddressFacts.{address_back}

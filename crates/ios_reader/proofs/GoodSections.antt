@@ -1,20 +1,19 @@
 -- The values that sections give are in their ranges.
-use Rattle.std.proofs.Common.{◌≡◌, ℕ, ◌≤◌, Bool, true, false, not, bytes_eq, ◌&&◌, ◌||◌, List, [], ◌∷◌, length, get_or, Option, Some, None, Result, Ok, Err, refl, cond, map}
-use Rattle.std.specs.Prelude.{IfSome, IfOk, All, codes, filter_map, flat_map, fold, filter, option_map}
+use Rattle.std.proofs.Common.{◌≡◌, ℕ, Bool, true, false, not, bytes_eq, ◌&&◌, ◌||◌, List, [], get_or, Option, Some, None, Ok, Err, refl, cond, map}
+use Rattle.std.specs.Prelude.{IfSome, IfOk, All, codes, filter_map, flat_map, option_map}
 use Rattle.std.proofs.lemmas.List.Elements.{All-nil, All-append, All-map, All-filter}
-use Rattle.ios_reader.specs.Words.{Word, word_at, says, begins2, lacks, number_from}
-use Rattle.ios_reader.specs.Heads.{is_router_name, hostname_of, is_interface_name, interface_name, interface_of, router_head, head_of}
-use Rattle.ios_reader.specs.TextLines.{TextLine, TextSection, Part, sections_of}
+use Rattle.ios_reader.specs.Words.{Word, word_at, says, begins2, lacks}
+use Rattle.ios_reader.specs.Heads.{is_router_name, hostname_of, router_head, head_of}
+use Rattle.ios_reader.specs.TextLines.{TextLine, Part, sections_of}
 use Rattle.ios_reader.specs.InterfaceLines.{interface_line}
 use Rattle.ios_reader.specs.OspfLines.{ospf_line}
 use Rattle.ios_reader.specs.IsisLines.{isis_line}
 use Rattle.ios_reader.specs.Sections.{interface_statements, ospf_statements, isis_statements, section_with, section_of}
 use Rattle.ios_reader.specs.Lookups.{first_seen}
 use Rattle.ios_reader.specs.InterfaceFacts.{in_vrf, counting}
-use Rattle.ios_reader.specs.Routers.{as_hostname, as_interface, as_ospf, as_isis, named, first_line, merged, merged_interfaces, interfaces_in, mention_said, mentions_in, mention_of, mentions_of, mentions, first_mention, least_mention, first_process, process_of, is_of_process, lines_of_process, ospf_lines, first_tag, is_of_tag, lines_of_tag, isis_lines}
+use Rattle.ios_reader.specs.Routers.{as_hostname, as_interface, as_ospf, as_isis, named, merged, interfaces_in, mention_said, mentions_in, mention_of, mentions_of, mentions, first_mention, least_mention, process_of, is_of_process, lines_of_process, ospf_lines, first_tag, is_of_tag, lines_of_tag, isis_lines}
 use Rattle.ios_reader.specs.Faults.{sections_in}
-use Rattle.ios_reader.specs.declared.kind.ReadKind.{ReadKind}
-use Rattle.ios_reader.specs.declared.kind.ReadKind.TheVariants.{NoHostname, SecondProcess, Unsupported}
+use Rattle.ios_reader.specs.declared.kind.ReadKind.TheVariants.{NoHostname, SecondProcess}
 use Rattle.ios_reader.specs.declared.head.Head.{Head}
 use Rattle.ios_reader.specs.declared.head.Head.TheVariants.{Hostname as NameHead, Interface as InterfaceHead, Ospf as OspfHead, Isis as IsisHead, Faulty as FaultyHead, Other as OtherHead}
 use Rattle.ios_reader.specs.declared.process.Mention.{Mention}

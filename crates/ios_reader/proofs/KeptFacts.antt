@@ -1,29 +1,28 @@
 -- What is read keeps the facts of a configuration.
-use Rattle.std.proofs.Common.{sym, ◌≡◌, ◌≢◌, ℕ, ◌+◌, ◌*◌, ◌/◌, ◌^◌, ◌<◌, ◌≤◌, Bool, true, false, not, ◌&&◌, ◌||◌, List, [], ◌∷◌, length, get_or, Option, Some, None, Result, Ok, Err, refl, ap, subst, cond, map, nat_eq, nat_le, min, max, arith, inl, inr, ◌⊎◌}
-use Rattle.std.specs.Prelude.{IfSome, IfOk, IsSome, IsTrue, All, AllPairs, is_some, unwrap_or, option_map, filter_map, fold, take_while}
+use Rattle.std.proofs.Common.{◌≡◌, ◌≢◌, ℕ, ◌*◌, ◌/◌, ◌^◌, ◌<◌, ◌≤◌, Bool, true, false, not, ◌&&◌, ◌||◌, List, [], length, get_or, Option, Some, None, Result, Ok, Err, refl, ap, map, nat_eq, nat_le, min, max, arith, inl, inr, ◌⊎◌}
+use Rattle.std.specs.Prelude.{IfSome, IfOk, IsSome, All, AllPairs, is_some, unwrap_or, option_map, filter_map, take_while}
 use Rattle.std.specs.List.{list_all}
 use Rattle.std.specs.Char.{is_ascii_digit}
 use Rattle.std.proofs.lemmas.Bool.Decides.{nat_tests}
 use Rattle.std.proofs.lemmas.Bool.{false≢true}
-use Rattle.std.proofs.lemmas.List.Elements.{All-nil, All-map, All-weaker}
+use Rattle.std.proofs.lemmas.List.Elements.{All-nil, All-map}
 use Rattle.std.proofs.lemmas.List.Sums.{AllPass-from_list_all}
-use Rattle.net_addr.specs.Addresses.{Block, block_at, IsBlock}
+use Rattle.net_addr.specs.Addresses.{Block, IsBlock}
 use Rattle.net_addr.proofs.Blocks.{same_parts}
-use Rattle.net_model.specs.Configuration.{Configuration, IsNameByte, IsRouterName, IsInterface, IsRange, IsStub, AreDistances, AreRangesApart, IsConfiguration}
+use Rattle.net_model.specs.Configuration.{IsNameByte, IsRouterName, IsInterface, IsRange, IsStub, AreRangesApart, IsConfiguration}
 use Rattle.net_model.specs.declared.area.Range.{Range}
 use Rattle.net_model.specs.declared.area.Stub.{Stub}
 use Rattle.net_model.specs.declared.interface.Interface.{Interface}
 use Rattle.ios_reader.specs.Words.{Word, is_letter}
 use Rattle.ios_reader.specs.Heads.{is_name_byte, is_router_name}
 use Rattle.ios_reader.specs.Lookups.{last_of, replaced, first_seen, good_value, value_or}
-use Rattle.ios_reader.specs.InterfaceFacts.{address_at, address_in, cost_said, area_said, metric_said, metric1_said, metric2_said, facts_of, counting}
+use Rattle.ios_reader.specs.InterfaceFacts.{address_at, address_in, cost_said, metric_said, metric1_said, metric2_said, facts_of, counting}
 use Rattle.ios_reader.specs.Routers.{as_hostname, as_interface, merged, interfaces_in, process_of, ospf_lines, isis_lines, Router, router_of, range_said, is_same_range, ranges_in, stub_said, is_same_area, stub_lines_in, cost_if, default_cost_said, stub_of, stubs_in, title_said, router_metric_said, ospf_distance_said, isis_distance_said}
-use Rattle.ios_reader.specs.InterfacesAsRead.{address_given, is_loopback, is_up, interface_area, default_bandwidth, cost_of_bandwidth, cost_by_bandwidth, default_cost, cost_given, ospf_cost, is_isis_passive, runs_isis, metric_by, level_metric, subnet_field, cost_field, interface_with, interface_as_read}
+use Rattle.ios_reader.specs.InterfacesAsRead.{address_given, is_loopback, interface_area, default_bandwidth, cost_of_bandwidth, cost_by_bandwidth, default_cost, cost_given, ospf_cost, is_isis_passive, runs_isis, metric_by, level_metric, subnet_field, cost_field, interface_with, interface_as_read}
 use Rattle.ios_reader.specs.Configurations.{title_given, system_in, configuration_of}
 use Rattle.ios_reader.specs.MaskedAddress.{MaskedAddress}
 use Rattle.ios_reader.specs.declared.kind.ReadKind.{ReadKind}
 use Rattle.ios_reader.specs.declared.facts.PlacedAddress.{PlacedAddress}
-use Rattle.ios_reader.specs.declared.facts.InterfaceFacts.{InterfaceFacts}
 use Rattle.ios_reader.specs.declared.interface_line.InterfaceLine.{InterfaceLine}
 use Rattle.ios_reader.specs.declared.interface_line.InterfaceLine.TheVariants.{Address, NoAddress, Shutdown, Vrf, Bandwidth, Cost, Area, PointToPoint, Isis, Circuit, Metric, Metric1, Metric2, Faulty, Skipped}
 use Rattle.ios_reader.specs.declared.interface_line.InterfaceStatement.{InterfaceStatement}

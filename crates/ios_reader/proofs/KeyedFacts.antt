@@ -1,19 +1,17 @@
 -- Tables whose values stand under their keys.
-use Rattle.std.proofs.Common.{sym, ◌≡◌, ℕ, zero, suc, ◌+◌, ◌<◌, Bool, true, false, ◌&&◌, List, [], ◌∷◌, ◌++◌, length, take, get_or, Option, Some, None, refl, ap, subst, ◌∙◌, cond, map, nat_eq, arith, add-one}
-use Rattle.std.specs.Prelude.{slice_get, unwrap_or, All}
+use Rattle.std.proofs.Common.{sym, ◌≡◌, ℕ, zero, suc, ◌+◌, ◌<◌, Bool, true, false, ◌&&◌, List, [], ◌∷◌, ◌++◌, length, take, get_or, Option, Some, None, refl, ap, ◌∙◌, cond, map, nat_eq, arith, add-one}
+use Rattle.std.specs.Prelude.{slice_get}
 use Rattle.std.specs.List.{cons_option}
 use Rattle.std.proofs.lemmas.Bool.{false≢true}
 use Rattle.std.proofs.lemmas.List.{map-append}
 use Rattle.std.proofs.lemmas.Bool.Decides.{nat_tests}
-use Rattle.std.proofs.lemmas.List.Elements.{All-nil, All-cons, All-head, All-tail}
+use Rattle.std.proofs.lemmas.List.Elements.{All-cons, All-head, All-tail}
 use Rattle.std.specs.Map.{lookup}
 use Rattle.indexmap.specs.IndexMap.{insert_entry}
 use Rattle.ios_reader.specs.Lookups.{later, replaced, last_of}
 use Rattle.net_model.specs.declared.area.Range.{Range}
-use Rattle.net_model.specs.declared.area.Stub.{Stub}
-use Rattle.ios_reader.specs.declared.ospf_line.OspfStatement.{OspfStatement}
 use Rattle.ios_reader.specs.declared.ospf_line.StubLine.{StubLine}
-use Rattle.ios_reader.specs.Routers.{cost_if, default_cost_said, is_same_range, stub_of}
+use Rattle.ios_reader.specs.Routers.{cost_if, is_same_range}
 use Rattle.ios_reader.specs.Tables.{values_in, AreKeyed, range_key, stub_made}
 use Rattle.ios_reader.proofs.NumberFacts.{and_left, and_right}
 use Rattle.ios_reader.proofs.ProcessLookups.{last_of_more}

@@ -1,7 +1,7 @@
 -- The least of some faults is on the least faulty line, with the least kind on it.
-use Rattle.std.proofs.Common.{sym, ◌≡◌, ℕ, zero, suc, ◌+◌, ◌*◌, ◌<◌, ◌≤◌, Bool, true, false, List, [], ◌∷◌, length, get_or, Option, Some, None, refl, ap, subst, ◌∙◌, cond, nat_lt, arith, All, Contains, ◌⊎◌, inl, inr}
+use Rattle.std.proofs.Common.{◌≡◌, ℕ, ◌+◌, ◌*◌, ◌<◌, ◌≤◌, Bool, true, false, List, [], ◌∷◌, Option, Some, None, refl, cond, nat_lt, arith, ◌⊎◌, inl, inr}
 use Rattle.std.proofs.lemmas.Bool.Decides.{nat_tests}
-use Rattle.ios_reader.specs.Configurations.{rank, IsNotAfter, IsLeastFault}
+use Rattle.ios_reader.specs.Configurations.{rank, IsNotAfter}
 use Rattle.ios_reader.specs.Gathering.{order_of, is_before, lesser_fault, least_fault}
 use Rattle.ios_reader.specs.declared.fault.Fault.{Fault}
 use Rattle.ios_reader.specs.declared.kind.ReadKind.{ReadKind}

@@ -1,5 +1,5 @@
 -- What holds of each element of a list, through the ways in which lines are picked.
-use Rattle.std.proofs.Common.{sym, ◌≡◌, ◌≢◌, ℕ, zero, suc, ◌+◌, ◌<◌, Bool, true, false, not, List, [], ◌∷◌, ◌++◌, length, get_or, Option, Some, None, refl, ap, subst, cond, map, bytes_eq, arith}
+use Rattle.std.proofs.Common.{◌≡◌, ◌≢◌, zero, suc, Bool, true, false, not, List, [], ◌∷◌, Option, Some, None, refl, subst, cond, map, bytes_eq, arith}
 use Rattle.std.specs.Prelude.{IfSome, All, AllPairs, filter_map, flat_map, fold, filter}
 use Rattle.std.specs.List.{cons_option}
 use Rattle.std.proofs.lemmas.Bool.{false≢true}

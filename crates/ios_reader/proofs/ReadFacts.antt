@@ -1,25 +1,24 @@
 -- The answer to a text, from what was read of its parts.
-use Rattle.std.proofs.Common.{sym, ◌≡◌, ℕ, ◌+◌, ◌<◌, ◌≤◌, ◌^◌, Bool, true, false, List, [], ◌∷◌, ◌++◌, length, Option, Some, None, refl, ap, subst, ◌∙◌, cond, map, arith, zero, suc, get_or, ◌⊎◌, inl, inr, nat_lt}
-use Rattle.std.specs.Prelude.{flat_map, All, Contains, filter_map, is_none, is_some, unwrap_or, count_by}
+use Rattle.std.proofs.Common.{sym, ◌≡◌, ℕ, ◌+◌, ◌≤◌, Bool, true, false, List, [], ◌∷◌, ◌++◌, length, Option, Some, None, refl, ap, subst, ◌∙◌, cond, map, arith, zero, suc, inl, inr}
+use Rattle.std.specs.Prelude.{flat_map, All, filter_map, is_none, is_some, unwrap_or}
 use Rattle.std.specs.List.{slice_split}
 use Rattle.std.proofs.lemmas.List.{length-map}
 use Rattle.std.proofs.lemmas.List.Splits.{length-slice_split}
 use Rattle.std.proofs.lemmas.List.Sums.{count_by-le-length}
-use Rattle.std.proofs.lemmas.List.Elements.{All-nil, All-cons, All-weaker, Contains-append_right}
+use Rattle.std.proofs.lemmas.List.Elements.{All-nil, All-cons, All-weaker}
 use Rattle.std.proofs.lemmas.Bool.Decides.{nat_tests}
-use Rattle.net_addr.specs.declared.line.Line.{Line}
 use Rattle.net_addr.specs.Lines.{is_line_feed, without_empty_last, line_pieces, lines_of, text_lines}
 use Rattle.net_model.specs.Configuration.{Configuration, IsConfiguration}
 use Rattle.ios_reader.specs.Words.{Word}
 use Rattle.ios_reader.specs.TextLines.{TextLine, Part, text_line, lines_in, parts_of, lacks_end}
-use Rattle.ios_reader.specs.Faults.{fault_at, faults_if, second_processes, ospf_faults, ospf_statement_faults, isis_faults, isis_statement_faults, tag_faults, second_titles, lacking, first_isis_line, interface_faults, section_faults, sections_in, part_faults, faults_in}
-use Rattle.ios_reader.specs.Routers.{as_hostname, as_isis, as_fault, interfaces_in, first_isis, first_tag, ospf_lines, isis_lines, router_of, router_with, rfc1583_said, ospf_distance_said, isis_distance_said, ranges_in, stubs_in}
+use Rattle.ios_reader.specs.Faults.{faults_if, second_processes, ospf_faults, isis_faults, isis_statement_faults, tag_faults, second_titles, lacking, first_isis_line, interface_faults, section_faults, sections_in, part_faults, faults_in}
+use Rattle.ios_reader.specs.Routers.{as_hostname, as_isis, as_fault, interfaces_in, first_isis, first_tag, isis_lines, router_of, router_with, rfc1583_said, ospf_distance_said, isis_distance_said, ranges_in, stubs_in}
 use Rattle.ios_reader.specs.InterfacesAsRead.{interface_as_read}
 use Rattle.ios_reader.specs.Lookups.{last_of, value_or}
-use Rattle.ios_reader.specs.Configurations.{rank, IsNotAfter, IsLeastFault, AreConfigurations, configuration_of, tag_in, area_in, system_in}
-use Rattle.ios_reader.specs.Gathering.{order_of, is_before, lesser_fault, least_fault}
+use Rattle.ios_reader.specs.Configurations.{IsNotAfter, IsLeastFault, configuration_of, tag_in, area_in, system_in}
+use Rattle.ios_reader.specs.Gathering.{is_before, lesser_fault, least_fault}
 use Rattle.ios_reader.specs.Statements.{Statements, statements_of, ospf_fault_by, isis_fault_by, fault_by, title_by, configuration_by}
-use Rattle.ios_reader.specs.Parts.{part_at, IsMadeOf, IsPartRead, Reading, IsReadingOf}
+use Rattle.ios_reader.specs.Parts.{IsMadeOf, Reading, IsReadingOf}
 use Rattle.ios_reader.specs.Texts.{ReadsText, IsRefusedText}
 use Rattle.ios_reader.specs.declared.kind.ReadKind.TheVariants.{NoHostname, NoEnd}
 use Rattle.ios_reader.specs.declared.fault.Fault.{Fault}

@@ -1,9 +1,9 @@
 -- What the sections of a configuration say: its interfaces, and the lines of its two processes.
-use Rattle.std.specs.Prelude.{ℕ, true, List, [], ◌++◌, Option, map, filter_map, flat_map, unwrap_or, is_some, is_none}
+use Rattle.std.specs.Prelude.{ℕ, true, List, [], Option, map, filter_map, flat_map, unwrap_or, is_some, is_none}
 use Rattle.net_model.specs.Configuration.{Configuration}
 use Rattle.ios_reader.specs.Words.{Word}
 use Rattle.ios_reader.specs.Lookups.{last_of, value_or}
-use Rattle.ios_reader.specs.Routers.{as_hostname, as_isis, as_fault, interfaces_in, process_of, first_tag, ospf_lines, isis_lines, Router, router_with, title_said, ospf_distance_said, isis_distance_said, rfc1583_said, ranges_in, stubs_in}
+use Rattle.ios_reader.specs.Routers.{as_hostname, as_isis, as_fault, interfaces_in, process_of, first_tag, ospf_lines, isis_lines, router_with, title_said, ospf_distance_said, isis_distance_said, rfc1583_said, ranges_in, stubs_in}
 use Rattle.ios_reader.specs.InterfacesAsRead.{interface_as_read}
 use Rattle.ios_reader.specs.Faults.{faults_if, second_processes, ospf_statement_faults, tag_faults, isis_statement_faults, second_titles, lacking, first_isis_line, interface_faults}
 use Rattle.ios_reader.specs.Configurations.{title_given, area_in, system_in}

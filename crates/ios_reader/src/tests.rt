@@ -35,152 +35,66 @@ fn isis_row(i: &Interface) -> (bool, bool, u32, u32, bool) {
 
 #[test]
 fn each_faulty_line_has_its_kind(rt: HostRuntime) -> Result<(), Fail> {
-    let rows: [(&[u8], u32, ReadKind); 34] = [
-        (b"hostname R/1\nend\n", 1, ReadKind::NoHostname),
-        (b"router isis\nend\n", 1, ReadKind::Unsupported),
-        (b"interface E0\nend\n", 2, ReadKind::NoHostname),
+    let rows: [(&[u8], u32, ReadKind); 16] = [
+        (b"interface Loopback0\nend", 2, ReadKind::NoHostname),
         (b"hostname R1\nrouter ospf 1", 3, ReadKind::NoEnd),
-        (b"", 1, ReadKind::NoEnd),
+        (b"hostname R1\nend\ninterface E0", 4, ReadKind::NoEnd),
         (
-            b"hostname R1\nend\ninterface E0\n ip unnumbered E1\n",
-            5,
-            ReadKind::NoEnd,
-        ),
-        (
-            b"hostname R1\ninterface default\nend",
+            b"interface E0\n ip address 10.0.0.256 x\nend",
             2,
-            ReadKind::Unsupported,
-        ),
-        (
-            b"hostname R1\nrouter ospf 0\nend",
-            2,
-            ReadKind::SecondProcess,
-        ),
-        (
-            b"hostname R1\nrouter ospf 1\nrouter ospf 2\nend",
-            3,
-            ReadKind::SecondProcess,
-        ),
-        (b"hostname R1\nrouter rip\nend", 2, ReadKind::Unsupported),
-        (
-            b"hostname R1\nip route 0.0.0.0 0.0.0.0 10.0.0.1\nend",
-            2,
-            ReadKind::Unsupported,
-        ),
-        (
-            b"hostname R1\ninterface E0\n ip address 10.0.0.256 255.0.0.0\nend",
-            3,
             ReadKind::BadAddress,
         ),
         (
-            b"hostname R1\ninterface E0\n ip address 10.0.0.1\nend",
-            3,
+            b"interface E0\n ip address 10.0.0.1\nend",
+            2,
             ReadKind::BadMask,
         ),
         (
-            b"hostname R1\ninterface E0\n ip address dhcp\nend",
-            3,
-            ReadKind::Unsupported,
-        ),
-        (
-            b"hostname R1\ninterface E0\n bandwidth 0\nend",
-            3,
-            ReadKind::NoBandwidth,
-        ),
-        (
-            b"hostname R1\ninterface Tunnel0\n ip address 10.0.0.1 255.0.0.0\n ip ospf 1 area 0\nend",
+            b"interface E0\n ip ospf cost 65536\nend",
             2,
-            ReadKind::NoBandwidth,
-        ),
-        (
-            b"hostname R1\ninterface Loopback0\n ip address 10.0.0.1 255.0.0.0\nend",
-            3,
-            ReadKind::LoopbackMask,
-        ),
-        (
-            b"hostname R1\ninterface E0\n ip ospf cost 65536\nend",
-            3,
             ReadKind::BadCost,
         ),
         (
-            b"hostname R1\ninterface E0\n ip ospf x area x\nend",
-            3,
+            b"interface E0\n ip ospf x area x\nend",
+            2,
             ReadKind::BadArea,
         ),
         (
-            b"hostname R1\ninterface E0\n ip ospf x area 0\nend",
-            3,
+            b"router ospf 1\nrouter ospf 2\nend",
+            2,
             ReadKind::SecondProcess,
         ),
         (
-            b"hostname R1\ninterface E0\n isis circuit-type level-3\nend",
-            3,
-            ReadKind::BadLevel,
-        ),
-        (
-            b"hostname R1\ninterface E0\n isis metric 0 level-3\nend",
-            3,
-            ReadKind::BadLevel,
-        ),
-        (
-            b"hostname R1\ninterface E0\n isis metric 16777215 level-1\nend",
-            3,
-            ReadKind::BadMetric,
-        ),
-        (
-            b"hostname R1\ninterface E0\n ip router isis\nend",
-            3,
-            ReadKind::BadNet,
-        ),
-        (
-            b"hostname R1\nrouter ospf 1\n network 10.0.0.0 0.0.0.255 0\nend",
-            3,
-            ReadKind::BadAddress,
-        ),
-        (
-            b"hostname R1\nrouter ospf 1\n area 0 stub\nend",
-            3,
-            ReadKind::BadArea,
-        ),
-        (
-            b"hostname R1\nrouter ospf 1\n area x default-cost 16777215\nend",
-            3,
-            ReadKind::BadCost,
-        ),
-        (
-            b"hostname R1\nrouter ospf 1\n area 1 range 10.0.0.0 255.0.0.0 cost 1 advertise\nend",
-            3,
+            b"interface E0\n ip address dhcp\nend",
+            2,
             ReadKind::Unsupported,
         ),
         (
-            b"hostname R1\nrouter ospf 1\n distance 115\nend",
-            3,
+            b"interface Loopback0\n ip address 10.0.0.1 255.0.0.0\nend",
+            2,
+            ReadKind::LoopbackMask,
+        ),
+        (b"router isis\n metric-style wide\nend", 1, ReadKind::BadNet),
+        (
+            b"interface E0\n isis metric 0 level-3\nend",
+            2,
+            ReadKind::BadLevel,
+        ),
+        (b"interface E0\n isis metric 0\nend", 2, ReadKind::BadMetric),
+        (
+            b"router ospf 1\n distance 256\nend",
+            2,
+            ReadKind::BadDistance,
+        ),
+        (
+            b"router ospf 1\n distance 115\nend",
+            2,
             ReadKind::DistanceClash,
         ),
         (
-            b"hostname R1\nrouter ospf 1\n distance 256\nend",
-            3,
-            ReadKind::BadDistance,
-        ),
-        (
-            b"hostname R1\nrouter isis\n metric-style wide\nend",
-            2,
-            ReadKind::BadNet,
-        ),
-        (
-            b"hostname R1\nrouter isis\n metric-style wide\n net 49.0001.0000.0000.0001.01\nend",
-            4,
-            ReadKind::BadNet,
-        ),
-        (
-            b"hostname R1\nrouter isis\n net 49.0001.0000.0000.0001.00\n distance 110\nend",
-            2,
-            ReadKind::Unsupported,
-        ),
-        (
-            b"hostname R1\nrouter isis\n net 49.0001.0000.0000.0001.00\n metric-style wide\n distance 110\nend",
-            5,
-            ReadKind::BadDistance,
+            b"interface Tunnel0\n ip address 10.0.0.1 255.0.0.0\n ip ospf 1 area 0\nend",
+            1,
+            ReadKind::NoBandwidth,
         ),
     ];
     for (text, line, kind) in rows.iter() {

@@ -1,4 +1,4 @@
-use Rattle.std.proofs.Common.{◌≡◌, ℕ, List, nat_eq, sym, ap, subst, ◌∙◌}
+use Rattle.std.proofs.Common.{ℕ, List, nat_eq, sym, ap, subst, ◌∙◌}
 use Rattle.ios_reader.specs.Routers.{is_same_area}
 use Rattle.ios_reader.specs.Tables.{values_in, AreKeyed, stub_key}
 use Rattle.ios_reader.specs.declared.ospf_line.StubLine.{StubLine}

@@ -1,4 +1,4 @@
-use Rattle.std.proofs.Common.{◌≡◌, ◌<◌, Bool, ◌&&◌, ◌||◌, Option, length, take, sym, ap, ◌∙◌}
+use Rattle.std.proofs.Common.{◌<◌, Bool, ◌&&◌, ◌||◌, Option, length, take, sym, ap, ◌∙◌}
 use Rattle.std.specs.List.{list_any}
 use Rattle.ios_reader.specs.Gathering.{lesser_fault, least_fault}
 use Rattle.ios_reader.specs.Faults.{faults_if, is_net, second_titles}

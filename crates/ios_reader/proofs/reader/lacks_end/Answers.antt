@@ -1,4 +1,4 @@
-use Rattle.std.proofs.Common.{◌≡◌, ◌<◌, Bool, false, ◌||◌, length, sym, ap, ◌∙◌, cond}
+use Rattle.std.proofs.Common.{◌<◌, Bool, false, ◌||◌, length, sym, ap, ◌∙◌, cond}
 use Rattle.ios_reader.specs.TextLines.{is_end, begins_configuration}
 use Rattle.ios_reader.proofs.PartFacts.{open_more, flag_more}
 use Rattle.ios_reader.proofs.reader.lacks_end.Goals as goal
