@@ -1,0 +1,46 @@
+ghost use Rattle.std.specs.Prelude.{◌≡◌, ◌↔◌, ℕ, Some, Contains, IfOk, OnOk};
+ghost use Rattle.std.specs.List.{Any};
+ghost use Rattle.net_model.specs.Network.{InArea};
+ghost use Rattle.ospf_routes.specs.Areas.{RunsArea};
+ghost use Rattle.ospf_routes.specs.Lists.{Adds};
+
+use net_model::{Interface, Net};
+use std::alloc::{AllocError, Global};
+
+/// The areas that the routers of a network are in, each once.
+pub fn areas_of(alloc: Global, net: &Net) -> Result<Vec<u32>, AllocError>
+    ensures { IfOk result (λ areas. (n : ℕ) → Contains areas.items n ↔ ((u : ℕ) × InArea net.now u n)) }
+{
+    let mut areas = Vec::new(alloc);
+    for u in 0..net.routers() {
+        add_areas(&mut areas, net.config(u).interfaces.as_slice())?;
+    }
+    Ok(areas)
+}
+
+/// Adds the areas in which the interfaces run.
+fn add_areas(areas: &mut Vec<u32>, interfaces: &[Interface]) -> Result<(), AllocError>
+    ensures { OnOk result (Adds areas.old.items areas.new.items (λ n. Any (RunsArea n) interfaces.now)) }
+{
+    for interface in interfaces {
+        add_area(areas, area_of(interface))?;
+    }
+    Ok(())
+}
+
+/// Adds an area, unless there is none or it is there.
+fn add_area(areas: &mut Vec<u32>, area: Option<u32>) -> Result<(), AllocError>
+    ensures { OnOk result (Adds areas.old.items areas.new.items (λ n. area ≡ Some n)) }
+{
+    match area {
+        Some(number) if !areas.contains(&number) => Ok(areas.push(number)?),
+        _ => Ok(()),
+    }
+}
+
+/// The area in which an interface runs.
+fn area_of(interface: &Interface) -> Option<u32>
+    ensures { (n : ℕ) → (result ≡ Some n) ↔ RunsArea n interface.now }
+{
+    if interface.up { interface.area } else { None }
+}
