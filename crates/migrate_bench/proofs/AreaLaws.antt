@@ -1,6 +1,9 @@
 -- The areas that routers are in, one more interface and one more router at a time.
-use Rattle.std.proofs.Common.{◌≡◌, ℕ, ◌+◌, ◌<◌, ◌≤◌, ◌↔◌, ◌⊎◌, inl, inr, ⊎_elim, List, [], ◌∷◌, ◌++◌, length, take, get_or, Option, Some, sym, ap, subst, ◌∙◌, arith}
-use Rattle.std.specs.List.{Contains, Any}
+use Rattle.std.proofs.Common.{◌≡◌, ℕ, ◌+◌, ◌<◌, ◌≤◌, ◌↔◌, ◌⊎◌, inl, inr, ⊎_elim, List, [], ◌∷◌, ◌++◌, length, take, get_or, Option, Some, false, ◌||◌, nat_eq, refl, sym, ap, subst, ◌∙◌, arith}
+use Rattle.std.specs.Cmp.{nat_eq_equiv}
+use Rattle.std.specs.List.{Contains, Any, IsDistinct, list_any}
+use Rattle.std.proofs.lemmas.Option.{same_Some}
+use Rattle.std.proofs.lemmas.Map.Keys.{IsDistinct-push}
 use Rattle.std.proofs.lemmas.Bool.{cases_lt}
 use Rattle.std.proofs.lemmas.List.{take_more, take_all}
 use Rattle.std.proofs.lemmas.List.Elements.{Contains-append_left, Contains-push_cases}
@@ -79,6 +82,25 @@ inside_is net u n config given router are = (
       (subst (λ (l : List Interface). Contains l inside.interface) (sym are) (UpInterface-among net u config inside.interface router inside.up))
       (record { up = inside.up.up; area = inside.area }),
 )
+
+-- the area that there is was added
+pub added_some : (old new : List ℕ) (area : Option ℕ) (number : ℕ) → area ≡ Some number → Adds old new (λ n. number ≡ n) → Adds old new (λ n. area ≡ Some n)
+added_some old new area number is adds n = (
+  λ has. ⊎_elim (λ older. inl older) (λ same. inr (is ∙ ap (λ (m : ℕ). Some m) same)) ((adds n).0 has),
+  λ either. (adds n).1 (⊎_elim (λ older. inl older) (λ same. inr (same_Some number n (sym is ∙ same))) either),
+)
+
+-- a test of the elements against one more is a test of it against them
+any_flip : (areas : List ℕ) (n : ℕ) → list_any (nat_eq n) areas ≡ list_any (λ m. nat_eq m n) areas
+any_flip [] n = refl
+any_flip (m ∷ areas) n =
+    let first = nat_eq_equiv.symm n m in
+    let others = any_flip areas n in
+    ap (λ b. b || list_any (nat_eq n) areas) first ∙ ap (λ b. nat_eq m n || b) others
+
+-- an area that isn't there yet keeps areas distinct
+pub distinct_more : (areas : List ℕ) (n : ℕ) → IsDistinct nat_eq areas → list_any (λ m. nat_eq m n) areas ≡ false → IsDistinct nat_eq (areas ++ n ∷ [])
+distinct_more areas n distinct lacks = IsDistinct-push nat_eq_equiv areas n distinct (any_flip areas n ∙ lacks)
 
 -- Areas of routers
 

@@ -2,7 +2,6 @@
 use Rattle.std.proofs.Common.{◌≡◌, ℕ, zero, suc, ◌+◌, ◌<◌, ◌≤◌, List, [], ◌∷◌, ◌++◌, All, length, map, take, get_or, Option, Some, None, refl, sym, ap, ◌∙◌, subst, arith}
 use Rattle.std.specs.Prelude.{IfSome}
 use Rattle.std.proofs.lemmas.List.{length-take, take_all, take_more, map-append}
-use Rattle.std.specs.List.{slice_get}
 use Rattle.std.proofs.lemmas.Option.{slice_get_read}
 use Rattle.ios_reader.specs.Texts.{ReadsText, Refuses}
 use Rattle.ios_reader.specs.declared.refusal.ReadRefusal.{ReadRefusal}
@@ -11,7 +10,6 @@ use Rattle.net_model.specs.Configuration.{Configuration}
 use Rattle.migrate_bench.specs.Texts.{IsShort, IsTextOf, AreTexts}
 use Rattle.migrate_bench.specs.Readings.{ReadsTexts, IsFirstRefused, IsReading, IsPlacedWithin, IsRefusedAt}
 use Rattle.migrate_bench.specs.declared.configurations.Reading.{Reading}
-use Rattle.migrate_bench.specs.declared.configurations.Reading.TheVariants.{Refused}
 use Rattle.migrate_bench.specs.Readings.ReadsTexts.{more}
 
 -- what is read of a file is all of it where it is shorter than what was asked for

@@ -1,4 +1,4 @@
-use Rattle.std.proofs.Common.{◌≡◌, ◌+◌, ◌++◌, [], List, ℕ, length, take, Some, sym, subst, refl, arith}
+use Rattle.std.proofs.Common.{◌≡◌, ◌+◌, ◌++◌, [], List, ℕ, take, sym, subst, arith}
 use Rattle.ios_reader.specs.Texts.{ReadsText, Refuses}
 use Rattle.net_model.specs.Configuration.{Configuration}
 use Rattle.migrate_bench.specs.Readings.{ReadsTexts}
