@@ -1,3 +1,6 @@
 pub mod Shapes
 pub mod Rows
 pub mod Tasks
+pub mod Texts
+pub mod Readings
+pub mod Entries

@@ -4,18 +4,27 @@
 //! - `migrate_bench walks SIZE`: the least walks from every root of a ring and of a grid of SIZE routers.
 //! - `migrate_bench search SIZE BUDGET`: the search for an order of SIZE routers of which only the
 //!   descending one is good, with at most BUDGET branches.
+//! - `migrate_bench read FILE...`: the reading of the configurations of these files.
+//! - `migrate_bench tables FILE...`: the route tables of both protocols of the network of these files, and
+//!   the least walks that they take.
 #![tactic(auto)]
 
+mod areas;
+mod configurations;
+mod entries;
 mod mesh;
+mod reading;
 mod searches;
 mod seconds;
 mod shape;
+mod tables;
 mod task;
+mod texts;
 mod walks;
 
 use anyhow::Result;
 use std::env;
-use std::rt::{Clock, Env};
+use std::rt::{Clock, Env, Files};
 use task::Task;
 
 fn main(rt: HostRuntime) -> Result<()> {
@@ -23,11 +32,13 @@ fn main(rt: HostRuntime) -> Result<()> {
 }
 
 /// Does the task that the arguments name.
-fn run(rt: &(impl AllocGlobal + Clock + Env + Eprint + Print)) -> Result<()> {
+fn run(rt: &(impl AllocGlobal + Clock + Env + Eprint + Files + Print)) -> Result<()> {
     let mut words = env::args(rt)?;
     let _program = words.next();
-    match Task::read(words)? {
+    match Task::read(rt.alloc(), words)? {
         Task::Walks { size } => walks::measure(rt, size),
         Task::Search { size, budget } => searches::measure(rt, size, budget),
+        Task::Read { files } => reading::measure(rt, files.as_slice()),
+        Task::Tables { files } => tables::measure(rt, files.as_slice()),
     }
 }

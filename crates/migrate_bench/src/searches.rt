@@ -20,7 +20,7 @@ pub fn measure(
     let mut oracle = Descending::new(size);
     let start = Instant::now(rt)?;
     let found = search(rt.alloc(), &mut oracle, budget)?;
-    print_seconds(rt, "search", size, start)?;
+    print_seconds(rt, "search", u64::from(size), start)?;
     report(rt, &found)
 }
 

@@ -1,9 +1,11 @@
-ghost use Rattle.std.specs.Prelude.{◌≡◌, ◌≤◌, IfOk};
+ghost use Rattle.std.specs.Prelude.{◌≡◌, ◌≤◌, IfOk, vec_len};
 
 use anyhow::{Context, Result, bail, ensure};
+use std::alloc::Global;
 use std::env::Args;
 
-const USAGE: &str = "usage: migrate_bench walks SIZE | search SIZE BUDGET";
+const USAGE: &str =
+    "usage: migrate_bench walks SIZE | search SIZE BUDGET | read FILE... | tables FILE...";
 
 /// What is to be measured.
 #[derive(Drop)]
@@ -12,13 +14,17 @@ pub enum Task {
     Walks { size: u32 },
     /// The search for an order of so many routers, with so many branches at most.
     Search { size: u32, budget: u32 },
+    /// The reading of the configurations of files.
+    Read { files: Vec<String> },
+    /// The route tables of the network of files.
+    Tables { files: Vec<String> },
 }
 
 impl Task {
     ghost use Rattle.migrate_bench.specs.Tasks.{IsFeasible};
 
     /// Reads the name of a task, and then what it takes.
-    pub fn read(mut words: Args) -> Result<Task>
+    pub fn read(alloc: Global, mut words: Args) -> Result<Task>
         ensures { IfOk result IsFeasible }
     {
         let name = words.next().context(USAGE)?;
@@ -29,6 +35,12 @@ impl Task {
             "search" => Task::Search {
                 size: read_count(&mut words, 1000)?,
                 budget: read_count(&mut words, u32::MAX)?,
+            },
+            "read" => Task::Read {
+                files: read_files(alloc, &mut words)?,
+            },
+            "tables" => Task::Tables {
+                files: read_files(alloc, &mut words)?,
             },
             _ => bail!(USAGE),
         };
@@ -49,4 +61,16 @@ fn read_count(words: &mut Args, most: u32) -> Result<u32>
         "{count} isn't from 1 to {most}"
     );
     Ok(count)
+}
+
+/// Reads the names of files, at least one, from the rest of the words.
+fn read_files(alloc: Global, words: &mut Args) -> Result<Vec<String>>
+    ensures { IfOk result (λ files. 1 ≤ vec_len files) }
+{
+    let mut files = Vec::new(alloc);
+    for word in words {
+        files.push(word)?;
+    }
+    ensure!(!files.is_empty(), USAGE);
+    Ok(files)
 }

@@ -27,7 +27,7 @@ fn report(rt: &(impl AllocGlobal + Clock + Eprint + Print), name: &str, mesh: &M
         distances = distances.saturating_add(sum_of_distances(&walks, mesh.vertices()));
     }
     println!(rt; "{name} of {}: distances {distances}", mesh.vertices())?;
-    print_seconds(rt, name, mesh.vertices(), start)
+    print_seconds(rt, name, u64::from(mesh.vertices()), start)
 }
 
 /// The sum of the distances of all vertices from the root.
