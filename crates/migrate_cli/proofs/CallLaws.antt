@@ -1,8 +1,8 @@
--- Over files that tell their contents a call has one answer besides a fault of reading.
-use Rattle.std.proofs.Common.{◌≡◌, ◌≢◌, ℕ, ◌<◌, ◌≤◌, List, [], ◌∷◌, ◌++◌, length, refl, sym, subst, ◌∙◌, arith}
+-- Where its files are told a call has one answer besides a fault of reading.
+use Rattle.std.proofs.Common.{◌≡◌, ◌≢◌, ℕ, ◌<◌, ◌≤◌, List, [], ◌∷◌, ◌++◌, length, All, refl, sym, subst, ◌∙◌, arith}
 use Rattle.std.specs.Prelude.{codes, decimal}
 use Rattle.migration_report.specs.Words.{line}
-use Rattle.migrate_cli.specs.AnswerLaws.{TellsAll}
+use Rattle.migrate_cli.specs.AnswerLaws.{IsTold, AreTold}
 use Rattle.migrate_cli.specs.Answers.{IsAnswer}
 use Rattle.migrate_cli.specs.Answers.IsAnswer.{other_words, many_files, read_fault, long_file, long_files, judged}
 use Rattle.migrate_cli.specs.CommandWords.{IsCheck}
@@ -32,20 +32,21 @@ data OfFiles (content : Contents) (order : List ℕ) (files : List (List ℕ)) :
 few_or_many : (files : List (List ℕ)) → 200 < length files → length files ≤ 200 → ⊥
 few_or_many files many few = omega (arith, many, few)
 
-module _ (content : Contents) (tells : TellsAll content) (order : List ℕ) (files : List (List ℕ)) where
+module _ (content : Contents) (order : List ℕ) (files : List (List ℕ)) (tell : All (IsTold content) (order ∷ files)) where
   same_stop : {p q : List (List ℕ)} {s z : Status} {t w : List ℕ} (b c : List (List ℕ)) (n m : List ℕ) (ts ss : List (List ℕ)) (x y : List ℕ)
       → p ≡ b ++ n ∷ [] → q ≡ c ++ m ∷ [] → StopsAfter content (order ∷ files) b n ts x → StopsAfter content (order ∷ files) c m ss y
       → IsBrokenSo n ts x s t → IsBrokenSo m ss y z w → SameAnswer p s t q z w
   same_stop b c n m ts ss x y asked also one other here there =
-      let place = same_place content tells (order ∷ files) b c n m ts ss x y one other in
-      let answer = same_limit content tells (order ∷ files) b c n m ts ss x y one other here there in
+      let place = same_place content (order ∷ files) tell b c n m ts ss x y one other in
+      let answer = same_limit content (order ∷ files) tell b c n m ts ss x y one other here there in
       let names : b ++ n ∷ [] ≡ c ++ m ∷ [] = λ i. place.0 i ++ place.1 i ∷ [] in
       (asked ∙ names ∙ sym also, answer.0, answer.1)
 
   stop_or_all : (before : List (List ℕ)) (name : List ℕ) (texts : List (List ℕ)) (text : List ℕ) (all : List (List ℕ))
       → StopsAfter content (order ∷ files) before name texts text → AreRead content (order ∷ files) all → AreWithin all → ⊥
   stop_or_all before name texts text all stop read within =
-      none_past content tells (order ∷ files) before name texts text stop.after all stop (subst (λ names. AreRead content names all) stop.names_are read) within
+      none_past content (order ∷ files) before name texts text stop.after all stop (subst (All (IsTold content)) stop.names_are tell)
+      (subst (λ names. AreRead content names all) stop.names_are read) within
 
   same_verdict : {s z : Status} {t w : List ℕ} (x y : List ℕ) (ts ss : List (List ℕ)) → x ∷ ts ≡ y ∷ ss → IsVerdict order files x ts s t → IsVerdict order files y ss z w
       → AreSame s t z w
@@ -65,7 +66,7 @@ module _ (content : Contents) (tells : TellsAll content) (order : List ℕ) (fil
   one_of_files (all_read _ _ few _ _ _) (above many) = absurd (few_or_many files many few)
   one_of_files (all_read y ss _ read within _) (stopped b n ts x _ _ stop _) = absurd (stop_or_all b n ts x (y ∷ ss) stop read within)
   one_of_files (all_read x ts _ one _ verdict) (all_read y ss _ other _ judgement) =
-      let texts : x ∷ ts ≡ y ∷ ss = one_list content tells (order ∷ files) (x ∷ ts) (y ∷ ss) one other in
+      let texts : x ∷ ts ≡ y ∷ ss = one_list content (order ∷ files) (x ∷ ts) (y ∷ ss) tell one other in
       let answer = same_verdict x y ts ss texts verdict judgement in
       (refl, answer.0, answer.1)
 
@@ -110,17 +111,17 @@ one_check words o p fs gs a b =
     let rest : o ∷ fs ≡ p ∷ gs = cc same in
     (cc rest, cc rest)
 
-one_of_words : (content : Contents) (words : List (List ℕ)) {p q : List (List ℕ)} {s z : Status} {t w : List ℕ} → TellsAll content → OfWords content words p s t
+one_of_words : (content : Contents) (words : List (List ℕ)) {p q : List (List ℕ)} {s z : Status} {t w : List ℕ} → AreTold content words → OfWords content words p s t
     → OfWords content words q z w → SameAnswer p s t q z w
 one_of_words content words tells (no_check _) (no_check _) = (refl, refl, refl)
 one_of_words content words tells (no_check none) (a_check order files check _) = absurd (none order files check)
 one_of_words content words tells (a_check order files check _) (no_check none) = absurd (none order files check)
 one_of_words content words {q = q} {z = z} {w = w} tells (a_check o fs check one) (a_check p gs again other) =
     let same = one_check words o p fs gs check again in
-    one_of_files content tells o fs one
+    one_of_files content o fs (tells o fs check) one
     (subst (λ order. OfFiles content order fs q z w) (sym same.0) (subst (λ files. OfFiles content p files q z w) (sym same.1) other))
 
 -- a call has one answer
-pub one_answer : (content : Contents) (words p q : List (List ℕ)) (s z : Status) (t w : List ℕ) → TellsAll content → s ≢ ReadFault → z ≢ ReadFault
+pub one_answer : (content : Contents) (words p q : List (List ℕ)) (s z : Status) (t w : List ℕ) → AreTold content words → s ≢ ReadFault → z ≢ ReadFault
     → IsAnswer content words p s t → IsAnswer content words q z w → SameAnswer p s t q z w
 one_answer content words p q s z t w tells read again one other = one_of_words content words tells (steps_of read one) (steps_of again other)

@@ -1,10 +1,10 @@
--- Over files that tell their contents reading stops at one file, or at none.
+-- Where files are told reading stops at one of them, or at none.
 use Rattle.std.proofs.Common.{◌≡◌, ℕ, ◌<◌, ◌≤◌, List, [], ◌∷◌, ◌++◌, Option, Some, None, IsSome, IfSome, length, take, All, refl, sym, ap, subst, ◌∙◌, arith}
 use Rattle.std.specs.Prelude.{codes, decimal}
 use Rattle.std.proofs.lemmas.List.Elements.{All-head, All-tail, All-cons, All-contains, Contains-append_right}
 use Rattle.net_model.proofs.Members.{Contains-first}
 use Rattle.migration_report.specs.Words.{line}
-use Rattle.migrate_cli.specs.AnswerLaws.{TellsAll}
+use Rattle.migrate_cli.specs.AnswerLaws.{IsTold}
 use Rattle.migrate_cli.specs.Reading.{Contents, IsReadOf, AreRead, total_of, total_of_configs, IsShort, AreWithin}
 use Rattle.migrate_cli.specs.Stops.{IsFrontOf}
 use Rattle.migrate_cli.specs.declared.status.Status.{Status}
@@ -94,61 +94,78 @@ one_limit name texts text (too_many _ short _) (too_long above) = absurd (short_
 one_limit name texts text (too_many n _ is) (too_many m _ also) =
     (refl, ap (λ number. line (codes "limit") (codes "total" ∷ decimal number ∷ [])) (is ∙ sym also))
 
-module _ (content : Contents) (tells : TellsAll content) where
-  -- one text is read of a file
-  one_text : (name t s : List ℕ) → IsReadOf content name t → IsReadOf content name s → t ≡ s
-  one_text name t s a b = told (content name) t s (tells name) a.told b.told
+module _ (content : Contents) where
+  -- one text is read of a file that is told
+  one_text : (name t s : List ℕ) → IsTold content name → IsReadOf content name t → IsReadOf content name s → t ≡ s
+  one_text name t s tells a b = told (content name) t s tells a.told b.told
 
   -- and of several files one list of texts
-  pub one_list : (names ts ss : List (List ℕ)) → AreRead content names ts → AreRead content names ss → ts ≡ ss
-  one_list [] [] [] a b = refl
-  one_list [] [] (s ∷ ss) a b = absurd b
-  one_list [] (t ∷ ts) ss a b = absurd a
-  one_list (n ∷ names) [] ss a b = absurd a
-  one_list (n ∷ names) (t ∷ ts) [] a b = absurd b
-  one_list (n ∷ names) (t ∷ ts) (s ∷ ss) a b =
-      let first : t ≡ s = one_text n t s a.0 b.0 in
-      let rest : ts ≡ ss = one_list names ts ss a.1 b.1 in
+  pub one_list : (names ts ss : List (List ℕ)) → All (IsTold content) names → AreRead content names ts → AreRead content names ss → ts ≡ ss
+  one_list [] [] [] tell a b = refl
+  one_list [] [] (s ∷ ss) tell a b = absurd b
+  one_list [] (t ∷ ts) ss tell a b = absurd a
+  one_list (n ∷ names) [] ss tell a b = absurd a
+  one_list (n ∷ names) (t ∷ ts) [] tell a b = absurd b
+  one_list (n ∷ names) (t ∷ ts) (s ∷ ss) tell a b =
+      let first : t ≡ s = one_text n t s (All-head (IsTold content) n names tell) a.0 b.0 in
+      let rest : ts ≡ ss = one_list names ts ss (All-tail (IsTold content) n names tell) a.1 b.1 in
       λ i. first i ∷ rest i
 
   -- what is read of the first files stands first in what is read of all
-  front_read : (before : List (List ℕ)) (name : List ℕ) (rest texts : List (List ℕ)) (text : List ℕ) (all : List (List ℕ)) → AreRead content before texts
-      → IsReadOf content name text → AreRead content (before ++ name ∷ rest) all → IsFrontOf all (texts ++ text ∷ [])
-  front_read [] name rest [] text [] a next b = absurd b
-  front_read [] name rest [] text (t ∷ all) a next b =
-      let first : t ≡ text = one_text name t text b.0 next in
+  front_read : (before : List (List ℕ)) (name : List ℕ) (rest texts : List (List ℕ)) (text : List ℕ) (all : List (List ℕ))
+      → All (IsTold content) (before ++ name ∷ rest) → AreRead content before texts → IsReadOf content name text → AreRead content (before ++ name ∷ rest) all
+      → IsFrontOf all (texts ++ text ∷ [])
+  front_read [] name rest [] text [] tell a next b = absurd b
+  front_read [] name rest [] text (t ∷ all) tell a next b =
+      let first : t ≡ text = one_text name t text (All-head (IsTold content) name rest tell) b.0 next in
       record { rest = all; names_are = ap (λ some. some ∷ all) first }
-  front_read [] name rest (t ∷ texts) text all a next b = absurd a
-  front_read (n ∷ before) name rest [] text all a next b = absurd a
-  front_read (n ∷ before) name rest (s ∷ texts) text [] a next b = absurd b
-  front_read (n ∷ before) name rest (s ∷ texts) text (t ∷ all) a next b =
-      let front = front_read before name rest texts text all a.1 next b.1 in
-      let first : t ≡ s = one_text n t s b.0 a.0 in
+  front_read [] name rest (t ∷ texts) text all tell a next b = absurd a
+  front_read (n ∷ before) name rest [] text all tell a next b = absurd a
+  front_read (n ∷ before) name rest (s ∷ texts) text [] tell a next b = absurd b
+  front_read (n ∷ before) name rest (s ∷ texts) text (t ∷ all) tell a next b =
+      let front = front_read before name rest texts text all (All-tail (IsTold content) n (before ++ name ∷ rest) tell) a.1 next b.1 in
+      let first : t ≡ s = one_text n t s (All-head (IsTold content) n (before ++ name ∷ rest) tell) b.0 a.0 in
       let names_are = front.names_are in
       record { rest = front.rest; names_are = λ i. first i ∷ names_are i }
 
   -- nothing is read within the limits past the file that breaks one
   pub none_past : (names before : List (List ℕ)) (name : List ℕ) (texts : List (List ℕ)) (text : List ℕ) (rest all : List (List ℕ))
-      → StopsAfter content names before name texts text → AreRead content (before ++ name ∷ rest) all → AreWithin all → ⊥
-  none_past names before name texts text rest all stop read within =
-      let front = front_read before name rest texts text all stop.read stop.next read in
+      → StopsAfter content names before name texts text → All (IsTold content) (before ++ name ∷ rest) → AreRead content (before ++ name ∷ rest) all → AreWithin all → ⊥
+  none_past names before name texts text rest all stop tell read within =
+      let front = front_read before name rest texts text all tell stop.read stop.next read in
       stop.broken (within_front (texts ++ text ∷ []) front.rest (subst AreWithin front.names_are within))
 
-  module _ (names b c : List (List ℕ)) (n m : List ℕ) (ts ss : List (List ℕ)) (t s : List ℕ) (one : StopsAfter content names b n ts t) (other : StopsAfter content names c m ss s) where
+  -- the files up to the one at which reading stops are told
+  told_before : (names before : List (List ℕ)) (name : List ℕ) (texts : List (List ℕ)) (text : List ℕ) → StopsAfter content names before name texts text
+      → All (IsTold content) names → All (IsTold content) before
+  told_before names before name texts text stop tell =
+      All-front (IsTold content) before (name ∷ stop.after) (subst (All (IsTold content)) stop.names_are tell)
+
+  told_there : (names before : List (List ℕ)) (name : List ℕ) (texts : List (List ℕ)) (text : List ℕ) → StopsAfter content names before name texts text
+      → All (IsTold content) names → IsTold content name
+  told_there names before name texts text stop tell =
+      All-contains (IsTold content) (before ++ name ∷ stop.after) name (subst (All (IsTold content)) stop.names_are tell)
+      (Contains-append_right before (name ∷ stop.after) name (Contains-first name stop.after))
+
+  module _ (names : List (List ℕ)) (tell : All (IsTold content) names) (b c : List (List ℕ)) (n m : List ℕ) (ts ss : List (List ℕ)) (t s : List ℕ) (one : StopsAfter content names b n ts t) (other : StopsAfter content names c m ss s) where
     -- reading stops at one file
     pub same_place : (b ≡ c) × (n ≡ m)
     same_place =
         elim (fronts b c n m one.after other.after (sym one.names_are ∙ other.names_are)) [
           | same d e ↦ (d, e)
-          | first rest d ↦ absurd (none_past names b n ts t rest ss one (subst (λ some. AreRead content some ss) d other.read) other.within)
-          | second rest d ↦ absurd (none_past names c m ss s rest ts other (subst (λ some. AreRead content some ts) d one.read) one.within)
+          | first rest d ↦ absurd (none_past names b n ts t rest ss one
+              (subst (All (IsTold content)) d (told_before names c m ss s other tell))
+              (subst (λ some. AreRead content some ss) d other.read) other.within)
+          | second rest d ↦ absurd (none_past names c m ss s rest ts other
+              (subst (All (IsTold content)) d (told_before names b n ts t one tell))
+              (subst (λ some. AreRead content some ts) d one.read) one.within)
         ]
 
     same_texts : ts ≡ ss
-    same_texts = one_list b ts ss one.read (subst (λ some. AreRead content some ss) (sym same_place.0) other.read)
+    same_texts = one_list b ts ss (told_before names b n ts t one tell) one.read (subst (λ some. AreRead content some ss) (sym same_place.0) other.read)
 
     same_next : t ≡ s
-    same_next = one_text n t s one.next (subst (λ some. IsReadOf content some s) (sym same_place.1) other.next)
+    same_next = one_text n t s (told_there names b n ts t one tell) one.next (subst (λ some. IsReadOf content some s) (sym same_place.1) other.next)
 
     -- and for one reason
     pub same_limit : {status z : Status} {answer w : List ℕ} → IsBrokenSo n ts t status answer → IsBrokenSo m ss s z w → AreSame status answer z w
