@@ -8,3 +8,8 @@ mod VerdictFacts
 mod AnswerFacts
 mod FaultFacts
 mod OrderFacts
+mod OrderFileLaws
+mod TextLaws
+mod VerdictLaws
+mod StopLaws
+mod CallLaws

@@ -7,4 +7,5 @@ pub mod Unread
 pub mod AnswerTexts
 pub mod Verdicts
 pub mod Answers
+pub mod AnswerLaws
 pub mod Faults

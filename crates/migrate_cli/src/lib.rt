@@ -6,6 +6,7 @@ mod calls;
 mod command;
 mod configurations;
 mod judging;
+mod laws;
 mod names;
 mod reading;
 mod sending;
@@ -13,6 +14,7 @@ mod status;
 mod verdict;
 
 pub use calls::run;
+pub use laws::one_answer;
 pub use status::Status;
 pub use std::alloc::AllocError as OutOfMemory;
 
