@@ -1,8 +1,9 @@
 mod networks;
+mod rows;
 
 use crate::{Status, run};
 use net_addr::{Bytes, Name};
-use networks::{BORDER_1, BORDER_2, BORDER_3, BORDER_4, TRIANGLE_1, TRIANGLE_2, TRIANGLE_3};
+use networks::TRIANGLE;
 use std::alloc::{AllocError, Global};
 use std::process::Abort;
 use std::test::Fail;
@@ -85,47 +86,13 @@ fn check(
 
 const IN_ORDER: &[u8] = b"order 1\nR1\nR2\nR3\n";
 
-const OUT_OF_ORDER: &[u8] = b"order 1\nR2\nR1\nR3\n";
-
-#[test]
-fn an_order_of_three_routers_is_safe_or_loops(rt: HostRuntime) -> Result<(), Fail> {
-    let mut files = [
-        ("o.txt", IN_ORDER),
-        ("r1.cfg", TRIANGLE_1),
-        ("r2.cfg", TRIANGLE_2),
-        ("r3.cfg", TRIANGLE_3),
-    ];
-    check(&rt, &files, 0, 9, (Status::Done, "safe 6\n"))?;
-    files[0].1 = OUT_OF_ORDER;
-    let loops = "unsafe 2 10.0.0.3 loop R1 R2\n";
-    check(&rt, &files, 0, 9, (Status::Negative, loops))?;
-    files[3].1 = TRIANGLE_1;
-    let twice = "refused network TwoNames R1\n";
-    check(&rt, &files, 0, 9, (Status::Refused, twice))
-}
-
-#[test]
-fn a_summary_decides_between_areas(rt: HostRuntime) -> Result<(), Fail> {
-    let mut files = [
-        ("o.txt", b"order 1\nR1\nR2\nR4\nR3\n".as_slice()),
-        ("r1.cfg", BORDER_1),
-        ("r2.cfg", BORDER_2),
-        ("r3.cfg", BORDER_3),
-        ("r4.cfg", BORDER_4),
-    ];
-    check(&rt, &files, 0, 9, (Status::Done, "safe 8\n"))?;
-    files[0].1 = b"order 1\nR1\nR2\nR3\nR4\n";
-    let loops = "unsafe 6 10.1.2.0 loop R3 R4\n";
-    check(&rt, &files, 0, 9, (Status::Negative, loops))
-}
-
 #[test]
 fn faults_of_files_and_of_the_sink_are_answers(rt: HostRuntime) -> Result<(), Fail> {
     let files = [
         ("o.txt", IN_ORDER),
-        ("r1.cfg", TRIANGLE_1),
-        ("r2.cfg", TRIANGLE_2),
-        ("r3.cfg", TRIANGLE_3),
+        ("r1.cfg", TRIANGLE[0].as_bytes()),
+        ("r2.cfg", TRIANGLE[1].as_bytes()),
+        ("r3.cfg", TRIANGLE[2].as_bytes()),
     ];
     for (failing, text) in [
         (1, "read fault o.txt\n"),
