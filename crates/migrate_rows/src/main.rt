@@ -1,0 +1,46 @@
+//! Answers the calls of the file `calls.txt`, one a line, on the files that lie beside it, held in memory. What is
+//! printed reads as a session at a terminal: each call, the line that it writes, and its code.
+#![tactic(auto)]
+
+use anyhow::Result;
+use migrate_cli::{Status, run};
+use net_addr::{Bytes, Name};
+use std::rt::Files;
+use std::{fs, io};
+use store_edge::{Calls, FileList, MemoryFiles, RealSink};
+
+fn main(rt: HostRuntime) -> Result<()> {
+    let calls = fs::read_to_string(&rt, "calls.txt")?;
+    for call in calls.as_str().lines() {
+        println!(rt; "$ migrate {call}")?;
+        let status = answer(&rt, call)?;
+        println!(rt; "ends with {}", status.code())?;
+    }
+    Ok(())
+}
+
+/// Answers one call, whose words have one blank between them.
+fn answer(rt: &(impl AllocGlobal + Files + Print), call: &str) -> Result<Status> {
+    let alloc = rt.alloc();
+    let mut words = Vec::new(alloc);
+    for word in call.split(' ') {
+        words.push(String::from_str(alloc, word)?)?;
+    }
+    let mut files = held(rt, words.as_slice())?;
+    let mut out = RealSink::new(io::writer(rt));
+    Ok(run(alloc, words.as_slice(), &mut files, &mut out))
+}
+
+/// The files that words name, in memory. A word that names none is left out.
+fn held(rt: &(impl AllocGlobal + Files), words: &[String]) -> Result<MemoryFiles> {
+    let alloc = rt.alloc();
+    let mut all = Vec::new(alloc);
+    for word in words {
+        if let Ok(bytes) = fs::read(rt, word.as_str()) {
+            let name = Vec::from_slice(alloc, word.as_bytes())?;
+            all.push((Name::from_vec(name), Bytes::from_vec(bytes)))?;
+        }
+    }
+    let failing = Calls::from_vec(Vec::new(alloc));
+    Ok(MemoryFiles::new(alloc, FileList::from_vec(all), failing))
+}
