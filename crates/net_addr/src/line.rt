@@ -20,6 +20,7 @@ pub struct Line {
     pub number: u32,
     /// The number of leading blanks.
     pub indent: u32,
+    /// Where the line stands in the text.
     pub span: Span,
 }
 

@@ -5,7 +5,9 @@ use std::marker::Model;
 /// A part of a text, from the byte at `start` up to and without the byte at `stop`.
 #[derive(Clone, Copy, Debug, PartialEq, Eq)]
 pub struct Span {
+    /// The first byte's place, counted from 0.
     pub start: u32,
+    /// The place after the last byte.
     pub stop: u32,
 }
 

@@ -98,25 +98,31 @@ pub record DifferOnStub (net : Network) (u v area : ℕ) : Type 0 where
   pub differ :
       (HasStubLine net u area × (HasStubLine net v area → ⊥)) ⊎ ((HasStubLine net u area → ⊥) × HasStubLine net v area)
 
--- each condition above doesn't hold
+-- no two up interfaces have one address, but for loopbacks of different routers
 abbrev pub AddressesDiffer : Network → Type 0
 AddressesDiffer net = NoneClash (HaveOneAddress net)
 
+-- no subnet is run in two OSPF areas
 abbrev pub AreasAgree : Network → Type 0
 AreasAgree net = NoneClash (RunTwoAreas net)
 
+-- each border router has an up interface in the backbone
 abbrev pub BordersMeetBackbone : Network → Type 0
 BordersMeetBackbone net = (u : ℕ) → LacksBackbone net u → ⊥
 
+-- the sum of all OSPF costs is below the cost that stands for unreachable (RFC 2328, appendix B)
 abbrev pub OspfCostsFit : Network → Type 0
 OspfCostsFit net = ospf_cost_sum net < 16777215
 
+-- the sum of all IS-IS metrics is at most the greatest metric of a path (RFC 5305, section 3)
 abbrev pub IsisMetricsFit : Network → Type 0
 IsisMetricsFit net = isis_metric_sum net ≤ 4261412864
 
+-- no two routers with IS-IS have one system id
 abbrev pub SystemsDiffer : Network → Type 0
 SystemsDiffer net = NoneClash (HaveOneSystem net)
 
+-- the routers of an area agree on whether it is a stub area
 abbrev pub StubsAgree : Network → Type 0
 StubsAgree net = NoneClash (DifferOnStub net)
 
@@ -130,18 +136,22 @@ pub record IsConsistent (net : Network) : Type 0 where
   pub systems : SystemsDiffer net
   pub stubs : StubsAgree net
 
--- the first two conditions don't hold, the first three, and so on
+-- neither an address nor an area refuses the network
 abbrev pub PassesAreas : Network → Type 0
 PassesAreas net = AddressesDiffer net × AreasAgree net
 
+-- nor does a border router
 abbrev pub PassesBorders : Network → Type 0
 PassesBorders net = PassesAreas net × BordersMeetBackbone net
 
+-- nor do the OSPF costs
 abbrev pub PassesOspfCosts : Network → Type 0
 PassesOspfCosts net = PassesBorders net × OspfCostsFit net
 
+-- nor do the IS-IS metrics
 abbrev pub PassesIsisMetrics : Network → Type 0
 PassesIsisMetrics net = PassesOspfCosts net × IsisMetricsFit net
 
+-- nor does a system id
 abbrev pub PassesSystems : Network → Type 0
 PassesSystems net = PassesIsisMetrics net × SystemsDiffer net

@@ -1,4 +1,6 @@
 pub mod Configuration
+pub mod ConfigViews
+pub mod LevelSets
 pub mod Network
 pub mod Limits
 pub mod Least

@@ -12,7 +12,7 @@ pub struct Range {
     pub dest: Prefix,
     /// Whether the range is announced.
     pub advertise: bool,
-    /// The cost that it is announced at, at most 16777214, where the configuration says one.
+    /// The cost that it is announced at, at most `MOST_COST`, where the configuration says one.
     pub cost: Option<u32>,
 }
 
@@ -61,7 +61,7 @@ pub struct Stub {
     pub area: u32,
     /// Whether a border router announces its default route alone into the area.
     pub no_summary: bool,
-    /// The cost of that default route, at most 16777214.
+    /// The cost of that default route, at most `MOST_COST`.
     pub default_cost: u32,
 }
 

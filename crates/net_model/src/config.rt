@@ -15,12 +15,30 @@ pub enum Levels {
     Both,
 }
 
+impl Levels {
+    ghost use Rattle.net_model.specs.LevelSets.{has_one, has_two};
+
+    /// Whether level 1 is among them.
+    pub fn has_one(self) -> bool
+        ensures { result ≡ has_one self }
+    {
+        matches!(self, Levels::One | Levels::Both)
+    }
+
+    /// Whether level 2 is among them.
+    pub fn has_two(self) -> bool
+        ensures { result ≡ has_two self }
+    {
+        matches!(self, Levels::Two | Levels::Both)
+    }
+}
+
 /// The administrative distances of a router's two protocols; at 255 a protocol installs nothing.
 #[derive(Clone, Copy, Debug, PartialEq, Eq)]
 pub struct Distances {
     /// The distance of OSPF, from 1 to 255 and not 115.
     pub ospf: u8,
-    /// The distance of IS-IS, 115 or 255.
+    /// The distance of IS-IS, `ISIS_DISTANCE` or 255.
     pub isis: u8,
 }
 
@@ -57,13 +75,14 @@ pub struct Config {
 }
 
 impl Model for Config {
-    ghost use Rattle.net_model.specs.Configuration.{Configuration, IsConfiguration};
+    ghost use Rattle.net_model.specs.Configuration.{Configuration};
+    ghost use Rattle.net_model.specs.ConfigViews.{IsConfig, config_view};
 
     ghost Value = { Configuration };
 
-    ghost view = { λ c. record { name = c.name; interfaces = c.interfaces; process = c.process; isis = c.isis; tag = c.tag; isis_area = c.isis_area; system = c.system; levels = c.levels; ranges = c.ranges; stubs = c.stubs; rfc1583 = c.rfc1583; distances = c.distances } };
+    ghost view = { config_view };
 
-    ghost invariant = { λ c. IsConfiguration (record { name = c.name; interfaces = c.interfaces; process = c.process; isis = c.isis; tag = c.tag; isis_area = c.isis_area; system = c.system; levels = c.levels; ranges = c.ranges; stubs = c.stubs; rfc1583 = c.rfc1583; distances = c.distances }) };
+    ghost invariant = { IsConfig };
 }
 
 /// Configurations, one for each router, in any order.

@@ -30,15 +30,15 @@ pub fn lower(one: Option<u32>, other: Option<u32>) -> Option<u32>
 fn link_cost(zone: Zone, near: &Interface, fars: &[Interface]) -> Option<u32>
     ensures { BestLink zone (near.now ∷ []) fars.now result }
 {
-    if meets(zone, near, fars) {
-        Some(cost(zone, near))
+    if joins_some(zone, near, fars) {
+        Some(cost_in(zone, near))
     } else {
         None
     }
 }
 
-/// Whether the interface joins one of the others in the zone.
-fn meets(zone: Zone, near: &Interface, fars: &[Interface]) -> bool
+/// Whether an interface makes its router adjacent in the zone to that of the others (RFC 2328, section 16.1; RFC 1195).
+pub fn joins_some(zone: Zone, near: &Interface, fars: &[Interface]) -> bool
     ensures { IsTrue result ↔ Any (Joins zone near.now) fars.now }
 {
     fars.iter().any(|far| joins(zone, near, far))
@@ -80,7 +80,7 @@ fn runs_in(zone: Zone, interface: &Interface) -> bool
 }
 
 /// What it costs to send on an interface, in the zone.
-fn cost(zone: Zone, interface: &Interface) -> u32
+pub fn cost_in(zone: Zone, interface: &Interface) -> u32
     ensures { result ≡ cost_in zone interface.now }
 {
     match zone {

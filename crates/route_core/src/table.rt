@@ -76,37 +76,3 @@ impl Table {
         Some(found.place)
     }
 }
-
-#[cfg(test)]
-mod tests {
-    use super::*;
-    use crate::entry::Hops;
-    use std::test::Fail;
-
-    /// 10.0.0.0/8 by router 1, and 10.1.0.0/16 dropped.
-    fn ten(alloc: Global) -> Result<Entries, Fail>
-        ensures { IfOk result HasDistinctPrefixes }
-    {
-        let short = Prefix::new(0x0a00_0000, 8).ok_or("no prefix")?;
-        let long = Prefix::new(0x0a01_0000, 16).ok_or("no prefix")?;
-        let hops = Hops::from_vec(vec![in alloc; 1u32]?);
-        let mut all = Vec::new(alloc);
-        all.push((short, Entry::Via(hops)))?;
-        all.push((long, Entry::Discard))?;
-        Ok(Entries::from_vec(all))
-    }
-
-    #[test]
-    fn longest_match_wins(rt: HostRuntime) -> Result<(), Fail> {
-        let table = Table::from_entries(rt.alloc(), ten(rt.alloc())?)?;
-        let rows = [
-            (0x0a01_0203u32, Some(1usize)),
-            (0x0a02_0000, Some(0)),
-            (0x0b00_0000, None),
-        ];
-        for (a, place) in rows {
-            assert_eq!(rt; table.longest(a), place, "address {a:#x}");
-        }
-        Ok(())
-    }
-}

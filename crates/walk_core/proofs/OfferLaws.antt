@@ -5,7 +5,7 @@ use Rattle.std.proofs.lemmas.Bool.{cases_lt}
 use Rattle.std.proofs.lemmas.List.Elements.{Contains-append_left, Contains-push, Contains-push_cases, Contains-get_or}
 use Rattle.std.proofs.lemmas.List.{take_more, get_or_append_left, get_or_push}
 use Rattle.std.specs.List.Sorted.{IsStrictlyIncreasing}
-use Rattle.walk_core.specs.Walks.{Arcs, LeastCost, FirstHop}
+use Rattle.walk_core.specs.Walks.{Arcs}
 use Rattle.walk_core.specs.Offers.{Offers, OfferCosts, BestCost, BestHop}
 use Rattle.walk_core.specs.Reach.{Reach, distance_of, HasHop, AreLeastWalks, AreNear}
 use Rattle.walk_core.specs.BestOffers.{ListsOffer, total_with, total_of, HasTotal, NoneTotals, IsBestTotal, least_cost_of, IsHopTowards, AreHopsTowards, AreInRange}

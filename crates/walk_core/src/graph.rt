@@ -3,16 +3,16 @@ ghost use Rattle.std.specs.Prelude.{◌≡◌, ◌≤◌, ◌<◌, ℕ};
 /// A directed graph whose arcs cost 1 or more. Its vertices are numbered from 0, and so are the
 /// arcs that leave each vertex; two arcs may join the same vertices.
 pub trait CostGraph {
-    // how many vertices there are
+    /// How many vertices there are.
     ghost vertex_count: { Self → ℕ };
 
-    // how many arcs leave a vertex
+    /// How many arcs leave a vertex.
     ghost arc_count: { Self → ℕ → ℕ };
 
-    // where the arc of this number from a vertex leads, and what it costs
+    /// Where the arc of this number from a vertex leads, and what it costs.
     ghost arc_at: { Self → ℕ → ℕ → ℕ × ℕ };
 
-    // the relation that the arcs make: from where, to where and at what cost
+    /// The relation that the arcs make: from where, to where and at what cost.
     ghost has_arc: { Self → ℕ → ℕ → ℕ → Type 0 };
 
     /// How many vertices there are.
@@ -30,19 +30,19 @@ pub trait CostGraph {
         requires index { i < arc_count self.now u }
         ensures { result ≡ arc_at self.now u i };
 
-    // each arc that is counted is one of the relation
+    /// Each arc that is counted is one of the relation.
     ghost counted_is_arc: { (g : Self) (u i : ℕ) → u < vertex_count g → i < arc_count g u →
         has_arc g u (arc_at g u i).0 (arc_at g u i).1 };
 
-    // each arc of the relation is counted
+    /// Each arc of the relation is counted.
     ghost arc_is_counted: { (g : Self) (u v c : ℕ) → u < vertex_count g → has_arc g u v c →
         (i : ℕ) × (i < arc_count g u) × (arc_at g u i ≡ (v, c)) };
 
-    // an arc ends at a vertex
+    /// An arc ends at a vertex.
     ghost end_is_vertex: { (g : Self) (u v c : ℕ) → u < vertex_count g → has_arc g u v c →
         v < vertex_count g };
 
-    // an arc costs at least 1
+    /// An arc costs at least 1.
     ghost cost_is_positive: { (g : Self) (u v c : ℕ) → u < vertex_count g → has_arc g u v c →
         1 ≤ c };
 }

@@ -1,5 +1,5 @@
 -- Adjacency is a link of the routers' interfaces.
-use Rattle.std.proofs.Common.{◌≡◌, ◌≢◌, ℕ, ◌⊎◌, ◌<◌, ◌≤◌, ◌+◌, get_or, inl, inr, length, Some, subst, sym, ap, ◌∙◌, arith}
+use Rattle.std.proofs.Common.{◌≡◌, ℕ, ◌⊎◌, ◌<◌, ◌≤◌, ◌+◌, get_or, inl, inr, length, Some, subst, sym, ap, ◌∙◌, arith}
 use Rattle.std.proofs.lemmas.Bool.{cases_lt}
 use Rattle.std.proofs.lemmas.Option.{slice_get_within, slice_get-get_or}
 use Rattle.std.proofs.lemmas.List.Sums.{get_or-le-sum_by}
@@ -9,61 +9,15 @@ use Rattle.net_model.specs.Limits.{up_interfaces, all_up_interfaces}
 use Rattle.net_model.specs.Refusals.{IsNetwork}
 use Rattle.net_model.specs.Network.{Network, HasConfiguration, MayJoin, Adjacent}
 use Rattle.net_model.specs.declared.zone.Zone.{Zone}
+use Rattle.net_model.proofs.Adjacency.{HasConfiguration-unique}
 use Rattle.zone_graph.specs.Graphs.{ArcList, AddsArcs, AreArcsBelow}
-use Rattle.zone_graph.specs.Links.{Links}
-
--- a router has one configuration
-same_configuration : (net : Network) (u : ℕ) (c d : Configuration) → HasConfiguration net u c → HasConfiguration net u d → c ≡ d
-same_configuration net u c d one other = let e : Some c ≡ Some d = sym one ∙ other in cc e
-
--- a link between two routers that the zone may join makes them adjacent
-pub adjacent_from_link : (net : Network) (within : Zone) (u v : ℕ) (near far : Configuration) (cost : ℕ) →
-    HasConfiguration net u near → HasConfiguration net v far → u ≢ v → MayJoin within near far →
-    Links within near.interfaces far.interfaces cost → Adjacent net within u v cost
-adjacent_from_link net within u v near far cost near_is far_is apart joined link = record {
-  apart = apart;
-  subnet = link.joins.joins.subnet;
-  near = link.near;
-  far = link.joins.far;
-  near_up = record { config = near; router = near_is; among = link.among; up = link.joins.joins.near_attaches.up };
-  far_up = record { config = far; router = far_is; among = link.joins.among; up = link.joins.joins.far_attaches.up };
-  near_subnet = link.joins.joins.near_subnet;
-  far_subnet = link.joins.joins.far_subnet;
-  near_link = link.joins.joins.near_attaches.link;
-  far_link = link.joins.joins.far_attaches.link;
-  near_runs = link.joins.joins.near_attaches.runs;
-  far_runs = link.joins.joins.far_attaches.runs;
-  joined = joined;
-  costs = link.costs;
-}
 
 -- the zone may join adjacent routers
 pub adjacent_may_join : (net : Network) (within : Zone) (u v : ℕ) (near far : Configuration) (cost : ℕ) →
     HasConfiguration net u near → HasConfiguration net v far → Adjacent net within u v cost → MayJoin within near far
 adjacent_may_join net within u v near far cost near_is far_is adjacent =
-    subst (λ (c : Configuration). MayJoin within c far) (same_configuration net u _ _ adjacent.near_up.router near_is)
-    (subst (λ (c : Configuration). MayJoin within adjacent.near_up.config c) (same_configuration net v _ _ adjacent.far_up.router far_is) adjacent.joined)
-
--- adjacent routers have a link
-pub link_from_adjacent : (net : Network) (within : Zone) (u v : ℕ) (near far : Configuration) (cost : ℕ) →
-    HasConfiguration net u near → HasConfiguration net v far → Adjacent net within u v cost →
-    Links within near.interfaces far.interfaces cost
-link_from_adjacent net within u v near far cost near_is far_is adjacent = record {
-  near = adjacent.near;
-  among = subst (λ (c : Configuration). Contains c.interfaces adjacent.near) (same_configuration net u _ _ adjacent.near_up.router near_is) adjacent.near_up.among;
-  joins = record {
-    far = adjacent.far;
-    among = subst (λ (c : Configuration). Contains c.interfaces adjacent.far) (same_configuration net v _ _ adjacent.far_up.router far_is) adjacent.far_up.among;
-    joins = record {
-      near_attaches = record { up = adjacent.near_up.up; link = adjacent.near_link; runs = adjacent.near_runs };
-      far_attaches = record { up = adjacent.far_up.up; link = adjacent.far_link; runs = adjacent.far_runs };
-      subnet = adjacent.subnet;
-      near_subnet = adjacent.near_subnet;
-      far_subnet = adjacent.far_subnet;
-    };
-  };
-  costs = adjacent.costs;
-}
+    subst (λ (c : Configuration). MayJoin within c far) (HasConfiguration-unique net u _ _ adjacent.near_up.router near_is)
+    (subst (λ (c : Configuration). MayJoin within adjacent.near_up.config c) (HasConfiguration-unique net v _ _ adjacent.far_up.router far_is) adjacent.joined)
 
 -- where nothing is to come, nothing is added
 pub adds_nothing : (arcs : ArcList) (v : ℕ) (cost : ℕ → Type 0) → ((c : ℕ) → cost c → ⊥) → AddsArcs arcs arcs v cost

@@ -1,4 +1,3 @@
-pub mod Links
 pub mod Graphs
 pub mod Walks
 pub mod GraphFacts

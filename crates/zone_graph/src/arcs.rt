@@ -3,8 +3,8 @@ ghost use Rattle.net_model.specs.Network.{Adjacent};
 ghost use Rattle.zone_graph.specs.Graphs.{AddsArcs, AreArcsFrom};
 
 use crate::OutOfMemory;
-use crate::links::{may_join, push_links};
-use net_model::{Net, Zone};
+use crate::links::push_links;
+use net_model::{Net, Zone, may_join};
 use std::alloc::Global;
 use std::marker::Model;
 

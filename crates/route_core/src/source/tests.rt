@@ -68,18 +68,13 @@ fn make_pair(alloc: Global, all: Prefix) -> Result<Pair, AllocError> {
     Ok(Pair { zero, one })
 }
 
-/// How many next hops a router has for an address.
-fn hops_at<S: RouteSource>(source: &S, router: u32, a: u32) -> usize
+/// The only entry of a router, where it is the longest match of the address.
+fn only_entry<S: RouteSource>(source: &S, router: u32, a: u32) -> Option<(Prefix, &Entry)>
     requires { router < S.routers source.now }
 {
     let table = source.table(router);
-    let Some(place) = table.longest(a) else {
-        return 0;
-    };
-    match table.entry(place) {
-        Entry::Via(hops) => hops.as_slice().len(),
-        Entry::Discard => 0,
-    }
+    let place = table.longest(a)?;
+    Some((table.dest(place), table.entry(place)))
 }
 
 #[test]
@@ -88,7 +83,10 @@ fn a_source_answers(rt: HostRuntime) -> Result<(), Fail> {
     let source = make_pair(rt.alloc(), all)?;
     assert_eq!(rt; source.routers(), 2);
     assert!(rt; source.linked(0, 1));
-    assert!(rt; !source.linked(1, 1));
-    assert_eq!(rt; hops_at(&source, 1, 7), 1);
+    assert_eq!(rt; source.table(1).len(), 1);
+    let found = only_entry(&source, 1, 7);
+    let by_zero =
+        matches!(found, Some((dest, Entry::Via(hops))) if dest == all && hops.as_slice() == [0].as_slice());
+    assert!(rt; by_zero);
     Ok(())
 }

@@ -5,8 +5,9 @@ use Rattle.net_model.specs.Limits.{up_interfaces}
 use Rattle.net_model.specs.Network.{Adjacent, MayJoin}
 use Rattle.net_model.specs.declared.interface.Interface.{Interface}
 use Rattle.zone_graph.specs.Graphs.{AddsArcs}
-use Rattle.zone_graph.specs.Links.{Links}
-use Rattle.zone_graph.proofs.AdjacencyFacts.{adjacent_from_link, link_from_adjacent, adds_same, up_interfaces_few}
+use Rattle.net_model.specs.Links.{LinkCosts}
+use Rattle.net_model.proofs.Adjacency.{Adjacent-from_link, link_from_Adjacent}
+use Rattle.zone_graph.proofs.AdjacencyFacts.{adds_same, up_interfaces_few}
 use Rattle.zone_graph.proofs.arcs.push_arcs.Goals as goal
 
 pub returns-clause-adds : goal.returns-clause-adds
@@ -17,13 +18,13 @@ returns-clause-adds c =
     let far_is : c.as_slice-2.result.now ≡ far.interfaces = c.as_slice-2.ensures ∙ ap (λ (d : Configuration). d.interfaces) c.far.view_is in
     let apart : c.args.u ≢ c.args.v = c.if-u-v.false in
     let joined : MayJoin c.args.zone near far = c.if-not-may_join.ensures.0 refl in
-    let there : (cost : ℕ) → Links c.args.zone c.as_slice.result.now c.as_slice-2.result.now cost → Adjacent c.args.net.now c.args.zone c.args.u c.args.v cost =
-    λ cost link. adjacent_from_link c.args.net.now c.args.zone c.args.u c.args.v near far cost c.config-near.ensures.router c.config-far.ensures.router apart joined
-    (subst (λ (l : List Interface). Links c.args.zone l far.interfaces cost) near_is (subst (λ (l : List Interface). Links c.args.zone c.as_slice.result.now l cost) far_is link)) in
-    let back : (cost : ℕ) → Adjacent c.args.net.now c.args.zone c.args.u c.args.v cost → Links c.args.zone c.as_slice.result.now c.as_slice-2.result.now cost =
-    λ cost adjacent. subst (λ (l : List Interface). Links c.args.zone l c.as_slice-2.result.now cost) (sym near_is) (subst (λ (l : List Interface). Links c.args.zone near.interfaces l cost) (sym far_is)
-    (link_from_adjacent c.args.net.now c.args.zone c.args.u c.args.v near far cost c.config-near.ensures.router c.config-far.ensures.router adjacent)) in
-    elim c.push_links.result as (λ r. OnOk r (AddsArcs c.args.arcs.now.items c.push_links.new.arcs.items c.args.v (Links c.args.zone c.as_slice.result.now c.as_slice-2.result.now)) → OnOk r (AddsArcs c.args.arcs.now.items c.push_links.new.arcs.items c.args.v (Adjacent c.args.net.now c.args.zone c.args.u c.args.v)))
+    let there : (cost : ℕ) → LinkCosts c.args.zone c.as_slice.result.now c.as_slice-2.result.now cost → Adjacent c.args.net.now c.args.zone c.args.u c.args.v cost =
+    λ cost link. Adjacent-from_link c.args.net.now c.args.zone c.args.u c.args.v near far c.config-near.ensures.router c.config-far.ensures.router cost apart joined
+    (subst (λ (l : List Interface). LinkCosts c.args.zone l far.interfaces cost) near_is (subst (λ (l : List Interface). LinkCosts c.args.zone c.as_slice.result.now l cost) far_is link)) in
+    let back : (cost : ℕ) → Adjacent c.args.net.now c.args.zone c.args.u c.args.v cost → LinkCosts c.args.zone c.as_slice.result.now c.as_slice-2.result.now cost =
+    λ cost adjacent. subst (λ (l : List Interface). LinkCosts c.args.zone l c.as_slice-2.result.now cost) (sym near_is) (subst (λ (l : List Interface). LinkCosts c.args.zone near.interfaces l cost) (sym far_is)
+    (link_from_Adjacent c.args.net.now c.args.zone c.args.u c.args.v near far c.config-near.ensures.router c.config-far.ensures.router cost adjacent)) in
+    elim c.push_links.result as (λ r. OnOk r (AddsArcs c.args.arcs.now.items c.push_links.new.arcs.items c.args.v (LinkCosts c.args.zone c.as_slice.result.now c.as_slice-2.result.now)) → OnOk r (AddsArcs c.args.arcs.now.items c.push_links.new.arcs.items c.args.v (Adjacent c.args.net.now c.args.zone c.args.u c.args.v)))
     [ Ok x ↦ λ adds. adds_same c.args.arcs.now.items c.push_links.new.arcs.items c.args.v _ _ there back adds | Err e ↦ λ h. h ] c.push_links.ensures.adds
 
 pub returns-clause-few : goal.returns-clause-few

@@ -1,4 +1,4 @@
-use Rattle.std.proofs.Common.{◌≡◌, length, take, MatchOption, List, subst}
+use Rattle.std.proofs.Common.{MatchOption, List, subst}
 use Rattle.std.proofs.lemmas.List.{take_all}
 use Rattle.walk_core.specs.BestOffers.{IsBestTotal, NoneTotals}
 use Rattle.walk_core.specs.declared.offers.Offer.{Offer}
