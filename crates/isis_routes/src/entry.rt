@@ -5,13 +5,13 @@ ghost use Rattle.isis_routes.specs.Domain.{AreAnnounced, IsDomain};
 ghost use Rattle.isis_routes.specs.Routing.{IsLevelOneRoute, IsLevelTwoRoute, IsDefaultRoute, NoDefaultRoute};
 
 use crate::OutOfMemory;
-use crate::candidates::is_all_addresses;
 use crate::domain::{Destination, Domain};
-use crate::route::{best_hops, of_others};
+use crate::offers::of_others;
 use crate::runs::{runs_one, runs_one_alone, runs_two};
 use net_addr::Prefix;
 use net_model::Net;
 use route_core::{Entry, Hops};
+use route_tables::{best_hops, is_all_addresses};
 use std::alloc::Global;
 
 /// The entry of router `u` for a prefix: by level 1, else by level 2, else the default. There is none

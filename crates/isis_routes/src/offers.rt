@@ -1,4 +1,4 @@
-ghost use Rattle.std.specs.Prelude.{◌≡◌, ◌<◌, ◌↔◌, ℕ, length, Some, IfOk, OnOk};
+ghost use Rattle.std.specs.Prelude.{◌≡◌, ◌==◌, ◌<◌, ◌↔◌, ℕ, length, Some, IfOk, OnOk, filter, not};
 ghost use Rattle.net_model.specs.Network.{Network};
 ghost use Rattle.isis_routes.specs.Offered.{Asks, AskedBy, OffersIn, AddsOffers, AreOffers};
 
@@ -72,4 +72,11 @@ fn asked(level: Level, dest: Prefix, interface: &Interface) -> Option<u32>
         Some(subnet) if interface.up && runs && subnet == dest => Some(metric),
         _ => None,
     }
+}
+
+/// The offers that other routers than `u` make.
+pub fn of_others(alloc: Global, offers: &[Offer], u: u32) -> Result<Vec<Offer>, OutOfMemory>
+    ensures { IfOk result (λ others. others.items ≡ filter (λ o. not (o.at == u)) offers.now) }
+{
+    offers.iter().filter(|o| o.at != u).copied().collect(alloc)
 }

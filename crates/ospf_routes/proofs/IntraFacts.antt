@@ -26,7 +26,7 @@ use Rattle.ospf_routes.specs.Offered.{AreOffers, InsideOf, IsSubnetRoute}
 use Rattle.ospf_routes.specs.declared.intra_area.AreaOffers.{AreaOffers}
 use Rattle.ospf_routes.specs.declared.intra_area.Destination.{Destination}
 use Rattle.ospf_routes.specs.declared.subnets.AreaRoute.{AreaRoute}
-use Rattle.ospf_routes.proofs.ListFacts.{AnyBelow, any_of, any_in, exactly_same}
+use Rattle.route_tables.proofs.ListFacts.{AnyBelow, any_of, any_in, exactly_same}
 
 -- The subnets of a router
 

@@ -3,7 +3,8 @@ use Rattle.std.proofs.lemmas.Result.{IfOk-weaker}
 use Rattle.net_model.specs.Network.{Network}
 use Rattle.walk_core.specs.BestOffers.{NoneTotals}
 use Rattle.igp_theory.specs.Isis.{OffersDefault}
-use Rattle.isis_routes.specs.Routing.{AreBestHops, IsDefaultRoute, NoDefaultRoute}
+use Rattle.route_tables.specs.BestRoutes.{AreBestHops}
+use Rattle.isis_routes.specs.Routing.{IsDefaultRoute, NoDefaultRoute}
 use Rattle.isis_routes.proofs.BestRoutes.{default_route_is}
 use Rattle.isis_routes.proofs.CostBounds.{in_range, default_is_small}
 use Rattle.isis_routes.proofs.entry.default_hops.Goals as goal

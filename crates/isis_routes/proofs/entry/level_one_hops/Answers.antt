@@ -3,7 +3,8 @@ use Rattle.std.proofs.lemmas.Result.{IfOk-weaker}
 use Rattle.net_model.specs.Network.{Network}
 use Rattle.walk_core.specs.BestOffers.{NoneTotals}
 use Rattle.igp_theory.specs.Isis.{OffersOne, IsOne}
-use Rattle.isis_routes.specs.Routing.{AreBestHops, IsLevelOneRoute}
+use Rattle.route_tables.specs.BestRoutes.{AreBestHops}
+use Rattle.isis_routes.specs.Routing.{IsLevelOneRoute}
 use Rattle.isis_routes.proofs.BestRoutes.{one_route_is}
 use Rattle.isis_routes.proofs.CostBounds.{in_range, one_is_small}
 use Rattle.isis_routes.proofs.entry.level_one_hops.Goals as goal

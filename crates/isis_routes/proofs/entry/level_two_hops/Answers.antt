@@ -5,7 +5,8 @@ use Rattle.walk_core.specs.declared.offers.Offer.{Offer}
 use Rattle.igp_theory.specs.Ospf.{OfOthers}
 use Rattle.igp_theory.specs.Isis.{LevelTwoAnnouncement, IsTwo}
 use Rattle.isis_routes.specs.Offered.{AreOffers}
-use Rattle.isis_routes.specs.Routing.{AreBestHops, IsLevelTwoRoute}
+use Rattle.route_tables.specs.BestRoutes.{AreBestHops}
+use Rattle.isis_routes.specs.Routing.{IsLevelTwoRoute}
 use Rattle.isis_routes.proofs.Announced.{others_of_are}
 use Rattle.isis_routes.proofs.BestRoutes.{two_route_is}
 use Rattle.isis_routes.proofs.CostBounds.{in_range, announcement_is_small}
