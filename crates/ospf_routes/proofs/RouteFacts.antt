@@ -12,12 +12,11 @@ use Rattle.net_model.specs.Network.{Network, Adjacent}
 use Rattle.net_model.specs.declared.zone.Zone.TheVariants.{Area}
 use Rattle.walk_core.specs.Walks.{Arcs}
 use Rattle.walk_core.specs.Offers.{Offers, BestCost, BestHop}
-use Rattle.walk_core.specs.Reach.{Reach, AreLeastWalks}
-use Rattle.walk_core.specs.BestOffers.{ListsOffer, NoneTotals}
+use Rattle.walk_core.specs.Reach.{Reach}
+use Rattle.walk_core.specs.BestOffers.{NoneTotals}
 use Rattle.walk_core.specs.declared.offers.Offer.{Offer}
-use Rattle.walk_core.proofs.OfferLaws.{best_total_is_best_cost, none_totals_no_best, hop_towards_is_best_hop}
+use Rattle.walk_core.proofs.OfferLaws.{best_total_is_best_cost, none_totals_no_best}
 use Rattle.walk_core.proofs.WalkLaws.{best_hop_is_arc}
-use Rattle.route_core.specs.Hops.{AreHops}
 use Rattle.igp_theory.specs.Ospf.{OffersSubnet, IntraAreaCost, IntraAreaHop, IsIntraArea, ListensTo, backbone, one_area, OfOthers, Summary, InterAreaHop}
 use Rattle.igp_theory.proofs.TableLaws.{listens_to_one_area}
 use Rattle.ospf_routes.specs.Areas.{AreAreas, HasArea, IsInside, IsReach}

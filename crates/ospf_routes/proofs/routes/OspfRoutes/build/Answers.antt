@@ -1,4 +1,4 @@
-use Rattle.std.proofs.Common.{IfOk, subst}
+use Rattle.std.proofs.Common.{subst}
 use Rattle.net_model.specs.Network.{Network}
 use Rattle.ospf_routes.specs.RouteTables.{AreOspfRoutes}
 use Rattle.ospf_routes.proofs.routes.OspfRoutes.build.Goals as goal
