@@ -15,20 +15,9 @@ use Rattle.walk_core.proofs.WalkLaws.{best_cost_unique}
 use Rattle.igp_theory.specs.Ospf.{OfOthers, default_prefix}
 use Rattle.igp_theory.specs.Isis.{RunsOne, RunsTwo, OffersOne, OneCost, OneHop, IsOne, LevelTwoAnnouncement, IsTwo, TwoHop, OffersDefault, DefaultHop}
 use Rattle.isis_routes.specs.Offered.{AreOffers}
-use Rattle.route_tables.proofs.BestRoutes.{best_hops_are, hops_same}
+use Rattle.route_tables.proofs.BestRoutes.{best_cost_is, best_hops_are, hops_same}
 use Rattle.route_tables.specs.BestRoutes.{AreBestHops}
 use Rattle.isis_routes.specs.Routing.{IsLevelOneRoute, IsLevelTwoRoute, IsDefaultRoute, NoDefaultRoute}
-
--- the best total is the best cost, and there is none without
-pub best_cost_is : (arc : Arcs) (u : ℕ) (reach : Reach) (offer : Offers) (offers : List Offer) → AreLeastWalks arc u reach → AreOffers offer offers →
-    (found : Option ℕ) → MatchOption found (NoneTotals reach offers) (IsBestTotal reach offers) → (cost : ℕ) → (found ≡ Some cost) ↔ BestCost arc offer u cost
-best_cost_is arc u reach offer offers walks are None none cost =
-    (λ is. absurd (none-some cost is), λ best. absurd (none_totals_no_best arc u reach offer offers walks are none cost best))
-best_cost_is arc u reach offer offers walks are (Some c) best cost =
-    let here : BestCost arc offer u c = (best_total_is_best_cost arc u reach offer offers c walks are).0 best in (
-      λ is. subst (λ (k : ℕ). BestCost arc offer u k) (same_Some c cost is) here,
-      λ other. ap Some (best_cost_unique here other),
-    )
 
 -- Level 1
 

@@ -30,7 +30,7 @@ use Rattle.ospf_routes.specs.Summarized.{AreSummaries, IsSummaryOf}
 use Rattle.ospf_routes.specs.declared.areas.AreaWalks.{AreaWalks}
 use Rattle.ospf_routes.specs.declared.intra_area.AreaOffers.{AreaOffers}
 use Rattle.ospf_routes.specs.declared.summaries.Summaries.{Summaries}
-use Rattle.ospf_routes.proofs.IntraFacts.{lists_from}
+use Rattle.ospf_routes.proofs.CostBounds.{lists_from}
 use Rattle.ospf_routes.proofs.SummaryFacts.{OfReached, reached_best, reached_hop}
 use Rattle.route_tables.proofs.ListFacts.{any_of, any_in}
 

@@ -13,13 +13,13 @@ pub best_hops-requires : goal.best_hops-requires
 best_hops-requires c =
     let net : Network = c.args.net.now in
     in_range c.from_router.result.now (OffersDefault net) c.args.domain.now.attached.items c.as_slice-attached.result.now
-    (c.requires.domain.one.near c.args.u c.from_router.result.now c.from_router.ensures) c.requires.domain.attached c.as_slice-attached.ensures.value
+    (c.requires.domain.one.near c.args.router c.from_router.result.now c.from_router.ensures) c.requires.domain.attached c.as_slice-attached.ensures.value
     (default_is_small net)
 
 pub returns : goal.returns
 returns c =
     let net : Network = c.args.net.now in
-    let u = c.args.u in
+    let u = c.args.router in
     let reach = c.from_router.result.now in
     let given = c.as_slice-attached.result.now in
     let alone = c.if-not-runs_one_alone.ensures.0 refl in

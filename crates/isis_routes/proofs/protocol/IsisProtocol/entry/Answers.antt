@@ -1,4 +1,4 @@
-use Rattle.std.proofs.Common.{ℕ, ◌<◌, List, length, IfOk, MatchOption, sym, subst}
+use Rattle.std.proofs.Common.{◌<◌, length, IfOk, MatchOption, sym, subst}
 use Rattle.net_addr.specs.Addresses.{Block}
 use Rattle.net_model.specs.Network.{Network}
 use Rattle.route_core.specs.declared.entry.Entry.{Entry}

@@ -1,4 +1,4 @@
-use Rattle.std.proofs.Common.{IfOk, subst}
+use Rattle.std.proofs.Common.{subst}
 use Rattle.net_model.specs.Network.{Network}
 use Rattle.isis_routes.specs.RouteTables.{AreIsisRoutes}
 use Rattle.isis_routes.proofs.routes.IsisRoutes.build.Goals as goal
