@@ -14,18 +14,15 @@ use Rattle.walk_core.specs.BestOffers.{AreInRange}
 use Rattle.walk_core.specs.declared.offers.Offer.{Offer}
 use Rattle.igp_theory.specs.Isis.{OffersOne, OneCost, OffersTwo, LevelTwoAnnouncement, own, of_level_one, OffersDefault}
 use Rattle.zone_graph.specs.Walks.{AreZoneWalks}
+use Rattle.route_tables.proofs.BestRoutes.{offers_in_range}
 use Rattle.isis_routes.specs.Offered.{AreOffers}
 
 -- offers that ask less than 2^41 are in range over distances of at most 200 arcs
 pub in_range : (reach : Reach) (offer : Offers) (offers given : List Offer) → AreNear 200 reach → AreOffers offer offers → given ≡ offers →
     ((at asks : ℕ) → offer at asks → asks < 2 ^ 41) → AreInRange reach given
-in_range reach offer offers given near are same small = λ k d within distance is.
-    let o : Offer = get_or given k d in
-    let far : distance < 200 * 2 ^ 32 = near o.at distance is in
-    let listed = (subst (λ (l : List Offer). AreOffers offer l) (sym same) are o.at o.asks).0
-    (record { offer = o; among = Contains-get_or given k d within; made = refl; asked = refl }) in
-    let less : o.asks < 2 ^ 41 = small o.at o.asks listed in
-    omega arith
+in_range reach offer offers given near are same small =
+    offers_in_range reach offer given near (subst (λ (l : List Offer). AreOffers offer l) (sym same) are)
+    (λ at asks offered. let less : asks < 2 ^ 41 = small at asks offered in omega arith)
 
 -- a metric is below 2^24
 pub one_is_small : (net : Network) (p : Block) (w cost : ℕ) → IsNetwork net → OffersOne net p w cost → cost < 2 ^ 24

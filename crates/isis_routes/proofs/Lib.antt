@@ -3,7 +3,7 @@ mod CostBounds
 mod BestRoutes
 mod Announced
 mod AreaFacts
-mod DestLists
+mod CandidateLists
 mod EntryFacts
 mod DestinationFacts
-mod TableRows
+mod ProtocolFacts

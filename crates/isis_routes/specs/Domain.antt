@@ -5,7 +5,8 @@ use Rattle.net_model.specs.Network.{Network}
 use Rattle.net_model.specs.declared.zone.Zone.TheVariants.{One, Two}
 use Rattle.igp_theory.specs.Isis.{OffersOne, LevelTwoAnnouncement, OffersDefault}
 use Rattle.zone_graph.specs.Walks.{AreZoneWalks}
-use Rattle.isis_routes.specs.Candidates.{AreDistinct, IsCandidate}
+use Rattle.route_tables.specs.Prefixes.{AreDistinct}
+use Rattle.isis_routes.specs.Candidates.{IsCandidate}
 use Rattle.isis_routes.specs.Offered.{AreOffers}
 use Rattle.isis_routes.specs.declared.domain.Destination.{Destination}
 use Rattle.isis_routes.specs.declared.domain.Domain.{Domain}
@@ -31,3 +32,8 @@ pub record IsDomain (net : Network) (domain : Domain) : Type 0 where
   pub two : AreZoneWalks net Two domain.two
   pub destinations : AreDestinations net domain.destinations.items
   pub attached : AreOffers (OffersDefault net) domain.attached.items
+
+-- a network, and what its routers know by IS-IS
+pub record IsisNetwork : Type 0 where
+  pub net : Network
+  pub domain : Domain

@@ -2,9 +2,6 @@
 use Rattle.std.specs.Prelude.{◌≡◌, ℕ, List}
 use Rattle.net_addr.specs.Addresses.{Block}
 use Rattle.net_model.specs.Network.{Network}
-use Rattle.walk_core.specs.Reach.{Reach}
-use Rattle.walk_core.specs.BestOffers.{IsBestTotal, AreHopsTowards}
-use Rattle.walk_core.specs.declared.offers.Offer.{Offer}
 use Rattle.route_core.specs.Hops.{AreHops}
 use Rattle.igp_theory.specs.Ospf.{default_prefix}
 use Rattle.igp_theory.specs.Isis.{RunsOne, RunsTwo, IsOne, OneHop, IsTwo, TwoHop, DefaultCost, DefaultHop}
@@ -13,12 +10,6 @@ use Rattle.igp_theory.specs.Isis.{RunsOne, RunsTwo, IsOne, OneHop, IsTwo, TwoHop
 pub record RunsOneAlone (net : Network) (u : ℕ) : Type 0 where
   pub runs : RunsOne net u
   pub alone : RunsTwo net u → ⊥
-
--- the hops below n towards the offers of the best cost
-pub record AreBestHops (reach : Reach) (offers : List Offer) (n : ℕ) (hops : List ℕ) : Type 0 where
-  pub cost : ℕ
-  pub best : IsBestTotal reach offers cost
-  pub towards : AreHopsTowards reach offers cost n hops
 
 -- p has a level 1 route at u, with these hops
 pub record IsLevelOneRoute (net : Network) (p : Block) (u : ℕ) (hops : List ℕ) : Type 0 where

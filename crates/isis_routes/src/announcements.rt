@@ -26,30 +26,30 @@ pub fn announcements(
     ensures { IfOk result (λ offers. AreOffers (LevelTwoAnnouncement net.now one.now.dest) offers.items) }
 {
     let mut offers = Vec::new(alloc);
-    for b in 0..net.routers() {
-        push_announcements(&mut offers, net, walks, one, b)?;
+    for router in 0..net.routers() {
+        push_announcements(&mut offers, net, walks, one, router)?;
     }
     Ok(offers)
 }
 
-/// Adds what router `b` announces: its own level 2 subnets, and what it reaches by level 1.
+/// Adds what a router announces: its own level 2 subnets, and what it reaches by level 1.
 fn push_announcements(
     offers: &mut Vec<Offer>,
     net: &Net,
     walks: &ZoneWalks,
     one: &LevelOne,
-    b: u32,
+    router: u32,
 ) -> Result<(), OutOfMemory>
-    requires router { b < length net.now }
+    requires router { router < length net.now }
     requires walks { AreZoneWalks net.now ZoneOne walks.now }
     requires offers { AreOffers (OffersOne net.now one.now.dest) one.now.offers.items }
-    ensures { OnOk result (AddsOffers offers.old.items offers.new.items b (LevelTwoAnnouncement net.now one.now.dest b)) }
+    ensures { OnOk result (AddsOffers offers.old.items offers.new.items router (LevelTwoAnnouncement net.now one.now.dest router)) }
 {
-    if !runs_two(net, b) {
+    if !runs_two(net, router) {
         return Ok(());
     }
-    push_router_offers(offers, net, Level::Two, one.dest, b)?;
-    push_cost(offers, b, one.cost(net, walks, b))
+    push_router_offers(offers, net, Level::Two, one.dest, router)?;
+    push_cost(offers, router, one.cost(net, walks, router))
 }
 
 /// Adds an offer at this cost, if there is one.

@@ -22,48 +22,51 @@ pub fn attached_routers(
     ensures { IfOk result (λ offers. AreOffers (OffersDefault net.now) offers.items) }
 {
     let mut offers = Vec::new(alloc);
-    for u in 0..net.routers() {
-        if is_attached(net, walks, u) {
-            offers.push(Offer { at: u, asks: 0 })?;
+    for router in 0..net.routers() {
+        if is_attached(net, walks, router) {
+            offers.push(Offer {
+                at: router,
+                asks: 0,
+            })?;
         }
     }
     Ok(offers)
 }
 
 /// Whether the router runs both levels and reaches a router of another area by level 2.
-fn is_attached(net: &Net, walks: &ZoneWalks, u: u32) -> bool
-    requires router { u < length net.now }
+fn is_attached(net: &Net, walks: &ZoneWalks, router: u32) -> bool
+    requires router { router < length net.now }
     requires walks { AreZoneWalks net.now ZoneTwo walks.now }
-    ensures { IsTrue result ↔ IsAttached net.now u }
+    ensures { IsTrue result ↔ IsAttached net.now router }
 {
-    runs_one(net, u) && runs_two(net, u) && leaves_area(net, walks, u)
+    runs_one(net, router) && runs_two(net, router) && leaves_area(net, walks, router)
 }
 
 /// Whether level 2 leads from the router to a router of another area.
-fn leaves_area(net: &Net, walks: &ZoneWalks, u: u32) -> bool
-    requires router { u < length net.now }
+fn leaves_area(net: &Net, walks: &ZoneWalks, router: u32) -> bool
+    requires router { router < length net.now }
     requires walks { AreZoneWalks net.now ZoneTwo walks.now }
-    ensures { IsTrue result ↔ LeavesArea net.now u }
+    ensures { IsTrue result ↔ LeavesArea net.now router }
 {
-    for v in 0..net.routers() {
-        if leads_outside(net, walks, u, v) {
+    for other in 0..net.routers() {
+        if leads_outside(net, walks, router, other) {
             return true;
         }
     }
     false
 }
 
-/// Whether level 2 leads from router `u` to router `v`, which is in another area.
-fn leads_outside(net: &Net, walks: &ZoneWalks, u: u32, v: u32) -> bool
-    requires from_router { u < length net.now }
-    requires to_router { v < length net.now }
+/// Whether level 2 leads from a router to another one, which is in another area.
+fn leads_outside(net: &Net, walks: &ZoneWalks, router: u32, other: u32) -> bool
+    requires from_router { router < length net.now }
+    requires to_router { other < length net.now }
     requires walks { AreZoneWalks net.now ZoneTwo walks.now }
-    ensures { IsTrue result ↔ LeadsOutside net.now u v }
+    ensures { IsTrue result ↔ LeadsOutside net.now router other }
 {
-    if have_one_area(net.config(u), net.config(v)) {
+    if have_one_area(net.config(router), net.config(other)) {
         return false;
     }
-    walks.from_router(u).distance(v).is_some()
+    walks.from_router(router).distance(other).is_some()
 }
 
 /// Whether two routers have the same IS-IS area.

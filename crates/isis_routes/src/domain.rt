@@ -6,7 +6,7 @@ ghost use Rattle.isis_routes.specs.Domain.{AreAnnounced, AreDestinations, IsDoma
 use crate::OutOfMemory;
 use crate::announcements::announcements;
 use crate::attached::attached_routers;
-use crate::candidates::candidates;
+use crate::candidates::candidates_of;
 use crate::level_one::LevelOne;
 use net_addr::Prefix;
 use net_model::{Net, Zone};
@@ -82,7 +82,7 @@ fn destinations(
     requires { AreZoneWalks net.now ZoneOne walks.now }
     ensures { IfOk result (λ all. AreDestinations net.now all.items) }
 {
-    let dests = candidates(alloc, net)?;
+    let dests = candidates_of(alloc, net)?;
     each_destination(alloc, net, walks, dests.as_slice())
 }
 

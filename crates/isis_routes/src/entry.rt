@@ -5,42 +5,42 @@ ghost use Rattle.isis_routes.specs.Domain.{AreAnnounced, IsDomain};
 ghost use Rattle.isis_routes.specs.Routing.{IsLevelOneRoute, IsLevelTwoRoute, IsDefaultRoute, NoDefaultRoute};
 
 use crate::OutOfMemory;
-use crate::candidates::is_all_addresses;
 use crate::domain::{Destination, Domain};
-use crate::route::{best_hops, of_others};
+use crate::offers::of_others;
 use crate::runs::{runs_one, runs_one_alone, runs_two};
 use net_addr::Prefix;
 use net_model::Net;
 use route_core::{Entry, Hops};
+use route_tables::{best_hops, is_all_addresses};
 use std::alloc::Global;
 
-/// The entry of router `u` for a prefix: by level 1, else by level 2, else the default. There is none
+/// The entry of a router for a prefix: by level 1, else by level 2, else the default. There is none
 /// for a connected prefix.
 pub fn entry_of(
     alloc: Global,
     net: &Net,
     domain: &Domain,
     destination: &Destination,
-    u: u32,
+    router: u32,
 ) -> Result<Option<Entry>, OutOfMemory>
-    requires router { u < length net.now }
+    requires router { router < length net.now }
     requires domain { IsDomain net.now domain.now }
     requires announced { AreAnnounced net.now destination.now }
     ensures { IfOk result (λ found. MatchOption found
-        ((e : Entry) → IsisEntry net.now u destination.now.one.dest e → ⊥)
-        (IsisEntry net.now u destination.now.one.dest)) }
+        ((e : Entry) → IsisEntry net.now router destination.now.one.dest e → ⊥)
+        (IsisEntry net.now router destination.now.one.dest)) }
 {
     let dest = destination.one.dest;
-    if net.originates(u, dest) {
+    if net.originates(router, dest) {
         return Ok(None);
     }
-    if let Some(hops) = level_one_hops(alloc, net, domain, destination, u)? {
+    if let Some(hops) = level_one_hops(alloc, net, domain, destination, router)? {
         return Ok(Some(Entry::Via(hops)));
     }
-    if let Some(hops) = level_two_hops(alloc, net, domain, destination, u)? {
+    if let Some(hops) = level_two_hops(alloc, net, domain, destination, router)? {
         return Ok(Some(Entry::Via(hops)));
     }
-    if let Some(hops) = default_hops(alloc, net, domain, dest, u)? {
+    if let Some(hops) = default_hops(alloc, net, domain, dest, router)? {
         return Ok(Some(Entry::Via(hops)));
     }
     Ok(None)
@@ -52,20 +52,20 @@ fn level_one_hops(
     net: &Net,
     domain: &Domain,
     destination: &Destination,
-    u: u32,
+    router: u32,
 ) -> Result<Option<Hops>, OutOfMemory>
-    requires router { u < length net.now }
+    requires router { router < length net.now }
     requires domain { IsDomain net.now domain.now }
     requires announced { AreAnnounced net.now destination.now }
     ensures { IfOk result (λ found. MatchOption found
-        (IsOne net.now destination.now.one.dest u → ⊥)
-        (IsLevelOneRoute net.now destination.now.one.dest u)) }
+        (IsOne net.now destination.now.one.dest router → ⊥)
+        (IsLevelOneRoute net.now destination.now.one.dest router)) }
 {
-    if !runs_one(net, u) {
+    if !runs_one(net, router) {
         return Ok(None);
     }
     let offers = destination.one.offers.as_slice();
-    best_hops(alloc, domain.one.from_router(u), offers, net.routers())
+    best_hops(alloc, domain.one.from_router(router), offers, net.routers())
 }
 
 /// The hops of the level 2 route, which other routers' announcements give.
@@ -74,22 +74,22 @@ fn level_two_hops(
     net: &Net,
     domain: &Domain,
     destination: &Destination,
-    u: u32,
+    router: u32,
 ) -> Result<Option<Hops>, OutOfMemory>
-    requires router { u < length net.now }
+    requires router { router < length net.now }
     requires domain { IsDomain net.now domain.now }
     requires announced { AreAnnounced net.now destination.now }
     ensures { IfOk result (λ found. MatchOption found
-        (IsTwo net.now destination.now.one.dest u → ⊥)
-        (IsLevelTwoRoute net.now destination.now.one.dest u)) }
+        (IsTwo net.now destination.now.one.dest router → ⊥)
+        (IsLevelTwoRoute net.now destination.now.one.dest router)) }
 {
-    if !runs_two(net, u) {
+    if !runs_two(net, router) {
         return Ok(None);
     }
-    let others = of_others(alloc, destination.two.as_slice(), u)?;
+    let others = of_others(alloc, destination.two.as_slice(), router)?;
     best_hops(
         alloc,
-        domain.two.from_router(u),
+        domain.two.from_router(router),
         others.as_slice(),
         net.routers(),
     )
@@ -102,17 +102,22 @@ fn default_hops(
     net: &Net,
     domain: &Domain,
     dest: Prefix,
-    u: u32,
+    router: u32,
 ) -> Result<Option<Hops>, OutOfMemory>
-    requires router { u < length net.now }
+    requires router { router < length net.now }
     requires domain { IsDomain net.now domain.now }
     ensures { IfOk result (λ found. MatchOption found
-        (NoDefaultRoute net.now dest u)
-        (IsDefaultRoute net.now dest u)) }
+        (NoDefaultRoute net.now dest router)
+        (IsDefaultRoute net.now dest router)) }
 {
-    if !is_all_addresses(dest) || !runs_one_alone(net, u) {
+    if !is_all_addresses(dest) || !runs_one_alone(net, router) {
         return Ok(None);
     }
     let attached = domain.attached.as_slice();
-    best_hops(alloc, domain.one.from_router(u), attached, net.routers())
+    best_hops(
+        alloc,
+        domain.one.from_router(router),
+        attached,
+        net.routers(),
+    )
 }

@@ -33,16 +33,16 @@ impl LevelOne {
         Ok(LevelOne { dest, offers })
     }
 
-    /// The level 1 cost of the prefix at router `u`.
-    pub fn cost(&self, net: &Net, walks: &ZoneWalks, u: u32) -> Option<u64>
-        requires router { u < length net.now }
+    /// The level 1 cost of the prefix at a router.
+    pub fn cost(&self, net: &Net, walks: &ZoneWalks, router: u32) -> Option<u64>
+        requires router { router < length net.now }
         requires walks { AreZoneWalks net.now ZoneOne walks.now }
         requires offers { AreOffers (OffersOne net.now self.now.dest) self.now.offers.items }
-        ensures { (cost : ℕ) → (result ≡ Some cost) ↔ OneCost net.now self.now.dest u cost }
+        ensures { (cost : ℕ) → (result ≡ Some cost) ↔ OneCost net.now self.now.dest router cost }
     {
-        if !runs_one(net, u) {
+        if !runs_one(net, router) {
             return None;
         }
-        walks.from_router(u).best_cost(self.offers.as_slice())
+        walks.from_router(router).best_cost(self.offers.as_slice())
     }
 }

@@ -8,12 +8,10 @@ mod domain;
 mod entry;
 mod level;
 mod level_one;
-mod neighbors;
 mod offers;
-mod route;
+mod protocol;
 mod routes;
 mod runs;
-mod tables;
 
+pub use route_tables::OutOfMemory;
 pub use routes::IsisRoutes;
-pub use std::alloc::AllocError as OutOfMemory;

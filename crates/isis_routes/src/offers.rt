@@ -1,4 +1,4 @@
-ghost use Rattle.std.specs.Prelude.{◌≡◌, ◌<◌, ◌↔◌, ℕ, length, Some, IfOk, OnOk};
+ghost use Rattle.std.specs.Prelude.{◌≡◌, ◌==◌, ◌<◌, ◌↔◌, ℕ, length, Some, IfOk, OnOk, filter, not};
 ghost use Rattle.net_model.specs.Network.{Network};
 ghost use Rattle.isis_routes.specs.Offered.{Asks, AskedBy, OffersIn, AddsOffers, AreOffers};
 
@@ -19,8 +19,8 @@ pub fn level_offers(
     ensures { IfOk result (λ offers. AreOffers (OffersIn net.now level dest) offers.items) }
 {
     let mut offers = Vec::new(alloc);
-    for w in 0..net.routers() {
-        push_router_offers(&mut offers, net, level, dest, w)?;
+    for router in 0..net.routers() {
+        push_router_offers(&mut offers, net, level, dest, router)?;
     }
     Ok(offers)
 }
@@ -31,28 +31,34 @@ pub fn push_router_offers(
     net: &Net,
     level: Level,
     dest: Prefix,
-    w: u32,
+    router: u32,
 ) -> Result<(), OutOfMemory>
-    requires { w < length net.now }
-    ensures { OnOk result (AddsOffers offers.old.items offers.new.items w (OffersIn net.now level dest w)) }
+    requires { router < length net.now }
+    ensures { OnOk result (AddsOffers offers.old.items offers.new.items router (OffersIn net.now level dest router)) }
 {
-    push_offers(offers, level, dest, net.config(w).interfaces.as_slice(), w)
+    push_offers(
+        offers,
+        level,
+        dest,
+        net.config(router).interfaces.as_slice(),
+        router,
+    )
 }
 
-/// Adds what the interfaces of router `w` offer.
+/// Adds what the interfaces of a router offer.
 fn push_offers(
     offers: &mut Vec<Offer>,
     level: Level,
     dest: Prefix,
     interfaces: &[Interface],
-    w: u32,
+    router: u32,
 ) -> Result<(), OutOfMemory>
-    ensures { OnOk result (AddsOffers offers.old.items offers.new.items w (AskedBy level dest interfaces.now)) }
+    ensures { OnOk result (AddsOffers offers.old.items offers.new.items router (AskedBy level dest interfaces.now)) }
 {
     for interface in interfaces {
         if let Some(asks) = asked(level, dest, interface) {
             offers.push(Offer {
-                at: w,
+                at: router,
                 asks: u64::from(asks),
             })?;
         }
@@ -72,4 +78,15 @@ fn asked(level: Level, dest: Prefix, interface: &Interface) -> Option<u32>
         Some(subnet) if interface.up && runs && subnet == dest => Some(metric),
         _ => None,
     }
+}
+
+/// The offers that other routers than this one make.
+pub fn of_others(alloc: Global, offers: &[Offer], router: u32) -> Result<Vec<Offer>, OutOfMemory>
+    ensures { IfOk result (λ others. others.items ≡ filter (λ o. not (o.at == router)) offers.now) }
+{
+    offers
+        .iter()
+        .filter(|o| o.at != router)
+        .copied()
+        .collect(alloc)
 }

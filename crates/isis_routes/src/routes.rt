@@ -1,12 +1,11 @@
-ghost use Rattle.std.specs.Prelude.{◌≡◌, ◌<◌, length, IfOk};
+ghost use Rattle.std.specs.Prelude.{IfOk};
 ghost use Rattle.isis_routes.specs.RouteTables.{AreIsisRoutes};
 
 use crate::OutOfMemory;
-use crate::domain::Domain;
-use crate::neighbors::{Neighbors, all_neighbors};
-use crate::tables::all_tables;
+use crate::protocol::Isis;
 use net_model::Net;
 use route_core::{RouteSource, Table};
+use route_tables::RouteTables;
 use std::alloc::Global;
 use std::marker::Model;
 
@@ -17,18 +16,15 @@ use std::marker::Model;
 /// is this project's profile. Two routers are linked where they are adjacent in level 1 or in level 2.
 #[derive(Debug, Drop)]
 pub struct IsisRoutes {
-    tables: Vec<Table>,
-    neighbors: Vec<Neighbors>,
+    all: RouteTables,
 }
 
 impl Model for IsisRoutes {
-    ghost use Rattle.isis_routes.specs.RouteTables.{RouteTables, AreLawful};
+    ghost use Rattle.route_tables.specs.Tables.{Routes};
 
-    ghost Value = { RouteTables };
+    ghost Value = { Routes };
 
-    ghost view = { λ x. record { tables = x.tables.items; neighbors = x.neighbors.items } };
-
-    ghost invariant = { λ x. AreLawful (record { tables = x.tables.items; neighbors = x.neighbors.items }) };
+    ghost view = { λ x. x.all };
 }
 
 impl IsisRoutes {
@@ -36,15 +32,14 @@ impl IsisRoutes {
     pub fn build(alloc: Global, net: &Net) -> Result<IsisRoutes, OutOfMemory>
         ensures { IfOk result (AreIsisRoutes net.now) }
     {
-        let domain = Domain::build(alloc, net)?;
-        let tables = all_tables(alloc, net, &domain)?;
-        let neighbors = all_neighbors(alloc, net)?;
-        Ok(IsisRoutes { tables, neighbors })
+        let isis = Isis::build(alloc, net)?;
+        let all = RouteTables::build(alloc, &isis)?;
+        Ok(IsisRoutes { all })
     }
 }
 
 impl RouteSource for IsisRoutes {
-    ghost use Rattle.isis_routes.specs.RouteTables.{router_count, table_at, AreLinked};
+    ghost use Rattle.route_tables.specs.Tables.{router_count, table_at, AreLinked};
 
     ghost routers = { router_count };
 
@@ -53,15 +48,15 @@ impl RouteSource for IsisRoutes {
     ghost linked = { AreLinked };
 
     fn routers(&self) -> u32 {
-        self.tables.len() as u32
+        self.all.routers()
     }
 
     fn table(&self, router: u32) -> &Table {
-        &self.tables[router as usize]
+        self.all.table(router)
     }
 
-    fn linked(&self, u: u32, v: u32) -> bool {
-        self.neighbors[u as usize].contains(v)
+    fn linked(&self, router: u32, other: u32) -> bool {
+        self.all.linked(router, other)
     }
 }
 

@@ -18,7 +18,7 @@ use Rattle.igp_theory.proofs.TableLaws.{listens_to_one_area}
 use Rattle.ospf_routes.specs.Areas.{RunsArea, RunsOther, HasArea, HasWalks, AreNumbered, AreAreas, IsReach}
 use Rattle.ospf_routes.specs.Lists.{Adds}
 use Rattle.ospf_routes.specs.declared.areas.AreaWalks.{AreaWalks}
-use Rattle.ospf_routes.proofs.ListFacts.{any_of, any_in}
+use Rattle.route_tables.proofs.ListFacts.{any_of, any_in}
 use Rattle.std.specs.List.{slice_get}
 
 -- a router is in an area where one of its interfaces runs it

@@ -1,5 +1,5 @@
 -- No sum of a distance and of what an offer asks is too large.
-use Rattle.std.proofs.Common.{◌≡◌, ℕ, ◌+◌, ◌*◌, ◌^◌, ◌<◌, ◌≤◌, List, [], length, get_or, Option, Some, None, sym, subst, arith}
+use Rattle.std.proofs.Common.{◌≡◌, ℕ, ◌+◌, ◌*◌, ◌^◌, ◌<◌, ◌≤◌, ◌↔◌, refl, List, [], length, get_or, Option, Some, None, sym, subst, arith}
 use Rattle.std.specs.Option.{IfSome}
 use Rattle.std.proofs.lemmas.List.Elements.{Contains-get_or, All-contains}
 use Rattle.std.proofs.lemmas.Option.{slice_get-get_or}
@@ -12,24 +12,29 @@ use Rattle.net_model.specs.declared.zone.Zone.TheVariants.{Area}
 use Rattle.walk_core.specs.Offers.{Offers}
 use Rattle.walk_core.specs.Walks.{LeastCost}
 use Rattle.walk_core.specs.Reach.{Reach, AreNear}
-use Rattle.walk_core.specs.BestOffers.{AreInRange}
+use Rattle.walk_core.specs.BestOffers.{AreInRange, ListsOffer}
 use Rattle.walk_core.specs.declared.offers.Offer.{Offer}
 use Rattle.zone_graph.specs.Walks.{AreZoneWalks}
 use Rattle.igp_theory.specs.Ospf.{OffersSubnet, IntraAreaCost, RangeCost, stated, least, greatest, BackboneSummary, AreaSummary, BorderCost, Summary, into_backbone, into_area}
 use Rattle.net_model.specs.declared.area.Range.{Range}
 use Rattle.ospf_routes.specs.Areas.{AreAreas, HasArea}
+use Rattle.route_tables.proofs.BestRoutes.{offers_in_range}
 use Rattle.ospf_routes.specs.Offered.{AreOffers}
 use Rattle.ospf_routes.specs.declared.areas.AreaWalks.{AreaWalks}
+
+-- Lists of offers
+
+pub lists_from : (offer : Offers) (offers given : List Offer) → AreOffers offer offers → given ≡ offers → (at asks : ℕ) → ListsOffer given at asks ↔ offer at asks
+lists_from offer offers given are same at asks =
+    let listed : AreOffers offer given = subst (λ (l : List Offer). AreOffers offer l) (sym same) are in (
+      λ l. subst (λ (w : ℕ). offer w asks) l.made (subst (λ (c : ℕ). offer l.offer.at c) l.asked ((listed l.offer).0 l.among)),
+      λ o. let one : Offer = record { at = at; asks = asks } in record { offer = one; among = (listed one).1 o; made = refl; asked = refl },
+    )
 
 -- offers that ask less than 2^42 are in range over distances of at most 200 arcs
 pub in_range : (reach : Reach) (offer : Offers) (offers given : List Offer) → AreNear 200 reach → AreOffers offer offers → given ≡ offers →
     ((at asks : ℕ) → offer at asks → asks < 2 ^ 42) → AreInRange reach given
-in_range reach offer offers given near are same small = λ k d within distance is.
-    let o : Offer = get_or given k d in
-    let far : distance < 200 * 2 ^ 32 = near o.at distance is in
-    let listed : offer o.at o.asks = (subst (λ (l : List Offer). AreOffers offer l) (sym same) are o).0 (Contains-get_or given k d within) in
-    let less : o.asks < 2 ^ 42 = small o.at o.asks listed in
-    omega arith
+in_range reach offer offers given near are same small = offers_in_range reach offer given near (lists_from offer offers given are same) small
 
 no_walks : Reach
 no_walks = record { distances = []; hops = [] }

@@ -1,18 +1,14 @@
 -- Destinations by their prefixes, and what is announced of each.
-use Rattle.std.proofs.Common.{◌≡◌, ◌+◌, ◌<◌, ℕ, [], ◌∷◌, ◌++◌, length, map, take, get_or, ap, ◌∙◌, List, Result, Ok, Err, IfOk, sym, subst, arith}
+use Rattle.std.proofs.Common.{◌≡◌, ◌+◌, ◌<◌, ℕ, [], ◌∷◌, ◌++◌, length, map, take, get_or, ap, ◌∙◌, List, sym, subst, arith}
 use Rattle.std.specs.List.{All, Contains}
 use Rattle.std.proofs.lemmas.List.{map-append, take_more, length-map, get_or-map}
 use Rattle.net_addr.specs.Addresses.{Block}
 use Rattle.net_model.specs.Network.{Network}
-use Rattle.ospf_routes.specs.Candidates.{AreDistinct, IsCandidate}
+use Rattle.route_tables.specs.Prefixes.{AreDistinct}
+use Rattle.ospf_routes.specs.Candidates.{IsCandidate}
 use Rattle.ospf_routes.specs.Destinations.{IsDestination, AreDestinations, dests_of}
 use Rattle.ospf_routes.specs.declared.intra_area.Destination.{Destination}
 use Rattle.ospf_routes.specs.declared.summaries.Summaries.{Summaries}
-
--- what follows from two clauses on a call
-pub if_ok_both : {T E : Type 0} (r : Result T E) (P Q R : T → Type 0) → ((x : T) → P x → Q x → R x) → IfOk r P → IfOk r Q → IfOk r R
-if_ok_both (Ok x) P Q R both p q = both x p q
-if_ok_both (Err e) P Q R both p q = p
 
 -- destinations of distinct candidates
 pub are_destinations : (net : Network) (all : List Destination) (dests : List Block) → dests_of all ≡ dests → All (IsDestination net) all → AreDistinct dests → ((p : Block) → IsCandidate net p → Contains dests p) → AreDestinations net all
@@ -21,14 +17,6 @@ are_destinations net all dests same each distinct every = record {
   distinct = subst AreDistinct (sym same) distinct;
   every = λ p is. subst (λ (l : List Block). Contains l p) (sym same) (every p is);
 }
-
--- the prefixes of one more destination
-pub one_more_dest : (dests : List Block) (k : ℕ) (all : List Destination) (d : Destination) (dest : Block) → k < length dests → dest ≡ get_or dests k dest → dests_of all ≡ take k dests → d.dest ≡ dest → dests_of (all ++ d ∷ []) ≡ take (k + 1) dests
-one_more_dest dests k all d dest within here so_far is =
-    map-append (λ (x : Destination). x.dest) all (d ∷ [])
-    ∙ ap (λ (l : List Block). l ++ d.dest ∷ []) so_far
-    ∙ ap (λ (x : Block). take k dests ++ x ∷ []) (is ∙ here)
-    ∙ sym (take_more dests k dest within)
 
 -- the prefixes of one more list of announcements
 pub one_more_summary : (ds : List Destination) (k : ℕ) (all : List Summaries) (s : Summaries) (d : Destination) → k < length ds → d ≡ get_or ds k d → map (λ (x : Summaries). x.dest) all ≡ dests_of (take k ds) → s.dest ≡ d.dest →

@@ -5,7 +5,8 @@ use Rattle.net_model.specs.Network.{Network, Connected}
 use Rattle.route_core.specs.declared.entry.Entry.{Entry}
 use Rattle.route_core.specs.declared.entry.Entry.TheVariants.{Via, Discard}
 use Rattle.igp_theory.specs.Ospf.{IsIntraArea, IsActiveRange, SummarizesSubnet, SummarizesRange, BackboneSummary, BorderCost, AreaSummary, Summary, into_backbone, into_area, InterAreaCost, OspfEntry, intra_area, discard, inter_area}
-use Rattle.ospf_routes.specs.Candidates.{IsCandidate, all, range}
+use Rattle.route_tables.proofs.ListFacts.{any_of}
+use Rattle.ospf_routes.specs.Candidates.{IsCandidate, IsRangeOf, all, range}
 use Rattle.ospf_routes.specs.Routing.{IsIntraRoute, IsListenedRoute, ListenedCost}
 use Rattle.ospf_routes.proofs.RangeFacts.{intra_is_candidate, range_cost_active}
 
@@ -38,7 +39,7 @@ no_route_no_entry net u p no_intra no_range none e (inter_area _ cost costs _) =
 active_is_candidate : (net : Network) (u : ℕ) (p : Block) → IsActiveRange net p u → IsCandidate net p
 active_is_candidate net u p is =
     let has = is.active.component.range in
-    range (record { router = u; config = has.config; has_config = has.router; has = record { range = is.range; among = has.among; dest = is.dest } })
+    range (record { router = u; config = has.config; has_config = has.router; has = any_of (IsRangeOf p) has.config.ranges is.range has.among is.dest })
 
 subnet_summary_is_candidate : (net : Network) (n : ℕ) (p : Block) (b cost : ℕ) → SummarizesSubnet net n p b cost → IsCandidate net p
 subnet_summary_is_candidate net n p b cost s = intra_is_candidate net s.area p b cost s.costs

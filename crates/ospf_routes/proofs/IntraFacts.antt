@@ -26,7 +26,9 @@ use Rattle.ospf_routes.specs.Offered.{AreOffers, InsideOf, IsSubnetRoute}
 use Rattle.ospf_routes.specs.declared.intra_area.AreaOffers.{AreaOffers}
 use Rattle.ospf_routes.specs.declared.intra_area.Destination.{Destination}
 use Rattle.ospf_routes.specs.declared.subnets.AreaRoute.{AreaRoute}
-use Rattle.ospf_routes.proofs.ListFacts.{AnyBelow, any_of, any_in, exactly_same}
+use Rattle.ospf_routes.proofs.CostBounds.{lists_from}
+use Rattle.route_tables.proofs.BestRoutes.{best_cost_is}
+use Rattle.route_tables.proofs.ListFacts.{AnyBelow, any_of, any_in, exactly_same}
 
 -- The subnets of a router
 
@@ -112,26 +114,6 @@ parts_more P front a parts part before area is = record {
       (λ same. subst (λ (m : ℕ). HasPart (parts ++ part ∷ []) m) (area ∙ ap (λ (x : AreaWalks). x.number) same ∙ has.number) (has_part_here parts part))
       (Contains-push_cases front a has.area has.among);
 }
-
--- Lists of offers
-
-pub lists_from : (offer : Offers) (offers given : List Offer) → AreOffers offer offers → given ≡ offers → (at asks : ℕ) → ListsOffer given at asks ↔ offer at asks
-lists_from offer offers given are same at asks =
-    let listed : AreOffers offer given = subst (λ (l : List Offer). AreOffers offer l) (sym same) are in (
-      λ l. subst (λ (w : ℕ). offer w asks) l.made (subst (λ (c : ℕ). offer l.offer.at c) l.asked ((listed l.offer).0 l.among)),
-      λ o. let one : Offer = record { at = at; asks = asks } in record { offer = one; among = (listed one).1 o; made = refl; asked = refl },
-    )
-
--- the best total is the best cost, and there is none without
-pub best_cost_is : (arc : Arcs) (u : ℕ) (reach : Reach) (offer : Offers) (given : List Offer) → AreLeastWalks arc u reach → ((at asks : ℕ) → ListsOffer given at asks ↔ offer at asks) →
-    (found : Option ℕ) → MatchOption found (NoneTotals reach given) (IsBestTotal reach given) → (cost : ℕ) → (found ≡ Some cost) ↔ BestCost arc offer u cost
-best_cost_is arc u reach offer given walks are None none cost =
-    (λ is. absurd (none-some cost is), λ best. absurd (none_totals_no_best arc u reach offer given walks are none cost best))
-best_cost_is arc u reach offer given walks are (Some c) best cost =
-    let here : BestCost arc offer u c = (best_total_is_best_cost arc u reach offer given c walks are).0 best in (
-      λ is. subst (λ (k : ℕ). BestCost arc offer u k) (same_Some c cost is) here,
-      λ other. ap Some (best_cost_unique here other),
-    )
 
 -- Intra-area costs
 

@@ -1,11 +1,10 @@
-mod ListFacts
 mod AreaFacts
-mod DestLists
+mod CandidateLists
 mod CostBounds
 mod IntraFacts
 mod RangeFacts
 mod SummaryFacts
 mod RouteFacts
 mod EntryFacts
-mod TableRows
+mod ProtocolFacts
 mod DestinationFacts

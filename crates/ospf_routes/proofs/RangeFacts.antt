@@ -19,7 +19,7 @@ use Rattle.ospf_routes.specs.Lists.{Exactly, Adds}
 use Rattle.ospf_routes.specs.Ranges.{IsLonger, HasComponentCost, IsComponentOfSome, IsPicked, IsActiveAt, HasActive, AreActiveRanges, AreRangesBelow}
 use Rattle.ospf_routes.specs.declared.intra_area.Destination.{Destination}
 use Rattle.ospf_routes.specs.declared.ranges.ActiveRange.{ActiveRange}
-use Rattle.ospf_routes.proofs.ListFacts.{any_of, any_in, exactly_same, each_more}
+use Rattle.route_tables.proofs.ListFacts.{any_of, any_in, exactly_same, each_more}
 
 -- Components
 

@@ -26,8 +26,9 @@ use Rattle.ospf_routes.specs.Summarized.{IsSubnetSummary, SummarizedSubnet, IsRa
 use Rattle.ospf_routes.specs.declared.areas.AreaWalks.{AreaWalks}
 use Rattle.ospf_routes.specs.declared.ranges.ActiveRange.{ActiveRange}
 use Rattle.ospf_routes.specs.declared.subnets.AreaRoute.{AreaRoute}
-use Rattle.ospf_routes.proofs.ListFacts.{AnyBelow, any_of, any_in, exactly_same, exactly_added, adds_nothing, adds_same, adds_both}
-use Rattle.ospf_routes.proofs.IntraFacts.{best_cost_is, lists_from}
+use Rattle.route_tables.proofs.ListFacts.{AnyBelow, any_of, any_in, exactly_same, exactly_added, adds_nothing, adds_same, adds_both}
+use Rattle.route_tables.proofs.BestRoutes.{best_cost_is}
+use Rattle.ospf_routes.proofs.CostBounds.{lists_from}
 use Rattle.ospf_routes.proofs.RangeFacts.{range_cost_active}
 
 -- What one router summarizes

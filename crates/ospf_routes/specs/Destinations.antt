@@ -4,7 +4,8 @@ use Rattle.net_addr.specs.Addresses.{Block}
 use Rattle.net_model.specs.Network.{Network}
 use Rattle.walk_core.specs.declared.offers.Offer.{Offer}
 use Rattle.igp_theory.specs.Ospf.{OffersSubnet}
-use Rattle.ospf_routes.specs.Candidates.{AreDistinct, IsCandidate}
+use Rattle.route_tables.specs.Prefixes.{AreDistinct}
+use Rattle.ospf_routes.specs.Candidates.{IsCandidate}
 use Rattle.ospf_routes.specs.Lists.{Exactly}
 use Rattle.ospf_routes.specs.Offered.{AreOffers, InsideOf}
 use Rattle.ospf_routes.specs.declared.intra_area.AreaOffers.{AreaOffers}

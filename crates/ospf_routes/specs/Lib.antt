@@ -6,5 +6,6 @@ pub mod Destinations
 pub mod Domain
 pub mod Ranges
 pub mod Summarized
+pub mod Networks
 pub mod Routing
 pub mod RouteTables

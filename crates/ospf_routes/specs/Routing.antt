@@ -6,16 +6,9 @@ use Rattle.net_model.specs.Network.{Network, InArea, Adjacent}
 use Rattle.net_model.specs.declared.zone.Zone.TheVariants.{Area}
 use Rattle.walk_core.specs.Offers.{BestCost, BestHop}
 use Rattle.walk_core.specs.Reach.{Reach, distance_of}
-use Rattle.walk_core.specs.BestOffers.{IsBestTotal, AreHopsTowards}
 use Rattle.walk_core.specs.declared.offers.Offer.{Offer}
 use Rattle.route_core.specs.Hops.{AreHops}
 use Rattle.igp_theory.specs.Ospf.{OffersSubnet, IntraAreaCost, IntraAreaHop, IsIntraArea, OfOthers, Summary, ListensTo, InterAreaHop}
-
--- the hops below n towards the offers of the best cost
-pub record AreBestHops (reach : Reach) (offers : List Offer) (n : ℕ) (hops : List ℕ) : Type 0 where
-  pub cost : ℕ
-  pub best : IsBestTotal reach offers cost
-  pub towards : AreHopsTowards reach offers cost n hops
 
 -- the offer is this one, another router than u makes it, and it is reached
 pub record IsReachedOther (reach : Reach) (u : ℕ) (o offer : Offer) : Type 0 where

@@ -6,8 +6,8 @@ ghost use Rattle.ospf_routes.specs.Areas.{AreAreas, AreNumbered, HasArea, HasWal
 ghost use Rattle.ospf_routes.specs.Lists.{Adds};
 
 use crate::OutOfMemory;
-use crate::lists::push_option;
 use net_model::{Interface, Net, Zone};
+use route_tables::push_option;
 use std::alloc::Global;
 use walk_core::LeastWalks;
 use zone_graph::ZoneWalks;

@@ -10,10 +10,10 @@ ghost use Rattle.ospf_routes.specs.Summarized.{IsBorderOffer};
 use crate::OutOfMemory;
 use crate::areas::{AreaWalks, is_border, reach};
 use crate::intra_area::{Destination, has_intra};
-use crate::lists::push_option;
 use crate::ranges::ActiveRanges;
 use crate::route::reached_others;
 use net_model::Net;
+use route_tables::push_option;
 use std::alloc::Global;
 use walk_core::Offer;
 

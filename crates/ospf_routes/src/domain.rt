@@ -5,7 +5,7 @@ ghost use Rattle.ospf_routes.specs.Domain.{IsDomain};
 
 use crate::OutOfMemory;
 use crate::areas::{AreaWalks, all_areas};
-use crate::candidates::candidates;
+use crate::candidates::candidates_of;
 use crate::intra_area::Destination;
 use net_addr::Prefix;
 use net_model::Net;
@@ -44,7 +44,7 @@ fn destinations(
     requires { AreAreas net.now areas.now }
     ensures { IfOk result (λ all. AreDestinations net.now all.items) }
 {
-    let dests = candidates(alloc, net)?;
+    let dests = candidates_of(alloc, net)?;
     each_destination(alloc, net, areas, dests.as_slice())
 }
 

@@ -10,12 +10,12 @@ ghost use Rattle.ospf_routes.specs.Summarized.{AreSummaries};
 use crate::OutOfMemory;
 use crate::areas::{AreaWalks, listens_to, reach, reach_inside};
 use crate::intra_area::{Destination, part_of};
-use crate::lists::push_option;
 use crate::ranges::ActiveRanges;
-use crate::route::{best_hops, reached_others, united_some};
+use crate::route::{reached_others, united_some};
 use crate::summaries::Summaries;
 use net_model::Net;
 use route_core::{Entry, Hops};
+use route_tables::{best_hops, push_option};
 use std::alloc::Global;
 
 /// The entry of router `u` for a prefix: the intra-area route, else a discard of an active range, else

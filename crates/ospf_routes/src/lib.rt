@@ -7,8 +7,7 @@ mod candidates;
 mod domain;
 mod entry;
 mod intra_area;
-mod lists;
-mod neighbors;
+mod protocol;
 mod ranges;
 mod route;
 mod routes;
@@ -16,7 +15,6 @@ mod stub_areas;
 mod subnets;
 mod summaries;
 mod summarized;
-mod tables;
 
+pub use route_tables::OutOfMemory;
 pub use routes::OspfRoutes;
-pub use std::alloc::AllocError as OutOfMemory;

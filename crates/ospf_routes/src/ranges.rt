@@ -11,9 +11,9 @@ use crate::OutOfMemory;
 use crate::areas::{AreaWalks, is_border};
 use crate::domain::Domain;
 use crate::intra_area::{Destination, intra_cost};
-use crate::lists::push_option;
 use net_addr::Prefix;
 use net_model::{Net, Range};
+use route_tables::push_option;
 use std::alloc::Global;
 use std::marker::Model;
 

@@ -1,34 +1,13 @@
 ghost use Rattle.std.specs.Prelude.{◌≡◌, ◌↔◌, length, Some, Any, Contains, IfOk, IsTrue, MatchOption};
-ghost use Rattle.walk_core.specs.BestOffers.{AreInRange, NoneTotals};
 ghost use Rattle.walk_core.specs.declared.offers.Offer.{Offer as OfferValue};
 ghost use Rattle.ospf_routes.specs.Lists.{Exactly};
-ghost use Rattle.ospf_routes.specs.Routing.{AreBestHops, AreSomeUnited, AreUnited, IsReachedOther};
+ghost use Rattle.ospf_routes.specs.Routing.{AreSomeUnited, AreUnited, IsReachedOther};
 
 use crate::OutOfMemory;
-use crate::lists::push_option;
 use route_core::Hops;
+use route_tables::push_option;
 use std::alloc::Global;
 use walk_core::{LeastWalks, Offer};
-
-/// The first hops below `count` of all least-cost routes to the best of some offers, and `None` where
-/// no offer is reached.
-pub fn best_hops(
-    alloc: Global,
-    walks: &LeastWalks,
-    offers: &[Offer],
-    count: u32,
-) -> Result<Option<Hops>, OutOfMemory>
-    requires { AreInRange walks.now offers.now }
-    ensures { IfOk result (λ found. MatchOption found (NoneTotals walks.now offers.now) (AreBestHops walks.now offers.now count)) }
-{
-    match walks.best_cost(offers) {
-        Some(cost) => {
-            let hops = walks.hops_towards(alloc, offers, cost, count)?;
-            Ok(Some(Hops::from_vec(hops)))
-        }
-        None => Ok(None),
-    }
-}
 
 /// The offers that other routers than `u` make and that are reached.
 pub fn reached_others(

@@ -1,12 +1,11 @@
-ghost use Rattle.std.specs.Prelude.{◌≡◌, ◌<◌, length, IfOk};
+ghost use Rattle.std.specs.Prelude.{IfOk};
 ghost use Rattle.ospf_routes.specs.RouteTables.{AreOspfRoutes};
 
 use crate::OutOfMemory;
-use crate::domain::Domain;
-use crate::neighbors::{Neighbors, all_neighbors};
-use crate::tables::all_tables;
+use crate::protocol::Ospf;
 use net_model::Net;
 use route_core::{RouteSource, Table};
+use route_tables::RouteTables;
 use std::alloc::Global;
 use std::marker::Model;
 
@@ -19,18 +18,15 @@ use std::marker::Model;
 /// are adjacent in some area.
 #[derive(Debug, Drop)]
 pub struct OspfRoutes {
-    tables: Vec<Table>,
-    neighbors: Vec<Neighbors>,
+    all: RouteTables,
 }
 
 impl Model for OspfRoutes {
-    ghost use Rattle.ospf_routes.specs.RouteTables.{RouteTables, AreLawful};
+    ghost use Rattle.route_tables.specs.Tables.{Routes};
 
-    ghost Value = { RouteTables };
+    ghost Value = { Routes };
 
-    ghost view = { λ x. record { tables = x.tables.items; neighbors = x.neighbors.items } };
-
-    ghost invariant = { λ x. AreLawful (record { tables = x.tables.items; neighbors = x.neighbors.items }) };
+    ghost view = { λ x. x.all };
 }
 
 impl OspfRoutes {
@@ -38,15 +34,14 @@ impl OspfRoutes {
     pub fn build(alloc: Global, net: &Net) -> Result<OspfRoutes, OutOfMemory>
         ensures { IfOk result (AreOspfRoutes net.now) }
     {
-        let domain = Domain::build(alloc, net)?;
-        let tables = all_tables(alloc, net, &domain)?;
-        let neighbors = all_neighbors(alloc, net, domain.areas.as_slice())?;
-        Ok(OspfRoutes { tables, neighbors })
+        let ospf = Ospf::build(alloc, net)?;
+        let all = RouteTables::build(alloc, &ospf)?;
+        Ok(OspfRoutes { all })
     }
 }
 
 impl RouteSource for OspfRoutes {
-    ghost use Rattle.ospf_routes.specs.RouteTables.{router_count, table_at, AreLinked};
+    ghost use Rattle.route_tables.specs.Tables.{router_count, table_at, AreLinked};
 
     ghost routers = { router_count };
 
@@ -55,15 +50,15 @@ impl RouteSource for OspfRoutes {
     ghost linked = { AreLinked };
 
     fn routers(&self) -> u32 {
-        self.tables.len() as u32
+        self.all.routers()
     }
 
     fn table(&self, router: u32) -> &Table {
-        &self.tables[router as usize]
+        self.all.table(router)
     }
 
-    fn linked(&self, u: u32, v: u32) -> bool {
-        self.neighbors[u as usize].contains(v)
+    fn linked(&self, router: u32, other: u32) -> bool {
+        self.all.linked(router, other)
     }
 }
 

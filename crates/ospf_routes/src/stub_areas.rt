@@ -6,10 +6,9 @@ ghost use Rattle.ospf_routes.specs.Summarized.{HasDefault, IsAlone, IsDefault, R
 
 use crate::OutOfMemory;
 use crate::areas::is_border;
-use crate::candidates::is_all_addresses;
-use crate::lists::push_option;
 use net_addr::Prefix;
 use net_model::{Net, Stub};
+use route_tables::{is_all_addresses, push_option};
 use walk_core::Offer;
 
 /// Whether router `b` announces nothing but a default route into the area.

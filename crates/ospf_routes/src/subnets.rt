@@ -5,9 +5,9 @@ ghost use Rattle.ospf_routes.specs.Offered.{IsSubnetRoute, InsideOf, OutsideOf, 
 ghost use Rattle.ospf_routes.specs.declared.subnets.AreaRoute.{AreaRoute as Route};
 
 use crate::OutOfMemory;
-use crate::lists::push_option;
 use net_addr::Prefix;
 use net_model::{Interface, Net};
+use route_tables::push_option;
 use std::alloc::Global;
 use walk_core::Offer;
 

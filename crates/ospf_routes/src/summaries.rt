@@ -12,13 +12,13 @@ use crate::OutOfMemory;
 use crate::areas::AreaWalks;
 use crate::border_routes::border_offers;
 use crate::intra_area::{AreaOffers, Destination};
-use crate::lists::push_option;
 use crate::ranges::ActiveRanges;
 use crate::stub_areas::{is_totally_stubby, push_defaults};
 use crate::subnets::{AreaRoute, offers_outside};
 use crate::summarized::summarized;
 use net_addr::Prefix;
 use net_model::Net;
+use route_tables::push_option;
 use std::alloc::Global;
 use walk_core::Offer;
 

@@ -9,11 +9,11 @@ ghost use Rattle.ospf_routes.specs.declared.subnets.AreaRoute.{AreaRoute as Rout
 use crate::OutOfMemory;
 use crate::areas::{AreaWalks, is_border};
 use crate::intra_area::{Destination, intra_cost};
-use crate::lists::push_option;
 use crate::ranges::{ActiveRange, ActiveRanges, is_component};
 use crate::subnets::AreaRoute;
 use net_addr::Prefix;
 use net_model::Net;
+use route_tables::push_option;
 use std::alloc::Global;
 
 /// The subnets and ranges that border routers summarize of a prefix, each as a route of its own area.

@@ -5,5 +5,5 @@ use Rattle.isis_routes.proofs.attached.leaves_area.Goals as goal
 
 pub returns : goal.returns
 returns c =
-    let count : length c.args.net.now ≡ c.loop-v.v = omega (arith, c.routers-v-end.ensures.count) in
-    (λ e. absurd (false≢true e), λ leaves. absurd (not_leaving c.args.net.now c.args.u c.loop-v.v count c.loop-v.invariant leaves))
+    let count : length c.args.net.now ≡ c.loop-other.other = omega (arith, c.routers-other-end.ensures.count) in
+    (λ e. absurd (false≢true e), λ leaves. absurd (not_leaving c.args.net.now c.args.router c.loop-other.other count c.loop-other.invariant leaves))

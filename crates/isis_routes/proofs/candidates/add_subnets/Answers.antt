@@ -1,23 +1,15 @@
-use Rattle.std.proofs.Common.{◌≡◌, ◌++◌, ◌∷◌, [], ◌+◌, take, List, Some, sym, ap, subst, ◌∙◌, ℕ, ◌<◌, length, get_or}
-use Rattle.std.proofs.lemmas.List.{take_more}
-use Rattle.net_addr.specs.Addresses.{Block}
-use Rattle.net_model.specs.declared.interface.Interface.{Interface}
-use Rattle.isis_routes.specs.Candidates.{AddsDests, HasSubnet, HaveSubnet}
-use Rattle.isis_routes.proofs.DestLists.{dests_more, dests_same}
+use Rattle.route_tables.proofs.ListFacts.{adds_start, adds_step, adds_end}
+use Rattle.isis_routes.specs.Candidates.{HasSubnet}
 use Rattle.isis_routes.proofs.candidates.add_subnets.Goals as goal
+
+pub loop-interface-init : goal.loop-interface-init
+loop-interface-init c = adds_start HasSubnet c.args.dests.now c.args.interfaces.now
 
 pub loop-interface-preserved : goal.loop-interface-preserved
 loop-interface-preserved c =
-    let i : Interface = c.interface-item.result in
-    let n : ℕ = c.loop-interface.interface-index in
-    let all : List Interface = c.args.interfaces.now in
-    let within : n < length all = c.loop-interface-test.true in
-    let here : i ≡ get_or all n i = c.interface-item.is in
-    let one_more : take n all ++ i ∷ [] ≡ take (n + 1) all =
-    sym (take_more all n i within ∙ ap (λ (x : Interface). take n all ++ x ∷ []) (sym here)) in
-    let old : List Block = c.args.dests.now.items in
-    let mid : List Block = c.loop-interface.dests.items in
-    let new : List Block = c.add_subnet.new.dests.items in
-    subst (λ (l : List Interface). AddsDests old new (HaveSubnet l)) one_more
-    (dests_more old mid new (take n all) i c.loop-interface.invariant
-    (dests_same mid new (λ p. c.subnet_of.result ≡ Some p) (HasSubnet i) c.in_ok-add_subnet.ensures (λ p has. (c.subnet_of.ensures p).1 has)))
+    adds_step HasSubnet c.args.dests.now c.loop-interface.dests c.add_option.new.self c.args.interfaces.now c.loop-interface.interface-index c.interface-item.result c.subnet_of.result
+    c.loop-interface-test.true c.interface-item.is c.loop-interface.invariant c.in_ok-add_option.ensures c.subnet_of.ensures
+
+pub returns : goal.returns
+returns c =
+    adds_end HasSubnet c.args.dests.now c.loop-interface.dests c.args.interfaces.now c.loop-interface.interface-index c.loop-interface-test.false c.loop-interface.invariant

@@ -3,7 +3,7 @@ use Rattle.std.proofs.lemmas.List.Elements.{All-push}
 use Rattle.net_addr.specs.Addresses.{Block}
 use Rattle.isis_routes.specs.Domain.{AreAnnounced, dests_of}
 use Rattle.isis_routes.specs.declared.domain.Destination.{Destination}
-use Rattle.isis_routes.proofs.DestinationFacts.{one_more_dest}
+use Rattle.route_tables.proofs.DestinationLists.{one_more_prefix}
 use Rattle.isis_routes.proofs.domain.each_destination.Goals as goal
 
 pub loop-dest-preserved : goal.loop-dest-preserved
@@ -14,7 +14,7 @@ loop-dest-preserved c =
     let all : List Destination = c.loop-dest.all.items in
     record {
       dests = subst (λ (l : List Destination). dests_of l ≡ take (k + 1) dests) (sym c.in_ok-push.ensures.items)
-          (one_more_dest dests k all d c.dest-item.result c.loop-dest-test.true c.dest-item.is c.loop-dest.invariant.dests c.in_ok-build.ensures.dest);
+          (one_more_prefix (λ (x : Destination). x.one.dest) dests k all d c.dest-item.result c.loop-dest-test.true c.dest-item.is c.loop-dest.invariant.dests c.in_ok-build.ensures.dest);
       announced = subst (λ (l : List Destination). All (AreAnnounced c.args.net.now) l) (sym c.in_ok-push.ensures.items)
           (All-push (AreAnnounced c.args.net.now) all d c.loop-dest.invariant.announced c.in_ok-build.ensures.announced);
     }

@@ -3,7 +3,8 @@ use Rattle.std.proofs.lemmas.Result.{IfOk-weaker}
 use Rattle.net_model.specs.Network.{Network}
 use Rattle.walk_core.specs.BestOffers.{NoneTotals}
 use Rattle.igp_theory.specs.Isis.{OffersDefault}
-use Rattle.isis_routes.specs.Routing.{AreBestHops, IsDefaultRoute, NoDefaultRoute}
+use Rattle.route_tables.specs.BestRoutes.{AreBestHops}
+use Rattle.isis_routes.specs.Routing.{IsDefaultRoute, NoDefaultRoute}
 use Rattle.isis_routes.proofs.BestRoutes.{default_route_is}
 use Rattle.isis_routes.proofs.CostBounds.{in_range, default_is_small}
 use Rattle.isis_routes.proofs.entry.default_hops.Goals as goal
@@ -12,13 +13,13 @@ pub best_hops-requires : goal.best_hops-requires
 best_hops-requires c =
     let net : Network = c.args.net.now in
     in_range c.from_router.result.now (OffersDefault net) c.args.domain.now.attached.items c.as_slice-attached.result.now
-    (c.requires.domain.one.near c.args.u c.from_router.result.now c.from_router.ensures) c.requires.domain.attached c.as_slice-attached.ensures.value
+    (c.requires.domain.one.near c.args.router c.from_router.result.now c.from_router.ensures) c.requires.domain.attached c.as_slice-attached.ensures.value
     (default_is_small net)
 
 pub returns : goal.returns
 returns c =
     let net : Network = c.args.net.now in
-    let u = c.args.u in
+    let u = c.args.router in
     let reach = c.from_router.result.now in
     let given = c.as_slice-attached.result.now in
     let alone = c.if-not-runs_one_alone.ensures.0 refl in

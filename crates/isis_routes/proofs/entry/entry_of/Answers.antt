@@ -8,7 +8,7 @@ use Rattle.isis_routes.proofs.entry.entry_of.Goals as goal
 pub returns-in-Some-3 : goal.returns-in-Some-3
 returns-in-Some-3 c =
     let net = c.args.net.now in
-    let u = c.args.u in
+    let u = c.args.router in
     let p = c.args.destination.now.one.dest in
     entry_by_default net u p c.in-Some-3.hops (λ is. false≢true (c.if-originates.ensures.1 is))
     (MatchOption-at_none (IsOne net p u → ⊥) (IsLevelOneRoute net p u) c.in_default.is c.in_ok-hops.ensures)

@@ -5,7 +5,8 @@ use Rattle.walk_core.specs.declared.offers.Offer.{Offer}
 use Rattle.igp_theory.specs.Ospf.{OfOthers}
 use Rattle.igp_theory.specs.Isis.{LevelTwoAnnouncement, IsTwo}
 use Rattle.isis_routes.specs.Offered.{AreOffers}
-use Rattle.isis_routes.specs.Routing.{AreBestHops, IsLevelTwoRoute}
+use Rattle.route_tables.specs.BestRoutes.{AreBestHops}
+use Rattle.isis_routes.specs.Routing.{IsLevelTwoRoute}
 use Rattle.isis_routes.proofs.Announced.{others_of_are}
 use Rattle.isis_routes.proofs.BestRoutes.{two_route_is}
 use Rattle.isis_routes.proofs.CostBounds.{in_range, announcement_is_small}
@@ -14,7 +15,7 @@ use Rattle.isis_routes.proofs.entry.level_two_hops.Goals as goal
 pub best_hops-requires : goal.best_hops-requires
 best_hops-requires c =
     let net = c.args.net.now in
-    let u = c.args.u in
+    let u = c.args.router in
     let d = c.args.destination.now in
     let others = c.in_ok-others.others.items in
     in_range c.from_router.result.now (OfOthers (LevelTwoAnnouncement net d.one.dest) u) others c.as_slice-2.result.now
@@ -26,7 +27,7 @@ best_hops-requires c =
 pub returns : goal.returns
 returns c =
     let net = c.args.net.now in
-    let u = c.args.u in
+    let u = c.args.router in
     let d = c.args.destination.now in
     let p = d.one.dest in
     let reach = c.from_router.result.now in

@@ -1,5 +1,5 @@
 use Rattle.isis_routes.specs.Offered.{OffersIn, AreOffersBelow}
 use Rattle.isis_routes.proofs.offers.level_offers.Given as goal
 
-abbrev pub invariant-loop-w : goal.invariant-loop-w
-invariant-loop-w l = AreOffersBelow (OffersIn l.net l.level l.dest) l.w l.offers.items
+abbrev pub invariant-loop-router : goal.invariant-loop-router
+invariant-loop-router l = AreOffersBelow (OffersIn l.net l.level l.dest) l.router l.offers.items

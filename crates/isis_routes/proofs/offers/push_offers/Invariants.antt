@@ -3,4 +3,4 @@ use Rattle.isis_routes.specs.Offered.{AskedBy, AddsOffers}
 use Rattle.isis_routes.proofs.offers.push_offers.Given as goal
 
 abbrev pub invariant-loop-interface : goal.invariant-loop-interface
-invariant-loop-interface l = AddsOffers l.initial.offers.items l.offers.items l.w (AskedBy l.level l.dest (take l.interface-index l.interfaces))
+invariant-loop-interface l = AddsOffers l.initial.offers.items l.offers.items l.router (AskedBy l.level l.dest (take l.interface-index l.interfaces))

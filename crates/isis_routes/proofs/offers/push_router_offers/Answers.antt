@@ -14,10 +14,10 @@ returns c =
     let new = c.push_offers.new.offers.items in
     let asked : ℕ → Type 0 = AskedBy c.args.level c.args.dest config.interfaces in
     on_ok_weaker c.push_offers.result
-    (λ adds. adds_same old new c.args.w asked (OffersIn c.args.net.now c.args.level c.args.dest c.args.w)
-    (subst (λ (l : List Interface). AddsOffers old new c.args.w (AskedBy c.args.level c.args.dest l)) are adds)
+    (λ adds. adds_same old new c.args.router asked (OffersIn c.args.net.now c.args.level c.args.dest c.args.router)
+    (subst (λ (l : List Interface). AddsOffers old new c.args.router (AskedBy c.args.level c.args.dest l)) are adds)
     (λ k. (
-      asked_is_offered c.args.net.now c.args.level c.args.dest c.args.w config c.config.ensures.router k,
-      offered_is_asked c.args.net.now c.args.level c.args.dest c.args.w config c.config.ensures.router k,
+      asked_is_offered c.args.net.now c.args.level c.args.dest c.args.router config c.config.ensures.router k,
+      offered_is_asked c.args.net.now c.args.level c.args.dest c.args.router config c.config.ensures.router k,
     )))
     c.push_offers.ensures

@@ -1,6 +1,6 @@
 use Rattle.std.proofs.Common.{ℕ}
 use Rattle.net_model.specs.declared.interface.Interface.{Interface}
-use Rattle.ospf_routes.proofs.ListFacts.{adds_start, adds_step, adds_end}
+use Rattle.route_tables.proofs.ListFacts.{adds_start, adds_step, adds_end}
 use Rattle.ospf_routes.specs.Areas.{RunsArea}
 use Rattle.ospf_routes.proofs.areas.add_areas.Goals as goal
 

@@ -1,6 +1,6 @@
 use Rattle.std.proofs.Common.{refl, ℕ}
 use Rattle.net_model.specs.declared.interface.Interface.{Interface}
-use Rattle.ospf_routes.proofs.ListFacts.{any_of, contains_at, within_more}
+use Rattle.route_tables.proofs.ListFacts.{any_of, contains_at, within_more}
 use Rattle.ospf_routes.specs.Areas.{RunsArea}
 use Rattle.ospf_routes.proofs.areas.first_area.Goals as goal
 

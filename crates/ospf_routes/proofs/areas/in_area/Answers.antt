@@ -1,7 +1,7 @@
 use Rattle.std.proofs.Common.{◌∙◌, ap}
 use Rattle.net_model.specs.Configuration.{Configuration}
 use Rattle.ospf_routes.proofs.AreaFacts.{inside_is}
-use Rattle.ospf_routes.proofs.ListFacts.{iff_then}
+use Rattle.route_tables.proofs.ListFacts.{iff_then}
 use Rattle.ospf_routes.proofs.areas.in_area.Goals as goal
 
 pub returns : goal.returns

@@ -1,7 +1,7 @@
 use Rattle.std.proofs.Common.{◌∙◌, ap}
 use Rattle.net_model.specs.Configuration.{Configuration}
 use Rattle.ospf_routes.proofs.AreaFacts.{border_by_other, no_area_no_border}
-use Rattle.ospf_routes.proofs.ListFacts.{iff_then}
+use Rattle.route_tables.proofs.ListFacts.{iff_then}
 use Rattle.ospf_routes.proofs.areas.is_border.Goals as goal
 
 pub returns-in-Some : goal.returns-in-Some

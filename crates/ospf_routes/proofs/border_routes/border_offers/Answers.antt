@@ -1,7 +1,7 @@
 use Rattle.std.proofs.Common.{◌≡◌, arith, Some}
 use Rattle.igp_theory.specs.Ospf.{BorderCost}
 use Rattle.walk_core.specs.declared.offers.Offer.{Offer}
-use Rattle.ospf_routes.proofs.ListFacts.{below_start, below_step, adds_same, exactly_below}
+use Rattle.route_tables.proofs.ListFacts.{below_start, below_step, adds_same, exactly_below}
 use Rattle.ospf_routes.proofs.RangeFacts.{ranges_of}
 use Rattle.ospf_routes.proofs.SummaryFacts.{BorderOfRouter, border_of_router, border_below}
 use Rattle.ospf_routes.proofs.border_routes.border_offers.Goals as goal

@@ -1,5 +1,5 @@
 use Rattle.ospf_routes.specs.Lists.{Adds}
-use Rattle.ospf_routes.proofs.ListFacts.{AnyBelow}
+use Rattle.route_tables.proofs.ListFacts.{AnyBelow}
 use Rattle.ospf_routes.proofs.SummaryFacts.{BorderOfRouter}
 use Rattle.ospf_routes.proofs.border_routes.border_offers.Given as goal
 

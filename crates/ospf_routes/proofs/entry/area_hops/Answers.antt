@@ -5,7 +5,8 @@ use Rattle.walk_core.specs.BestOffers.{NoneTotals}
 use Rattle.ospf_routes.proofs.CostBounds.{in_range, subnet_is_small}
 use Rattle.ospf_routes.proofs.IntraFacts.{part_is, no_intra_given}
 use Rattle.ospf_routes.proofs.RouteFacts.{area_route_is}
-use Rattle.ospf_routes.specs.Routing.{AreBestHops, IsAreaRoute}
+use Rattle.route_tables.specs.BestRoutes.{AreBestHops}
+use Rattle.ospf_routes.specs.Routing.{IsAreaRoute}
 use Rattle.ospf_routes.proofs.entry.area_hops.Goals as goal
 
 pub best_hops-requires : goal.best_hops-requires

@@ -1,6 +1,6 @@
 use Rattle.std.proofs.Common.{[], subst, List, ℕ, sym, take}
 use Rattle.std.proofs.lemmas.List.{take_all}
-use Rattle.ospf_routes.proofs.ListFacts.{one_more}
+use Rattle.route_tables.proofs.ListFacts.{one_more}
 use Rattle.ospf_routes.proofs.RouteFacts.{AreaListsSoFar, area_lists_none, area_lists_more, area_lists_all}
 use Rattle.ospf_routes.specs.declared.areas.AreaWalks.{AreaWalks}
 use Rattle.ospf_routes.proofs.entry.area_lists.Goals as goal

@@ -7,7 +7,8 @@ use Rattle.walk_core.specs.BestOffers.{NoneTotals}
 use Rattle.ospf_routes.proofs.CostBounds.{in_range, summary_is_small}
 use Rattle.ospf_routes.proofs.RouteFacts.{summary_part_is, listened_route_is, summary_part_there, listened_area}
 use Rattle.ospf_routes.proofs.SummaryFacts.{OfReached, reached_are}
-use Rattle.ospf_routes.specs.Routing.{AreBestHops, ListenedCost, IsListenedRoute}
+use Rattle.route_tables.specs.BestRoutes.{AreBestHops}
+use Rattle.ospf_routes.specs.Routing.{ListenedCost, IsListenedRoute}
 use Rattle.ospf_routes.proofs.entry.listened_hops.Goals as goal
 
 pub best_hops-requires : goal.best_hops-requires

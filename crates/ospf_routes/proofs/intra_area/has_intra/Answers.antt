@@ -2,7 +2,7 @@ use Rattle.std.proofs.Common.{◌∙◌, sym, refl, ℕ}
 use Rattle.std.proofs.lemmas.Bool.{false≢true}
 use Rattle.igp_theory.specs.Ospf.{IntraAreaCost}
 use Rattle.ospf_routes.proofs.IntraFacts.{no_intra_anywhere}
-use Rattle.ospf_routes.proofs.ListFacts.{some_of, within_more, none_of, all_passed}
+use Rattle.route_tables.proofs.ListFacts.{some_of, within_more, none_of, all_passed}
 use Rattle.ospf_routes.specs.declared.areas.AreaWalks.{AreaWalks}
 use Rattle.ospf_routes.proofs.intra_area.has_intra.Goals as goal
 

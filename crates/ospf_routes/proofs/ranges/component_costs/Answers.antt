@@ -1,7 +1,7 @@
 use Rattle.std.proofs.Common.{◌≡◌, ◌<◌, ◌≤◌, ℕ, length, get_or, subst, List}
 use Rattle.std.specs.List.{Any}
 use Rattle.igp_theory.specs.Ospf.{IsComponent}
-use Rattle.ospf_routes.proofs.ListFacts.{all_in_at, adds_start, adds_step, exactly_added, adds_end}
+use Rattle.route_tables.proofs.ListFacts.{all_in_at, adds_start, adds_step, exactly_added, adds_end}
 use Rattle.ospf_routes.proofs.RangeFacts.{component_costs_are}
 use Rattle.ospf_routes.specs.Destinations.{IsDestination}
 use Rattle.ospf_routes.specs.declared.intra_area.Destination.{Destination}

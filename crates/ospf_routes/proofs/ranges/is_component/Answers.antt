@@ -3,7 +3,7 @@ use Rattle.std.proofs.lemmas.Bool.{false≢true}
 use Rattle.igp_theory.specs.Ospf.{IsComponent}
 use Rattle.net_model.specs.Configuration.{Configuration}
 use Rattle.net_model.specs.declared.area.Range.{Range}
-use Rattle.ospf_routes.proofs.ListFacts.{some_of, within_more, none_of, all_passed}
+use Rattle.route_tables.proofs.ListFacts.{some_of, within_more, none_of, all_passed}
 use Rattle.ospf_routes.proofs.RangeFacts.{component_of_some}
 use Rattle.ospf_routes.proofs.ranges.is_component.Goals as goal
 

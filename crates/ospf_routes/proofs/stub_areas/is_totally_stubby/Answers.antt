@@ -1,6 +1,6 @@
 use Rattle.std.proofs.Common.{◌∙◌, ap}
 use Rattle.net_model.specs.Configuration.{Configuration}
-use Rattle.ospf_routes.proofs.ListFacts.{iff_then}
+use Rattle.route_tables.proofs.ListFacts.{iff_then}
 use Rattle.ospf_routes.proofs.SummaryFacts.{totally_stubby_is}
 use Rattle.ospf_routes.proofs.stub_areas.is_totally_stubby.Goals as goal
 

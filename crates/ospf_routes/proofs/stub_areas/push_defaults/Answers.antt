@@ -1,6 +1,6 @@
 use Rattle.std.proofs.Common.{arith, refl}
 use Rattle.std.proofs.lemmas.Bool.{false≢true}
-use Rattle.ospf_routes.proofs.ListFacts.{below_start, below_step}
+use Rattle.route_tables.proofs.ListFacts.{below_start, below_step}
 use Rattle.ospf_routes.proofs.SummaryFacts.{no_default, defaults_are}
 use Rattle.ospf_routes.specs.Summarized.{RouterDefault}
 use Rattle.ospf_routes.proofs.stub_areas.push_defaults.Goals as goal

@@ -1,6 +1,6 @@
 use Rattle.ospf_routes.specs.Lists.{Adds}
 use Rattle.ospf_routes.specs.Summarized.{RouterDefault}
-use Rattle.ospf_routes.proofs.ListFacts.{AnyBelow}
+use Rattle.route_tables.proofs.ListFacts.{AnyBelow}
 use Rattle.ospf_routes.proofs.stub_areas.push_defaults.Given as goal
 
 abbrev pub invariant-loop-b : goal.invariant-loop-b

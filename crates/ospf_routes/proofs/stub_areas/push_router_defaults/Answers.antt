@@ -4,7 +4,7 @@ use Rattle.std.proofs.lemmas.Result.{on_ok_weaker}
 use Rattle.std.specs.List.{Any}
 use Rattle.net_model.specs.Configuration.{Configuration}
 use Rattle.walk_core.specs.declared.offers.Offer.{Offer}
-use Rattle.ospf_routes.proofs.ListFacts.{adds_same}
+use Rattle.route_tables.proofs.ListFacts.{adds_same}
 use Rattle.ospf_routes.proofs.SummaryFacts.{no_router_default, router_default_is}
 use Rattle.ospf_routes.specs.Summarized.{IsDefault, RouterDefault}
 use Rattle.ospf_routes.proofs.stub_areas.push_router_defaults.Goals as goal

@@ -1,6 +1,6 @@
 use Rattle.net_model.specs.declared.area.Stub.{Stub}
 use Rattle.walk_core.specs.declared.offers.Offer.{Offer}
-use Rattle.ospf_routes.proofs.ListFacts.{adds_start, adds_at, adds_end}
+use Rattle.route_tables.proofs.ListFacts.{adds_start, adds_at, adds_end}
 use Rattle.ospf_routes.specs.Summarized.{IsDefault}
 use Rattle.ospf_routes.proofs.stub_areas.push_stub_defaults.Goals as goal
 

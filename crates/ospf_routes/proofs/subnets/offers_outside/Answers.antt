@@ -1,5 +1,5 @@
 use Rattle.walk_core.specs.declared.offers.Offer.{Offer}
-use Rattle.ospf_routes.proofs.ListFacts.{adds_start, adds_at, exactly_added, adds_end}
+use Rattle.route_tables.proofs.ListFacts.{adds_start, adds_at, exactly_added, adds_end}
 use Rattle.ospf_routes.specs.Offered.{OutsideOf}
 use Rattle.ospf_routes.specs.declared.subnets.AreaRoute.{AreaRoute}
 use Rattle.ospf_routes.proofs.subnets.offers_outside.Goals as goal

@@ -1,5 +1,5 @@
 use Rattle.net_model.specs.declared.interface.Interface.{Interface}
-use Rattle.ospf_routes.proofs.ListFacts.{adds_start, adds_step, adds_end}
+use Rattle.route_tables.proofs.ListFacts.{adds_start, adds_step, adds_end}
 use Rattle.ospf_routes.specs.Offered.{IsSubnetRoute}
 use Rattle.ospf_routes.specs.declared.subnets.AreaRoute.{AreaRoute}
 use Rattle.ospf_routes.proofs.subnets.push_subnets.Goals as goal

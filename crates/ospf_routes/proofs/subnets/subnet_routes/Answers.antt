@@ -4,7 +4,7 @@ use Rattle.igp_theory.specs.Ospf.{OffersSubnet}
 use Rattle.net_model.specs.Configuration.{Configuration}
 use Rattle.net_model.specs.declared.interface.Interface.{Interface}
 use Rattle.ospf_routes.proofs.IntraFacts.{RouterSubnet, router_subnet_is, subnet_below}
-use Rattle.ospf_routes.proofs.ListFacts.{below_start, below_step, adds_same, exactly_below}
+use Rattle.route_tables.proofs.ListFacts.{below_start, below_step, adds_same, exactly_below}
 use Rattle.ospf_routes.specs.Offered.{IsSubnetRoute}
 use Rattle.ospf_routes.specs.declared.subnets.AreaRoute.{AreaRoute}
 use Rattle.ospf_routes.proofs.subnets.subnet_routes.Goals as goal

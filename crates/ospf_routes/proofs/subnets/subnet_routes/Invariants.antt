@@ -1,5 +1,5 @@
 use Rattle.ospf_routes.specs.Lists.{Adds}
-use Rattle.ospf_routes.proofs.ListFacts.{AnyBelow}
+use Rattle.route_tables.proofs.ListFacts.{AnyBelow}
 use Rattle.ospf_routes.proofs.IntraFacts.{RouterSubnet}
 use Rattle.ospf_routes.proofs.subnets.subnet_routes.Given as goal
 

@@ -1,7 +1,7 @@
 use Rattle.std.proofs.Common.{◌+◌, ◌∷◌, ◌++◌, [], subst, List, sym, take, refl, ℕ}
 use Rattle.std.proofs.lemmas.List.{take_all}
 use Rattle.ospf_routes.proofs.IntraFacts.{PartsSoFar, parts_none, parts_more}
-use Rattle.ospf_routes.proofs.ListFacts.{one_more}
+use Rattle.route_tables.proofs.ListFacts.{one_more}
 use Rattle.ospf_routes.specs.Areas.{HasArea}
 use Rattle.ospf_routes.specs.Destinations.{HasPart}
 use Rattle.ospf_routes.specs.Summarized.{IsSummaryOf}

@@ -1,5 +1,5 @@
 use Rattle.walk_core.specs.declared.offers.Offer.{Offer}
-use Rattle.ospf_routes.proofs.ListFacts.{adds_start, adds_at, adds_end}
+use Rattle.route_tables.proofs.ListFacts.{adds_start, adds_at, adds_end}
 use Rattle.ospf_routes.specs.Summarized.{IsAllowed}
 use Rattle.ospf_routes.proofs.summaries.push_allowed.Goals as goal
 

@@ -1,4 +1,4 @@
-use Rattle.ospf_routes.proofs.ListFacts.{adds_start, adds_step, adds_end}
+use Rattle.route_tables.proofs.ListFacts.{adds_start, adds_step, adds_end}
 use Rattle.ospf_routes.specs.Summarized.{IsRangeRoute}
 use Rattle.ospf_routes.specs.declared.ranges.ActiveRange.{ActiveRange}
 use Rattle.ospf_routes.specs.declared.subnets.AreaRoute.{AreaRoute}

@@ -1,7 +1,7 @@
 use Rattle.std.proofs.Common.{refl}
 use Rattle.std.proofs.lemmas.Bool.{false≢true}
 use Rattle.std.specs.List.{Any}
-use Rattle.ospf_routes.proofs.ListFacts.{adds_start, adds_step, adds_same, adds_end}
+use Rattle.route_tables.proofs.ListFacts.{adds_start, adds_step, adds_same, adds_end}
 use Rattle.ospf_routes.proofs.SummaryFacts.{subnets_nothing, subnets_are}
 use Rattle.ospf_routes.specs.Summarized.{IsSubnetSummary, SummarizedSubnet}
 use Rattle.ospf_routes.specs.declared.areas.AreaWalks.{AreaWalks}

@@ -1,6 +1,6 @@
 use Rattle.std.proofs.lemmas.Result.{on_ok_weaker}
 use Rattle.std.specs.List.{Any}
-use Rattle.ospf_routes.proofs.ListFacts.{adds_both, adds_same}
+use Rattle.route_tables.proofs.ListFacts.{adds_both, adds_same}
 use Rattle.ospf_routes.proofs.SummaryFacts.{ranges_are, summarized_both}
 use Rattle.ospf_routes.specs.Summarized.{SummarizedSubnet, SummarizedRange, SummarizedFrom, IsRangeRoute}
 use Rattle.ospf_routes.specs.declared.ranges.ActiveRange.{ActiveRange}

@@ -1,5 +1,5 @@
 use Rattle.std.proofs.Common.{arith}
-use Rattle.ospf_routes.proofs.ListFacts.{below_start, below_step, exactly_below}
+use Rattle.route_tables.proofs.ListFacts.{below_start, below_step, exactly_below}
 use Rattle.ospf_routes.proofs.RangeFacts.{ranges_of}
 use Rattle.ospf_routes.proofs.SummaryFacts.{summarized_below, summarized_back}
 use Rattle.ospf_routes.specs.Summarized.{SummarizedFrom}

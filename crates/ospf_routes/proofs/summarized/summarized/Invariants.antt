@@ -1,6 +1,6 @@
 use Rattle.ospf_routes.specs.Lists.{Adds}
 use Rattle.ospf_routes.specs.Summarized.{SummarizedFrom}
-use Rattle.ospf_routes.proofs.ListFacts.{AnyBelow}
+use Rattle.route_tables.proofs.ListFacts.{AnyBelow}
 use Rattle.ospf_routes.proofs.summarized.summarized.Given as goal
 
 abbrev pub invariant-loop-b : goal.invariant-loop-b

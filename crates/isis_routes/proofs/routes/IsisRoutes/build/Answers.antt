@@ -1,9 +1,7 @@
-use Rattle.isis_routes.proofs.TableRows.{are_lawful, are_isis_routes}
+use Rattle.std.proofs.Common.{subst}
+use Rattle.net_model.specs.Network.{Network}
+use Rattle.isis_routes.specs.RouteTables.{AreIsisRoutes}
 use Rattle.isis_routes.proofs.routes.IsisRoutes.build.Goals as goal
 
-pub invariant_of-result : goal.invariant_of-result
-invariant_of-result c =
-    are_lawful c.args.net.now c.in_ok-tables.tables.items c.in_ok-neighbors.neighbors.items c.all_tables.ensures.network.limits.routers c.in_ok-tables.ensures.tables c.in_ok-neighbors.ensures
-
 pub returns : goal.returns
-returns c = are_isis_routes c.args.net.now c.in_ok-tables.tables.items c.in_ok-neighbors.neighbors.items c.in_ok-tables.ensures.tables c.in_ok-neighbors.ensures
+returns c = subst (λ (net : Network). AreIsisRoutes net c.in_ok-all.all) c.in_ok-isis.ensures c.in_ok-all.ensures

@@ -1,10 +1,7 @@
-use Rattle.ospf_routes.proofs.TableRows.{are_lawful, are_ospf_routes}
+use Rattle.std.proofs.Common.{subst}
+use Rattle.net_model.specs.Network.{Network}
+use Rattle.ospf_routes.specs.RouteTables.{AreOspfRoutes}
 use Rattle.ospf_routes.proofs.routes.OspfRoutes.build.Goals as goal
 
-pub invariant_of-result : goal.invariant_of-result
-invariant_of-result c =
-    are_lawful c.args.net.now c.in_ok-tables.tables.items c.in_ok-neighbors.neighbors.items c.in_ok-domain.ensures.areas.network.limits.routers c.in_ok-tables.ensures c.in_ok-neighbors.ensures
-
 pub returns : goal.returns
-returns c =
-    are_ospf_routes c.args.net.now c.in_ok-tables.tables.items c.in_ok-neighbors.neighbors.items c.in_ok-tables.ensures c.in_ok-neighbors.ensures
+returns c = subst (λ (net : Network). AreOspfRoutes net c.in_ok-all.all) c.in_ok-ospf.ensures c.in_ok-all.ensures

@@ -1,5 +1,0 @@
-use Rattle.isis_routes.proofs.TableRows.{AreNearBelow}
-use Rattle.isis_routes.proofs.neighbors.Neighbors.of_router.Given as goal
-
-abbrev pub invariant-loop-v : goal.invariant-loop-v
-invariant-loop-v l = AreNearBelow l.net l.u l.v l.all.items

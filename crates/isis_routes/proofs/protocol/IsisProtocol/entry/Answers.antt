@@ -1,0 +1,28 @@
+use Rattle.std.proofs.Common.{◌<◌, length, IfOk, MatchOption, sym, subst}
+use Rattle.net_addr.specs.Addresses.{Block}
+use Rattle.net_model.specs.Network.{Network}
+use Rattle.route_core.specs.declared.entry.Entry.{Entry}
+use Rattle.igp_theory.specs.Isis.{IsisEntry}
+use Rattle.route_tables.specs.Prefixes.{prefix_at}
+use Rattle.route_tables.proofs.DestinationLists.{element_at, prefix_is}
+use Rattle.isis_routes.specs.Domain.{AreAnnounced, IsisNetwork, dests_of}
+use Rattle.isis_routes.specs.declared.domain.Destination.{Destination}
+use Rattle.isis_routes.proofs.protocol.IsisProtocol.entry.Goals as goal
+
+pub entry_of-requires-clause-announced : goal.entry_of-requires-clause-announced
+entry_of-requires-clause-announced c =
+    element_at (λ (d : Destination). d.one.dest) (AreAnnounced c.self.inside.net.now) c.self.inside.domain.destinations.items c.args.place c.index-destination.result.now
+    c.self.invariant.destinations.announced
+    (subst (λ (isis : IsisNetwork). c.args.place < length (dests_of isis.domain.destinations.items)) (sym c.self.view_is) c.requires.place)
+    c.index-destination.ensures
+
+pub returns : goal.returns
+returns c =
+    let Goal : Network → Block → Type 0 =
+    λ net p. IfOk c.entry_of.result (λ found. MatchOption found ((e : Entry) → IsisEntry net c.args.router p e → ⊥) (IsisEntry net c.args.router p)) in
+    subst (λ (isis : IsisNetwork). Goal isis.net (prefix_at (dests_of isis.domain.destinations.items) c.args.place)) c.self.view_is
+    (subst (Goal c.self.inside.net.now)
+    (prefix_is (λ (d : Destination). d.one.dest) c.self.inside.domain.destinations.items c.args.place c.index-destination.result.now
+    (subst (λ (isis : IsisNetwork). c.args.place < length (dests_of isis.domain.destinations.items)) (sym c.self.view_is) c.requires.place)
+    c.index-destination.ensures)
+    c.entry_of.ensures)

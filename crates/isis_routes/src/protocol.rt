@@ -1,0 +1,80 @@
+ghost use Rattle.std.specs.Prelude.{◌≡◌, IfOk};
+
+use crate::OutOfMemory;
+use crate::domain::Domain;
+use crate::entry::entry_of;
+use net_addr::Prefix;
+use net_model::{Net, Zone};
+use route_core::Entry;
+use route_tables::Protocol;
+use std::alloc::Global;
+use std::marker::Model;
+
+/// IS-IS on a network, with what its routers know.
+#[derive(Drop)]
+pub struct Isis<'a> {
+    net: &'a Net,
+    domain: Domain,
+}
+
+impl<'a> Model for Isis<'a> {
+    ghost use Rattle.isis_routes.specs.Domain.{IsDomain, IsisNetwork};
+
+    ghost Value = { IsisNetwork };
+
+    ghost view = { λ x. record { net = x.net.now; domain = x.domain } };
+
+    ghost invariant = { λ x. IsDomain x.net.now x.domain };
+}
+
+impl<'a> Isis<'a> {
+    /// IS-IS on this network.
+    pub fn build(alloc: Global, net: &'a Net) -> Result<Isis<'a>, OutOfMemory>
+        ensures { IfOk result (λ isis. isis.net ≡ net.now) }
+    {
+        let domain = Domain::build(alloc, net)?;
+        Ok(Isis { net, domain })
+    }
+}
+
+impl<'a> Protocol for Isis<'a> {
+    ghost use Rattle.std.specs.Prelude.{length};
+    ghost use Rattle.igp_theory.specs.Isis.{IsisEntry};
+    ghost use Rattle.igp_theory.specs.Laws.{IsIsisNeighbor};
+    ghost use Rattle.isis_routes.specs.Domain.{dests_of};
+
+    ghost routers = { λ isis. length isis.net };
+
+    ghost entry = { λ isis. IsisEntry isis.net };
+
+    ghost neighbor = { λ isis. IsIsisNeighbor isis.net };
+
+    ghost candidates = { λ isis. dests_of isis.domain.destinations.items };
+
+    fn routers(&self) -> u32 {
+        self.net.routers()
+    }
+
+    fn candidates(&self) -> usize {
+        self.domain.destinations.len()
+    }
+
+    fn candidate(&self, place: usize) -> Prefix {
+        self.domain.destinations[place].one.dest
+    }
+
+    fn entry(
+        &self,
+        alloc: Global,
+        place: usize,
+        router: u32,
+    ) -> Result<Option<Entry>, OutOfMemory> {
+        let destination = &self.domain.destinations[place];
+        entry_of(alloc, self.net, &self.domain, destination, router)
+    }
+
+    fn is_neighbor(&self, router: u32, other: u32) -> bool {
+        let net = self.net;
+        net.arc(Zone::One, router, other).is_some() || net.arc(Zone::Two, router, other).is_some()
+    }
+}

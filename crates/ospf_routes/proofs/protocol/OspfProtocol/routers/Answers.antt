@@ -1,0 +1,12 @@
+use Rattle.std.proofs.Common.{length, subst}
+use Rattle.igp_theory.specs.Ospf.{OspfEntry}
+use Rattle.igp_theory.specs.Laws.{IsOspfNeighbor}
+use Rattle.route_tables.specs.Entries.{IsLawful}
+use Rattle.ospf_routes.specs.Networks.{OspfNetwork}
+use Rattle.ospf_routes.proofs.ProtocolFacts.{ospf_is_lawful}
+use Rattle.ospf_routes.proofs.protocol.OspfProtocol.routers.Goals as goal
+
+pub returns-clause-lawful : goal.returns-clause-lawful
+returns-clause-lawful c =
+    subst (λ (ospf : OspfNetwork). IsLawful (length ospf.net) (OspfEntry ospf.net) (IsOspfNeighbor ospf.net)) c.self.view_is
+    (ospf_is_lawful c.self.inside.net.now c.routers.ensures.network.limits.routers)

@@ -1,0 +1,142 @@
+ghost use Rattle.std.specs.Prelude.{◌≡◌, ◌<◌, ◌↔◌, length, IfOk, IsTrue};
+ghost use Rattle.igp_theory.specs.Laws.{IsOspfNeighbor};
+ghost use Rattle.ospf_routes.specs.Areas.{AreAreas};
+ghost use Rattle.ospf_routes.specs.Domain.{IsDomain};
+ghost use Rattle.ospf_routes.specs.Ranges.{AreRangesBelow};
+ghost use Rattle.ospf_routes.specs.Summarized.{AreAnnounced};
+
+use crate::OutOfMemory;
+use crate::areas::AreaWalks;
+use crate::domain::Domain;
+use crate::entry::entry_of;
+use crate::ranges::{ActiveRanges, all_ranges};
+use crate::summaries::Summaries;
+use net_addr::Prefix;
+use net_model::{Net, Zone};
+use route_core::Entry;
+use route_tables::Protocol;
+use std::alloc::Global;
+use std::marker::Model;
+
+/// OSPF on a network, with what its routers know, the active ranges of border routers, and what they announce
+/// of each prefix.
+#[derive(Drop)]
+pub struct Ospf<'a> {
+    net: &'a Net,
+    domain: Domain,
+    ranges: Vec<ActiveRanges>,
+    summaries: Vec<Summaries>,
+}
+
+impl<'a> Model for Ospf<'a> {
+    ghost use Rattle.ospf_routes.specs.Networks.{IsOspf, OspfNetwork};
+
+    ghost Value = { OspfNetwork };
+
+    ghost view = { λ x. record { net = x.net.now; domain = x.domain; ranges = x.ranges.items; summaries = x.summaries.items } };
+
+    ghost invariant = { λ x. IsOspf (record { net = x.net.now; domain = x.domain; ranges = x.ranges.items; summaries = x.summaries.items }) };
+}
+
+impl<'a> Ospf<'a> {
+    /// OSPF on this network.
+    pub fn build(alloc: Global, net: &'a Net) -> Result<Ospf<'a>, OutOfMemory>
+        ensures { IfOk result (λ ospf. ospf.net ≡ net.now) }
+    {
+        let domain = Domain::build(alloc, net)?;
+        let ranges = all_ranges(alloc, net, &domain)?;
+        let summaries = all_summaries(alloc, net, &domain, ranges.as_slice())?;
+        Ok(Ospf {
+            net,
+            domain,
+            ranges,
+            summaries,
+        })
+    }
+}
+
+impl<'a> Protocol for Ospf<'a> {
+    ghost use Rattle.std.specs.Prelude.{length};
+    ghost use Rattle.igp_theory.specs.Ospf.{OspfEntry};
+    ghost use Rattle.igp_theory.specs.Laws.{IsOspfNeighbor};
+    ghost use Rattle.ospf_routes.specs.Destinations.{dests_of};
+
+    ghost routers = { λ ospf. length ospf.net };
+
+    ghost entry = { λ ospf. OspfEntry ospf.net };
+
+    ghost neighbor = { λ ospf. IsOspfNeighbor ospf.net };
+
+    ghost candidates = { λ ospf. dests_of ospf.domain.destinations.items };
+
+    fn routers(&self) -> u32 {
+        self.net.routers()
+    }
+
+    fn candidates(&self) -> usize {
+        self.domain.destinations.len()
+    }
+
+    fn candidate(&self, place: usize) -> Prefix {
+        self.domain.destinations[place].dest
+    }
+
+    fn entry(
+        &self,
+        alloc: Global,
+        place: usize,
+        router: u32,
+    ) -> Result<Option<Entry>, OutOfMemory> {
+        let areas = self.domain.areas.as_slice();
+        let ranges = &self.ranges[router as usize];
+        let destination = &self.domain.destinations[place];
+        let summaries = &self.summaries[place];
+        entry_of(
+            alloc,
+            self.net,
+            areas,
+            ranges,
+            destination,
+            summaries,
+            router,
+        )
+    }
+
+    fn is_neighbor(&self, router: u32, other: u32) -> bool {
+        are_neighbors(self.net, self.domain.areas.as_slice(), router, other)
+    }
+}
+
+/// What border routers announce of each prefix.
+fn all_summaries(
+    alloc: Global,
+    net: &Net,
+    domain: &Domain,
+    ranges: &[ActiveRanges],
+) -> Result<Vec<Summaries>, OutOfMemory>
+    requires domain { IsDomain net.now domain.now }
+    requires ranges { AreRangesBelow net.now (length net.now) ranges.now }
+    ensures { IfOk result (λ summaries. AreAnnounced net.now domain.now summaries.items) }
+{
+    let areas = domain.areas.as_slice();
+    let mut all = Vec::new(alloc);
+    for destination in &domain.destinations {
+        all.push(Summaries::build(alloc, net, areas, ranges, destination)?)?;
+    }
+    Ok(all)
+}
+
+/// Whether a router is adjacent to another one in some area.
+fn are_neighbors(net: &Net, areas: &[AreaWalks], router: u32, other: u32) -> bool
+    requires from_router { router < length net.now }
+    requires to_router { other < length net.now }
+    requires areas { AreAreas net.now areas.now }
+    ensures { IsTrue result ↔ IsOspfNeighbor net.now router other }
+{
+    for area in areas {
+        if net.arc(Zone::Area(area.number), router, other).is_some() {
+            return true;
+        }
+    }
+    false
+}

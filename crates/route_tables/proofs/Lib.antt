@@ -1,0 +1,4 @@
+pub mod ListFacts
+mod TableRows
+pub mod DestinationLists
+pub mod BestRoutes

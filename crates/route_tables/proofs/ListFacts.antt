@@ -1,0 +1,195 @@
+-- Lists of what a relation holds of, element by element and router by router.
+use Rattle.std.proofs.Common.{◌≡◌, ℕ, ◌+◌, ◌<◌, ◌≤◌, ◌↔◌, ◌⊎◌, inl, inr, ⊎_elim, List, [], ◌∷◌, ◌++◌, length, take, get_or, Option, Some, None, true, false, refl, sym, ap, subst, ◌∙◌, arith}
+use Rattle.std.specs.Option.{is_some}
+use Rattle.std.proofs.lemmas.Option.{none-some}
+use Rattle.std.specs.List.{Contains, Any, All, AllWithin}
+use Rattle.std.proofs.lemmas.Bool.{cases_lt}
+use Rattle.std.proofs.lemmas.List.{take_more, take_all, get_or_default, get_or_append_left, get_or_push}
+use Rattle.std.proofs.lemmas.List.Elements.{Contains-append_left, Contains-push, Contains-push_cases}
+use Rattle.std.proofs.lemmas.List.Quantifiers.{Any-push}
+use Rattle.route_tables.specs.Lists.{Exactly, Adds}
+
+-- what says the same as what says the same
+pub iff_then : {P Q R : Type 0} → P ↔ Q → Q ↔ R → P ↔ R
+iff_then one other = (λ p. other.0 (one.0 p), λ r. one.1 (other.1 r))
+
+-- Some element
+
+pub contains_at : {Y : Type 0} (ys : List Y) (i : ℕ) (y : Y) → i < length ys → y ≡ get_or ys i y → Contains ys y
+contains_at ys i y within is = (i, within, sym is)
+
+pub any_of : {Y : Type 0} (P : Y → Type 0) (ys : List Y) (y : Y) → Contains ys y → P y → Any P ys
+any_of P ys y has p = (has.0, y, has.1, has.2, p)
+
+-- an element of the list of which P holds
+pub record Found {Y : Type 0} (P : Y → Type 0) (ys : List Y) : Type 0 where
+  pub item : Y
+  pub among : Contains ys item
+  pub holds : P item
+
+pub any_in : {Y : Type 0} (P : Y → Type 0) (ys : List Y) → Any P ys → Found P ys
+any_in P ys any = record { item = any.1; among = (any.0, any.2, any.3); holds = any.4 }
+
+pub any_left : {Y : Type 0} (P : Y → Type 0) (front : List Y) (y : Y) → Any P front → Any P (front ++ y ∷ [])
+any_left P front y any =
+    let f = any_in P front any in any_of P (front ++ y ∷ []) f.item (Contains-append_left front (y ∷ []) f.item f.among) f.holds
+
+pub any_cases : {Y : Type 0} (P : Y → Type 0) (front : List Y) (y : Y) → Any P (front ++ y ∷ []) → Any P front ⊎ P y
+any_cases P front y any =
+    let f = any_in P (front ++ y ∷ []) any in
+    ⊎_elim (λ among. inl (any_of P front f.item among f.holds)) (λ same. inr (subst P (sym same) f.holds)) (Contains-push_cases front y f.item f.among)
+
+-- What comes to a list
+
+pub adds_nothing : {X : Type 0} (old : List X) (wanted : X → Type 0) → ((x : X) → wanted x → ⊥) → Adds old old wanted
+adds_nothing old wanted none = λ x. (λ has. inl has, λ either. ⊎_elim (λ has. has) (λ now. absurd (none x now)) either)
+
+pub adds_one : {X : Type 0} (old : List X) (y : X) → Adds old (old ++ y ∷ []) (λ x. y ≡ x)
+adds_one {X} old y = λ x. (
+  λ has. Contains-push_cases old y x has,
+  λ either. ⊎_elim (λ has. Contains-append_left old (y ∷ []) x has) (λ same. subst (λ (z : X). Contains (old ++ y ∷ []) z) same (Contains-push old y)) either,
+)
+
+pub adds_same : {X : Type 0} (old new : List X) (before after : X → Type 0) → Adds old new before → ((x : X) → before x ↔ after x) → Adds old new after
+adds_same old new before after adds same = λ x. (
+  λ has. ⊎_elim (λ earlier. inl earlier) (λ now. inr ((same x).0 now)) ((adds x).0 has),
+  λ either. (adds x).1 (⊎_elim (λ earlier. inl earlier) (λ now. inr ((same x).1 now)) either),
+)
+
+pub adds_both : {X : Type 0} (old mid new : List X) (one other both : X → Type 0) → Adds old mid one → Adds mid new other → ((x : X) → both x ↔ (one x ⊎ other x)) → Adds old new both
+adds_both old mid new one other both first second same = λ x. (
+  λ has. ⊎_elim
+      (λ earlier. ⊎_elim (λ older. inl older) (λ now. inr ((same x).1 (inl now))) ((first x).0 earlier))
+      (λ now. inr ((same x).1 (inr now)))
+      ((second x).0 has),
+  λ either. ⊎_elim
+      (λ older. (second x).1 (inl ((first x).1 (inl older))))
+      (λ now. ⊎_elim (λ a. (second x).1 (inl ((first x).1 (inr a)))) (λ b. (second x).1 (inr b)) ((same x).0 now))
+      either,
+)
+
+-- all that is there was added
+pub exactly_added : {X : Type 0} (old new : List X) (wanted : X → Type 0) → old ≡ [] → Adds old new wanted → Exactly wanted new
+exactly_added {X} old new wanted empty adds = λ x. (
+  λ has. ⊎_elim
+      (λ older. let none : Contains [] x = subst (λ (l : List X). Contains l x) empty older in absurd (omega (arith, none.1)))
+      (λ now. now)
+      ((adds x).0 has),
+  λ now. (adds x).1 (inr now),
+)
+
+pub exactly_same : {X : Type 0} (all : List X) (before after : X → Type 0) → Exactly before all → ((x : X) → before x ↔ after x) → Exactly after all
+exactly_same all before after are same = λ x. (λ has. (same x).0 ((are x).0 has), λ now. (are x).1 ((same x).1 now))
+
+-- Element by element
+
+pub adds_start : {X Y : Type 0} (gives : X → Y → Type 0) (old : List X) (ys : List Y) → Adds old old (λ x. Any (gives x) (take 0 ys))
+adds_start gives old ys = adds_nothing old (λ x. Any (gives x) (take 0 ys)) (λ x any. omega (arith, any.2))
+
+-- one more element, which gives this
+pub adds_more : {X Y : Type 0} (gives : X → Y → Type 0) (old mid new : List X) (ys : List Y) (i : ℕ) (y : Y) → i < length ys → y ≡ get_or ys i y →
+    Adds old mid (λ x. Any (gives x) (take i ys)) → Adds mid new (λ x. gives x y) → Adds old new (λ x. Any (gives x) (take (i + 1) ys))
+adds_more {X} {Y} gives old mid new ys i y within is before adds =
+    let one_more : take i ys ++ y ∷ [] ≡ take (i + 1) ys = sym (take_more ys i y within ∙ ap (λ (z : Y). take i ys ++ z ∷ []) (sym is)) in
+    subst (λ (l : List Y). Adds old new (λ x. Any (gives x) l)) one_more
+    (adds_both old mid new (λ x. Any (gives x) (take i ys)) (λ x. gives x y) (λ x. Any (gives x) (take i ys ++ y ∷ [])) before adds
+    (λ x. (
+      λ any. any_cases (gives x) (take i ys) y any,
+      λ either. ⊎_elim (λ any. any_left (gives x) (take i ys) y any) (λ now. Any-push (gives x) (take i ys) y now) either,
+    )))
+
+-- one more element, which gives at most one thing
+pub adds_step : {X Y : Type 0} (gives : X → Y → Type 0) (old mid new : List X) (ys : List Y) (i : ℕ) (y : Y) (one : Option X) → i < length ys → y ≡ get_or ys i y →
+    Adds old mid (λ x. Any (gives x) (take i ys)) → Adds mid new (λ x. one ≡ Some x) → ((x : X) → (one ≡ Some x) ↔ gives x y) → Adds old new (λ x. Any (gives x) (take (i + 1) ys))
+adds_step gives old mid new ys i y one within is before adds found =
+    adds_more gives old mid new ys i y within is before (adds_same mid new (λ x. one ≡ Some x) (λ x. gives x y) adds found)
+
+-- the same, where the element is read with a default
+pub adds_at : {X Y : Type 0} (gives : X → Y → Type 0) (old mid new : List X) (ys : List Y) (i : ℕ) (d : Y) (one : Option X) → i < length ys →
+    Adds old mid (λ x. Any (gives x) (take i ys)) → Adds mid new (λ x. one ≡ Some x) → ((x : X) → (one ≡ Some x) ↔ gives x (get_or ys i d)) → Adds old new (λ x. Any (gives x) (take (i + 1) ys))
+adds_at gives old mid new ys i d one within before adds found =
+    adds_step gives old mid new ys i (get_or ys i d) one within (get_or_default ys i d (get_or ys i d) within) before adds found
+
+pub adds_end : {X Y : Type 0} (gives : X → Y → Type 0) (old new : List X) (ys : List Y) (i : ℕ) → length ys ≤ i → Adds old new (λ x. Any (gives x) (take i ys)) → Adds old new (λ x. Any (gives x) ys)
+adds_end {X} {Y} gives old new ys i past adds = subst (λ (l : List Y). Adds old new (λ x. Any (gives x) l)) (take_all i ys past) adds
+
+-- Router by router
+
+-- a number below n gives x
+pub record AnyBelow {X : Type 0} (gives : ℕ → X → Type 0) (n : ℕ) (x : X) : Type 0 where
+  pub source : ℕ
+  pub below : source < n
+  pub given : gives source x
+
+pub below_start : {X : Type 0} (gives : ℕ → X → Type 0) (old : List X) → Adds old old (AnyBelow gives 0)
+below_start gives old = adds_nothing old (AnyBelow gives 0) (λ x any. omega (arith, any.below))
+
+pub at_most : (k m : ℕ) → k < m + 1 → (k < m) ⊎ (k ≡ m)
+at_most k m h = elim (cases_lt k m) [ inl less ↦ inl less | inr more ↦ inr (omega arith) ]
+
+pub below_step : {X : Type 0} (gives : ℕ → X → Type 0) (old mid new : List X) (n : ℕ) → Adds old mid (AnyBelow gives n) → Adds mid new (gives n) → Adds old new (AnyBelow gives (n + 1))
+below_step {X} gives old mid new n before adds =
+    adds_both old mid new (AnyBelow gives n) (gives n) (AnyBelow gives (n + 1)) before adds
+    (λ x. (
+      λ any. ⊎_elim
+          (λ less. inl (record { source = any.source; below = less; given = any.given }))
+          (λ same. inr (subst (λ (k : ℕ). gives k x) same any.given))
+          (at_most any.source n any.below),
+      λ either. ⊎_elim
+          (λ any. record { source = any.source; below = omega (arith, any.below); given = any.given })
+          (λ now. record { source = n; below = omega arith; given = now })
+          either,
+    ))
+
+-- what the numbers below n give is all
+pub exactly_below : {X : Type 0} (gives : ℕ → X → Type 0) (wanted : X → Type 0) (old new : List X) (n : ℕ) → old ≡ [] → Adds old new (AnyBelow gives n) →
+    ((x : X) → wanted x → AnyBelow gives n x) → ((u : ℕ) (x : X) → gives u x → wanted x) → Exactly wanted new
+exactly_below gives wanted old new n empty adds there back =
+    exactly_added old new wanted empty (adds_same old new (AnyBelow gives n) wanted adds (λ x. (λ any. back any.source x any.given, there x)))
+
+-- one more element of which P holds
+pub all_at : {Y : Type 0} (P : Y → Type 0) (ys : List Y) (i : ℕ) (y : Y) → All P ys → i < length ys → y ≡ get_or ys i y → P y
+all_at P ys i y all within is = subst P (sym is) (all i y within)
+
+-- Lists of lists
+
+-- what holds of each list so far and of one more holds of all of them
+pub each_more : {X : Type 0} (R : ℕ → List X → Type 0) (all : List (List X)) (n : ℕ) (next : List X) → length all ≡ n → ((u : ℕ) → u < n → R u (get_or all u [])) → R n next → (u : ℕ) → u < n + 1 → R u (get_or (all ++ next ∷ []) u [])
+each_more {X} R all n next long before here u below =
+    elim (at_most u n below) [
+      | inl less ↦ subst (R u) (sym (get_or_append_left all (next ∷ []) [] u (omega arith))) (before u less)
+      | inr same ↦
+          let at_n : R n (get_or (all ++ next ∷ []) n []) = subst (R n) (sym (get_or_push all next [] n long)) here in
+          subst (λ (k : ℕ). R k (get_or (all ++ next ∷ []) k [])) (sym same) at_n
+    ]
+
+-- what holds of each element so far and of the next
+pub within_more : {Y : Type 0} (P : Y → Type 0) (ys : List Y) (i : ℕ) (y : Y) → i < length ys → y ≡ get_or ys i y → AllWithin P ys 0 i → P y → AllWithin P ys 0 (i + 1)
+within_more P ys i y within is before here k d low below = elim (at_most k i below) [
+  | inl less ↦ before k d low less
+  | inr same ↦
+      let read : y ≡ get_or ys i d = is ∙ get_or_default ys i y d within in
+      let same_place : get_or ys i d ≡ get_or ys k d = ap (λ (m : ℕ). get_or ys m d) (sym same) in
+      subst P (read ∙ same_place) here
+]
+
+-- the elements so far with the next are one more
+pub one_more : {Y : Type 0} (ys : List Y) (i : ℕ) (y : Y) → i < length ys → y ≡ get_or ys i y → take i ys ++ y ∷ [] ≡ take (i + 1) ys
+one_more {Y} ys i y within is = sym (take_more ys i y within ∙ ap (λ (z : Y). take i ys ++ z ∷ []) (sym is))
+
+-- what holds of each element that was passed holds of all at the end
+pub all_passed : {Y : Type 0} (P : Y → Type 0) (ys : List Y) (i : ℕ) → length ys ≤ i → AllWithin P ys 0 i → All P ys
+all_passed P ys i past within k d inside = within k d (omega arith) (omega arith)
+
+-- an element of the list that is read under another name
+pub all_in_at : {Y : Type 0} (P : Y → Type 0) (ys given : List Y) (i : ℕ) (y : Y) → given ≡ ys → All P ys → i < length given → y ≡ get_or given i y → P y
+all_in_at {Y} P ys given i y same all within is = all_at P given i y (subst (λ (l : List Y). All P l) (sym same) all) within is
+
+-- an option that is something, and one that is nothing
+pub some_of : {X : Type 0} (o : Option X) → is_some o ≡ true → (x : X) × (o ≡ Some x)
+some_of None is = cc
+some_of (Some x) is = (x, refl)
+
+pub none_of : {X : Type 0} (o : Option X) → is_some o ≡ false → (x : X) → o ≡ Some x → ⊥
+none_of None is x same = none-some x same
+none_of (Some y) is x same = let wrong : true ≡ false = is in cc

@@ -1,0 +1,197 @@
+-- Tables, row by row, and the tables and neighbors of all routers.
+use Rattle.std.proofs.Common.{◌≡◌, ℕ, ◌+◌, ◌<◌, ◌≤◌, ◌↔◌, ⊎_elim, List, [], ◌∷◌, ◌++◌, length, take, Option, Some, None, MatchOption, get_or, refl, sym, ap, subst, ◌∙◌, arith, length-append}
+use Rattle.std.specs.List.{Contains}
+use Rattle.std.proofs.lemmas.List.{take_more, take_all, get_or-take, length-take-le, get_or_default}
+use Rattle.std.proofs.lemmas.List.Elements.{Contains-append_left, Contains-push, Contains-push_cases}
+use Rattle.net_addr.specs.Addresses.{Block}
+use Rattle.route_core.specs.Tables.{HasDistinctPrefixes, AreLinkedHops}
+use Rattle.route_core.specs.declared.entry.Entry.{Entry}
+use Rattle.route_core.specs.declared.entry.Entry.TheVariants.{Via}
+use Rattle.route_core.proofs.TableLaws.{HasDistinctPrefixes-push}
+use Rattle.route_tables.specs.Entries.{IsLawful, IsTableOf, AreTablesBelow, AreNeighborsOf, AreNeighborsBelow}
+use Rattle.route_tables.specs.Prefixes.{AreDistinct, prefix_at, all_addresses}
+use Rattle.route_tables.specs.Tables.{AreLawful, AreRoutes}
+use Rattle.route_tables.proofs.ListFacts.{at_most, each_more}
+
+-- Rows
+
+-- the rows so far are the entries for these prefixes, each prefix once
+pub record AreRows (entry : Block → Entry → Type 0) (dests : List Block) (rows : List (Block × Entry)) : Type 0 where
+  pub distinct : HasDistinctPrefixes rows
+  pub exact : (p : Block) (e : Entry) → Contains rows (p, e) ↔ (Contains dests p × entry p e)
+
+pub rows_none : (entry : Block → Entry → Type 0) → AreRows entry [] []
+rows_none entry = record {
+  distinct = λ i j d before within. absurd (omega arith);
+  exact = λ p e. (λ has. absurd (omega (arith, has.1)), λ both. absurd (omega (arith, both.0.1)));
+}
+
+-- a prefix without an entry adds no row
+pub rows_no_more : (entry : Block → Entry → Type 0) (dests : List Block) (rows : List (Block × Entry)) (p : Block) → AreRows entry dests rows → ((e : Entry) → entry p e → ⊥) → AreRows entry (dests ++ p ∷ []) rows
+rows_no_more entry dests rows p are none = record {
+  distinct = are.distinct;
+  exact = λ q e. (
+    λ has. let both = (are.exact q e).0 has in (Contains-append_left dests (p ∷ []) q both.0, both.1),
+    λ both. ⊎_elim
+        (λ earlier. (are.exact q e).1 (earlier, both.1))
+        (λ same. absurd (none e (subst (λ (x : Block). entry x e) (sym same) both.1)))
+        (Contains-push_cases dests p q both.0),
+  );
+}
+
+-- a new prefix with an entry adds its row
+pub rows_more : (entry : Block → Entry → Type 0) (dests : List Block) (rows : List (Block × Entry)) (p : Block) (e : Entry) → ((q : Block) (one other : Entry) → entry q one → entry q other → one ≡ other) → AreRows entry dests rows → (Contains dests p → ⊥) → entry p e →
+    AreRows entry (dests ++ p ∷ []) (rows ++ (p, e) ∷ [])
+rows_more entry dests rows p e single are new is = record {
+  distinct = HasDistinctPrefixes-push rows (p, e) are.distinct (λ f has. new ((are.exact p f).0 has).0);
+  exact = λ q f. (
+    λ has. ⊎_elim
+        (λ earlier. let both = (are.exact q f).0 earlier in (Contains-append_left dests (p ∷ []) q both.0, both.1))
+        (λ same.
+        let is_p : p ≡ q = ap (λ (x : Block × Entry). x.0) same in
+        let is_e : e ≡ f = ap (λ (x : Block × Entry). x.1) same in (
+          subst (λ (x : Block). Contains (dests ++ p ∷ []) x) is_p (Contains-push dests p),
+          subst (λ (x : Entry). entry q x) is_e (subst (λ (x : Block). entry x e) is_p is),
+        ))
+        (Contains-push_cases rows (p, e) (q, f) has),
+    λ both. ⊎_elim
+        (λ earlier. Contains-append_left rows ((p, e) ∷ []) (q, f) ((are.exact q f).1 (earlier, both.1)))
+        (λ same.
+        let there : entry p f = subst (λ (x : Block). entry x f) (sym same) both.1 in
+        let one : e ≡ f = single p e f is there in
+        subst (λ (x : Block × Entry). Contains (rows ++ (p, e) ∷ []) x) (pair_same p q e f same one) (Contains-push rows (p, e)))
+        (Contains-push_cases dests p q both.0),
+  );
+}
+  where
+    pair_same : (x y : Block) (a b : Entry) → x ≡ y → a ≡ b → ◌≡◌ {A = Block × Entry} (x, a) (y, b)
+    pair_same x y a b e f = λ i. (e i, f i)
+
+-- one more row, where there is an entry
+pub rows_step : (entry : Block → Entry → Type 0) (dests : List Block) (rows new : List (Block × Entry)) (p : Block) (found : Option Entry) → ((q : Block) (one other : Entry) → entry q one → entry q other → one ≡ other) → AreRows entry dests rows → (Contains dests p → ⊥) →
+    MatchOption found ((e : Entry) → entry p e → ⊥) (entry p) → MatchOption found (new ≡ rows) (λ e. new ≡ rows ++ (p, e) ∷ []) → AreRows entry (dests ++ p ∷ []) new
+rows_step entry dests rows new p None single are fresh none same =
+    subst (λ (l : List (Block × Entry)). AreRows entry (dests ++ p ∷ []) l) (sym same) (rows_no_more entry dests rows p are none)
+rows_step entry dests rows new p (Some e) single are fresh is same =
+    subst (λ (l : List (Block × Entry)). AreRows entry (dests ++ p ∷ []) l) (sym same) (rows_more entry dests rows p e single are fresh is)
+
+-- the prefixes before a place, where all are distinct, don't have that at the place
+not_before : (dests : List Block) (k : ℕ) → AreDistinct dests → k < length dests → Contains (take k dests) (prefix_at dests k) → ⊥
+not_before dests k apart within has =
+    let p : Block = prefix_at dests k in
+    let below : has.0 < length (take k dests) = has.1 in
+    let long : length (take k dests) ≡ k = length-take-le k dests (omega arith) in
+    let before : has.0 < k = omega arith in
+    let read : get_or dests has.0 p ≡ p = sym (get_or-take k dests has.0 p before) ∙ has.2 in
+    let here : get_or dests k p ≡ p = get_or_default dests k p all_addresses within in
+    apart has.0 k p before within (read ∙ sym here)
+
+-- the row of the prefix at the next place
+pub rows_at : (entry : Block → Entry → Type 0) (dests : List Block) (k : ℕ) (rows new : List (Block × Entry)) (p : Block) (found : Option Entry) → ((q : Block) (one other : Entry) → entry q one → entry q other → one ≡ other) → AreDistinct dests → k < length dests → p ≡ prefix_at dests k →
+    AreRows entry (take k dests) rows → MatchOption found ((e : Entry) → entry (prefix_at dests k) e → ⊥) (entry (prefix_at dests k)) → MatchOption found (new ≡ rows) (λ e. new ≡ rows ++ (p, e) ∷ []) → AreRows entry (take (k + 1) dests) new
+rows_at entry dests k rows new p found single apart within here are is same =
+    let at : Block = prefix_at dests k in
+    let step : AreRows entry (take k dests ++ at ∷ []) new =
+    rows_step entry (take k dests) rows new at found single are (not_before dests k apart within) is
+    (subst (λ (q : Block). MatchOption found (new ≡ rows) (λ e. new ≡ rows ++ (q, e) ∷ [])) here same) in
+    subst (λ (l : List Block). AreRows entry l new) (sym (take_more dests k all_addresses within)) step
+
+-- the rows for all candidates are the table
+pub rows_are_table : (entry : Block → Entry → Type 0) (dests : List Block) (k : ℕ) (rows : List (Block × Entry)) → length dests ≤ k → AreRows entry (take k dests) rows → ((p : Block) (e : Entry) → entry p e → Contains dests p) → IsTableOf entry rows
+rows_are_table entry dests k rows past are every =
+    let all : AreRows entry dests rows = subst (λ (l : List Block). AreRows entry l rows) (take_all k dests past) are in
+    record {
+      distinct = all.distinct;
+      exact = λ p e. (
+        λ has. ((all.exact p e).0 has).1,
+        λ is. (all.exact p e).1 (every p e is, is),
+      );
+    }
+
+-- Router by router
+
+pub tables_none : (entry : ℕ → Block → Entry → Type 0) → AreTablesBelow entry 0 []
+tables_none entry = record { count = refl; each = λ u below. absurd (omega arith) }
+
+pub tables_more : (entry : ℕ → Block → Entry → Type 0) (n : ℕ) (tables : List (List (Block × Entry))) (next : List (Block × Entry)) → AreTablesBelow entry n tables → IsTableOf (entry n) next → AreTablesBelow entry (n + 1) (tables ++ next ∷ [])
+tables_more entry n tables next are is = record {
+  count = let long = length-append tables (next ∷ []) in omega (arith, are.count);
+  each = each_more (λ (u : ℕ). IsTableOf (entry u)) tables n next are.count are.each is;
+}
+
+pub neighbors_none : (neighbor : ℕ → ℕ → Type 0) → AreNeighborsBelow neighbor 0 []
+neighbors_none neighbor = record { count = refl; each = λ u below. absurd (omega arith) }
+
+pub neighbors_more : (neighbor : ℕ → ℕ → Type 0) (n : ℕ) (all : List (List ℕ)) (next : List ℕ) → AreNeighborsBelow neighbor n all → AreNeighborsOf (neighbor n) next → AreNeighborsBelow neighbor (n + 1) (all ++ next ∷ [])
+neighbors_more neighbor n all next are is = record {
+  count = let long = length-append all (next ∷ []) in omega (arith, are.count);
+  each = each_more (λ (u : ℕ). AreNeighborsOf (neighbor u)) all n next are.count are.each is;
+}
+
+-- Neighbors
+
+-- the neighbors below n are there
+abbrev pub AreNearBelow : (ℕ → Type 0) → ℕ → List ℕ → Type 0
+AreNearBelow neighbor n all = (v : ℕ) → Contains all v ↔ ((v < n) × neighbor v)
+
+pub near_none : (neighbor : ℕ → Type 0) → AreNearBelow neighbor 0 []
+near_none neighbor v = (λ has. absurd (omega (arith, has.1)), λ both. absurd (omega (arith, both.0)))
+
+pub near_more : (neighbor : ℕ → Type 0) (n : ℕ) (all : List ℕ) → AreNearBelow neighbor n all → neighbor n → AreNearBelow neighbor (n + 1) (all ++ n ∷ [])
+near_more neighbor n all are is v = (
+  λ has. ⊎_elim
+      (λ earlier. let both = (are v).0 earlier in (omega (arith, both.0), both.1))
+      (λ same. (omega arith, subst neighbor same is))
+      (Contains-push_cases all n v has),
+  λ both. ⊎_elim
+      (λ less. Contains-append_left all (n ∷ []) v ((are v).1 (less, both.1)))
+      (λ same. subst (λ (k : ℕ). Contains (all ++ n ∷ []) k) (sym same) (Contains-push all n))
+      (at_most v n both.0),
+)
+
+pub near_no_more : (neighbor : ℕ → Type 0) (n : ℕ) (all : List ℕ) → AreNearBelow neighbor n all → (neighbor n → ⊥) → AreNearBelow neighbor (n + 1) all
+near_no_more neighbor n all are none v = (
+  λ has. let both = (are v).0 has in (omega (arith, both.0), both.1),
+  λ both. ⊎_elim
+      (λ less. (are v).1 (less, both.1))
+      (λ same. absurd (none (subst neighbor same both.1)))
+      (at_most v n both.0),
+)
+
+pub near_all : (neighbor : ℕ → Type 0) (routers n : ℕ) (all : List ℕ) → ((v : ℕ) → neighbor v → v < routers) → routers ≤ n → AreNearBelow neighbor n all → AreNeighborsOf neighbor all
+near_all neighbor routers n all inside count are v = (
+  λ has. ((are v).0 has).1,
+  λ is. (are v).1 (let within : v < routers = inside v is in omega arith, is),
+)
+
+-- The source of tables
+
+-- what a protocol gives the routers is what every source of tables promises
+pub are_lawful : (routers : ℕ) (entry : ℕ → Block → Entry → Type 0) (neighbor : ℕ → ℕ → Type 0) (tables : List (List (Block × Entry))) (neighbors : List (List ℕ)) → IsLawful routers entry neighbor → AreTablesBelow entry routers tables → AreNeighborsBelow neighbor routers neighbors →
+    AreLawful (record { tables = tables; neighbors = neighbors })
+are_lawful routers entry neighbor tables neighbors lawful are near = record {
+  few = let few = lawful.few in omega (arith, are.count);
+  tables = record {
+    distinct = λ u below. (are.each u (omega (arith, are.count))).distinct;
+    hops = λ u p hops below has.
+        let within : u < routers = omega (arith, are.count) in
+        let given : AreLinkedHops routers (neighbor u) hops = lawful.hops u p hops (((are.each u within).exact p (Via hops)).0 has) in
+        subst (λ (n : ℕ). AreLinkedHops n (λ v. Contains (get_or neighbors u []) v) hops) (sym are.count)
+        (record {
+          some = given.some;
+          ascending = given.ascending;
+          below = given.below;
+          linked = λ k d inside. (near.each u within (get_or hops k d)).1 (given.linked k d inside);
+        });
+  };
+  neighbors = near.count ∙ sym are.count;
+}
+
+-- and they are those of the protocol
+pub are_routes : (routers : ℕ) (entry : ℕ → Block → Entry → Type 0) (neighbor : ℕ → ℕ → Type 0) (tables : List (List (Block × Entry))) (neighbors : List (List ℕ)) → AreTablesBelow entry routers tables → AreNeighborsBelow neighbor routers neighbors →
+    AreRoutes routers entry neighbor (record { tables = tables; neighbors = neighbors })
+are_routes routers entry neighbor tables neighbors are near = record {
+  routers = are.count;
+  entries = λ u p e within. (are.each u within).exact p e;
+  linked = λ u v within. near.each u within v;
+}

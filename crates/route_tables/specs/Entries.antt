@@ -1,0 +1,33 @@
+-- The entries and neighbors that a protocol gives routers, as tables and lists.
+use Rattle.std.specs.Prelude.{◌≡◌, ◌<◌, ◌≤◌, ◌↔◌, ℕ, List, [], length, slice_index_or, Contains}
+use Rattle.net_addr.specs.Addresses.{Block}
+use Rattle.route_core.specs.Tables.{AreLinkedHops, HasDistinctPrefixes}
+use Rattle.route_core.specs.declared.entry.Entry.{Entry}
+use Rattle.route_core.specs.declared.entry.Entry.TheVariants.{Via}
+
+-- what every protocol keeps: there are at most 200 routers, a router has one entry for a prefix at most, the hops of
+-- an entry are neighbors, and neighbors are routers
+pub record IsLawful (routers : ℕ) (entry : ℕ → Block → Entry → Type 0) (neighbor : ℕ → ℕ → Type 0) : Type 0 where
+  pub few : routers ≤ 200
+  pub single : (u : ℕ) (p : Block) (e f : Entry) → entry u p e → entry u p f → e ≡ f
+  pub hops : (u : ℕ) (p : Block) (hops : List ℕ) → entry u p (Via hops) → AreLinkedHops routers (neighbor u) hops
+  pub within : (u v : ℕ) → neighbor u v → v < routers
+
+-- the table has these entries, and no others
+pub record IsTableOf (entry : Block → Entry → Type 0) (table : List (Block × Entry)) : Type 0 where
+  pub distinct : HasDistinctPrefixes table
+  pub exact : (p : Block) (e : Entry) → Contains table (p, e) ↔ entry p e
+
+-- these are the tables of the routers below n
+pub record AreTablesBelow (entry : ℕ → Block → Entry → Type 0) (n : ℕ) (tables : List (List (Block × Entry))) : Type 0 where
+  pub count : length tables ≡ n
+  pub each : (u : ℕ) → u < n → IsTableOf (entry u) (slice_index_or tables u [])
+
+-- the list has these neighbors, and no others
+abbrev pub AreNeighborsOf : (ℕ → Type 0) → List ℕ → Type 0
+AreNeighborsOf neighbor neighbors = (v : ℕ) → Contains neighbors v ↔ neighbor v
+
+-- these are the neighbors of the routers below n
+pub record AreNeighborsBelow (neighbor : ℕ → ℕ → Type 0) (n : ℕ) (neighbors : List (List ℕ)) : Type 0 where
+  pub count : length neighbors ≡ n
+  pub each : (u : ℕ) → u < n → AreNeighborsOf (neighbor u) (slice_index_or neighbors u [])

@@ -1,0 +1,5 @@
+pub mod Lists
+pub mod Prefixes
+pub mod BestRoutes
+pub mod Entries
+pub mod Tables

@@ -1,0 +1,57 @@
+ghost use Rattle.std.specs.Prelude.{◌≡◌, ◌↔◌, ◌<◌, ℕ, List, length, Contains, IfOk, IsTrue, MatchOption};
+ghost use Rattle.net_addr.specs.Addresses.{Block};
+ghost use Rattle.route_core.specs.declared.entry.Entry.{Entry};
+ghost use Rattle.route_tables.specs.Entries.{IsLawful};
+ghost use Rattle.route_tables.specs.Prefixes.{AreDistinct, prefix_at};
+
+use crate::OutOfMemory;
+use net_addr::Prefix;
+use route_core::Entry;
+use std::alloc::Global;
+
+/// A routing protocol on a network: what it gives each router.
+///
+/// The answers are functions of the protocol, so they don't change while it stays as it is.
+pub trait Protocol {
+    /// How many routers there are.
+    ghost routers: { Self → ℕ };
+
+    /// The entry that it gives a router for a prefix, where it gives one.
+    ghost entry: { Self → ℕ → Block → Entry → Type 0 };
+
+    /// Whether the second router is a neighbor of the first one.
+    ghost neighbor: { Self → ℕ → ℕ → Type 0 };
+
+    /// The prefixes that it may give entries for.
+    ghost candidates: { Self → List Block };
+
+    /// How many routers there are. They are numbered from 0.
+    fn routers(&self) -> u32
+        ensures count { result ≡ routers self.now }
+        ensures lawful { IsLawful (routers self.now) (entry self.now) (neighbor self.now) };
+
+    /// How many prefixes there are that it may give entries for. They are numbered from 0.
+    fn candidates(&self) -> usize
+        ensures count { result ≡ length (candidates self.now) }
+        ensures distinct { AreDistinct (candidates self.now) }
+        ensures every { (router : ℕ) (p : Block) (e : Entry) → router < routers self.now → entry self.now router p e → Contains (candidates self.now) p };
+
+    /// The prefix of this number.
+    fn candidate(&self, place: usize) -> Prefix
+        requires { place < length (candidates self.now) }
+        ensures { result ≡ prefix_at (candidates self.now) place };
+
+    /// The entry that it gives a router for the prefix of this number.
+    fn entry(&self, alloc: Global, place: usize, router: u32) -> Result<Option<Entry>, OutOfMemory>
+        requires place { place < length (candidates self.now) }
+        requires router { router < routers self.now }
+        ensures { IfOk result (λ found. MatchOption found
+            ((e : Entry) → entry self.now router (prefix_at (candidates self.now) place) e → ⊥)
+            (entry self.now router (prefix_at (candidates self.now) place))) };
+
+    /// Whether a router has another one as its neighbor.
+    fn is_neighbor(&self, router: u32, other: u32) -> bool
+        requires from_router { router < routers self.now }
+        requires to_router { other < routers self.now }
+        ensures { IsTrue result ↔ neighbor self.now router other };
+}
