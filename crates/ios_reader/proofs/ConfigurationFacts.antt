@@ -6,14 +6,15 @@ use Rattle.net_model.specs.declared.area.Range.{Range}
 use Rattle.net_model.specs.declared.area.Stub.{Stub}
 use Rattle.net_model.specs.declared.config.Levels.{Levels}
 use Rattle.net_model.specs.declared.interface.Interface.{Interface}
-use Rattle.ios_reader.specs.Words.{Word}
+use Rattle.ios_lines.specs.Words.{Word}
 use Rattle.ios_reader.specs.Routers.{Router, router_with}
-use Rattle.ios_reader.specs.Faults.{faults_if, interface_faults}
-use Rattle.ios_reader.specs.Gathering.{lesser_fault, least_fault}
-use Rattle.ios_reader.specs.Statements.{Statements, ospf_fault_by, isis_fault_by, fault_by}
-use Rattle.ios_reader.specs.declared.kind.ReadKind.TheVariants.{NoHostname}
-use Rattle.ios_reader.specs.declared.fault.Fault.{Fault}
-use Rattle.ios_reader.specs.declared.section.InterfaceSection.{InterfaceSection}
+use Rattle.ios_lines.specs.FaultOrder.{faults_if, lesser_fault, least_fault}
+use Rattle.ios_reader.specs.Faults.{interface_faults}
+use Rattle.ios_sections.specs.Statements.{Statements}
+use Rattle.ios_reader.specs.ByStatements.{ospf_fault_by, isis_fault_by, fault_by}
+use Rattle.ios_lines.specs.declared.kind.ReadKind.TheVariants.{NoHostname}
+use Rattle.ios_lines.specs.declared.fault.Fault.{Fault}
+use Rattle.ios_sections.specs.declared.section.InterfaceSection.{InterfaceSection}
 
 pub is_missing : (o : Option Word) (b : Bool) → is_some o ≡ not b → b ≡ is_none o
 is_missing None true e = refl

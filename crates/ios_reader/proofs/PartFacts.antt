@@ -6,13 +6,14 @@ use Rattle.std.proofs.lemmas.Grind.{common_steps}
 use Rattle.std.proofs.lemmas.List.{take_more, map-append}
 use Rattle.std.proofs.lemmas.List.Concat.{flat_map-append}
 use Rattle.net_model.specs.Configuration.{Configuration}
-use Rattle.ios_reader.specs.TextLines.{TextLine, Part, is_end, parts_after, rest_after, is_empty, begins_configuration}
-use Rattle.ios_reader.specs.Faults.{sections_in, part_faults}
+use Rattle.ios_sections.specs.TextLines.{TextLine, Part, is_end, parts_after, rest_after, is_empty, begins_configuration}
+use Rattle.ios_sections.specs.Sections.{sections_in}
+use Rattle.ios_reader.specs.Faults.{part_faults}
 use Rattle.ios_reader.specs.Configurations.{configuration_of}
-use Rattle.ios_reader.specs.Gathering.{lesser_fault, least_fault}
+use Rattle.ios_lines.specs.FaultOrder.{lesser_fault, least_fault}
 use Rattle.ios_reader.specs.Parts.{part_at, IsPartRead, fault_read, configurations_read, Reading, IsReadingOf}
-use Rattle.ios_reader.specs.declared.fault.Fault.{Fault}
-use Rattle.ios_reader.proofs.GatheringFacts.{least_fault-append}
+use Rattle.ios_lines.specs.declared.fault.Fault.{Fault}
+use Rattle.ios_lines.proofs.FaultFacts.{least_fault-append}
 
 -- ---- one more line ----
 

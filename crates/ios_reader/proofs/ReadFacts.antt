@@ -9,26 +9,30 @@ use Rattle.std.proofs.lemmas.List.Elements.{All-nil, All-cons, All-weaker}
 use Rattle.std.proofs.lemmas.Bool.Decides.{nat_tests}
 use Rattle.net_addr.specs.Lines.{is_line_feed, without_empty_last, line_pieces, lines_of, text_lines}
 use Rattle.net_model.specs.Configuration.{Configuration, IsConfiguration}
-use Rattle.ios_reader.specs.Words.{Word}
-use Rattle.ios_reader.specs.TextLines.{TextLine, Part, text_line, lines_in, parts_of, lacks_end}
-use Rattle.ios_reader.specs.Faults.{faults_if, second_processes, ospf_faults, isis_faults, isis_statement_faults, tag_faults, second_titles, lacking, first_isis_line, interface_faults, section_faults, sections_in, part_faults, faults_in}
-use Rattle.ios_reader.specs.Routers.{as_hostname, as_isis, as_fault, interfaces_in, first_isis, first_tag, isis_lines, router_of, router_with, rfc1583_said, ospf_distance_said, isis_distance_said, ranges_in, stubs_in}
+use Rattle.ios_lines.specs.Words.{Word}
+use Rattle.ios_sections.specs.TextLines.{TextLine, Part, text_line, lines_in, parts_of, lacks_end}
+use Rattle.ios_lines.specs.FaultOrder.{faults_if, is_before, lesser_fault, least_fault}
+use Rattle.ios_sections.specs.ProcessFaults.{second_processes, ospf_faults, isis_faults, isis_statement_faults, tag_faults, second_titles, lacking, first_isis_line}
+use Rattle.ios_reader.specs.Faults.{interface_faults, section_faults, part_faults, faults_in}
+use Rattle.ios_sections.specs.Sections.{sections_in}
+use Rattle.ios_sections.specs.Processes.{as_hostname, as_isis, as_fault, interfaces_in, first_isis, first_tag, isis_lines}
+use Rattle.ios_reader.specs.Routers.{router_of, router_with, rfc1583_said, ospf_distance_said, isis_distance_said, ranges_in, stubs_in}
 use Rattle.ios_reader.specs.InterfacesAsRead.{interface_as_read}
-use Rattle.ios_reader.specs.Lookups.{last_of, value_or}
+use Rattle.ios_lines.specs.Lookups.{last_of, value_or}
 use Rattle.ios_reader.specs.Configurations.{IsNotAfter, IsLeastFault, configuration_of, tag_in, area_in, system_in}
-use Rattle.ios_reader.specs.Gathering.{is_before, lesser_fault, least_fault}
-use Rattle.ios_reader.specs.Statements.{Statements, statements_of, ospf_fault_by, isis_fault_by, fault_by, title_by, configuration_by}
+use Rattle.ios_sections.specs.Statements.{Statements, statements_of}
+use Rattle.ios_reader.specs.ByStatements.{ospf_fault_by, isis_fault_by, fault_by, title_by, configuration_by}
 use Rattle.ios_reader.specs.Parts.{IsMadeOf, Reading, IsReadingOf}
 use Rattle.ios_reader.specs.Texts.{ReadsText, IsRefusedText}
-use Rattle.ios_reader.specs.declared.kind.ReadKind.TheVariants.{NoHostname, NoEnd}
-use Rattle.ios_reader.specs.declared.fault.Fault.{Fault}
-use Rattle.ios_reader.specs.declared.ospf_line.OspfStatement.{OspfStatement}
-use Rattle.ios_reader.specs.declared.isis_line.IsisStatement.{IsisStatement}
-use Rattle.ios_reader.specs.declared.section.IsisSection.{IsisSection}
-use Rattle.ios_reader.specs.declared.section.Section.{Section}
-use Rattle.ios_reader.proofs.FaultFacts.{least_of_two}
+use Rattle.ios_lines.specs.declared.kind.ReadKind.TheVariants.{NoHostname, NoEnd}
+use Rattle.ios_lines.specs.declared.fault.Fault.{Fault}
+use Rattle.ios_lines.specs.declared.ospf_line.OspfStatement.{OspfStatement}
+use Rattle.ios_lines.specs.declared.isis_line.IsisStatement.{IsisStatement}
+use Rattle.ios_sections.specs.declared.section.IsisSection.{IsisSection}
+use Rattle.ios_sections.specs.declared.section.Section.{Section}
+use Rattle.ios_lines.proofs.FaultFacts.{least_of_two}
 use Rattle.ios_reader.proofs.LeastFaults.{by_order, none_least}
-use Rattle.ios_reader.proofs.GoodSections.{sections_good}
+use Rattle.ios_sections.proofs.GoodSections.{sections_good}
 use Rattle.ios_reader.proofs.KeptFacts.{configuration_kept}
 
 -- ---- the least fault of a configuration ----

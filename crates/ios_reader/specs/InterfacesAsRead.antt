@@ -5,19 +5,20 @@ use Rattle.net_addr.specs.Addresses.{Block}
 use Rattle.net_model.specs.declared.config.Levels.{Levels}
 use Rattle.net_model.specs.declared.config.Levels.TheVariants.{One, Two, Both}
 use Rattle.net_model.specs.declared.interface.Interface.{Interface}
-use Rattle.ios_reader.specs.Words.{Word, is_letter}
-use Rattle.ios_reader.specs.Lookups.{last_of, first_of, good_value, value_or}
-use Rattle.ios_reader.specs.OspfLines.{prefix_of}
-use Rattle.ios_reader.specs.InterfaceFacts.{facts_of, counting}
+use Rattle.ios_lines.specs.Words.{Word, is_letter}
+use Rattle.ios_lines.specs.Lookups.{last_of, first_of, good_value, value_or}
+use Rattle.ios_lines.specs.OspfLines.{prefix_of}
+use Rattle.ios_reader.specs.InterfaceFacts.{facts_of}
+use Rattle.ios_lines.specs.InterfaceLines.{counting}
 use Rattle.ios_reader.specs.Routers.{Router, area_taken, ospf_passive_said, isis_passive_said}
-use Rattle.ios_reader.specs.declared.kind.ReadKind.{ReadKind}
-use Rattle.ios_reader.specs.declared.address.InterfaceAddress.{InterfaceAddress}
-use Rattle.ios_reader.specs.declared.interface_line.ProcessArea.{ProcessArea}
-use Rattle.ios_reader.specs.declared.ospf_line.OspfStatement.{OspfStatement}
-use Rattle.ios_reader.specs.declared.isis_line.IsisStatement.{IsisStatement}
+use Rattle.ios_lines.specs.declared.kind.ReadKind.{ReadKind}
+use Rattle.ios_lines.specs.declared.address.InterfaceAddress.{InterfaceAddress}
+use Rattle.ios_lines.specs.declared.interface_line.ProcessArea.{ProcessArea}
+use Rattle.ios_lines.specs.declared.ospf_line.OspfStatement.{OspfStatement}
+use Rattle.ios_lines.specs.declared.isis_line.IsisStatement.{IsisStatement}
 use Rattle.ios_reader.specs.declared.facts.PlacedAddress.{PlacedAddress}
 use Rattle.ios_reader.specs.declared.facts.InterfaceFacts.{InterfaceFacts}
-use Rattle.ios_reader.specs.declared.section.InterfaceSection.{InterfaceSection}
+use Rattle.ios_sections.specs.declared.section.InterfaceSection.{InterfaceSection}
 
 -- the address that the last address line gives
 abbrev pub address_given : Option (Option PlacedAddress) → Option InterfaceAddress

@@ -1,20 +1,19 @@
 ghost use Rattle.std.specs.Prelude.{◌≡◌, ◌≤◌, length, take_while, unwrap_or, map, IfOk};
 ghost use Rattle.std.specs.List.{prefix_len};
-ghost use Rattle.ios_reader.specs.Words.{is_letter};
-ghost use Rattle.ios_reader.specs.Lookups.{good_value};
+ghost use Rattle.ios_lines.specs.Words.{is_letter};
+ghost use Rattle.ios_lines.specs.Lookups.{good_value};
 ghost use Rattle.ios_reader.specs.Passives.{ArePassivesOf};
 ghost use Rattle.ios_reader.specs.InterfacesAsRead.{address_given, is_loopback, is_up, area_by, interface_area, default_bandwidth, cost_of_bandwidth, cost_by_bandwidth, default_cost, cost_given, ospf_cost, has_one, has_two, is_isis_passive, is_ospf_passive, runs_isis, runs_level, metric_by, level_metric, address_field, subnet_field, cost_field, interface_with, interface_as_read};
 
 use crate::OutOfMemory;
-use crate::address::InterfaceAddress;
-use crate::facts::{InterfaceFacts, PlacedAddress, counting, facts_of};
-use crate::interface_line::ProcessArea;
-use crate::kind::ReadKind;
-use crate::ospf_line::prefix_of;
+use crate::facts::{InterfaceFacts, PlacedAddress, facts_of};
 use crate::passive::Passives;
 use crate::router::{Router, levels_or_both, network_area};
-use crate::section::InterfaceSection;
-use crate::words::{is, is_letter};
+use ios_lines::address::InterfaceAddress;
+use ios_lines::interface_line::{ProcessArea, counting};
+use ios_lines::kind::ReadKind;
+use ios_lines::words::{is, is_letter};
+use ios_sections::section::InterfaceSection;
 use net_addr::{Name, Prefix};
 use net_model::{Interface, Levels};
 use std::alloc::Global;

@@ -1,12 +1,12 @@
 ghost use Rattle.std.specs.Prelude.{◌≡◌, [], List, ℕ, OnOk, IfOk};
-ghost use Rattle.ios_reader.specs.Lookups.{later, last_of};
+ghost use Rattle.ios_lines.specs.Lookups.{later, last_of};
 ghost use Rattle.ios_reader.specs.Routers.{ospf_passive_said, isis_passive_said, router_with};
 ghost use Rattle.ios_reader.specs.Passives.{said_of, with_said, ArePassivesOf};
 
 use crate::OutOfMemory;
-use crate::isis_line::{IsisLine, IsisStatement};
-use crate::ospf_line::{OspfLine, OspfStatement};
 use indexmap::IndexMap;
+use ios_lines::isis_line::{IsisLine, IsisStatement};
+use ios_lines::ospf_line::{OspfLine, OspfStatement};
 use std::alloc::Global;
 use std::marker::Model;
 

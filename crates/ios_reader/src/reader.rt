@@ -1,20 +1,17 @@
 ghost use Rattle.std.specs.Prelude.{◌≡◌, ◌<◌, ◌^◌, ◌||◌, false, [], ◌++◌, length, IfOk, IfErr, if◌then◌else◌};
 ghost use Rattle.std.specs.List.{list_any};
-ghost use Rattle.ios_reader.specs.TextLines.{is_end, parts_after, rest_after, is_empty, begins_configuration};
-ghost use Rattle.ios_reader.specs.Gathering.{lesser_fault};
+ghost use Rattle.ios_sections.specs.TextLines.{is_end, parts_after, rest_after, is_empty, begins_configuration};
+ghost use Rattle.ios_lines.specs.FaultOrder.{lesser_fault};
 ghost use Rattle.ios_reader.specs.Parts.{fault_read, configurations_read, IsReadingOf};
 ghost use Rattle.ios_reader.specs.Texts.{ReadsText, Refuses};
 
 use crate::OutOfMemory;
 use crate::configuration::read_part;
-use crate::fault::Fault;
-use crate::gather::lesser_fault;
-use crate::interface_fault::fault_if;
-use crate::isis_process::either;
-use crate::kind::ReadKind;
 use crate::refusal::ReadRefusal;
-use crate::text::counted_lines;
-use crate::text_line::TextLine;
+use ios_lines::fault::{Fault, fault_if, lesser_fault};
+use ios_lines::kind::ReadKind;
+use ios_sections::text::counted_lines;
+use ios_sections::text_line::TextLine;
 use net_addr::lines;
 use net_model::{Config, Configs};
 use std::alloc::Global;
@@ -80,6 +77,13 @@ fn is_unended(before: bool, line: &TextLine) -> bool
     ensures { result ≡ (if is_end line.now then false else (before || begins_configuration line.now)) }
 {
     !line.is_end() && (before || line.begins_configuration())
+}
+
+/// Whether one of two holds.
+fn either(one: bool, other: bool) -> bool
+    ensures { result ≡ (one || other) }
+{
+    one || other
 }
 
 /// Whether no `end` line is there, or a configuration is open after the last one.

@@ -1,15 +1,15 @@
 use Rattle.std.proofs.Common.{◌≡◌, List, true, refl, map, sym, ap, subst, ◌∙◌}
 use Rattle.std.specs.Prelude.{unwrap_or}
 use Rattle.net_model.specs.Configuration.{IsConfiguration}
-use Rattle.ios_reader.specs.Lookups.{value_or}
+use Rattle.ios_lines.specs.Lookups.{value_or}
 use Rattle.ios_reader.specs.Routers.{Router, router_with, ranges_in, stubs_in}
 use Rattle.ios_reader.specs.InterfacesAsRead.{interface_as_read}
 use Rattle.ios_reader.specs.Configurations.{area_in, system_in}
 use Rattle.ios_reader.specs.ProcessFacts.{ospf_facts_of, isis_facts_of}
 use Rattle.ios_reader.specs.declared.router.OspfFacts.{OspfFacts}
 use Rattle.ios_reader.specs.declared.router.IsisFacts.{IsisFacts}
-use Rattle.ios_reader.specs.Statements.{configuration_by}
-use Rattle.ios_reader.specs.declared.ospf_line.OspfStatement.{OspfStatement}
+use Rattle.ios_reader.specs.ByStatements.{configuration_by}
+use Rattle.ios_lines.specs.declared.ospf_line.OspfStatement.{OspfStatement}
 use Rattle.ios_reader.proofs.ConfigurationFacts.{configured, same_fields}
 use Rattle.ios_reader.proofs.configuration.config_of.Goals.{After-distance_or-2}
 use Rattle.ios_reader.proofs.configuration.config_of.Goals as goal

@@ -1,8 +1,8 @@
 use Rattle.std.proofs.Common.{◌≡◌, List, ap, ◌∙◌}
 use Rattle.std.specs.Prelude.{is_none}
 use Rattle.ios_reader.specs.Routers.{router_with}
-use Rattle.ios_reader.specs.Statements.{Statements}
-use Rattle.ios_reader.specs.declared.ospf_line.OspfStatement.{OspfStatement}
+use Rattle.ios_sections.specs.Statements.{Statements}
+use Rattle.ios_lines.specs.declared.ospf_line.OspfStatement.{OspfStatement}
 use Rattle.ios_reader.proofs.ConfigurationFacts.{fault_joined, is_missing}
 use Rattle.ios_reader.proofs.configuration.fault_of.Goals as goal
 

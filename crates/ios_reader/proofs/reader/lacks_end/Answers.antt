@@ -1,5 +1,5 @@
 use Rattle.std.proofs.Common.{◌<◌, Bool, false, ◌||◌, length, sym, ap, ◌∙◌, cond}
-use Rattle.ios_reader.specs.TextLines.{is_end, begins_configuration}
+use Rattle.ios_sections.specs.TextLines.{is_end, begins_configuration}
 use Rattle.ios_reader.proofs.PartFacts.{open_more, flag_more}
 use Rattle.ios_reader.proofs.reader.lacks_end.Goals as goal
 
