@@ -85,13 +85,13 @@ tag_is (s ∷ ss) = refl
 abbrev whole : Bool → Word → Statements → Configuration
 whole isis tag s = record {
   name = unwrap_or s.name [];
-  interfaces = map (interface_as_read (router_with s.ospf s.isis)) s.interfaces;
+  interfaces = map (interface_as_read (router_with s.process s.ospf s.isis)) s.interfaces;
   process = s.process;
   isis = isis;
   tag = tag;
   isis_area = area_in (title_by s.isis);
   system = system_in (title_by s.isis);
-  levels = (router_with s.ospf s.isis).levels;
+  levels = (router_with s.process s.ospf s.isis).levels;
   ranges = ranges_in s.ospf;
   stubs = stubs_in s.ospf;
   rfc1583 = unwrap_or (last_of (λ (t : OspfStatement). rfc1583_said t.says) s.ospf) true;

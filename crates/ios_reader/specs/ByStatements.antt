@@ -30,7 +30,7 @@ isis_fault_by s =
 -- the least fault of a configuration whose `end` line has this number
 abbrev pub fault_by : Statements → ℕ → Option Fault
 fault_by s ends =
-    lesser_fault (lesser_fault (lesser_fault (ospf_fault_by s) (isis_fault_by s)) (least_fault (flat_map (interface_faults (router_with s.ospf s.isis) s.tag) s.interfaces)))
+    lesser_fault (lesser_fault (lesser_fault (ospf_fault_by s) (isis_fault_by s)) (least_fault (flat_map (interface_faults (router_with s.process s.ospf s.isis) s.tag) s.interfaces)))
     (least_fault (faults_if (is_none s.name) ends NoHostname))
 
 -- the title after one more line
@@ -46,13 +46,13 @@ title_by lines = title_given (last_of (λ (s : IsisStatement). title_said s.says
 abbrev pub configuration_by : Statements → Configuration
 configuration_by s = record {
   name = unwrap_or s.name [];
-  interfaces = map (interface_as_read (router_with s.ospf s.isis)) s.interfaces;
+  interfaces = map (interface_as_read (router_with s.process s.ospf s.isis)) s.interfaces;
   process = s.process;
   isis = is_some s.tag;
   tag = unwrap_or s.tag [];
   isis_area = area_in (title_by s.isis);
   system = system_in (title_by s.isis);
-  levels = (router_with s.ospf s.isis).levels;
+  levels = (router_with s.process s.ospf s.isis).levels;
   ranges = ranges_in s.ospf;
   stubs = stubs_in s.ospf;
   rfc1583 = unwrap_or (last_of (λ (t : OspfStatement). rfc1583_said t.says) s.ospf) true;

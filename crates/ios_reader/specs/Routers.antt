@@ -17,7 +17,7 @@ use Rattle.ios_lines.specs.declared.isis_line.IsisLine.{IsisLine}
 use Rattle.ios_lines.specs.declared.isis_line.IsisLine.TheVariants.{Net, Levels as LevelsSaid, Metric as IsisMetric, Distance as IsisDistance, Passive as IsisPassive}
 use Rattle.ios_lines.specs.declared.isis_line.IsisStatement.{IsisStatement}
 use Rattle.ios_sections.specs.declared.section.Section.{Section}
-use Rattle.ios_sections.specs.Processes.{ospf_lines, isis_lines}
+use Rattle.ios_sections.specs.Processes.{process_of, ospf_lines, isis_lines}
 
 -- ---- the OSPF process ----
 
@@ -135,6 +135,7 @@ isis_passive_said name _ = None
 
 -- what the two processes say that concerns the interfaces
 pub record Router : Type 0 where
+  pub process : Option ℕ
   pub ospf : List OspfStatement
   pub isis : List IsisStatement
   pub passive_default : Bool
@@ -142,9 +143,10 @@ pub record Router : Type 0 where
   pub levels : Levels
   pub metric : ℕ
 
--- a router by the lines of its two processes
-abbrev pub router_with : List OspfStatement → List IsisStatement → Router
-router_with ospf isis = record {
+-- a router by the number of its OSPF process, and the lines of its two processes
+abbrev pub router_with : Option ℕ → List OspfStatement → List IsisStatement → Router
+router_with process ospf isis = record {
+  process = process;
   ospf = ospf;
   isis = isis;
   passive_default = unwrap_or (last_of (λ (s : OspfStatement). passive_default_said s.says) ospf) false;
@@ -155,4 +157,4 @@ router_with ospf isis = record {
 
 -- a router by its sections
 abbrev pub router_of : List Section → Router
-router_of sections = router_with (ospf_lines sections) (isis_lines sections)
+router_of sections = router_with (process_of sections) (ospf_lines sections) (isis_lines sections)

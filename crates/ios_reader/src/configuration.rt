@@ -47,7 +47,11 @@ fn isis_fault(statements: &Statements) -> Option<Fault>
 fn fault_of(statements: &Statements, ends: u32) -> Option<Fault>
     ensures { result ≡ fault_by statements.now ends }
 {
-    let router = router_with(statements.ospf.as_slice(), statements.isis.as_slice());
+    let router = router_with(
+        statements.process,
+        statements.ospf.as_slice(),
+        statements.isis.as_slice(),
+    );
     let interfaces = interface_faults(
         &router,
         tag_bytes(&statements.tag),
@@ -125,9 +129,9 @@ fn config_of(alloc: Global, statements: Statements) -> Result<Config, OutOfMemor
         isis,
         ..
     } = statements;
-    let router = router_with(ospf.as_slice(), isis.as_slice());
+    let router = router_with(process, ospf.as_slice(), isis.as_slice());
     let levels = router.levels;
-    let passives = passives_of(alloc, ospf.as_slice(), isis.as_slice())?;
+    let passives = passives_of(alloc, &router)?;
     let interfaces = interfaces_as_read(alloc, &router, &passives, interfaces)?;
     let ranges = ranges_in(alloc, ospf.as_slice())?;
     let stubs = stubs_in(alloc, ospf.as_slice())?;

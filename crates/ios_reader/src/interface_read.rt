@@ -3,7 +3,7 @@ ghost use Rattle.std.specs.List.{prefix_len};
 ghost use Rattle.ios_lines.specs.Words.{is_letter};
 ghost use Rattle.ios_lines.specs.Lookups.{good_value};
 ghost use Rattle.ios_reader.specs.Passives.{ArePassivesOf};
-ghost use Rattle.ios_reader.specs.InterfacesAsRead.{address_given, is_loopback, is_up, area_by, interface_area, default_bandwidth, cost_of_bandwidth, cost_by_bandwidth, default_cost, cost_given, ospf_cost, has_one, has_two, is_isis_passive, is_ospf_passive, runs_isis, runs_level, metric_by, level_metric, address_field, subnet_field, cost_field, interface_with, interface_as_read};
+ghost use Rattle.ios_reader.specs.InterfacesAsRead.{address_given, is_loopback, is_up, names_process, area_by, interface_area, default_bandwidth, cost_of_bandwidth, cost_by_bandwidth, default_cost, cost_given, ospf_cost, has_one, has_two, is_isis_passive, is_ospf_passive, runs_isis, runs_level, metric_by, level_metric, address_field, subnet_field, cost_field, interface_with, interface_as_read};
 
 use crate::OutOfMemory;
 use crate::facts::{InterfaceFacts, PlacedAddress, facts_of};
@@ -45,13 +45,33 @@ pub fn is_up(facts: &InterfaceFacts) -> bool
     address_given(facts.address).is_some() && !facts.shut.unwrap_or(false)
 }
 
+/// Whether the interface's own line names the process of the router.
+fn names_process(process: Option<u32>, said: ProcessArea) -> bool
+    ensures { result ≡ names_process process said }
+{
+    match process {
+        Some(process) => said.process == process,
+        None => false,
+    }
+}
+
 /// The area: of the interface's own line, else of the first network line that takes its address.
-fn area_by(own: Option<Result<ProcessArea, ReadKind>>, by_network: Option<u32>) -> Option<u32>
-    ensures { result ≡ area_by own by_network }
+fn area_by(
+    process: Option<u32>,
+    own: Option<Result<ProcessArea, ReadKind>>,
+    by_network: Option<u32>,
+) -> Option<u32>
+    ensures { result ≡ area_by process own by_network }
 {
     match own {
         None => by_network,
-        Some(Ok(said)) => Some(said.area),
+        Some(Ok(said)) => {
+            if names_process(process, said) {
+                Some(said.area)
+            } else {
+                None
+            }
+        }
         Some(Err(_)) => None,
     }
 }
@@ -61,7 +81,11 @@ pub fn interface_area(router: &Router, facts: &InterfaceFacts) -> Option<u32>
     ensures { result ≡ interface_area router.now facts.now }
 {
     match address_given(facts.address) {
-        Some(given) => area_by(facts.area, network_area(router.ospf, given.address())),
+        Some(given) => area_by(
+            router.process,
+            facts.area,
+            network_area(router.ospf, given.address()),
+        ),
         None => None,
     }
 }
