@@ -1,17 +1,21 @@
 -- The least of some faults, in parts and in a loop.
-use Rattle.std.proofs.Common.{sym, ◌≡◌, ℕ, ◌+◌, ◌<◌, List, [], ◌∷◌, ◌++◌, length, take, get_or, Option, ap, ◌∙◌, append-nil, Bool, true, false, Some, None, refl, cond, nat_lt, arith}
+use Rattle.std.proofs.Common.{sym, ◌≡◌, ℕ, ◌+◌, ◌<◌, List, [], ◌∷◌, ◌++◌, length, take, get_or, Option, ap, ◌∙◌, append-nil, Bool, true, false, ◌&&◌, ◌||◌, Some, None, refl, cond, nat_eq, nat_lt, arith}
 use Rattle.std.specs.Prelude.{flat_map}
 use Rattle.std.proofs.lemmas.List.{take_more}
 use Rattle.std.proofs.lemmas.List.Concat.{flat_map-append}
-use Rattle.ios_lines.specs.FaultOrder.{lesser_fault, least_fault, order_of, is_before}
+use Rattle.ios_lines.specs.FaultOrder.{rank, is_before, lesser_fault, least_fault}
 use Rattle.ios_lines.specs.declared.fault.Fault.{Fault}
 use Rattle.std.proofs.lemmas.Bool.Decides.{nat_tests}
 
-before_trans : (a b c : ℕ) → nat_lt b a ≡ true → nat_lt c b ≡ true → nat_lt c a ≡ true
-before_trans a b c p q = grind (arith, nat_tests)
+-- a pair of numbers comes before another: the first is less, or it is the same and the second is less
+abbrev comes_before : ℕ → ℕ → ℕ → ℕ → Bool
+comes_before l r m s = nat_lt l m || (nat_eq l m && nat_lt r s)
 
-after_trans : (a b c : ℕ) → nat_lt b a ≡ false → nat_lt c b ≡ false → nat_lt c a ≡ false
-after_trans a b c p q = grind (arith, nat_tests)
+before_trans : (a b c i j k : ℕ) → comes_before b j a i ≡ true → comes_before c k b j ≡ true → comes_before c k a i ≡ true
+before_trans a b c i j k p q = grind (arith, nat_tests)
+
+after_trans : (a b c i j k : ℕ) → comes_before b j a i ≡ false → comes_before c k b j ≡ false → comes_before c k a i ≡ false
+after_trans a b c i j k p q = grind (arith, nat_tests)
 
 left_shape : (t : Bool) (f g h : Fault) → lesser_fault (cond t (Some g) (Some f)) (Some h) ≡ cond t (cond (is_before h g) (Some h) (Some g)) (cond (is_before h f) (Some h) (Some f))
 left_shape true f g h = refl
@@ -39,7 +43,8 @@ lesser-assoc (Some f) (Some g) None = none_after (is_before g f) f g
 lesser-assoc (Some f) (Some g) (Some h) =
     left_shape (is_before g f) f g h
     ∙ same_shape (is_before g f) (is_before h g) (is_before h f) (Some f) (Some g) (Some h)
-    (before_trans (order_of f) (order_of g) (order_of h)) (after_trans (order_of f) (order_of g) (order_of h))
+    (before_trans f.line g.line h.line (rank f.kind) (rank g.kind) (rank h.kind))
+    (after_trans f.line g.line h.line (rank f.kind) (rank g.kind) (rank h.kind))
     ∙ sym (right_shape (is_before h g) f g h)
 
 pub lesser-none : (a : Option Fault) → lesser_fault a None ≡ a

@@ -1,5 +1,5 @@
 -- Faulty lines, and their order.
-use Rattle.std.specs.Prelude.{ℕ, ◌+◌, Bool, List, [], ◌∷◌, Option, Some, None, if◌then◌else◌, ◌*◌, nat_lt}
+use Rattle.std.specs.Prelude.{ℕ, Bool, ◌&&◌, ◌||◌, List, [], ◌∷◌, Option, Some, None, nat_eq, nat_lt, if◌then◌else◌}
 use Rattle.ios_lines.specs.declared.kind.ReadKind.{ReadKind}
 use Rattle.ios_lines.specs.declared.kind.ReadKind.TheVariants.{NoHostname, NoEnd, SecondProcess, Unsupported, LoopbackMask, BadNet, NoBandwidth, BadAddress, BadMask, BadCost, BadArea, BadLevel, BadMetric, BadDistance, DistanceClash}
 use Rattle.ios_lines.specs.declared.fault.Fault.{Fault}
@@ -35,13 +35,9 @@ rank BadDistance = 13
 rank DistanceClash = 14
 rank NoBandwidth = 15
 
--- the place of a fault in the order of faults: by its line, then by its kind, of which there are fewer than 16
-abbrev pub order_of : Fault → ℕ
-order_of f = 16 * f.line + rank f.kind
-
 -- the first fault comes on a lesser line than the second, or on the same line with a lesser kind
 abbrev pub is_before : Fault → Fault → Bool
-is_before f g = nat_lt (order_of f) (order_of g)
+is_before f g = nat_lt f.line g.line || (nat_eq f.line g.line && nat_lt (rank f.kind) (rank g.kind))
 
 -- the lesser of two faults, where there is one
 abbrev pub lesser_fault : Option Fault → Option Fault → Option Fault

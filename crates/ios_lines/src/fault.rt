@@ -1,5 +1,5 @@
 ghost use Rattle.std.specs.Prelude.{◌≡◌};
-ghost use Rattle.ios_lines.specs.FaultOrder.{order_of, is_before, lesser_fault, least_fault, faults_at, faults_if};
+ghost use Rattle.ios_lines.specs.FaultOrder.{rank, is_before, lesser_fault, least_fault, faults_at, faults_if};
 
 use crate::kind::ReadKind;
 
@@ -12,18 +12,18 @@ pub struct Fault {
     pub kind: ReadKind,
 }
 
-/// The place of a fault in the order of faults: by its line, then by its kind.
-fn order_of(f: Fault) -> u64
-    ensures { result ≡ order_of f }
+/// The place of a kind in the order of kinds.
+fn rank(kind: ReadKind) -> u8
+    ensures { result ≡ rank kind }
 {
-    16 * u64::from(f.line) + u64::from(f.kind as u8)
+    kind as u8
 }
 
 /// Whether the first fault is before the second: on a lesser line, or on the same line with a lesser kind.
 fn is_before(f: Fault, g: Fault) -> bool
     ensures { result ≡ is_before f g }
 {
-    order_of(f) < order_of(g)
+    f.line < g.line || (f.line == g.line && rank(f.kind) < rank(g.kind))
 }
 
 /// The lesser of two faults, where there is one.

@@ -31,7 +31,7 @@ use Rattle.ios_lines.specs.declared.isis_line.IsisStatement.{IsisStatement}
 use Rattle.ios_sections.specs.declared.section.IsisSection.{IsisSection}
 use Rattle.ios_sections.specs.declared.section.Section.{Section}
 use Rattle.ios_lines.proofs.FaultFacts.{least_of_two}
-use Rattle.ios_reader.proofs.LeastFaults.{by_order, none_least}
+use Rattle.ios_reader.proofs.LeastFaults.{by_before, by_not_before, none_least}
 use Rattle.ios_sections.proofs.GoodSections.{sections_good}
 use Rattle.ios_reader.proofs.KeptFacts.{configuration_kept}
 
@@ -167,10 +167,10 @@ later_least g h gs before found = record {
 least_choice : (g h f : Fault) (gs : List Fault) (t : Bool) → is_before h g ≡ t → IsLeastFault gs h → cond t (Some h) (Some g) ≡ Some f → IsLeastFault (g ∷ gs) f
 least_choice g h f gs true before found e =
     let same : h ≡ f = cc in
-    subst (IsLeastFault (g ∷ gs)) same (later_least g h gs (by_order h g (grind (arith, nat_tests))) found)
+    subst (IsLeastFault (g ∷ gs)) same (later_least g h gs (by_before h g before) found)
 least_choice g h f gs false before found e =
     let same : g ≡ f = cc in
-    let after : IsNotAfter g h = by_order g h (grind (arith, nat_tests)) in
+    let after : IsNotAfter g h = by_not_before g h before in
     subst (IsLeastFault (g ∷ gs)) same (first_least g gs (All-weaker (IsNotAfter h) (IsNotAfter g) (λ x n. not_after_trans g h x after n) gs found.least))
 
 least_cases : (g f : Fault) (gs : List Fault) (o : Option Fault) → least_fault gs ≡ o → ((h : Fault) → least_fault gs ≡ Some h → IsLeastFault gs h) → lesser_fault (Some g) o ≡ Some f → IsLeastFault (g ∷ gs) f
