@@ -9,7 +9,7 @@ use Rattle.net_addr.specs.Addresses.{IsBlock}
 use Rattle.net_addr.specs.AddressWords.{IsAddressWord}
 use Rattle.net_addr.proofs.Blocks.{IsBlock-around}
 use Rattle.net_model.specs.Configuration.{IsRange}
-use Rattle.ios_lines.specs.Words.{Word, word_at, says, begins2, begins3, lacks, number_of, at_least, number_from, address_of, mask_of, area_of}
+use Rattle.ios_lines.specs.Words.{Word, word_at, says, begins_with_two, begins_with_three, lacks, number_of, at_least, number_from, address_of, mask_of, area_of}
 use Rattle.ios_lines.specs.InterfaceLines.{masked_address, address_line, process_area, ospf_of_interface, ip_of_interface, metric_line, isis_of_interface, bandwidth_line, plain_of_interface, interface_line}
 use Rattle.ios_lines.specs.OspfLines.{stub_values, default_cost_values, prefix_of, cost_place, optional_cost, range_cost, range_ends, range_values, range_line, is_unsupported_area, area_line as ospf_area_line, apart_distance, ospf_distance, ospf_passive, is_unsupported_ospf, plain_of_ospf, ospf_line}
 use Rattle.ios_lines.specs.IsisLines.{hex_value, group_value, system_value, system_part, is_title, title_of, isis_distance, isis_passive, is_unsupported_isis, plain_of_isis, isis_line}
@@ -133,9 +133,9 @@ plain_good : (words : List Word) → IsGoodInterfaceLine (plain_of_interface wor
 plain_good words =
     by_if IsGoodInterfaceLine (says words 0 (codes "bandwidth")) _ _ (bandwidth_good (word_at words 1))
     (by_if IsGoodInterfaceLine (says words 0 (codes "shutdown")) _ _ tt
-    (by_if IsGoodInterfaceLine (begins2 words (codes "no") (codes "shutdown")) _ _ tt
-    (by_if IsGoodInterfaceLine (begins3 words (codes "no") (codes "ip") (codes "address")) _ _ tt
-    (by_if IsGoodInterfaceLine (begins2 words (codes "vrf") (codes "forwarding")) _ _ tt tt))))
+    (by_if IsGoodInterfaceLine (begins_with_two words (codes "no") (codes "shutdown")) _ _ tt
+    (by_if IsGoodInterfaceLine (begins_with_three words (codes "no") (codes "ip") (codes "address")) _ _ tt
+    (by_if IsGoodInterfaceLine (begins_with_two words (codes "vrf") (codes "forwarding")) _ _ tt tt))))
 
 pub interface_line_good : (words : List Word) → IsGoodInterfaceLine (interface_line words)
 interface_line_good words =
@@ -229,10 +229,10 @@ passive_good words k passive =
 
 plain_ospf_good : (words : List Word) → IsGoodOspfLine (plain_of_ospf words)
 plain_ospf_good words =
-    by_if IsGoodOspfLine (begins2 words (codes "auto-cost") (codes "reference-bandwidth")) _ _ tt
+    by_if IsGoodOspfLine (begins_with_two words (codes "auto-cost") (codes "reference-bandwidth")) _ _ tt
     (by_if IsGoodOspfLine (says words 0 (codes "distance")) _ _ (distance_good words)
-    (by_if IsGoodOspfLine (begins2 words (codes "compatible") (codes "rfc1583")) _ _ tt
-    (by_if IsGoodOspfLine (begins3 words (codes "no") (codes "compatible") (codes "rfc1583")) _ _ tt
+    (by_if IsGoodOspfLine (begins_with_two words (codes "compatible") (codes "rfc1583")) _ _ tt
+    (by_if IsGoodOspfLine (begins_with_three words (codes "no") (codes "compatible") (codes "rfc1583")) _ _ tt
     (by_if IsGoodOspfLine (is_unsupported_ospf (word_at words 0)) _ _ tt tt))))
 
 pub ospf_line_good : (words : List Word) → IsGoodOspfLine (ospf_line words)
@@ -240,7 +240,7 @@ ospf_line_good words =
     by_if IsGoodOspfLine (says words 0 (codes "network")) _ _ tt
     (by_if IsGoodOspfLine (says words 0 (codes "area")) _ _ (area_line_good words)
     (by_if IsGoodOspfLine (says words 0 (codes "passive-interface")) _ _ (passive_good words 1 true)
-    (by_if IsGoodOspfLine (begins2 words (codes "no") (codes "passive-interface")) _ _ (passive_good words 2 false) (plain_ospf_good words))))
+    (by_if IsGoodOspfLine (begins_with_two words (codes "no") (codes "passive-interface")) _ _ (passive_good words 2 false) (plain_ospf_good words))))
 
 -- ---- lines of the IS-IS process ----
 
@@ -294,7 +294,7 @@ plain_isis_good words =
     by_if IsGoodIsisLine (says words 0 (codes "metric")) _ _ (number_good 1 16777214 BadMetric (word_at words 1))
     (by_if IsGoodIsisLine (says words 0 (codes "distance")) _ _ (isis_distance_good (number_from 1 255 BadDistance (word_at words 1)))
     (by_if IsGoodIsisLine (says words 0 (codes "passive-interface")) _ _ (isis_passive_good words 1 true)
-    (by_if IsGoodIsisLine (begins2 words (codes "no") (codes "passive-interface")) _ _ (isis_passive_good words 2 false)
+    (by_if IsGoodIsisLine (begins_with_two words (codes "no") (codes "passive-interface")) _ _ (isis_passive_good words 2 false)
     (by_if IsGoodIsisLine (is_unsupported_isis (word_at words 0)) _ _ tt tt))))
 
 pub isis_line_good : (words : List Word) → IsGoodIsisLine (isis_line words)

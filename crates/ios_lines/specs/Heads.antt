@@ -1,8 +1,8 @@
--- What a line at indent 0 says, row by row.
+-- What a line at indent 0 says: the lines that have a meaning there.
 use Rattle.std.specs.Prelude.{ℕ, Bool, not, ◌&&◌, ◌||◌, List, ◌++◌, Result, Ok, Err, length, codes, if◌then◌else◌, nat_eq, nat_le, bytes_eq}
 use Rattle.std.specs.List.{list_all, list_any}
 use Rattle.std.specs.Char.{is_ascii_digit}
-use Rattle.ios_lines.specs.Words.{Word, word_at, says, begins2, lacks, number_from, is_printable, is_letter}
+use Rattle.ios_lines.specs.Words.{Word, word_at, says, begins_with_two, lacks, number_from, is_printable, is_letter}
 use Rattle.ios_lines.specs.declared.kind.ReadKind.{ReadKind}
 use Rattle.ios_lines.specs.declared.kind.ReadKind.TheVariants.{NoHostname, SecondProcess, Unsupported}
 use Rattle.ios_lines.specs.declared.head.Head.{Head}
@@ -51,5 +51,5 @@ head_of words =
     if says words 0 (codes "hostname") then Hostname (hostname_of (word_at words 1)) else
     if says words 0 (codes "interface") then Interface (interface_of (interface_name words)) else
     if says words 0 (codes "router") then router_head words else
-    if begins2 words (codes "ip") (codes "route") && not (says words 2 (codes "vrf")) then Faulty Unsupported else
+    if begins_with_two words (codes "ip") (codes "route") && not (says words 2 (codes "vrf")) then Faulty Unsupported else
     Other

@@ -1,7 +1,7 @@
--- What a line of an interface says, row by row, and why it is faulty.
+-- The lines of an interface that have a meaning, what they say, and why they are faulty.
 use Rattle.std.specs.Prelude.{ℕ, Bool, true, false, ◌&&◌, ◌||◌, List, Option, Some, None, Result, Ok, Err, codes, if◌then◌else◌, slice_index, bytes_eq, []}
 use Rattle.std.specs.Char.{is_ascii_digit}
-use Rattle.ios_lines.specs.Words.{Word, word_at, says, begins2, begins3, lacks, number_from, address_of, mask_of, area_of, levels_of}
+use Rattle.ios_lines.specs.Words.{Word, word_at, says, begins_with_two, begins_with_three, lacks, number_from, address_of, mask_of, area_of, levels_of}
 use Rattle.ios_lines.specs.declared.kind.ReadKind.{ReadKind}
 use Rattle.ios_lines.specs.declared.kind.ReadKind.TheVariants.{BadAddress, BadMask, BadCost, BadArea, SecondProcess, Unsupported, BadLevel, BadMetric, NoBandwidth}
 use Rattle.ios_lines.specs.declared.address.InterfaceAddress.{InterfaceAddress}
@@ -84,9 +84,9 @@ abbrev pub plain_of_interface : List Word → InterfaceLine
 plain_of_interface words =
     if says words 0 (codes "bandwidth") then bandwidth_line (word_at words 1) else
     if says words 0 (codes "shutdown") then Shutdown true else
-    if begins2 words (codes "no") (codes "shutdown") then Shutdown false else
-    if begins3 words (codes "no") (codes "ip") (codes "address") then NoAddress else
-    if begins2 words (codes "vrf") (codes "forwarding") then Vrf else
+    if begins_with_two words (codes "no") (codes "shutdown") then Shutdown false else
+    if begins_with_three words (codes "no") (codes "ip") (codes "address") then NoAddress else
+    if begins_with_two words (codes "vrf") (codes "forwarding") then Vrf else
     Skipped
 
 -- what a line of an interface says

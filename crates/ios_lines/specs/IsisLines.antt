@@ -1,7 +1,7 @@
--- What a line of `router isis` says, row by row, and why it is faulty.
+-- The lines of `router isis` that have a meaning, what they say, and why they are faulty.
 use Rattle.std.specs.Prelude.{ℕ, ◌+◌, ◌-◌, ◌*◌, ◌%◌, ◌^◌, Bool, true, false, ◌&&◌, ◌||◌, List, [], ◌∷◌, Option, Some, None, Result, Ok, Err, length, take, drop, codes, if◌then◌else◌, nat_eq, nat_le, bytes_eq, slice_index}
 use Rattle.std.specs.Char.{is_ascii_digit}
-use Rattle.ios_lines.specs.Words.{Word, word_at, says, begins2, lacks, number_from, levels_of, is_dot}
+use Rattle.ios_lines.specs.Words.{Word, word_at, says, begins_with_two, lacks, number_from, levels_of, is_dot}
 use Rattle.ios_lines.specs.InterfaceLines.{fault_in}
 use Rattle.ios_lines.specs.declared.kind.ReadKind.{ReadKind}
 use Rattle.ios_lines.specs.declared.kind.ReadKind.TheVariants.{Unsupported, BadNet, BadMetric, BadDistance}
@@ -99,7 +99,7 @@ plain_of_isis words =
     if says words 0 (codes "metric") then Metric (number_from 1 16777214 BadMetric (word_at words 1)) else
     if says words 0 (codes "distance") then Distance (isis_distance (number_from 1 255 BadDistance (word_at words 1))) else
     if says words 0 (codes "passive-interface") then isis_passive words 1 true else
-    if begins2 words (codes "no") (codes "passive-interface") then isis_passive words 2 false else
+    if begins_with_two words (codes "no") (codes "passive-interface") then isis_passive words 2 false else
     if is_unsupported_isis (word_at words 0) then Faulty Unsupported else
     Skipped
 

@@ -1,8 +1,8 @@
--- What a line of `router ospf` says, row by row, and why it is faulty.
+-- The lines of `router ospf` that have a meaning, what they say, and why they are faulty.
 use Rattle.std.specs.Prelude.{ℕ, ◌+◌, ◌-◌, ◌*◌, ◌/◌, ◌^◌, Bool, true, false, ◌||◌, List, Option, Some, None, Result, Ok, Err, codes, if◌then◌else◌, nat_eq, bytes_eq, not}
 use Rattle.net_addr.specs.Addresses.{Block, block_at}
 use Rattle.net_model.specs.declared.area.Range.{Range}
-use Rattle.ios_lines.specs.Words.{Word, word_at, says, begins2, begins3, lacks, number_from, address_of, mask_of, area_of}
+use Rattle.ios_lines.specs.Words.{Word, word_at, says, begins_with_two, begins_with_three, lacks, number_from, address_of, mask_of, area_of}
 use Rattle.ios_lines.specs.InterfaceLines.{fault_in}
 use Rattle.ios_lines.specs.declared.kind.ReadKind.{ReadKind}
 use Rattle.ios_lines.specs.declared.kind.ReadKind.TheVariants.{BadAddress, BadMask, BadCost, BadArea, Unsupported, BadDistance, DistanceClash}
@@ -124,10 +124,10 @@ is_unsupported_ospf word =
 -- the lines that set a value of the process or take something back
 abbrev pub plain_of_ospf : List Word → OspfLine
 plain_of_ospf words =
-    if begins2 words (codes "auto-cost") (codes "reference-bandwidth") then Reference (number_from 1 4294967 BadCost (word_at words 2)) else
+    if begins_with_two words (codes "auto-cost") (codes "reference-bandwidth") then Reference (number_from 1 4294967 BadCost (word_at words 2)) else
     if says words 0 (codes "distance") then Distance (ospf_distance words) else
-    if begins2 words (codes "compatible") (codes "rfc1583") then Rfc1583 true else
-    if begins3 words (codes "no") (codes "compatible") (codes "rfc1583") then Rfc1583 false else
+    if begins_with_two words (codes "compatible") (codes "rfc1583") then Rfc1583 true else
+    if begins_with_three words (codes "no") (codes "compatible") (codes "rfc1583") then Rfc1583 false else
     if is_unsupported_ospf (word_at words 0) then Faulty Unsupported else
     Skipped
 
@@ -137,7 +137,7 @@ ospf_line words =
     if says words 0 (codes "network") then Network (network_line words) else
     if says words 0 (codes "area") then area_line words else
     if says words 0 (codes "passive-interface") then ospf_passive words 1 true else
-    if begins2 words (codes "no") (codes "passive-interface") then ospf_passive words 2 false else
+    if begins_with_two words (codes "no") (codes "passive-interface") then ospf_passive words 2 false else
     plain_of_ospf words
 
 -- the fault that a line of `router ospf` has by itself

@@ -21,12 +21,12 @@ abbrev pub says : List Word → ℕ → Word → Bool
 says words k text = bytes_eq (word_at words k) text
 
 -- the line begins with these two words
-abbrev pub begins2 : List Word → Word → Word → Bool
-begins2 words one two = says words 0 one && says words 1 two
+abbrev pub begins_with_two : List Word → Word → Word → Bool
+begins_with_two words one two = says words 0 one && says words 1 two
 
 -- the line begins with these three words
-abbrev pub begins3 : List Word → Word → Word → Word → Bool
-begins3 words one two three = begins2 words one two && says words 2 three
+abbrev pub begins_with_three : List Word → Word → Word → Word → Bool
+begins_with_three words one two three = begins_with_two words one two && says words 2 three
 
 -- the line has no word at a place
 abbrev pub lacks : List Word → ℕ → Bool

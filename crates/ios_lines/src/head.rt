@@ -5,8 +5,9 @@ ghost use Rattle.ios_lines.specs.Words.{is_printable};
 ghost use Rattle.ios_lines.specs.Heads.{is_name_byte, is_router_name, hostname_of, interface_name, is_interface_name, interface_of, router_head, head_of};
 
 use crate::OutOfMemory;
+use crate::bounds::MOST_PROCESS;
 use crate::kind::ReadKind;
-use crate::words::{Words, is, is_letter, is_printable, name_of, number_from};
+use crate::words::{Words, is_letter, is_printable, is_text, name_of, number_from};
 use net_addr::Name;
 use std::alloc::Global;
 
@@ -23,7 +24,7 @@ pub enum Head {
     Isis(Name),
     /// a line that is faulty and says nothing
     Faulty(ReadKind),
-    /// a line that no row names
+    /// a line without meaning here
     Other,
 }
 
@@ -88,7 +89,7 @@ pub fn are_printable(word: &[u8]) -> bool
 fn is_interface_name(name: &[u8]) -> bool
     ensures { result ≡ is_interface_name name.now }
 {
-    1 <= name.len() && !is(name, b"default") && are_printable(name)
+    1 <= name.len() && !is_text(name, b"default") && are_printable(name)
 }
 
 /// `interface NAME`
@@ -110,7 +111,7 @@ fn router_head(alloc: Global, words: &Words) -> Result<Head, OutOfMemory>
         if words.says(3, b"vrf") && !words.lacks(4) {
             return Ok(Head::Other);
         }
-        return Ok(Head::Ospf(number_from(words.at(2), 1, 65535, ReadKind::SecondProcess)));
+        return Ok(Head::Ospf(number_from(words.at(2), 1, MOST_PROCESS, ReadKind::SecondProcess)));
     }
     if words.says(1, b"isis") {
         return Ok(Head::Isis(name_of(alloc, words.at(2))?));
@@ -134,7 +135,7 @@ pub fn head_of(alloc: Global, words: &Words) -> Result<Head, OutOfMemory>
     if words.says(0, b"router") {
         return router_head(alloc, words);
     }
-    if words.begins2(b"ip", b"route") && !words.says(2, b"vrf") {
+    if words.begins_with_two(b"ip", b"route") && !words.says(2, b"vrf") {
         return Ok(Head::Faulty(ReadKind::Unsupported));
     }
     Ok(Head::Other)

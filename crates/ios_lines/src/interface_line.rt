@@ -3,8 +3,9 @@ ghost use Rattle.std.specs.Prelude.{◌≡◌, ◌≤◌, IfOk, IfSome};
 
 use crate::OutOfMemory;
 use crate::address::InterfaceAddress;
+use crate::bounds::{MOST_BANDWIDTH, MOST_COST, MOST_METRIC, MOST_PROCESS};
 use crate::kind::ReadKind;
-use crate::words::{Words, address_of, area_of, is, levels_of, mask_of, name_of, number_from};
+use crate::words::{Words, address_of, area_of, is_text, levels_of, mask_of, name_of, number_from};
 use net_addr::Name;
 use net_model::Levels;
 use std::alloc::Global;
@@ -49,7 +50,7 @@ pub enum InterfaceLine {
     Metric2(Result<u32, ReadKind>),
     /// a line that is faulty and says nothing
     Faulty(ReadKind),
-    /// a line that no row names
+    /// a line without meaning here
     Skipped,
 }
 
@@ -116,7 +117,7 @@ fn area_line(words: &Words) -> Result<ProcessArea, ReadKind>
 {
     process_area(
         area_of(words.at(4)),
-        number_from(words.at(2), 1, 65535, ReadKind::SecondProcess),
+        number_from(words.at(2), 1, MOST_PROCESS, ReadKind::SecondProcess),
     )
 }
 
@@ -124,10 +125,10 @@ fn area_line(words: &Words) -> Result<ProcessArea, ReadKind>
 fn network_kind(word: &[u8]) -> Result<bool, ReadKind>
     ensures { result ≡ network_kind word.now }
 {
-    if is(word, b"point-to-point") {
+    if is_text(word, b"point-to-point") {
         return Ok(true);
     }
-    if is(word, b"broadcast") {
+    if is_text(word, b"broadcast") {
         return Ok(false);
     }
     Err(ReadKind::Unsupported)
@@ -138,7 +139,7 @@ fn ospf_of_interface(words: &Words) -> InterfaceLine
     ensures { result ≡ ospf_of_interface words.now }
 {
     if words.says(2, b"cost") {
-        return InterfaceLine::Cost(number_from(words.at(3), 1, 65535, ReadKind::BadCost));
+        return InterfaceLine::Cost(number_from(words.at(3), 1, MOST_COST, ReadKind::BadCost));
     }
     if words.says(2, b"network") {
         return InterfaceLine::PointToPoint(network_kind(words.at(3)));
@@ -175,7 +176,7 @@ fn ip_of_interface(alloc: Global, words: &Words) -> Result<InterfaceLine, OutOfM
 fn metric_line(words: &Words) -> InterfaceLine
     ensures { result ≡ metric_line words.now }
 {
-    let metric = number_from(words.at(2), 1, 16777214, ReadKind::BadMetric);
+    let metric = number_from(words.at(2), 1, MOST_METRIC, ReadKind::BadMetric);
     if words.lacks(3) {
         return InterfaceLine::Metric(metric);
     }
@@ -207,7 +208,7 @@ fn bandwidth_line(word: &[u8]) -> InterfaceLine
 {
     match word.first() {
         Some(byte) if byte.is_ascii_digit() => {
-            InterfaceLine::Bandwidth(number_from(word, 1, 1000000000, ReadKind::NoBandwidth))
+            InterfaceLine::Bandwidth(number_from(word, 1, MOST_BANDWIDTH, ReadKind::NoBandwidth))
         }
         _ => InterfaceLine::Skipped,
     }
@@ -223,13 +224,13 @@ fn plain_of_interface(words: &Words) -> InterfaceLine
     if words.says(0, b"shutdown") {
         return InterfaceLine::Shutdown(true);
     }
-    if words.begins2(b"no", b"shutdown") {
+    if words.begins_with_two(b"no", b"shutdown") {
         return InterfaceLine::Shutdown(false);
     }
-    if words.begins3(b"no", b"ip", b"address") {
+    if words.begins_with_three(b"no", b"ip", b"address") {
         return InterfaceLine::NoAddress;
     }
-    if words.begins2(b"vrf", b"forwarding") {
+    if words.begins_with_two(b"vrf", b"forwarding") {
         return InterfaceLine::Vrf;
     }
     InterfaceLine::Skipped

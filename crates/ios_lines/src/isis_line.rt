@@ -3,10 +3,11 @@ ghost use Rattle.ios_lines.specs.Words.{word_at, number_from};
 ghost use Rattle.ios_lines.specs.IsisLines.{is_wide, isis_distance, isis_passive, is_unsupported_isis, plain_of_isis, isis_line, isis_line_fault};
 
 use crate::OutOfMemory;
+use crate::bounds::{ISIS_DISTANCE, MOST_DISTANCE, MOST_METRIC};
 use crate::kind::ReadKind;
 use crate::ospf_line::PassiveLine;
 use crate::title::{Title, title_of};
-use crate::words::{Words, is, levels_of, name_of, number_from};
+use crate::words::{Words, is_text, levels_of, name_of, number_from};
 use net_model::Levels;
 use std::alloc::Global;
 
@@ -27,7 +28,7 @@ pub enum IsisLine {
     Passive(PassiveLine),
     /// a line that is faulty and says nothing
     Faulty(ReadKind),
-    /// a line that no row names
+    /// a line without meaning here
     Skipped,
 }
 
@@ -51,9 +52,14 @@ fn is_wide(words: &Words) -> bool
 fn isis_distance(words: &Words) -> Result<u8, ReadKind>
     ensures { result ≡ isis_distance (number_from 1 255 ReadKind.BadDistance (word_at words.now 1)) }
 {
-    match number_from(words.at(1), 1, 255, ReadKind::BadDistance) {
-        Ok(115) => Ok(115),
-        Ok(255) => Ok(255),
+    match number_from(
+        words.at(1),
+        1,
+        u32::from(MOST_DISTANCE),
+        ReadKind::BadDistance,
+    ) {
+        Ok(distance) if distance == u32::from(ISIS_DISTANCE) => Ok(ISIS_DISTANCE),
+        Ok(distance) if distance == u32::from(MOST_DISTANCE) => Ok(MOST_DISTANCE),
         _ => Err(ReadKind::BadDistance),
     }
 }
@@ -81,13 +87,13 @@ fn isis_passive(
 fn is_unsupported_isis(word: &[u8]) -> bool
     ensures { result ≡ is_unsupported_isis word.now }
 {
-    is(word, b"redistribute")
-        || is(word, b"default-information")
-        || is(word, b"summary-address")
-        || is(word, b"set-overload-bit")
-        || is(word, b"max-metric")
-        || is(word, b"advertise")
-        || is(word, b"distribute-list")
+    is_text(word, b"redistribute")
+        || is_text(word, b"default-information")
+        || is_text(word, b"summary-address")
+        || is_text(word, b"set-overload-bit")
+        || is_text(word, b"max-metric")
+        || is_text(word, b"advertise")
+        || is_text(word, b"distribute-list")
 }
 
 /// The other lines of `router isis`
@@ -95,7 +101,7 @@ fn plain_of_isis(alloc: Global, words: &Words) -> Result<IsisLine, OutOfMemory>
     ensures { IfOk result (λ line. line ≡ plain_of_isis words.now) }
 {
     if words.says(0, b"metric") {
-        return Ok(IsisLine::Metric(number_from(words.at(1), 1, 16777214, ReadKind::BadMetric)));
+        return Ok(IsisLine::Metric(number_from(words.at(1), 1, MOST_METRIC, ReadKind::BadMetric)));
     }
     if words.says(0, b"distance") {
         return Ok(IsisLine::Distance(isis_distance(words)));
@@ -103,7 +109,7 @@ fn plain_of_isis(alloc: Global, words: &Words) -> Result<IsisLine, OutOfMemory>
     if words.says(0, b"passive-interface") {
         return isis_passive(alloc, words, 1, true);
     }
-    if words.begins2(b"no", b"passive-interface") {
+    if words.begins_with_two(b"no", b"passive-interface") {
         return isis_passive(alloc, words, 2, false);
     }
     if is_unsupported_isis(words.at(0)) {

@@ -1,12 +1,13 @@
 //! The lines of configurations as routers print them: what each says, why it is faulty, and the order of faults.
 #![tactic(auto)]
 
-// Words, and why a line is faulty.
+// The bounds of numbers, words, and why a line is faulty.
+mod bounds;
 pub mod fault;
 pub mod kind;
 pub mod words;
 
-// What a line says, one table after the other.
+// What a line says, by where it stands.
 pub mod address;
 pub mod head;
 pub mod interface_line;

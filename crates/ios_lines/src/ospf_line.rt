@@ -2,8 +2,9 @@ ghost use Rattle.std.specs.Prelude.{◌≡◌, ◌≤◌, IfOk, IfSome};
 ghost use Rattle.ios_lines.specs.OspfLines.{network_values, network_line, stub_values, stub_line, default_cost_values, default_cost_line, prefix_of, cost_place, range_cost, range_ends, range_values, range_line, is_unsupported_area, area_line, ospf_distance, ospf_passive, is_unsupported_ospf, plain_of_ospf, ospf_line, ospf_line_fault};
 
 use crate::OutOfMemory;
+use crate::bounds::{ISIS_DISTANCE, MOST_DISTANCE, MOST_REFERENCE, MOST_SUMMARY_COST};
 use crate::kind::ReadKind;
-use crate::words::{Words, address_of, area_of, is, mask_of, name_of, number_from};
+use crate::words::{Words, address_of, area_of, is_text, mask_of, name_of, number_from};
 use net_addr::{Name, Prefix};
 use net_model::Range;
 use std::alloc::Global;
@@ -69,7 +70,7 @@ pub enum OspfLine {
     Rfc1583(bool),
     /// a line that is faulty and says nothing
     Faulty(ReadKind),
-    /// a line that no row names
+    /// a line without meaning here
     Skipped,
 }
 
@@ -152,7 +153,7 @@ fn default_cost_line(words: &Words) -> Result<DefaultCost, ReadKind>
     ensures { result ≡ default_cost_line words.now }
 {
     default_cost_values(
-        number_from(words.at(3), 0, 16777214, ReadKind::BadCost),
+        number_from(words.at(3), 0, MOST_SUMMARY_COST, ReadKind::BadCost),
         area_of(words.at(1)),
     )
 }
@@ -177,7 +178,7 @@ fn range_cost(words: &Words, k: usize) -> Result<Option<u32>, ReadKind>
     if !words.says(k, b"cost") {
         return Ok(None);
     }
-    match number_from(words.at(k + 1), 0, 16777214, ReadKind::BadCost) {
+    match number_from(words.at(k + 1), 0, MOST_SUMMARY_COST, ReadKind::BadCost) {
         Ok(cost) => Ok(Some(cost)),
         Err(kind) => Err(kind),
     }
@@ -261,10 +262,10 @@ fn range_line(words: &Words) -> Result<Range, ReadKind>
 fn is_unsupported_area(word: &[u8]) -> bool
     ensures { result ≡ is_unsupported_area word.now }
 {
-    is(word, b"nssa")
-        || is(word, b"virtual-link")
-        || is(word, b"sham-link")
-        || is(word, b"filter-list")
+    is_text(word, b"nssa")
+        || is_text(word, b"virtual-link")
+        || is_text(word, b"sham-link")
+        || is_text(word, b"filter-list")
 }
 
 /// The lines that begin with `area`
@@ -293,9 +294,14 @@ fn ospf_distance(words: &Words) -> Result<u8, ReadKind>
     if words.says(1, b"ospf") || !words.lacks(2) {
         return Err(ReadKind::Unsupported);
     }
-    match number_from(words.at(1), 1, 255, ReadKind::BadDistance) {
+    match number_from(
+        words.at(1),
+        1,
+        u32::from(MOST_DISTANCE),
+        ReadKind::BadDistance,
+    ) {
         Err(kind) => Err(kind),
-        Ok(115) => Err(ReadKind::DistanceClash),
+        Ok(distance) if distance == u32::from(ISIS_DISTANCE) => Err(ReadKind::DistanceClash),
         Ok(distance) => Ok(distance as u8),
     }
 }
@@ -323,28 +329,28 @@ fn ospf_passive(
 fn is_unsupported_ospf(word: &[u8]) -> bool
     ensures { result ≡ is_unsupported_ospf word.now }
 {
-    is(word, b"redistribute")
-        || is(word, b"default-information")
-        || is(word, b"distribute-list")
-        || is(word, b"max-metric")
-        || is(word, b"summary-address")
-        || is(word, b"shutdown")
+    is_text(word, b"redistribute")
+        || is_text(word, b"default-information")
+        || is_text(word, b"distribute-list")
+        || is_text(word, b"max-metric")
+        || is_text(word, b"summary-address")
+        || is_text(word, b"shutdown")
 }
 
 /// The lines that set a value of the process or take something back
 fn plain_of_ospf(words: &Words) -> OspfLine
     ensures { result ≡ plain_of_ospf words.now }
 {
-    if words.begins2(b"auto-cost", b"reference-bandwidth") {
-        return OspfLine::Reference(number_from(words.at(2), 1, 4294967, ReadKind::BadCost));
+    if words.begins_with_two(b"auto-cost", b"reference-bandwidth") {
+        return OspfLine::Reference(number_from(words.at(2), 1, MOST_REFERENCE, ReadKind::BadCost));
     }
     if words.says(0, b"distance") {
         return OspfLine::Distance(ospf_distance(words));
     }
-    if words.begins2(b"compatible", b"rfc1583") {
+    if words.begins_with_two(b"compatible", b"rfc1583") {
         return OspfLine::Rfc1583(true);
     }
-    if words.begins3(b"no", b"compatible", b"rfc1583") {
+    if words.begins_with_three(b"no", b"compatible", b"rfc1583") {
         return OspfLine::Rfc1583(false);
     }
     if is_unsupported_ospf(words.at(0)) {
@@ -366,7 +372,7 @@ pub fn ospf_line(alloc: Global, words: &Words) -> Result<OspfLine, OutOfMemory>
     if words.says(0, b"passive-interface") {
         return ospf_passive(alloc, words, 1, true);
     }
-    if words.begins2(b"no", b"passive-interface") {
+    if words.begins_with_two(b"no", b"passive-interface") {
         return ospf_passive(alloc, words, 2, false);
     }
     Ok(plain_of_ospf(words))

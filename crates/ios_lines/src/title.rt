@@ -2,7 +2,7 @@ ghost use Rattle.std.specs.Prelude.{◌≡◌, ◌<◌, ◌*◌, ◌^◌, IfOk, 
 ghost use Rattle.ios_lines.specs.IsisLines.{is_hex, hex_value, is_grouped, grouped_from, group_value, is_area_address, is_title, system_value, title_of};
 
 use crate::OutOfMemory;
-use crate::words::{is, name_of};
+use crate::words::{is_text, name_of};
 use net_addr::Name;
 use std::alloc::Global;
 
@@ -19,7 +19,7 @@ pub struct Title {
 fn is_hex(byte: u8) -> bool
     ensures { result ≡ is_hex byte }
 {
-    byte.is_ascii_digit() || (65 <= byte && byte <= 70) || (97 <= byte && byte <= 102)
+    byte.is_ascii_hexdigit()
 }
 
 /// What a hexadecimal digit stands for, 0 for any other byte.
@@ -28,13 +28,13 @@ fn hex_value(byte: u8) -> u8
     ensures small { result < 16 }
 {
     if byte.is_ascii_digit() {
-        return byte - 48;
+        return byte - b'0';
     }
-    if 65 <= byte && byte <= 70 {
-        return byte - 55;
+    if b'A' <= byte && byte <= b'F' {
+        return byte - b'A' + 10;
     }
-    if 97 <= byte && byte <= 102 {
-        return byte - 87;
+    if b'a' <= byte && byte <= b'f' {
+        return byte - b'a' + 10;
     }
     0
 }
@@ -106,7 +106,7 @@ fn is_title(word: &[u8]) -> bool
     }
     let (front, selector) = word.split_at(word.len() - 3);
     let (area, system) = front.split_at(front.len() - 15);
-    is_area_address(area) && are_groups(system) && is(selector, b".00")
+    is_area_address(area) && are_groups(system) && is_text(selector, b".00")
 }
 
 /// The system id as a number.

@@ -1,5 +1,5 @@
 ghost use Rattle.std.specs.Prelude.{◌≡◌, ℕ, ◌≤◌, length, IfSome, IfOk, bytes_eq, map};
-ghost use Rattle.ios_lines.specs.Words.{word_at, says, begins2, begins3, lacks, number_of, number_from, address_of, mask_of, area_of, levels_of, is_printable, is_letter};
+ghost use Rattle.ios_lines.specs.Words.{word_at, says, begins_with_two, begins_with_three, lacks, number_of, number_from, address_of, mask_of, area_of, levels_of, is_printable, is_letter};
 
 use crate::OutOfMemory;
 use crate::kind::ReadKind;
@@ -48,17 +48,17 @@ impl<'a> Words<'a> {
     }
 
     /// Whether the line begins with these two words.
-    pub fn begins2(&self, one: &[u8], two: &[u8]) -> bool
-        ensures { result ≡ begins2 self.now one.now two.now }
+    pub fn begins_with_two(&self, one: &[u8], two: &[u8]) -> bool
+        ensures { result ≡ begins_with_two self.now one.now two.now }
     {
         self.says(0, one) && self.says(1, two)
     }
 
     /// Whether the line begins with these three words.
-    pub fn begins3(&self, one: &[u8], two: &[u8], three: &[u8]) -> bool
-        ensures { result ≡ begins3 self.now one.now two.now three.now }
+    pub fn begins_with_three(&self, one: &[u8], two: &[u8], three: &[u8]) -> bool
+        ensures { result ≡ begins_with_three self.now one.now two.now three.now }
     {
-        self.begins2(one, two) && self.says(2, three)
+        self.begins_with_two(one, two) && self.says(2, three)
     }
 
     /// Whether the line has no word at a place.
@@ -130,13 +130,13 @@ pub fn area_of(word: &[u8]) -> Option<u32>
 pub fn levels_of(word: &[u8]) -> Result<Levels, ReadKind>
     ensures { result ≡ levels_of word.now }
 {
-    if is(word, b"level-1") {
+    if is_text(word, b"level-1") {
         return Ok(Levels::One);
     }
-    if is(word, b"level-2-only") {
+    if is_text(word, b"level-2-only") {
         return Ok(Levels::Two);
     }
-    if is(word, b"level-1-2") {
+    if is_text(word, b"level-1-2") {
         return Ok(Levels::Both);
     }
     Err(ReadKind::BadLevel)
@@ -146,14 +146,14 @@ pub fn levels_of(word: &[u8]) -> Result<Levels, ReadKind>
 pub fn is_printable(byte: u8) -> bool
     ensures { result ≡ is_printable byte }
 {
-    33 <= byte && byte <= 126
+    byte.is_ascii_graphic()
 }
 
 /// Whether a byte is a letter of the alphabet.
 pub fn is_letter(byte: u8) -> bool
     ensures { result ≡ is_letter byte }
 {
-    (65 <= byte && byte <= 90) || (97 <= byte && byte <= 122)
+    byte.is_ascii_alphabetic()
 }
 
 /// A word as a name.
@@ -164,7 +164,7 @@ pub fn name_of(alloc: Global, word: &[u8]) -> Result<Name, OutOfMemory>
 }
 
 /// Whether a word is this text.
-pub fn is(word: &[u8], text: &[u8]) -> bool
+pub fn is_text(word: &[u8], text: &[u8]) -> bool
     ensures { result ≡ bytes_eq word.now text.now }
 {
     word == text

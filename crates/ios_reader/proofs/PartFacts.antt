@@ -159,13 +159,12 @@ double_not true = refl
 double_not false = refl
 
 -- the same, of the flag that an `end` line was there
-pub flag_more : (lines : List TextLine) (i : ℕ) (x : TextLine) (was now ends : Bool) → i < length lines → x ≡ get_or lines i x →
-    is_empty (parts_after [] (take i lines)) ≡ not was → ends ≡ is_end x → now ≡ (was || ends) → is_empty (parts_after [] (take (i + 1) lines)) ≡ not now
-flag_more lines i x was now ends within read before e f =
+pub flag_more : (lines : List TextLine) (i : ℕ) (x : TextLine) (was now : Bool) → i < length lines → x ≡ get_or lines i x →
+    is_empty (parts_after [] (take i lines)) ≡ not was → now ≡ (was || is_end x) → is_empty (parts_after [] (take (i + 1) lines)) ≡ not now
+flag_more lines i x was now within read before f =
     ended_more lines i x within read
     ∙ ap (λ (b : Bool). not (not b || is_end x)) before
     ∙ ap (λ (b : Bool). not (b || is_end x)) (double_not was)
-    ∙ ap (λ (b : Bool). not (was || b)) (sym e)
     ∙ ap not (sym f)
 
 -- ---- the loop over the lines ----

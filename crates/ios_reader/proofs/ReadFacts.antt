@@ -6,7 +6,6 @@ use Rattle.std.proofs.lemmas.List.{length-map}
 use Rattle.std.proofs.lemmas.List.Splits.{length-slice_split}
 use Rattle.std.proofs.lemmas.List.Sums.{count_by-le-length}
 use Rattle.std.proofs.lemmas.List.Elements.{All-nil, All-cons, All-weaker}
-use Rattle.std.proofs.lemmas.Bool.Decides.{nat_tests}
 use Rattle.net_addr.specs.Lines.{is_line_feed, without_empty_last, line_pieces, lines_of, text_lines}
 use Rattle.net_model.specs.Configuration.{Configuration, IsConfiguration}
 use Rattle.ios_lines.specs.Words.{Word}

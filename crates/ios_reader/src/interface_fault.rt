@@ -11,7 +11,7 @@ use ios_lines::interface_line::{
     InterfaceLine, InterfaceStatement, counting, interface_line_fault,
 };
 use ios_lines::kind::ReadKind;
-use ios_lines::words::is;
+use ios_lines::words::is_text;
 use ios_sections::section::InterfaceSection;
 
 /// The fault of `ip router isis` with this tag, where the process has another one or there is none.
@@ -21,7 +21,7 @@ fn membership_of(first: Option<&[u8]>, tag: &[u8]) -> Option<ReadKind>
     match first {
         None => Some(ReadKind::BadNet),
         Some(first) => {
-            if is(tag, first) {
+            if is_text(tag, first) {
                 None
             } else {
                 Some(ReadKind::SecondProcess)
@@ -41,7 +41,6 @@ fn membership_fault(first: Option<&[u8]>, line: &InterfaceLine) -> Option<ReadKi
 }
 
 /// The least fault of a line of an interface.
-
 fn statement_fault(first: Option<&[u8]>, statement: &InterfaceStatement) -> Option<Fault>
     ensures { result ≡ least_fault (statement_faults (option_copied first.entry) statement.now) }
 {

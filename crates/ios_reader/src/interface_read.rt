@@ -12,7 +12,7 @@ use crate::router::{Router, levels_or_both, network_area};
 use ios_lines::address::InterfaceAddress;
 use ios_lines::interface_line::{ProcessArea, counting};
 use ios_lines::kind::ReadKind;
-use ios_lines::words::{is, is_letter};
+use ios_lines::words::{is_letter, is_text};
 use ios_sections::section::InterfaceSection;
 use net_addr::{Name, Prefix};
 use net_model::{Interface, Levels};
@@ -94,19 +94,19 @@ pub fn interface_area(router: &Router, facts: &InterfaceFacts) -> Option<u32>
 fn default_bandwidth(letters: &[u8]) -> Option<u32>
     ensures { result ≡ default_bandwidth letters.now }
 {
-    if is(letters, b"TenGigabitEthernet") {
+    if is_text(letters, b"TenGigabitEthernet") {
         return Some(10000000);
     }
-    if is(letters, b"GigabitEthernet") {
+    if is_text(letters, b"GigabitEthernet") {
         return Some(1000000);
     }
-    if is(letters, b"FastEthernet") {
+    if is_text(letters, b"FastEthernet") {
         return Some(100000);
     }
-    if is(letters, b"Ethernet") {
+    if is_text(letters, b"Ethernet") {
         return Some(10000);
     }
-    if is(letters, b"Serial") {
+    if is_text(letters, b"Serial") {
         return Some(1544);
     }
     None

@@ -79,11 +79,11 @@ fn is_unended(before: bool, line: &TextLine) -> bool
     !line.is_end() && (before || line.begins_configuration())
 }
 
-/// Whether one of two holds.
-fn either(one: bool, other: bool) -> bool
-    ensures { result ≡ (one || other) }
+/// Whether an `end` line stands at a line or before it.
+fn ended_after(ended: bool, line: &TextLine) -> bool
+    ensures { result ≡ (ended || is_end line.now) }
 {
-    one || other
+    ended || line.is_end()
 }
 
 /// Whether no `end` line is there, or a configuration is open after the last one.
@@ -94,7 +94,7 @@ fn lacks_end(lines: &[TextLine]) -> bool
     let mut unended = false;
     for line in lines {
         unended = is_unended(unended, line);
-        ended = either(ended, line.is_end());
+        ended = ended_after(ended, line);
     }
     !ended || unended
 }

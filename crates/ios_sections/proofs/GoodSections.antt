@@ -2,7 +2,7 @@
 use Rattle.std.proofs.Common.{◌≡◌, ℕ, Bool, true, false, not, bytes_eq, ◌&&◌, ◌||◌, List, [], get_or, Option, Some, None, Ok, Err, refl, cond, map}
 use Rattle.std.specs.Prelude.{IfSome, IfOk, All, codes, filter_map, flat_map, option_map}
 use Rattle.std.proofs.lemmas.List.Elements.{All-nil, All-append, All-map, All-filter}
-use Rattle.ios_lines.specs.Words.{Word, word_at, says, begins2, lacks}
+use Rattle.ios_lines.specs.Words.{Word, word_at, says, begins_with_two, lacks}
 use Rattle.ios_lines.specs.Heads.{is_router_name, hostname_of, router_head, head_of}
 use Rattle.ios_sections.specs.TextLines.{TextLine, Part, sections_of}
 use Rattle.ios_lines.specs.InterfaceLines.{interface_line, in_vrf, counting}
@@ -80,7 +80,7 @@ head_good words =
     by_if IsGoodHead (says words 0 (codes "hostname")) _ _ (hostname_good (word_at words 1))
     (by_if IsGoodHead (says words 0 (codes "interface")) _ _ tt
     (by_if IsGoodHead (says words 0 (codes "router")) _ _ (router_good words)
-    (by_if IsGoodHead (begins2 words (codes "ip") (codes "route") && not (says words 2 (codes "vrf"))) _ _ tt tt)))
+    (by_if IsGoodHead (begins_with_two words (codes "ip") (codes "route") && not (says words 2 (codes "vrf"))) _ _ tt tt)))
 
 -- ---- sections ----
 

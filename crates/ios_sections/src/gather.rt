@@ -4,7 +4,7 @@ ghost use Rattle.ios_sections.specs.Gathering.{with_interface, with_section, gat
 ghost use Rattle.ios_lines.specs.FaultOrder.{lesser_fault};
 
 use crate::OutOfMemory;
-use crate::name_index::NameIndex;
+use crate::name_index::{NameIndex, NamePlace};
 use crate::section::{InterfaceSection, IsisSection, OspfSection, Section};
 use ios_lines::fault::{Fault, lesser_fault};
 use net_addr::Name;
@@ -62,7 +62,6 @@ fn append_at(
 }
 
 /// One more section of an interface: its lines go after those of its name.
-
 fn with_interface(
     alloc: Global,
     names: &mut NameIndex,
@@ -73,7 +72,7 @@ fn with_interface(
     ensures index { OnOk result (names.new ≡ map (λ s. s.name) interfaces.new.items) }
     ensures sections { OnOk result (interfaces.new.items ≡ with_interface interfaces.old.items section) }
 {
-    let (place, added) = names.place_of(alloc, section.name.as_slice())?;
+    let NamePlace { place, added } = names.add(alloc, section.name.as_slice())?;
     if added {
         push_new(interfaces, section)
     } else {

@@ -10,7 +10,7 @@ use ios_lines::fault::{Fault, fault_at, fault_if, lesser_fault};
 use ios_lines::head::are_printable;
 use ios_lines::isis_line::{IsisLine, IsisStatement, isis_line_fault};
 use ios_lines::kind::ReadKind;
-use ios_lines::words::is;
+use ios_lines::words::is_text;
 use std::alloc::Global;
 
 /// The tag of the process: that of the first `router isis` line.
@@ -28,7 +28,7 @@ fn is_other_tag(first: Option<&[u8]>, tag: &[u8]) -> bool
     ensures { result ≡ is_other_tag (option_copied first.entry) tag.now }
 {
     match first {
-        Some(first) => !is(tag, first),
+        Some(first) => !is_text(tag, first),
         None => true,
     }
 }
@@ -56,7 +56,7 @@ fn is_of_tag(tag: Option<&[u8]>, section: &IsisSection) -> bool
     ensures { result ≡ is_of_tag (option_copied tag.entry) section.now }
 {
     match tag {
-        Some(tag) => is(section.tag.as_slice(), tag) && are_printable(section.tag.as_slice()),
+        Some(tag) => is_text(section.tag.as_slice(), tag) && are_printable(section.tag.as_slice()),
         None => false,
     }
 }
@@ -182,14 +182,14 @@ pub fn second_titles(lines: &[IsisStatement]) -> Option<Fault>
     let mut titled = false;
     for statement in lines {
         fault = lesser_fault(fault, second_title(titled, statement));
-        titled = either(titled, is_net(statement));
+        titled = titled_after(titled, statement);
     }
     fault
 }
 
-/// Whether one of two holds.
-fn either(one: bool, other: bool) -> bool
-    ensures { result ≡ (one || other) }
+/// Whether a `net` line stands at a line or before it.
+fn titled_after(titled: bool, statement: &IsisStatement) -> bool
+    ensures { result ≡ (titled || is_net statement.now) }
 {
-    one || other
+    titled || is_net(statement)
 }

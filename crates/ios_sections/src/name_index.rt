@@ -6,6 +6,15 @@ use indexmap::IndexSet;
 use std::alloc::Global;
 use std::marker::Model;
 
+/// Where a name stands among the names.
+#[derive(Clone, Copy, Debug)]
+pub struct NamePlace {
+    /// Its place.
+    pub place: usize,
+    /// Whether it wasn't there before.
+    pub added: bool,
+}
+
 /// Names, each once, in the order in which they came first.
 #[derive(Drop)]
 pub struct NameIndex {
@@ -30,14 +39,14 @@ impl NameIndex {
         }
     }
 
-    /// The place of a name, and whether it is new: a new name goes last.
-    pub fn place_of(&mut self, alloc: Global, name: &[u8]) -> Result<(usize, bool), OutOfMemory>
-        ensures place { IfOk result (λ r. r.0 ≡ position_or_len (bytes_eq name.now) self.old) }
-        ensures added { IfOk result (λ r. r.1 ≡ not (list_any (bytes_eq name.now) self.old)) }
+    /// Takes in a name where it isn't there, as the last one, and tells its place.
+    pub fn add(&mut self, alloc: Global, name: &[u8]) -> Result<NamePlace, OutOfMemory>
+        ensures place { IfOk result (λ r. r.place ≡ position_or_len (bytes_eq name.now) self.old) }
+        ensures added { IfOk result (λ r. r.added ≡ not (list_any (bytes_eq name.now) self.old)) }
         ensures names { OnOk result (self.new ≡ (if list_any (bytes_eq name.now) self.old then self.old else self.old ++ name.now ∷ [])) }
     {
         let key = Vec::from_slice(alloc, name)?;
-        let place = self.names.insert_full(key)?;
-        Ok(place)
+        let (place, added) = self.names.insert_full(key)?;
+        Ok(NamePlace { place, added })
     }
 }

@@ -1,7 +1,7 @@
-ghost use Rattle.std.specs.Prelude.{◌≡◌, [], ◌++◌, flat_map, IfOk, OnOk};
+ghost use Rattle.std.specs.Prelude.{◌≡◌, [], ◌++◌, flat_map, map, IfOk, OnOk};
 ghost use Rattle.std.specs.List.{cons_option};
 ghost use Rattle.ios_lines.specs.FaultOrder.{least_fault};
-ghost use Rattle.ios_sections.specs.Processes.{mention_said, mentions_in, mentions_of, first_mention, first_process, is_of_process, lines_of_process};
+ghost use Rattle.ios_sections.specs.Processes.{mention_said, mentions_in, mention_of, mentions_of, first_mention, first_process, is_of_process, lines_of_process};
 ghost use Rattle.ios_sections.specs.ProcessFaults.{is_other_process, process_faults, ospf_statement_faults};
 
 use crate::OutOfMemory;
@@ -54,13 +54,9 @@ fn push_mention(mentions: &mut Vec<Mention>, mention: Option<Mention>) -> Result
     Ok(())
 }
 
-/// The lines that name a process.
-pub fn mentions_of(
-    alloc: Global,
-    ospf: &[OspfSection],
-    interfaces: &[InterfaceSection],
-) -> Result<Vec<Mention>, OutOfMemory>
-    ensures { IfOk result (λ ms. ms.items ≡ mentions_of ospf.now interfaces.now) }
+/// The lines that open sections of processes.
+fn section_mentions(alloc: Global, ospf: &[OspfSection]) -> Result<Vec<Mention>, OutOfMemory>
+    ensures { IfOk result (λ ms. ms.items ≡ map mention_of ospf.now) }
 {
     let mut mentions = Vec::new(alloc);
     for section in ospf {
@@ -69,6 +65,18 @@ pub fn mentions_of(
             process: section.process,
         })?;
     }
+    Ok(mentions)
+}
+
+/// The lines that name a process.
+pub fn mentions_of(
+    alloc: Global,
+    ospf: &[OspfSection],
+    interfaces: &[InterfaceSection],
+) -> Result<Vec<Mention>, OutOfMemory>
+    ensures { IfOk result (λ ms. ms.items ≡ mentions_of ospf.now interfaces.now) }
+{
+    let mut mentions = section_mentions(alloc, ospf)?;
     for section in interfaces {
         add_mentions(&mut mentions, section)?;
     }

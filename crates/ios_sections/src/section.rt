@@ -176,6 +176,6 @@ pub enum Section {
     Isis(IsisSection),
     /// a section whose first line is faulty
     Faulty(Fault),
-    /// a section that no row names
+    /// a section without meaning here
     Other,
 }

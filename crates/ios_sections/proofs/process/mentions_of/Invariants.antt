@@ -4,7 +4,4 @@ use Rattle.ios_sections.specs.Processes.{mention_of, mentions_in}
 use Rattle.ios_sections.proofs.process.mentions_of.Given as goal
 
 abbrev pub invariant-loop-section : goal.invariant-loop-section
-invariant-loop-section l = l.mentions.items ≡ map mention_of (take l.section-index l.ospf)
-
-abbrev pub invariant-loop-section-2 : goal.invariant-loop-section-2
-invariant-loop-section-2 l = l.mentions.items ≡ map mention_of l.ospf ++ flat_map mentions_in (take l.section-index l.interfaces)
+invariant-loop-section l = l.mentions.items ≡ map mention_of l.ospf ++ flat_map mentions_in (take l.section-index l.interfaces)

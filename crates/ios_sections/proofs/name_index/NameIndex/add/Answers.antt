@@ -2,7 +2,7 @@ use Rattle.std.proofs.Common.{Bool, not, List, ◌∷◌, [], ◌++◌, bytes_eq
 use Rattle.std.specs.List.{list_any, position_or_len}
 use Rattle.ios_lines.specs.Words.{Word}
 use Rattle.ios_sections.proofs.TableFacts.{place-map, any-map, map-insert}
-use Rattle.ios_sections.proofs.name_index.NameIndex.place_of.Goals as goal
+use Rattle.ios_sections.proofs.name_index.NameIndex.add.Goals as goal
 
 pub returns-clause-place : goal.returns-clause-place
 returns-clause-place c =
