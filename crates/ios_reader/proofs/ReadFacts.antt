@@ -179,7 +179,8 @@ least_cases g f gs None r later e =
     subst (IsLeastFault (g ∷ gs)) same (first_least g gs (subst (λ (w : List Fault). All (IsNotAfter g) w) (sym none) (All-nil (IsNotAfter g))))
 least_cases g f gs (Some h) r later e = least_choice g h f gs (is_before h g) refl (later h r) e
 
-least_is : (fs : List Fault) (f : Fault) → least_fault fs ≡ Some f → IsLeastFault fs f
+-- the least of some faults is on the least line, with the least kind on it
+pub least_is : (fs : List Fault) (f : Fault) → least_fault fs ≡ Some f → IsLeastFault fs f
 least_is [] f e = absurd cc
 least_is (g ∷ gs) f e = least_cases g f gs (least_fault gs) refl (λ h r. least_is gs h r) e
 

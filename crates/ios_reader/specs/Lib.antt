@@ -10,3 +10,4 @@ pub mod Parts
 pub mod Texts
 pub mod Passives
 pub mod Tables
+pub mod ReadLaws

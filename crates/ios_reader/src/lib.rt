@@ -17,10 +17,12 @@ mod interface_read;
 
 // Configurations, and the whole text.
 mod configuration;
+mod laws;
 mod reader;
 mod refusal;
 
 pub use kind::ReadKind;
+pub use laws::read_laws;
 pub use reader::read_configs;
 pub use refusal::ReadRefusal;
 pub use std::alloc::AllocError as OutOfMemory;
