@@ -101,8 +101,8 @@ fn lacks_end(lines: &[TextLine]) -> bool
 
 /// Reads the configurations of a text, each ended by its `end` line.
 ///
-/// The text is what routers print; what the planner can skip is skipped. The answer is the refusal of the first line
-/// that is faulty where there is one, with the least kind on it. Memory may run out.
+/// The text, of fewer than 2^26 bytes, is what routers print; what the planner can skip is skipped. The answer is the
+/// refusal of the first line that is faulty where there is one, with the least kind on it. Memory may run out.
 pub fn read_configs(alloc: Global, text: &[u8]) -> Result<Configs, ReadRefusal>
     requires { length text.now < 2 ^ 26 }
     ensures read { IfOk result (ReadsText text.now) }
