@@ -6,14 +6,15 @@ use Rattle.net_model.specs.declared.area.Range.{Range}
 use Rattle.net_model.specs.declared.area.Stub.{Stub}
 use Rattle.net_model.specs.declared.config.Levels.{Levels}
 use Rattle.net_model.specs.declared.interface.Interface.{Interface}
-use Rattle.ios_reader.specs.Words.{Word}
+use Rattle.ios_lines.specs.Words.{Word}
 use Rattle.ios_reader.specs.Routers.{Router, router_with}
-use Rattle.ios_reader.specs.Faults.{faults_if, interface_faults}
-use Rattle.ios_reader.specs.Gathering.{lesser_fault, least_fault}
-use Rattle.ios_reader.specs.Statements.{Statements, ospf_fault_by, isis_fault_by, fault_by}
-use Rattle.ios_reader.specs.declared.kind.ReadKind.TheVariants.{NoHostname}
-use Rattle.ios_reader.specs.declared.fault.Fault.{Fault}
-use Rattle.ios_reader.specs.declared.section.InterfaceSection.{InterfaceSection}
+use Rattle.ios_lines.specs.FaultOrder.{faults_if, lesser_fault, least_fault}
+use Rattle.ios_reader.specs.Faults.{interface_faults}
+use Rattle.ios_sections.specs.Statements.{Statements}
+use Rattle.ios_reader.specs.ByStatements.{ospf_fault_by, isis_fault_by, fault_by}
+use Rattle.ios_lines.specs.declared.kind.ReadKind.TheVariants.{NoHostname}
+use Rattle.ios_lines.specs.declared.fault.Fault.{Fault}
+use Rattle.ios_sections.specs.declared.section.InterfaceSection.{InterfaceSection}
 
 pub is_missing : (o : Option Word) (b : Bool) → is_some o ≡ not b → b ≡ is_none o
 is_missing None true e = refl
@@ -24,19 +25,19 @@ is_missing (Some name) false e = refl
 -- the least fault of a configuration, from those of its parts
 pub fault_joined : (s : Statements) (ends : ℕ) (o i p x n a r : Option Fault) (router : Router) (tag : Option Word) (sections : List InterfaceSection) (missing : Bool) →
     o ≡ ospf_fault_by s → i ≡ isis_fault_by s → p ≡ lesser_fault o i → x ≡ least_fault (flat_map (interface_faults router tag) sections) →
-    router ≡ router_with s.ospf s.isis → tag ≡ s.tag → sections ≡ s.interfaces →
+    router ≡ router_with s.process s.ospf s.isis → tag ≡ s.tag → sections ≡ s.interfaces →
     n ≡ least_fault (faults_if missing ends NoHostname) → missing ≡ is_none s.name → a ≡ lesser_fault p x → r ≡ lesser_fault a n → r ≡ fault_by s ends
 fault_joined s ends o i p x n a r router tag sections missing eo ei ep ex er et es en em ea err =
     let pair : p ≡ lesser_fault (ospf_fault_by s) (isis_fault_by s) = ep ∙ ap (λ (f : Option Fault). lesser_fault f i) eo ∙ ap (lesser_fault (ospf_fault_by s)) ei in
-    let interfaces : x ≡ least_fault (flat_map (interface_faults (router_with s.ospf s.isis) s.tag) s.interfaces) =
+    let interfaces : x ≡ least_fault (flat_map (interface_faults (router_with s.process s.ospf s.isis) s.tag) s.interfaces) =
     ex ∙ ap (λ (q : Router). least_fault (flat_map (interface_faults q tag) sections)) er
-    ∙ ap (λ (t : Option Word). least_fault (flat_map (interface_faults (router_with s.ospf s.isis) t) sections)) et
-    ∙ ap (λ (w : List InterfaceSection). least_fault (flat_map (interface_faults (router_with s.ospf s.isis) s.tag) w)) es in
+    ∙ ap (λ (t : Option Word). least_fault (flat_map (interface_faults (router_with s.process s.ospf s.isis) t) sections)) et
+    ∙ ap (λ (w : List InterfaceSection). least_fault (flat_map (interface_faults (router_with s.process s.ospf s.isis) s.tag) w)) es in
     let name : n ≡ least_fault (faults_if (is_none s.name) ends NoHostname) = en ∙ ap (λ (b : Bool). least_fault (faults_if b ends NoHostname)) em in
-    let three : a ≡ lesser_fault (lesser_fault (ospf_fault_by s) (isis_fault_by s)) (least_fault (flat_map (interface_faults (router_with s.ospf s.isis) s.tag) s.interfaces)) =
+    let three : a ≡ lesser_fault (lesser_fault (ospf_fault_by s) (isis_fault_by s)) (least_fault (flat_map (interface_faults (router_with s.process s.ospf s.isis) s.tag) s.interfaces)) =
     ea ∙ ap (λ (f : Option Fault). lesser_fault f x) pair ∙ ap (lesser_fault (lesser_fault (ospf_fault_by s) (isis_fault_by s))) interfaces in
     err ∙ ap (λ (f : Option Fault). lesser_fault f n) three
-    ∙ ap (lesser_fault (lesser_fault (lesser_fault (ospf_fault_by s) (isis_fault_by s)) (least_fault (flat_map (interface_faults (router_with s.ospf s.isis) s.tag) s.interfaces)))) name
+    ∙ ap (lesser_fault (lesser_fault (lesser_fault (ospf_fault_by s) (isis_fault_by s)) (least_fault (flat_map (interface_faults (router_with s.process s.ospf s.isis) s.tag) s.interfaces)))) name
 
 -- a configuration by its fields
 abbrev pub configured : Word → List Interface → Option ℕ → Bool → Word → Word → ℕ → Levels → List Range → List Stub → Bool → ℕ → ℕ → Configuration

@@ -1,22 +1,9 @@
--- The last line of a form, with one more line.
-use Rattle.std.proofs.Common.{sym, ◌≡◌, ℕ, ◌+◌, ◌<◌, List, [], ◌∷◌, ◌++◌, length, take, get_or, Option, Some, None, refl, ap, ◌∙◌}
+-- What the lines of an interface say, with one more line.
+use Rattle.std.proofs.Common.{sym, ◌≡◌, ℕ, ◌+◌, ◌<◌, List, [], ◌∷◌, ◌++◌, length, take, get_or, refl, ap, ◌∙◌}
 use Rattle.std.proofs.lemmas.List.{take_more}
-use Rattle.ios_reader.specs.Lookups.{later, last_of}
 use Rattle.ios_reader.specs.InterfaceFacts.{address_in, shut_said, bandwidth_said, cost_said, area_said, point_to_point_said, isis_said, circuit_said, metric_said, metric1_said, metric2_said, facts_of, noted}
-use Rattle.ios_reader.specs.declared.interface_line.InterfaceStatement.{InterfaceStatement}
-
-later-none : {A : Type 0} (a : Option A) → later None a ≡ a
-later-none None = refl
-later-none (Some x) = refl
-
-later-assoc : {A : Type 0} (a b c : Option A) → later (later a b) c ≡ later a (later b c)
-later-assoc a b None = refl
-later-assoc a b (Some x) = refl
-
--- the last line of a form, with one more line
-pub last_of-push : {A : Type 0} {B : Type 0} (form : A → Option B) (xs : List A) (x : A) → last_of form (xs ++ x ∷ []) ≡ later (last_of form xs) (form x)
-last_of-push form [] x = sym (later-none (form x))
-last_of-push form (y ∷ ys) x = ap (later (form y)) (last_of-push form ys x) ∙ sym (later-assoc (form y) (last_of form ys) (form x))
+use Rattle.ios_lines.specs.declared.interface_line.InterfaceStatement.{InterfaceStatement}
+use Rattle.ios_lines.proofs.LineLookups.{last_of-push}
 
 pub facts_of-push : (xs : List InterfaceStatement) (x : InterfaceStatement) → facts_of (xs ++ x ∷ []) ≡ noted (facts_of xs) x
 facts_of-push xs x =

@@ -13,33 +13,35 @@ use Rattle.net_model.specs.Configuration.{IsNameByte, IsRouterName, IsInterface,
 use Rattle.net_model.specs.declared.area.Range.{Range}
 use Rattle.net_model.specs.declared.area.Stub.{Stub}
 use Rattle.net_model.specs.declared.interface.Interface.{Interface}
-use Rattle.ios_reader.specs.Words.{Word, is_letter}
-use Rattle.ios_reader.specs.Heads.{is_name_byte, is_router_name}
-use Rattle.ios_reader.specs.Lookups.{last_of, replaced, first_seen, good_value, value_or}
-use Rattle.ios_reader.specs.InterfaceFacts.{address_at, address_in, cost_said, metric_said, metric1_said, metric2_said, facts_of, counting}
-use Rattle.ios_reader.specs.Routers.{as_hostname, as_interface, merged, interfaces_in, process_of, ospf_lines, isis_lines, Router, router_of, range_said, is_same_range, ranges_in, stub_said, is_same_area, stub_lines_in, cost_if, default_cost_said, stub_of, stubs_in, title_said, router_metric_said, ospf_distance_said, isis_distance_said}
+use Rattle.ios_lines.specs.Words.{Word, is_letter}
+use Rattle.ios_lines.specs.Heads.{is_name_byte, is_router_name}
+use Rattle.ios_lines.specs.Lookups.{last_of, replaced, first_seen, good_value, value_or}
+use Rattle.ios_reader.specs.InterfaceFacts.{address_at, address_in, cost_said, metric_said, metric1_said, metric2_said, facts_of}
+use Rattle.ios_lines.specs.InterfaceLines.{counting}
+use Rattle.ios_sections.specs.Processes.{as_hostname, as_interface, merged, interfaces_in, process_of, ospf_lines, isis_lines}
+use Rattle.ios_reader.specs.Routers.{Router, router_of, range_said, is_same_range, ranges_in, stub_said, is_same_area, stub_lines_in, cost_if, default_cost_said, stub_of, stubs_in, title_said, router_metric_said, ospf_distance_said, isis_distance_said}
 use Rattle.ios_reader.specs.InterfacesAsRead.{address_given, is_loopback, interface_area, default_bandwidth, cost_of_bandwidth, cost_by_bandwidth, default_cost, cost_given, ospf_cost, is_isis_passive, runs_isis, metric_by, level_metric, subnet_field, cost_field, interface_with, interface_as_read}
 use Rattle.ios_reader.specs.Configurations.{title_given, system_in, configuration_of}
-use Rattle.ios_reader.specs.MaskedAddress.{MaskedAddress}
-use Rattle.ios_reader.specs.declared.kind.ReadKind.{ReadKind}
+use Rattle.ios_lines.specs.MaskedAddress.{MaskedAddress}
+use Rattle.ios_lines.specs.declared.kind.ReadKind.{ReadKind}
 use Rattle.ios_reader.specs.declared.facts.PlacedAddress.{PlacedAddress}
-use Rattle.ios_reader.specs.declared.interface_line.InterfaceLine.{InterfaceLine}
-use Rattle.ios_reader.specs.declared.interface_line.InterfaceLine.TheVariants.{Address, NoAddress, Shutdown, Vrf, Bandwidth, Cost, Area, PointToPoint, Isis, Circuit, Metric, Metric1, Metric2, Faulty, Skipped}
-use Rattle.ios_reader.specs.declared.interface_line.InterfaceStatement.{InterfaceStatement}
-use Rattle.ios_reader.specs.declared.ospf_line.StubLine.{StubLine}
-use Rattle.ios_reader.specs.declared.ospf_line.OspfLine.{OspfLine}
-use Rattle.ios_reader.specs.declared.ospf_line.OspfLine.TheVariants.{Network, Passive, PassiveDefault, Reference, Stub as StubSaid, DefaultCost, Range as RangeSaid, Distance, Rfc1583, Faulty as OspfFaulty, Skipped as OspfSkipped}
-use Rattle.ios_reader.specs.declared.ospf_line.OspfStatement.{OspfStatement}
-use Rattle.ios_reader.specs.declared.title.Title.{Title}
-use Rattle.ios_reader.specs.declared.isis_line.IsisLine.{IsisLine}
-use Rattle.ios_reader.specs.declared.isis_line.IsisLine.TheVariants.{Net, Levels, MetricStyle, Metric as IsisMetric, Distance as IsisDistance, Passive as IsisPassive, Faulty as IsisFaulty, Skipped as IsisSkipped}
-use Rattle.ios_reader.specs.declared.isis_line.IsisStatement.{IsisStatement}
-use Rattle.ios_reader.specs.declared.section.InterfaceSection.{InterfaceSection}
-use Rattle.ios_reader.specs.declared.section.Section.{Section}
-use Rattle.ios_reader.proofs.NumberFacts.{le_test, and_left, and_right}
-use Rattle.ios_reader.proofs.Picked.{by_if, all_taken, fold_keeps, last_keeps, pairs_map, all_replaced, pairs_replaced, names_apart}
-use Rattle.ios_reader.proofs.GoodLines.{IsFrom, IsGoodAddress, prefix_good, IsGoodInterfaceLine, IsOspfDistance, IsGoodOspfLine, IsIsisDistance, IsGoodIsisLine}
-use Rattle.ios_reader.proofs.GoodSections.{IsGoodStatement, IsGoodOspf, IsGoodIsis, IsGoodInterface, IsGoodSection, as_hostname_good, interfaces_good, counting_good, number_of_process, ospf_good, isis_good}
+use Rattle.ios_lines.specs.declared.interface_line.InterfaceLine.{InterfaceLine}
+use Rattle.ios_lines.specs.declared.interface_line.InterfaceLine.TheVariants.{Address, NoAddress, Shutdown, Vrf, Bandwidth, Cost, Area, PointToPoint, Isis, Circuit, Metric, Metric1, Metric2, Faulty, Skipped}
+use Rattle.ios_lines.specs.declared.interface_line.InterfaceStatement.{InterfaceStatement}
+use Rattle.ios_lines.specs.declared.ospf_line.StubLine.{StubLine}
+use Rattle.ios_lines.specs.declared.ospf_line.OspfLine.{OspfLine}
+use Rattle.ios_lines.specs.declared.ospf_line.OspfLine.TheVariants.{Network, Passive, PassiveDefault, Reference, Stub as StubSaid, DefaultCost, Range as RangeSaid, Distance, Rfc1583, Faulty as OspfFaulty, Skipped as OspfSkipped}
+use Rattle.ios_lines.specs.declared.ospf_line.OspfStatement.{OspfStatement}
+use Rattle.ios_lines.specs.declared.title.Title.{Title}
+use Rattle.ios_lines.specs.declared.isis_line.IsisLine.{IsisLine}
+use Rattle.ios_lines.specs.declared.isis_line.IsisLine.TheVariants.{Net, Levels, MetricStyle, Metric as IsisMetric, Distance as IsisDistance, Passive as IsisPassive, Faulty as IsisFaulty, Skipped as IsisSkipped}
+use Rattle.ios_lines.specs.declared.isis_line.IsisStatement.{IsisStatement}
+use Rattle.ios_sections.specs.declared.section.InterfaceSection.{InterfaceSection}
+use Rattle.ios_sections.specs.declared.section.Section.{Section}
+use Rattle.ios_lines.proofs.NumberFacts.{le_test, and_left, and_right}
+use Rattle.ios_lines.proofs.Picked.{by_if, all_taken, fold_keeps, last_keeps, pairs_map, all_replaced, pairs_replaced, names_apart}
+use Rattle.ios_lines.proofs.GoodLines.{IsFrom, IsGoodAddress, prefix_good, IsGoodInterfaceLine, IsOspfDistance, IsGoodOspfLine, IsIsisDistance, IsGoodIsisLine}
+use Rattle.ios_sections.proofs.GoodSections.{IsGoodStatement, IsGoodOspf, IsGoodIsis, IsGoodInterface, IsGoodSection, as_hostname_good, interfaces_good, counting_good, number_of_process, ospf_good, isis_good}
 
 -- ---- the name ----
 

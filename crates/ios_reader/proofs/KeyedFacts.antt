@@ -8,13 +8,13 @@ use Rattle.std.proofs.lemmas.Bool.Decides.{nat_tests}
 use Rattle.std.proofs.lemmas.List.Elements.{All-cons, All-head, All-tail}
 use Rattle.std.specs.Map.{lookup}
 use Rattle.indexmap.specs.IndexMap.{insert_entry}
-use Rattle.ios_reader.specs.Lookups.{later, replaced, last_of}
+use Rattle.ios_lines.specs.Lookups.{later, replaced, last_of}
 use Rattle.net_model.specs.declared.area.Range.{Range}
-use Rattle.ios_reader.specs.declared.ospf_line.StubLine.{StubLine}
+use Rattle.ios_lines.specs.declared.ospf_line.StubLine.{StubLine}
 use Rattle.ios_reader.specs.Routers.{cost_if, is_same_range}
 use Rattle.ios_reader.specs.Tables.{values_in, AreKeyed, range_key, stub_made}
-use Rattle.ios_reader.proofs.NumberFacts.{and_left, and_right}
-use Rattle.ios_reader.proofs.ProcessLookups.{last_of_more}
+use Rattle.ios_lines.proofs.NumberFacts.{and_left, and_right}
+use Rattle.ios_lines.proofs.LineLookups.{last_of_more}
 
 value_cases : {K : Type 0} {V : Type 0} (t u : Bool) (e : K × V) (v : V) (es rest : List (K × V)) (more : List V) → t ≡ u → values_in rest ≡ more →
     values_in (cond t ((e.0, v) ∷ es) (e ∷ rest)) ≡ cond u (v ∷ values_in es) (e.1 ∷ more)

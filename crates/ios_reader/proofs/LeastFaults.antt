@@ -1,40 +1,30 @@
 -- The least of some faults is on the least faulty line, with the least kind on it.
-use Rattle.std.proofs.Common.{◌≡◌, ℕ, ◌+◌, ◌*◌, ◌<◌, ◌≤◌, Bool, true, false, List, [], ◌∷◌, Option, Some, None, refl, cond, nat_lt, arith, ◌⊎◌, inl, inr}
+use Rattle.std.proofs.Common.{◌≡◌, ℕ, ◌<◌, ◌≤◌, Bool, true, false, ◌&&◌, ◌||◌, List, [], ◌∷◌, Option, Some, None, refl, cond, nat_eq, nat_lt, arith, ◌⊎◌, inl, inr}
 use Rattle.std.proofs.lemmas.Bool.Decides.{nat_tests}
-use Rattle.ios_reader.specs.Configurations.{rank, IsNotAfter}
-use Rattle.ios_reader.specs.Gathering.{order_of, is_before, lesser_fault, least_fault}
-use Rattle.ios_reader.specs.declared.fault.Fault.{Fault}
-use Rattle.ios_reader.specs.declared.kind.ReadKind.{ReadKind}
-use Rattle.ios_reader.specs.declared.kind.ReadKind.TheVariants.{NoHostname, NoEnd, BadAddress, BadMask, BadCost, BadArea, SecondProcess, Unsupported, LoopbackMask, BadNet, BadLevel, BadMetric, BadDistance, DistanceClash, NoBandwidth}
+use Rattle.ios_lines.specs.FaultOrder.{rank, is_before, lesser_fault, least_fault}
+use Rattle.ios_reader.specs.Configurations.{IsNotAfter}
+use Rattle.ios_lines.specs.declared.fault.Fault.{Fault}
 
-rank_small : (k : ReadKind) → rank k < 16
-rank_small NoHostname = omega arith
-rank_small NoEnd = omega arith
-rank_small BadAddress = omega arith
-rank_small BadMask = omega arith
-rank_small BadCost = omega arith
-rank_small BadArea = omega arith
-rank_small SecondProcess = omega arith
-rank_small Unsupported = omega arith
-rank_small LoopbackMask = omega arith
-rank_small BadNet = omega arith
-rank_small BadLevel = omega arith
-rank_small BadMetric = omega arith
-rank_small BadDistance = omega arith
-rank_small DistanceClash = omega arith
-rank_small NoBandwidth = omega arith
+-- two pairs of numbers by the tests of their order
+passed : (l m r s : ℕ) (t u v : Bool) → nat_lt l m ≡ t → nat_eq l m ≡ u → nat_lt r s ≡ v → (t || (u && v)) ≡ true → (l < m) ⊎ ((l ≡ m) × (r ≤ s))
+passed l m r s true u v p q w h = inl (grind (arith, nat_tests))
+passed l m r s false true true p q w h = inr (grind (arith, nat_tests), grind (arith, nat_tests))
+passed l m r s false true false p q w h = absurd cc
+passed l m r s false false v p q w h = absurd cc
 
--- the order of faults goes by lines, then by kinds
-lines_first : (l m r s : ℕ) → r < 16 → s < 16 → 16 * l + r ≤ 16 * m + s → (l < m) ⊎ ((l ≡ m) × (r ≤ s))
-lines_first l m r s small little h = by_test (nat_lt l m) refl
-  where
-    by_test : (t : Bool) → nat_lt l m ≡ t → (l < m) ⊎ ((l ≡ m) × (r ≤ s))
-    by_test true e = inl (grind (arith, nat_tests))
-    by_test false e = let least : m ≤ l = grind (arith, nat_tests) in inr (omega arith, omega arith)
+failed : (l m r s : ℕ) (t u v : Bool) → nat_lt m l ≡ t → nat_eq m l ≡ u → nat_lt s r ≡ v → (t || (u && v)) ≡ false → (l < m) ⊎ ((l ≡ m) × (r ≤ s))
+failed l m r s true u v p q w h = absurd cc
+failed l m r s false true true p q w h = absurd cc
+failed l m r s false true false p q w h = inr (grind (arith, nat_tests), grind (arith, nat_tests))
+failed l m r s false false v p q w h = inl (grind (arith, nat_tests))
 
--- a fault that doesn't come after another
-pub by_order : (f g : Fault) → order_of f ≤ order_of g → IsNotAfter f g
-by_order f g h = lines_first f.line g.line (rank f.kind) (rank g.kind) (rank_small f.kind) (rank_small g.kind) h
+-- a fault that comes before another doesn't come after it
+pub by_before : (f g : Fault) → is_before f g ≡ true → IsNotAfter f g
+by_before f g h = passed f.line g.line (rank f.kind) (rank g.kind) _ _ _ refl refl refl h
+
+-- a fault before which another doesn't come doesn't come after that one
+pub by_not_before : (f g : Fault) → is_before g f ≡ false → IsNotAfter f g
+by_not_before f g h = failed f.line g.line (rank f.kind) (rank g.kind) _ _ _ refl refl refl h
 
 always_some : (t : Bool) (f g : Fault) → cond t (Some g) (Some f) ≡ None → ⊥
 always_some true f g e = cc

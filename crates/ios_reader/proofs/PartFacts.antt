@@ -6,13 +6,14 @@ use Rattle.std.proofs.lemmas.Grind.{common_steps}
 use Rattle.std.proofs.lemmas.List.{take_more, map-append}
 use Rattle.std.proofs.lemmas.List.Concat.{flat_map-append}
 use Rattle.net_model.specs.Configuration.{Configuration}
-use Rattle.ios_reader.specs.TextLines.{TextLine, Part, is_end, parts_after, rest_after, is_empty, begins_configuration}
-use Rattle.ios_reader.specs.Faults.{sections_in, part_faults}
+use Rattle.ios_sections.specs.TextLines.{TextLine, Part, is_end, parts_after, rest_after, is_empty, begins_configuration}
+use Rattle.ios_sections.specs.Sections.{sections_in}
+use Rattle.ios_reader.specs.Faults.{part_faults}
 use Rattle.ios_reader.specs.Configurations.{configuration_of}
-use Rattle.ios_reader.specs.Gathering.{lesser_fault, least_fault}
+use Rattle.ios_lines.specs.FaultOrder.{lesser_fault, least_fault}
 use Rattle.ios_reader.specs.Parts.{part_at, IsPartRead, fault_read, configurations_read, Reading, IsReadingOf}
-use Rattle.ios_reader.specs.declared.fault.Fault.{Fault}
-use Rattle.ios_reader.proofs.GatheringFacts.{least_fault-append}
+use Rattle.ios_lines.specs.declared.fault.Fault.{Fault}
+use Rattle.ios_lines.proofs.FaultFacts.{least_fault-append}
 
 -- ---- one more line ----
 
@@ -158,13 +159,12 @@ double_not true = refl
 double_not false = refl
 
 -- the same, of the flag that an `end` line was there
-pub flag_more : (lines : List TextLine) (i : ℕ) (x : TextLine) (was now ends : Bool) → i < length lines → x ≡ get_or lines i x →
-    is_empty (parts_after [] (take i lines)) ≡ not was → ends ≡ is_end x → now ≡ (was || ends) → is_empty (parts_after [] (take (i + 1) lines)) ≡ not now
-flag_more lines i x was now ends within read before e f =
+pub flag_more : (lines : List TextLine) (i : ℕ) (x : TextLine) (was now : Bool) → i < length lines → x ≡ get_or lines i x →
+    is_empty (parts_after [] (take i lines)) ≡ not was → now ≡ (was || is_end x) → is_empty (parts_after [] (take (i + 1) lines)) ≡ not now
+flag_more lines i x was now within read before f =
     ended_more lines i x within read
     ∙ ap (λ (b : Bool). not (not b || is_end x)) before
     ∙ ap (λ (b : Bool). not (b || is_end x)) (double_not was)
-    ∙ ap (λ (b : Bool). not (was || b)) (sym e)
     ∙ ap not (sym f)
 
 -- ---- the loop over the lines ----

@@ -3,10 +3,10 @@ use Rattle.std.proofs.Common.{sym, ◌≡◌, ℕ, ◌+◌, ◌<◌, Bool, true,
 use Rattle.std.proofs.lemmas.Slice.Eq.{bytes_eq-Decides}
 use Rattle.std.specs.Map.{lookup}
 use Rattle.indexmap.specs.IndexMap.{insert_entry}
-use Rattle.ios_reader.specs.Words.{Word}
-use Rattle.ios_reader.specs.Lookups.{later, last_of}
+use Rattle.ios_lines.specs.Words.{Word}
+use Rattle.ios_lines.specs.Lookups.{later, last_of}
 use Rattle.ios_reader.specs.Passives.{said_of, with_said}
-use Rattle.ios_reader.proofs.ProcessLookups.{last_of_more}
+use Rattle.ios_lines.proofs.LineLookups.{last_of_more}
 
 same_word : (n m : Word) → bytes_eq n m ≡ true → n ≡ m
 same_word n m e = (bytes_eq-Decides n m).0 e

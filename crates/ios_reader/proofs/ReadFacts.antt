@@ -6,29 +6,32 @@ use Rattle.std.proofs.lemmas.List.{length-map}
 use Rattle.std.proofs.lemmas.List.Splits.{length-slice_split}
 use Rattle.std.proofs.lemmas.List.Sums.{count_by-le-length}
 use Rattle.std.proofs.lemmas.List.Elements.{All-nil, All-cons, All-weaker}
-use Rattle.std.proofs.lemmas.Bool.Decides.{nat_tests}
 use Rattle.net_addr.specs.Lines.{is_line_feed, without_empty_last, line_pieces, lines_of, text_lines}
 use Rattle.net_model.specs.Configuration.{Configuration, IsConfiguration}
-use Rattle.ios_reader.specs.Words.{Word}
-use Rattle.ios_reader.specs.TextLines.{TextLine, Part, text_line, lines_in, parts_of, lacks_end}
-use Rattle.ios_reader.specs.Faults.{faults_if, second_processes, ospf_faults, isis_faults, isis_statement_faults, tag_faults, second_titles, lacking, first_isis_line, interface_faults, section_faults, sections_in, part_faults, faults_in}
-use Rattle.ios_reader.specs.Routers.{as_hostname, as_isis, as_fault, interfaces_in, first_isis, first_tag, isis_lines, router_of, router_with, rfc1583_said, ospf_distance_said, isis_distance_said, ranges_in, stubs_in}
+use Rattle.ios_lines.specs.Words.{Word}
+use Rattle.ios_sections.specs.TextLines.{TextLine, Part, text_line, lines_in, parts_of, lacks_end}
+use Rattle.ios_lines.specs.FaultOrder.{faults_if, is_before, lesser_fault, least_fault}
+use Rattle.ios_sections.specs.ProcessFaults.{second_processes, ospf_faults, isis_faults, isis_statement_faults, tag_faults, second_titles, lacking, first_isis_line}
+use Rattle.ios_reader.specs.Faults.{interface_faults, section_faults, part_faults, faults_in}
+use Rattle.ios_sections.specs.Sections.{sections_in}
+use Rattle.ios_sections.specs.Processes.{as_hostname, as_isis, as_fault, interfaces_in, first_isis, first_tag, isis_lines}
+use Rattle.ios_reader.specs.Routers.{router_of, router_with, rfc1583_said, ospf_distance_said, isis_distance_said, ranges_in, stubs_in}
 use Rattle.ios_reader.specs.InterfacesAsRead.{interface_as_read}
-use Rattle.ios_reader.specs.Lookups.{last_of, value_or}
+use Rattle.ios_lines.specs.Lookups.{last_of, value_or}
 use Rattle.ios_reader.specs.Configurations.{IsNotAfter, IsLeastFault, configuration_of, tag_in, area_in, system_in}
-use Rattle.ios_reader.specs.Gathering.{is_before, lesser_fault, least_fault}
-use Rattle.ios_reader.specs.Statements.{Statements, statements_of, ospf_fault_by, isis_fault_by, fault_by, title_by, configuration_by}
+use Rattle.ios_sections.specs.Statements.{Statements, statements_of}
+use Rattle.ios_reader.specs.ByStatements.{ospf_fault_by, isis_fault_by, fault_by, title_by, configuration_by}
 use Rattle.ios_reader.specs.Parts.{IsMadeOf, Reading, IsReadingOf}
 use Rattle.ios_reader.specs.Texts.{ReadsText, IsRefusedText}
-use Rattle.ios_reader.specs.declared.kind.ReadKind.TheVariants.{NoHostname, NoEnd}
-use Rattle.ios_reader.specs.declared.fault.Fault.{Fault}
-use Rattle.ios_reader.specs.declared.ospf_line.OspfStatement.{OspfStatement}
-use Rattle.ios_reader.specs.declared.isis_line.IsisStatement.{IsisStatement}
-use Rattle.ios_reader.specs.declared.section.IsisSection.{IsisSection}
-use Rattle.ios_reader.specs.declared.section.Section.{Section}
-use Rattle.ios_reader.proofs.FaultFacts.{least_of_two}
-use Rattle.ios_reader.proofs.LeastFaults.{by_order, none_least}
-use Rattle.ios_reader.proofs.GoodSections.{sections_good}
+use Rattle.ios_lines.specs.declared.kind.ReadKind.TheVariants.{NoHostname, NoEnd}
+use Rattle.ios_lines.specs.declared.fault.Fault.{Fault}
+use Rattle.ios_lines.specs.declared.ospf_line.OspfStatement.{OspfStatement}
+use Rattle.ios_lines.specs.declared.isis_line.IsisStatement.{IsisStatement}
+use Rattle.ios_sections.specs.declared.section.IsisSection.{IsisSection}
+use Rattle.ios_sections.specs.declared.section.Section.{Section}
+use Rattle.ios_lines.proofs.FaultFacts.{least_of_two}
+use Rattle.ios_reader.proofs.LeastFaults.{by_before, by_not_before, none_least}
+use Rattle.ios_sections.proofs.GoodSections.{sections_good}
 use Rattle.ios_reader.proofs.KeptFacts.{configuration_kept}
 
 -- ---- the least fault of a configuration ----
@@ -81,13 +84,13 @@ tag_is (s ∷ ss) = refl
 abbrev whole : Bool → Word → Statements → Configuration
 whole isis tag s = record {
   name = unwrap_or s.name [];
-  interfaces = map (interface_as_read (router_with s.ospf s.isis)) s.interfaces;
+  interfaces = map (interface_as_read (router_with s.process s.ospf s.isis)) s.interfaces;
   process = s.process;
   isis = isis;
   tag = tag;
   isis_area = area_in (title_by s.isis);
   system = system_in (title_by s.isis);
-  levels = (router_with s.ospf s.isis).levels;
+  levels = (router_with s.process s.ospf s.isis).levels;
   ranges = ranges_in s.ospf;
   stubs = stubs_in s.ospf;
   rfc1583 = unwrap_or (last_of (λ (t : OspfStatement). rfc1583_said t.says) s.ospf) true;
@@ -163,10 +166,10 @@ later_least g h gs before found = record {
 least_choice : (g h f : Fault) (gs : List Fault) (t : Bool) → is_before h g ≡ t → IsLeastFault gs h → cond t (Some h) (Some g) ≡ Some f → IsLeastFault (g ∷ gs) f
 least_choice g h f gs true before found e =
     let same : h ≡ f = cc in
-    subst (IsLeastFault (g ∷ gs)) same (later_least g h gs (by_order h g (grind (arith, nat_tests))) found)
+    subst (IsLeastFault (g ∷ gs)) same (later_least g h gs (by_before h g before) found)
 least_choice g h f gs false before found e =
     let same : g ≡ f = cc in
-    let after : IsNotAfter g h = by_order g h (grind (arith, nat_tests)) in
+    let after : IsNotAfter g h = by_not_before g h before in
     subst (IsLeastFault (g ∷ gs)) same (first_least g gs (All-weaker (IsNotAfter h) (IsNotAfter g) (λ x n. not_after_trans g h x after n) gs found.least))
 
 least_cases : (g f : Fault) (gs : List Fault) (o : Option Fault) → least_fault gs ≡ o → ((h : Fault) → least_fault gs ≡ Some h → IsLeastFault gs h) → lesser_fault (Some g) o ≡ Some f → IsLeastFault (g ∷ gs) f
@@ -176,7 +179,8 @@ least_cases g f gs None r later e =
     subst (IsLeastFault (g ∷ gs)) same (first_least g gs (subst (λ (w : List Fault). All (IsNotAfter g) w) (sym none) (All-nil (IsNotAfter g))))
 least_cases g f gs (Some h) r later e = least_choice g h f gs (is_before h g) refl (later h r) e
 
-least_is : (fs : List Fault) (f : Fault) → least_fault fs ≡ Some f → IsLeastFault fs f
+-- the least of some faults is on the least line, with the least kind on it
+pub least_is : (fs : List Fault) (f : Fault) → least_fault fs ≡ Some f → IsLeastFault fs f
 least_is [] f e = absurd cc
 least_is (g ∷ gs) f e = least_cases g f gs (least_fault gs) refl (λ h r. least_is gs h r) e
 

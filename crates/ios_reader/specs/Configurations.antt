@@ -1,20 +1,21 @@
 -- The configurations of a text, or its least faulty line.
+pub use Rattle.ios_lines.specs.FaultOrder.{rank}
 use Rattle.std.specs.Prelude.{◌≡◌, ℕ, ◌<◌, ◌≤◌, true, List, [], Option, Some, None, map, filter_map, unwrap_or, is_some, All, Contains, ◌⊎◌}
 use Rattle.net_model.specs.Configuration.{Configuration}
-use Rattle.ios_reader.specs.Words.{Word}
-use Rattle.ios_reader.specs.Lookups.{last_of, value_or}
-use Rattle.ios_reader.specs.TextLines.{TextLine, parts_of}
-use Rattle.ios_reader.specs.Routers.{as_hostname, as_isis, interfaces_in, process_of, ospf_lines, isis_lines, first_isis, router_of, title_said, ospf_distance_said, isis_distance_said, rfc1583_said, ranges_in, stubs_in}
+use Rattle.ios_lines.specs.Words.{Word}
+use Rattle.ios_lines.specs.Lookups.{last_of, value_or}
+use Rattle.ios_sections.specs.TextLines.{TextLine, parts_of}
+use Rattle.ios_sections.specs.Processes.{as_hostname, as_isis, interfaces_in, process_of, ospf_lines, isis_lines, first_isis}
+use Rattle.ios_reader.specs.Routers.{router_of, title_said, ospf_distance_said, isis_distance_said, rfc1583_said, ranges_in, stubs_in}
 use Rattle.ios_reader.specs.InterfacesAsRead.{interface_as_read}
-use Rattle.ios_reader.specs.Faults.{faults_in, sections_in}
-use Rattle.ios_reader.specs.declared.kind.ReadKind.{ReadKind}
-use Rattle.ios_reader.specs.declared.kind.ReadKind.TheVariants.{NoHostname, NoEnd, BadAddress, BadMask, BadCost, BadArea, SecondProcess, Unsupported, LoopbackMask, BadNet, BadLevel, BadMetric, BadDistance, DistanceClash, NoBandwidth}
-use Rattle.ios_reader.specs.declared.fault.Fault.{Fault}
-use Rattle.ios_reader.specs.declared.ospf_line.OspfStatement.{OspfStatement}
-use Rattle.ios_reader.specs.declared.isis_line.IsisStatement.{IsisStatement}
-use Rattle.ios_reader.specs.declared.title.Title.{Title}
-use Rattle.ios_reader.specs.declared.section.IsisSection.{IsisSection}
-use Rattle.ios_reader.specs.declared.section.Section.{Section}
+use Rattle.ios_reader.specs.Faults.{faults_in}
+use Rattle.ios_sections.specs.Sections.{sections_in}
+use Rattle.ios_lines.specs.declared.fault.Fault.{Fault}
+use Rattle.ios_lines.specs.declared.ospf_line.OspfStatement.{OspfStatement}
+use Rattle.ios_lines.specs.declared.isis_line.IsisStatement.{IsisStatement}
+use Rattle.ios_lines.specs.declared.title.Title.{Title}
+use Rattle.ios_sections.specs.declared.section.IsisSection.{IsisSection}
+use Rattle.ios_sections.specs.declared.section.Section.{Section}
 
 -- the title that a `net` line gives
 abbrev pub title_given : Option (Option Title) → Option Title
@@ -64,24 +65,6 @@ configuration_of sections =
 -- the configurations of a text without a faulty line
 abbrev pub configurations_in : List TextLine → List Configuration
 configurations_in lines = map (λ part. configuration_of (sections_in part)) (parts_of lines)
-
--- the place of a kind in the order of kinds
-abbrev pub rank : ReadKind → ℕ
-rank NoHostname = 1
-rank NoEnd = 2
-rank BadAddress = 3
-rank BadMask = 4
-rank BadCost = 5
-rank BadArea = 6
-rank SecondProcess = 7
-rank Unsupported = 8
-rank LoopbackMask = 9
-rank BadNet = 10
-rank BadLevel = 11
-rank BadMetric = 12
-rank BadDistance = 13
-rank DistanceClash = 14
-rank NoBandwidth = 15
 
 -- a fault on a lesser line, or on the same line with a kind that isn't greater
 abbrev pub IsNotAfter : Fault → Fault → Type 0

@@ -1,132 +1,28 @@
 -- The faulty lines of a configuration, each with its kind.
-use Rattle.std.specs.Prelude.{ℕ, ◌+◌, Bool, true, false, not, ◌&&◌, List, [], ◌∷◌, ◌++◌, Option, Some, None, Result, Ok, Err, length, map, drop, filter, filter_map, flat_map, bytes_eq, nat_eq, is_some, is_none, if◌then◌else◌}
-use Rattle.std.specs.List.{list_all, list_any}
-use Rattle.ios_reader.specs.Words.{Word, is_printable}
-use Rattle.ios_reader.specs.Lookups.{last_of}
-use Rattle.ios_reader.specs.TextLines.{TextLine, Part, parts_of, lacks_end, sections_of}
-use Rattle.ios_reader.specs.InterfaceLines.{interface_line_fault}
-use Rattle.ios_reader.specs.OspfLines.{ospf_line_fault}
-use Rattle.ios_reader.specs.IsisLines.{isis_line_fault}
-use Rattle.ios_reader.specs.Sections.{section_of}
-use Rattle.ios_reader.specs.InterfaceFacts.{facts_of, counting}
-use Rattle.ios_reader.specs.Routers.{as_hostname, as_isis, as_fault, interfaces_in, mentions, process_of, first_tag, ospf_lines, isis_lines, Router, router_of}
+pub use Rattle.ios_lines.specs.FaultOrder.{fault_at}
+use Rattle.std.specs.Prelude.{ℕ, ◌+◌, Bool, false, not, ◌&&◌, List, [], ◌++◌, Option, Some, None, Result, Ok, Err, length, filter_map, flat_map, bytes_eq, nat_eq, is_some, is_none, if◌then◌else◌}
+use Rattle.ios_lines.specs.Words.{Word}
+use Rattle.ios_lines.specs.Lookups.{last_of}
+use Rattle.ios_sections.specs.TextLines.{TextLine, Part, parts_of, lacks_end}
+use Rattle.ios_lines.specs.InterfaceLines.{interface_line_fault, counting}
+use Rattle.ios_reader.specs.InterfaceFacts.{facts_of}
+use Rattle.ios_sections.specs.Processes.{as_hostname, as_isis, as_fault, interfaces_in, first_tag}
+use Rattle.ios_reader.specs.Routers.{Router, router_of}
 use Rattle.ios_reader.specs.InterfacesAsRead.{is_loopback, is_up, interface_area, ospf_cost}
-use Rattle.ios_reader.specs.declared.kind.ReadKind.{ReadKind}
-use Rattle.ios_reader.specs.declared.kind.ReadKind.TheVariants.{NoHostname, NoEnd, SecondProcess, Unsupported, LoopbackMask, BadNet, NoBandwidth}
-use Rattle.ios_reader.specs.declared.fault.Fault.{Fault}
-use Rattle.ios_reader.specs.declared.process.Mention.{Mention}
-use Rattle.ios_reader.specs.declared.address.InterfaceAddress.{InterfaceAddress}
-use Rattle.ios_reader.specs.declared.interface_line.InterfaceLine.{InterfaceLine}
-use Rattle.ios_reader.specs.declared.interface_line.InterfaceLine.TheVariants.{Isis}
-use Rattle.ios_reader.specs.declared.interface_line.InterfaceStatement.{InterfaceStatement}
-use Rattle.ios_reader.specs.declared.ospf_line.OspfStatement.{OspfStatement}
-use Rattle.ios_reader.specs.declared.isis_line.IsisLine.{IsisLine}
-use Rattle.ios_reader.specs.declared.isis_line.IsisLine.TheVariants.{Net, MetricStyle}
-use Rattle.ios_reader.specs.declared.isis_line.IsisStatement.{IsisStatement}
+use Rattle.ios_lines.specs.declared.kind.ReadKind.{ReadKind}
+use Rattle.ios_lines.specs.declared.kind.ReadKind.TheVariants.{NoHostname, NoEnd, SecondProcess, LoopbackMask, BadNet, NoBandwidth}
+use Rattle.ios_lines.specs.declared.fault.Fault.{Fault}
+use Rattle.ios_lines.specs.declared.address.InterfaceAddress.{InterfaceAddress}
+use Rattle.ios_lines.specs.declared.interface_line.InterfaceLine.{InterfaceLine}
+use Rattle.ios_lines.specs.declared.interface_line.InterfaceLine.TheVariants.{Isis}
+use Rattle.ios_lines.specs.declared.interface_line.InterfaceStatement.{InterfaceStatement}
 use Rattle.ios_reader.specs.declared.facts.PlacedAddress.{PlacedAddress}
 use Rattle.ios_reader.specs.declared.facts.InterfaceFacts.{InterfaceFacts}
-use Rattle.ios_reader.specs.declared.section.InterfaceSection.{InterfaceSection}
-use Rattle.ios_reader.specs.declared.section.IsisSection.{IsisSection}
-use Rattle.ios_reader.specs.declared.section.Section.{Section}
-
--- a line is faulty with a kind
-abbrev pub fault_at : ℕ → ReadKind → Fault
-fault_at line kind = record { line = line; kind = kind }
-
--- a line is faulty with this kind, where it has one
-abbrev pub faults_at : ℕ → Option ReadKind → List Fault
-faults_at line None = []
-faults_at line (Some kind) = fault_at line kind ∷ []
-
--- a line is faulty with this kind, where the test holds
-abbrev pub faults_if : Bool → ℕ → ReadKind → List Fault
-faults_if faulty line kind = if faulty then fault_at line kind ∷ [] else []
-
--- ---- processes ----
-
--- a process number other than the router's
-abbrev pub is_other_process : Option ℕ → Mention → Bool
-is_other_process None mention = true
-is_other_process (Some process) mention = not (nat_eq mention.process process)
-
--- a line that names a second process
-abbrev pub process_faults : Option ℕ → Mention → List Fault
-process_faults process m = faults_if (is_other_process process m) m.line SecondProcess
-
--- each line that names a second process
-abbrev pub second_processes : List Section → List Fault
-second_processes sections =
-    flat_map (process_faults (process_of sections)) (mentions sections)
-
--- the faults of a line of the OSPF process
-abbrev pub ospf_statement_faults : OspfStatement → List Fault
-ospf_statement_faults s = faults_at s.line (ospf_line_fault s.says)
-
--- the faults of the lines of the OSPF process
-abbrev pub ospf_faults : List Section → List Fault
-ospf_faults sections = flat_map ospf_statement_faults (ospf_lines sections)
-
--- a tag other than that of the router's process
-abbrev pub is_other_tag : Option Word → Word → Bool
-is_other_tag None tag = true
-is_other_tag (Some first) tag = not (bytes_eq tag first)
-
--- a `router isis` line with another tag, or with a tag that has a byte that isn't printable
-abbrev pub tag_faults_of : Option Word → IsisSection → List Fault
-tag_faults_of first s =
-    faults_if (is_other_tag first s.tag) s.line SecondProcess ++ faults_if (not (list_all is_printable s.tag)) s.line Unsupported
-
--- the faults of the `router isis` lines
-abbrev pub tag_faults : List IsisSection → List Fault
-tag_faults sections = flat_map (tag_faults_of (first_tag sections)) sections
-
--- whether a line is a `net` line
-abbrev pub is_net_line : IsisLine → Bool
-is_net_line (Net _) = true
-is_net_line _ = false
-
--- whether a line is a `metric-style` line
-abbrev pub is_style_line : IsisLine → Bool
-is_style_line (MetricStyle _) = true
-is_style_line _ = false
-
--- a `net` line
-abbrev pub is_net : IsisStatement → Bool
-is_net s = is_net_line s.says
-
--- a `metric-style` line
-abbrev pub is_metric_style : IsisStatement → Bool
-is_metric_style s = is_style_line s.says
-
--- what the first `router isis` line lacks: a `net` line, a `metric-style` line
-abbrev pub lacking : Option ℕ → List IsisStatement → List Fault
-lacking None lines = []
-lacking (Some first) lines =
-    faults_if (not (list_any is_net lines)) first BadNet
-    ++ faults_if (not (list_any is_metric_style lines)) first Unsupported
-
--- the first `router isis` line
-abbrev pub first_isis_line : List IsisSection → Option ℕ
-first_isis_line [] = None
-first_isis_line (section ∷ _) = Some section.line
-
--- each `net` line after the first one
-abbrev pub second_titles : List IsisStatement → List Fault
-second_titles lines = map (λ (s : IsisStatement). fault_at s.line Unsupported) (drop 1 (filter is_net lines))
-
--- the faults of a line of the IS-IS process
-abbrev pub isis_statement_faults : IsisStatement → List Fault
-isis_statement_faults s = faults_at s.line (isis_line_fault s.says)
-
--- the faults of the IS-IS process
-abbrev pub isis_faults : List Section → List Fault
-isis_faults sections =
-    let all = filter_map as_isis sections in
-    let lines = isis_lines sections in
-    tag_faults all
-    ++ flat_map isis_statement_faults lines
-    ++ second_titles lines
-    ++ lacking (first_isis_line all) lines
+use Rattle.ios_sections.specs.declared.section.InterfaceSection.{InterfaceSection}
+use Rattle.ios_sections.specs.declared.section.Section.{Section}
+use Rattle.ios_lines.specs.FaultOrder.{faults_at, faults_if}
+use Rattle.ios_sections.specs.ProcessFaults.{second_processes, ospf_faults, isis_faults}
+use Rattle.ios_sections.specs.Sections.{sections_in}
 
 -- ---- interfaces ----
 
@@ -195,10 +91,6 @@ section_faults sections ends =
     ++ isis_faults sections
     ++ flat_map (interface_faults (router_of sections) (first_tag (filter_map as_isis sections))) (interfaces_in sections)
     ++ faults_if (is_none (last_of as_hostname sections)) ends NoHostname
-
--- what the sections of a part say
-abbrev pub sections_in : Part → List Section
-sections_in part = map section_of (sections_of part.lines)
 
 -- the faults of a configuration
 abbrev pub part_faults : Part → List Fault

@@ -1,13 +1,12 @@
 -- What the lines of an interface say in the end: of each form the last one.
-use Rattle.std.specs.Prelude.{ℕ, Bool, true, false, List, [], Option, Some, None, Result, if◌then◌else◌}
-use Rattle.std.specs.List.{list_any}
+use Rattle.std.specs.Prelude.{ℕ, Bool, true, List, Option, Some, None, Result}
 use Rattle.net_model.specs.declared.config.Levels.{Levels}
-use Rattle.ios_reader.specs.Lookups.{later, last_of}
-use Rattle.ios_reader.specs.declared.kind.ReadKind.{ReadKind}
-use Rattle.ios_reader.specs.declared.interface_line.ProcessArea.{ProcessArea}
-use Rattle.ios_reader.specs.declared.interface_line.InterfaceLine.{InterfaceLine}
-use Rattle.ios_reader.specs.declared.interface_line.InterfaceLine.TheVariants.{Address, NoAddress, Shutdown, Vrf, Bandwidth, Cost, Area, PointToPoint, Isis, Circuit, Metric, Metric1, Metric2}
-use Rattle.ios_reader.specs.declared.interface_line.InterfaceStatement.{InterfaceStatement}
+use Rattle.ios_lines.specs.Lookups.{later, last_of}
+use Rattle.ios_lines.specs.declared.kind.ReadKind.{ReadKind}
+use Rattle.ios_lines.specs.declared.interface_line.ProcessArea.{ProcessArea}
+use Rattle.ios_lines.specs.declared.interface_line.InterfaceLine.{InterfaceLine}
+use Rattle.ios_lines.specs.declared.interface_line.InterfaceLine.TheVariants.{Address, NoAddress, Shutdown, Bandwidth, Cost, Area, PointToPoint, Isis, Circuit, Metric, Metric1, Metric2}
+use Rattle.ios_lines.specs.declared.interface_line.InterfaceStatement.{InterfaceStatement}
 use Rattle.ios_reader.specs.declared.facts.PlacedAddress.{PlacedAddress}
 use Rattle.ios_reader.specs.declared.facts.InterfaceFacts.{InterfaceFacts}
 
@@ -102,16 +101,3 @@ noted facts s = record {
   metric1 = later facts.metric1 (metric1_said s.says);
   metric2 = later facts.metric2 (metric2_said s.says);
 }
-
--- a line that puts the interface into a VRF
-abbrev pub is_vrf : InterfaceLine → Bool
-is_vrf Vrf = true
-is_vrf _ = false
-
--- whether an interface is in a VRF
-abbrev pub in_vrf : List InterfaceStatement → Bool
-in_vrf lines = list_any (λ s. is_vrf s.says) lines
-
--- the lines of an interface that count: none where it is in a VRF
-abbrev pub counting : List InterfaceStatement → List InterfaceStatement
-counting lines = if in_vrf lines then [] else lines

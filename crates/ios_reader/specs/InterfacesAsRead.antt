@@ -5,19 +5,20 @@ use Rattle.net_addr.specs.Addresses.{Block}
 use Rattle.net_model.specs.declared.config.Levels.{Levels}
 use Rattle.net_model.specs.declared.config.Levels.TheVariants.{One, Two, Both}
 use Rattle.net_model.specs.declared.interface.Interface.{Interface}
-use Rattle.ios_reader.specs.Words.{Word, is_letter}
-use Rattle.ios_reader.specs.Lookups.{last_of, first_of, good_value, value_or}
-use Rattle.ios_reader.specs.OspfLines.{prefix_of}
-use Rattle.ios_reader.specs.InterfaceFacts.{facts_of, counting}
+use Rattle.ios_lines.specs.Words.{Word, is_letter}
+use Rattle.ios_lines.specs.Lookups.{last_of, first_of, good_value, value_or}
+use Rattle.ios_lines.specs.OspfLines.{prefix_of}
+use Rattle.ios_reader.specs.InterfaceFacts.{facts_of}
+use Rattle.ios_lines.specs.InterfaceLines.{counting}
 use Rattle.ios_reader.specs.Routers.{Router, area_taken, ospf_passive_said, isis_passive_said}
-use Rattle.ios_reader.specs.declared.kind.ReadKind.{ReadKind}
-use Rattle.ios_reader.specs.declared.address.InterfaceAddress.{InterfaceAddress}
-use Rattle.ios_reader.specs.declared.interface_line.ProcessArea.{ProcessArea}
-use Rattle.ios_reader.specs.declared.ospf_line.OspfStatement.{OspfStatement}
-use Rattle.ios_reader.specs.declared.isis_line.IsisStatement.{IsisStatement}
+use Rattle.ios_lines.specs.declared.kind.ReadKind.{ReadKind}
+use Rattle.ios_lines.specs.declared.address.InterfaceAddress.{InterfaceAddress}
+use Rattle.ios_lines.specs.declared.interface_line.ProcessArea.{ProcessArea}
+use Rattle.ios_lines.specs.declared.ospf_line.OspfStatement.{OspfStatement}
+use Rattle.ios_lines.specs.declared.isis_line.IsisStatement.{IsisStatement}
 use Rattle.ios_reader.specs.declared.facts.PlacedAddress.{PlacedAddress}
 use Rattle.ios_reader.specs.declared.facts.InterfaceFacts.{InterfaceFacts}
-use Rattle.ios_reader.specs.declared.section.InterfaceSection.{InterfaceSection}
+use Rattle.ios_sections.specs.declared.section.InterfaceSection.{InterfaceSection}
 
 -- the address that the last address line gives
 abbrev pub address_given : Option (Option PlacedAddress) → Option InterfaceAddress
@@ -37,16 +38,22 @@ is_up facts = is_some (address_given facts.address) && not (unwrap_or facts.shut
 abbrev pub network_area : List OspfStatement → ℕ → Option ℕ
 network_area lines address = first_of (λ (s : OspfStatement). area_taken address s.says) lines
 
--- the area: of the interface's own line, else of the first network line that takes its address
-abbrev pub area_by : Option (Result ProcessArea ReadKind) → Option ℕ → Option ℕ
-area_by None by_network = by_network
-area_by (Some (Ok said)) by_network = Some said.area
-area_by (Some (Err _)) by_network = None
+-- the interface's own line names the process of the router
+abbrev pub names_process : Option ℕ → ProcessArea → Bool
+names_process None said = false
+names_process (Some process) said = nat_eq said.process process
+
+-- the area: of the interface's own line, else of the first network line that takes its address; a faulty line of its
+-- own, also one of a second process, gives none
+abbrev pub area_by : Option ℕ → Option (Result ProcessArea ReadKind) → Option ℕ → Option ℕ
+area_by process None by_network = by_network
+area_by process (Some (Ok said)) by_network = if names_process process said then Some said.area else None
+area_by process (Some (Err _)) by_network = None
 
 -- an interface without an address has no area
 abbrev pub area_with : Router → InterfaceFacts → Option InterfaceAddress → Option ℕ
 area_with router facts None = None
-area_with router facts (Some given) = area_by facts.area (network_area router.ospf given.address)
+area_with router facts (Some given) = area_by router.process facts.area (network_area router.ospf given.address)
 
 -- the area of an interface
 abbrev pub interface_area : Router → InterfaceFacts → Option ℕ

@@ -1,11 +1,12 @@
 -- The parts of a text, read one after the other.
 use Rattle.std.specs.Prelude.{◌≡◌, ℕ, List, [], ◌∷◌, Option, Some, None, Result, Ok, Err, map, flat_map}
 use Rattle.net_model.specs.Configuration.{Configuration}
-use Rattle.ios_reader.specs.TextLines.{TextLine, Part}
-use Rattle.ios_reader.specs.Faults.{sections_in, part_faults}
+use Rattle.ios_sections.specs.TextLines.{TextLine, Part}
+use Rattle.ios_sections.specs.Sections.{sections_in}
+use Rattle.ios_reader.specs.Faults.{part_faults}
 use Rattle.ios_reader.specs.Configurations.{configuration_of}
-use Rattle.ios_reader.specs.Gathering.{least_fault}
-use Rattle.ios_reader.specs.declared.fault.Fault.{Fault}
+use Rattle.ios_lines.specs.FaultOrder.{least_fault}
+use Rattle.ios_lines.specs.declared.fault.Fault.{Fault}
 
 -- the lines before an `end` line of this number
 abbrev pub part_at : List TextLine → ℕ → Part

@@ -1,10 +1,10 @@
 -- Which interfaces the lines of the two processes make passive, by name.
 use Rattle.std.specs.Prelude.{◌≡◌, Bool, List, [], ◌∷◌, Option, Some, None, bytes_eq, if◌then◌else◌}
-use Rattle.ios_reader.specs.Words.{Word}
-use Rattle.ios_reader.specs.Lookups.{last_of}
+use Rattle.ios_lines.specs.Words.{Word}
+use Rattle.ios_lines.specs.Lookups.{last_of}
 use Rattle.ios_reader.specs.Routers.{Router, ospf_passive_said, isis_passive_said}
-use Rattle.ios_reader.specs.declared.ospf_line.OspfStatement.{OspfStatement}
-use Rattle.ios_reader.specs.declared.isis_line.IsisStatement.{IsisStatement}
+use Rattle.ios_lines.specs.declared.ospf_line.OspfStatement.{OspfStatement}
+use Rattle.ios_lines.specs.declared.isis_line.IsisStatement.{IsisStatement}
 
 -- what a table says of a name
 abbrev pub said_of : List (Word × Bool) → Word → Option Bool

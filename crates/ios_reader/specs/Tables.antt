@@ -2,7 +2,7 @@
 use Rattle.std.specs.Prelude.{◌≡◌, ℕ, List, Option, map, unwrap_or, All}
 use Rattle.net_model.specs.declared.area.Range.{Range}
 use Rattle.net_model.specs.declared.area.Stub.{Stub}
-use Rattle.ios_reader.specs.declared.ospf_line.StubLine.{StubLine}
+use Rattle.ios_lines.specs.declared.ospf_line.StubLine.{StubLine}
 
 -- the values of a table, in order
 abbrev pub values_in : {K V : Type 0} → List (K × V) → List V

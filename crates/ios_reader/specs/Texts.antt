@@ -1,10 +1,11 @@
 -- What reading a text answers, over its bytes.
 use Rattle.std.specs.Prelude.{ℕ, List}
 use Rattle.net_model.specs.Configuration.{Configuration}
-use Rattle.ios_reader.specs.TextLines.{lines_in}
-use Rattle.ios_reader.specs.Faults.{fault_at, faults_in}
+use Rattle.ios_sections.specs.TextLines.{lines_in}
+use Rattle.ios_lines.specs.FaultOrder.{fault_at}
+use Rattle.ios_reader.specs.Faults.{faults_in}
 use Rattle.ios_reader.specs.Configurations.{IsLeastFault, AreConfigurations}
-use Rattle.ios_reader.specs.declared.kind.ReadKind.{ReadKind}
+use Rattle.ios_lines.specs.declared.kind.ReadKind.{ReadKind}
 use Rattle.ios_reader.specs.declared.refusal.ReadRefusal.{ReadRefusal}
 use Rattle.ios_reader.specs.declared.refusal.ReadRefusal.TheVariants.{Bad, OutOfMemory}
 

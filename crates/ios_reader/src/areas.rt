@@ -1,13 +1,13 @@
 ghost use Rattle.std.specs.Prelude.{◌≡◌, ℕ, [], ◌++◌, nat_eq, map, fold, slice_get, OnOk, IfOk};
 ghost use Rattle.std.specs.List.{cons_option};
 ghost use Rattle.indexmap.specs.IndexMap.{get};
-ghost use Rattle.ios_reader.specs.Lookups.{later, last_of, replaced};
+ghost use Rattle.ios_lines.specs.Lookups.{later, last_of, replaced};
 ghost use Rattle.ios_reader.specs.Routers.{is_same_range, is_same_area, range_said, ranges_in, stub_said, stub_lines_in, default_cost_said, stubs_in};
 ghost use Rattle.ios_reader.specs.Tables.{values_in, AreKeyed, range_key, stub_key, stub_made};
 
 use crate::OutOfMemory;
-use crate::ospf_line::{OspfLine, OspfStatement, StubLine};
 use indexmap::IndexMap;
+use ios_lines::ospf_line::{OspfLine, OspfStatement, StubLine};
 use net_model::{Range, Stub};
 use std::alloc::Global;
 

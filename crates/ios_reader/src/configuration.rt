@@ -1,26 +1,25 @@
 ghost use Rattle.std.specs.Prelude.{◌≡◌, [], unwrap_or, IfOk};
 ghost use Rattle.net_model.specs.Configuration.{IsConfiguration};
-ghost use Rattle.ios_reader.specs.Lookups.{value_or};
+ghost use Rattle.ios_lines.specs.Lookups.{value_or};
 ghost use Rattle.ios_reader.specs.Configurations.{area_in, system_in};
-ghost use Rattle.ios_reader.specs.Statements.{ospf_fault_by, isis_fault_by, fault_by, title_after, title_by, configuration_by};
+ghost use Rattle.ios_reader.specs.ByStatements.{ospf_fault_by, isis_fault_by, fault_by, title_after, title_by, configuration_by};
 ghost use Rattle.ios_reader.specs.Parts.{part_at, IsPartRead};
 
 use crate::OutOfMemory;
 use crate::areas::{ranges_in, stubs_in};
-use crate::fault::Fault;
-use crate::gather::lesser_fault;
-use crate::interface_fault::{fault_if, interface_faults};
+use crate::interface_fault::interface_faults;
 use crate::interface_read::interfaces_as_read;
-use crate::isis_line::{IsisLine, IsisStatement};
-use crate::isis_process::{isis_line_faults, lacking, second_titles};
-use crate::kind::ReadKind;
 use crate::passive::passives_of;
-use crate::process::ospf_line_faults;
-use crate::read_section::read_sections;
 use crate::router::{isis_facts_of, ospf_facts_of, router_with};
-use crate::statements::{Statements, statements_of, tag_bytes};
-use crate::text_line::TextLine;
-use crate::title::Title;
+use ios_lines::fault::{Fault, fault_if, lesser_fault};
+use ios_lines::isis_line::{IsisLine, IsisStatement};
+use ios_lines::kind::ReadKind;
+use ios_lines::title::Title;
+use ios_sections::isis_process::{isis_line_faults, lacking, second_titles};
+use ios_sections::process::ospf_line_faults;
+use ios_sections::read_section::read_sections;
+use ios_sections::statements::{Statements, statements_of, tag_bytes};
+use ios_sections::text_line::TextLine;
 use net_addr::Name;
 use net_model::{Config, Distances, Interfaces, Ranges, Stubs};
 use std::alloc::Global;
@@ -48,7 +47,11 @@ fn isis_fault(statements: &Statements) -> Option<Fault>
 fn fault_of(statements: &Statements, ends: u32) -> Option<Fault>
     ensures { result ≡ fault_by statements.now ends }
 {
-    let router = router_with(statements.ospf.as_slice(), statements.isis.as_slice());
+    let router = router_with(
+        statements.process,
+        statements.ospf.as_slice(),
+        statements.isis.as_slice(),
+    );
     let interfaces = interface_faults(
         &router,
         tag_bytes(&statements.tag),
@@ -70,7 +73,7 @@ fn title_after(before: Option<Title>, says: IsisLine) -> Option<Title>
 }
 
 /// The title of the last `net` line.
-#[tactic(auto, using(crate::proofs::TitleFacts::title_push))]
+#[tactic(auto, using(crate::proofs::LastTitle::title_push))]
 fn title_of_lines(lines: Vec<IsisStatement>) -> Option<Title>
     ensures { result ≡ title_by lines.items }
 {
@@ -126,9 +129,9 @@ fn config_of(alloc: Global, statements: Statements) -> Result<Config, OutOfMemor
         isis,
         ..
     } = statements;
-    let router = router_with(ospf.as_slice(), isis.as_slice());
+    let router = router_with(process, ospf.as_slice(), isis.as_slice());
     let levels = router.levels;
-    let passives = passives_of(alloc, ospf.as_slice(), isis.as_slice())?;
+    let passives = passives_of(alloc, &router)?;
     let interfaces = interfaces_as_read(alloc, &router, &passives, interfaces)?;
     let ranges = ranges_in(alloc, ospf.as_slice())?;
     let stubs = stubs_in(alloc, ospf.as_slice())?;

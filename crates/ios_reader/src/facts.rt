@@ -1,9 +1,9 @@
 ghost use Rattle.std.specs.Prelude.{◌≡◌};
-ghost use Rattle.ios_reader.specs.InterfaceFacts.{noted, facts_of, is_vrf, in_vrf, counting};
+ghost use Rattle.ios_reader.specs.InterfaceFacts.{noted, facts_of};
 
-use crate::address::InterfaceAddress;
-use crate::interface_line::{InterfaceLine, InterfaceStatement, ProcessArea};
-use crate::kind::ReadKind;
+use ios_lines::address::InterfaceAddress;
+use ios_lines::interface_line::{InterfaceLine, InterfaceStatement, ProcessArea};
+use ios_lines::kind::ReadKind;
 use net_model::Levels;
 
 /// An `ip address` line, at its place in the text.
@@ -91,25 +91,4 @@ pub fn facts_of(lines: &[InterfaceStatement]) -> InterfaceFacts
         facts = noted(facts, statement);
     }
     facts
-}
-
-/// Whether a line puts the interface into a VRF.
-fn is_vrf(line: &InterfaceLine) -> bool
-    ensures { result ≡ is_vrf line.now }
-{
-    matches!(line, InterfaceLine::Vrf)
-}
-
-/// Whether an interface is in a VRF.
-fn in_vrf(lines: &[InterfaceStatement]) -> bool
-    ensures { result ≡ in_vrf lines.now }
-{
-    lines.iter().any(|statement| is_vrf(&statement.says))
-}
-
-/// The lines of an interface that count: none where it is in a VRF.
-pub fn counting(lines: &[InterfaceStatement]) -> &[InterfaceStatement]
-    ensures { result.now ≡ counting lines.now }
-{
-    if in_vrf(lines) { &[] } else { lines }
 }

@@ -1,38 +1,18 @@
 ghost use Rattle.std.specs.Prelude.{◌≡◌, flat_map, option_copied};
-ghost use Rattle.ios_reader.specs.Gathering.{least_fault};
-ghost use Rattle.ios_reader.specs.Faults.{faults_at, faults_if, membership_of, membership_fault, statement_faults, interface_line_faults, long_mask, address_mask_faults, is_point_to_point, loopback_faults, bandwidth_faults, interface_faults};
+ghost use Rattle.ios_lines.specs.FaultOrder.{least_fault};
+ghost use Rattle.ios_reader.specs.Faults.{membership_of, membership_fault, statement_faults, interface_line_faults, long_mask, address_mask_faults, is_point_to_point, loopback_faults, bandwidth_faults, interface_faults};
 
-use crate::address::InterfaceAddress;
-use crate::facts::{InterfaceFacts, PlacedAddress, counting, facts_of};
-use crate::fault::Fault;
-use crate::gather::lesser_fault;
-use crate::interface_line::{InterfaceLine, InterfaceStatement, interface_line_fault};
+use crate::facts::{InterfaceFacts, PlacedAddress, facts_of};
 use crate::interface_read::{interface_area, is_loopback, is_up, ospf_cost};
-use crate::kind::ReadKind;
 use crate::router::Router;
-use crate::section::InterfaceSection;
-use crate::words::is;
-
-/// The fault of a line, where it has one.
-pub fn fault_at(line: u32, kind: Option<ReadKind>) -> Option<Fault>
-    ensures { result ≡ least_fault (faults_at line kind) }
-{
-    match kind {
-        Some(kind) => Some(Fault { line, kind }),
-        None => None,
-    }
-}
-
-/// The fault of a line, where the test holds.
-pub fn fault_if(faulty: bool, line: u32, kind: ReadKind) -> Option<Fault>
-    ensures { result ≡ least_fault (faults_if faulty line kind) }
-{
-    if faulty {
-        Some(Fault { line, kind })
-    } else {
-        None
-    }
-}
+use ios_lines::address::InterfaceAddress;
+use ios_lines::fault::{Fault, fault_at, fault_if, lesser_fault};
+use ios_lines::interface_line::{
+    InterfaceLine, InterfaceStatement, counting, interface_line_fault,
+};
+use ios_lines::kind::ReadKind;
+use ios_lines::words::is_text;
+use ios_sections::section::InterfaceSection;
 
 /// The fault of `ip router isis` with this tag, where the process has another one or there is none.
 fn membership_of(first: Option<&[u8]>, tag: &[u8]) -> Option<ReadKind>
@@ -41,7 +21,7 @@ fn membership_of(first: Option<&[u8]>, tag: &[u8]) -> Option<ReadKind>
     match first {
         None => Some(ReadKind::BadNet),
         Some(first) => {
-            if is(tag, first) {
+            if is_text(tag, first) {
                 None
             } else {
                 Some(ReadKind::SecondProcess)
@@ -61,7 +41,6 @@ fn membership_fault(first: Option<&[u8]>, line: &InterfaceLine) -> Option<ReadKi
 }
 
 /// The least fault of a line of an interface.
-
 fn statement_fault(first: Option<&[u8]>, statement: &InterfaceStatement) -> Option<Fault>
     ensures { result ≡ least_fault (statement_faults (option_copied first.entry) statement.now) }
 {
@@ -140,7 +119,7 @@ fn bandwidth_fault(
 }
 
 /// The least fault of an interface.
-#[tactic(auto, using(crate::proofs::FaultFacts::least_of_two))]
+#[tactic(auto, using(ios_lines::proofs::FaultFacts::least_of_two))]
 pub fn interface_fault(
     router: &Router,
     first: Option<&[u8]>,

@@ -1,20 +1,19 @@
 ghost use Rattle.std.specs.Prelude.{◌≡◌, ◌≤◌, length, take_while, unwrap_or, map, IfOk};
 ghost use Rattle.std.specs.List.{prefix_len};
-ghost use Rattle.ios_reader.specs.Words.{is_letter};
-ghost use Rattle.ios_reader.specs.Lookups.{good_value};
+ghost use Rattle.ios_lines.specs.Words.{is_letter};
+ghost use Rattle.ios_lines.specs.Lookups.{good_value};
 ghost use Rattle.ios_reader.specs.Passives.{ArePassivesOf};
-ghost use Rattle.ios_reader.specs.InterfacesAsRead.{address_given, is_loopback, is_up, area_by, interface_area, default_bandwidth, cost_of_bandwidth, cost_by_bandwidth, default_cost, cost_given, ospf_cost, has_one, has_two, is_isis_passive, is_ospf_passive, runs_isis, runs_level, metric_by, level_metric, address_field, subnet_field, cost_field, interface_with, interface_as_read};
+ghost use Rattle.ios_reader.specs.InterfacesAsRead.{address_given, is_loopback, is_up, names_process, area_by, interface_area, default_bandwidth, cost_of_bandwidth, cost_by_bandwidth, default_cost, cost_given, ospf_cost, has_one, has_two, is_isis_passive, is_ospf_passive, runs_isis, runs_level, metric_by, level_metric, address_field, subnet_field, cost_field, interface_with, interface_as_read};
 
 use crate::OutOfMemory;
-use crate::address::InterfaceAddress;
-use crate::facts::{InterfaceFacts, PlacedAddress, counting, facts_of};
-use crate::interface_line::ProcessArea;
-use crate::kind::ReadKind;
-use crate::ospf_line::prefix_of;
+use crate::facts::{InterfaceFacts, PlacedAddress, facts_of};
 use crate::passive::Passives;
 use crate::router::{Router, levels_or_both, network_area};
-use crate::section::InterfaceSection;
-use crate::words::{is, is_letter};
+use ios_lines::address::InterfaceAddress;
+use ios_lines::interface_line::{ProcessArea, counting};
+use ios_lines::kind::ReadKind;
+use ios_lines::words::{is_letter, is_text};
+use ios_sections::section::InterfaceSection;
 use net_addr::{Name, Prefix};
 use net_model::{Interface, Levels};
 use std::alloc::Global;
@@ -46,13 +45,33 @@ pub fn is_up(facts: &InterfaceFacts) -> bool
     address_given(facts.address).is_some() && !facts.shut.unwrap_or(false)
 }
 
+/// Whether the interface's own line names the process of the router.
+fn names_process(process: Option<u32>, said: ProcessArea) -> bool
+    ensures { result ≡ names_process process said }
+{
+    match process {
+        Some(process) => said.process == process,
+        None => false,
+    }
+}
+
 /// The area: of the interface's own line, else of the first network line that takes its address.
-fn area_by(own: Option<Result<ProcessArea, ReadKind>>, by_network: Option<u32>) -> Option<u32>
-    ensures { result ≡ area_by own by_network }
+fn area_by(
+    process: Option<u32>,
+    own: Option<Result<ProcessArea, ReadKind>>,
+    by_network: Option<u32>,
+) -> Option<u32>
+    ensures { result ≡ area_by process own by_network }
 {
     match own {
         None => by_network,
-        Some(Ok(said)) => Some(said.area),
+        Some(Ok(said)) => {
+            if names_process(process, said) {
+                Some(said.area)
+            } else {
+                None
+            }
+        }
         Some(Err(_)) => None,
     }
 }
@@ -62,7 +81,11 @@ pub fn interface_area(router: &Router, facts: &InterfaceFacts) -> Option<u32>
     ensures { result ≡ interface_area router.now facts.now }
 {
     match address_given(facts.address) {
-        Some(given) => area_by(facts.area, network_area(router.ospf, given.address())),
+        Some(given) => area_by(
+            router.process,
+            facts.area,
+            network_area(router.ospf, given.address()),
+        ),
         None => None,
     }
 }
@@ -71,19 +94,19 @@ pub fn interface_area(router: &Router, facts: &InterfaceFacts) -> Option<u32>
 fn default_bandwidth(letters: &[u8]) -> Option<u32>
     ensures { result ≡ default_bandwidth letters.now }
 {
-    if is(letters, b"TenGigabitEthernet") {
+    if is_text(letters, b"TenGigabitEthernet") {
         return Some(10000000);
     }
-    if is(letters, b"GigabitEthernet") {
+    if is_text(letters, b"GigabitEthernet") {
         return Some(1000000);
     }
-    if is(letters, b"FastEthernet") {
+    if is_text(letters, b"FastEthernet") {
         return Some(100000);
     }
-    if is(letters, b"Ethernet") {
+    if is_text(letters, b"Ethernet") {
         return Some(10000);
     }
-    if is(letters, b"Serial") {
+    if is_text(letters, b"Serial") {
         return Some(1544);
     }
     None

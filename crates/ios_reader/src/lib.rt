@@ -1,33 +1,14 @@
 //! Router configurations as their routers print them, read into the configurations that a plan is computed from.
 #![tactic(auto)]
 
-// Words, and why a line is faulty.
-mod fault;
-mod kind;
-mod words;
+// Why a line of a text is faulty.
+pub mod fault;
+pub mod kind;
 
-// What a line says, one table after the other.
-mod address;
-mod head;
-mod interface_line;
-mod isis_line;
-mod ospf_line;
-mod title;
-
-// The lines of a text, and its sections.
-mod read_section;
-mod section;
-mod text;
-mod text_line;
-
-// What the sections of a configuration say in the end.
+// What lines say in the end.
 mod areas;
 mod facts;
-mod gather;
-mod isis_process;
-mod name_index;
 mod passive;
-mod process;
 mod router;
 
 // Interfaces as read, and their faults.
@@ -36,11 +17,12 @@ mod interface_read;
 
 // Configurations, and the whole text.
 mod configuration;
+mod laws;
 mod reader;
 mod refusal;
-mod statements;
 
 pub use kind::ReadKind;
+pub use laws::read_laws;
 pub use reader::read_configs;
 pub use refusal::ReadRefusal;
 pub use std::alloc::AllocError as OutOfMemory;

@@ -1,12 +1,13 @@
 ghost use Rattle.std.specs.Prelude.{◌≡◌, [], List, ℕ, OnOk, IfOk};
-ghost use Rattle.ios_reader.specs.Lookups.{later, last_of};
-ghost use Rattle.ios_reader.specs.Routers.{ospf_passive_said, isis_passive_said, router_with};
+ghost use Rattle.ios_lines.specs.Lookups.{later, last_of};
+ghost use Rattle.ios_reader.specs.Routers.{ospf_passive_said, isis_passive_said};
 ghost use Rattle.ios_reader.specs.Passives.{said_of, with_said, ArePassivesOf};
 
 use crate::OutOfMemory;
-use crate::isis_line::{IsisLine, IsisStatement};
-use crate::ospf_line::{OspfLine, OspfStatement};
+use crate::router::Router;
 use indexmap::IndexMap;
+use ios_lines::isis_line::{IsisLine, IsisStatement};
+use ios_lines::ospf_line::{OspfLine, OspfStatement};
 use std::alloc::Global;
 use std::marker::Model;
 
@@ -114,14 +115,10 @@ impl Model for Passives {
 }
 
 /// Which interfaces the lines of the two processes make passive.
-pub fn passives_of(
-    alloc: Global,
-    ospf: &[OspfStatement],
-    isis: &[IsisStatement],
-) -> Result<Passives, OutOfMemory>
-    ensures { IfOk result (ArePassivesOf (router_with ospf.now isis.now)) }
+pub fn passives_of(alloc: Global, router: &Router) -> Result<Passives, OutOfMemory>
+    ensures { IfOk result (ArePassivesOf router.now) }
 {
-    let ospf = ospf_names(alloc, ospf)?;
-    let isis = isis_names(alloc, isis)?;
+    let ospf = ospf_names(alloc, router.ospf)?;
+    let isis = isis_names(alloc, router.isis)?;
     Ok(Passives { ospf, isis })
 }

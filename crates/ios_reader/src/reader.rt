@@ -1,20 +1,17 @@
 ghost use Rattle.std.specs.Prelude.{◌≡◌, ◌<◌, ◌^◌, ◌||◌, false, [], ◌++◌, length, IfOk, IfErr, if◌then◌else◌};
 ghost use Rattle.std.specs.List.{list_any};
-ghost use Rattle.ios_reader.specs.TextLines.{is_end, parts_after, rest_after, is_empty, begins_configuration};
-ghost use Rattle.ios_reader.specs.Gathering.{lesser_fault};
+ghost use Rattle.ios_sections.specs.TextLines.{is_end, parts_after, rest_after, is_empty, begins_configuration};
+ghost use Rattle.ios_lines.specs.FaultOrder.{lesser_fault};
 ghost use Rattle.ios_reader.specs.Parts.{fault_read, configurations_read, IsReadingOf};
 ghost use Rattle.ios_reader.specs.Texts.{ReadsText, Refuses};
 
 use crate::OutOfMemory;
 use crate::configuration::read_part;
-use crate::fault::Fault;
-use crate::gather::lesser_fault;
-use crate::interface_fault::fault_if;
-use crate::isis_process::either;
-use crate::kind::ReadKind;
 use crate::refusal::ReadRefusal;
-use crate::text::counted_lines;
-use crate::text_line::TextLine;
+use ios_lines::fault::{Fault, fault_if, lesser_fault};
+use ios_lines::kind::ReadKind;
+use ios_sections::text::counted_lines;
+use ios_sections::text_line::TextLine;
 use net_addr::lines;
 use net_model::{Config, Configs};
 use std::alloc::Global;
@@ -82,6 +79,13 @@ fn is_unended(before: bool, line: &TextLine) -> bool
     !line.is_end() && (before || line.begins_configuration())
 }
 
+/// Whether an `end` line stands at a line or before it.
+fn ended_after(ended: bool, line: &TextLine) -> bool
+    ensures { result ≡ (ended || is_end line.now) }
+{
+    ended || line.is_end()
+}
+
 /// Whether no `end` line is there, or a configuration is open after the last one.
 fn lacks_end(lines: &[TextLine]) -> bool
     ensures { result ≡ (is_empty (parts_after [] lines.now) || list_any begins_configuration (rest_after [] lines.now)) }
@@ -90,15 +94,15 @@ fn lacks_end(lines: &[TextLine]) -> bool
     let mut unended = false;
     for line in lines {
         unended = is_unended(unended, line);
-        ended = either(ended, line.is_end());
+        ended = ended_after(ended, line);
     }
     !ended || unended
 }
 
 /// Reads the configurations of a text, each ended by its `end` line.
 ///
-/// The text is what routers print; what the planner can skip is skipped. The answer is the refusal of the first line
-/// that is faulty where there is one, with the least kind on it. Memory may run out.
+/// The text, of fewer than 2^26 bytes, is what routers print; what the planner can skip is skipped. The answer is the
+/// refusal of the first line that is faulty where there is one, with the least kind on it. Memory may run out.
 pub fn read_configs(alloc: Global, text: &[u8]) -> Result<Configs, ReadRefusal>
     requires { length text.now < 2 ^ 26 }
     ensures read { IfOk result (ReadsText text.now) }

@@ -1,4 +1,4 @@
-use crate::kind::ReadKind;
+use ios_lines::kind::ReadKind;
 use std::alloc::AllocError;
 use thiserror::Error;
 

@@ -1,11 +1,11 @@
 ghost use Rattle.std.specs.Prelude.{◌≡◌, unwrap_or};
-ghost use Rattle.ios_reader.specs.Lookups.{first_of, value_or};
+ghost use Rattle.ios_lines.specs.Lookups.{first_of, value_or};
 ghost use Rattle.ios_reader.specs.Routers.{area_taken, router_with};
 ghost use Rattle.ios_reader.specs.ProcessFacts.{ospf_noted, ospf_facts_of, isis_noted, isis_facts_of};
 
-use crate::isis_line::{IsisLine, IsisStatement};
-use crate::kind::ReadKind;
-use crate::ospf_line::{OspfLine, OspfStatement};
+use ios_lines::isis_line::{IsisLine, IsisStatement};
+use ios_lines::kind::ReadKind;
+use ios_lines::ospf_line::{OspfLine, OspfStatement};
 use net_model::Levels;
 use std::marker::Model;
 
@@ -124,6 +124,8 @@ pub fn network_area(lines: &[OspfStatement], address: u32) -> Option<u32>
 /// What the two processes of a router say that concerns its interfaces.
 #[derive(Drop)]
 pub struct Router<'a> {
+    /// The number of the OSPF process.
+    pub process: Option<u32>,
     /// The lines of the OSPF process.
     pub ospf: &'a [OspfStatement],
     /// The lines of the IS-IS process.
@@ -143,7 +145,7 @@ impl<'a> Model for Router<'a> {
 
     ghost Value = { Router };
 
-    ghost view = { λ r. record { ospf = r.ospf.now; isis = r.isis.now; passive_default = r.passive_default; reference = r.reference; levels = r.levels; metric = r.metric } };
+    ghost view = { λ r. record { process = r.process; ospf = r.ospf.now; isis = r.isis.now; passive_default = r.passive_default; reference = r.reference; levels = r.levels; metric = r.metric } };
 }
 
 /// A number that is there and good, or else the one that holds without a line.
@@ -166,13 +168,18 @@ pub fn levels_or_both(levels: Option<Result<Levels, ReadKind>>) -> Levels
     }
 }
 
-/// A router by the lines of its two processes, and by what they say in the end.
-pub fn router_with<'a>(ospf: &'a [OspfStatement], isis: &'a [IsisStatement]) -> Router<'a>
-    ensures { result ≡ router_with ospf.entry.now isis.entry.now }
+/// A router by the number of its OSPF process, the lines of its two processes, and what they say in the end.
+pub fn router_with<'a>(
+    process: Option<u32>,
+    ospf: &'a [OspfStatement],
+    isis: &'a [IsisStatement],
+) -> Router<'a>
+    ensures { result ≡ router_with process ospf.entry.now isis.entry.now }
 {
     let ospf_facts = ospf_facts_of(ospf);
     let isis_facts = isis_facts_of(isis);
     Router {
+        process,
         ospf,
         isis,
         passive_default: ospf_facts.passive_default.unwrap_or(false),

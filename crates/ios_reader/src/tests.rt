@@ -1,5 +1,5 @@
-use crate::{ReadKind, ReadRefusal, read_configs};
-use net_model::{Config, Configs, Interface, Levels};
+use crate::read_configs;
+use net_model::{Config, Configs, Interface, Levels, Range};
 use std::alloc::Global;
 use std::process::Abort;
 use std::test::Fail;
@@ -13,14 +13,13 @@ fn read(rt: &impl Abort, alloc: Global, text: &[u8]) -> Result<Configs, Fail> {
     }
 }
 
-/// The first faulty line of a text, and why it is faulty.
-fn fault(rt: &impl Abort, alloc: Global, text: &[u8]) -> Result<(u32, ReadKind), Fail> {
-    assert!(rt; text.len() < 10000);
-    match read_configs(alloc, text) {
-        Ok(_) => Err(Fail::from("read")),
-        Err(ReadRefusal::Bad { line, kind }) => Ok((line, kind)),
-        Err(ReadRefusal::OutOfMemory) => Err(Fail::from("out of memory")),
-    }
+/// Address, length of the subnet, loopback.
+fn place_row(i: &Interface) -> (u32, u8, bool) {
+    let len = match i.subnet {
+        Some(subnet) => subnet.len(),
+        None => 0,
+    };
+    (i.address, len, i.loopback)
 }
 
 /// Area, cost, passive for OSPF, up.
@@ -31,152 +30,6 @@ fn ospf_row(i: &Interface) -> (Option<u32>, u32, bool, bool) {
 /// Level 1, level 2, their metrics, passive for IS-IS.
 fn isis_row(i: &Interface) -> (bool, bool, u32, u32, bool) {
     (i.level1, i.level2, i.metric1, i.metric2, i.isis_passive)
-}
-
-#[test]
-fn each_faulty_line_has_its_kind(rt: HostRuntime) -> Result<(), Fail> {
-    let rows: [(&[u8], u32, ReadKind); 16] = [
-        (b"interface Loopback0\nend", 2, ReadKind::NoHostname),
-        (b"hostname R1\nrouter ospf 1", 3, ReadKind::NoEnd),
-        (b"hostname R1\nend\ninterface E0", 4, ReadKind::NoEnd),
-        (
-            b"interface E0\n ip address 10.0.0.256 x\nend",
-            2,
-            ReadKind::BadAddress,
-        ),
-        (
-            b"interface E0\n ip address 10.0.0.1\nend",
-            2,
-            ReadKind::BadMask,
-        ),
-        (
-            b"interface E0\n ip ospf cost 65536\nend",
-            2,
-            ReadKind::BadCost,
-        ),
-        (
-            b"interface E0\n ip ospf x area x\nend",
-            2,
-            ReadKind::BadArea,
-        ),
-        (
-            b"router ospf 1\nrouter ospf 2\nend",
-            2,
-            ReadKind::SecondProcess,
-        ),
-        (
-            b"interface E0\n ip address dhcp\nend",
-            2,
-            ReadKind::Unsupported,
-        ),
-        (
-            b"interface Loopback0\n ip address 10.0.0.1 255.0.0.0\nend",
-            2,
-            ReadKind::LoopbackMask,
-        ),
-        (b"router isis\n metric-style wide\nend", 1, ReadKind::BadNet),
-        (
-            b"interface E0\n isis metric 0 level-3\nend",
-            2,
-            ReadKind::BadLevel,
-        ),
-        (b"interface E0\n isis metric 0\nend", 2, ReadKind::BadMetric),
-        (
-            b"router ospf 1\n distance 256\nend",
-            2,
-            ReadKind::BadDistance,
-        ),
-        (
-            b"router ospf 1\n distance 115\nend",
-            2,
-            ReadKind::DistanceClash,
-        ),
-        (
-            b"interface Tunnel0\n ip address 10.0.0.1 255.0.0.0\n ip ospf 1 area 0\nend",
-            1,
-            ReadKind::NoBandwidth,
-        ),
-    ];
-    for (text, line, kind) in rows.iter() {
-        assert_eq!(rt; fault(&rt, rt.alloc(), text)?, (*line, *kind), "{text:?}");
-    }
-    Ok(())
-}
-
-const TRIANGLE: &[u8] = b"hostname R1
-interface Loopback0
- ip address 10.0.0.1 255.255.255.255
- ip router isis
-interface GigabitEthernet0/0
- ip address 10.0.12.1 255.255.255.252
- ip ospf cost 1
- ip router isis
- isis metric 10
-interface GigabitEthernet0/1
- ip address 10.0.13.1 255.255.255.252
- ip ospf cost 10
- ip router isis
- isis metric 10
-router ospf 1
- network 10.0.0.0 0.0.255.255 area 0
-router isis
- net 49.0001.0000.0000.0001.00
- is-type level-2-only
- metric-style wide
- distance 255
-end
-";
-
-#[test]
-fn a_router_of_both_protocols_is_read(rt: HostRuntime) -> Result<(), Fail> {
-    let configs = read(&rt, rt.alloc(), TRIANGLE)?;
-    assert_eq!(rt; configs.as_slice().len(), 1);
-    let config = configs.as_slice().first().ok_or("no configuration")?;
-    assert_eq!(rt; config.name.as_slice(), b"R1".as_slice());
-    assert_eq!(rt;
-        (
-            config.process,
-            config.isis,
-            config.system,
-            config.levels,
-            config.rfc1583
-        ),
-        (Some(1), true, 1, Levels::Two, true)
-    );
-    assert_eq!(rt; config.isis_area.as_slice(), b"49.0001".as_slice());
-    assert_eq!(rt; (config.distances.ospf, config.distances.isis), (110, 255));
-    let rows: [(u32, u32); 3] = [(167772161, 1), (167775233, 1), (167775489, 10)];
-    for (i, row) in config.interfaces.as_slice().iter().zip(rows.iter()) {
-        assert_eq!(rt; (i.address, i.cost), *row);
-        assert_eq!(rt;
-            (i.area, isis_row(i)),
-            (Some(0), (false, true, 10, 10, false))
-        );
-    }
-    Ok(())
-}
-
-const SMALL: &[u8] = b"hostname R1
-interface Loopback0
- ip address 10.0.0.1 255.255.255.255
-router ospf 1
- network 0.0.0.0 255.255.255.255 area 0
-end
-";
-
-#[test]
-fn a_router_without_isis_is_read(rt: HostRuntime) -> Result<(), Fail> {
-    let configs = read(&rt, rt.alloc(), SMALL)?;
-    let config = configs.as_slice().first().ok_or("no configuration")?;
-    assert_eq!(rt;
-        (config.process, config.isis, config.distances.isis),
-        (Some(1), false, 115)
-    );
-    let loopback = config.interfaces.as_slice().first().ok_or("no interface")?;
-    assert_eq!(rt; loopback.name.as_slice(), b"Loopback0".as_slice());
-    assert_eq!(rt; ospf_row(loopback), (Some(0), 1, false, true));
-    assert_eq!(rt; isis_row(loopback), (false, false, 10, 10, false));
-    Ok(())
 }
 
 const PRINTED: &[u8] = b"Building configuration...
@@ -232,6 +85,22 @@ line con 0
 end
 ";
 
+const PRINTED_INTERFACES: [(Option<u32>, u32, bool, bool); 5] = [
+    (Some(0), 1, true, true),
+    (Some(0), 10, false, true),
+    (Some(5), 100, true, true),
+    (None, 1, true, false),
+    (None, 1, true, false),
+];
+
+/// What OSPF has of the interfaces of the printed configuration.
+fn shows_printed(rt: &impl Abort, interfaces: &[Interface]) {
+    assert_eq!(rt; interfaces.len(), 5);
+    for (i, row) in interfaces.iter().zip(PRINTED_INTERFACES.iter()) {
+        assert_eq!(rt; ospf_row(i), *row);
+    }
+}
+
 #[test]
 fn a_printed_configuration_is_read(rt: HostRuntime) -> Result<(), Fail> {
     let configs = read(&rt, rt.alloc(), PRINTED)?;
@@ -242,17 +111,7 @@ fn a_printed_configuration_is_read(rt: HostRuntime) -> Result<(), Fail> {
         (config.process, config.isis, config.distances.ospf),
         (Some(1), false, 110)
     );
-    let rows: [(Option<u32>, u32, bool, bool); 5] = [
-        (Some(0), 1, true, true),
-        (Some(0), 10, false, true),
-        (Some(5), 100, true, true),
-        (None, 1, true, false),
-        (None, 1, true, false),
-    ];
-    assert_eq!(rt; config.interfaces.as_slice().len(), 5);
-    for (i, row) in config.interfaces.as_slice().iter().zip(rows.iter()) {
-        assert_eq!(rt; ospf_row(i), *row);
-    }
+    shows_printed(&rt, config.interfaces.as_slice());
     Ok(())
 }
 
@@ -321,37 +180,62 @@ fn first_of_two(rt: &impl Abort, configs: Configs) -> Result<Config, Fail> {
     Ok(configs.pop().ok_or("no configuration")?)
 }
 
-#[test]
-fn each_form_of_an_interface_line_is_read(rt: HostRuntime) -> Result<(), Fail> {
-    let config = first_of_two(&rt, read(&rt, rt.alloc(), EACH_FORM)?)?;
-    assert_eq!(rt; config.name.as_slice(), b"R.1-a_B".as_slice());
-    let ospf: [(Option<u32>, u32, bool, bool); 5] = [
-        (Some(0), 1, true, true),
-        (Some(1), 10, false, true),
-        (Some(2), 5, true, true),
-        (Some(2), 100, true, false),
-        (None, 1, true, false),
-    ];
-    let isis: [(bool, bool, u32, u32, bool); 5] = [
-        (false, false, 10, 10, false),
-        (true, false, 30, 60, false),
-        (true, true, 50, 40, true),
-        (false, false, 10, 10, false),
-        (false, false, 10, 10, false),
-    ];
-    assert_eq!(rt; config.interfaces.as_slice().len(), 5);
-    for (i, row) in config.interfaces.as_slice().iter().zip(ospf.iter()) {
-        assert_eq!(rt; ospf_row(i), *row);
+const FORM_PLACES: [(u32, u8, bool); 5] = [
+    (167772161, 30, true),
+    (167837697, 24, false),
+    (167903233, 24, false),
+    (167968769, 24, false),
+    (0, 0, false),
+];
+
+const FORM_INTERFACES: [(bool, bool, u32, u32, bool); 5] = [
+    (false, false, 10, 10, false),
+    (true, false, 30, 60, false),
+    (true, true, 50, 40, true),
+    (false, false, 10, 10, false),
+    (false, false, 10, 10, false),
+];
+
+const FORM_RANGES: [(u32, u8, bool, Option<u32>); 2] = [
+    (168034304, 16, true, Some(8)),
+    (168099840, 16, true, None),
+];
+
+/// The places of the interfaces of each form.
+fn shows_places(rt: &impl Abort, interfaces: &[Interface]) {
+    assert_eq!(rt; interfaces.len(), 5);
+    for (i, row) in interfaces.iter().zip(FORM_PLACES.iter()) {
+        assert_eq!(rt; place_row(i), *row);
     }
-    for (i, row) in config.interfaces.as_slice().iter().zip(isis.iter()) {
+}
+
+/// What IS-IS has of the interfaces of each form.
+fn shows_interfaces(rt: &impl Abort, interfaces: &[Interface]) {
+    for (i, row) in interfaces.iter().zip(FORM_INTERFACES.iter()) {
         assert_eq!(rt; isis_row(i), *row);
     }
+}
+
+/// The ranges of each form.
+fn shows_ranges(rt: &impl Abort, ranges: &[Range]) {
+    assert_eq!(rt; ranges.len(), 2);
+    for (r, row) in ranges.iter().zip(FORM_RANGES.iter()) {
+        assert_eq!(rt; (r.dest.base(), r.dest.len(), r.advertise, r.cost), *row);
+    }
+}
+
+/// The names of each form.
+fn shows_names(rt: &impl Abort, config: &Config) -> Result<(), Fail> {
+    assert_eq!(rt; config.name.as_slice(), b"R.1-a_B".as_slice());
+    assert_eq!(rt; config.tag.as_slice(), b"A".as_slice());
+    assert_eq!(rt; config.isis_area.as_slice(), b"49.0001".as_slice());
+    let loopback = config.interfaces.as_slice().first().ok_or("no interface")?;
+    assert_eq!(rt; loopback.name.as_slice(), b"Loopback0".as_slice());
     Ok(())
 }
 
-#[test]
-fn each_form_of_a_process_line_is_read(rt: HostRuntime) -> Result<(), Fail> {
-    let config = first_of_two(&rt, read(&rt, rt.alloc(), EACH_FORM)?)?;
+/// The numbers of each form.
+fn shows_numbers(rt: &impl Abort, config: &Config) -> Result<(), Fail> {
     assert_eq!(rt;
         (config.process, config.rfc1583, config.isis, config.system),
         (Some(7), false, true, 20015998343868)
@@ -360,19 +244,21 @@ fn each_form_of_a_process_line_is_read(rt: HostRuntime) -> Result<(), Fail> {
         (config.distances.ospf, config.distances.isis, config.levels),
         (120, 115, Levels::Both)
     );
-    assert_eq!(rt; config.tag.as_slice(), b"A".as_slice());
-    let ranges: [(u32, u8, bool, Option<u32>); 2] = [
-        (168034304, 16, true, Some(8)),
-        (168099840, 16, true, None),
-    ];
-    assert_eq!(rt; config.ranges.as_slice().len(), 2);
-    for (r, row) in config.ranges.as_slice().iter().zip(ranges.iter()) {
-        assert_eq!(rt; (r.dest.base(), r.dest.len(), r.advertise, r.cost), *row);
-    }
     let stub = config.stubs.as_slice().first().ok_or("no stub area")?;
     assert_eq!(rt;
         (stub.area, stub.no_summary, stub.default_cost),
         (1, true, 9)
     );
+    Ok(())
+}
+
+#[test]
+fn each_form_of_a_line_is_read(rt: HostRuntime) -> Result<(), Fail> {
+    let config = first_of_two(&rt, read(&rt, rt.alloc(), EACH_FORM)?)?;
+    shows_names(&rt, &config)?;
+    shows_numbers(&rt, &config)?;
+    shows_places(&rt, config.interfaces.as_slice());
+    shows_interfaces(&rt, config.interfaces.as_slice());
+    shows_ranges(&rt, config.ranges.as_slice());
     Ok(())
 }

@@ -1,7 +1,7 @@
 ghost use Rattle.std.specs.Prelude.{◌≡◌};
 ghost use Rattle.migration_report.specs.Kinds.{limit_name, order_kind_name, read_kind_name};
 
-use ios_reader::ReadKind;
+use ios_lines::ReadKind;
 use net_model::LimitWhat;
 use step_scripts::OrderKind;
 

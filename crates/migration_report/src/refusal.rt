@@ -6,7 +6,7 @@ use crate::Names;
 use crate::kinds::{order_kind_name, read_kind_name};
 use crate::line::LineBuilder;
 use crate::network::{limit_text, network_text, refused};
-use ios_reader::ReadKind;
+use ios_lines::ReadKind;
 use net_addr::{Bytes, Name};
 use net_model::NetRefusal;
 use std::alloc::{AllocError, Global};

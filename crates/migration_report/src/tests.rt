@@ -2,7 +2,7 @@ ghost use Rattle.std.specs.Prelude.{◌≤◌};
 ghost use Rattle.migration_report.specs.Texts.{HasNames, NetworkBelow};
 
 use super::*;
-use ios_reader::ReadKind;
+use ios_lines::ReadKind;
 use loop_finder::Fault;
 use net_addr::{Name, Prefix};
 use net_model::{

@@ -1,6 +1,6 @@
 use Rattle.std.proofs.Common.{◌<◌, ℕ, length}
 use Rattle.ios_reader.specs.Routers.{default_cost_said}
-use Rattle.ios_reader.specs.declared.ospf_line.OspfStatement.{OspfStatement}
+use Rattle.ios_lines.specs.declared.ospf_line.OspfStatement.{OspfStatement}
 use Rattle.ios_reader.proofs.KeyedFacts.{lookup_more}
 use Rattle.ios_reader.proofs.areas.default_costs.Goals as goal
 

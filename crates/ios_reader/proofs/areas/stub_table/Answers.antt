@@ -1,11 +1,11 @@
 use Rattle.std.proofs.Common.{◌<◌, [], List, Option, length, take, sym, ap, ◌∙◌}
 use Rattle.std.specs.Prelude.{fold}
 use Rattle.std.specs.List.{cons_option}
-use Rattle.ios_reader.specs.Lookups.{replaced}
+use Rattle.ios_lines.specs.Lookups.{replaced}
 use Rattle.ios_reader.specs.Routers.{stub_said, is_same_area, stub_lines_in}
-use Rattle.ios_reader.specs.declared.ospf_line.OspfStatement.{OspfStatement}
-use Rattle.ios_reader.specs.declared.ospf_line.StubLine.{StubLine}
-use Rattle.ios_reader.proofs.ProcessLookups.{fold_more}
+use Rattle.ios_lines.specs.declared.ospf_line.OspfStatement.{OspfStatement}
+use Rattle.ios_lines.specs.declared.ospf_line.StubLine.{StubLine}
+use Rattle.ios_lines.proofs.LineLookups.{fold_more}
 use Rattle.ios_reader.proofs.areas.stub_table.Goals as goal
 
 pub loop-statement-preserved : goal.loop-statement-preserved

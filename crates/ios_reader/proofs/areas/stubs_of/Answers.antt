@@ -2,7 +2,7 @@ use Rattle.std.proofs.Common.{[], ◌++◌, List, Option, nat_eq, map, take, sym
 use Rattle.std.specs.List.{cons_option}
 use Rattle.indexmap.specs.IndexMap.{get}
 use Rattle.net_model.specs.declared.area.Stub.{Stub}
-use Rattle.ios_reader.specs.declared.ospf_line.StubLine.{StubLine}
+use Rattle.ios_lines.specs.declared.ospf_line.StubLine.{StubLine}
 use Rattle.ios_reader.specs.Tables.{values_in, stub_made}
 use Rattle.ios_reader.proofs.KeyedFacts.{stub_more}
 use Rattle.ios_reader.proofs.areas.stubs_of.Goals as goal

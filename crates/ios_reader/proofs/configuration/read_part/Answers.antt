@@ -1,6 +1,6 @@
 use Rattle.std.proofs.Common.{◌≡◌, sym, ap, ◌∙◌}
-use Rattle.ios_reader.specs.Faults.{sections_in}
-use Rattle.ios_reader.specs.Statements.{statements_of}
+use Rattle.ios_sections.specs.Sections.{sections_in}
+use Rattle.ios_sections.specs.Statements.{statements_of}
 use Rattle.ios_reader.specs.Parts.{part_at}
 use Rattle.ios_reader.proofs.ReadFacts.{part_kept, part_made, part_faulty}
 use Rattle.ios_reader.proofs.configuration.read_part.Goals as goal

@@ -1,6 +1,6 @@
 use Rattle.std.proofs.Common.{◌≡◌, take}
 use Rattle.std.specs.Prelude.{flat_map, option_copied}
-use Rattle.ios_reader.specs.Gathering.{least_fault}
+use Rattle.ios_lines.specs.FaultOrder.{least_fault}
 use Rattle.ios_reader.specs.Faults.{interface_faults}
 use Rattle.ios_reader.proofs.interface_fault.interface_faults.Given as goal
 

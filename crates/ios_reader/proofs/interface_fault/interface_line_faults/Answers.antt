@@ -1,9 +1,9 @@
 use Rattle.std.proofs.Common.{◌<◌, Option, length, take, sym, ap, ◌∙◌}
 use Rattle.std.specs.Prelude.{option_copied, flat_map}
-use Rattle.ios_reader.specs.Gathering.{lesser_fault, least_fault}
+use Rattle.ios_lines.specs.FaultOrder.{lesser_fault, least_fault}
 use Rattle.ios_reader.specs.Faults.{statement_faults}
-use Rattle.ios_reader.specs.declared.fault.Fault.{Fault}
-use Rattle.ios_reader.proofs.FaultFacts.{least_more}
+use Rattle.ios_lines.specs.declared.fault.Fault.{Fault}
+use Rattle.ios_lines.proofs.FaultFacts.{least_more}
 use Rattle.ios_reader.proofs.interface_fault.interface_line_faults.Goals as goal
 
 pub loop-statement-preserved : goal.loop-statement-preserved

@@ -1,10 +1,10 @@
 use Rattle.std.proofs.Common.{Option, ap, ◌∙◌}
 use Rattle.std.specs.Prelude.{option_copied}
-use Rattle.ios_reader.specs.Gathering.{least_fault}
-use Rattle.ios_reader.specs.InterfaceLines.{interface_line_fault}
-use Rattle.ios_reader.specs.Faults.{faults_at, membership_fault}
-use Rattle.ios_reader.specs.declared.kind.ReadKind.{ReadKind}
-use Rattle.ios_reader.proofs.FaultFacts.{least_of_two}
+use Rattle.ios_lines.specs.FaultOrder.{least_fault, faults_at}
+use Rattle.ios_lines.specs.InterfaceLines.{interface_line_fault}
+use Rattle.ios_reader.specs.Faults.{membership_fault}
+use Rattle.ios_lines.specs.declared.kind.ReadKind.{ReadKind}
+use Rattle.ios_lines.proofs.FaultFacts.{least_of_two}
 use Rattle.ios_reader.proofs.interface_fault.statement_fault.Goals as goal
 
 pub returns : goal.returns

@@ -1,8 +1,8 @@
 use Rattle.std.proofs.Common.{Bool, Option, ap, ◌∙◌}
 use Rattle.std.specs.Prelude.{unwrap_or}
-use Rattle.ios_reader.specs.Lookups.{last_of}
+use Rattle.ios_lines.specs.Lookups.{last_of}
 use Rattle.ios_reader.specs.Routers.{Router, ospf_passive_said}
-use Rattle.ios_reader.specs.declared.ospf_line.OspfStatement.{OspfStatement}
+use Rattle.ios_lines.specs.declared.ospf_line.OspfStatement.{OspfStatement}
 use Rattle.ios_reader.specs.Passives.{Passives, said_of}
 use Rattle.ios_reader.proofs.interface_read.is_ospf_passive.Goals as goal
 

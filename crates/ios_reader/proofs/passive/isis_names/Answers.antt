@@ -1,7 +1,7 @@
 use Rattle.std.proofs.Common.{◌<◌, length}
-use Rattle.ios_reader.specs.Words.{Word}
+use Rattle.ios_lines.specs.Words.{Word}
 use Rattle.ios_reader.specs.Routers.{isis_passive_said}
-use Rattle.ios_reader.specs.declared.isis_line.IsisStatement.{IsisStatement}
+use Rattle.ios_lines.specs.declared.isis_line.IsisStatement.{IsisStatement}
 use Rattle.ios_reader.proofs.PassiveFacts.{table_more}
 use Rattle.ios_reader.proofs.passive.isis_names.Goals as goal
 

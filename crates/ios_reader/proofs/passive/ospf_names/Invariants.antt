@@ -1,9 +1,9 @@
 use Rattle.std.proofs.Common.{◌≡◌, take}
-use Rattle.ios_reader.specs.Words.{Word}
-use Rattle.ios_reader.specs.Lookups.{last_of}
+use Rattle.ios_lines.specs.Words.{Word}
+use Rattle.ios_lines.specs.Lookups.{last_of}
 use Rattle.ios_reader.specs.Routers.{ospf_passive_said}
 use Rattle.ios_reader.specs.Passives.{said_of}
-use Rattle.ios_reader.specs.declared.ospf_line.OspfStatement.{OspfStatement}
+use Rattle.ios_lines.specs.declared.ospf_line.OspfStatement.{OspfStatement}
 use Rattle.ios_reader.proofs.passive.ospf_names.Given as goal
 
 abbrev pub invariant-loop-statement : goal.invariant-loop-statement

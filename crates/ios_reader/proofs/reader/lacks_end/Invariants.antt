@@ -1,6 +1,6 @@
 use Rattle.std.proofs.Common.{◌≡◌, [], take, not}
 use Rattle.std.specs.List.{list_any}
-use Rattle.ios_reader.specs.TextLines.{parts_after, rest_after, is_empty, begins_configuration}
+use Rattle.ios_sections.specs.TextLines.{parts_after, rest_after, is_empty, begins_configuration}
 use Rattle.ios_reader.proofs.reader.lacks_end.Given as goal
 
 abbrev pub invariant-loop-line : goal.invariant-loop-line

@@ -1,13 +1,12 @@
 use Rattle.std.proofs.Common.{◌≡◌, ◌+◌, ◌≤◌, ℕ, Bool, ◌||◌, List, [], length, map, sym, ap, subst, ◌∙◌, arith}
 use Rattle.std.specs.List.{list_any}
 use Rattle.net_addr.specs.declared.line.Line.{Line}
-use Rattle.ios_reader.specs.TextLines.{TextLine, text_line, lines_in, counted_lines, parts_after, parts_of, lacks_end, rest_after, is_empty, begins_configuration}
-use Rattle.ios_reader.specs.Faults.{faults_if}
-use Rattle.ios_reader.specs.Gathering.{lesser_fault, least_fault}
+use Rattle.ios_sections.specs.TextLines.{TextLine, text_line, lines_in, counted_lines, parts_after, parts_of, lacks_end, rest_after, is_empty, begins_configuration}
+use Rattle.ios_lines.specs.FaultOrder.{faults_if, lesser_fault, least_fault}
 use Rattle.ios_reader.specs.Parts.{Reading, IsReadingOf}
 use Rattle.ios_reader.specs.Texts.{ReadsText}
 use Rattle.net_model.specs.Configuration.{Configuration}
-use Rattle.ios_reader.specs.declared.kind.ReadKind.TheVariants.{NoEnd}
+use Rattle.ios_lines.specs.declared.kind.ReadKind.TheVariants.{NoEnd}
 use Rattle.ios_reader.proofs.ReadFacts.{line_count, lines_in_length, text_read, text_refused}
 use Rattle.ios_reader.proofs.reader.read_configs.Goals.{After-as_slice-3, After-fault_if-end}
 use Rattle.ios_reader.proofs.reader.read_configs.Goals as goal

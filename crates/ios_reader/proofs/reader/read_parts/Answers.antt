@@ -1,6 +1,6 @@
 use Rattle.std.proofs.Common.{◌≡◌, ◌+◌, ℕ, true, false, [], take, sym, ap, subst, ◌∙◌, arith}
 use Rattle.std.specs.List.{slice_range}
-use Rattle.ios_reader.specs.TextLines.{is_end, parts_after}
+use Rattle.ios_sections.specs.TextLines.{is_end, parts_after}
 use Rattle.ios_reader.specs.Parts.{Reading, IsReadingOf}
 use Rattle.ios_reader.proofs.PartFacts.{rest_at_end, rest_on, read_at_end, read_on}
 use Rattle.ios_reader.proofs.reader.read_parts.Goals.{then-is_end+in_ok-read+in_ok-reading, else-is_end}

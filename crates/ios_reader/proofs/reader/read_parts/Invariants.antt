@@ -1,6 +1,6 @@
 use Rattle.std.proofs.Common.{◌≡◌, ◌≤◌, [], take}
 use Rattle.std.specs.List.{slice_range}
-use Rattle.ios_reader.specs.TextLines.{parts_after, rest_after}
+use Rattle.ios_sections.specs.TextLines.{parts_after, rest_after}
 use Rattle.ios_reader.specs.Parts.{IsReadingOf}
 use Rattle.ios_reader.proofs.reader.read_parts.Given as goal
 

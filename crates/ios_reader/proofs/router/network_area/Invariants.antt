@@ -1,5 +1,5 @@
 use Rattle.std.proofs.Common.{◌≡◌, drop}
-use Rattle.ios_reader.specs.Lookups.{first_of}
+use Rattle.ios_lines.specs.Lookups.{first_of}
 use Rattle.ios_reader.specs.Routers.{area_taken}
 use Rattle.ios_reader.proofs.router.network_area.Given as goal
 

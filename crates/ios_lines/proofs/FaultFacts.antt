@@ -1,0 +1,80 @@
+-- The least of some faults, in parts and in a loop.
+use Rattle.std.proofs.Common.{sym, ◌≡◌, ℕ, ◌+◌, ◌<◌, List, [], ◌∷◌, ◌++◌, length, take, get_or, Option, ap, ◌∙◌, append-nil, Bool, true, false, ◌&&◌, ◌||◌, Some, None, refl, cond, nat_eq, nat_lt, arith}
+use Rattle.std.specs.Prelude.{flat_map}
+use Rattle.std.proofs.lemmas.List.{take_more}
+use Rattle.std.proofs.lemmas.List.Concat.{flat_map-append}
+use Rattle.ios_lines.specs.FaultOrder.{rank, is_before, lesser_fault, least_fault}
+use Rattle.ios_lines.specs.declared.fault.Fault.{Fault}
+use Rattle.std.proofs.lemmas.Bool.Decides.{nat_tests}
+
+-- a pair of numbers comes before another: the first is less, or it is the same and the second is less
+abbrev comes_before : ℕ → ℕ → ℕ → ℕ → Bool
+comes_before l r m s = nat_lt l m || (nat_eq l m && nat_lt r s)
+
+before_trans : (a b c i j k : ℕ) → comes_before b j a i ≡ true → comes_before c k b j ≡ true → comes_before c k a i ≡ true
+before_trans a b c i j k p q = grind (arith, nat_tests)
+
+after_trans : (a b c i j k : ℕ) → comes_before b j a i ≡ false → comes_before c k b j ≡ false → comes_before c k a i ≡ false
+after_trans a b c i j k p q = grind (arith, nat_tests)
+
+left_shape : (t : Bool) (f g h : Fault) → lesser_fault (cond t (Some g) (Some f)) (Some h) ≡ cond t (cond (is_before h g) (Some h) (Some g)) (cond (is_before h f) (Some h) (Some f))
+left_shape true f g h = refl
+left_shape false f g h = refl
+
+right_shape : (u : Bool) (f g h : Fault) → lesser_fault (Some f) (cond u (Some h) (Some g)) ≡ cond u (cond (is_before h f) (Some h) (Some f)) (cond (is_before g f) (Some g) (Some f))
+right_shape true f g h = refl
+right_shape false f g h = refl
+
+same_shape : (t u v : Bool) (f g h : Option Fault) → (t ≡ true → u ≡ true → v ≡ true) → (t ≡ false → u ≡ false → v ≡ false) →
+    cond t (cond u h g) (cond v h f) ≡ cond u (cond v h f) (cond t g f)
+same_shape true true v f g h p q = ap (λ (b : Bool). cond b h f) (sym (p refl refl))
+same_shape true false v f g h p q = refl
+same_shape false true v f g h p q = refl
+same_shape false false v f g h p q = ap (λ (b : Bool). cond b h f) (q refl refl)
+
+none_after : (t : Bool) (f g : Fault) → lesser_fault (cond t (Some g) (Some f)) None ≡ cond t (Some g) (Some f)
+none_after true f g = refl
+none_after false f g = refl
+
+lesser-assoc : (a b c : Option Fault) → lesser_fault (lesser_fault a b) c ≡ lesser_fault a (lesser_fault b c)
+lesser-assoc None b c = refl
+lesser-assoc (Some f) None c = refl
+lesser-assoc (Some f) (Some g) None = none_after (is_before g f) f g
+lesser-assoc (Some f) (Some g) (Some h) =
+    left_shape (is_before g f) f g h
+    ∙ same_shape (is_before g f) (is_before h g) (is_before h f) (Some f) (Some g) (Some h)
+    (before_trans f.line g.line h.line (rank f.kind) (rank g.kind) (rank h.kind))
+    (after_trans f.line g.line h.line (rank f.kind) (rank g.kind) (rank h.kind))
+    ∙ sym (right_shape (is_before h g) f g h)
+
+pub lesser-none : (a : Option Fault) → lesser_fault a None ≡ a
+lesser-none None = refl
+lesser-none (Some f) = refl
+
+pub least_fault-append : (fs gs : List Fault) → least_fault (fs ++ gs) ≡ lesser_fault (least_fault fs) (least_fault gs)
+least_fault-append [] gs = refl
+least_fault-append (f ∷ fs) gs = ap (lesser_fault (Some f)) (least_fault-append fs gs) ∙ sym (lesser-assoc (Some f) (least_fault fs) (least_fault gs))
+
+-- the least of two parts
+pub least_of_two : (fs gs : List Fault) (a b : Option Fault) → a ≡ least_fault fs → b ≡ least_fault gs → lesser_fault a b ≡ least_fault (fs ++ gs)
+least_of_two fs gs a b p q =
+    ap (λ (o : Option Fault). lesser_fault o b) p ∙ ap (lesser_fault (least_fault fs)) q ∙ sym (least_fault-append fs gs)
+
+-- the faults of one more line of a loop over some lines
+pub least_more : {A : Type 0} (f : A → List Fault) (xs : List A) (i : ℕ) (x : A) → i < length xs → x ≡ get_or xs i x →
+    least_fault (flat_map f (take (i + 1) xs)) ≡ lesser_fault (least_fault (flat_map f (take i xs))) (least_fault (f x))
+least_more f xs i x within read =
+    ap (λ w. least_fault (flat_map f w)) (take_more xs i x within)
+    ∙ ap least_fault (flat_map-append f (take i xs) (get_or xs i x ∷ []))
+    ∙ least_fault-append (flat_map f (take i xs)) (flat_map f (get_or xs i x ∷ []))
+    ∙ ap (λ (w : List Fault). lesser_fault (least_fault (flat_map f (take i xs))) (least_fault w)) (append-nil (f (get_or xs i x)))
+    ∙ ap (λ y. lesser_fault (least_fault (flat_map f (take i xs))) (least_fault (f y))) (sym read)
+
+-- the same, where the line is read by its place
+pub least_at : {A : Type 0} (f : A → List Fault) (xs : List A) (i : ℕ) (d : A) → i < length xs →
+    least_fault (flat_map f (take (i + 1) xs)) ≡ lesser_fault (least_fault (flat_map f (take i xs))) (least_fault (f (get_or xs i d)))
+least_at f xs i d within =
+    ap (λ w. least_fault (flat_map f w)) (take_more xs i d within)
+    ∙ ap least_fault (flat_map-append f (take i xs) (get_or xs i d ∷ []))
+    ∙ least_fault-append (flat_map f (take i xs)) (flat_map f (get_or xs i d ∷ []))
+    ∙ ap (λ (w : List Fault). lesser_fault (least_fault (flat_map f (take i xs))) (least_fault w)) (append-nil (f (get_or xs i d)))

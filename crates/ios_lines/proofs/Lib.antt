@@ -1,0 +1,7 @@
+pub mod NumberFacts
+pub mod AddressFacts
+pub mod MaskWordFacts
+pub mod Picked
+pub mod GoodLines
+pub mod LineLookups
+pub mod FaultFacts

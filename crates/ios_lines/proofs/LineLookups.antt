@@ -1,0 +1,40 @@
+-- The last line of a form, with one more line, and in a loop over some lines.
+use Rattle.std.proofs.Common.{sym, ◌≡◌, ℕ, ◌+◌, ◌<◌, List, [], ◌∷◌, ◌++◌, length, take, get_or, Option, Some, None, refl, ap, ◌∙◌}
+use Rattle.std.proofs.lemmas.List.{take_more}
+use Rattle.ios_lines.specs.Lookups.{later, last_of}
+use Rattle.std.specs.Prelude.{filter_map, fold}
+use Rattle.std.proofs.lemmas.Grind.{fold-append}
+use Rattle.std.specs.List.{cons_option}
+use Rattle.std.proofs.lemmas.List.Elements.{filter_map-append}
+
+later-none : {A : Type 0} (a : Option A) → later None a ≡ a
+later-none None = refl
+later-none (Some x) = refl
+
+later-assoc : {A : Type 0} (a b c : Option A) → later (later a b) c ≡ later a (later b c)
+later-assoc a b None = refl
+later-assoc a b (Some x) = refl
+
+-- the last line of a form, with one more line
+pub last_of-push : {A : Type 0} {B : Type 0} (form : A → Option B) (xs : List A) (x : A) → last_of form (xs ++ x ∷ []) ≡ later (last_of form xs) (form x)
+last_of-push form [] x = sym (later-none (form x))
+last_of-push form (y ∷ ys) x = ap (later (form y)) (last_of-push form ys x) ∙ sym (later-assoc (form y) (last_of form ys) (form x))
+
+-- one more line of a loop over some lines
+pub last_of_more : {A : Type 0} {B : Type 0} (form : A → Option B) (xs : List A) (i : ℕ) (x : A) → i < length xs → x ≡ get_or xs i x →
+    last_of form (take (i + 1) xs) ≡ later (last_of form (take i xs)) (form x)
+last_of_more form xs i x within read =
+    ap (last_of form) (take_more xs i x within) ∙ last_of-push form (take i xs) (get_or xs i x) ∙ ap (λ y. later (last_of form (take i xs)) (form y)) (sym read)
+
+-- one more line of a loop that takes some lines in
+pub filter_more : {A : Type 0} {B : Type 0} (form : A → Option B) (xs : List A) (i : ℕ) (x : A) → i < length xs → x ≡ get_or xs i x →
+    filter_map form (take (i + 1) xs) ≡ filter_map form (take i xs) ++ cons_option (form x) []
+filter_more form xs i x within read =
+    ap (filter_map form) (take_more xs i x within) ∙ filter_map-append form (take i xs) (get_or xs i x ∷ [])
+    ∙ ap (λ y. filter_map form (take i xs) ++ cons_option (form y) []) (sym read)
+
+-- one more line of a loop that folds what some lines give
+pub fold_more : {A : Type 0} {B : Type 0} {C : Type 0} (step : List C → B → List C) (form : A → Option B) (xs : List A) (i : ℕ) (x : A) → i < length xs → x ≡ get_or xs i x →
+    fold step [] (filter_map form (take (i + 1) xs)) ≡ fold step (fold step [] (filter_map form (take i xs))) (cons_option (form x) [])
+fold_more step form xs i x within read =
+    ap (fold step []) (filter_more form xs i x within read) ∙ fold-append step [] (filter_map form (take i xs)) (cons_option (form x) [])

@@ -1,0 +1,99 @@
+-- Masks as words: the reader of masks, as a function of the word.
+use Rattle.std.proofs.Common.{sym, ◌≡◌, ◌≢◌, ℕ, zero, suc, ◌+◌, ◌-◌, ◌^◌, ◌<◌, ◌≤◌, Bool, true, false, Option, Some, None, refl, ap, ◌∙◌, nat_eq, cond, arith, ◌⊎◌, inl, inr}
+use Rattle.std.specs.List.{range_with_len}
+use Rattle.std.specs.Prelude.{find, IfSome}
+use Rattle.std.proofs.Math.Pow.{pow-lt, pow_mono}
+use Rattle.std.proofs.lemmas.Bool.Decides.{nat_tests}
+use Rattle.net_addr.specs.AddressWords.{IsMask, IsMaskWord}
+use Rattle.net_addr.specs.Readers.{Reads}
+use Rattle.net_addr.proofs.MaskFacts.{IsMask-sum, IsMask-from_sum}
+use Rattle.ios_lines.specs.Words.{Word, address_of, mask_with, mask_length, mask_of}
+use Rattle.ios_lines.proofs.AddressFacts.{address-some, address_back, none_of}
+use Rattle.ios_lines.proofs.Picked.{by_some}
+
+nat_eq-decides : (a b : ℕ) → (a ≡ b) ⊎ (a ≢ b)
+nat_eq-decides a b = dec (nat_eq a b) refl
+  where
+    dec : (t : Bool) → nat_eq a b ≡ t → (a ≡ b) ⊎ (a ≢ b)
+    dec true e = inl (grind (arith, nat_tests))
+    dec false e = inr (λ h. grind (arith, nat_tests))
+
+picked : (b : Bool) (start len : ℕ) (rest : Option ℕ) → (start ≢ len → b ≡ false) → (start ≡ len → b ≡ true) → (start ≢ len → rest ≡ Some len) → start ≤ len → cond b (Some start) rest ≡ Some len
+picked true start len rest miss hit later low = elim (nat_eq-decides start len) as (λ _. Some start ≡ Some len) [ inl e ↦ ap Some e | inr n ↦ absurd (let e : true ≡ false = miss n in cc) ]
+picked false start len rest miss hit later low = elim (nat_eq-decides start len) as (λ _. rest ≡ Some len) [ inl e ↦ absurd (let f : false ≡ true = hit e in cc) | inr n ↦ later n ]
+
+-- the first number of a run of numbers that passes
+find_in_run : (p : ℕ → Bool) (n start len : ℕ) → start ≤ len → len < start + n → p len ≡ true → ((k : ℕ) → k < len → p k ≡ false) → find p (range_with_len start n) ≡ Some len
+find_in_run p zero start len low high hit miss = absurd (omega arith)
+find_in_run p (suc n) start len low high hit miss =
+    picked (p start) start len (find p (range_with_len (start + 1) n))
+    (λ apart. miss start (omega arith))
+    (λ e. ap p e ∙ hit)
+    (λ apart. find_in_run p n (start + 1) len (omega arith) (omega arith) hit miss)
+    low
+
+record IsFound (p : ℕ → Bool) (start n len : ℕ) : Type 0 where
+  passes : p len ≡ true
+  low : start ≤ len
+  high : len < start + n
+
+found_first : (p : ℕ → Bool) (n start len : ℕ) (b : Bool) → p start ≡ b → (find p (range_with_len (start + 1) n) ≡ Some len → IsFound p (start + 1) n len) → cond b (Some start) (find p (range_with_len (start + 1) n)) ≡ Some len → IsFound p start (suc n) len
+found_first p n start len true passes later e =
+    let same : start ≡ len = cc in
+    record { passes = ap p (sym same) ∙ passes; low = omega arith; high = omega arith }
+found_first p n start len false passes later e =
+    let found = later e in
+    record { passes = found.passes; low = omega (arith, found.low); high = omega (arith, found.high) }
+
+found_in_run : (p : ℕ → Bool) (n start len : ℕ) → find p (range_with_len start n) ≡ Some len → IsFound p start n len
+found_in_run p zero start len e = absurd cc
+found_in_run p (suc n) start len e = found_first p n start len (p start) refl (λ f. found_in_run p n (start + 1) len f) e
+
+is_mask : ℕ → ℕ → Bool
+is_mask a len = nat_eq (mask_with len) a
+
+eq_true : (a b : ℕ) → a ≡ b → nat_eq a b ≡ true
+eq_true a b h = grind (arith, nat_tests)
+
+eq_false : (a b : ℕ) → a ≢ b → nat_eq a b ≡ false
+eq_false a b h = grind (arith, nat_tests)
+
+true_eq : (a b : ℕ) → nat_eq a b ≡ true → a ≡ b
+true_eq a b h = grind (arith, nat_tests)
+
+mask-some : (a len : ℕ) → IsMask a len → mask_length (Some a) ≡ Some len
+mask-some a len mask =
+    let sum : a + 2 ^ (32 - len) ≡ 2 ^ 32 = IsMask-sum a len mask in
+    find_in_run (λ (k : ℕ). nat_eq (mask_with k) a) 32 1 len mask.some (omega (arith, mask.most))
+    (eq_true (mask_with len) a (omega arith))
+    (λ k below.
+    let longer : 2 ^ (32 - len) < 2 ^ (32 - k) = pow-lt {i = 32 - len} {j = 32 - k} (omega (arith, mask.most)) in
+    let within : 2 ^ (32 - k) ≤ 2 ^ 32 = pow_mono {i = 32 - k} {j = 32} (omega arith) in
+    eq_false (mask_with k) a (omega arith))
+
+mask_back : (a len : ℕ) → mask_length (Some a) ≡ Some len → IsMask a len
+mask_back a len e =
+    let found = found_in_run (λ (k : ℕ). nat_eq (mask_with k) a) 32 1 len e in
+    let same : mask_with len ≡ a = true_eq (mask_with len) a found.passes in
+    let most : 2 ^ (32 - len) ≤ 2 ^ 32 = pow_mono {i = 32 - len} {j = 32} (omega arith) in
+    IsMask-from_sum a len found.low (omega (arith, found.high)) (omega arith)
+
+word_back : (word : Word) (o : Option ℕ) (len : ℕ) → address_of word ≡ o → mask_length o ≡ Some len → IsMaskWord word len
+word_back word None len written e = absurd cc
+word_back word (Some a) len written e = record { address = a; written = address_back word a written; mask = mask_back a len e }
+
+-- the reader of masks is the function of the word
+pub mask_read : (word : Word) (r : Option ℕ) → Reads r (IsMaskWord word) → r ≡ mask_of word
+unfolding mask_of
+mask_read word None none = sym (none_of (mask_of word) (λ len e. none len (word_back word (address_of word) len refl e)))
+mask_read word (Some len) stands =
+    sym (ap mask_length (address-some word stands.address stands.written) ∙ mask-some stands.address len stands.mask)
+
+-- a mask has at most 32 ones
+pub mask_within : (word : Word) → IfSome (mask_of word) (λ len. len ≤ 32)
+unfolding mask_of
+mask_within word = by_some (λ (len : ℕ). len ≤ 32) (mask_length (address_of word)) (λ len e. within (address_of word) len e)
+  where
+    within : (o : Option ℕ) (len : ℕ) → mask_length o ≡ Some len → len ≤ 32
+    within None len e = absurd cc
+    within (Some a) len e = (mask_back a len e).most

@@ -1,0 +1,26 @@
+-- The title of the last `net` line, one more line at a time.
+use Rattle.std.proofs.Common.{◌≡◌, List, [], ◌∷◌, ◌++◌, Option, refl, ap, ◌∙◌}
+use Rattle.ios_lines.specs.declared.isis_line.IsisStatement.{IsisStatement}
+use Rattle.ios_lines.specs.Lookups.{later, last_of}
+use Rattle.ios_reader.specs.Routers.{title_said}
+use Rattle.ios_reader.specs.Configurations.{title_given}
+use Rattle.ios_reader.specs.ByStatements.{title_after, title_by}
+use Rattle.ios_lines.specs.declared.title.Title.{Title}
+use Rattle.ios_lines.specs.declared.isis_line.IsisLine.{IsisLine}
+use Rattle.ios_lines.specs.declared.isis_line.IsisLine.TheVariants.{Net, Levels, MetricStyle, Metric, Distance, Passive, Faulty, Skipped}
+use Rattle.ios_lines.proofs.LineLookups.{last_of-push}
+
+title_cases : (before : Option (Option Title)) (says : IsisLine) → title_given (later before (title_said says)) ≡ title_after (title_given before) says
+title_cases before (Net title) = refl
+title_cases before (Levels r) = refl
+title_cases before (MetricStyle wide) = refl
+title_cases before (Metric r) = refl
+title_cases before (Distance r) = refl
+title_cases before (Passive said) = refl
+title_cases before (Faulty kind) = refl
+title_cases before Skipped = refl
+
+-- the title of the last `net` line, with one more line
+pub title_push : (xs : List IsisStatement) (x : IsisStatement) → title_by (xs ++ x ∷ []) ≡ title_after (title_by xs) x.says
+title_push xs x =
+    ap title_given (last_of-push (λ (s : IsisStatement). title_said s.says) xs x) ∙ title_cases (last_of (λ (s : IsisStatement). title_said s.says) xs) x.says

@@ -1,7 +1,0 @@
-use Rattle.std.proofs.Common.{◌≡◌, take, nat_eq, filter}
-use Rattle.ios_reader.specs.Sections.{ospf_statements}
-use Rattle.ios_reader.proofs.read_section.ospf_statements.Given as goal
-
-abbrev pub invariant-loop-line : goal.invariant-loop-line
-invariant-loop-line l =
-    l.statements.items ≡ ospf_statements (filter (λ line. nat_eq line.indent l.indent) (take l.line-index l.lines))

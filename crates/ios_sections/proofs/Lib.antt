@@ -1,0 +1,5 @@
+pub mod PlaceFacts
+pub mod GatheringFacts
+pub mod TableFacts
+pub mod TitleFacts
+pub mod GoodSections

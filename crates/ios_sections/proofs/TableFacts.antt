@@ -1,0 +1,73 @@
+-- The table of interfaces by name: where one more section goes.
+use Rattle.std.proofs.Common.{sym, ◌≡◌, ℕ, suc, ◌+◌, ◌<◌, Bool, true, false, not, ◌||◌, List, [], ◌∷◌, ◌++◌, refl, ap, ◌∙◌, cond, map, bytes_eq, length, get_or, set, one-add, arith}
+use Rattle.std.specs.List.{list_any, position_or_len}
+use Rattle.std.proofs.lemmas.Bool.{false≢true}
+use Rattle.std.proofs.lemmas.List.{map-append}
+use Rattle.ios_lines.specs.Words.{Word}
+use Rattle.ios_sections.specs.Gathering.{with_interface}
+use Rattle.ios_sections.specs.declared.section.InterfaceSection.{InterfaceSection}
+
+pub place-map : {X : Type 0} (f : X → Word) (p : Word → Bool) (xs : List X) → position_or_len (λ x. p (f x)) xs ≡ position_or_len p (map f xs)
+place-map f p [] = refl
+place-map f p (x ∷ xs) = ap (λ (n : ℕ). cond (not (p (f x))) (1 + n) 0) (place-map f p xs)
+
+pub any-map : {X : Type 0} (f : X → Word) (p : Word → Bool) (xs : List X) → list_any (λ x. p (f x)) xs ≡ list_any p (map f xs)
+any-map f p [] = refl
+any-map f p (x ∷ xs) = ap (λ (b : Bool). p (f x) || b) (any-map f p xs)
+
+pub map-insert : {X : Type 0} (f : X → Word) (b : Bool) (xs : List X) (x : X) → map f (cond b xs (xs ++ x ∷ [])) ≡ cond b (map f xs) (map f xs ++ f x ∷ [])
+map-insert f true xs x = refl
+map-insert f false xs x = map-append f xs (x ∷ [])
+
+abbrev pub names_of : List InterfaceSection → List Word
+names_of xs = map (λ (s : InterfaceSection). s.name) xs
+
+abbrev pub joined : InterfaceSection → InterfaceSection → InterfaceSection
+joined s more = record { line = s.line; name = s.name; lines = s.lines ++ more.lines }
+
+new_cases : (t b : Bool) (x s : InterfaceSection) (xs rest : List InterfaceSection) → (b ≡ false → rest ≡ xs ++ s ∷ []) → (t || b) ≡ false → cond t (joined x s ∷ xs) (x ∷ rest) ≡ (x ∷ xs) ++ s ∷ []
+new_cases true b x s xs rest later h = absurd (false≢true (sym h))
+new_cases false b x s xs rest later h = ap (λ (w : List InterfaceSection). x ∷ w) (later h)
+
+-- a section of a new name goes last
+pub table_new : (xs : List InterfaceSection) (s : InterfaceSection) → list_any (bytes_eq s.name) (names_of xs) ≡ false → with_interface xs s ≡ xs ++ s ∷ []
+table_new [] s h = refl
+table_new (x ∷ xs) s h = new_cases (bytes_eq s.name x.name) (list_any (bytes_eq s.name) (names_of xs)) x s xs (with_interface xs s) (λ g. table_new xs s g) h
+
+old_cases : (t b : Bool) (x s d : InterfaceSection) (xs rest : List InterfaceSection) (n : ℕ) →
+    (b ≡ true → rest ≡ set xs n (joined (get_or xs n d) s)) → (t || b) ≡ true →
+    cond t (joined x s ∷ xs) (x ∷ rest) ≡ set (x ∷ xs) (cond (not t) (1 + n) 0) (joined (get_or (x ∷ xs) (cond (not t) (1 + n) 0) d) s)
+old_cases true b x s d xs rest n later h = refl
+old_cases false b x s d xs rest n later h = rw one-add (ap (λ (w : List InterfaceSection). x ∷ w) (later h))
+
+-- a section of a name that is there goes to that name's place
+pub table_old : (xs : List InterfaceSection) (s d : InterfaceSection) → list_any (bytes_eq s.name) (names_of xs) ≡ true →
+    with_interface xs s ≡ set xs (position_or_len (bytes_eq s.name) (names_of xs)) (joined (get_or xs (position_or_len (bytes_eq s.name) (names_of xs)) d) s)
+table_old [] s d h = absurd (false≢true h)
+table_old (x ∷ xs) s d h =
+    old_cases (bytes_eq s.name x.name) (list_any (bytes_eq s.name) (names_of xs)) x s d xs (with_interface xs s) (position_or_len (bytes_eq s.name) (names_of xs)) (λ g. table_old xs s d g) h
+
+name_cases : (t b : Bool) (x s : InterfaceSection) (xs rest : List InterfaceSection) → names_of rest ≡ cond b (names_of xs) (names_of xs ++ s.name ∷ []) →
+    names_of (cond t (joined x s ∷ xs) (x ∷ rest)) ≡ cond (t || b) (names_of (x ∷ xs)) (names_of (x ∷ xs) ++ s.name ∷ [])
+name_cases true b x s xs rest later = refl
+name_cases false true x s xs rest later = ap (λ (w : List Word). x.name ∷ w) later
+name_cases false false x s xs rest later = ap (λ (w : List Word). x.name ∷ w) later
+
+-- the names after one more section
+pub names-table : (xs : List InterfaceSection) (s : InterfaceSection) → names_of (with_interface xs s) ≡ cond (list_any (bytes_eq s.name) (names_of xs)) (names_of xs) (names_of xs ++ s.name ∷ [])
+names-table [] s = refl
+names-table (x ∷ xs) s = name_cases (bytes_eq s.name x.name) (list_any (bytes_eq s.name) (names_of xs)) x s xs (with_interface xs s) (names-table xs s)
+
+place_cases : (t b : Bool) (n m : ℕ) → (b ≡ true → n < m) → (t || b) ≡ true → cond (not t) (1 + n) 0 < suc m
+place_cases true b n m later h = omega arith
+place_cases false b n m later h = let l = later h in omega (arith, l)
+
+-- the place of a name that is there
+pub place_within : (ns : List Word) (n : Word) → list_any (bytes_eq n) ns ≡ true → position_or_len (bytes_eq n) ns < length ns
+place_within [] n h = absurd (false≢true h)
+place_within (m ∷ ms) n h = place_cases (bytes_eq n m) (list_any (bytes_eq n) ms) (position_or_len (bytes_eq n) ms) (length ms) (λ g. place_within ms n g) h
+
+-- the names go with the table
+pub names_after : (xs ys : List InterfaceSection) (s : InterfaceSection) (ns ms : List Word) → ys ≡ with_interface xs s → ns ≡ names_of xs → ms ≡ cond (list_any (bytes_eq s.name) ns) ns (ns ++ s.name ∷ []) → ms ≡ names_of ys
+names_after xs ys s ns ms table before after =
+    after ∙ ap (λ (w : List Word). cond (list_any (bytes_eq s.name) w) w (w ++ s.name ∷ [])) before ∙ sym (names-table xs s) ∙ sym (ap names_of table)

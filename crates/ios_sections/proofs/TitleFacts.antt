@@ -1,0 +1,68 @@
+-- The `net` lines after the first one, one more line at a time.
+use Rattle.std.proofs.Common.{sym, ◌≡◌, ℕ, ◌+◌, ◌<◌, Bool, true, false, ◌&&◌, ◌||◌, List, [], ◌∷◌, ◌++◌, length, take, drop, get_or, map, refl, ap, ◌∙◌, cond}
+use Rattle.std.specs.Prelude.{filter}
+use Rattle.std.specs.List.{list_any}
+use Rattle.std.proofs.lemmas.List.{map-append, take_more}
+use Rattle.std.proofs.lemmas.List.Elements.{filter-append}
+use Rattle.ios_lines.specs.FaultOrder.{lesser_fault, least_fault, fault_at, faults_if}
+use Rattle.ios_sections.specs.ProcessFaults.{is_net, second_titles}
+use Rattle.ios_lines.specs.declared.fault.Fault.{Fault}
+use Rattle.ios_lines.specs.declared.kind.ReadKind.TheVariants.{Unsupported}
+use Rattle.ios_lines.specs.declared.isis_line.IsisStatement.{IsisStatement}
+use Rattle.ios_lines.proofs.FaultFacts.{least_fault-append}
+
+abbrev there : List IsisStatement → Bool
+there [] = false
+there (_ ∷ _) = true
+
+abbrev titled_at : IsisStatement → Fault
+titled_at s = fault_at s.line Unsupported
+
+there_cases : (t b : Bool) (x : IsisStatement) (ys : List IsisStatement) → b ≡ there ys → (t || b) ≡ there (cond t (x ∷ ys) ys)
+there_cases true b x ys e = refl
+there_cases false b x ys e = e
+
+any_there : (xs : List IsisStatement) → list_any is_net xs ≡ there (filter is_net xs)
+any_there [] = refl
+any_there (x ∷ xs) = there_cases (is_net x) (list_any is_net xs) x (filter is_net xs) (any_there xs)
+
+after_first : (ys : List IsisStatement) (b : Bool) (x : IsisStatement) →
+    map titled_at (drop 1 (ys ++ cond b (x ∷ []) [])) ≡ map titled_at (drop 1 ys) ++ cond (there ys && b) (titled_at x ∷ []) []
+after_first [] true x = refl
+after_first [] false x = refl
+after_first (y ∷ ys) true x = map-append titled_at ys (x ∷ [])
+after_first (y ∷ ys) false x = map-append titled_at ys []
+
+second_titles-push : (xs : List IsisStatement) (x : IsisStatement) →
+    second_titles (xs ++ x ∷ []) ≡ second_titles xs ++ faults_if (list_any is_net xs && is_net x) x.line Unsupported
+second_titles-push xs x =
+    ap (λ (w : List IsisStatement). map titled_at (drop 1 w)) (filter-append is_net xs (x ∷ []))
+    ∙ after_first (filter is_net xs) (is_net x) x
+    ∙ ap (λ (b : Bool). second_titles xs ++ faults_if (b && is_net x) x.line Unsupported) (sym (any_there xs))
+
+-- one more line of a loop over some lines
+pub second_titles_more : (xs : List IsisStatement) (i : ℕ) (x : IsisStatement) → i < length xs → x ≡ get_or xs i x →
+    least_fault (second_titles (take (i + 1) xs)) ≡ lesser_fault (least_fault (second_titles (take i xs))) (least_fault (faults_if (list_any is_net (take i xs) && is_net x) x.line Unsupported))
+second_titles_more xs i x within read =
+    ap (λ w. least_fault (second_titles w)) (take_more xs i x within)
+    ∙ ap least_fault (second_titles-push (take i xs) (get_or xs i x))
+    ∙ least_fault-append (second_titles (take i xs)) (faults_if (list_any is_net (take i xs) && is_net (get_or xs i x)) (get_or xs i x).line Unsupported)
+    ∙ ap (λ (y : IsisStatement). lesser_fault (least_fault (second_titles (take i xs))) (least_fault (faults_if (list_any is_net (take i xs) && is_net y) y.line Unsupported))) (sym read)
+
+any-push : (xs : List IsisStatement) (x : IsisStatement) → list_any is_net (xs ++ x ∷ []) ≡ (list_any is_net xs || is_net x)
+any-push [] x = or_false (is_net x)
+  where
+    or_false : (b : Bool) → (b || false) ≡ b
+    or_false true = refl
+    or_false false = refl
+any-push (y ∷ ys) x = or_assoc (is_net y) (list_any is_net ys) (is_net x) (any-push ys x)
+  where
+    or_assoc : (a b c : Bool) {d : Bool} → d ≡ (b || c) → (a || d) ≡ ((a || b) || c)
+    or_assoc true b c e = refl
+    or_assoc false b c e = e
+
+-- whether a `net` line stands among some lines, in a loop over them
+pub any_more : (xs : List IsisStatement) (i : ℕ) (x : IsisStatement) → i < length xs → x ≡ get_or xs i x →
+    list_any is_net (take (i + 1) xs) ≡ (list_any is_net (take i xs) || is_net x)
+any_more xs i x within read =
+    ap (list_any is_net) (take_more xs i x within) ∙ any-push (take i xs) (get_or xs i x) ∙ ap (λ (y : IsisStatement). list_any is_net (take i xs) || is_net y) (sym read)

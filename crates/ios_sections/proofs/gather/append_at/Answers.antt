@@ -1,0 +1,24 @@
+use Rattle.std.proofs.Common.{ℕ, ◌≡◌, ◌<◌, length, List, set, get_or, sym, ap, ◌∙◌, arith, bytes_eq}
+use Rattle.std.specs.List.{position_or_len}
+use Rattle.std.proofs.lemmas.List.{length-map}
+use Rattle.std.proofs.lemmas.Result.{on_ok_weaker}
+use Rattle.ios_lines.specs.declared.interface_line.InterfaceStatement.{InterfaceStatement}
+use Rattle.ios_sections.specs.declared.section.InterfaceSection.{InterfaceSection}
+use Rattle.ios_sections.proofs.TableFacts.{names_of, joined, table_old, place_within}
+use Rattle.ios_sections.proofs.gather.append_at.Goals as goal
+
+pub index_mut-requires : goal.index_mut-requires
+index_mut-requires c =
+    let within : position_or_len (bytes_eq c.args.section.name) (names_of c.args.interfaces.now.items) < length (names_of c.args.interfaces.now.items) =
+    place_within (names_of c.args.interfaces.now.items) c.args.section.name c.requires.known in
+    let count : length (names_of c.args.interfaces.now.items) ≡ length c.args.interfaces.now.items = length-map c.args.interfaces.now.items (λ (s : InterfaceSection). s.name) in
+    omega (arith, c.requires.place, within, count, c.args.interfaces.now.ok.0)
+
+pub returns : goal.returns
+returns c =
+    on_ok_weaker c.append.result (λ e.
+    ap (λ (w : List InterfaceStatement). set c.args.interfaces.now.items c.args.place (record { line = c.index_mut.result.now.line; name = c.index_mut.result.now.name; lines = w })) e
+    ∙ ap (λ (x : InterfaceSection). set c.args.interfaces.now.items c.args.place (joined x c.args.section)) c.index_mut.ensures.value
+    ∙ ap (λ (p : ℕ). set c.args.interfaces.now.items p (joined (get_or c.args.interfaces.now.items p c.index_mut.result.now) c.args.section)) c.requires.place
+    ∙ sym (table_old c.args.interfaces.now.items c.args.section c.index_mut.result.now c.requires.known))
+    c.append.ensures

@@ -1,0 +1,22 @@
+use Rattle.std.proofs.Common.{[], ◌∷◌, ◌++◌, bytes_eq, cond, ap, ◌∙◌}
+use Rattle.std.specs.List.{list_any}
+use Rattle.ios_lines.specs.Words.{Word}
+use Rattle.std.proofs.lemmas.Result.{on_ok_weaker}
+use Rattle.ios_sections.proofs.TableFacts.{names_after}
+use Rattle.ios_sections.proofs.gather.with_interface.Goals as goal
+
+pub returns-then-added-clause-index : goal.returns-then-added-clause-index
+returns-then-added-clause-index c =
+    on_ok_weaker c.push_new.result (λ table.
+    names_after c.args.interfaces.now.items c.push_new.new.interfaces.items c.args.section c.args.names.now c.add.new.self
+    table c.requires
+    (c.in_ok-place.ensures.names ∙ ap (λ (w : Word). cond (list_any (bytes_eq w) c.args.names.now) c.args.names.now (c.args.names.now ++ w ∷ [])) c.as_slice.ensures))
+    c.push_new.ensures
+
+pub returns-else-added-clause-index : goal.returns-else-added-clause-index
+returns-else-added-clause-index c =
+    on_ok_weaker c.append_at.result (λ table.
+    names_after c.args.interfaces.now.items c.append_at.new.interfaces.items c.args.section c.args.names.now c.add.new.self
+    table c.requires
+    (c.in_ok-place.ensures.names ∙ ap (λ (w : Word). cond (list_any (bytes_eq w) c.args.names.now) c.args.names.now (c.args.names.now ++ w ∷ [])) c.as_slice.ensures))
+    c.append_at.ensures

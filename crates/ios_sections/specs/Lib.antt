@@ -1,0 +1,6 @@
+pub mod TextLines
+pub mod Sections
+pub mod Processes
+pub mod ProcessFaults
+pub mod Gathering
+pub mod Statements

@@ -1,0 +1,128 @@
+ghost use Rattle.std.specs.Prelude.{◌≡◌, true, false, map, bytes_eq, IfOk, OnOk};
+ghost use Rattle.std.specs.List.{list_any, position_or_len};
+ghost use Rattle.ios_sections.specs.Gathering.{with_interface, with_section, gathering_of};
+ghost use Rattle.ios_lines.specs.FaultOrder.{lesser_fault};
+
+use crate::OutOfMemory;
+use crate::name_index::{NameIndex, NamePlace};
+use crate::section::{InterfaceSection, IsisSection, OspfSection, Section};
+use ios_lines::fault::{Fault, lesser_fault};
+use net_addr::Name;
+use std::alloc::Global;
+use std::marker::Model;
+
+/// What the sections of a configuration say, gathered by what they are sections of.
+#[derive(Drop)]
+pub struct Gathering {
+    /// The router's name, of the last good `hostname` line.
+    pub name: Option<Name>,
+    /// The interfaces, the sections of each as one, in the order in which they come first.
+    pub interfaces: Vec<InterfaceSection>,
+    /// The sections of OSPF processes.
+    pub ospf: Vec<OspfSection>,
+    /// The sections of IS-IS processes.
+    pub isis: Vec<IsisSection>,
+    /// The least fault of a line at indent 0 by itself.
+    pub fault: Option<Fault>,
+}
+
+impl Model for Gathering {
+    ghost use Rattle.ios_sections.specs.Gathering.{Gathering};
+
+    ghost Value = { Gathering };
+
+    ghost view = { λ g. record { name = g.name; interfaces = g.interfaces.items; ospf = g.ospf.items; isis = g.isis.items; fault = g.fault } };
+}
+
+/// A section of a name that isn't there goes last.
+#[tactic(auto, using(crate::proofs::TableFacts::table_new))]
+fn push_new(
+    interfaces: &mut Vec<InterfaceSection>,
+    section: InterfaceSection,
+) -> Result<(), OutOfMemory>
+    requires { list_any (bytes_eq section.name) (map (λ s. s.name) interfaces.old.items) ≡ false }
+    ensures { OnOk result (interfaces.new.items ≡ with_interface interfaces.old.items section) }
+{
+    interfaces.push(section)?;
+    Ok(())
+}
+
+/// The lines of a section of a name that is there go after those of that name.
+fn append_at(
+    interfaces: &mut Vec<InterfaceSection>,
+    place: usize,
+    section: InterfaceSection,
+) -> Result<(), OutOfMemory>
+    requires known { list_any (bytes_eq section.name) (map (λ s. s.name) interfaces.old.items) ≡ true }
+    requires place { place ≡ position_or_len (bytes_eq section.name) (map (λ s. s.name) interfaces.old.items) }
+    ensures { OnOk result (interfaces.new.items ≡ with_interface interfaces.old.items section) }
+{
+    let lines = &mut interfaces[place].lines;
+    lines.append(section.lines)
+}
+
+/// One more section of an interface: its lines go after those of its name.
+fn with_interface(
+    alloc: Global,
+    names: &mut NameIndex,
+    interfaces: &mut Vec<InterfaceSection>,
+    section: InterfaceSection,
+) -> Result<(), OutOfMemory>
+    requires { names.old ≡ map (λ s. s.name) interfaces.old.items }
+    ensures index { OnOk result (names.new ≡ map (λ s. s.name) interfaces.new.items) }
+    ensures sections { OnOk result (interfaces.new.items ≡ with_interface interfaces.old.items section) }
+{
+    let NamePlace { place, added } = names.add(alloc, section.name.as_slice())?;
+    if added {
+        push_new(interfaces, section)
+    } else {
+        append_at(interfaces, place, section)
+    }
+}
+
+/// One more section.
+fn with_section(
+    alloc: Global,
+    names: &mut NameIndex,
+    gathering: Gathering,
+    section: Section,
+) -> Result<Gathering, OutOfMemory>
+    requires { names.old ≡ map (λ s. s.name) gathering.interfaces }
+    ensures value { IfOk result (λ g. g ≡ with_section gathering section) }
+    ensures index { IfOk result (λ g. names.new ≡ map (λ s. s.name) g.interfaces) }
+{
+    let mut gathering = gathering;
+    match section {
+        Section::Hostname(name) => gathering.name = Some(name),
+        Section::Interface(section) => with_interface(
+            alloc,
+            names,
+            &mut gathering.interfaces,
+            section,
+        )?,
+        Section::Ospf(section) => gathering.ospf.push(section)?,
+        Section::Isis(section) => gathering.isis.push(section)?,
+        Section::Faulty(fault) => gathering.fault = lesser_fault(gathering.fault, Some(fault)),
+        Section::Other => {}
+    }
+    Ok(gathering)
+}
+
+/// What the sections of a configuration say, gathered.
+#[tactic(auto, using(crate::proofs::GatheringFacts::gathered_all))]
+pub fn gather(alloc: Global, sections: Vec<Section>) -> Result<Gathering, OutOfMemory>
+    ensures { IfOk result (λ g. g ≡ gathering_of sections.items) }
+{
+    let mut names = NameIndex::new(alloc);
+    let mut gathering = Gathering {
+        name: None,
+        interfaces: Vec::new(alloc),
+        ospf: Vec::new(alloc),
+        isis: Vec::new(alloc),
+        fault: None,
+    };
+    for section in sections {
+        gathering = with_section(alloc, &mut names, gathering, section)?;
+    }
+    Ok(gathering)
+}

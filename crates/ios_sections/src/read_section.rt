@@ -1,0 +1,167 @@
+ghost use Rattle.std.specs.Prelude.{◌≡◌, ◌≤◌, IfOk, map, filter, position, nat_eq, length};
+ghost use Rattle.std.specs.List.{position_or_len};
+ghost use Rattle.ios_sections.specs.TextLines.{opens_section, first_indent, section_lines, sections_of};
+ghost use Rattle.ios_sections.specs.Sections.{interface_statements, ospf_statements, isis_statements, section_with, section_of};
+
+use crate::OutOfMemory;
+use crate::section::{
+    InterfaceSection, InterfaceStatements, IsisSection, IsisStatements, OspfSection,
+    OspfStatements, Section,
+};
+use crate::text_line::TextLine;
+use ios_lines::fault::Fault;
+use ios_lines::head::{Head, head_of};
+use ios_lines::interface_line::{InterfaceStatement, interface_line};
+use ios_lines::isis_line::{IsisStatement, isis_line};
+use ios_lines::ospf_line::{OspfStatement, ospf_line};
+use std::alloc::Global;
+
+/// The lines of an interface, those of this indent.
+fn interface_statements(
+    alloc: Global,
+    lines: &[TextLine],
+    indent: u32,
+) -> Result<InterfaceStatements, OutOfMemory>
+    ensures { IfOk result (λ s. s ≡ interface_statements (filter (λ line. nat_eq line.indent indent) lines.now)) }
+{
+    let mut statements = Vec::new(alloc);
+    for line in lines {
+        if line.indent() == indent {
+            let says = interface_line(alloc, line.words())?;
+            statements.push(InterfaceStatement {
+                line: line.number(),
+                says,
+            })?;
+        }
+    }
+    Ok(InterfaceStatements::from_vec(statements))
+}
+
+/// The lines of an OSPF process, those of this indent.
+fn ospf_statements(
+    alloc: Global,
+    lines: &[TextLine],
+    indent: u32,
+) -> Result<OspfStatements, OutOfMemory>
+    ensures { IfOk result (λ s. s ≡ ospf_statements (filter (λ line. nat_eq line.indent indent) lines.now)) }
+{
+    let mut statements = Vec::new(alloc);
+    for line in lines {
+        if line.indent() == indent {
+            let says = ospf_line(alloc, line.words())?;
+            statements.push(OspfStatement {
+                line: line.number(),
+                says,
+            })?;
+        }
+    }
+    Ok(OspfStatements::from_vec(statements))
+}
+
+/// The lines of an IS-IS process, those of this indent.
+fn isis_statements(
+    alloc: Global,
+    lines: &[TextLine],
+    indent: u32,
+) -> Result<IsisStatements, OutOfMemory>
+    ensures { IfOk result (λ s. s ≡ isis_statements (filter (λ line. nat_eq line.indent indent) lines.now)) }
+{
+    let mut statements = Vec::new(alloc);
+    for line in lines {
+        if line.indent() == indent {
+            let says = isis_line(alloc, line.words())?;
+            statements.push(IsisStatement {
+                line: line.number(),
+                says,
+            })?;
+        }
+    }
+    Ok(IsisStatements::from_vec(statements))
+}
+
+/// How many lines come before the next section.
+#[tactic(auto, using(crate::proofs::PlaceFacts::some_place, crate::proofs::PlaceFacts::no_place))]
+fn inside_count(lines: &[TextLine]) -> usize
+    ensures count { result ≡ position_or_len opens_section lines.now }
+    ensures within { result ≤ length lines.now }
+{
+    match next_section(lines) {
+        Some(count) => count,
+        None => lines.len(),
+    }
+}
+
+/// The place of the first line that opens a section.
+fn next_section(lines: &[TextLine]) -> Option<usize>
+    ensures { result ≡ position opens_section lines.now }
+{
+    lines.iter().position(|line| line.opens_section())
+}
+
+/// The indent of the first of some lines, 0 where there is none.
+fn first_indent(lines: &[TextLine]) -> u32
+    ensures { result ≡ first_indent lines.now }
+{
+    match lines.first() {
+        Some(line) => line.indent(),
+        None => 0,
+    }
+}
+
+/// A section by what its first line says.
+fn section_with(
+    alloc: Global,
+    head: Head,
+    line: u32,
+    inside: &[TextLine],
+    indent: u32,
+) -> Result<Section, OutOfMemory>
+    ensures { IfOk result (λ s. s ≡ section_with head line (filter (λ line. nat_eq line.indent indent) inside.now)) }
+{
+    match head {
+        Head::Hostname(Ok(name)) => Ok(Section::Hostname(name)),
+        Head::Interface(Ok(name)) => {
+            let lines = interface_statements(alloc, inside, indent)?;
+            Ok(Section::Interface(InterfaceSection { line, name, lines }))
+        }
+        Head::Ospf(Ok(process)) => {
+            let lines = ospf_statements(alloc, inside, indent)?;
+            Ok(Section::Ospf(OspfSection {
+                line,
+                process,
+                lines,
+            }))
+        }
+        Head::Isis(tag) => {
+            let lines = isis_statements(alloc, inside, indent)?;
+            Ok(Section::Isis(IsisSection { line, tag, lines }))
+        }
+        Head::Hostname(Err(kind))
+        | Head::Interface(Err(kind))
+        | Head::Ospf(Err(kind))
+        | Head::Faulty(kind) => { Ok(Section::Faulty(Fault { line, kind })) }
+        Head::Other => Ok(Section::Other),
+    }
+}
+
+/// The section that a line at indent 0 opens, before these lines.
+fn section_at(alloc: Global, head: &TextLine, after: &[TextLine]) -> Result<Section, OutOfMemory>
+    ensures { IfOk result (λ s. s ≡ section_of (record { head = head.now; body = section_lines after.now })) }
+{
+    let inside = &after[..inside_count(after)];
+    let says = head_of(alloc, head.words())?;
+    section_with(alloc, says, head.number(), inside, first_indent(inside))
+}
+
+/// What the sections of some lines say, in order.
+pub fn read_sections(alloc: Global, lines: &[TextLine]) -> Result<Vec<Section>, OutOfMemory>
+    ensures { IfOk result (λ s. s.items ≡ map section_of (sections_of lines.now)) }
+{
+    let mut sections = Vec::new(alloc);
+    for (i, head) in lines.iter().enumerate() {
+        if head.opens_section() {
+            sections.push(section_at(alloc, head, &lines[i + 1..])?)?;
+        }
+    }
+    Ok(sections)
+}

@@ -1,0 +1,181 @@
+ghost use Rattle.std.specs.Prelude.{◌≡◌, ◌++◌, OnOk};
+
+use crate::OutOfMemory;
+use ios_lines::fault::Fault;
+use ios_lines::interface_line::InterfaceStatement;
+use ios_lines::isis_line::IsisStatement;
+use ios_lines::ospf_line::OspfStatement;
+use net_addr::Name;
+use std::marker::Model;
+
+/// Lines of an interface, in the order of the text.
+#[derive(Debug, Drop)]
+pub struct InterfaceStatements {
+    all: Vec<InterfaceStatement>,
+}
+
+impl Model for InterfaceStatements {
+    ghost use Rattle.std.specs.Prelude.{List};
+    ghost use Rattle.ios_lines.specs.declared.interface_line.InterfaceStatement.{InterfaceStatement};
+
+    ghost Value = { List InterfaceStatement };
+
+    ghost view = { λ x. x.all.items };
+}
+
+impl InterfaceStatements {
+    /// The lines of a vector, in its order.
+    pub fn from_vec(all: Vec<InterfaceStatement>) -> InterfaceStatements
+        ensures { result ≡ all.items }
+    {
+        InterfaceStatements { all }
+    }
+
+    /// The lines as a slice.
+    pub fn as_slice(&self) -> &[InterfaceStatement]
+        ensures { result.now ≡ self.now }
+    {
+        self.all.as_slice()
+    }
+
+    /// Takes in more lines, after those that are there.
+    pub fn append(&mut self, more: InterfaceStatements) -> Result<(), OutOfMemory>
+        ensures { OnOk result (self.new ≡ self.old ++ more) }
+    {
+        let mut more = more.all;
+        self.all.append(&mut more)
+    }
+
+    /// The vector that the lines stand in.
+    pub fn into_vec(self) -> Vec<InterfaceStatement>
+        ensures { result.items ≡ self }
+    {
+        self.all
+    }
+}
+
+/// Lines of `router ospf`, in the order of the text.
+#[derive(Debug, Drop)]
+pub struct OspfStatements {
+    all: Vec<OspfStatement>,
+}
+
+impl Model for OspfStatements {
+    ghost use Rattle.std.specs.Prelude.{List};
+    ghost use Rattle.ios_lines.specs.declared.ospf_line.OspfStatement.{OspfStatement};
+
+    ghost Value = { List OspfStatement };
+
+    ghost view = { λ x. x.all.items };
+}
+
+impl OspfStatements {
+    /// The lines of a vector, in its order.
+    pub fn from_vec(all: Vec<OspfStatement>) -> OspfStatements
+        ensures { result ≡ all.items }
+    {
+        OspfStatements { all }
+    }
+
+    /// The lines as a slice.
+    pub fn as_slice(&self) -> &[OspfStatement]
+        ensures { result.now ≡ self.now }
+    {
+        self.all.as_slice()
+    }
+
+    /// The vector that the lines stand in.
+    pub fn into_vec(self) -> Vec<OspfStatement>
+        ensures { result.items ≡ self }
+    {
+        self.all
+    }
+}
+
+/// Lines of `router isis`, in the order of the text.
+#[derive(Debug, Drop)]
+pub struct IsisStatements {
+    all: Vec<IsisStatement>,
+}
+
+impl Model for IsisStatements {
+    ghost use Rattle.std.specs.Prelude.{List};
+    ghost use Rattle.ios_lines.specs.declared.isis_line.IsisStatement.{IsisStatement};
+
+    ghost Value = { List IsisStatement };
+
+    ghost view = { λ x. x.all.items };
+}
+
+impl IsisStatements {
+    /// The lines of a vector, in its order.
+    pub fn from_vec(all: Vec<IsisStatement>) -> IsisStatements
+        ensures { result ≡ all.items }
+    {
+        IsisStatements { all }
+    }
+
+    /// The lines as a slice.
+    pub fn as_slice(&self) -> &[IsisStatement]
+        ensures { result.now ≡ self.now }
+    {
+        self.all.as_slice()
+    }
+
+    /// The vector that the lines stand in.
+    pub fn into_vec(self) -> Vec<IsisStatement>
+        ensures { result.items ≡ self }
+    {
+        self.all
+    }
+}
+
+/// A section of an interface, or all of its sections as one.
+#[derive(Debug, Drop)]
+pub struct InterfaceSection {
+    /// The number of its first `interface` line.
+    pub line: u32,
+    /// The name of the interface.
+    pub name: Name,
+    /// The lines of the section.
+    pub lines: InterfaceStatements,
+}
+
+/// A section of an OSPF process.
+#[derive(Debug, Drop)]
+pub struct OspfSection {
+    /// The number of its `router ospf` line.
+    pub line: u32,
+    /// The number of the process, from 1 to 65535.
+    pub process: u32,
+    /// The lines of the section.
+    pub lines: OspfStatements,
+}
+
+/// A section of an IS-IS process.
+#[derive(Debug, Drop)]
+pub struct IsisSection {
+    /// The number of its `router isis` line.
+    pub line: u32,
+    /// The tag of the process, empty where it has none.
+    pub tag: Name,
+    /// The lines of the section.
+    pub lines: IsisStatements,
+}
+
+/// What a section says.
+#[derive(Debug, Drop)]
+pub enum Section {
+    /// the name of the router
+    Hostname(Name),
+    /// an interface
+    Interface(InterfaceSection),
+    /// an OSPF process
+    Ospf(OspfSection),
+    /// an IS-IS process
+    Isis(IsisSection),
+    /// a section whose first line is faulty
+    Faulty(Fault),
+    /// a section without meaning here
+    Other,
+}
