@@ -14,8 +14,11 @@ fn main(rt: HostRuntime) -> ExitCode {
 /// Answers the words of the call, by the files of the system and on standard output.
 fn answer(rt: &HostRuntime) -> Status {
     let alloc = rt.alloc();
-    let Ok(words) = words(rt) else {
-        return Status::Memory;
+    let words = match words(rt) {
+        Ok(words) => words,
+        Err(error) if error.kind() == io::ErrorKind::OutOfMemory => return Status::Memory,
+        // A word isn't UTF-8, so that the words aren't those of a command.
+        Err(_) => Vec::new(alloc),
     };
     let mut files = RealFiles::new(rt, alloc);
     let mut out = RealSink::new(io::writer(rt));

@@ -1,15 +1,16 @@
 -- Which answer each step of a call gives.
-use Rattle.std.proofs.Common.{◌≡◌, ◌≢◌, ℕ, ◌≤◌, List, [], ◌∷◌, ◌++◌, length, Result, Ok, Err, IfOk, codes, refl, arith, ap, ◌∙◌, sym, subst, append-nil, append_assoc}
+use Rattle.std.proofs.Common.{◌≡◌, ◌≢◌, ◌⊎◌, inl, inr, ℕ, ◌≤◌, List, [], ◌∷◌, ◌++◌, length, Result, Ok, Err, IfOk, codes, refl, arith, ◌∙◌, sym, subst, append-nil}
 use Rattle.std.specs.declared.alloc.AllocError.{AllocError}
 use Rattle.igp_theory.specs.Routes.{Tables}
 use Rattle.net_model.specs.Network.{Network}
 use Rattle.migration_report.specs.Words.{line}
-use Rattle.migrate_cli.specs.Answers.{IsAnswer, MayAsk, StopAnswer, HasAnswer}
+use Rattle.migrate_cli.specs.Answers.{IsAnswer, MayAsk, FaultsAgree, StopAnswer, HasAnswer}
 use Rattle.migrate_cli.specs.Answers.IsAnswer.{other_words, many_files, read_fault, long_file, long_files, judged}
-use Rattle.migrate_cli.specs.Answers.MayAsk.{asks_some}
+use Rattle.migrate_cli.specs.Answers.MayAsk.{asks_none, asks_some}
 use Rattle.migrate_cli.specs.CommandWords.{IsCheck}
-use Rattle.migrate_cli.specs.Reading.{Contents, AreRead, AreWithin, ReadUpTo}
-use Rattle.migrate_cli.specs.Stops.{IsFrontOf, HasRead}
+use Rattle.migrate_cli.specs.Reading.{Contents, AreRead, AreWithin}
+use Rattle.migrate_cli.specs.Stops.{StopFaults, MayRead, HasRead}
+use Rattle.migrate_cli.specs.Stops.MayRead.{none_yet, so_far}
 use Rattle.migrate_cli.specs.Verdicts.{IsVerdict, IsOrderVerdict}
 use Rattle.migrate_cli.specs.Verdicts.IsOrderVerdict.{safe, unsafe}
 use Rattle.migrate_cli.specs.Verdicts.IsVerdict.{faulty_configuration, above_limit, two_names, inconsistent, off_start, faulty_order, of_order}
@@ -18,6 +19,7 @@ use Rattle.migrate_cli.specs.declared.reading.Stop.{Stop}
 use Rattle.migrate_cli.specs.declared.reading.Stop.TheVariants.{Fault, Long, Total, OutOfMemory}
 use Rattle.migrate_cli.specs.declared.status.Status.{Status}
 use Rattle.migrate_cli.specs.declared.status.Status.TheVariants.{ReadFault, WriteFault, Limit}
+use Rattle.migrate_cli.proofs.StopFacts.{read_so_far}
 
 -- what is said of a status and a text holds of the answer that has them
 pub from_refusal : {E : Type 0} (r : Result Answer E) (status : Status) (text : List ℕ) (Q : Status → List ℕ → Type 0)
@@ -27,7 +29,7 @@ from_refusal (Err e) status text Q same_status same_text holds = tt
 
 -- an answer after these names were asked for
 pub answered : (content : Contents) (words before after asked : List (List ℕ)) (r : Result Answer AllocError) → after ≡ before ++ asked
-    → IfOk r (λ (a : Answer). IsAnswer content words asked a.status a.text) → MayAsk words asked → HasAnswer content words before after r
+    → IfOk r (λ (a : Answer). IsAnswer content words asked a.status a.text) → MayAsk content words asked → HasAnswer content words before after r
 answered content words before after asked (Ok a) asked_is answer may_ask = record { asked = asked; asked_is = asked_is; answers = answer }
 answered content words before after asked (Err e) asked_is answer may_ask = record { asked = asked; asked_is = asked_is; answers = may_ask }
 
@@ -47,16 +49,17 @@ judged_answer content words order files [] status text check few read within ver
 judged_answer content words order files (order_text ∷ rest) status text check few read within verdict =
     judged order files order_text rest status text check few read within (verdict order_text rest refl)
 
--- all names of a call may be asked for
-pub may_ask_all : (words : List (List ℕ)) (order : List ℕ) (files : List (List ℕ)) → IsCheck words order files → MayAsk words (order ∷ files)
-may_ask_all words order files check = asks_some order files (order ∷ files) check (record { rest = []; names_are = sym (append-nil (order ∷ files)) })
+-- where memory may run out in reading, the call may have asked for those names
+may_ask : {content : Contents} {words asked : List (List ℕ)} (order : List ℕ) (files : List (List ℕ)) → IsCheck words order files → length files ≤ 200
+    → MayRead content (order ∷ files) asked → MayAsk content words asked
+may_ask order files check few none_yet = asks_none
+may_ask order files check few (so_far asked texts name up) = asks_some order files asked texts name check few up
 
--- the names up to one are the first
-front_up_to : (content : Contents) (names asked texts : List (List ℕ)) (name : List ℕ) → ReadUpTo content names asked texts name → IsFrontOf names asked
-front_up_to content names asked texts name up = record {
-  rest = up.after;
-  names_are = up.names_are ∙ sym (append_assoc up.before (name ∷ []) up.after) ∙ ap (λ some. some ++ up.after) (sym up.asked_are);
-}
+-- and for all names where all were read
+pub may_ask_all : (content : Contents) (words : List (List ℕ)) (order : List ℕ) (files texts : List (List ℕ)) → IsCheck words order files → length files ≤ 200
+    → AreRead content (order ∷ files) texts → AreWithin texts → MayAsk content words (order ∷ files)
+may_ask_all content words order files texts check few read within =
+    may_ask order files check few (read_so_far content (order ∷ files) (order ∷ files) [] texts (sym (append-nil (order ∷ files))) read within)
 
 -- why reading stopped is the answer
 pub stop_answer : (content : Contents) (words before after : List (List ℕ)) (order : List ℕ) (files : List (List ℕ)) (stop : Stop) (r : Result Answer AllocError)
@@ -98,25 +101,22 @@ stop_answer content words before after order files (Fault file) (Err e) check fe
     record {
       asked = read.asked;
       asked_is = read.asked_is;
-      answers = asks_some order files read.asked check
-          (front_up_to content (order ∷ files) read.asked read.reads.texts read.reads.name read.reads.up_to);
+      answers = asks_some order files read.asked read.reads.texts read.reads.name check few read.reads.up_to;
     }
 stop_answer content words before after order files (Long file) (Err e) check few read answer =
     record {
       asked = read.asked;
       asked_is = read.asked_is;
-      answers = asks_some order files read.asked check
-          (front_up_to content (order ∷ files) read.asked read.reads.texts read.reads.name read.reads.up_to);
+      answers = asks_some order files read.asked read.reads.texts read.reads.name check few read.reads.up_to;
     }
 stop_answer content words before after order files (Total number) (Err e) check few read answer =
     record {
       asked = read.asked;
       asked_is = read.asked_is;
-      answers = asks_some order files read.asked check
-          (front_up_to content (order ∷ files) read.asked read.reads.texts read.reads.name read.reads.up_to);
+      answers = asks_some order files read.asked read.reads.texts read.reads.name check few read.reads.up_to;
     }
 stop_answer content words before after order files OutOfMemory (Err e) check few read answer =
-    record { asked = read.asked; asked_is = read.asked_is; answers = asks_some order files read.asked check read.reads }
+    record { asked = read.asked; asked_is = read.asked_is; answers = may_ask order files check few read.reads }
 
 -- a fault of reading or of writing is no verdict
 abbrev NoFault : Status → Type 0
@@ -152,3 +152,34 @@ pub judged_no_fault : (content : Contents) (order : List ℕ) (files texts : Lis
     → ((order_text : List ℕ) (rest : List (List ℕ)) → texts ≡ order_text ∷ rest → IsVerdict order files order_text rest status text) → status ≢ ReadFault
 judged_no_fault content order files [] status text read verdict = absurd read
 judged_no_fault content order files (order_text ∷ rest) status text read verdict = (verdict_no_fault (verdict order_text rest refl)).0
+
+-- an answer is a read fault, or it isn't
+pub reads_or_not : {content : Contents} {words asked : List (List ℕ)} {status : Status} {text : List ℕ}
+    → IsAnswer content words asked status text → (status ≡ ReadFault) ⊎ (status ≢ ReadFault)
+reads_or_not (other_words _) = inr (λ e. Prim.cc e)
+reads_or_not (many_files _ _ _ _) = inr (λ e. Prim.cc e)
+reads_or_not (read_fault _ _ _ _ _ _ _ _) = inl refl
+reads_or_not (long_file _ _ _ _ _ _ _ _ _) = inr (λ e. Prim.cc e)
+reads_or_not (long_files _ _ _ _ _ _ _ _ _ _) = inr (λ e. Prim.cc e)
+reads_or_not (judged _ _ _ _ _ _ _ _ _ _ verdict) = inr (verdict_no_fault verdict).0
+
+-- where the count of faults stands it agrees with an answer that is no read fault
+pub faults_agree : (status : Status) (before after : ℕ) → status ≢ ReadFault → after ≡ before → FaultsAgree status before after
+faults_agree status before after no_fault stands = record { read_fault = λ e. absurd (no_fault e); unless_read_fault = λ _. stands }
+
+-- with one of this status
+pub refusal_agrees : (r : Result Answer AllocError) (status : Status) (count : ℕ) → status ≢ ReadFault → IfOk r (λ (a : Answer). a.status ≡ status)
+    → IfOk r (λ (a : Answer). FaultsAgree a.status count count)
+refusal_agrees (Ok a) status count no_fault same = faults_agree a.status count count (λ e. no_fault (sym same ∙ e)) refl
+refusal_agrees (Err e) status count no_fault same = tt
+
+-- with the answer that reading stopped
+pub stop_agrees : (stop : Stop) (before after : ℕ) (r : Result Answer AllocError) → StopFaults stop before after → IfOk r (λ (a : Answer). StopAnswer stop a.status a.text)
+    → IfOk r (λ (a : Answer). FaultsAgree a.status before after)
+stop_agrees (Fault file) before after (Ok a) faults answer = record { read_fault = λ _. faults; unless_read_fault = λ no. absurd (no answer.0) }
+stop_agrees (Long file) before after (Ok a) faults answer =
+    faults_agree a.status before after (λ e. let clash : Limit ≡ ReadFault = sym answer.0 ∙ e in Prim.cc clash) faults
+stop_agrees (Total number) before after (Ok a) faults answer =
+    faults_agree a.status before after (λ e. let clash : Limit ≡ ReadFault = sym answer.0 ∙ e in Prim.cc clash) faults
+stop_agrees OutOfMemory before after (Ok a) faults answer = absurd answer
+stop_agrees stop before after (Err e) faults answer = tt

@@ -1,8 +1,9 @@
--- Where its files are told a call has one answer besides a fault of reading.
-use Rattle.std.proofs.Common.{◌≡◌, ◌≢◌, ℕ, ◌<◌, ◌≤◌, List, [], ◌∷◌, ◌++◌, length, All, refl, sym, subst, ◌∙◌, arith}
+-- Where the files that an answer asks for are told, it is the one answer of the call besides a read fault.
+use Rattle.std.proofs.Common.{◌≡◌, ◌≢◌, ◌⊎◌, inl, inr, ℕ, ◌<◌, ◌≤◌, List, [], ◌∷◌, ◌++◌, length, All, refl, sym, subst, ◌∙◌, arith}
 use Rattle.std.specs.Prelude.{codes, decimal}
 use Rattle.migration_report.specs.Words.{line}
-use Rattle.migrate_cli.specs.AnswerLaws.{IsTold, AreTold}
+use Rattle.migrate_cli.specs.AnswerLaws.{IsTold, MayEnd}
+use Rattle.migrate_cli.specs.AnswerLaws.MayEnd.{as_answered, by_read_fault}
 use Rattle.migrate_cli.specs.Answers.{IsAnswer}
 use Rattle.migrate_cli.specs.Answers.IsAnswer.{other_words, many_files, read_fault, long_file, long_files, judged}
 use Rattle.migrate_cli.specs.CommandWords.{IsCheck}
@@ -10,7 +11,7 @@ use Rattle.migrate_cli.specs.Reading.{Contents, AreRead, AreWithin}
 use Rattle.migrate_cli.specs.Verdicts.{IsVerdict}
 use Rattle.migrate_cli.specs.declared.status.Status.{Status}
 use Rattle.migrate_cli.specs.declared.status.Status.TheVariants.{Words, ReadFault, Limit}
-use Rattle.migrate_cli.proofs.StopLaws.{StopsAfter, IsBrokenSo, long_breaks, total_breaks, one_list, none_past, same_place, same_limit}
+use Rattle.migrate_cli.proofs.StopLaws.{StopsAfter, IsBrokenSo, long_breaks, total_breaks, told_with, one_list, none_past, same_place, same_limit}
 use Rattle.migrate_cli.proofs.StopLaws.IsBrokenSo.{too_long, too_many}
 use Rattle.migrate_cli.proofs.VerdictLaws.{AreSame, one_verdict}
 
@@ -32,20 +33,21 @@ data OfFiles (content : Contents) (order : List ℕ) (files : List (List ℕ)) :
 few_or_many : (files : List (List ℕ)) → 200 < length files → length files ≤ 200 → ⊥
 few_or_many files many few = omega (arith, many, few)
 
-module _ (content : Contents) (order : List ℕ) (files : List (List ℕ)) (tell : All (IsTold content) (order ∷ files)) where
+module _ (content : Contents) (order : List ℕ) (files : List (List ℕ)) where
   same_stop : {p q : List (List ℕ)} {s z : Status} {t w : List ℕ} (b c : List (List ℕ)) (n m : List ℕ) (ts ss : List (List ℕ)) (x y : List ℕ)
-      → p ≡ b ++ n ∷ [] → q ≡ c ++ m ∷ [] → StopsAfter content (order ∷ files) b n ts x → StopsAfter content (order ∷ files) c m ss y
+      → All (IsTold content) p → p ≡ b ++ n ∷ [] → q ≡ c ++ m ∷ [] → StopsAfter content (order ∷ files) b n ts x → StopsAfter content (order ∷ files) c m ss y
       → IsBrokenSo n ts x s t → IsBrokenSo m ss y z w → SameAnswer p s t q z w
-  same_stop b c n m ts ss x y asked also one other here there =
-      let place = same_place content (order ∷ files) tell b c n m ts ss x y one other in
-      let answer = same_limit content (order ∷ files) tell b c n m ts ss x y one other here there in
+  same_stop b c n m ts ss x y tell asked also one other here there =
+      let tells = subst (All (IsTold content)) asked tell in
+      let place = same_place content (order ∷ files) b c n m tells ts ss x y one other in
+      let answer = same_limit content (order ∷ files) b c n m tells ts ss x y one other here there in
       let names : b ++ n ∷ [] ≡ c ++ m ∷ [] = λ i. place.0 i ++ place.1 i ∷ [] in
       (asked ∙ names ∙ sym also, answer.0, answer.1)
 
   stop_or_all : (before : List (List ℕ)) (name : List ℕ) (texts : List (List ℕ)) (text : List ℕ) (all : List (List ℕ))
-      → StopsAfter content (order ∷ files) before name texts text → AreRead content (order ∷ files) all → AreWithin all → ⊥
-  stop_or_all before name texts text all stop read within =
-      none_past content (order ∷ files) before name texts text stop.after all stop (subst (All (IsTold content)) stop.names_are tell)
+      → All (IsTold content) (before ++ name ∷ []) → StopsAfter content (order ∷ files) before name texts text → AreRead content (order ∷ files) all → AreWithin all → ⊥
+  stop_or_all before name texts text all tell stop read within =
+      none_past content (order ∷ files) before name texts text stop.after all stop tell
       (subst (λ names. AreRead content names all) stop.names_are read) within
 
   same_verdict : {s z : Status} {t w : List ℕ} (x y : List ℕ) (ts ss : List (List ℕ)) → x ∷ ts ≡ y ∷ ss → IsVerdict order files x ts s t → IsVerdict order files y ss z w
@@ -56,16 +58,20 @@ module _ (content : Contents) (order : List ℕ) (files : List (List ℕ)) (tell
       one_verdict order files x ts s z t w one
       (subst (λ some. IsVerdict order files some ts z w) (sym head) (subst (λ some. IsVerdict order files y some z w) (sym rest) other))
 
-  one_of_files : {p q : List (List ℕ)} {s z : Status} {t w : List ℕ} → OfFiles content order files p s t → OfFiles content order files q z w → SameAnswer p s t q z w
-  one_of_files (above _) (above _) = (refl, refl, refl)
-  one_of_files (above many) (stopped _ _ _ _ few _ _ _) = absurd (few_or_many files many few)
-  one_of_files (above many) (all_read _ _ few _ _ _) = absurd (few_or_many files many few)
-  one_of_files (stopped _ _ _ _ few _ _ _) (above many) = absurd (few_or_many files many few)
-  one_of_files (stopped b n ts x _ asked one here) (stopped c m ss y _ also other there) = same_stop b c n m ts ss x y asked also one other here there
-  one_of_files (stopped b n ts x _ _ stop _) (all_read y ss _ read within _) = absurd (stop_or_all b n ts x (y ∷ ss) stop read within)
-  one_of_files (all_read _ _ few _ _ _) (above many) = absurd (few_or_many files many few)
-  one_of_files (all_read y ss _ read within _) (stopped b n ts x _ _ stop _) = absurd (stop_or_all b n ts x (y ∷ ss) stop read within)
-  one_of_files (all_read x ts _ one _ verdict) (all_read y ss _ other _ judgement) =
+  one_of_files : {p q : List (List ℕ)} {s z : Status} {t w : List ℕ} → All (IsTold content) p → OfFiles content order files p s t → OfFiles content order files q z w
+      → SameAnswer p s t q z w
+  one_of_files tell (above _) (above _) = (refl, refl, refl)
+  one_of_files tell (above many) (stopped _ _ _ _ few _ _ _) = absurd (few_or_many files many few)
+  one_of_files tell (above many) (all_read _ _ few _ _ _) = absurd (few_or_many files many few)
+  one_of_files tell (stopped _ _ _ _ few _ _ _) (above many) = absurd (few_or_many files many few)
+  one_of_files tell (stopped b n ts x _ asked one here) (stopped c m ss y _ also other there) =
+      same_stop b c n m ts ss x y tell asked also one other here there
+  one_of_files tell (stopped b n ts x _ asked stop _) (all_read y ss _ read within _) =
+      absurd (stop_or_all b n ts x (y ∷ ss) (subst (All (IsTold content)) asked tell) stop read within)
+  one_of_files tell (all_read _ _ few _ _ _) (above many) = absurd (few_or_many files many few)
+  one_of_files tell (all_read y ss _ read within _) (stopped b n ts x _ _ stop _) =
+      absurd (stop_or_all b n ts x (y ∷ ss) (told_with content b n stop.after (subst (All (IsTold content)) stop.names_are tell)) stop read within)
+  one_of_files tell (all_read x ts _ one _ verdict) (all_read y ss _ other _ judgement) =
       let texts : x ∷ ts ≡ y ∷ ss = one_list content (order ∷ files) (x ∷ ts) (y ∷ ss) tell one other in
       let answer = same_verdict x y ts ss texts verdict judgement in
       (refl, answer.0, answer.1)
@@ -111,17 +117,25 @@ one_check words o p fs gs a b =
     let rest : o ∷ fs ≡ p ∷ gs = cc same in
     (cc rest, cc rest)
 
-one_of_words : (content : Contents) (words : List (List ℕ)) {p q : List (List ℕ)} {s z : Status} {t w : List ℕ} → AreTold content words → OfWords content words p s t
+one_of_words : (content : Contents) (words : List (List ℕ)) {p q : List (List ℕ)} {s z : Status} {t w : List ℕ} → All (IsTold content) p → OfWords content words p s t
     → OfWords content words q z w → SameAnswer p s t q z w
-one_of_words content words tells (no_check _) (no_check _) = (refl, refl, refl)
-one_of_words content words tells (no_check none) (a_check order files check _) = absurd (none order files check)
-one_of_words content words tells (a_check order files check _) (no_check none) = absurd (none order files check)
-one_of_words content words {q = q} {z = z} {w = w} tells (a_check o fs check one) (a_check p gs again other) =
+one_of_words content words tell (no_check _) (no_check _) = (refl, refl, refl)
+one_of_words content words tell (no_check none) (a_check order files check _) = absurd (none order files check)
+one_of_words content words tell (a_check order files check _) (no_check none) = absurd (none order files check)
+one_of_words content words {q = q} {z = z} {w = w} tell (a_check o fs check one) (a_check p gs again other) =
     let same = one_check words o p fs gs check again in
-    one_of_files content o fs (tells o fs check) one
+    one_of_files content o fs tell one
     (subst (λ order. OfFiles content order fs q z w) (sym same.0) (subst (λ files. OfFiles content p files q z w) (sym same.1) other))
 
 -- a call has one answer
-pub one_answer : (content : Contents) (words p q : List (List ℕ)) (s z : Status) (t w : List ℕ) → AreTold content words → s ≢ ReadFault → z ≢ ReadFault
+pub one_answer : (content : Contents) (words p q : List (List ℕ)) (s z : Status) (t w : List ℕ) → All (IsTold content) p → s ≢ ReadFault → z ≢ ReadFault
     → IsAnswer content words p s t → IsAnswer content words q z w → SameAnswer p s t q z w
-one_answer content words p q s z t w tells read again one other = one_of_words content words tells (steps_of read one) (steps_of again other)
+one_answer content words p q s z t w tell no_fault no_other one other = one_of_words content words tell (steps_of no_fault one) (steps_of no_other other)
+
+-- and ends with it, or by a read fault
+pub ends_so : (content : Contents) (words p q : List (List ℕ)) (s z : Status) (t w : List ℕ) → All (IsTold content) p → s ≢ ReadFault
+    → IsAnswer content words p s t → IsAnswer content words q z w → (z ≡ ReadFault) ⊎ (z ≢ ReadFault) → MayEnd s z
+ends_so content words p q s z t w tell no_fault one other (inl fault) = subst (MayEnd s) (sym fault) by_read_fault
+ends_so content words p q s z t w tell no_fault one other (inr no_other) =
+    let same = one_answer content words p q s z t w tell no_fault no_other one other in
+    subst (MayEnd s) same.1 as_answered

@@ -1,6 +1,6 @@
 -- Files read one after another.
 use Rattle.std.proofs.Common.{◌≡◌, ℕ, zero, suc, ◌+◌, ◌<◌, ◌≤◌, List, [], ◌∷◌, ◌++◌, length, All, refl, lit≤, arith}
-use Rattle.std.proofs.lemmas.List.Elements.{All-append}
+use Rattle.std.proofs.lemmas.List.Elements.{All-head, All-tail, All-cons, All-append}
 use Rattle.migrate_cli.specs.Reading.{Contents, IsReadOf, AreRead, total_of, total_of_configs, IsShort, AreWithin}
 
 -- one more file was read
@@ -42,3 +42,23 @@ AreWithin-more texts text within short together = record {
 -- no files are within the limits
 pub AreWithin-none : AreWithin []
 AreWithin-none = record { each = λ k d within. absurd (omega arith); together = lit≤ tt }
+
+-- what holds of each element holds of each of the first ones
+pub All-front : {X : Type 0} (P : X → Type 0) (xs ys : List X) → All P (xs ++ ys) → All P xs
+All-front P [] ys all = λ k d within. absurd (omega (arith, within))
+All-front P (x ∷ xs) ys all = All-cons P x xs (All-head P x (xs ++ ys) all) (All-front P xs ys (All-tail P x (xs ++ ys) all))
+
+-- the first texts have no more bytes
+total_of_front : (xs ys : List (List ℕ)) → total_of xs ≤ total_of (xs ++ ys)
+total_of_front [] ys = omega arith
+total_of_front (x ∷ xs) ys = let rest : total_of xs ≤ total_of (xs ++ ys) = total_of_front xs ys in omega (arith, rest)
+
+total_of_configs_front : (xs ys : List (List ℕ)) → total_of_configs xs ≤ total_of_configs (xs ++ ys)
+total_of_configs_front [] ys = omega arith
+total_of_configs_front (x ∷ xs) ys = total_of_front xs ys
+
+-- the first of some texts within the limits are within them
+pub within_front : (xs ys : List (List ℕ)) → AreWithin (xs ++ ys) → AreWithin xs
+within_front xs ys h =
+    let less : total_of_configs xs ≤ total_of_configs (xs ++ ys) = total_of_configs_front xs ys in
+    record { each = All-front IsShort xs ys h.each; together = omega (arith, less, h.together) }

@@ -1,9 +1,10 @@
 -- Where the reading of several files stands after one more.
-use Rattle.std.proofs.Common.{◌≡◌, ℕ, zero, suc, ◌+◌, ◌<◌, List, [], ◌∷◌, ◌++◌, length, take, drop, map, get_or, Option, Ok, Err, IfSome, arith, ap, ◌∙◌, sym, subst, append_assoc}
+use Rattle.std.proofs.Common.{◌≡◌, ℕ, zero, suc, ◌+◌, ◌<◌, List, [], ◌∷◌, ◌++◌, length, take, drop, map, get_or, Option, Ok, Err, IfSome, arith, ap, ◌∙◌, refl, sym, subst, append-nil, append_assoc}
 use Rattle.std.proofs.lemmas.List.{take_more, map-append}
 use Rattle.migrate_cli.specs.Reading.{Contents, IsReadOf, AreRead, AreWithin, ReadUpTo}
-use Rattle.migrate_cli.proofs.ReadingFacts.{AreRead-more}
-use Rattle.migrate_cli.specs.Stops.{StopsAt, HasAsked, IsNextText, HasRead}
+use Rattle.migrate_cli.proofs.ReadingFacts.{AreRead-more, within_front}
+use Rattle.migrate_cli.specs.Stops.{StopsAt, IsFrontOf, HasAsked, IsNextText, MayRead, HasRead}
+use Rattle.migrate_cli.specs.Stops.MayRead.{none_yet, so_far}
 use Rattle.migrate_cli.specs.declared.reading.Stop.{Stop}
 use Rattle.migrate_cli.specs.declared.reading.Stop.TheVariants.{Fault, Long, Total, OutOfMemory}
 
@@ -47,6 +48,50 @@ up_to content names before after texts name asked names_are read within alone = 
   within = within;
 }
 
+-- what is read of several files is nothing, or ends with what is read of the last one
+data EndsRead (content : Contents) : List (List ℕ) → List (List ℕ) → Type 0 where
+  nothing : EndsRead content [] []
+  last : (names texts : List (List ℕ)) (name text : List ℕ) → AreRead content names texts → EndsRead content (names ++ name ∷ []) (texts ++ text ∷ [])
+
+one_before : {content : Contents} {names texts : List (List ℕ)} (name text : List ℕ) → IsReadOf content name text → EndsRead content names texts
+    → EndsRead content (name ∷ names) (text ∷ texts)
+one_before name text read nothing = last [] [] name text tt
+one_before name text read (last names texts end end_text rest) = last (name ∷ names) (text ∷ texts) end end_text (read, rest)
+
+ends_read : (content : Contents) (names texts : List (List ℕ)) → AreRead content names texts → EndsRead content names texts
+ends_read content [] [] read = nothing
+ends_read content [] (t ∷ texts) read = absurd read
+ends_read content (n ∷ names) [] read = absurd read
+ends_read content (n ∷ names) (t ∷ texts) read = one_before n t read.0 (ends_read content names texts read.1)
+
+-- where the first files were read within the limits memory may run out
+from_end : {content : Contents} {before texts : List (List ℕ)} (names after : List (List ℕ)) → names ≡ before ++ after → AreWithin texts
+    → EndsRead content before texts → MayRead content names before
+from_end names after names_are within nothing = none_yet
+from_end names after names_are within (last before texts name text read) =
+    so_far (before ++ name ∷ []) texts name (record {
+      before = before;
+      after = after;
+      names_are = names_are ∙ append_assoc before (name ∷ []) after;
+      asked_are = refl;
+      read = read;
+      within = within_front texts (text ∷ []) within;
+    })
+
+pub read_so_far : (content : Contents) (names before after texts : List (List ℕ)) → names ≡ before ++ after → AreRead content before texts → AreWithin texts
+    → MayRead content names before
+read_so_far content names before after texts names_are read within = from_end names after names_are within (ends_read content before texts read)
+
+-- and so it may in the next read, before or after its name counts as asked for
+may_read : (content : Contents) (names before after texts : List (List ℕ)) (name : List ℕ) (asked : List (List ℕ)) → names ≡ before ++ name ∷ after
+    → AreRead content before texts → AreWithin texts → IsFrontOf (name ∷ []) asked → MayRead content names (before ++ asked)
+may_read content names before after texts name [] names_are read within front =
+    subst (MayRead content names) (sym (append-nil before)) (read_so_far content names before (name ∷ after) texts names_are read within)
+may_read content names before after texts name (n ∷ []) names_are read within front =
+    let same : name ≡ n = cc front.names_are in
+    so_far (before ++ n ∷ []) texts name (up_to content names before after texts name (n ∷ []) names_are read within (ap (λ x. x ∷ []) (sym same)))
+may_read content names before after texts name (n ∷ m ∷ more) names_are read within front = absurd (cc front.names_are)
+
 -- the reading of several files stops where that of one of them does
 pub stops_among : (content : Contents) (names before after texts : List (List ℕ)) (name : List ℕ) (old now new : List (List ℕ)) (stop : Stop)
     → names ≡ before ++ name ∷ after → AreRead content before texts → AreWithin texts → now ≡ old ++ before
@@ -69,11 +114,7 @@ stops_among content names before after texts name old now new (Total number) nam
 stops_among content names before after texts name old now new OutOfMemory names_are read within now_is stops asks = record {
   asked = before ++ asks.asked;
   asked_is = asks.asked_is ∙ ap (λ some. some ++ asks.asked) now_is ∙ append_assoc old before asks.asked;
-  reads = record {
-    rest = asks.asks_for.rest ++ after;
-    names_are = names_are ∙ ap (λ some. before ++ (some ++ after)) asks.asks_for.names_are
-        ∙ ap (λ some. before ++ some) (append_assoc asks.asked asks.asks_for.rest after) ∙ sym (append_assoc before asks.asked (asks.asks_for.rest ++ after));
-  };
+  reads = may_read content names before after texts name asks.asked names_are read within asks.asks_for;
 }
 
 -- a mapped list round one of its elements

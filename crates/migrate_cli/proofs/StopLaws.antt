@@ -1,35 +1,18 @@
--- Where files are told reading stops at one of them, or at none.
-use Rattle.std.proofs.Common.{◌≡◌, ℕ, ◌<◌, ◌≤◌, List, [], ◌∷◌, ◌++◌, Option, Some, None, IsSome, IfSome, length, take, All, refl, sym, ap, subst, ◌∙◌, arith}
+-- Where the files up to one are told, reading stops at it or it doesn't.
+use Rattle.std.proofs.Common.{◌≡◌, ℕ, ◌<◌, ◌≤◌, List, [], ◌∷◌, ◌++◌, Option, Some, None, IsSome, IfSome, length, take, All, refl, sym, ap, subst, ◌∙◌, append_assoc, arith}
 use Rattle.std.specs.Prelude.{codes, decimal}
-use Rattle.std.proofs.lemmas.List.Elements.{All-head, All-tail, All-cons, All-contains, Contains-append_right}
+use Rattle.std.proofs.lemmas.List.Elements.{All-head, All-tail, All-contains, Contains-append_right}
 use Rattle.net_model.proofs.Members.{Contains-first}
 use Rattle.migration_report.specs.Words.{line}
 use Rattle.migrate_cli.specs.AnswerLaws.{IsTold}
-use Rattle.migrate_cli.specs.Reading.{Contents, IsReadOf, AreRead, total_of, total_of_configs, IsShort, AreWithin}
+use Rattle.migrate_cli.specs.Reading.{Contents, IsReadOf, AreRead, total_of_configs, IsShort, AreWithin}
 use Rattle.migrate_cli.specs.Stops.{IsFrontOf}
 use Rattle.migrate_cli.specs.declared.status.Status.{Status}
 use Rattle.migrate_cli.specs.declared.status.Status.TheVariants.{Limit}
+use Rattle.migrate_cli.proofs.ReadingFacts.{All-front, within_front}
 use Rattle.migrate_cli.proofs.VerdictLaws.{AreSame}
 
 -- ---- limits ----
-
-All-front : {X : Type 0} (P : X → Type 0) (xs ys : List X) → All P (xs ++ ys) → All P xs
-All-front P [] ys all = λ k d within. absurd (omega (arith, within))
-All-front P (x ∷ xs) ys all = All-cons P x xs (All-head P x (xs ++ ys) all) (All-front P xs ys (All-tail P x (xs ++ ys) all))
-
-total_of_front : (xs ys : List (List ℕ)) → total_of xs ≤ total_of (xs ++ ys)
-total_of_front [] ys = omega arith
-total_of_front (x ∷ xs) ys = let rest : total_of xs ≤ total_of (xs ++ ys) = total_of_front xs ys in omega (arith, rest)
-
-total_of_configs_front : (xs ys : List (List ℕ)) → total_of_configs xs ≤ total_of_configs (xs ++ ys)
-total_of_configs_front [] ys = omega arith
-total_of_configs_front (x ∷ xs) ys = total_of_front xs ys
-
--- the first of some texts within the limits are within them
-within_front : (xs ys : List (List ℕ)) → AreWithin (xs ++ ys) → AreWithin xs
-within_front xs ys h =
-    let less : total_of_configs xs ≤ total_of_configs (xs ++ ys) = total_of_configs_front xs ys in
-    record { each = All-front IsShort xs ys h.each; together = omega (arith, less, h.together) }
 
 -- a longer file breaks the limit of each
 pub long_breaks : (texts : List (List ℕ)) (text : List ℕ) → 16777216 < length text → AreWithin (texts ++ text ∷ []) → ⊥
@@ -111,61 +94,58 @@ module _ (content : Contents) where
       let rest : ts ≡ ss = one_list names ts ss (All-tail (IsTold content) n names tell) a.1 b.1 in
       λ i. first i ∷ rest i
 
+  -- the first of files that are told are told
+  pub told_with : (before : List (List ℕ)) (name : List ℕ) (rest : List (List ℕ)) → All (IsTold content) (before ++ name ∷ rest)
+      → All (IsTold content) (before ++ name ∷ [])
+  told_with before name rest tell =
+      All-front (IsTold content) (before ++ name ∷ []) rest (subst (All (IsTold content)) (sym (append_assoc before (name ∷ []) rest)) tell)
+
   -- what is read of the first files stands first in what is read of all
   front_read : (before : List (List ℕ)) (name : List ℕ) (rest texts : List (List ℕ)) (text : List ℕ) (all : List (List ℕ))
-      → All (IsTold content) (before ++ name ∷ rest) → AreRead content before texts → IsReadOf content name text → AreRead content (before ++ name ∷ rest) all
+      → All (IsTold content) (before ++ name ∷ []) → AreRead content before texts → IsReadOf content name text → AreRead content (before ++ name ∷ rest) all
       → IsFrontOf all (texts ++ text ∷ [])
   front_read [] name rest [] text [] tell a next b = absurd b
   front_read [] name rest [] text (t ∷ all) tell a next b =
-      let first : t ≡ text = one_text name t text (All-head (IsTold content) name rest tell) b.0 next in
+      let first : t ≡ text = one_text name t text (All-head (IsTold content) name [] tell) b.0 next in
       record { rest = all; names_are = ap (λ some. some ∷ all) first }
   front_read [] name rest (t ∷ texts) text all tell a next b = absurd a
   front_read (n ∷ before) name rest [] text all tell a next b = absurd a
   front_read (n ∷ before) name rest (s ∷ texts) text [] tell a next b = absurd b
   front_read (n ∷ before) name rest (s ∷ texts) text (t ∷ all) tell a next b =
-      let front = front_read before name rest texts text all (All-tail (IsTold content) n (before ++ name ∷ rest) tell) a.1 next b.1 in
-      let first : t ≡ s = one_text n t s (All-head (IsTold content) n (before ++ name ∷ rest) tell) b.0 a.0 in
+      let front = front_read before name rest texts text all (All-tail (IsTold content) n (before ++ name ∷ []) tell) a.1 next b.1 in
+      let first : t ≡ s = one_text n t s (All-head (IsTold content) n (before ++ name ∷ []) tell) b.0 a.0 in
       let names_are = front.names_are in
       record { rest = front.rest; names_are = λ i. first i ∷ names_are i }
 
   -- nothing is read within the limits past the file that breaks one
   pub none_past : (names before : List (List ℕ)) (name : List ℕ) (texts : List (List ℕ)) (text : List ℕ) (rest all : List (List ℕ))
-      → StopsAfter content names before name texts text → All (IsTold content) (before ++ name ∷ rest) → AreRead content (before ++ name ∷ rest) all → AreWithin all → ⊥
+      → StopsAfter content names before name texts text → All (IsTold content) (before ++ name ∷ []) → AreRead content (before ++ name ∷ rest) all → AreWithin all → ⊥
   none_past names before name texts text rest all stop tell read within =
       let front = front_read before name rest texts text all tell stop.read stop.next read in
       stop.broken (within_front (texts ++ text ∷ []) front.rest (subst AreWithin front.names_are within))
 
-  -- the files up to the one at which reading stops are told
-  told_before : (names before : List (List ℕ)) (name : List ℕ) (texts : List (List ℕ)) (text : List ℕ) → StopsAfter content names before name texts text
-      → All (IsTold content) names → All (IsTold content) before
-  told_before names before name texts text stop tell =
-      All-front (IsTold content) before (name ∷ stop.after) (subst (All (IsTold content)) stop.names_are tell)
+  module _ (names b c : List (List ℕ)) (n m : List ℕ) (tell : All (IsTold content) (b ++ n ∷ [])) (ts ss : List (List ℕ)) (t s : List ℕ) (one : StopsAfter content names b n ts t) (other : StopsAfter content names c m ss s) where
+    told_before : All (IsTold content) b
+    told_before = All-front (IsTold content) b (n ∷ []) tell
 
-  told_there : (names before : List (List ℕ)) (name : List ℕ) (texts : List (List ℕ)) (text : List ℕ) → StopsAfter content names before name texts text
-      → All (IsTold content) names → IsTold content name
-  told_there names before name texts text stop tell =
-      All-contains (IsTold content) (before ++ name ∷ stop.after) name (subst (All (IsTold content)) stop.names_are tell)
-      (Contains-append_right before (name ∷ stop.after) name (Contains-first name stop.after))
+    told_there : IsTold content n
+    told_there = All-contains (IsTold content) (b ++ n ∷ []) n tell (Contains-append_right b (n ∷ []) n (Contains-first n []))
 
-  module _ (names : List (List ℕ)) (tell : All (IsTold content) names) (b c : List (List ℕ)) (n m : List ℕ) (ts ss : List (List ℕ)) (t s : List ℕ) (one : StopsAfter content names b n ts t) (other : StopsAfter content names c m ss s) where
     -- reading stops at one file
     pub same_place : (b ≡ c) × (n ≡ m)
     same_place =
         elim (fronts b c n m one.after other.after (sym one.names_are ∙ other.names_are)) [
           | same d e ↦ (d, e)
-          | first rest d ↦ absurd (none_past names b n ts t rest ss one
-              (subst (All (IsTold content)) d (told_before names c m ss s other tell))
-              (subst (λ some. AreRead content some ss) d other.read) other.within)
-          | second rest d ↦ absurd (none_past names c m ss s rest ts other
-              (subst (All (IsTold content)) d (told_before names b n ts t one tell))
+          | first rest d ↦ absurd (none_past names b n ts t rest ss one tell (subst (λ some. AreRead content some ss) d other.read) other.within)
+          | second rest d ↦ absurd (none_past names c m ss s rest ts other (told_with c m rest (subst (All (IsTold content)) d told_before))
               (subst (λ some. AreRead content some ts) d one.read) one.within)
         ]
 
     same_texts : ts ≡ ss
-    same_texts = one_list b ts ss (told_before names b n ts t one tell) one.read (subst (λ some. AreRead content some ss) (sym same_place.0) other.read)
+    same_texts = one_list b ts ss told_before one.read (subst (λ some. AreRead content some ss) (sym same_place.0) other.read)
 
     same_next : t ≡ s
-    same_next = one_text n t s (told_there names b n ts t one tell) one.next (subst (λ some. IsReadOf content some s) (sym same_place.1) other.next)
+    same_next = one_text n t s told_there one.next (subst (λ some. IsReadOf content some s) (sym same_place.1) other.next)
 
     -- and for one reason
     pub same_limit : {status z : Status} {answer w : List ℕ} → IsBrokenSo n ts t status answer → IsBrokenSo m ss s z w → AreSame status answer z w

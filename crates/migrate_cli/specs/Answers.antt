@@ -1,11 +1,11 @@
 -- What `check` answers to its words and its files.
-use Rattle.std.specs.Prelude.{◌≡◌, ℕ, ◌<◌, ◌≤◌, List, [], ◌∷◌, ◌++◌, Option, Result, Ok, Err, length, codes, decimal}
+use Rattle.std.specs.Prelude.{◌≡◌, ◌≢◌, ℕ, ◌<◌, ◌≤◌, List, [], ◌∷◌, ◌++◌, Option, Result, Ok, Err, length, codes, decimal}
 use Rattle.std.specs.declared.alloc.AllocError.{AllocError}
+use Rattle.store_edge.specs.Faults.{Rose}
 use Rattle.store_edge.specs.Sink.{Adds, AddsFront}
 use Rattle.migration_report.specs.Words.{line}
 use Rattle.migrate_cli.specs.CommandWords.{IsCheck}
 use Rattle.migrate_cli.specs.Reading.{Contents, AreRead, AreWithin, IsTooLong, PassesTotal, ReadUpTo}
-use Rattle.migrate_cli.specs.Stops.{IsFrontOf}
 use Rattle.migrate_cli.specs.Verdicts.{IsVerdict}
 use Rattle.migrate_cli.specs.declared.answer.Answer.{Answer}
 use Rattle.migrate_cli.specs.declared.reading.Stop.{Stop}
@@ -32,22 +32,30 @@ pub data IsAnswer (content : Contents) (words : List (List ℕ)) : List (List �
       IsCheck words order files → length files ≤ 200 → AreRead content (order ∷ files) (order_text ∷ texts) → AreWithin (order_text ∷ texts) →
       IsVerdict order files order_text texts status text → IsAnswer content words (order ∷ files) status text
 
--- the names that were asked for when memory ran out
-pub data MayAsk (words : List (List ℕ)) : List (List ℕ) → Type 0 where
-  asks_none : MayAsk words []
-  asks_some : (order : List ℕ) (files asked : List (List ℕ)) → IsCheck words order files → IsFrontOf (order ∷ files) asked → MayAsk words asked
+-- the names that were asked for when memory ran out: none, or those up to a file before which all were read within the limits
+pub data MayAsk (content : Contents) (words : List (List ℕ)) : List (List ℕ) → Type 0 where
+  asks_none : MayAsk content words []
+  asks_some : (order : List ℕ) (files asked texts : List (List ℕ)) (file : List ℕ) → IsCheck words order files → length files ≤ 200 →
+      ReadUpTo content (order ∷ files) asked texts file → MayAsk content words asked
+
+-- the count of the files' faults agrees with an answer: it rose where that is a read fault, and else it stands
+pub record FaultsAgree (status : Status) (before after : ℕ) : Type 0 where
+  pub read_fault : status ≡ ReadFault → Rose before after
+  pub unless_read_fault : status ≢ ReadFault → after ≡ before
 
 -- how a call ends: its answer is written whole, or its front, or there was no memory and nothing is written
-pub data Ends (content : Contents) (words asked : List (List ℕ)) (before after : Option (List ℕ)) : Status → Type 0 where
-  whole : (status : Status) (text : List ℕ) → IsAnswer content words asked status text → Adds before after text → Ends content words asked before after status
-  cut : (status : Status) (text : List ℕ) → IsAnswer content words asked status text → AddsFront before after text → Ends content words asked before after WriteFault
-  no_memory : MayAsk words asked → after ≡ before → Ends content words asked before after Memory
+pub data Ends (content : Contents) (words asked : List (List ℕ)) (faults_before faults_after : ℕ) (before after : Option (List ℕ)) : Status → Type 0 where
+  whole : (status : Status) (text : List ℕ) → IsAnswer content words asked status text → FaultsAgree status faults_before faults_after → Adds before after text →
+      Ends content words asked faults_before faults_after before after status
+  cut : (status : Status) (text : List ℕ) → IsAnswer content words asked status text → FaultsAgree status faults_before faults_after → AddsFront before after text →
+      Ends content words asked faults_before faults_after before after WriteFault
+  no_memory : MayAsk content words asked → after ≡ before → Ends content words asked faults_before faults_after before after Memory
 
 -- a call asked for these names besides those before, and ended so
-pub record Ran (content : Contents) (words asked_before asked_after : List (List ℕ)) (before after : Option (List ℕ)) (status : Status) : Type 0 where
+pub record Ran (content : Contents) (words asked_before asked_after : List (List ℕ)) (faults_before faults_after : ℕ) (before after : Option (List ℕ)) (status : Status) : Type 0 where
   pub asked : List (List ℕ)
   pub asked_is : asked_after ≡ asked_before ++ asked
-  pub ends : Ends content words asked before after status
+  pub ends : Ends content words asked faults_before faults_after before after status
 
 -- the answer that reading stopped
 abbrev pub StopAnswer : Stop → Status → List ℕ → Type 0
@@ -59,7 +67,7 @@ StopAnswer OutOfMemory status text = ⊥
 -- an answer, or want of memory
 abbrev pub AnswersWith : Contents → List (List ℕ) → List (List ℕ) → Result Answer AllocError → Type 0
 AnswersWith content words asked (Ok answer) = IsAnswer content words asked answer.status answer.text
-AnswersWith content words asked (Err _) = MayAsk words asked
+AnswersWith content words asked (Err _) = MayAsk content words asked
 
 -- some names were asked for besides those before, and this is the answer
 pub record HasAnswer (content : Contents) (words asked_before asked_after : List (List ℕ)) (answer : Result Answer AllocError) : Type 0 where

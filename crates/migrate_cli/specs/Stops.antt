@@ -1,5 +1,6 @@
 -- What reading files answers.
 use Rattle.std.specs.Prelude.{◌≡◌, ℕ, List, [], ◌∷◌, ◌++◌, Result, Ok, Err}
+use Rattle.store_edge.specs.Faults.{Rose}
 use Rattle.migrate_cli.specs.Reading.{Contents, IsReadOf, AreRead, AreWithin, IsTooLong, PassesTotal, ReadUpTo}
 use Rattle.migrate_cli.specs.declared.reading.Stop.{Stop}
 use Rattle.migrate_cli.specs.declared.reading.Stop.TheVariants.{Fault, Long, Total, OutOfMemory}
@@ -18,12 +19,17 @@ StopsAlone content name (Long file) = (file.now ≡ name) × IsTooLong content n
 StopsAlone content name (Total number) = ⊥
 StopsAlone content name OutOfMemory = Unit {0}
 
--- a file could not be read
-abbrev pub IsFault : Stop → Type 0
-IsFault (Fault file) = Unit {0}
-IsFault (Long file) = ⊥
-IsFault (Total number) = ⊥
-IsFault OutOfMemory = ⊥
+-- the count of faults where reading stops: it rose where a file could not be read, and else it stands
+abbrev pub StopFaults : Stop → ℕ → ℕ → Type 0
+StopFaults (Fault file) before after = Rose before after
+StopFaults (Long file) before after = after ≡ before
+StopFaults (Total number) before after = after ≡ before
+StopFaults OutOfMemory before after = after ≡ before
+
+-- the count of faults after reading: it stands where all was read
+abbrev pub CountsFaults : {A : Type 0} → Result A Stop → ℕ → ℕ → Type 0
+CountsFaults (Ok _) before after = after ≡ before
+CountsFaults (Err stop) before after = StopFaults stop before after
 
 -- the names asked for are the first of these
 pub record IsFrontOf (names asked : List (List ℕ)) : Type 0 where
@@ -58,12 +64,17 @@ pub record StopsIn (content : Contents) (names asked : List (List ℕ)) (stop : 
   pub up_to : ReadUpTo content names asked texts name
   pub stops : StopsAt content name texts stop
 
+-- the names that were asked for when memory ran out: none, or those up to a file before which all were read within the limits
+pub data MayRead (content : Contents) (names : List (List ℕ)) : List (List ℕ) → Type 0 where
+  none_yet : MayRead content names []
+  so_far : (asked texts : List (List ℕ)) (name : List ℕ) → ReadUpTo content names asked texts name → MayRead content names asked
+
 -- the answer of reading some files, and the names that were asked for
 abbrev pub StopsAmong : Contents → List (List ℕ) → List (List ℕ) → Stop → Type 0
 StopsAmong content names asked (Fault file) = StopsIn content names asked (Fault file)
 StopsAmong content names asked (Long file) = StopsIn content names asked (Long file)
 StopsAmong content names asked (Total number) = StopsIn content names asked (Total number)
-StopsAmong content names asked OutOfMemory = IsFrontOf names asked
+StopsAmong content names asked OutOfMemory = MayRead content names asked
 
 -- all were read, and are within the limits; or the reading stopped
 abbrev pub Reads : Contents → List (List ℕ) → List (List ℕ) → Result (List (List ℕ)) Stop → Type 0

@@ -1,6 +1,7 @@
-ghost use Rattle.std.specs.Prelude.{◌≡◌, ◌+◌, ℕ, List, ◌∷◌, All, IfOk, length, map, string_bytes};
+ghost use Rattle.std.specs.Prelude.{◌≡◌, ◌≢◌, ◌+◌, ℕ, List, ◌∷◌, All, IfOk, length, map, string_bytes};
 ghost use Rattle.store_edge.specs.Faults.{Rose};
-ghost use Rattle.migrate_cli.specs.Answers.{HasAnswer, Ran, StopAnswer};
+ghost use Rattle.migrate_cli.specs.AnswerLaws.{EndsByAnswer};
+ghost use Rattle.migrate_cli.specs.Answers.{FaultsAgree, HasAnswer, Ran, StopAnswer};
 ghost use Rattle.migrate_cli.specs.Reading.{IsShort};
 ghost use Rattle.migrate_cli.specs.Verdicts.{IsVerdict};
 
@@ -21,9 +22,11 @@ const FILES_MOST: usize = 200;
 ///
 /// The words are `check ORDER CONFIG...`. The answer is built whole before its first byte is written.
 pub fn run<F: Files, S: Sink>(alloc: Global, words: &[String], files: &mut F, out: &mut S) -> Status
-    ensures ran { Ran (F.content files.old) (map string_bytes words.now) (F.asked files.old) (F.asked files.new) (S.written out.old) (S.written out.new) result }
+    ensures ran { Ran (F.content files.old) (map string_bytes words.now) (F.asked files.old) (F.asked files.new) (F.faults files.old) (F.faults files.new) (S.written out.old) (S.written out.new) result }
+    ensures exact { EndsByAnswer (F.content files.old) (map string_bytes words.now) result }
     ensures read_fault { result ≡ Status.ReadFault → Rose (F.faults files.old) (F.faults files.new) }
     ensures write_fault { result ≡ Status.WriteFault → Rose (S.faults out.old) (S.faults out.new) }
+    ensures unless_write_fault { result ≢ Status.WriteFault → S.faults out.new ≡ S.faults out.old }
 {
     let Ok(answer) = answer(alloc, words, files) else {
         return Status::Memory;
@@ -37,7 +40,7 @@ pub fn run<F: Files, S: Sink>(alloc: Global, words: &[String], files: &mut F, ou
 /// The answer to the words of a call.
 fn answer<F: Files>(alloc: Global, words: &[String], files: &mut F) -> Result<Answer, OutOfMemory>
     ensures answer { HasAnswer (F.content files.old) (map string_bytes words.now) (F.asked files.old) (F.asked files.new) result }
-    ensures fault { IfOk result (λ answer. answer.status ≡ Status.ReadFault → Rose (F.faults files.old) (F.faults files.new)) }
+    ensures faults { IfOk result (λ answer. FaultsAgree answer.status (F.faults files.old) (F.faults files.new)) }
 {
     let Some(check) = Check::of_words(words) else {
         return refuse(alloc, Status::Words, &Refusal::Words);

@@ -1,7 +1,6 @@
-ghost use Rattle.std.specs.Prelude.{◌≡◌, ◌≢◌, ◌≤◌, ℕ, List, [], ◌∷◌, ◌++◌, Err, length, map, string_bytes, IfOk, IfErr, OnOk, OnErr};
-ghost use Rattle.store_edge.specs.Faults.{Rose};
+ghost use Rattle.std.specs.Prelude.{◌≡◌, ◌≤◌, ℕ, List, [], ◌∷◌, ◌++◌, length, map, string_bytes, IfOk, IfErr, OnOk};
 ghost use Rattle.migrate_cli.specs.Reading.{AreWithin, IsReadOf, IsShort, total_of_configs};
-ghost use Rattle.migrate_cli.specs.Stops.{HasAsked, HasRead, IsFault, IsNextText, StopsAlone, StopsAt};
+ghost use Rattle.migrate_cli.specs.Stops.{CountsFaults, HasAsked, HasRead, IsNextText, StopsAlone, StopsAt};
 
 use crate::command::Check;
 use net_addr::Bytes;
@@ -87,8 +86,7 @@ impl Texts {
         ensures stop { IfErr result (StopsAt (F.content files.old) name.now self.old) }
         ensures asked { HasAsked name.now (F.asked files.old) (F.asked files.new) result }
         ensures contents_stay { (other : List ℕ) → F.content files.new other ≡ F.content files.old other }
-        ensures fault { IfErr result (λ stop. IsFault stop → Rose (F.faults files.old) (F.faults files.new)) }
-        ensures never_falls { F.faults files.old ≤ F.faults files.new }
+        ensures faults { CountsFaults result (F.faults files.old) (F.faults files.new) }
     {
         let text = read_whole(alloc, files, name)?;
         let configs_len = self.len_with(&text);
@@ -110,8 +108,7 @@ fn read_whole<'a, F: Files>(alloc: Global, files: &mut F, name: &'a str) -> Resu
     ensures stop { IfErr result (StopsAlone (F.content files.old) name.now) }
     ensures asked { HasAsked name.now (F.asked files.old) (F.asked files.new) result }
     ensures contents_stay { (other : List ℕ) → F.content files.new other ≡ F.content files.old other }
-    ensures fault { IfErr result (λ stop. IsFault stop → Rose (F.faults files.old) (F.faults files.new)) }
-    ensures never_falls { F.faults files.old ≤ F.faults files.new }
+    ensures faults { CountsFaults result (F.faults files.old) (F.faults files.new) }
 {
     match files.read(alloc, name, FILE_MOST + 1) {
         Ok(text) if text.as_slice().len() as u64 > FILE_MOST => Err(Stop::Long(name)),
@@ -128,8 +125,7 @@ pub fn read_texts<'a, F: Files>(
     files: &mut F,
 ) -> Result<Texts, Stop<'a>>
     ensures read { HasRead (F.content files.old) (check.now.order.now ∷ map string_bytes check.now.configs.now) (F.asked files.old) (F.asked files.new) result }
-    ensures fault { IfErr result (λ stop. IsFault stop → Rose (F.faults files.old) (F.faults files.new)) }
-    ensures never_falls { F.faults files.old ≤ F.faults files.new }
+    ensures faults { CountsFaults result (F.faults files.old) (F.faults files.new) }
 {
     let mut texts = Texts::new(alloc);
     if let Err(stop) = texts.read_next(alloc, files, check.order) {

@@ -1,4 +1,4 @@
-ghost use Rattle.std.specs.Prelude.{◌≤◌, OnOk, OnErr};
+ghost use Rattle.std.specs.Prelude.{◌≡◌, ◌+◌, min, OnOk, OnErr};
 ghost use Rattle.store_edge.specs.Faults.{Rose};
 ghost use Rattle.store_edge.specs.Sink.{Adds, AddsFront};
 
@@ -12,13 +12,20 @@ pub fn send<S: Sink>(out: &mut S, text: &[u8]) -> Result<(), Failed>
     ensures ok { OnOk result (Adds (S.written out.old) (S.written out.new) text.now) }
     ensures cut { OnErr result (AddsFront (S.written out.old) (S.written out.new) text.now) }
     ensures failed { OnErr result (Rose (S.faults out.old) (S.faults out.new)) }
-    ensures never_falls { S.faults out.old ≤ S.faults out.new }
+    ensures unless_failed { OnOk result (S.faults out.new ≡ S.faults out.old) }
 {
     let mut done = 0;
     while done < text.len() {
-        let stop = text.len().min(done + PIECE);
+        let stop = piece_end(done, text.len());
         out.write(&text[done..stop])?;
         done = stop;
     }
     Ok(())
+}
+
+/// Where the piece ends that begins after so many bytes of a text of this length.
+fn piece_end(done: usize, len: usize) -> usize
+    ensures { result ≡ min (done + 4096) len }
+{
+    done.saturating_add(PIECE).min(len)
 }

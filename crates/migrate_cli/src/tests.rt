@@ -1,25 +1,43 @@
-mod networks;
-mod rows;
+ghost use Rattle.std.specs.Prelude.{None};
+ghost use Rattle.store_edge.specs.Files.{bytes_of};
 
 use crate::{Status, run};
 use net_addr::{Bytes, Name};
-use networks::TRIANGLE;
 use std::alloc::{AllocError, Global};
 use std::process::Abort;
 use std::test::Fail;
-use store_edge::{Calls, Failed, FileList, MemoryFiles, Sink};
+use store_edge::{Calls, Failed, FileAnswer, FileList, Files, MemoryFiles, Sink};
 
-/// Keeps what is written, as many pieces as it takes.
+/// Files in memory that keep how many bytes each read asked for.
+#[derive(Drop)]
+struct Recorded {
+    files: MemoryFiles,
+    most: Vec<u64>,
+}
+
+impl Files for Recorded {
+    ghost content = { λ recorded name. bytes_of recorded.files.files name };
+
+    ghost faults = { λ recorded. recorded.files.faults };
+
+    ghost asked = { λ recorded. recorded.files.asked };
+
+    fn read(&mut self, alloc: Global, name: &str, most: u64) -> Result<Bytes, FileAnswer> {
+        self.most.push(most)?;
+        self.files.read(alloc, name, most)
+    }
+}
+
+/// A sink that takes some pieces, and keeps the length of each.
 #[derive(Drop)]
 struct Collected {
     all: Vec<u8>,
-    pieces: u64,
+    lengths: Vec<usize>,
+    left: u64,
     faults: u64,
 }
 
 impl Sink for Collected {
-    ghost use Rattle.std.specs.Prelude.{None};
-
     ghost written = { λ _. None };
 
     ghost faults = { λ sink. sink.faults };
@@ -28,129 +46,107 @@ impl Sink for Collected {
         if piece.is_empty() {
             return Ok(());
         }
-        if self.pieces == 0 || self.all.extend_from_slice(piece).is_err() {
+        if self.left == 0
+            || self.lengths.push(piece.len()).is_err()
+            || self.all.extend_from_slice(piece).is_err()
+        {
             self.faults = self.faults.saturating_add(1);
             return Err(Failed);
         }
-        self.pieces -= 1;
+        self.left -= 1;
         Ok(())
     }
+}
+
+/// What a call did.
+#[derive(Drop)]
+struct Outcome {
+    status: Status,
+    most: Vec<u64>,
+    out: Collected,
 }
 
 /// An order file and configuration files, by their names.
 type FilesOf<'a> = &'a [(&'a str, &'a [u8])];
 
-/// The files in memory, of which one read fails, and none where its number is 0.
-fn in_memory(alloc: Global, files: FilesOf<'_>, failing: u64) -> Result<MemoryFiles, AllocError> {
+/// Runs `check` on these files, of which one read fails, and none where its number is 0, while so many pieces are taken.
+fn run_check(
+    alloc: Global,
+    files: FilesOf<'_>,
+    failing: u64,
+    pieces: u64,
+) -> Result<Outcome, AllocError> {
+    let mut words = Vec::new(alloc);
+    words.push(String::from_str(alloc, "check")?)?;
     let mut all = Vec::new(alloc);
     for (name, bytes) in files {
+        words.push(String::from_str(alloc, name)?)?;
         let name = Name::from_vec(Vec::from_slice(alloc, name.as_bytes())?);
         let bytes = Bytes::from_vec(Vec::from_slice(alloc, bytes)?);
         all.push((name, bytes))?;
     }
     let calls = Calls::from_vec(Vec::from_slice(alloc, &[failing])?);
-    Ok(MemoryFiles::new(alloc, FileList::from_vec(all), calls))
-}
-
-/// The words `check` and the names of the files.
-fn words_for(alloc: Global, files: FilesOf<'_>) -> Result<Vec<String>, AllocError> {
-    let mut words = Vec::new(alloc);
-    words.push(String::from_str(alloc, "check")?)?;
-    for (name, _) in files {
-        words.push(String::from_str(alloc, name)?)?;
-    }
-    Ok(words)
-}
-
-/// Checks the status and the text of a call, where one read fails or none, and so many pieces are written.
-fn check(
-    rt: &(impl AllocGlobal + Abort),
-    files: FilesOf<'_>,
-    failing: u64,
-    pieces: u64,
-    expected: (Status, &str),
-) -> Result<(), Fail> {
-    let alloc = rt.alloc();
-    let words = words_for(alloc, files)?;
-    let mut held = in_memory(alloc, files, failing)?;
+    let mut held = Recorded {
+        files: MemoryFiles::new(alloc, FileList::from_vec(all), calls),
+        most: Vec::new(alloc),
+    };
     let mut out = Collected {
         all: Vec::new(alloc),
-        pieces,
+        lengths: Vec::new(alloc),
+        left: pieces,
         faults: 0,
     };
     let status = run(alloc, words.as_slice(), &mut held, &mut out);
-    assert_eq!(rt; status, expected.0);
-    assert_eq!(rt; out.all.as_slice(), expected.1.as_bytes());
-    Ok(())
+    Ok(Outcome {
+        status,
+        most: held.most,
+        out,
+    })
 }
 
-const IN_ORDER: &[u8] = b"order 1\nR1\nR2\nR3\n";
+const TWO_ROUTERS: [(&str, &[u8]); 3] = [
+    ("o.txt", b"order 1\nR1\nR2\n"),
+    ("r1.cfg", b"hostname R1\nend\n"),
+    ("r2.cfg", b"hostname R2\nend\n"),
+];
 
 #[test]
 fn faults_of_files_and_of_the_sink_are_answers(rt: HostRuntime) -> Result<(), Fail> {
-    let files = [
-        ("o.txt", IN_ORDER),
-        ("r1.cfg", TRIANGLE[0].as_bytes()),
-        ("r2.cfg", TRIANGLE[1].as_bytes()),
-        ("r3.cfg", TRIANGLE[2].as_bytes()),
-    ];
-    for (failing, text) in [
-        (1, "read fault o.txt\n"),
-        (2, "read fault r1.cfg\n"),
-        (3, "read fault r2.cfg\n"),
-        (4, "read fault r3.cfg\n"),
+    for (failing, pieces, status, text) in [
+        (0, 1, Status::Done, "safe 4\n"),
+        (1, 1, Status::ReadFault, "read fault o.txt\n"),
+        (2, 1, Status::ReadFault, "read fault r1.cfg\n"),
+        (3, 1, Status::ReadFault, "read fault r2.cfg\n"),
+        (0, 0, Status::WriteFault, ""),
+        (2, 0, Status::WriteFault, ""),
     ] {
-        check(&rt, &files, failing, 9, (Status::ReadFault, text))?;
+        let outcome = run_check(rt.alloc(), &TWO_ROUTERS, failing, pieces)?;
+        assert_eq!(rt; outcome.status, status);
+        assert_eq!(rt; outcome.out.all.as_slice(), text.as_bytes());
     }
-    check(&rt, &files, 0, 0, (Status::WriteFault, ""))?;
-    check(&rt, &files, 2, 0, (Status::WriteFault, ""))?;
-    check(&rt, &files[..1], 0, 9, (Status::Words, "words refused\n"))
+    Ok(())
 }
 
-const ALONE: &[u8] = b"order 1\nR1\n";
-
-const ONE_ROUTER: &[u8] =
-    b"hostname R1\ninterface Loopback0\n ip address 10.0.0.1 255.255.255.255\nrouter ospf 1\n network 0.0.0.0 255.255.255.255 area 0\nend\n";
+#[test]
+fn each_file_is_read_up_to_one_byte_more_than_it_may_have(rt: HostRuntime) -> Result<(), Fail> {
+    let outcome = run_check(rt.alloc(), &TWO_ROUTERS, 0, 1)?;
+    assert_eq!(rt; outcome.most.as_slice(), [16_777_217; 3].as_slice());
+    Ok(())
+}
 
 #[test]
-fn what_is_refused_is_told(rt: HostRuntime) -> Result<(), Fail> {
-    let rows: [(&[u8], &[u8], Status, &str); 7] = [
-        (ALONE, ONE_ROUTER, Status::Done, "safe 2\n"),
-        (b"", ONE_ROUTER, Status::Refused, "refused o.txt 1 Header\n"),
-        (
-            b"order 1\nR9\n",
-            ONE_ROUTER,
-            Status::Refused,
-            "refused o.txt 2 NotInNetwork\n",
-        ),
-        (
-            ALONE,
-            b"hostname R1\n",
-            Status::Refused,
-            "refused r1.cfg 2 NoEnd\n",
-        ),
-        (
-            ALONE,
-            b"hostname R1\nrouter ospf 1\n distance 115\nend\n",
-            Status::Refused,
-            "refused r1.cfg 3 DistanceClash\n",
-        ),
-        (
-            ALONE,
-            b"hostname R1\nrouter ospf 1\n distance 255\nend\n",
-            Status::Refused,
-            "refused network NotAtStart R1\n",
-        ),
-        (
-            ALONE,
-            b"hostname R1\nrouter ospf 1\n area 0 range 10.0.0.0 255.0.0.0 cost 16777214\n area 1 stub\nend\n",
-            Status::Refused,
-            "refused network OspfCostSum 16777215\n",
-        ),
-    ];
-    for (order, config, status, text) in rows {
-        let files = [("o.txt", order), ("r1.cfg", config)];
-        check(&rt, &files, 0, 9, (status, text))?;
-    }
+fn a_long_text_is_written_in_pieces(rt: HostRuntime) -> Result<(), Fail> {
+    let alloc = rt.alloc();
+    let name = "o".repeat(alloc, 5000)?;
+    let text = format!(in alloc; "read fault {name}\n")?;
+    let files = [(name.as_str(), "".as_bytes()), TWO_ROUTERS[1]];
+    let whole = run_check(alloc, &files, 1, 2)?;
+    assert_eq!(rt; whole.status, Status::ReadFault);
+    assert_eq!(rt; whole.out.lengths.as_slice(), [4096, 916].as_slice());
+    assert_eq!(rt; whole.out.all.as_slice(), text.as_bytes());
+    let cut = run_check(alloc, &files, 1, 1)?;
+    assert_eq!(rt; cut.status, Status::WriteFault);
+    assert_eq!(rt; cut.out.lengths.as_slice(), [4096].as_slice());
+    assert!(rt; text.as_bytes().starts_with(cut.out.all.as_slice()));
     Ok(())
 }

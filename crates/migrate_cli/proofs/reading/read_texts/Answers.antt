@@ -1,6 +1,6 @@
 use Rattle.std.proofs.Common.{◌≡◌, ◌+◌, ◌++◌, ◌∷◌, [], take, drop, map, string_bytes, sym, ◌∙◌, ap, subst, append-nil, arith, refl}
 use Rattle.migrate_cli.specs.Reading.{AreRead}
-use Rattle.migrate_cli.specs.Stops.{StopsAt}
+use Rattle.migrate_cli.specs.Stops.{StopsAt, StopFaults}
 use Rattle.migrate_cli.proofs.ReadingFacts.{AreWithin-none}
 use Rattle.migrate_cli.proofs.StopFacts.{stops_among, StopsAt-same, read_more, asked_more, map_around, map_take_more}
 use Rattle.migrate_cli.proofs.reading.read_texts.Goals as goal
@@ -29,6 +29,11 @@ returns-in-Err-read_next-clause-read g c =
     (StopsAt-same (g.F.Files.content c.loop-name.files) content name c.loop-name.texts c.in-Err-read_next.stop (c.loop-name.invariant.contents_stay name) c.in-Err-read_next.ensures.stop)
     c.in-Err-read_next.ensures.asked
 
+pub returns-in-Err-read_next-clause-faults : goal.returns-in-Err-read_next-clause-faults
+returns-in-Err-read_next-clause-faults g c =
+    subst (λ count. StopFaults c.in-Err-read_next.stop count (g.F.Files.faults c.read_next-in-loop-name.new.files)) c.loop-name.invariant.faults_stand
+    c.in-Err-read_next.ensures.faults
+
 pub loop-name-preserved : goal.loop-name-preserved
 loop-name-preserved g c =
     let content = g.F.Files.content c.args.files.now in
@@ -47,5 +52,5 @@ loop-name-preserved g c =
       asked = asked_more (order ∷ map string_bytes (take i all)) name (g.F.Files.asked c.args.files.now) (g.F.Files.asked c.loop-name.files)
           (g.F.Files.asked c.read_next-in-loop-name.new.files) c.loop-name.invariant.asked c.in_default-read_next.ensures.asked ∙ ap (λ ws. g.F.Files.asked c.args.files.now ++ ws) (sym names);
       contents_stay = λ other. c.in_default-read_next.ensures.contents_stay other ∙ c.loop-name.invariant.contents_stay other;
-      never_fell = omega arith;
+      faults_stand = c.in_default-read_next.ensures.faults ∙ c.loop-name.invariant.faults_stand;
     }

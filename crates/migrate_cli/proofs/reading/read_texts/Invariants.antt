@@ -1,4 +1,4 @@
-use Rattle.std.proofs.Common.{◌≡◌, ◌≤◌, ℕ, List, ◌∷◌, ◌++◌, map, string_bytes, take}
+use Rattle.std.proofs.Common.{◌≡◌, ℕ, List, ◌∷◌, ◌++◌, map, string_bytes, take}
 use Rattle.migrate_cli.specs.Reading.{AreRead, AreWithin}
 use Rattle.migrate_cli.proofs.reading.read_texts.Given as goal
 
@@ -11,5 +11,5 @@ invariant-loop-name g l =
       within : AreWithin l.texts;
       asked : g.F.Files.asked l.files ≡ g.F.Files.asked l.fn.files ++ names;
       contents_stay : (other : List ℕ) → g.F.Files.content l.files other ≡ g.F.Files.content l.fn.files other;
-      never_fell : g.F.Files.faults l.fn.files ≤ g.F.Files.faults l.files;
+      faults_stand : g.F.Files.faults l.files ≡ g.F.Files.faults l.fn.files;
     }

@@ -1,4 +1,4 @@
-use Rattle.std.proofs.Common.{◌-◌, ◌≤◌, length, take}
+use Rattle.std.proofs.Common.{◌≡◌, ◌-◌, ◌≤◌, length, take}
 use Rattle.store_edge.specs.Sink.{Adds}
 use Rattle.migrate_cli.proofs.sending.send.Given as goal
 
@@ -7,7 +7,7 @@ abbrev pub invariant-loop-done : goal.invariant-loop-done
 invariant-loop-done g l = record {
   within : l.done ≤ length l.text;
   added : Adds (g.S.Sink.written l.fn.out) (g.S.Sink.written l.out) (take l.done l.text);
-  never_fell : g.S.Sink.faults l.fn.out ≤ g.S.Sink.faults l.out;
+  faults_stand : g.S.Sink.faults l.out ≡ g.S.Sink.faults l.fn.out;
 }
 
 abbrev pub decreases-loop-done : goal.decreases-loop-done
