@@ -30,14 +30,14 @@ pub struct Atoms {
 }
 
 impl Model for Atoms {
-    ghost use Rattle.prefix_atoms.specs.Classes.{Classes, IsClassing};
-    ghost use Rattle.prefix_atoms.specs.Numbers.{TellClasses};
+    ghost use Rattle.prefix_atoms.specs.Classes.{Classes};
+    ghost use Rattle.prefix_atoms.specs.Views.{IsAtoms, atoms_view};
 
     ghost Value = { Classes };
 
-    ghost view = { λ x. record { prefixes = x.prefixes.items; samples = x.samples.items; targets = x.targets.items } };
+    ghost view = { atoms_view };
 
-    ghost invariant = { λ x. IsClassing (record { prefixes = x.prefixes.items; samples = x.samples.items; targets = x.targets.items }) × TellClasses (record { prefixes = x.prefixes.items; samples = x.samples.items; targets = x.targets.items }) x.starts.items x.numbers.items };
+    ghost invariant = { IsAtoms };
 }
 
 impl Atoms {
