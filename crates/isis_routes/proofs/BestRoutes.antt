@@ -1,17 +1,15 @@
 -- The best of the offers is the route of the definitions.
-use Rattle.std.proofs.Common.{◌≡◌, ℕ, ◌<◌, ◌↔◌, List, length, Option, Some, None, MatchOption, sym, ap, subst}
-use Rattle.std.proofs.lemmas.Option.{none-some, same_Some}
+use Rattle.std.proofs.Common.{◌≡◌, ℕ, ◌<◌, ◌↔◌, List, length, Option, Some, None, MatchOption, sym, subst}
+use Rattle.std.proofs.lemmas.Option.{none-some}
 use Rattle.net_addr.specs.Addresses.{Block}
 use Rattle.net_model.proofs.NetworkFacts.{Adjacent-to_within}
 use Rattle.net_model.specs.Network.{Network, Adjacent}
 use Rattle.net_model.specs.declared.zone.Zone.TheVariants.{One as ZoneOne, Two as ZoneTwo}
-use Rattle.walk_core.specs.Walks.{Arcs}
-use Rattle.walk_core.specs.Offers.{Offers, BestCost, BestHop}
+use Rattle.walk_core.specs.Offers.{BestHop}
 use Rattle.walk_core.specs.Reach.{Reach, AreLeastWalks}
 use Rattle.walk_core.specs.BestOffers.{NoneTotals, IsBestTotal}
 use Rattle.walk_core.specs.declared.offers.Offer.{Offer}
 use Rattle.walk_core.proofs.OfferLaws.{best_total_is_best_cost, none_totals_no_best}
-use Rattle.walk_core.proofs.WalkLaws.{best_cost_unique}
 use Rattle.igp_theory.specs.Ospf.{OfOthers, default_prefix}
 use Rattle.igp_theory.specs.Isis.{RunsOne, RunsTwo, OffersOne, OneCost, OneHop, IsOne, LevelTwoAnnouncement, IsTwo, TwoHop, OffersDefault, DefaultHop}
 use Rattle.isis_routes.specs.Offered.{AreOffers}

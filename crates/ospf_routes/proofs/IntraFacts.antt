@@ -1,7 +1,7 @@
 -- What the interfaces of each area offer of a prefix, and its intra-area costs.
 use Rattle.std.proofs.Common.{◌≡◌, ℕ, ◌<◌, ◌↔◌, ⊎_elim, List, [], ◌∷◌, ◌++◌, length, Option, Some, None, MatchOption, refl, sym, ap, subst, ◌∙◌, arith}
 use Rattle.std.specs.List.{Contains, Any, All}
-use Rattle.std.proofs.lemmas.Option.{none-some, same_Some}
+use Rattle.std.proofs.lemmas.Option.{none-some}
 use Rattle.std.proofs.lemmas.List.Elements.{All-push, All-weaker, All-contains, Contains-append_left, Contains-push, Contains-push_cases}
 use Rattle.net_addr.specs.Addresses.{Block}
 use Rattle.net_model.proofs.Adjacency.{UpInterface-among}
@@ -10,13 +10,9 @@ use Rattle.net_model.specs.Configuration.{Configuration}
 use Rattle.net_model.specs.Network.{Network, HasConfiguration, Adjacent}
 use Rattle.net_model.specs.declared.interface.Interface.{Interface}
 use Rattle.net_model.specs.declared.zone.Zone.TheVariants.{Area}
-use Rattle.walk_core.specs.Walks.{Arcs}
-use Rattle.walk_core.specs.Offers.{Offers, BestCost}
-use Rattle.walk_core.specs.Reach.{Reach, AreLeastWalks}
-use Rattle.walk_core.specs.BestOffers.{ListsOffer, NoneTotals, IsBestTotal}
+use Rattle.walk_core.specs.Reach.{Reach}
+use Rattle.walk_core.specs.BestOffers.{NoneTotals, IsBestTotal}
 use Rattle.walk_core.specs.declared.offers.Offer.{Offer}
-use Rattle.walk_core.proofs.OfferLaws.{best_total_is_best_cost, none_totals_no_best}
-use Rattle.walk_core.proofs.WalkLaws.{best_cost_unique}
 use Rattle.igp_theory.specs.Ospf.{OffersSubnet, IntraAreaCost, IsIntraArea}
 use Rattle.ospf_routes.specs.Areas.{AreAreas, HasArea, IsInside}
 use Rattle.ospf_routes.specs.declared.areas.AreaWalks.{AreaWalks}
