@@ -1,87 +1,119 @@
-ghost use Rattle.std.specs.Prelude.{◌≡◌, ◌≢◌, ◌<◌, ◌≤◌, [], ◌∷◌, All, AllPairs, IfOk};
+ghost use Rattle.std.specs.Prelude.{◌≡◌, ◌≢◌, ◌<◌, ◌≤◌, [], ◌∷◌, length, IfOk};
 ghost use Rattle.net_model.specs.Configuration.{IsInterface};
+ghost use Rattle.route_core.specs.declared.entry.Entry.TheVariants.{Via};
 ghost use Rattle.igp_theory.specs.States.{IsOrder};
 
 use super::*;
-use isis_routes::IsisRoutes;
 use net_addr::{Name, Prefix};
 use net_model::{Config, Configs, Distances, Interface, Interfaces, Levels, Net, Ranges, Stubs};
 use order_search::Tag;
-use std::process::Abort;
+use route_core::{Entries, Entry, Hops, Table};
 use std::test::Fail;
 
-/// An interface in area 0, and in level 2 where it's said; a prefix of length 32 makes a loopback.
-fn interface(
-    alloc: Global,
-    name: u8,
-    address: u32,
-    len: u8,
-    metric: u32,
-    level2: bool,
-) -> Result<Interface, OutOfMemory>
-    requires short { len ≤ 32 }
-    requires some { 1 ≤ metric }
-    requires most { metric ≤ 65535 }
-    ensures kept { IfOk result IsInterface }
-    ensures named { IfOk result (λ i. i.name ≡ name ∷ []) }
+/// The tables of three routers for one prefix: that of the first, and that of both others.
+#[derive(Drop)]
+struct Ways {
+    first: Table,
+    others: Table,
+}
+
+impl Model for Ways {
+    ghost use Rattle.std.specs.Prelude.{List, nat_eq, if◌then◌else◌};
+    ghost use Rattle.net_addr.specs.Addresses.{Block};
+    ghost use Rattle.route_core.specs.declared.entry.Entry.{Entry};
+    ghost use Rattle.route_core.specs.Tables.{AreTables};
+
+    ghost Value = { List (Block × Entry) × List (Block × Entry) };
+
+    ghost view = { λ x. (x.first, x.others) };
+
+    ghost invariant = { λ x. AreTables 3 (λ u. if nat_eq u 0 then x.first else x.others) (λ _ _. Unit {0}) };
+}
+
+impl RouteSource for Ways {
+    ghost use Rattle.std.specs.Prelude.{nat_eq, if◌then◌else◌};
+
+    ghost routers = { λ _. 3 };
+
+    ghost table = { λ s u. if nat_eq u 0 then s.0 else s.1 };
+
+    ghost linked = { λ _ _ _. Unit {0} };
+
+    fn routers(&self) -> u32 {
+        let _ = &self.first;
+        3
+    }
+
+    fn table(&self, router: u32) -> &Table {
+        if router == 0 {
+            &self.first
+        } else {
+            &self.others
+        }
+    }
+
+    fn linked(&self, _u: u32, _v: u32) -> bool {
+        let _ = &self.first;
+        true
+    }
+}
+
+fn table_to(alloc: Global, dest: Prefix, hop: u32) -> Result<Table, OutOfMemory>
+    ensures { IfOk result (λ table. table ≡ (dest, Via (hop ∷ [])) ∷ []) }
 {
-    let name = Name::from_vec(Vec::from_slice(alloc, &[name])?);
+    let mut hops = Vec::new(alloc);
+    hops.push(hop)?;
+    let mut entries = Vec::new(alloc);
+    entries.push((dest, Entry::Via(Hops::from_vec(hops))))?;
+    Table::from_entries(alloc, Entries::from_vec(entries))
+}
+
+/// The first router sends the packets of a prefix to one hop, the others to another.
+fn make_ways(alloc: Global, dest: Prefix, hop: u32, other: u32) -> Result<Ways, OutOfMemory>
+    requires hop { hop < 3 }
+    requires other { other < 3 }
+{
+    let first = table_to(alloc, dest, hop)?;
+    let others = table_to(alloc, dest, other)?;
+    Ok(Ways { first, others })
+}
+
+/// The loopback 10.0.0.number/32, in an area where it's said.
+fn loopback(alloc: Global, number: u8, area: Option<u32>) -> Result<Interface, OutOfMemory>
+    ensures { IfOk result IsInterface }
+{
+    let address = 0x0a00_0000 + u32::from(number);
     Ok(Interface {
-        name,
+        name: Name::from_vec(Vec::from_slice(alloc, b"lo0")?),
         address,
-        subnet: Prefix::around(address, len),
+        subnet: Prefix::around(address, 32),
         up: true,
-        loopback: len == 32,
-        area: Some(0),
-        cost: metric,
+        loopback: true,
+        area,
+        cost: 1,
         ospf_passive: false,
         level1: false,
-        level2,
-        metric1: metric,
-        metric2: metric,
+        level2: false,
+        metric1: 10,
+        metric2: 10,
         isis_passive: false,
     })
 }
 
-/// A loopback of 10.0.0.number, and links of these addresses and metrics, in level 2 where it's said.
-fn interfaces(
-    alloc: Global,
-    number: u8,
-    own: u32,
-    links: [u32; 2],
-    metrics: [u32; 2],
-    level2: bool,
-) -> Result<Interfaces, OutOfMemory>
-    requires some { 1 ≤ own }
-    requires most { own ≤ 65535 }
-    requires metrics { All (λ m. (1 ≤ m) × (m ≤ 65535)) metrics }
-    ensures kept { IfOk result (All IsInterface) }
-    ensures apart { IfOk result (AllPairs (λ i j. i.name ≢ j.name)) }
+/// A router named by a digit, with its loopback.
+fn router(alloc: Global, number: u8, area: Option<u32>) -> Result<Config, OutOfMemory>
+    requires { number ≤ 9 }
 {
-    let loopback = interface(alloc, 0, 0x0a00_0000 + u32::from(number), 32, own, true)?;
-    let first = interface(alloc, 1, links[0], 30, metrics[0], level2)?;
-    let second = interface(alloc, 2, links[1], 30, metrics[1], level2)?;
-    let mut all = Vec::new(alloc);
-    all.push(loopback)?;
-    all.push(first)?;
-    all.push(second)?;
-    Ok(Interfaces::from_vec(all))
-}
-
-/// The router of this number, of level 2.
-fn router(alloc: Global, number: u8, interfaces: Interfaces) -> Result<Config, OutOfMemory>
-    requires letter { number ≤ 9 }
-    requires kept { All IsInterface interfaces }
-    requires apart { AllPairs (λ i j. i.name ≢ j.name) interfaces }
-{
+    let mut interfaces = Vec::new(alloc);
+    interfaces.push(loopback(alloc, number, area)?)?;
     Ok(Config {
         name: Name::from_vec(Vec::from_slice(alloc, &[b'0' + number])?),
-        interfaces,
+        interfaces: Interfaces::from_vec(interfaces),
         process: Some(1),
-        isis: true,
+        isis: false,
         tag: Name::from_vec(Vec::new(alloc)),
-        isis_area: Name::from_vec(Vec::from_slice(alloc, &[1])?),
-        system: u64::from(number),
+        isis_area: Name::from_vec(Vec::new(alloc)),
+        system: 0,
         levels: Levels::Two,
         ranges: Ranges::from_vec(Vec::new(alloc)),
         stubs: Stubs::from_vec(Vec::new(alloc)),
@@ -93,29 +125,12 @@ fn router(alloc: Global, number: u8, interfaces: Interfaces) -> Result<Config, O
     })
 }
 
-/// Three routers, each linked to each; `metrics` are those of the links 0-1, 1-2 and 0-2:
-///
-/// ```text
-///   0 ------- 1
-///    \       /
-///     \     /
-///        2
-/// ```
-///
-/// The links of router 2 run IS-IS at its end where it's said.
-fn triangle(alloc: Global, own: u32, metrics: [u32; 3], far: bool) -> Result<Net, Fail>
-    requires some { 1 ≤ own }
-    requires most { own ≤ 65535 }
-    requires metrics { All (λ m. (1 ≤ m) × (m ≤ 65535)) metrics }
-{
-    let [a, b, c] = metrics;
+/// Three routers. Only the loopback of the last, 10.0.0.3, is announced.
+fn three(alloc: Global) -> Result<Net, Fail> {
     let mut all = Vec::new(alloc);
-    let zero = interfaces(alloc, 1, own, [0x0a00_0c01, 0x0a00_0d01], [a, c], true)?;
-    all.push(router(alloc, 1, zero)?)?;
-    let one = interfaces(alloc, 2, own, [0x0a00_0c02, 0x0a00_1701], [a, b], true)?;
-    all.push(router(alloc, 2, one)?)?;
-    let two = interfaces(alloc, 3, own, [0x0a00_0d02, 0x0a00_1702], [c, b], far)?;
-    all.push(router(alloc, 3, two)?)?;
+    all.push(router(alloc, 1, None)?)?;
+    all.push(router(alloc, 2, None)?)?;
+    all.push(router(alloc, 3, Some(0))?)?;
     let net = Net::build(alloc, Configs::from_vec(all))
         .ok()
         .ok_or("refused")?;
@@ -131,36 +146,21 @@ fn order(a: u32, b: u32, c: u32) -> [u32; 3]
     [a, b, c]
 }
 
-/// What is found of an order of the triangle that goes from these costs to metrics 10, 100 and 10.
-fn finds(
-    rt: &impl Abort,
-    alloc: Global,
-    costs: [u32; 3],
-    far: bool,
-    order: &[u32],
-    expected: Option<(u32, Fault)>,
-    ring: &[Turn],
-) -> Result<(), Fail>
-    requires order { IsOrder 3 order.now }
-    requires costs { All (λ m. (1 ≤ m) × (m ≤ 65535)) costs }
+/// Whether a sound state and a seamless order are told, and then an order with a loop of 0, before its switch, and 1, after it.
+fn tells(finder: &mut Finder<'_, Ways, Ways>) -> bool
+    requires { length finder.old.mixture.net ≡ 3 }
 {
-    let before = triangle(alloc, 1, costs, true)?;
-    let net = triangle(alloc, 10, [10, 100, 10], far)?;
-    let old = IsisRoutes::build(alloc, &before)?;
-    let new = IsisRoutes::build(alloc, &net)?;
-    assert_eq!(rt; net.routers(), 3);
-    assert_eq!(rt; old.routers(), 3);
-    assert_eq!(rt; new.routers(), 3);
-    let mixed = Mixed::build(alloc, &net, &old, &new)?;
-    assert_eq!(rt; mixed.net().routers(), 3);
-    let mut finder = Finder::new(alloc, &mixed)?;
-    assert_eq!(rt; finder.state_fault(&[Phase::Old; 3]), None);
-    assert_eq!(rt; finder.order_fault(order), expected);
-    assert_eq!(rt; finder.ring(), ring);
-    Ok(())
+    let sound = finder.state_fault(&[Phase::Old; 3]).is_none();
+    let seamless = finder.order_fault(&order(0, 1, 2)).is_none();
+    let fault = finder.order_fault(&order(1, 0, 2));
+    let address = 0x0a00_0003;
+    sound
+        && seamless
+        && fault == Some((2, Fault::Loop { address }))
+        && finder.ring() == TWO_TURNS.as_slice()
 }
 
-/// The turns of a loop between routers 0, before its switch, and 1, after it.
+/// The turns of that loop.
 const TWO_TURNS: [Turn; 2] = [
     Turn {
         router: 0,
@@ -172,60 +172,24 @@ const TWO_TURNS: [Turn; 2] = [
     },
 ];
 
-#[test]
-fn a_loop_and_a_seamless_order(rt: HostRuntime) -> Result<(), Fail> {
-    let looped = Fault::Loop {
-        address: 0x0a00_0003,
-    };
-    finds(
-        &rt,
-        rt.alloc(),
-        [1, 1, 10],
-        true,
-        &order(1, 0, 2),
-        Some((2, looped)),
-        &TWO_TURNS,
-    )?;
-    finds(
-        &rt,
-        rt.alloc(),
-        [1, 1, 10],
-        true,
-        &order(0, 1, 2),
-        None,
-        &[],
-    )
+/// Whether a finder over three routers tells that.
+fn finds(alloc: Global, net: &Net, old: &Ways, new: &Ways) -> Result<bool, OutOfMemory> {
+    if net.routers() != 3 || old.routers() != 3 || new.routers() != 3 {
+        return Ok(false);
+    }
+    let mixed = Mixed::build(alloc, net, old, new)?;
+    let mut finder = Finder::new(alloc, &mixed)?;
+    Ok(tells(&mut finder))
 }
 
+/// Before the move packets go from 0 to 1 to 2, and after it from 1 to 0 to 2.
 #[test]
-fn a_loop_over_one_of_two_hops(rt: HostRuntime) -> Result<(), Fail> {
-    let looped = Fault::Loop {
-        address: 0x0a00_0003,
-    };
-    finds(
-        &rt,
-        rt.alloc(),
-        [1, 1, 2],
-        true,
-        &order(1, 0, 2),
-        Some((2, looped)),
-        &TWO_TURNS,
-    )
-}
-
-#[test]
-fn a_router_without_a_step(rt: HostRuntime) -> Result<(), Fail> {
-    let missing = Fault::Missing {
-        address: 0x0a00_0003,
-        router: 0,
-    };
-    finds(
-        &rt,
-        rt.alloc(),
-        [1, 1, 10],
-        false,
-        &order(0, 1, 2),
-        Some((2, missing)),
-        &[],
-    )
+fn a_seamless_order_and_a_loop(rt: HostRuntime) -> Result<(), Fail> {
+    let dest = Prefix::new(0x0a00_0003, 32).ok_or("no prefix")?;
+    let net = three(rt.alloc())?;
+    let old = make_ways(rt.alloc(), dest, 1, 2)?;
+    let new = make_ways(rt.alloc(), dest, 2, 0)?;
+    let found = finds(rt.alloc(), &net, &old, &new)?;
+    assert!(rt; found);
+    Ok(())
 }
