@@ -1,11 +1,11 @@
 -- Configurations in byte order of their names are the network that they make.
-use Rattle.std.proofs.Common.{◌≡◌, ◌≢◌, ℕ, ◌+◌, ◌<◌, List, [], ◌∷◌, length, get_or, refl, sym, arith}
+use Rattle.std.proofs.Common.{◌≡◌, ◌+◌, List, [], ◌∷◌, length, get_or, refl, sym, arith}
 use Rattle.std.specs.Cmp.Lexicographic.{slice_cmp}
 use Rattle.std.specs.Ordering.{nat_cmp}
 use Rattle.std.specs.List.Sorted.{IsSortedByKey, IsPermutation}
 use Rattle.std.proofs.lemmas.List.Sorted.{IsPermutation-sym}
 use Rattle.net_model.specs.Configuration.{Configuration}
-use Rattle.net_model.specs.Doubles.{IsDouble, NoDoubles}
+use Rattle.net_model.specs.Doubles.{NoDoubles}
 use Rattle.net_model.specs.Network.{Network}
 use Rattle.net_model.specs.Refusals.{IsNetworkOf, TwoHaveName}
 use Rattle.net_model.proofs.Names.{named_from, NamesAscend-from_sorted, TwoHaveName-permutation}
