@@ -1,5 +1,4 @@
 use Rattle.std.proofs.Common.{◌<◌, Bool, ◌&&◌, ◌||◌, Option, length, take, sym, ap, ◌∙◌}
-use Rattle.std.specs.List.{list_any}
 use Rattle.ios_lines.specs.FaultOrder.{lesser_fault, least_fault, faults_if}
 use Rattle.ios_sections.specs.ProcessFaults.{is_net, second_titles}
 use Rattle.ios_lines.specs.declared.fault.Fault.{Fault}
