@@ -3,7 +3,8 @@ use Rattle.std.specs.Prelude.{ℕ, ◌*◌, ◌/◌, Bool, true, false, not, ◌
 use Rattle.std.specs.List.{starts_with}
 use Rattle.net_addr.specs.Addresses.{Block}
 use Rattle.net_model.specs.declared.config.Levels.{Levels}
-use Rattle.net_model.specs.declared.config.Levels.TheVariants.{One, Two, Both}
+use Rattle.net_model.specs.declared.config.Levels.TheVariants.{Both}
+use Rattle.net_model.specs.LevelSets.{has_one, has_two}
 use Rattle.net_model.specs.declared.interface.Interface.{Interface}
 use Rattle.ios_lines.specs.Words.{Word, is_letter}
 use Rattle.ios_lines.specs.Lookups.{last_of, first_of, good_value, value_or}
@@ -94,18 +95,6 @@ cost_given None otherwise = otherwise
 -- the cost of an interface: by its cost line, else its default
 abbrev pub ospf_cost : Router → Word → InterfaceFacts → Option ℕ
 ospf_cost router name facts = cost_given facts.cost (default_cost router.reference name facts.bandwidth)
-
--- the levels hold level 1
-abbrev pub has_one : Levels → Bool
-has_one One = true
-has_one Two = false
-has_one Both = true
-
--- the levels hold level 2
-abbrev pub has_two : Levels → Bool
-has_two One = false
-has_two Two = true
-has_two Both = true
 
 -- whether the interface is passive for IS-IS
 abbrev pub is_isis_passive : Router → Word → Bool

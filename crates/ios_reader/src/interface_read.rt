@@ -1,9 +1,10 @@
 ghost use Rattle.std.specs.Prelude.{◌≡◌, ◌≤◌, length, take_while, unwrap_or, map, IfOk};
 ghost use Rattle.std.specs.List.{prefix_len};
+ghost use Rattle.net_model.specs.LevelSets.{has_one, has_two};
 ghost use Rattle.ios_lines.specs.Words.{is_letter};
 ghost use Rattle.ios_lines.specs.Lookups.{good_value};
 ghost use Rattle.ios_reader.specs.Passives.{ArePassivesOf};
-ghost use Rattle.ios_reader.specs.InterfacesAsRead.{address_given, is_loopback, is_up, names_process, area_by, interface_area, default_bandwidth, cost_of_bandwidth, cost_by_bandwidth, default_cost, cost_given, ospf_cost, has_one, has_two, is_isis_passive, is_ospf_passive, runs_isis, runs_level, metric_by, level_metric, address_field, subnet_field, cost_field, interface_with, interface_as_read};
+ghost use Rattle.ios_reader.specs.InterfacesAsRead.{address_given, is_loopback, is_up, names_process, area_by, interface_area, default_bandwidth, cost_of_bandwidth, cost_by_bandwidth, default_cost, cost_given, ospf_cost, is_isis_passive, is_ospf_passive, runs_isis, runs_level, metric_by, level_metric, address_field, subnet_field, cost_field, interface_with, interface_as_read};
 
 use crate::OutOfMemory;
 use crate::facts::{InterfaceFacts, PlacedAddress, facts_of};
@@ -214,33 +215,13 @@ fn runs_isis(passive: bool, facts: &InterfaceFacts) -> bool
     passive || facts.isis.is_some()
 }
 
-/// Whether the levels hold level 1.
-fn has_one(levels: Levels) -> bool
-    ensures { result ≡ has_one levels }
-{
-    match levels {
-        Levels::One | Levels::Both => true,
-        Levels::Two => false,
-    }
-}
-
-/// Whether the levels hold level 2.
-fn has_two(levels: Levels) -> bool
-    ensures { result ≡ has_two levels }
-{
-    match levels {
-        Levels::Two | Levels::Both => true,
-        Levels::One => false,
-    }
-}
-
 /// Whether an interface that is passive or not runs level 1, on a router of these levels.
 fn runs_one(levels: Levels, passive: bool, facts: &InterfaceFacts) -> bool
     ensures { result ≡ runs_level has_one levels passive facts.now }
 {
     runs_isis(passive, facts)
-        && has_one(levels)
-        && (passive || has_one(levels_or_both(facts.circuit)))
+        && levels.has_one()
+        && (passive || levels_or_both(facts.circuit).has_one())
 }
 
 /// Whether an interface that is passive or not runs level 2, on a router of these levels.
@@ -248,8 +229,8 @@ fn runs_two(levels: Levels, passive: bool, facts: &InterfaceFacts) -> bool
     ensures { result ≡ runs_level has_two levels passive facts.now }
 {
     runs_isis(passive, facts)
-        && has_two(levels)
-        && (passive || has_two(levels_or_both(facts.circuit)))
+        && levels.has_two()
+        && (passive || levels_or_both(facts.circuit).has_two())
 }
 
 /// A number that is there and good.

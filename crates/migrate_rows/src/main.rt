@@ -2,6 +2,8 @@
 //! printed reads as a session at a terminal: each call, the line that it writes, and its code.
 #![tactic(auto)]
 
+ghost use Rattle.std.specs.Prelude.{◌≡◌, [], IfOk};
+
 use anyhow::Result;
 use migrate_cli::{Status, run};
 use net_addr::{Bytes, Name};
@@ -31,8 +33,10 @@ fn answer(rt: &(impl AllocGlobal + Files + Print), call: &str) -> Result<Status>
     Ok(run(alloc, words.as_slice(), &mut files, &mut out))
 }
 
-/// The files that words name, in memory. A word that names none is left out.
-fn held(rt: &(impl AllocGlobal + Files), words: &[String]) -> Result<MemoryFiles> {
+/// The files that words name, in memory, where no read of them fails. A word that names none is left out.
+fn held(rt: &(impl AllocGlobal + Files), words: &[String]) -> Result<MemoryFiles>
+    ensures { IfOk result (λ files. files.failing ≡ []) }
+{
     let alloc = rt.alloc();
     let mut all = Vec::new(alloc);
     for word in words {
