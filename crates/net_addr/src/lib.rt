@@ -22,6 +22,3 @@ pub use prefix::Prefix;
 pub use span::{Span, SpanList};
 pub use std::alloc::AllocError as OutOfMemory;
 pub use word::words;
-
-#[cfg(test)]
-mod tests;

@@ -9,6 +9,3 @@ mod tracing;
 
 pub use precedences::{Added, Precedences};
 pub use std::alloc::AllocError as OutOfMemory;
-
-#[cfg(test)]
-mod tests;

@@ -34,6 +34,3 @@ pub trait RouteSource {
         requires to_router { v < routers self.now }
         ensures { IsTrue result ↔ linked self.now u v };
 }
-
-#[cfg(test)]
-mod tests;

@@ -5,8 +5,6 @@ mod graph;
 mod hops;
 mod offers;
 mod relax;
-#[cfg(test)]
-mod tests;
 mod walks;
 
 pub use graph::CostGraph;

@@ -1,6 +1,6 @@
 use Rattle.std.proofs.Common.{◌≡◌, [], replicate, ap, ◌∙◌, refl, arith}
 use Rattle.link_trail.specs.Lists.{LinkedLists}
-use Rattle.link_trail.proofs.links.tests.moves_are_taken_back.Goals as goal
+use Rattle.worked_examples.proofs.links.moves_are_taken_back.Goals as goal
 
 pub unlink-requires-clause-linked : goal.unlink-requires-clause-linked
 unlink-requires-clause-linked g c =

@@ -1,10 +1,8 @@
 ghost use Rattle.std.specs.Prelude.{◌≡◌, ◌<◌, [], ◌∷◌, IfOk};
 ghost use Rattle.route_core.specs.declared.entry.Entry.TheVariants.{Via};
 
-use super::*;
-use crate::entries::Entries;
-use crate::entry::{Entry, Hops};
 use net_addr::Prefix;
+use route_core::{Entries, Entry, Hops, RouteSource, Table};
 use std::alloc::{AllocError, Global};
 use std::marker::Model;
 use std::test::Fail;

@@ -1,4 +1,6 @@
-use super::*;
+use net_addr::{
+    Bytes, Name, Prefix, Span, boundary_law, lines, read_addr, read_mask, read_number, words,
+};
 use std::test::Fail;
 
 #[test]

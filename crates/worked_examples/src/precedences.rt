@@ -1,6 +1,6 @@
 ghost use Rattle.std.specs.Prelude.{◌≡◌, ◌≤◌, IfOk};
 
-use crate::precedences::{Added, Precedences};
+use precedence_set::{Added, Precedences};
 use std::alloc::{AllocError, Global};
 use std::process::Abort;
 

@@ -2,8 +2,8 @@ ghost use Rattle.std.specs.Prelude.{◌≡◌, ◌+◌, ◌<◌, ◌==◌, nat_l
 ghost use Rattle.std.proofs.Common.{rules, arith};
 ghost use Rattle.std.proofs.lemmas.Grind.{common_steps};
 
-use crate::{CostGraph, Offer, least_walks};
 use std::test::Fail;
+use walk_core::{CostGraph, Offer, least_walks};
 
 /// The graph that `least_walks` draws.
 struct Drawn;
