@@ -1,0 +1,6 @@
+pub mod Orders
+pub mod Lowest
+pub mod Marks
+pub mod Pairs
+pub mod Rankings
+pub mod Turns
