@@ -3,4 +3,5 @@ pub mod Lowest
 pub mod Marks
 pub mod Pairs
 pub mod Rankings
+pub mod Rings
 pub mod Turns
