@@ -23,6 +23,7 @@ named_alone name = record {
   isis_area = [];
   system = 0;
   levels = Both;
+  leak = false;
   ranges = [];
   stubs = [];
   rfc1583 = true;

@@ -9,6 +9,7 @@ use Rattle.net_model.specs.Least.{IsBlockAtMost, IsLeastPair, IsLowest}
 use Rattle.net_model.specs.Limits.{all_up_interfaces, CountsDests, IsWithinLimits}
 use Rattle.net_model.specs.Lookups.{IsNamed}
 use Rattle.net_model.specs.Network.{Network}
+use Rattle.net_model.specs.declared.bounds.TheConstants.{MOST_COST, MOST_DESTS, MOST_PATH_METRIC, MOST_ROUTERS, MOST_UP_INTERFACES}
 use Rattle.net_model.specs.declared.refusal.LimitWhat.TheVariants.{Routers, Interfaces, Dests}
 use Rattle.net_model.specs.declared.refusal.NetRefusal.{NetRefusal}
 use Rattle.net_model.specs.declared.refusal.NetRefusal.TheVariants.{Limit, TwoNames, AddressTwice, PrefixInTwoAreas, BorderWithoutBackbone, OspfCostSum, IsisMetricSum, SystemIdTwice, StubMismatch, OutOfMemory}
@@ -48,11 +49,11 @@ pub record IsAbove (most count number : ℕ) : Type 0 where
   pub above : most < count
   pub number_is : number ≡ carried count
 
--- the configurations name more than 4,096 prefixes, and the refusal carries how many
+-- the configurations name too many prefixes, and the refusal carries how many
 pub record NameTooMany (configs : List Configuration) (number : ℕ) : Type 0 where
   pub dests : ℕ
   pub counted : CountsDests configs dests
-  pub above : IsAbove 4096 dests number
+  pub above : IsAbove MOST_DESTS dests number
 
 -- two configurations have this name
 pub record TwoHaveName (configs : List Configuration) (name : List ℕ) : Type 0 where
@@ -79,8 +80,8 @@ RefusesNetwork (AddressTwice one two address) net = IsLeastPair (λ a b. a ≤ b
 RefusesNetwork (PrefixInTwoAreas one two dest) net =
     AddressesDiffer net × IsLeastPair IsBlockAtMost (RunTwoAreas net) one two dest
 RefusesNetwork (BorderWithoutBackbone router) net = PassesAreas net × IsLowest (LacksBackbone net) router
-RefusesNetwork (OspfCostSum sum) net = PassesBorders net × IsAbove 16777214 (ospf_cost_sum net) sum
-RefusesNetwork (IsisMetricSum sum) net = PassesOspfCosts net × IsAbove 4261412864 (isis_metric_sum net) sum
+RefusesNetwork (OspfCostSum sum) net = PassesBorders net × IsAbove MOST_COST (ospf_cost_sum net) sum
+RefusesNetwork (IsisMetricSum sum) net = PassesOspfCosts net × IsAbove MOST_PATH_METRIC (isis_metric_sum net) sum
 RefusesNetwork (SystemIdTwice one two) net =
     PassesIsisMetrics net × ((system : ℕ) × IsLeastPair (λ a b. a ≤ b) (HaveOneSystem net) one two system)
 RefusesNetwork (StubMismatch one two area) net =
@@ -96,11 +97,11 @@ pub record HoldsOfNetwork (configs : List Configuration) (P : Network → Type 0
 
 -- when each refusal comes: its condition holds, and none of those above it
 abbrev pub Refuses : NetRefusal → List Configuration → Type 0
-Refuses (Limit Routers number) configs = IsAbove 200 (length configs) number
+Refuses (Limit Routers number) configs = IsAbove MOST_ROUTERS (length configs) number
 Refuses (Limit Interfaces number) configs =
-    (length configs ≤ 200) × IsAbove 2000 (all_up_interfaces configs) number
+    (length configs ≤ MOST_ROUTERS) × IsAbove MOST_UP_INTERFACES (all_up_interfaces configs) number
 Refuses (Limit Dests number) configs =
-    (length configs ≤ 200) × (all_up_interfaces configs ≤ 2000) × NameTooMany configs number
+    (length configs ≤ MOST_ROUTERS) × (all_up_interfaces configs ≤ MOST_UP_INTERFACES) × NameTooMany configs number
 Refuses (TwoNames name) configs = IsWithinLimits configs × IsLeastDouble configs name
 Refuses OutOfMemory configs = Unit {0}
 Refuses refusal configs = HoldsOfNetwork configs (RefusesNetwork refusal)

@@ -6,11 +6,11 @@ ghost use Rattle.net_model.specs.Scans.{ClashOnAddress, OffersAddress};
 
 use crate::links::lower;
 use crate::pairs::{Clash, first_pair};
-use crate::{Config, Interface, NetRefusal};
+use crate::{Config, Interface, MOST_ROUTERS, NetRefusal};
 
 /// Refuses an address that two up interfaces have, if they belong to one router or one of them is no loopback.
 pub fn check_addresses(configs: &[Config]) -> Result<(), NetRefusal>
-    requires { length configs.now ≤ 200 }
+    requires { length configs.now ≤ MOST_ROUTERS }
     ensures ok { OnOk result (AddressesDiffer configs.now) }
     ensures err { IfErr result (λ e. RefusesNetwork e configs.now) }
 {

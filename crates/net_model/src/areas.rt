@@ -6,12 +6,12 @@ ghost use Rattle.net_model.specs.Scans.{AreInTwoAreas, ClashOnArea, OffersDest, 
 
 use crate::links::share_subnet;
 use crate::pairs::{Clash, first_pair};
-use crate::{Config, Interface, NetRefusal};
+use crate::{Config, Interface, MOST_ROUTERS, NetRefusal};
 use net_addr::Prefix;
 
 /// Refuses a subnet that up interfaces run in different OSPF areas.
 pub fn check_areas(configs: &[Config]) -> Result<(), NetRefusal>
-    requires few { length configs.now ≤ 200 }
+    requires few { length configs.now ≤ MOST_ROUTERS }
     requires addresses { AddressesDiffer configs.now }
     ensures ok { OnOk result (PassesAreas configs.now) }
     ensures err { IfErr result (λ e. RefusesNetwork e configs.now) }

@@ -5,11 +5,11 @@ ghost use Rattle.net_model.specs.Refusals.{RefusesNetwork};
 ghost use Rattle.net_model.specs.Scans.{AreInTwoAreas, LeaveBackbone};
 
 use crate::areas::{has_area, in_two_areas};
-use crate::{Config, Interface, NetRefusal};
+use crate::{Config, Interface, MOST_ROUTERS, NetRefusal};
 
 /// Refuses the lowest border router that has no up interface in area 0.
 pub fn check_borders(configs: &[Config]) -> Result<(), NetRefusal>
-    requires few { length configs.now ≤ 200 }
+    requires few { length configs.now ≤ MOST_ROUTERS }
     requires areas { PassesAreas configs.now }
     ensures ok { OnOk result (PassesBorders configs.now) }
     ensures err { IfErr result (λ e. RefusesNetwork e configs.now) }
@@ -22,7 +22,7 @@ pub fn check_borders(configs: &[Config]) -> Result<(), NetRefusal>
 
 /// The lowest border router that has no up interface in area 0.
 fn first_off_backbone(configs: &[Config]) -> Option<u32>
-    requires { length configs.now ≤ 200 }
+    requires { length configs.now ≤ MOST_ROUTERS }
     ensures { MatchOption result (BordersMeetBackbone configs.now) (IsLowest (LacksBackbone configs.now)) }
 {
     for (router, config) in configs.iter().enumerate() {

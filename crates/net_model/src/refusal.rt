@@ -5,11 +5,11 @@ use thiserror::Error;
 /// What a network may have too many of.
 #[derive(Clone, Copy, Debug, PartialEq, Eq)]
 pub enum LimitWhat {
-    /// Routers: at most 200.
+    /// Routers: at most `MOST_ROUTERS`.
     Routers,
-    /// Up interfaces, of all routers together: at most 2,000.
+    /// Up interfaces, of all routers together: at most `MOST_UP_INTERFACES`.
     Interfaces,
-    /// Distinct prefixes, subnets of up interfaces and ranges together: at most 4,096.
+    /// Distinct prefixes, subnets of up interfaces and ranges together: at most `MOST_DESTS`.
     Dests,
 }
 
@@ -62,14 +62,14 @@ pub enum NetRefusal {
         router: u32,
     },
     /// The costs of all up OSPF interfaces, the costs of ranges and the default costs of stub areas sum to
-    /// 16777215 or more, the cost that stands for unreachable (RFC 2328, appendix B).
+    /// more than `MOST_COST` (RFC 2328, appendix B).
     #[error("the OSPF costs sum to {sum}")]
     OspfCostSum {
         /// Their sum, or 2^64 - 1 where it is more.
         sum: u64,
     },
-    /// The metrics of all up interfaces, once for each level that they run, sum to more than 4261412864, the
-    /// greatest metric of a path (RFC 5305, section 3).
+    /// The metrics of all up interfaces, once for each level that they run, sum to more than
+    /// `MOST_PATH_METRIC` (RFC 5305, section 3).
     #[error("the IS-IS metrics sum to {sum}")]
     IsisMetricSum {
         /// Their sum, or 2^64 - 1 where it is more.

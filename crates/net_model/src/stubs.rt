@@ -7,11 +7,11 @@ ghost use Rattle.net_model.specs.Scans.{ClashOnStub, HaveStub, OffersArea, OneHa
 use crate::areas::has_area;
 use crate::links::lower;
 use crate::pairs::{Clash, first_pair};
-use crate::{Config, Interface, NetRefusal, Stub};
+use crate::{Config, Interface, MOST_ROUTERS, NetRefusal, Stub};
 
 /// Refuses an area of two routers for which one of them alone has a stub line.
 pub fn check_stubs(configs: &[Config]) -> Result<(), NetRefusal>
-    requires few { length configs.now ≤ 200 }
+    requires few { length configs.now ≤ MOST_ROUTERS }
     requires systems { PassesSystems configs.now }
     ensures ok { OnOk result (IsConsistent configs.now) }
     ensures err { IfErr result (λ e. RefusesNetwork e configs.now) }

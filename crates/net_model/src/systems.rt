@@ -3,11 +3,11 @@ ghost use Rattle.net_model.specs.Conditions.{HaveOneSystem, PassesIsisMetrics, P
 ghost use Rattle.net_model.specs.Refusals.{RefusesNetwork};
 
 use crate::pairs::{Clash, first_pair};
-use crate::{Config, NetRefusal};
+use crate::{Config, MOST_ROUTERS, NetRefusal};
 
 /// Refuses a system id that two routers with IS-IS have.
 pub fn check_systems(configs: &[Config]) -> Result<(), NetRefusal>
-    requires few { length configs.now ≤ 200 }
+    requires few { length configs.now ≤ MOST_ROUTERS }
     requires metrics { PassesIsisMetrics configs.now }
     ensures ok { OnOk result (PassesSystems configs.now) }
     ensures err { IfErr result (λ e. RefusesNetwork e configs.now) }
