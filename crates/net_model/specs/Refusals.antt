@@ -5,10 +5,11 @@ use Rattle.std.specs.Ordering.{nat_cmp}
 use Rattle.std.specs.declared.cmp.Ordering.TheVariants.{Less}
 use Rattle.net_model.specs.Conditions.{HaveOneAddress, RunTwoAreas, LacksBackbone, HaveOneSystem, DifferOnStub, ospf_cost_sum, isis_metric_sum, IsConsistent, AddressesDiffer, PassesAreas, PassesBorders, PassesOspfCosts, PassesIsisMetrics, PassesSystems}
 use Rattle.net_model.specs.Configuration.{Configuration, IsConfiguration}
-use Rattle.net_model.specs.Least.{IsBlockAtMost, IsLeastPair, IsLowest}
+use Rattle.net_model.specs.Least.{IsBlockAtMost}
 use Rattle.net_model.specs.Limits.{all_up_interfaces, CountsDests, IsWithinLimits}
 use Rattle.net_model.specs.Lookups.{IsNamed}
 use Rattle.net_model.specs.Network.{Network}
+use Rattle.net_model.specs.RouterNames.{IsLeastNamedPair, IsLowestNamed}
 use Rattle.net_model.specs.declared.bounds.TheConstants.{MOST_COST, MOST_DESTS, MOST_PATH_METRIC, MOST_ROUTERS, MOST_UP_INTERFACES}
 use Rattle.net_model.specs.declared.refusal.LimitWhat.TheVariants.{Routers, Interfaces, Dests}
 use Rattle.net_model.specs.declared.refusal.NetRefusal.{NetRefusal}
@@ -76,17 +77,22 @@ RefusesName _ configs = ⊥
 
 -- when each refusal of a network comes: its condition holds, and none of those above it
 abbrev pub RefusesNetwork : NetRefusal → Network → Type 0
-RefusesNetwork (AddressTwice one two address) net = IsLeastPair (λ a b. a ≤ b) (HaveOneAddress net) one two address
+RefusesNetwork (AddressTwice one two address) net = IsLeastNamedPair (λ a b. a ≤ b) (HaveOneAddress net) net one two address
 RefusesNetwork (PrefixInTwoAreas one two dest) net =
-    AddressesDiffer net × IsLeastPair IsBlockAtMost (RunTwoAreas net) one two dest
-RefusesNetwork (BorderWithoutBackbone router) net = PassesAreas net × IsLowest (LacksBackbone net) router
+    AddressesDiffer net × IsLeastNamedPair IsBlockAtMost (RunTwoAreas net) net one two dest
+RefusesNetwork (BorderWithoutBackbone router) net = PassesAreas net × IsLowestNamed (LacksBackbone net) net router
 RefusesNetwork (OspfCostSum sum) net = PassesBorders net × IsAbove MOST_COST (ospf_cost_sum net) sum
 RefusesNetwork (IsisMetricSum sum) net = PassesOspfCosts net × IsAbove MOST_PATH_METRIC (isis_metric_sum net) sum
 RefusesNetwork (SystemIdTwice one two) net =
-    PassesIsisMetrics net × ((system : ℕ) × IsLeastPair (λ a b. a ≤ b) (HaveOneSystem net) one two system)
+    PassesIsisMetrics net × ((system : ℕ) × IsLeastNamedPair (λ a b. a ≤ b) (HaveOneSystem net) net one two system)
 RefusesNetwork (StubMismatch one two area) net =
-    PassesSystems net × IsLeastPair (λ a b. a ≤ b) (DifferOnStub net) one two area
+    PassesSystems net × IsLeastNamedPair (λ a b. a ≤ b) (DifferOnStub net) net one two area
 RefusesNetwork _ net = ⊥
+
+-- the refusal of a network, or want of memory
+abbrev pub MayRefuse : NetRefusal → Network → Type 0
+MayRefuse OutOfMemory net = Unit {0}
+MayRefuse refusal net = RefusesNetwork refusal net
 
 -- P holds of the network of configurations that are within the limits and have distinct names
 pub record HoldsOfNetwork (configs : List Configuration) (P : Network → Type 0) : Type 0 where

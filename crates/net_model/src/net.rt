@@ -3,7 +3,7 @@ ghost use Rattle.net_addr.specs.Addresses.{Block, ContainsAddress};
 ghost use Rattle.net_model.specs.Network.{HasConfiguration, Connected, Adjacent};
 ghost use Rattle.net_model.specs.Conditions.{IsConsistent};
 ghost use Rattle.net_model.specs.OffStarts.{IsLowestOffStart, StartsOff};
-ghost use Rattle.net_model.specs.Refusals.{IsNetwork, MakeNetwork, Refuses, RefusesNetwork};
+ghost use Rattle.net_model.specs.Refusals.{IsNetwork, MakeNetwork, MayRefuse, Refuses};
 ghost use Rattle.net_model.specs.Lookups.{IsNamed, LeastArc, LongestConnected};
 
 use crate::addresses::check_addresses;
@@ -52,7 +52,7 @@ impl Net {
         within_limits(alloc, configs.as_slice())?;
         sort_by_name(&mut configs);
         check_names(alloc, configs.as_slice())?;
-        check_network(configs.as_slice())?;
+        check_network(alloc, configs.as_slice())?;
         Ok(Net { configs })
     }
 
@@ -128,16 +128,16 @@ impl Net {
 }
 
 /// Refuses routers whose conditions on addresses, areas, costs, system ids or stub areas don't hold, by the first.
-fn check_network(configs: &[Config]) -> Result<(), NetRefusal>
+fn check_network(alloc: Global, configs: &[Config]) -> Result<(), NetRefusal>
     requires { length configs.now ≤ MOST_ROUTERS }
     ensures ok { OnOk result (IsConsistent configs.now) }
-    ensures err { IfErr result (λ e. RefusesNetwork e configs.now) }
+    ensures err { IfErr result (λ e. MayRefuse e configs.now) }
 {
-    check_addresses(configs)?;
-    check_areas(configs)?;
-    check_borders(configs)?;
+    check_addresses(alloc, configs)?;
+    check_areas(alloc, configs)?;
+    check_borders(alloc, configs)?;
     check_ospf_costs(configs)?;
     check_isis_metrics(configs)?;
-    check_systems(configs)?;
-    check_stubs(configs)
+    check_systems(alloc, configs)?;
+    check_stubs(alloc, configs)
 }

@@ -1,6 +1,6 @@
 ghost use Rattle.std.specs.Prelude.{◌≡◌, ◌<◌, ◌^◌, if◌then◌else◌, IfErr, OnOk, sum_by};
 ghost use Rattle.net_model.specs.Conditions.{PassesBorders, PassesIsisMetrics, PassesOspfCosts, isis_metric, isis_metric_sum, ospf_cost, ospf_cost_sum, ospf_costs, stated_cost};
-ghost use Rattle.net_model.specs.Refusals.{RefusesNetwork, carried};
+ghost use Rattle.net_model.specs.Refusals.{MayRefuse, carried};
 
 use crate::{Config, Interface, MOST_COST, MOST_PATH_METRIC, NetRefusal, Range, Stub};
 
@@ -8,7 +8,7 @@ use crate::{Config, Interface, MOST_COST, MOST_PATH_METRIC, NetRefusal, Range, S
 pub fn check_ospf_costs(configs: &[Config]) -> Result<(), NetRefusal>
     requires { PassesBorders configs.now }
     ensures ok { OnOk result (PassesOspfCosts configs.now) }
-    ensures err { IfErr result (λ e. RefusesNetwork e configs.now) }
+    ensures err { IfErr result (λ e. MayRefuse e configs.now) }
 {
     let sum = sum_ospf_costs(configs);
     if sum > u64::from(MOST_COST) {
@@ -21,7 +21,7 @@ pub fn check_ospf_costs(configs: &[Config]) -> Result<(), NetRefusal>
 pub fn check_isis_metrics(configs: &[Config]) -> Result<(), NetRefusal>
     requires { PassesOspfCosts configs.now }
     ensures ok { OnOk result (PassesIsisMetrics configs.now) }
-    ensures err { IfErr result (λ e. RefusesNetwork e configs.now) }
+    ensures err { IfErr result (λ e. MayRefuse e configs.now) }
 {
     let sum = sum_isis_metrics(configs);
     if sum > u64::from(MOST_PATH_METRIC) {
