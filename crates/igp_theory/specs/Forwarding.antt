@@ -3,6 +3,7 @@ use Rattle.std.specs.Prelude.{◌≡◌, ◌≢◌, ℕ, ◌<◌, ◌≤◌, ◌
 use Rattle.net_addr.specs.Addresses.{Block, ContainsAddress}
 use Rattle.net_model.specs.Configuration.{Configuration}
 use Rattle.net_model.specs.Network.{Network, HasConfiguration, UpInterface, Connected}
+use Rattle.net_model.specs.declared.bounds.TheConstants.{ISIS_DISTANCE, MOST_DISTANCE}
 use Rattle.net_model.specs.declared.interface.Interface.{Interface}
 use Rattle.route_core.specs.declared.entry.Entry.{Entry}
 use Rattle.igp_theory.specs.Routes.{Tables, EntryLeadsTo}
@@ -46,12 +47,12 @@ NewCounts Middle = Unit {0}
 NewCounts New = Unit {0}
 
 -- at router u in a phase this entry for p counts, at this distance: a connected prefix at 0, the old
--- table at the router's OSPF distance unless that is 255, the new table at 115
+-- table at the router's OSPF distance unless that is the greatest, the new table at that of IS-IS
 pub data Counts (net : Network) (old new : Tables) (u : ℕ) (phase : Phase) (p : Block) : ℕ → Usable → Type 0 where
   connected_counts : Connected net u p → Counts net old new u phase p 0 connected
   old_counts : {distance : ℕ} {e : Entry} → OldCounts phase → (c : Configuration) → HasConfiguration net u c →
-      c.distances.ospf ≡ distance → distance ≢ 255 → old u p e → Counts net old new u phase p distance (of_old e)
-  new_counts : {e : Entry} → NewCounts phase → new u p e → Counts net old new u phase p 115 (of_new e)
+      c.distances.ospf ≡ distance → distance ≢ MOST_DISTANCE → old u p e → Counts net old new u phase p distance (of_old e)
+  new_counts : {e : Entry} → NewCounts phase → new u p e → Counts net old new u phase p ISIS_DISTANCE (of_new e)
 
 -- the used entry of an address: of the entries that count and contain it the longest, and of these
 -- the one of lowest distance

@@ -2,9 +2,8 @@
 use Rattle.std.specs.Prelude.{◌≡◌, ◌≢◌, ℕ, Some, IsTrue, List}
 use Rattle.net_addr.specs.Addresses.{Block}
 use Rattle.net_model.specs.Configuration.{Configuration}
+use Rattle.net_model.specs.LevelSets.{has_one, has_two}
 use Rattle.net_model.specs.Network.{Network, HasConfiguration, UpInterface, Connected, Adjacent}
-use Rattle.net_model.specs.declared.config.Levels.{Levels}
-use Rattle.net_model.specs.declared.config.Levels.TheVariants.{One, Two, Both}
 use Rattle.net_model.specs.declared.interface.Interface.{Interface}
 use Rattle.net_model.specs.declared.zone.Zone.TheVariants.{One as LevelOne, Two as LevelTwo}
 use Rattle.walk_core.specs.Walks.{Leg, Walks}
@@ -15,30 +14,19 @@ use Rattle.igp_theory.specs.Routes.{ForwardsTo}
 
 -- Levels of a router
 
--- the level is among these levels
-abbrev pub HasOne : Levels → Type 0
-HasOne One = Unit {0}
-HasOne Two = ⊥
-HasOne Both = Unit {0}
-
-abbrev pub HasTwo : Levels → Type 0
-HasTwo One = ⊥
-HasTwo Two = Unit {0}
-HasTwo Both = Unit {0}
-
 -- router u has an IS-IS process that runs level 1
 pub record RunsOne (net : Network) (u : ℕ) : Type 0 where
   pub config : Configuration
   pub router : HasConfiguration net u config
   pub isis : IsTrue config.isis
-  pub level : HasOne config.levels
+  pub level : IsTrue (has_one config.levels)
 
 -- router u has an IS-IS process that runs level 2
 pub record RunsTwo (net : Network) (u : ℕ) : Type 0 where
   pub config : Configuration
   pub router : HasConfiguration net u config
   pub isis : IsTrue config.isis
-  pub level : HasTwo config.levels
+  pub level : IsTrue (has_two config.levels)
 
 -- Level 1 routes
 

@@ -3,6 +3,7 @@ use Rattle.std.specs.Prelude.{ℕ, Bool, not, ◌&&◌, ◌||◌, List, ◌++◌
 use Rattle.std.specs.List.{list_all, list_any}
 use Rattle.std.specs.Char.{is_ascii_digit}
 use Rattle.ios_lines.specs.Words.{Word, word_at, says, begins_with_two, lacks, number_from, is_printable, is_letter}
+use Rattle.net_model.specs.declared.bounds.TheConstants.{MOST_PROCESS}
 use Rattle.ios_lines.specs.declared.kind.ReadKind.{ReadKind}
 use Rattle.ios_lines.specs.declared.kind.ReadKind.TheVariants.{NoHostname, SecondProcess, Unsupported}
 use Rattle.ios_lines.specs.declared.head.Head.{Head}
@@ -39,7 +40,7 @@ abbrev pub router_head : List Word → Head
 router_head words =
     if says words 1 (codes "ospf") then
     (if says words 3 (codes "vrf") && not (lacks words 4) then Other
-    else Ospf (number_from 1 65535 SecondProcess (word_at words 2)))
+    else Ospf (number_from 1 MOST_PROCESS SecondProcess (word_at words 2)))
     else
     if says words 1 (codes "isis") then Isis (word_at words 2) else
     if says words 1 (codes "eigrp") || says words 1 (codes "rip") then Faulty Unsupported else

@@ -2,6 +2,8 @@
 use Rattle.std.specs.Prelude.{ℕ, Bool, true, false, ◌&&◌, ◌||◌, List, Option, Some, None, Result, Ok, Err, codes, if◌then◌else◌, slice_index, bytes_eq, []}
 use Rattle.std.specs.Char.{is_ascii_digit}
 use Rattle.ios_lines.specs.Words.{Word, word_at, says, begins_with_two, begins_with_three, lacks, number_from, address_of, mask_of, area_of, levels_of}
+use Rattle.net_model.specs.declared.bounds.TheConstants.{MOST_INTERFACE_COST, MOST_METRIC, MOST_PROCESS}
+use Rattle.ios_lines.specs.declared.bounds.TheConstants.{MOST_BANDWIDTH}
 use Rattle.ios_lines.specs.declared.kind.ReadKind.{ReadKind}
 use Rattle.ios_lines.specs.declared.kind.ReadKind.TheVariants.{BadAddress, BadMask, BadCost, BadArea, SecondProcess, Unsupported, BadLevel, BadMetric, NoBandwidth}
 use Rattle.ios_lines.specs.declared.address.InterfaceAddress.{InterfaceAddress}
@@ -32,7 +34,7 @@ process_area (Some area) (Ok process) = Ok (record { process = process; area = a
 
 -- `ip ospf P area N`
 abbrev pub area_line : List Word → Result ProcessArea ReadKind
-area_line words = process_area (area_of (word_at words 4)) (number_from 1 65535 SecondProcess (word_at words 2))
+area_line words = process_area (area_of (word_at words 4)) (number_from 1 MOST_PROCESS SecondProcess (word_at words 2))
 
 -- `ip ospf network K`: whether K is `point-to-point`
 abbrev pub network_kind : Word → Result Bool ReadKind
@@ -44,7 +46,7 @@ network_kind word =
 -- `ip ospf cost N`, `ip ospf network K` and `ip ospf P area N`
 abbrev pub ospf_of_interface : List Word → InterfaceLine
 ospf_of_interface words =
-    if says words 2 (codes "cost") then Cost (number_from 1 65535 BadCost (word_at words 3)) else
+    if says words 2 (codes "cost") then Cost (number_from 1 MOST_INTERFACE_COST BadCost (word_at words 3)) else
     if says words 2 (codes "network") then PointToPoint (network_kind (word_at words 3)) else
     if says words 3 (codes "area") then Area (area_line words) else
     Skipped
@@ -62,9 +64,9 @@ ip_of_interface words =
 -- `isis metric N`, with a level or without; a bad level is the lesser fault
 abbrev pub metric_line : List Word → InterfaceLine
 metric_line words =
-    if lacks words 3 then Metric (number_from 1 16777214 BadMetric (word_at words 2)) else
-    if says words 3 (codes "level-1") then Metric1 (number_from 1 16777214 BadMetric (word_at words 2)) else
-    if says words 3 (codes "level-2") then Metric2 (number_from 1 16777214 BadMetric (word_at words 2)) else
+    if lacks words 3 then Metric (number_from 1 MOST_METRIC BadMetric (word_at words 2)) else
+    if says words 3 (codes "level-1") then Metric1 (number_from 1 MOST_METRIC BadMetric (word_at words 2)) else
+    if says words 3 (codes "level-2") then Metric2 (number_from 1 MOST_METRIC BadMetric (word_at words 2)) else
     Faulty BadLevel
 
 -- the lines that begin with `isis`
@@ -77,7 +79,7 @@ isis_of_interface words =
 -- `bandwidth N`, where N begins with a digit
 abbrev pub bandwidth_line : Word → InterfaceLine
 bandwidth_line word =
-    if is_ascii_digit (slice_index word 0) then Bandwidth (number_from 1 1000000000 NoBandwidth word) else Skipped
+    if is_ascii_digit (slice_index word 0) then Bandwidth (number_from 1 MOST_BANDWIDTH NoBandwidth word) else Skipped
 
 -- the other lines of an interface
 abbrev pub plain_of_interface : List Word → InterfaceLine

@@ -3,6 +3,7 @@ use Rattle.std.specs.Prelude.{ℕ, ◌+◌, ◌-◌, ◌*◌, ◌%◌, ◌^◌, 
 use Rattle.std.specs.Char.{is_ascii_digit}
 use Rattle.ios_lines.specs.Words.{Word, word_at, says, begins_with_two, lacks, number_from, levels_of, is_dot}
 use Rattle.ios_lines.specs.InterfaceLines.{fault_in}
+use Rattle.net_model.specs.declared.bounds.TheConstants.{ISIS_DISTANCE, MOST_DISTANCE, MOST_METRIC}
 use Rattle.ios_lines.specs.declared.kind.ReadKind.{ReadKind}
 use Rattle.ios_lines.specs.declared.kind.ReadKind.TheVariants.{Unsupported, BadNet, BadMetric, BadDistance}
 use Rattle.ios_lines.specs.declared.title.Title.{Title}
@@ -74,10 +75,10 @@ title_of word =
 abbrev pub is_wide : List Word → Bool
 is_wide words = says words 1 (codes "wide") && lacks words 2
 
--- a distance of IS-IS is the one that it has during a migration, or 255
+-- a distance of IS-IS is the one that it has during a migration, or the greatest
 abbrev pub isis_distance : Result ℕ ReadKind → Result ℕ ReadKind
 isis_distance (Err kind) = Err kind
-isis_distance (Ok n) = if nat_eq n 115 || nat_eq n 255 then Ok n else Err BadDistance
+isis_distance (Ok n) = if nat_eq n ISIS_DISTANCE || nat_eq n MOST_DISTANCE then Ok n else Err BadDistance
 
 -- `passive-interface NAME`, its name at this place
 abbrev pub isis_passive : List Word → ℕ → Bool → IsisLine
@@ -96,8 +97,8 @@ is_unsupported_isis word =
 -- the other lines of `router isis`
 abbrev pub plain_of_isis : List Word → IsisLine
 plain_of_isis words =
-    if says words 0 (codes "metric") then Metric (number_from 1 16777214 BadMetric (word_at words 1)) else
-    if says words 0 (codes "distance") then Distance (isis_distance (number_from 1 255 BadDistance (word_at words 1))) else
+    if says words 0 (codes "metric") then Metric (number_from 1 MOST_METRIC BadMetric (word_at words 1)) else
+    if says words 0 (codes "distance") then Distance (isis_distance (number_from 1 MOST_DISTANCE BadDistance (word_at words 1))) else
     if says words 0 (codes "passive-interface") then isis_passive words 1 true else
     if begins_with_two words (codes "no") (codes "passive-interface") then isis_passive words 2 false else
     if is_unsupported_isis (word_at words 0) then Faulty Unsupported else

@@ -4,6 +4,8 @@ use Rattle.net_addr.specs.Addresses.{Block, block_at}
 use Rattle.net_model.specs.declared.area.Range.{Range}
 use Rattle.ios_lines.specs.Words.{Word, word_at, says, begins_with_two, begins_with_three, lacks, number_from, address_of, mask_of, area_of}
 use Rattle.ios_lines.specs.InterfaceLines.{fault_in}
+use Rattle.net_model.specs.declared.bounds.TheConstants.{ISIS_DISTANCE, MOST_COST, MOST_DISTANCE}
+use Rattle.ios_lines.specs.declared.bounds.TheConstants.{MOST_REFERENCE}
 use Rattle.ios_lines.specs.declared.kind.ReadKind.{ReadKind}
 use Rattle.ios_lines.specs.declared.kind.ReadKind.TheVariants.{BadAddress, BadMask, BadCost, BadArea, Unsupported, BadDistance, DistanceClash}
 use Rattle.ios_lines.specs.declared.ospf_line.NetworkLine.{NetworkLine}
@@ -39,7 +41,7 @@ default_cost_values (Ok cost) (Some n) = Ok (record { area = n; cost = cost })
 
 -- `area N default-cost C`
 abbrev pub default_cost_line : List Word → Result AreaCost ReadKind
-default_cost_line words = default_cost_values (number_from 0 16777214 BadCost (word_at words 3)) (area_of (word_at words 1))
+default_cost_line words = default_cost_values (number_from 0 MOST_COST BadCost (word_at words 3)) (area_of (word_at words 1))
 
 -- the prefix of an address and the length of its mask
 abbrev pub prefix_of : ℕ → ℕ → Block
@@ -61,7 +63,7 @@ optional_cost (Ok cost) = Ok (Some cost)
 -- `cost C`, or nothing
 abbrev pub range_cost : List Word → ℕ → Result (Option ℕ) ReadKind
 range_cost words k =
-    if says words k (codes "cost") then optional_cost (number_from 0 16777214 BadCost (word_at words (k + 1))) else Ok None
+    if says words k (codes "cost") then optional_cost (number_from 0 MOST_COST BadCost (word_at words (k + 1))) else Ok None
 
 -- nothing else stands on a range line
 abbrev pub range_ends : List Word → ℕ → Bool
@@ -100,13 +102,13 @@ area_line words =
 -- a distance of OSPF isn't the one that IS-IS has during a migration
 abbrev pub apart_distance : Result ℕ ReadKind → Result ℕ ReadKind
 apart_distance (Err kind) = Err kind
-apart_distance (Ok n) = if nat_eq n 115 then Err DistanceClash else Ok n
+apart_distance (Ok n) = if nat_eq n ISIS_DISTANCE then Err DistanceClash else Ok n
 
 -- `distance N`, and nothing else
 abbrev pub ospf_distance : List Word → Result ℕ ReadKind
 ospf_distance words =
     if says words 1 (codes "ospf") || not (lacks words 2) then Err Unsupported else
-    apart_distance (number_from 1 255 BadDistance (word_at words 1))
+    apart_distance (number_from 1 MOST_DISTANCE BadDistance (word_at words 1))
 
 -- `passive-interface NAME`, its name at this place
 abbrev pub ospf_passive : List Word → ℕ → Bool → OspfLine
@@ -124,7 +126,7 @@ is_unsupported_ospf word =
 -- the lines that set a value of the process or take something back
 abbrev pub plain_of_ospf : List Word → OspfLine
 plain_of_ospf words =
-    if begins_with_two words (codes "auto-cost") (codes "reference-bandwidth") then Reference (number_from 1 4294967 BadCost (word_at words 2)) else
+    if begins_with_two words (codes "auto-cost") (codes "reference-bandwidth") then Reference (number_from 1 MOST_REFERENCE BadCost (word_at words 2)) else
     if says words 0 (codes "distance") then Distance (ospf_distance words) else
     if begins_with_two words (codes "compatible") (codes "rfc1583") then Rfc1583 true else
     if begins_with_three words (codes "no") (codes "compatible") (codes "rfc1583") then Rfc1583 false else

@@ -5,10 +5,10 @@ ghost use Rattle.ios_lines.specs.Words.{is_printable};
 ghost use Rattle.ios_lines.specs.Heads.{is_name_byte, is_router_name, hostname_of, interface_name, is_interface_name, interface_of, router_head, head_of};
 
 use crate::OutOfMemory;
-use crate::bounds::MOST_PROCESS;
 use crate::kind::ReadKind;
 use crate::words::{Words, is_letter, is_printable, is_text, name_of, number_from};
 use net_addr::Name;
+use net_model::MOST_PROCESS;
 use std::alloc::Global;
 
 /// What a line at indent 0 says.

@@ -3,17 +3,17 @@ ghost use Rattle.std.specs.Prelude.{◌≡◌, ◌≤◌, IfOk, IfSome};
 
 use crate::OutOfMemory;
 use crate::address::InterfaceAddress;
-use crate::bounds::{MOST_BANDWIDTH, MOST_COST, MOST_METRIC, MOST_PROCESS};
+use crate::bounds::MOST_BANDWIDTH;
 use crate::kind::ReadKind;
 use crate::words::{Words, address_of, area_of, is_text, levels_of, mask_of, name_of, number_from};
 use net_addr::Name;
-use net_model::Levels;
+use net_model::{Levels, MOST_INTERFACE_COST, MOST_METRIC, MOST_PROCESS};
 use std::alloc::Global;
 
 /// An OSPF process and one of its areas.
 #[derive(Clone, Copy, Debug)]
 pub struct ProcessArea {
-    /// The number of the process, from 1 to 65535.
+    /// The number of the process, from 1 to `MOST_PROCESS`.
     pub process: u32,
     /// The number of the area.
     pub area: u32,
@@ -139,7 +139,12 @@ fn ospf_of_interface(words: &Words) -> InterfaceLine
     ensures { result ≡ ospf_of_interface words.now }
 {
     if words.says(2, b"cost") {
-        return InterfaceLine::Cost(number_from(words.at(3), 1, MOST_COST, ReadKind::BadCost));
+        return InterfaceLine::Cost(number_from(
+            words.at(3),
+            1,
+            MOST_INTERFACE_COST,
+            ReadKind::BadCost,
+        ));
     }
     if words.says(2, b"network") {
         return InterfaceLine::PointToPoint(network_kind(words.at(3)));

@@ -3,12 +3,11 @@ ghost use Rattle.ios_lines.specs.Words.{word_at, number_from};
 ghost use Rattle.ios_lines.specs.IsisLines.{is_wide, isis_distance, isis_passive, is_unsupported_isis, plain_of_isis, isis_line, isis_line_fault};
 
 use crate::OutOfMemory;
-use crate::bounds::{ISIS_DISTANCE, MOST_DISTANCE, MOST_METRIC};
 use crate::kind::ReadKind;
 use crate::ospf_line::PassiveLine;
 use crate::title::{Title, title_of};
 use crate::words::{Words, is_text, levels_of, name_of, number_from};
-use net_model::Levels;
+use net_model::{ISIS_DISTANCE, Levels, MOST_DISTANCE, MOST_METRIC};
 use std::alloc::Global;
 
 /// What a line of `router isis` says.
@@ -50,7 +49,7 @@ fn is_wide(words: &Words) -> bool
 
 /// `distance N`
 fn isis_distance(words: &Words) -> Result<u8, ReadKind>
-    ensures { result ≡ isis_distance (number_from 1 255 ReadKind.BadDistance (word_at words.now 1)) }
+    ensures { result ≡ isis_distance (number_from 1 MOST_DISTANCE ReadKind.BadDistance (word_at words.now 1)) }
 {
     match number_from(
         words.at(1),

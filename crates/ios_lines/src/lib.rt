@@ -15,5 +15,6 @@ pub mod isis_line;
 pub mod ospf_line;
 pub mod title;
 
+pub use bounds::{DEFAULT_METRIC, DEFAULT_REFERENCE};
 pub use kind::ReadKind;
 pub use std::alloc::AllocError as OutOfMemory;

@@ -2,11 +2,11 @@ ghost use Rattle.std.specs.Prelude.{◌≡◌, ◌≤◌, IfOk, IfSome};
 ghost use Rattle.ios_lines.specs.OspfLines.{network_values, network_line, stub_values, stub_line, default_cost_values, default_cost_line, prefix_of, cost_place, range_cost, range_ends, range_values, range_line, is_unsupported_area, area_line, ospf_distance, ospf_passive, is_unsupported_ospf, plain_of_ospf, ospf_line, ospf_line_fault};
 
 use crate::OutOfMemory;
-use crate::bounds::{ISIS_DISTANCE, MOST_DISTANCE, MOST_REFERENCE, MOST_SUMMARY_COST};
+use crate::bounds::MOST_REFERENCE;
 use crate::kind::ReadKind;
 use crate::words::{Words, address_of, area_of, is_text, mask_of, name_of, number_from};
 use net_addr::{Name, Prefix};
-use net_model::Range;
+use net_model::{ISIS_DISTANCE, MOST_COST, MOST_DISTANCE, Range};
 use std::alloc::Global;
 
 /// A `network` line: the addresses that agree with `address` outside the bits of `wildcard` are of the area.
@@ -34,7 +34,7 @@ pub struct StubLine {
 pub struct DefaultCost {
     /// The number of the area.
     pub area: u32,
-    /// The cost, at most 16777214.
+    /// The cost, at most `MOST_COST`.
     pub cost: u32,
 }
 
@@ -153,7 +153,7 @@ fn default_cost_line(words: &Words) -> Result<DefaultCost, ReadKind>
     ensures { result ≡ default_cost_line words.now }
 {
     default_cost_values(
-        number_from(words.at(3), 0, MOST_SUMMARY_COST, ReadKind::BadCost),
+        number_from(words.at(3), 0, MOST_COST, ReadKind::BadCost),
         area_of(words.at(1)),
     )
 }
@@ -178,7 +178,7 @@ fn range_cost(words: &Words, k: usize) -> Result<Option<u32>, ReadKind>
     if !words.says(k, b"cost") {
         return Ok(None);
     }
-    match number_from(words.at(k + 1), 0, MOST_SUMMARY_COST, ReadKind::BadCost) {
+    match number_from(words.at(k + 1), 0, MOST_COST, ReadKind::BadCost) {
         Ok(cost) => Ok(Some(cost)),
         Err(kind) => Err(kind),
     }

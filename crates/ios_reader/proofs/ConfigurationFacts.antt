@@ -50,6 +50,7 @@ configured name interfaces process isis tag area system levels ranges stubs rfc1
   isis_area = area;
   system = system;
   levels = levels;
+  leak = false;
   ranges = ranges;
   stubs = stubs;
   rfc1583 = rfc1583;

@@ -91,6 +91,7 @@ whole isis tag s = record {
   isis_area = area_in (title_by s.isis);
   system = system_in (title_by s.isis);
   levels = (router_with s.process s.ospf s.isis).levels;
+  leak = false;
   ranges = ranges_in s.ospf;
   stubs = stubs_in s.ospf;
   rfc1583 = unwrap_or (last_of (λ (t : OspfStatement). rfc1583_said t.says) s.ospf) true;

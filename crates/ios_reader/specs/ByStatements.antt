@@ -1,6 +1,7 @@
 -- The configuration that statements make, and their least fault.
 use Rattle.std.specs.Prelude.{ℕ, true, List, [], Option, map, flat_map, unwrap_or, is_some, is_none}
 use Rattle.net_model.specs.Configuration.{Configuration}
+use Rattle.net_model.specs.declared.bounds.TheConstants.{ISIS_DISTANCE, OSPF_DISTANCE}
 use Rattle.ios_lines.specs.Lookups.{last_of, value_or}
 use Rattle.ios_reader.specs.Routers.{router_with, title_said, ospf_distance_said, isis_distance_said, rfc1583_said, ranges_in, stubs_in}
 use Rattle.ios_reader.specs.InterfacesAsRead.{interface_as_read}
@@ -53,11 +54,12 @@ configuration_by s = record {
   isis_area = area_in (title_by s.isis);
   system = system_in (title_by s.isis);
   levels = (router_with s.process s.ospf s.isis).levels;
+  leak = false;
   ranges = ranges_in s.ospf;
   stubs = stubs_in s.ospf;
   rfc1583 = unwrap_or (last_of (λ (t : OspfStatement). rfc1583_said t.says) s.ospf) true;
   distances = record {
-    ospf = value_or (last_of (λ (t : OspfStatement). ospf_distance_said t.says) s.ospf) 110;
-    isis = value_or (last_of (λ (t : IsisStatement). isis_distance_said t.says) s.isis) 115;
+    ospf = value_or (last_of (λ (t : OspfStatement). ospf_distance_said t.says) s.ospf) OSPF_DISTANCE;
+    isis = value_or (last_of (λ (t : IsisStatement). isis_distance_said t.says) s.isis) ISIS_DISTANCE;
   };
 }

@@ -2,6 +2,7 @@
 pub use Rattle.ios_lines.specs.FaultOrder.{rank}
 use Rattle.std.specs.Prelude.{◌≡◌, ℕ, ◌<◌, ◌≤◌, true, List, [], Option, Some, None, map, filter_map, unwrap_or, is_some, All, Contains, ◌⊎◌}
 use Rattle.net_model.specs.Configuration.{Configuration}
+use Rattle.net_model.specs.declared.bounds.TheConstants.{ISIS_DISTANCE, OSPF_DISTANCE}
 use Rattle.ios_lines.specs.Words.{Word}
 use Rattle.ios_lines.specs.Lookups.{last_of, value_or}
 use Rattle.ios_sections.specs.TextLines.{TextLine, parts_of}
@@ -53,12 +54,13 @@ configuration_of sections =
       isis_area = area_in title;
       system = system_in title;
       levels = (router_of sections).levels;
+      leak = false;
       ranges = ranges_in ospf;
       stubs = stubs_in ospf;
       rfc1583 = unwrap_or (last_of (λ (s : OspfStatement). rfc1583_said s.says) ospf) true;
       distances = record {
-        ospf = value_or (last_of (λ (s : OspfStatement). ospf_distance_said s.says) ospf) 110;
-        isis = value_or (last_of (λ (s : IsisStatement). isis_distance_said s.says) isis) 115;
+        ospf = value_or (last_of (λ (s : OspfStatement). ospf_distance_said s.says) ospf) OSPF_DISTANCE;
+        isis = value_or (last_of (λ (s : IsisStatement). isis_distance_said s.says) isis) ISIS_DISTANCE;
       };
     }
 

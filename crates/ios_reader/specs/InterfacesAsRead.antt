@@ -5,6 +5,8 @@ use Rattle.net_addr.specs.Addresses.{Block}
 use Rattle.net_model.specs.declared.config.Levels.{Levels}
 use Rattle.net_model.specs.declared.config.Levels.TheVariants.{Both}
 use Rattle.net_model.specs.LevelSets.{has_one, has_two}
+use Rattle.net_model.specs.declared.bounds.TheConstants.{MOST_INTERFACE_COST}
+use Rattle.ios_lines.specs.declared.bounds.TheConstants.{DEFAULT_METRIC}
 use Rattle.net_model.specs.declared.interface.Interface.{Interface}
 use Rattle.ios_lines.specs.Words.{Word, is_letter}
 use Rattle.ios_lines.specs.Lookups.{last_of, first_of, good_value, value_or}
@@ -70,9 +72,9 @@ default_bandwidth letters =
     if bytes_eq letters (codes "Serial") then Some 1544 else
     None
 
--- the cost of a bandwidth in kbit/s, by a reference in Mbit/s: rounded down, from 1 to 65535
+-- the cost of a bandwidth in kbit/s, by a reference in Mbit/s: rounded down, from 1 to the greatest cost of an interface
 abbrev pub cost_of_bandwidth : ℕ → ℕ → ℕ
-cost_of_bandwidth reference bandwidth = min 65535 (max 1 (reference * 1000 / bandwidth))
+cost_of_bandwidth reference bandwidth = min MOST_INTERFACE_COST (max 1 (reference * 1000 / bandwidth))
 
 -- a bandwidth by the interface's own line, else by its kind; a faulty line gives the cost 1
 abbrev pub cost_by_bandwidth : ℕ → Option (Result ℕ ReadKind) → Option ℕ → Option ℕ
@@ -118,10 +120,10 @@ abbrev pub metric_by : Option ℕ → Option ℕ → ℕ → ℕ
 metric_by (Some metric) both router = metric
 metric_by None both router = unwrap_or both router
 
--- an interface that runs no IS-IS has the metric 10
+-- an interface that runs no IS-IS has the default metric
 abbrev pub level_metric : ℕ → Bool → InterfaceFacts → Option (Result ℕ ReadKind) → ℕ
 level_metric router passive facts own =
-    if runs_isis passive facts then metric_by (good_value own) (good_value facts.metric) router else 10
+    if runs_isis passive facts then metric_by (good_value own) (good_value facts.metric) router else DEFAULT_METRIC
 
 -- the address field: 0 where there is none
 abbrev pub address_field : Option InterfaceAddress → ℕ

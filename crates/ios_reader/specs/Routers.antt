@@ -4,6 +4,7 @@ use Rattle.net_model.specs.declared.area.Range.{Range}
 use Rattle.net_model.specs.declared.area.Stub.{Stub}
 use Rattle.net_model.specs.declared.config.Levels.{Levels}
 use Rattle.net_model.specs.declared.config.Levels.TheVariants.{Both}
+use Rattle.ios_lines.specs.declared.bounds.TheConstants.{DEFAULT_METRIC, DEFAULT_REFERENCE}
 use Rattle.ios_lines.specs.Words.{Word}
 use Rattle.ios_lines.specs.Lookups.{last_of, replaced, value_or}
 use Rattle.ios_lines.specs.declared.kind.ReadKind.{ReadKind}
@@ -150,9 +151,9 @@ router_with process ospf isis = record {
   ospf = ospf;
   isis = isis;
   passive_default = unwrap_or (last_of (λ (s : OspfStatement). passive_default_said s.says) ospf) false;
-  reference = value_or (last_of (λ (s : OspfStatement). reference_said s.says) ospf) 100;
+  reference = value_or (last_of (λ (s : OspfStatement). reference_said s.says) ospf) DEFAULT_REFERENCE;
   levels = value_or (last_of (λ (s : IsisStatement). levels_said s.says) isis) Both;
-  metric = value_or (last_of (λ (s : IsisStatement). router_metric_said s.says) isis) 10;
+  metric = value_or (last_of (λ (s : IsisStatement). router_metric_said s.says) isis) DEFAULT_METRIC;
 }
 
 -- a router by its sections

@@ -21,7 +21,9 @@ use ios_sections::read_section::read_sections;
 use ios_sections::statements::{Statements, statements_of, tag_bytes};
 use ios_sections::text_line::TextLine;
 use net_addr::Name;
-use net_model::{Config, Distances, Interfaces, Ranges, Stubs};
+use net_model::{
+    Config, Distances, ISIS_DISTANCE, Interfaces, OSPF_DISTANCE, Ranges, Stubs,
+};
 use std::alloc::Global;
 
 /// The least fault of the OSPF process, and of the lines at indent 0 by themselves.
@@ -147,12 +149,13 @@ fn config_of(alloc: Global, statements: Statements) -> Result<Config, OutOfMemor
         isis_area,
         system,
         levels,
+        leak: false,
         ranges: Ranges::from_vec(ranges),
         stubs: Stubs::from_vec(stubs),
         rfc1583: ospf_facts.rfc1583.unwrap_or(true),
         distances: Distances {
-            ospf: distance_or(ospf_facts.distance, 110),
-            isis: distance_or(isis_facts.distance, 115),
+            ospf: distance_or(ospf_facts.distance, OSPF_DISTANCE),
+            isis: distance_or(isis_facts.distance, ISIS_DISTANCE),
         },
     })
 }

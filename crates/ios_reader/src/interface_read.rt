@@ -10,13 +10,14 @@ use crate::OutOfMemory;
 use crate::facts::{InterfaceFacts, PlacedAddress, facts_of};
 use crate::passive::Passives;
 use crate::router::{Router, levels_or_both, network_area};
+use ios_lines::DEFAULT_METRIC;
 use ios_lines::address::InterfaceAddress;
 use ios_lines::interface_line::{ProcessArea, counting};
 use ios_lines::kind::ReadKind;
 use ios_lines::words::{is_letter, is_text};
 use ios_sections::section::InterfaceSection;
 use net_addr::{Name, Prefix};
-use net_model::{Interface, Levels};
+use net_model::{Interface, Levels, MOST_INTERFACE_COST};
 use std::alloc::Global;
 
 /// The address that the last address line gives.
@@ -128,7 +129,7 @@ fn letters_of(name: &[u8]) -> &[u8]
     &name[..letter_count(name)]
 }
 
-/// The cost of a bandwidth in kbit/s, by a reference in Mbit/s: rounded down, from 1 to 65535.
+/// The cost of a bandwidth in kbit/s, by a reference in Mbit/s: rounded down, from 1 to `MOST_INTERFACE_COST`.
 fn cost_of_bandwidth(reference: u32, bandwidth: u32) -> u32
     ensures { result ≡ cost_of_bandwidth reference bandwidth }
 {
@@ -136,7 +137,7 @@ fn cost_of_bandwidth(reference: u32, bandwidth: u32) -> u32
         return 1;
     }
     let cost = u64::from(reference) * 1000 / u64::from(bandwidth);
-    cost.max(1).min(65535) as u32
+    cost.max(1).min(u64::from(MOST_INTERFACE_COST)) as u32
 }
 
 /// A cost by the interface's own bandwidth, else by its kind's.
@@ -253,7 +254,7 @@ fn metric_by(own: Option<u32>, both: Option<u32>, router: u32) -> u32
     }
 }
 
-/// The metric of a level by the router's metric, 10 on an interface that runs no IS-IS.
+/// The metric of a level by the router's metric, the default on an interface that runs no IS-IS.
 fn level_metric(
     router: u32,
     passive: bool,
@@ -265,7 +266,7 @@ fn level_metric(
     if runs_isis(passive, facts) {
         metric_by(good_value(own), good_value(facts.metric), router)
     } else {
-        10
+        DEFAULT_METRIC
     }
 }
 

@@ -3,6 +3,7 @@ ghost use Rattle.ios_lines.specs.Lookups.{first_of, value_or};
 ghost use Rattle.ios_reader.specs.Routers.{area_taken, router_with};
 ghost use Rattle.ios_reader.specs.ProcessFacts.{ospf_noted, ospf_facts_of, isis_noted, isis_facts_of};
 
+use ios_lines::{DEFAULT_METRIC, DEFAULT_REFERENCE};
 use ios_lines::isis_line::{IsisLine, IsisStatement};
 use ios_lines::kind::ReadKind;
 use ios_lines::ospf_line::{OspfLine, OspfStatement};
@@ -183,8 +184,8 @@ pub fn router_with<'a>(
         ospf,
         isis,
         passive_default: ospf_facts.passive_default.unwrap_or(false),
-        reference: value_or(ospf_facts.reference, 100),
+        reference: value_or(ospf_facts.reference, DEFAULT_REFERENCE),
         levels: levels_or_both(isis_facts.levels),
-        metric: value_or(isis_facts.metric, 10),
+        metric: value_or(isis_facts.metric, DEFAULT_METRIC),
     }
 }

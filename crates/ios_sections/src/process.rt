@@ -17,7 +17,7 @@ use std::alloc::Global;
 pub struct Mention {
     /// The number of the line.
     pub line: u32,
-    /// The number of the process, from 1 to 65535.
+    /// The number of the process, from 1 to `net_model::MOST_PROCESS`.
     pub process: u32,
 }
 

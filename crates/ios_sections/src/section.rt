@@ -146,7 +146,7 @@ pub struct InterfaceSection {
 pub struct OspfSection {
     /// The number of its `router ospf` line.
     pub line: u32,
-    /// The number of the process, from 1 to 65535.
+    /// The number of the process, from 1 to `net_model::MOST_PROCESS`.
     pub process: u32,
     /// The lines of the section.
     pub lines: OspfStatements,

@@ -1,23 +1,9 @@
 ghost use Rattle.std.specs.Prelude.{◌<◌, ◌↔◌, length, IsTrue};
 ghost use Rattle.net_model.specs.Refusals.{IsNetwork};
-ghost use Rattle.igp_theory.specs.Isis.{HasOne, HasTwo, RunsOne, RunsTwo};
+ghost use Rattle.igp_theory.specs.Isis.{RunsOne, RunsTwo};
 ghost use Rattle.isis_routes.specs.Routing.{RunsOneAlone};
 
-use net_model::{Levels, Net};
-
-/// Whether level 1 is among these levels.
-fn has_one(levels: Levels) -> bool
-    ensures { IsTrue result ↔ HasOne levels }
-{
-    matches!(levels, Levels::One | Levels::Both)
-}
-
-/// Whether level 2 is among these levels.
-fn has_two(levels: Levels) -> bool
-    ensures { IsTrue result ↔ HasTwo levels }
-{
-    matches!(levels, Levels::Two | Levels::Both)
-}
+use net_model::Net;
 
 /// Whether the router has an IS-IS process that runs level 1.
 pub fn runs_one(net: &Net, u: u32) -> bool
@@ -26,7 +12,7 @@ pub fn runs_one(net: &Net, u: u32) -> bool
     ensures network { IsNetwork net.now }
 {
     let config = net.config(u);
-    config.isis && has_one(config.levels)
+    config.isis && config.levels.has_one()
 }
 
 /// Whether the router has an IS-IS process that runs level 2.
@@ -35,7 +21,7 @@ pub fn runs_two(net: &Net, u: u32) -> bool
     ensures { IsTrue result ↔ RunsTwo net.now u }
 {
     let config = net.config(u);
-    config.isis && has_two(config.levels)
+    config.isis && config.levels.has_two()
 }
 
 /// Whether the router runs level 1 and not level 2.

@@ -1,9 +1,13 @@
 -- Which answer each step of a call gives.
-use Rattle.std.proofs.Common.{◌≡◌, ◌≢◌, ◌⊎◌, inl, inr, ℕ, ◌≤◌, List, [], ◌∷◌, ◌++◌, length, Result, Ok, Err, IfOk, codes, refl, arith, ◌∙◌, sym, subst, append-nil}
+use Rattle.std.proofs.Common.{◌≡◌, ◌≢◌, ◌⊎◌, inl, inr, ℕ, ◌≤◌, List, [], ◌∷◌, ◌++◌, length, Result, Ok, Err, IfOk, Some, codes, refl, arith, ◌∙◌, sym, subst, append-nil}
+use Rattle.std.proofs.lemmas.Option.{same_Some}
 use Rattle.std.specs.declared.alloc.AllocError.{AllocError}
 use Rattle.igp_theory.specs.Routes.{Tables}
 use Rattle.net_model.specs.Network.{Network}
+use Rattle.net_model.specs.declared.refusal.NetRefusal.{NetRefusal}
+use Rattle.net_model.specs.declared.refusal.NetRefusal.TheVariants.{Limit as NetLimit, OutOfMemory as NoMemory}
 use Rattle.migration_report.specs.Words.{line}
+use Rattle.migrate_cli.specs.AnswerTexts.{refusal_status}
 use Rattle.migrate_cli.specs.Answers.{IsAnswer, MayAsk, FaultsAgree, StopAnswer, HasAnswer}
 use Rattle.migrate_cli.specs.Answers.IsAnswer.{other_words, many_files, read_fault, long_file, long_files, judged}
 use Rattle.migrate_cli.specs.Answers.MayAsk.{asks_none, asks_some}
@@ -13,12 +17,12 @@ use Rattle.migrate_cli.specs.Stops.{StopFaults, MayRead, HasRead}
 use Rattle.migrate_cli.specs.Stops.MayRead.{none_yet, so_far}
 use Rattle.migrate_cli.specs.Verdicts.{IsVerdict, IsOrderVerdict}
 use Rattle.migrate_cli.specs.Verdicts.IsOrderVerdict.{safe, unsafe}
-use Rattle.migrate_cli.specs.Verdicts.IsVerdict.{faulty_configuration, above_limit, two_names, inconsistent, off_start, faulty_order, of_order}
+use Rattle.migrate_cli.specs.Verdicts.IsVerdict.{faulty_configuration, no_network, off_start, faulty_order, of_order}
 use Rattle.migrate_cli.specs.declared.answer.Answer.{Answer}
 use Rattle.migrate_cli.specs.declared.reading.Stop.{Stop}
 use Rattle.migrate_cli.specs.declared.reading.Stop.TheVariants.{Fault, Long, Total, OutOfMemory}
 use Rattle.migrate_cli.specs.declared.status.Status.{Status}
-use Rattle.migrate_cli.specs.declared.status.Status.TheVariants.{ReadFault, WriteFault, Limit}
+use Rattle.migrate_cli.specs.declared.status.Status.TheVariants.{ReadFault, WriteFault, Limit, Refused}
 use Rattle.migrate_cli.proofs.StopFacts.{read_so_far}
 
 -- what is said of a status and a text holds of the answer that has them
@@ -127,12 +131,15 @@ order_verdict_no_fault : {net : Network} {old new : Tables} {order : List ℕ} {
 order_verdict_no_fault (safe _) = (λ e. Prim.cc e, λ e. Prim.cc e)
 order_verdict_no_fault (unsafe _ _ _ _) = (λ e. Prim.cc e, λ e. Prim.cc e)
 
+refusal_no_fault : (refusal : NetRefusal) (status : Status) → refusal_status refusal ≡ Some status → NoFault status
+refusal_no_fault (NetLimit _ _) status e = subst NoFault (same_Some Limit status e) ((λ f. Prim.cc f), (λ f. Prim.cc f))
+refusal_no_fault NoMemory status e = absurd (Prim.cc e)
+refusal_no_fault _ status e = subst NoFault (same_Some Refused status e) ((λ f. Prim.cc f), (λ f. Prim.cc f))
+
 pub verdict_no_fault : {order : List ℕ} {files : List (List ℕ)} {order_text : List ℕ} {texts : List (List ℕ)} {status : Status} {text : List ℕ}
     → IsVerdict order files order_text texts status text → NoFault status
 verdict_no_fault (faulty_configuration _ _ _ _) = (λ e. Prim.cc e, λ e. Prim.cc e)
-verdict_no_fault (above_limit _ _ _ _ _) = (λ e. Prim.cc e, λ e. Prim.cc e)
-verdict_no_fault (two_names _ _ _ _) = (λ e. Prim.cc e, λ e. Prim.cc e)
-verdict_no_fault (inconsistent _ _ _ _ _ _ _) = (λ e. Prim.cc e, λ e. Prim.cc e)
+verdict_no_fault (no_network _ refusal status _ _ given) = refusal_no_fault refusal status given
 verdict_no_fault (off_start _ _ _ _ _ _) = (λ e. Prim.cc e, λ e. Prim.cc e)
 verdict_no_fault (faulty_order _ _ _ _ _) = (λ e. Prim.cc e, λ e. Prim.cc e)
 verdict_no_fault (of_order _ _ _ _ _ _ verdict) = order_verdict_no_fault verdict

@@ -3,8 +3,6 @@ mod ReadingFacts
 mod SendingFacts
 mod StopFacts
 mod ConfigurationFacts
-mod NameFacts
-mod VerdictFacts
 mod AnswerFacts
 mod FaultFacts
 mod OrderFacts

@@ -7,23 +7,22 @@ use Rattle.igp_theory.specs.Routes.{Tables}
 use Rattle.igp_theory.proofs.FaultLaws.{first_fault_unique}
 use Rattle.ios_reader.specs.declared.kind.ReadKind.{ReadKind}
 use Rattle.net_model.specs.Configuration.{Configuration}
-use Rattle.net_model.specs.Limits.{IsWithinLimits}
 use Rattle.net_model.specs.Network.{Network, HasConfiguration}
 use Rattle.net_model.specs.OffStarts.{IsLowestOffStart}
-use Rattle.net_model.specs.Refusals.{NamesAscend, IsNetworkOf, MakeNetwork, Refuses, RefusesNetwork}
+use Rattle.net_model.specs.Refusals.{NamesAscend, MakeNetwork, Refuses}
 use Rattle.net_model.specs.declared.refusal.NetRefusal.{NetRefusal}
-use Rattle.net_model.specs.declared.refusal.NetRefusal.TheVariants.{Limit, TwoNames, OutOfMemory}
+use Rattle.net_model.specs.declared.refusal.NetRefusal.TheVariants.{OutOfMemory}
 use Rattle.net_model.proofs.RefusalLaws.{IsNetworkOf-unique, MakeNetwork-refused, Refuses-unique}
 use Rattle.step_scripts.specs.Orders.{NamesOrder, IsLeastFaultyLine}
 use Rattle.step_scripts.specs.declared.kind.OrderKind.{OrderKind}
 use Rattle.migration_report.specs.Kinds.{read_kind_name, order_kind_name}
 use Rattle.migration_report.specs.Texts.{network_text}
-use Rattle.migration_report.specs.Words.{names_of}
+use Rattle.net_model.specs.RouterNames.{names_of}
 use Rattle.migrate_cli.specs.AnswerTexts.{faulty_text, off_start_text, refusal_status, unsafe_text}
 use Rattle.migrate_cli.specs.Configurations.{ReadsTexts, IsFirstRefused, IsAtStart}
 use Rattle.migrate_cli.specs.Verdicts.{IsVerdict, IsOrderVerdict}
 use Rattle.migrate_cli.specs.Verdicts.IsOrderVerdict.{safe, unsafe}
-use Rattle.migrate_cli.specs.Verdicts.IsVerdict.{faulty_configuration, above_limit, two_names, inconsistent, off_start, faulty_order, of_order}
+use Rattle.migrate_cli.specs.Verdicts.IsVerdict.{faulty_configuration, no_network, off_start, faulty_order, of_order}
 use Rattle.migrate_cli.specs.declared.status.Status.{Status}
 use Rattle.migrate_cli.specs.declared.status.Status.TheVariants.{Refused}
 use Rattle.migrate_cli.proofs.OrderFileLaws.{one_named, no_faulty_line, one_faulty_line}
@@ -79,34 +78,12 @@ one_of_network file text net ascending (at_start _ one) (at_start _ other) = one
 
 -- ---- the configurations ----
 
--- the text that says so, by the names of their network
-record IsByNames (configs : List Configuration) (refusal : NetRefusal) (text : List ℕ) : Type 0 where
-  net : Network
-  network : IsNetworkOf configs net
-  text_is : text ≡ network_text (names_of net) refusal
-
--- the text of a refusal: the first two name no router
-abbrev IsTextOf : List Configuration → NetRefusal → List ℕ → Type 0
-IsTextOf configs (Limit what number) text = text ≡ network_text [] (Limit what number)
-IsTextOf configs (TwoNames name) text = text ≡ network_text [] (TwoNames name)
-IsTextOf configs refusal text = IsByNames configs refusal text
-
-same_by_names : (configs : List Configuration) (refusal : NetRefusal) (t w : List ℕ) → IsByNames configs refusal t → IsByNames configs refusal w → t ≡ w
-same_by_names configs refusal t w a b =
-    let net : a.net ≡ b.net = IsNetworkOf-unique configs a.net b.net a.network b.network in
-    a.text_is ∙ ap (λ n. network_text (names_of n) refusal) net ∙ sym b.text_is
-
-same_text : (configs : List Configuration) (refusal : NetRefusal) (t w : List ℕ) → IsTextOf configs refusal t → IsTextOf configs refusal w → t ≡ w
-same_text configs (Limit what number) t w a b = a ∙ sym b
-same_text configs (TwoNames name) t w a b = a ∙ sym b
-same_text configs refusal t w a b = same_by_names configs refusal t w a b
-
 -- the configurations are refused, and this is the answer
 record IsRefusedSo (configs : List Configuration) (status : Status) (text : List ℕ) : Type 0 where
   refusal : NetRefusal
   refuses : Refuses refusal configs
   status_is : refusal_status refusal ≡ Some status
-  text_is : IsTextOf configs refusal text
+  text_is : text ≡ network_text refusal
 
 no_memory : (refusal : NetRefusal) (status : Status) → refusal_status refusal ≡ Some status → refusal ≢ OutOfMemory
 no_memory refusal status e same = let none : None ≡ Some status = ap refusal_status (sym same) ∙ e in cc none
@@ -116,21 +93,8 @@ one_refusal configs {s} {z} {t} {w} a b =
     let same : a.refusal ≡ b.refusal =
     Refuses-unique configs a.refusal b.refusal (no_memory a.refusal s a.status_is) (no_memory b.refusal z b.status_is) a.refuses b.refuses in (
       same_Some s z (sym a.status_is ∙ ap refusal_status same ∙ b.status_is),
-      same_text configs a.refusal t w a.text_is (subst (λ r. IsTextOf configs r w) (sym same) b.text_is),
+      a.text_is ∙ ap network_text same ∙ sym b.text_is,
     )
-
--- configurations whose network isn't consistent are refused
-refused_by_network : (configs : List Configuration) (net : Network) (refusal : NetRefusal) → IsWithinLimits configs → IsNetworkOf configs net
-    → RefusesNetwork refusal net → IsRefusedSo configs Refused (network_text (names_of net) refusal)
-refused_by_network configs net (Limit what number) within network h = absurd h
-refused_by_network configs net (TwoNames name) within network h = absurd h
-refused_by_network configs net OutOfMemory within network h = absurd h
-refused_by_network configs net refusal within network h = record {
-  refusal = refusal;
-  refuses = record { limits = within; net = net; network = network; holds = h };
-  status_is = refl;
-  text_is = record { net = net; network = network; text_is = refl };
-}
 
 data OfConfigurations (file text : List ℕ) (configs : List Configuration) : Status → List ℕ → Type 0 where
   refused : {status : Status} {answer : List ℕ} → IsRefusedSo configs status answer → OfConfigurations file text configs status answer
@@ -171,12 +135,8 @@ one_of_texts file files text texts {z = z} {w = w} (reads configs read one) (rea
 steps_of : {file : List ℕ} {files : List (List ℕ)} {text : List ℕ} {texts : List (List ℕ)} {status : Status} {answer : List ℕ}
     → IsVerdict file files text texts status answer → OfTexts file files text texts status answer
 steps_of (faulty_configuration bad number kind first) = unread bad number kind first
-steps_of (above_limit configs what number read refuses) =
-    reads configs read (refused (record { refusal = Limit what number; refuses = refuses; status_is = refl; text_is = refl }))
-steps_of (two_names configs name read refuses) =
-    reads configs read (refused (record { refusal = TwoNames name; refuses = refuses; status_is = refl; text_is = refl }))
-steps_of (inconsistent configs net refusal read within network refuses) =
-    reads configs read (refused (refused_by_network configs net refusal within network refuses))
+steps_of (no_network configs refusal status read refuses given) =
+    reads configs read (refused (record { refusal = refusal; refuses = refuses; status_is = given; text_is = refl }))
 steps_of (off_start net router config gives lowest has) = reads gives.configs gives.read (makes net gives.make (off router config lowest has))
 steps_of (faulty_order net number kind start least) =
     reads start.gives.configs start.gives.read (makes net start.gives.make (at_start start.start (bad_line number kind least)))

@@ -1,14 +1,11 @@
 -- What `check` answers to the texts of an order file and of configuration files.
-use Rattle.std.specs.Prelude.{ℕ, List, [], length}
+use Rattle.std.specs.Prelude.{◌≡◌, ℕ, List, length, Some}
 use Rattle.ios_reader.specs.declared.kind.ReadKind.{ReadKind}
 use Rattle.net_model.specs.Configuration.{Configuration}
-use Rattle.net_model.specs.Limits.{IsWithinLimits}
 use Rattle.net_model.specs.Network.{Network, HasConfiguration}
 use Rattle.net_model.specs.OffStarts.{IsLowestOffStart}
-use Rattle.net_model.specs.Refusals.{IsNetworkOf, Refuses, RefusesNetwork}
-use Rattle.net_model.specs.declared.refusal.LimitWhat.{LimitWhat}
+use Rattle.net_model.specs.Refusals.{Refuses}
 use Rattle.net_model.specs.declared.refusal.NetRefusal.{NetRefusal}
-use Rattle.net_model.specs.declared.refusal.NetRefusal.TheVariants.{Limit, TwoNames}
 use Rattle.igp_theory.specs.Isis.{IsisEntry}
 use Rattle.igp_theory.specs.Loops.{Fault, IsFirstFault}
 use Rattle.igp_theory.specs.Ospf.{OspfEntry}
@@ -18,12 +15,11 @@ use Rattle.step_scripts.specs.Orders.{NamesOrder, IsLeastFaultyLine}
 use Rattle.step_scripts.specs.declared.kind.OrderKind.{OrderKind}
 use Rattle.migration_report.specs.Kinds.{read_kind_name, order_kind_name}
 use Rattle.migration_report.specs.Texts.{network_text}
-use Rattle.migration_report.specs.Words.{names_of}
-use Rattle.migrate_cli.specs.AnswerTexts.{faulty_text, off_start_text, safe_text, unsafe_text}
+use Rattle.net_model.specs.RouterNames.{names_of}
+use Rattle.migrate_cli.specs.AnswerTexts.{faulty_text, off_start_text, refusal_status, safe_text, unsafe_text}
 use Rattle.migrate_cli.specs.Configurations.{ReadsTexts, IsFirstRefused, GiveNetwork, IsAtStart}
 use Rattle.migrate_cli.specs.declared.status.Status.{Status}
 use Rattle.migrate_cli.specs.declared.status.Status.TheVariants.{Done, Negative, Refused}
-use Rattle.migrate_cli.specs.declared.status.Status.TheVariants as status
 
 -- the texts give a network whose routers are where a migration starts
 pub record GiveStart (texts : List (List ℕ)) (net : Network) : Type 0 where
@@ -41,13 +37,8 @@ pub data IsOrderVerdict (net : Network) (old new : Tables) (order : List ℕ) : 
 pub data IsVerdict (order_file : List ℕ) (files : List (List ℕ)) (order_text : List ℕ) (texts : List (List ℕ)) : Status → List ℕ → Type 0 where
   faulty_configuration : (file : List ℕ) (number : ℕ) (kind : ReadKind) → IsFirstRefused files texts file number kind →
       IsVerdict order_file files order_text texts Refused (faulty_text file number (read_kind_name kind))
-  above_limit : (configs : List Configuration) (what : LimitWhat) (number : ℕ) → ReadsTexts texts configs → Refuses (Limit what number) configs →
-      IsVerdict order_file files order_text texts status.Limit (network_text [] (Limit what number))
-  two_names : (configs : List Configuration) (name : List ℕ) → ReadsTexts texts configs → Refuses (TwoNames name) configs →
-      IsVerdict order_file files order_text texts Refused (network_text [] (TwoNames name))
-  inconsistent : (configs : List Configuration) (net : Network) (refusal : NetRefusal) → ReadsTexts texts configs → IsWithinLimits configs →
-      IsNetworkOf configs net → RefusesNetwork refusal net →
-      IsVerdict order_file files order_text texts Refused (network_text (names_of net) refusal)
+  no_network : (configs : List Configuration) (refusal : NetRefusal) (status : Status) → ReadsTexts texts configs → Refuses refusal configs →
+      refusal_status refusal ≡ Some status → IsVerdict order_file files order_text texts status (network_text refusal)
   off_start : (net : Network) (router : ℕ) (config : Configuration) → GiveNetwork texts net → IsLowestOffStart net router →
       HasConfiguration net router config → IsVerdict order_file files order_text texts Refused (off_start_text config.name)
   faulty_order : (net : Network) (number : ℕ) (kind : OrderKind) → GiveStart texts net → IsLeastFaultyLine net order_text number kind →

@@ -1,5 +1,5 @@
 ghost use Rattle.std.specs.Prelude.{◌≡◌, IfOk};
-ghost use Rattle.migration_report.specs.Texts.{HasNames, refusal_text};
+ghost use Rattle.migration_report.specs.Texts.{IsPrinted, refusal_text};
 
 use crate::{OutOfMemory, Status};
 use migration_report::{Refusal, refusal_text};
@@ -17,7 +17,7 @@ pub struct Answer {
 
 /// The answer that something is refused.
 pub fn refuse(alloc: Global, status: Status, refusal: &Refusal<'_>) -> Result<Answer, OutOfMemory>
-    requires { HasNames refusal.now }
+    requires { IsPrinted refusal.now }
     ensures status { IfOk result (λ answer. answer.status ≡ status) }
     ensures text { IfOk result (λ answer. answer.text ≡ refusal_text refusal.now) }
 {

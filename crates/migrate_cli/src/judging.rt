@@ -8,7 +8,6 @@ ghost use Rattle.migrate_cli.specs.Verdicts.{IsVerdict};
 use crate::answer::{Answer, refuse};
 use crate::command::Check;
 use crate::configurations::{Unread, read_all};
-use crate::names::names_in_order;
 use crate::verdict::judge_order;
 use crate::{OutOfMemory, Status};
 use migration_report::Refusal;
@@ -37,7 +36,6 @@ pub fn judge(
             return refuse(alloc, Status::Refused, &refusal);
         }
     };
-    let names = names_in_order(alloc, configs.as_slice())?;
     let refusal = match Net::build(alloc, configs) {
         Ok(net) => return judge_network(alloc, check.order, order, &net),
         Err(refusal) => refusal,
@@ -45,11 +43,7 @@ pub fn judge(
     let Some(status) = status_of(&refusal) else {
         return Err(AllocError);
     };
-    let refusal = Refusal::Network {
-        refusal: &refusal,
-        names: &names,
-    };
-    refuse(alloc, status, &refusal)
+    refuse(alloc, status, &Refusal::Network { refusal: &refusal })
 }
 
 /// How a call ends that a network refuses, None where there was no memory.

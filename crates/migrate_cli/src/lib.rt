@@ -7,7 +7,6 @@ mod command;
 mod configurations;
 mod judging;
 mod laws;
-mod names;
 mod reading;
 mod sending;
 mod status;

@@ -6,7 +6,7 @@ ghost use Rattle.igp_theory.specs.Routes.{Tables};
 ghost use Rattle.order_core.specs.Orders.{IsOrder};
 ghost use Rattle.igp_theory.specs.States.{State};
 ghost use Rattle.loop_finder.specs.Faults.{told_fault};
-ghost use Rattle.migration_report.specs.Words.{names_of};
+ghost use Rattle.net_model.specs.RouterNames.{names_of};
 ghost use Rattle.route_core.specs.Tables.{HasEntry};
 ghost use Rattle.migrate_cli.specs.AnswerTexts.{safe_text, unsafe_text};
 ghost use Rattle.migrate_cli.specs.Faults.{NamesRouters};

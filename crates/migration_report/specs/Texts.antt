@@ -1,5 +1,5 @@
 -- The texts that are printed, each one line.
-use Rattle.std.specs.Prelude.{ℕ, ◌<◌, List, [], ◌∷◌, length, map, All, codes, decimal}
+use Rattle.std.specs.Prelude.{◌≢◌, ℕ, ◌<◌, List, [], ◌∷◌, map, All, codes, decimal}
 use Rattle.net_model.specs.declared.refusal.NetRefusal.{NetRefusal}
 use Rattle.net_model.specs.declared.refusal.NetRefusal.TheVariants.{Limit, TwoNames, AddressTwice, PrefixInTwoAreas, BorderWithoutBackbone, OspfCostSum, IsisMetricSum, SystemIdTwice, StubMismatch, OutOfMemory}
 use Rattle.loop_finder.specs.declared.fault.Fault.{Fault}
@@ -26,18 +26,18 @@ abbrev pub report_text : List (List ℕ) → Report → List ℕ
 report_text names (Safe changes) = line (codes "safe") (decimal changes ∷ [])
 report_text names (Unsafe state fault ring) = line (codes "unsafe") (decimal state ∷ fault_words names fault ring.now)
 
--- why configurations make no network, by the names of the routers; want of memory is never printed
-abbrev pub network_text : List (List ℕ) → NetRefusal → List ℕ
-network_text names (Limit what number) = line (codes "limit") (limit_name what ∷ decimal number ∷ [])
-network_text names (TwoNames name) = line (codes "refused") (codes "network" ∷ codes "TwoNames" ∷ name ∷ [])
-network_text names (AddressTwice u v a) = line (codes "refused") (codes "network" ∷ codes "AddressTwice" ∷ name_of names u ∷ name_of names v ∷ dotted a ∷ [])
-network_text names (PrefixInTwoAreas u v p) = line (codes "refused") (codes "network" ∷ codes "PrefixInTwoAreas" ∷ name_of names u ∷ name_of names v ∷ prefix_word p ∷ [])
-network_text names (BorderWithoutBackbone u) = line (codes "refused") (codes "network" ∷ codes "BorderWithoutBackbone" ∷ name_of names u ∷ [])
-network_text names (OspfCostSum sum) = line (codes "refused") (codes "network" ∷ codes "OspfCostSum" ∷ decimal sum ∷ [])
-network_text names (IsisMetricSum sum) = line (codes "refused") (codes "network" ∷ codes "IsisMetricSum" ∷ decimal sum ∷ [])
-network_text names (SystemIdTwice u v) = line (codes "refused") (codes "network" ∷ codes "SystemIdTwice" ∷ name_of names u ∷ name_of names v ∷ [])
-network_text names (StubMismatch u v area) = line (codes "refused") (codes "network" ∷ codes "StubMismatch" ∷ name_of names u ∷ name_of names v ∷ decimal area ∷ [])
-network_text names OutOfMemory = []
+-- why configurations make no network; want of memory is never printed
+abbrev pub network_text : NetRefusal → List ℕ
+network_text (Limit what number) = line (codes "limit") (limit_name what ∷ decimal number ∷ [])
+network_text (TwoNames name) = line (codes "refused") (codes "network" ∷ codes "TwoNames" ∷ name ∷ [])
+network_text (AddressTwice one two a) = line (codes "refused") (codes "network" ∷ codes "AddressTwice" ∷ one ∷ two ∷ dotted a ∷ [])
+network_text (PrefixInTwoAreas one two p) = line (codes "refused") (codes "network" ∷ codes "PrefixInTwoAreas" ∷ one ∷ two ∷ prefix_word p ∷ [])
+network_text (BorderWithoutBackbone router) = line (codes "refused") (codes "network" ∷ codes "BorderWithoutBackbone" ∷ router ∷ [])
+network_text (OspfCostSum sum) = line (codes "refused") (codes "network" ∷ codes "OspfCostSum" ∷ decimal sum ∷ [])
+network_text (IsisMetricSum sum) = line (codes "refused") (codes "network" ∷ codes "IsisMetricSum" ∷ decimal sum ∷ [])
+network_text (SystemIdTwice one two) = line (codes "refused") (codes "network" ∷ codes "SystemIdTwice" ∷ one ∷ two ∷ [])
+network_text (StubMismatch one two area) = line (codes "refused") (codes "network" ∷ codes "StubMismatch" ∷ one ∷ two ∷ decimal area ∷ [])
+network_text OutOfMemory = []
 
 -- why the input was refused
 abbrev pub refusal_text : Refusal → List ℕ
@@ -45,7 +45,7 @@ refusal_text Words = line (codes "words") (codes "refused" ∷ [])
 refusal_text (Read file) = line (codes "read") (codes "fault" ∷ file.now ∷ [])
 refusal_text (Config file number kind) = line (codes "refused") (file.now ∷ decimal number ∷ read_kind_name kind ∷ [])
 refusal_text (Order file number kind) = line (codes "refused") (file.now ∷ decimal number ∷ order_kind_name kind ∷ [])
-refusal_text (Network refusal names) = network_text names.now refusal.now
+refusal_text (Network refusal) = network_text refusal.now
 refusal_text (OffStart name) = line (codes "refused") (codes "network" ∷ codes "NotAtStart" ∷ name.now ∷ [])
 refusal_text (Files number) = line (codes "limit") (codes "files" ∷ decimal number ∷ [])
 refusal_text (Length file) = line (codes "limit") (codes "bytes" ∷ file.now ∷ [])
@@ -61,27 +61,7 @@ abbrev pub ReportBelow : ℕ → Report → Type 0
 ReportBelow count (Safe _) = Unit {0}
 ReportBelow count (Unsafe _ fault ring) = FaultBelow count fault × All (λ (turn : Turn). turn.router < count) ring.now
 
--- the routers that a refusal names are below the count, and it isn't want of memory
-abbrev pub NetworkBelow : ℕ → NetRefusal → Type 0
-NetworkBelow count (Limit _ _) = Unit {0}
-NetworkBelow count (TwoNames _) = Unit {0}
-NetworkBelow count (AddressTwice u v _) = (u < count) × (v < count)
-NetworkBelow count (PrefixInTwoAreas u v _) = (u < count) × (v < count)
-NetworkBelow count (BorderWithoutBackbone u) = u < count
-NetworkBelow count (OspfCostSum _) = Unit {0}
-NetworkBelow count (IsisMetricSum _) = Unit {0}
-NetworkBelow count (SystemIdTwice u v) = (u < count) × (v < count)
-NetworkBelow count (StubMismatch u v _) = (u < count) × (v < count)
-NetworkBelow count OutOfMemory = ⊥
-
--- a refusal names routers that its names have, and isn't want of memory
-abbrev pub HasNames : Refusal → Type 0
-HasNames Words = Unit {0}
-HasNames (Read _) = Unit {0}
-HasNames (Config _ _ _) = Unit {0}
-HasNames (Order _ _ _) = Unit {0}
-HasNames (Network refusal names) = NetworkBelow (length names.now) refusal.now
-HasNames (OffStart _) = Unit {0}
-HasNames (Files _) = Unit {0}
-HasNames (Length _) = Unit {0}
-HasNames (Total _) = Unit {0}
+-- a refusal that is printed isn't want of memory
+abbrev pub IsPrinted : Refusal → Type 0
+IsPrinted (Network refusal) = refusal.now ≢ OutOfMemory
+IsPrinted _ = Unit {0}

@@ -1,9 +1,7 @@
 -- The words of printed lines. `decimal n` are the decimal digits of a number, without leading zeros.
-use Rattle.std.specs.Prelude.{ℕ, ◌/◌, ◌%◌, ◌^◌, List, [], ◌∷◌, ◌++◌, map, slice_index_or, decimal}
+use Rattle.std.specs.Prelude.{ℕ, ◌/◌, ◌%◌, ◌^◌, List, [], ◌∷◌, ◌++◌, slice_index_or, decimal}
 use Rattle.std.specs.List.{flat_map}
 use Rattle.net_addr.specs.Addresses.{Block}
-use Rattle.net_model.specs.Configuration.{Configuration}
-use Rattle.net_model.specs.Network.{Network}
 
 -- words, each after a blank (32)
 abbrev pub spaced : List (List ℕ) → List ℕ
@@ -21,10 +19,6 @@ dotted a =
 -- a prefix: its base, a slash (47) and its length
 abbrev pub prefix_word : Block → List ℕ
 prefix_word p = dotted p.base ++ 47 ∷ decimal p.len
-
--- the names of the routers of a network
-abbrev pub names_of : Network → List (List ℕ)
-names_of net = map (λ (c : Configuration). c.name) net
 
 -- the name of a router
 abbrev pub name_of : List (List ℕ) → ℕ → List ℕ

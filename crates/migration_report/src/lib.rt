@@ -3,12 +3,10 @@
 
 mod kinds;
 mod line;
-mod names;
 mod network;
 mod refusal;
 mod report;
 
-pub use names::Names;
 pub use refusal::{Refusal, refusal_text};
 pub use report::{Report, report_text};
 pub use std::alloc::AllocError as OutOfMemory;

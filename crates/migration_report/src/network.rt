@@ -1,18 +1,17 @@
-ghost use Rattle.std.specs.Prelude.{◌≡◌, ◌<◌, ◌∷◌, ◌++◌, [], IfOk, codes, decimal, length};
-ghost use Rattle.migration_report.specs.Words.{line, name_of, spaced};
-ghost use Rattle.migration_report.specs.Texts.{NetworkBelow, network_text};
+ghost use Rattle.std.specs.Prelude.{◌≡◌, ◌≢◌, ◌∷◌, ◌++◌, [], IfOk, codes, decimal};
+ghost use Rattle.migration_report.specs.Words.{line, spaced};
+ghost use Rattle.migration_report.specs.Texts.{network_text};
 
-use crate::Names;
 use crate::kinds::limit_name;
 use crate::line::LineBuilder;
-use net_addr::Bytes;
+use net_addr::{Bytes, Name};
 use net_model::NetRefusal;
 use std::alloc::{AllocError, Global};
 
 /// The line for configurations that make no network.
-pub fn network_text(alloc: Global, refusal: &NetRefusal, names: &Names) -> Result<Bytes, AllocError>
-    requires { NetworkBelow (length names.now) refusal.now }
-    ensures { IfOk result (λ text. text ≡ network_text names.now refusal.now) }
+pub fn network_text(alloc: Global, refusal: &NetRefusal) -> Result<Bytes, AllocError>
+    requires { refusal.now ≢ NetRefusal.OutOfMemory }
+    ensures { IfOk result (λ text. text ≡ network_text refusal.now) }
 {
     match refusal {
         NetRefusal::Limit { what, number } => limit_text(alloc, limit_name(*what), *number),
@@ -20,26 +19,26 @@ pub fn network_text(alloc: Global, refusal: &NetRefusal, names: &Names) -> Resul
             .word(name.as_slice())?
             .finish(),
         NetRefusal::AddressTwice { one, two, address } => {
-            let line = pair(refused(alloc, b"AddressTwice")?, names, *one, *two)?;
+            let line = pair(refused(alloc, b"AddressTwice")?, one, two)?;
             line.address(*address)?.finish()
         }
         NetRefusal::PrefixInTwoAreas { one, two, dest } => {
-            let line = pair(refused(alloc, b"PrefixInTwoAreas")?, names, *one, *two)?;
+            let line = pair(refused(alloc, b"PrefixInTwoAreas")?, one, two)?;
             line.prefix(*dest)?.finish()
         }
         NetRefusal::BorderWithoutBackbone { router } => {
             let line = refused(alloc, b"BorderWithoutBackbone")?;
-            line.word(names.name(*router))?.finish()
+            line.word(router.as_slice())?.finish()
         }
         NetRefusal::OspfCostSum { sum } => refused(alloc, b"OspfCostSum")?.number(*sum)?.finish(),
         NetRefusal::IsisMetricSum { sum } => refused(alloc, b"IsisMetricSum")?
             .number(*sum)?
             .finish(),
         NetRefusal::SystemIdTwice { one, two } => {
-            pair(refused(alloc, b"SystemIdTwice")?, names, *one, *two)?.finish()
+            pair(refused(alloc, b"SystemIdTwice")?, one, two)?.finish()
         }
         NetRefusal::StubMismatch { one, two, area } => {
-            let line = pair(refused(alloc, b"StubMismatch")?, names, *one, *two)?;
+            let line = pair(refused(alloc, b"StubMismatch")?, one, two)?;
             line.number(u64::from(*area))?.finish()
         }
         NetRefusal::OutOfMemory => unreachable!(),
@@ -66,10 +65,8 @@ pub fn refused(alloc: Global, name: &[u8]) -> Result<LineBuilder, AllocError>
 }
 
 /// The line with the names of two routers more.
-fn pair(text: LineBuilder, names: &Names, one: u32, two: u32) -> Result<LineBuilder, AllocError>
-    requires first { one < length names.now }
-    requires second { two < length names.now }
-    ensures { IfOk result (λ longer. longer ≡ text ++ spaced (name_of names.now one ∷ name_of names.now two ∷ [])) }
+fn pair(text: LineBuilder, one: &Name, two: &Name) -> Result<LineBuilder, AllocError>
+    ensures { IfOk result (λ longer. longer ≡ text ++ spaced (one.now ∷ two.now ∷ [])) }
 {
-    text.word(names.name(one))?.word(names.name(two))
+    text.word(one.as_slice())?.word(two.as_slice())
 }

@@ -1,8 +1,7 @@
 ghost use Rattle.std.specs.Prelude.{◌≡◌, ◌∷◌, [], IfOk, codes, decimal};
 ghost use Rattle.migration_report.specs.Words.{line};
-ghost use Rattle.migration_report.specs.Texts.{HasNames, refusal_text};
+ghost use Rattle.migration_report.specs.Texts.{IsPrinted, refusal_text};
 
-use crate::Names;
 use crate::kinds::{order_kind_name, read_kind_name};
 use crate::line::LineBuilder;
 use crate::network::{limit_text, network_text, refused};
@@ -36,8 +35,6 @@ pub enum Refusal<'a> {
     /// Configurations that make no network.
     Network {
         refusal: &'a NetRefusal,
-        /// The names of the routers, in byte order.
-        names: &'a Names,
     },
     /// A router whose protocols don't have the distances of the start.
     OffStart {
@@ -60,7 +57,7 @@ pub enum Refusal<'a> {
 
 /// The line that tells why the input is refused. The only error is want of memory.
 pub fn refusal_text(alloc: Global, refusal: &Refusal<'_>) -> Result<Bytes, AllocError>
-    requires { HasNames refusal.now }
+    requires { IsPrinted refusal.now }
     ensures { IfOk result (λ text. text ≡ refusal_text refusal.now) }
 {
     match refusal {
@@ -83,7 +80,7 @@ pub fn refusal_text(alloc: Global, refusal: &Refusal<'_>) -> Result<Bytes, Alloc
             *line,
             order_kind_name(*kind),
         ),
-        Refusal::Network { refusal, names } => network_text(alloc, refusal, names),
+        Refusal::Network { refusal } => network_text(alloc, refusal),
         Refusal::OffStart { name } => refused(alloc, b"NotAtStart")?
             .word(name.as_slice())?
             .finish(),

@@ -1,5 +1,6 @@
 ghost use Rattle.std.specs.Prelude.{◌≡◌, ◌<◌, ◌++◌, All, IfOk, length};
-ghost use Rattle.migration_report.specs.Words.{name_of, names_of, spaced};
+ghost use Rattle.net_model.specs.RouterNames.{names_of};
+ghost use Rattle.migration_report.specs.Words.{name_of, spaced};
 ghost use Rattle.migration_report.specs.Texts.{FaultBelow, ReportBelow, fault_words, report_text, ring_words};
 
 use crate::line::LineBuilder;

@@ -1,5 +1,5 @@
 ghost use Rattle.std.specs.Prelude.{◌≤◌};
-ghost use Rattle.migration_report.specs.Texts.{HasNames, NetworkBelow};
+ghost use Rattle.migration_report.specs.Texts.{IsPrinted};
 
 use super::*;
 use ios_lines::ReadKind;
@@ -28,6 +28,7 @@ fn router(alloc: Global, digit: u8) -> Result<Config, AllocError>
         isis_area: Name::from_vec(Vec::new(alloc)),
         system: 0,
         levels: Levels::Both,
+        leak: false,
         ranges: Ranges::from_vec(Vec::new(alloc)),
         stubs: Stubs::from_vec(Vec::new(alloc)),
         rfc1583: true,
@@ -92,7 +93,7 @@ fn prints(
     refusal: Refusal<'_>,
     expected: &[u8],
 ) -> Result<(), AllocError>
-    requires { HasNames refusal }
+    requires { IsPrinted refusal }
 {
     let text = refusal_text(alloc, &refusal)?;
     assert_eq!(rt; text.as_slice(), expected);
@@ -141,38 +142,51 @@ fn input_is_refused(rt: HostRuntime) -> Result<(), Fail> {
     Ok(())
 }
 
-/// The refusal of a network of the routers R1 and R2 is printed as this line.
+/// The refusal of a network is printed as this line.
 fn prints_network(
     rt: &impl Abort,
     alloc: Global,
     refusal: NetRefusal,
     expected: &[u8],
 ) -> Result<(), AllocError>
-    requires { NetworkBelow 2 refusal }
+    requires { refusal ≢ NetRefusal.OutOfMemory }
 {
-    let mut all = Vec::new(alloc);
-    all.push(Name::from_vec(b"R1".to_vec(alloc)?))?;
-    all.push(Name::from_vec(b"R2".to_vec(alloc)?))?;
-    let names = Names::from_vec(all);
-    let refusal = Refusal::Network {
-        refusal: &refusal,
-        names: &names,
-    };
+    let refusal = Refusal::Network { refusal: &refusal };
     prints(rt, alloc, refusal, expected)
+}
+
+/// The name with these bytes.
+fn name(alloc: Global, bytes: &[u8]) -> Result<Name, AllocError> {
+    Ok(Name::from_vec(bytes.to_vec(alloc)?))
 }
 
 #[test]
 fn clashes_are_refused(rt: HostRuntime) -> Result<(), Fail> {
     let alloc = rt.alloc();
-    let (one, two) = (0, 1);
     let address = 0x0aff_0001;
-    let name = Name::from_vec(b"R1".to_vec(alloc)?);
     let dest = Prefix::around(address, 30).ok_or("no prefix")?;
-    let names = NetRefusal::TwoNames { name };
-    let addresses = NetRefusal::AddressTwice { one, two, address };
-    let areas = NetRefusal::PrefixInTwoAreas { one, two, dest };
-    let systems = NetRefusal::SystemIdTwice { one, two };
-    let stubs = NetRefusal::StubMismatch { one, two, area: 1 };
+    let names = NetRefusal::TwoNames {
+        name: name(alloc, b"R1")?,
+    };
+    let addresses = NetRefusal::AddressTwice {
+        one: name(alloc, b"R1")?,
+        two: name(alloc, b"R2")?,
+        address,
+    };
+    let areas = NetRefusal::PrefixInTwoAreas {
+        one: name(alloc, b"R1")?,
+        two: name(alloc, b"R2")?,
+        dest,
+    };
+    let systems = NetRefusal::SystemIdTwice {
+        one: name(alloc, b"R1")?,
+        two: name(alloc, b"R2")?,
+    };
+    let stubs = NetRefusal::StubMismatch {
+        one: name(alloc, b"R1")?,
+        two: name(alloc, b"R2")?,
+        area: 1,
+    };
     prints_network(&rt, alloc, names, b"refused network TwoNames R1\n")?;
     prints_network(
         &rt,
@@ -199,7 +213,9 @@ fn clashes_are_refused(rt: HostRuntime) -> Result<(), Fail> {
 #[test]
 fn sums_and_limits_are_refused(rt: HostRuntime) -> Result<(), Fail> {
     let alloc = rt.alloc();
-    let border = NetRefusal::BorderWithoutBackbone { router: 1 };
+    let border = NetRefusal::BorderWithoutBackbone {
+        router: name(alloc, b"R2")?,
+    };
     let costs = NetRefusal::OspfCostSum { sum: 16777215 };
     let metrics = NetRefusal::IsisMetricSum { sum: u64::MAX };
     prints_network(

@@ -4,7 +4,7 @@ use Rattle.std.proofs.lemmas.List.Sorted.{IsPermutation-sym}
 use Rattle.net_model.specs.Configuration.{Configuration}
 use Rattle.net_model.specs.Limits.{IsWithinLimits}
 use Rattle.net_model.specs.Network.{Network}
-use Rattle.net_model.specs.Refusals.{IsLeastDouble, IsNetworkOf, RefusesName, RefusesNetwork, Refuses}
+use Rattle.net_model.specs.Refusals.{IsLeastDouble, IsNetworkOf, MayRefuse, RefusesName, Refuses}
 use Rattle.net_model.specs.declared.refusal.NetRefusal.{NetRefusal}
 use Rattle.net_model.specs.declared.refusal.NetRefusal.TheVariants.{Limit, TwoNames, OutOfMemory}
 use Rattle.net_model.proofs.Names.{TwoHaveName-permutation}
@@ -20,7 +20,7 @@ Refuses-by_name configs net (TwoNames name) limits moves h = (limits, IsLeastDou
 Refuses-by_name configs net OutOfMemory limits moves h = tt
 Refuses-by_name configs net _ limits moves h = absurd h
 
-pub Refuses-by_network : (configs : List Configuration) (net : Network) (refusal : NetRefusal) → IsWithinLimits configs → IsNetworkOf configs net → RefusesNetwork refusal net → Refuses refusal configs
+pub Refuses-by_network : (configs : List Configuration) (net : Network) (refusal : NetRefusal) → IsWithinLimits configs → IsNetworkOf configs net → MayRefuse refusal net → Refuses refusal configs
 Refuses-by_network configs net (Limit _ _) limits network h = absurd h
 Refuses-by_network configs net (TwoNames _) limits network h = absurd h
 Refuses-by_network configs net OutOfMemory limits network h = tt

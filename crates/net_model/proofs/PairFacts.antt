@@ -1,8 +1,13 @@
 -- The first pair that a scan finds is the least, and where it finds none no two routers clash.
-use Rattle.std.proofs.Common.{◌≡◌, ℕ, ◌<◌, ◌≤◌, ⊎_elim, refl, sym, subst, arith}
+use Rattle.std.proofs.Common.{◌≡◌, ℕ, ◌<◌, ◌≤◌, List, length, Option, Some, ⊎_elim, refl, sym, ap, subst, ◌∙◌, arith}
+use Rattle.std.proofs.lemmas.Option.{same_Some}
 use Rattle.std.proofs.lemmas.Bool.{cases_lt, cases_order}
-use Rattle.net_model.specs.Least.{ComesNoLater, IsLeastPair, NoneClash}
+use Rattle.net_model.specs.Configuration.{Configuration}
+use Rattle.net_model.specs.Least.{ComesNoLater, IsLeastPair, IsLowest, NoneClash}
 use Rattle.net_model.specs.Least.ComesNoLater.{by_first, by_second, by_item}
+use Rattle.net_model.specs.Lookups.{IsNamed}
+use Rattle.net_model.specs.Network.{Network}
+use Rattle.net_model.specs.RouterNames.{IsFirstNamedPair, IsLeastNamedPair, IsLowestNamed}
 use Rattle.net_model.specs.Scans.{IsFirstPair, NonePair}
 
 module _ {A : Type 0} (AtMost : A → A → Type 0) (Clash : ℕ → ℕ → A → Type 0) (count : ℕ) (within : (u v : ℕ) (a : A) → Clash u v a → v < count) where
@@ -50,3 +55,37 @@ ascending_same AtMost u v a w x b anti (by_item e f l) (by_item g h m) = (e, f, 
 pub IsLeastPair-unique : {A : Type 0} → (AtMost : A → A → Type 0) (Clash : ℕ → ℕ → A → Type 0) (u v : ℕ) (a : A) (w x : ℕ) (b : A) → ((a b : A) → AtMost a b → AtMost b a → a ≡ b) → IsLeastPair AtMost Clash u v a → IsLeastPair AtMost Clash w x b → (u ≡ w) × (v ≡ x) × (a ≡ b)
 IsLeastPair-unique AtMost Clash u v a w x b anti h k =
     ascending_same AtMost u v a w x b anti (h.least w x b k.ordered k.clash) (k.least u v a h.ordered h.clash)
+
+-- the names of the first pair are those of the least
+pub IsLeastNamedPair-first : {A : Type 0} → (AtMost : A → A → Type 0) (Clash : ℕ → ℕ → A → Type 0) (net : Network) → ((u v : ℕ) (a : A) → Clash u v a → v < length net)
+    → (one two : List ℕ) (item : A) → IsFirstNamedPair AtMost Clash net one two item → IsLeastNamedPair AtMost Clash net one two item
+IsLeastNamedPair-first AtMost Clash net within one two item f = record {
+  first = f.first;
+  second = f.second;
+  pair = IsLeastPair-first AtMost Clash (length net) within f.first f.second item f.pair;
+  one_is = f.one_is;
+  two_is = f.two_is;
+}
+
+-- a router has one name
+name-unique : (net : Network) (u v : ℕ) (a b : List ℕ) → IsNamed net a u → IsNamed net b v → u ≡ v → a ≡ b
+name-unique net u v a b h k same =
+    let here = subst (IsNamed net b) (sym same) k in
+    let config = same_Some h.config here.config (sym h.router ∙ here.router) in
+    sym h.name_is ∙ ap (λ (c : Configuration). c.name) config ∙ here.name_is
+
+-- the least pair has its names alone
+pub IsLeastNamedPair-unique : {A : Type 0} → (AtMost : A → A → Type 0) (Clash : ℕ → ℕ → A → Type 0) (net : Network) (a b : List ℕ) (x : A) (c d : List ℕ) (y : A)
+    → ((x y : A) → AtMost x y → AtMost y x → x ≡ y) → IsLeastNamedPair AtMost Clash net a b x → IsLeastNamedPair AtMost Clash net c d y → (a ≡ c) × (b ≡ d) × (x ≡ y)
+IsLeastNamedPair-unique AtMost Clash net a b x c d y anti h k =
+    let same = IsLeastPair-unique AtMost Clash h.first h.second x k.first k.second y anti h.pair k.pair in (
+      name-unique net h.first k.first a c h.one_is k.one_is same.0,
+      name-unique net h.second k.second b d h.two_is k.two_is same.1,
+      same.2,
+    )
+
+-- the lowest router has its name alone
+pub IsLowestNamed-unique : (P : ℕ → Type 0) (net : Network) (a b : List ℕ) → IsLowestNamed P net a → IsLowestNamed P net b → a ≡ b
+IsLowestNamed-unique P net a b h k =
+    let same : h.router ≡ k.router = omega (arith, h.lowest.least k.router k.lowest.holds, k.lowest.least h.router h.lowest.holds) in
+    name-unique net h.router k.router a b h.name_is k.name_is same

@@ -5,10 +5,11 @@ use Rattle.std.proofs.lemmas.List.Sorted.{Contains-permutation, IsPermutation-sy
 use Rattle.net_addr.specs.Addresses.{Block}
 use Rattle.net_model.specs.Conditions.{HaveOneAddress, RunTwoAreas, LacksBackbone, HaveOneSystem, DifferOnStub, ospf_cost_sum, isis_metric_sum, IsConsistent}
 use Rattle.net_model.specs.Configuration.{Configuration}
-use Rattle.net_model.specs.Least.{IsBlockAtMost, IsLowest}
+use Rattle.net_model.specs.Least.{IsBlockAtMost}
 use Rattle.net_model.specs.Limits.{CountsDests, IsWithinLimits}
 use Rattle.net_model.specs.Network.{Network}
 use Rattle.net_model.specs.Refusals.{IsBelow, NamesAscend, IsNetworkOf, MakeNetwork, IsNetwork, TwoHaveName, IsLeastDouble, IsAbove, HoldsOfNetwork, RefusesNetwork, Refuses}
+use Rattle.net_model.specs.declared.bounds.TheConstants.{MOST_COST, MOST_PATH_METRIC}
 use Rattle.net_model.specs.declared.refusal.LimitWhat.{LimitWhat}
 use Rattle.net_model.specs.declared.refusal.LimitWhat.TheVariants.{Routers, Interfaces, Dests}
 use Rattle.net_model.specs.declared.refusal.NetRefusal.{NetRefusal}
@@ -16,7 +17,7 @@ use Rattle.net_model.specs.declared.refusal.NetRefusal.TheVariants.{Limit, TwoNa
 use Rattle.net_model.proofs.Members.{Contains-none, Contains-first, Contains-rest, Contains-cases, length-same_from_distinct}
 use Rattle.net_model.proofs.Names.{IsBelow-irrefl, TwoHaveName-permutation, neither_below}
 use Rattle.net_model.proofs.NetworkFacts.{IsNamed-unique}
-use Rattle.net_model.proofs.PairFacts.{IsLeastPair-unique}
+use Rattle.net_model.proofs.PairFacts.{IsLeastNamedPair-unique, IsLowestNamed-unique}
 
 -- configurations name only so many prefixes
 pub CountsDests-unique : (configs : List Configuration) (m n : ℕ) → CountsDests configs m → CountsDests configs n → m ≡ n
@@ -83,13 +84,13 @@ IsNetworkOf-unique configs one other h k =
 pub IsConsistent-refused : (net : Network) (refusal : NetRefusal) → IsConsistent net → RefusesNetwork refusal net → ⊥
 IsConsistent-refused net (Limit _ _) k h = h
 IsConsistent-refused net (TwoNames _) k h = h
-IsConsistent-refused net (AddressTwice one two address) k h = k.addresses one two address h.clash
-IsConsistent-refused net (PrefixInTwoAreas one two dest) k h = k.areas one two dest h.1.clash
-IsConsistent-refused net (BorderWithoutBackbone router) k h = k.borders router h.1.holds
+IsConsistent-refused net (AddressTwice one two address) k h = k.addresses h.first h.second address h.pair.clash
+IsConsistent-refused net (PrefixInTwoAreas one two dest) k h = k.areas h.1.first h.1.second dest h.1.pair.clash
+IsConsistent-refused net (BorderWithoutBackbone router) k h = k.borders h.1.router h.1.lowest.holds
 IsConsistent-refused net (OspfCostSum sum) k h = omega (arith, k.ospf_costs, h.1.above)
 IsConsistent-refused net (IsisMetricSum sum) k h = omega (arith, k.isis_metrics, h.1.above)
-IsConsistent-refused net (SystemIdTwice one two) k h = k.systems one two h.1.0 h.1.1.clash
-IsConsistent-refused net (StubMismatch one two area) k h = k.stubs one two area h.1.clash
+IsConsistent-refused net (SystemIdTwice one two) k h = k.systems h.1.1.first h.1.1.second h.1.0 h.1.1.pair.clash
+IsConsistent-refused net (StubMismatch one two area) k h = k.stubs h.1.first h.1.second area h.1.pair.clash
 IsConsistent-refused net OutOfMemory k h = h
 
 refused_by_network : (configs : List Configuration) (net : Network) (refusal : NetRefusal) → MakeNetwork configs net → HoldsOfNetwork configs (RefusesNetwork refusal) → ⊥
@@ -131,73 +132,70 @@ block_antisymmetric p q l m =
     let len : p.len ≡ q.len = ⊎_elim (λ a. absurd (omega (arith, base))) (λ a. ⊎_elim (λ b. absurd (omega (arith, base))) (λ b. omega (arith, a.1, b.1)) m) l in
     λ i. record { base = base i; len = len i }
 
-least_same : (P : ℕ → Type 0) (m n : ℕ) → IsLowest P m → IsLowest P n → m ≡ n
-least_same P m n h k = omega (arith, h.least n k.holds, k.least m h.holds)
-
 carried_same : (most count m n : ℕ) → IsAbove most count m → IsAbove most count n → m ≡ n
 carried_same most count m n h k = h.number_is ∙ sym k.number_is
 
 -- of two refusals of one network the later one needs that the earlier one's condition doesn't hold
 RefusesNetwork-unique : (net : Network) (one other : NetRefusal) → RefusesNetwork one net → RefusesNetwork other net → one ≡ other
 RefusesNetwork-unique net (AddressTwice u1 v1 a1) (AddressTwice u2 v2 a2) h k =
-    let same = IsLeastPair-unique (λ a b. a ≤ b) (HaveOneAddress net) u1 v1 a1 u2 v2 a2 antisymmetric h k in
+    let same = IsLeastNamedPair-unique (λ a b. a ≤ b) (HaveOneAddress net) net u1 v1 a1 u2 v2 a2 antisymmetric h k in
     λ i. AddressTwice (same.0 i) (same.1 i) (same.2 i)
-RefusesNetwork-unique net (AddressTwice u1 v1 a1) (PrefixInTwoAreas u2 v2 p2) h k = absurd (k.0 u1 v1 a1 h.clash)
-RefusesNetwork-unique net (AddressTwice u1 v1 a1) (BorderWithoutBackbone u2) h k = absurd (k.0.0 u1 v1 a1 h.clash)
-RefusesNetwork-unique net (AddressTwice u1 v1 a1) (OspfCostSum s2) h k = absurd (k.0.0.0 u1 v1 a1 h.clash)
-RefusesNetwork-unique net (AddressTwice u1 v1 a1) (IsisMetricSum s2) h k = absurd (k.0.0.0.0 u1 v1 a1 h.clash)
-RefusesNetwork-unique net (AddressTwice u1 v1 a1) (SystemIdTwice u2 v2) h k = absurd (k.0.0.0.0.0 u1 v1 a1 h.clash)
-RefusesNetwork-unique net (AddressTwice u1 v1 a1) (StubMismatch u2 v2 n2) h k = absurd (k.0.0.0.0.0.0 u1 v1 a1 h.clash)
-RefusesNetwork-unique net (PrefixInTwoAreas u1 v1 p1) (AddressTwice u2 v2 a2) h k = absurd (h.0 u2 v2 a2 k.clash)
+RefusesNetwork-unique net (AddressTwice u1 v1 a1) (PrefixInTwoAreas u2 v2 p2) h k = absurd (k.0 h.first h.second a1 h.pair.clash)
+RefusesNetwork-unique net (AddressTwice u1 v1 a1) (BorderWithoutBackbone u2) h k = absurd (k.0.0 h.first h.second a1 h.pair.clash)
+RefusesNetwork-unique net (AddressTwice u1 v1 a1) (OspfCostSum s2) h k = absurd (k.0.0.0 h.first h.second a1 h.pair.clash)
+RefusesNetwork-unique net (AddressTwice u1 v1 a1) (IsisMetricSum s2) h k = absurd (k.0.0.0.0 h.first h.second a1 h.pair.clash)
+RefusesNetwork-unique net (AddressTwice u1 v1 a1) (SystemIdTwice u2 v2) h k = absurd (k.0.0.0.0.0 h.first h.second a1 h.pair.clash)
+RefusesNetwork-unique net (AddressTwice u1 v1 a1) (StubMismatch u2 v2 n2) h k = absurd (k.0.0.0.0.0.0 h.first h.second a1 h.pair.clash)
+RefusesNetwork-unique net (PrefixInTwoAreas u1 v1 p1) (AddressTwice u2 v2 a2) h k = absurd (h.0 k.first k.second a2 k.pair.clash)
 RefusesNetwork-unique net (PrefixInTwoAreas u1 v1 p1) (PrefixInTwoAreas u2 v2 p2) h k =
-    let same = IsLeastPair-unique IsBlockAtMost (RunTwoAreas net) u1 v1 p1 u2 v2 p2 block_antisymmetric h.1 k.1 in
+    let same = IsLeastNamedPair-unique IsBlockAtMost (RunTwoAreas net) net u1 v1 p1 u2 v2 p2 block_antisymmetric h.1 k.1 in
     λ i. PrefixInTwoAreas (same.0 i) (same.1 i) (same.2 i)
-RefusesNetwork-unique net (PrefixInTwoAreas u1 v1 p1) (BorderWithoutBackbone u2) h k = absurd (k.0.1 u1 v1 p1 h.1.clash)
-RefusesNetwork-unique net (PrefixInTwoAreas u1 v1 p1) (OspfCostSum s2) h k = absurd (k.0.0.1 u1 v1 p1 h.1.clash)
-RefusesNetwork-unique net (PrefixInTwoAreas u1 v1 p1) (IsisMetricSum s2) h k = absurd (k.0.0.0.1 u1 v1 p1 h.1.clash)
-RefusesNetwork-unique net (PrefixInTwoAreas u1 v1 p1) (SystemIdTwice u2 v2) h k = absurd (k.0.0.0.0.1 u1 v1 p1 h.1.clash)
-RefusesNetwork-unique net (PrefixInTwoAreas u1 v1 p1) (StubMismatch u2 v2 n2) h k = absurd (k.0.0.0.0.0.1 u1 v1 p1 h.1.clash)
-RefusesNetwork-unique net (BorderWithoutBackbone u1) (AddressTwice u2 v2 a2) h k = absurd (h.0.0 u2 v2 a2 k.clash)
-RefusesNetwork-unique net (BorderWithoutBackbone u1) (PrefixInTwoAreas u2 v2 p2) h k = absurd (h.0.1 u2 v2 p2 k.1.clash)
+RefusesNetwork-unique net (PrefixInTwoAreas u1 v1 p1) (BorderWithoutBackbone u2) h k = absurd (k.0.1 h.1.first h.1.second p1 h.1.pair.clash)
+RefusesNetwork-unique net (PrefixInTwoAreas u1 v1 p1) (OspfCostSum s2) h k = absurd (k.0.0.1 h.1.first h.1.second p1 h.1.pair.clash)
+RefusesNetwork-unique net (PrefixInTwoAreas u1 v1 p1) (IsisMetricSum s2) h k = absurd (k.0.0.0.1 h.1.first h.1.second p1 h.1.pair.clash)
+RefusesNetwork-unique net (PrefixInTwoAreas u1 v1 p1) (SystemIdTwice u2 v2) h k = absurd (k.0.0.0.0.1 h.1.first h.1.second p1 h.1.pair.clash)
+RefusesNetwork-unique net (PrefixInTwoAreas u1 v1 p1) (StubMismatch u2 v2 n2) h k = absurd (k.0.0.0.0.0.1 h.1.first h.1.second p1 h.1.pair.clash)
+RefusesNetwork-unique net (BorderWithoutBackbone u1) (AddressTwice u2 v2 a2) h k = absurd (h.0.0 k.first k.second a2 k.pair.clash)
+RefusesNetwork-unique net (BorderWithoutBackbone u1) (PrefixInTwoAreas u2 v2 p2) h k = absurd (h.0.1 k.1.first k.1.second p2 k.1.pair.clash)
 RefusesNetwork-unique net (BorderWithoutBackbone u1) (BorderWithoutBackbone u2) h k =
-    ap BorderWithoutBackbone (least_same (LacksBackbone net) u1 u2 h.1 k.1)
-RefusesNetwork-unique net (BorderWithoutBackbone u1) (OspfCostSum s2) h k = absurd (k.0.1 u1 h.1.holds)
-RefusesNetwork-unique net (BorderWithoutBackbone u1) (IsisMetricSum s2) h k = absurd (k.0.0.1 u1 h.1.holds)
-RefusesNetwork-unique net (BorderWithoutBackbone u1) (SystemIdTwice u2 v2) h k = absurd (k.0.0.0.1 u1 h.1.holds)
-RefusesNetwork-unique net (BorderWithoutBackbone u1) (StubMismatch u2 v2 n2) h k = absurd (k.0.0.0.0.1 u1 h.1.holds)
-RefusesNetwork-unique net (OspfCostSum s1) (AddressTwice u2 v2 a2) h k = absurd (h.0.0.0 u2 v2 a2 k.clash)
-RefusesNetwork-unique net (OspfCostSum s1) (PrefixInTwoAreas u2 v2 p2) h k = absurd (h.0.0.1 u2 v2 p2 k.1.clash)
-RefusesNetwork-unique net (OspfCostSum s1) (BorderWithoutBackbone u2) h k = absurd (h.0.1 u2 k.1.holds)
+    ap BorderWithoutBackbone (IsLowestNamed-unique (LacksBackbone net) net u1 u2 h.1 k.1)
+RefusesNetwork-unique net (BorderWithoutBackbone u1) (OspfCostSum s2) h k = absurd (k.0.1 h.1.router h.1.lowest.holds)
+RefusesNetwork-unique net (BorderWithoutBackbone u1) (IsisMetricSum s2) h k = absurd (k.0.0.1 h.1.router h.1.lowest.holds)
+RefusesNetwork-unique net (BorderWithoutBackbone u1) (SystemIdTwice u2 v2) h k = absurd (k.0.0.0.1 h.1.router h.1.lowest.holds)
+RefusesNetwork-unique net (BorderWithoutBackbone u1) (StubMismatch u2 v2 n2) h k = absurd (k.0.0.0.0.1 h.1.router h.1.lowest.holds)
+RefusesNetwork-unique net (OspfCostSum s1) (AddressTwice u2 v2 a2) h k = absurd (h.0.0.0 k.first k.second a2 k.pair.clash)
+RefusesNetwork-unique net (OspfCostSum s1) (PrefixInTwoAreas u2 v2 p2) h k = absurd (h.0.0.1 k.1.first k.1.second p2 k.1.pair.clash)
+RefusesNetwork-unique net (OspfCostSum s1) (BorderWithoutBackbone u2) h k = absurd (h.0.1 k.1.router k.1.lowest.holds)
 RefusesNetwork-unique net (OspfCostSum s1) (OspfCostSum s2) h k =
-    ap OspfCostSum (carried_same 16777214 (ospf_cost_sum net) s1 s2 h.1 k.1)
+    ap OspfCostSum (carried_same MOST_COST (ospf_cost_sum net) s1 s2 h.1 k.1)
 RefusesNetwork-unique net (OspfCostSum s1) (IsisMetricSum s2) h k = absurd (omega (arith, k.0.1, h.1.above))
 RefusesNetwork-unique net (OspfCostSum s1) (SystemIdTwice u2 v2) h k = absurd (omega (arith, k.0.0.1, h.1.above))
 RefusesNetwork-unique net (OspfCostSum s1) (StubMismatch u2 v2 n2) h k = absurd (omega (arith, k.0.0.0.1, h.1.above))
-RefusesNetwork-unique net (IsisMetricSum s1) (AddressTwice u2 v2 a2) h k = absurd (h.0.0.0.0 u2 v2 a2 k.clash)
-RefusesNetwork-unique net (IsisMetricSum s1) (PrefixInTwoAreas u2 v2 p2) h k = absurd (h.0.0.0.1 u2 v2 p2 k.1.clash)
-RefusesNetwork-unique net (IsisMetricSum s1) (BorderWithoutBackbone u2) h k = absurd (h.0.0.1 u2 k.1.holds)
+RefusesNetwork-unique net (IsisMetricSum s1) (AddressTwice u2 v2 a2) h k = absurd (h.0.0.0.0 k.first k.second a2 k.pair.clash)
+RefusesNetwork-unique net (IsisMetricSum s1) (PrefixInTwoAreas u2 v2 p2) h k = absurd (h.0.0.0.1 k.1.first k.1.second p2 k.1.pair.clash)
+RefusesNetwork-unique net (IsisMetricSum s1) (BorderWithoutBackbone u2) h k = absurd (h.0.0.1 k.1.router k.1.lowest.holds)
 RefusesNetwork-unique net (IsisMetricSum s1) (OspfCostSum s2) h k = absurd (omega (arith, h.0.1, k.1.above))
 RefusesNetwork-unique net (IsisMetricSum s1) (IsisMetricSum s2) h k =
-    ap IsisMetricSum (carried_same 4261412864 (isis_metric_sum net) s1 s2 h.1 k.1)
+    ap IsisMetricSum (carried_same MOST_PATH_METRIC (isis_metric_sum net) s1 s2 h.1 k.1)
 RefusesNetwork-unique net (IsisMetricSum s1) (SystemIdTwice u2 v2) h k = absurd (omega (arith, k.0.1, h.1.above))
 RefusesNetwork-unique net (IsisMetricSum s1) (StubMismatch u2 v2 n2) h k = absurd (omega (arith, k.0.0.1, h.1.above))
-RefusesNetwork-unique net (SystemIdTwice u1 v1) (AddressTwice u2 v2 a2) h k = absurd (h.0.0.0.0.0 u2 v2 a2 k.clash)
-RefusesNetwork-unique net (SystemIdTwice u1 v1) (PrefixInTwoAreas u2 v2 p2) h k = absurd (h.0.0.0.0.1 u2 v2 p2 k.1.clash)
-RefusesNetwork-unique net (SystemIdTwice u1 v1) (BorderWithoutBackbone u2) h k = absurd (h.0.0.0.1 u2 k.1.holds)
+RefusesNetwork-unique net (SystemIdTwice u1 v1) (AddressTwice u2 v2 a2) h k = absurd (h.0.0.0.0.0 k.first k.second a2 k.pair.clash)
+RefusesNetwork-unique net (SystemIdTwice u1 v1) (PrefixInTwoAreas u2 v2 p2) h k = absurd (h.0.0.0.0.1 k.1.first k.1.second p2 k.1.pair.clash)
+RefusesNetwork-unique net (SystemIdTwice u1 v1) (BorderWithoutBackbone u2) h k = absurd (h.0.0.0.1 k.1.router k.1.lowest.holds)
 RefusesNetwork-unique net (SystemIdTwice u1 v1) (OspfCostSum s2) h k = absurd (omega (arith, h.0.0.1, k.1.above))
 RefusesNetwork-unique net (SystemIdTwice u1 v1) (IsisMetricSum s2) h k = absurd (omega (arith, h.0.1, k.1.above))
 RefusesNetwork-unique net (SystemIdTwice u1 v1) (SystemIdTwice u2 v2) h k =
-    let same = IsLeastPair-unique (λ a b. a ≤ b) (HaveOneSystem net) u1 v1 h.1.0 u2 v2 k.1.0 antisymmetric h.1.1 k.1.1 in
+    let same = IsLeastNamedPair-unique (λ a b. a ≤ b) (HaveOneSystem net) net u1 v1 h.1.0 u2 v2 k.1.0 antisymmetric h.1.1 k.1.1 in
     λ i. SystemIdTwice (same.0 i) (same.1 i)
-RefusesNetwork-unique net (SystemIdTwice u1 v1) (StubMismatch u2 v2 n2) h k = absurd (k.0.1 u1 v1 h.1.0 h.1.1.clash)
-RefusesNetwork-unique net (StubMismatch u1 v1 n1) (AddressTwice u2 v2 a2) h k = absurd (h.0.0.0.0.0.0 u2 v2 a2 k.clash)
-RefusesNetwork-unique net (StubMismatch u1 v1 n1) (PrefixInTwoAreas u2 v2 p2) h k = absurd (h.0.0.0.0.0.1 u2 v2 p2 k.1.clash)
-RefusesNetwork-unique net (StubMismatch u1 v1 n1) (BorderWithoutBackbone u2) h k = absurd (h.0.0.0.0.1 u2 k.1.holds)
+RefusesNetwork-unique net (SystemIdTwice u1 v1) (StubMismatch u2 v2 n2) h k = absurd (k.0.1 h.1.1.first h.1.1.second h.1.0 h.1.1.pair.clash)
+RefusesNetwork-unique net (StubMismatch u1 v1 n1) (AddressTwice u2 v2 a2) h k = absurd (h.0.0.0.0.0.0 k.first k.second a2 k.pair.clash)
+RefusesNetwork-unique net (StubMismatch u1 v1 n1) (PrefixInTwoAreas u2 v2 p2) h k = absurd (h.0.0.0.0.0.1 k.1.first k.1.second p2 k.1.pair.clash)
+RefusesNetwork-unique net (StubMismatch u1 v1 n1) (BorderWithoutBackbone u2) h k = absurd (h.0.0.0.0.1 k.1.router k.1.lowest.holds)
 RefusesNetwork-unique net (StubMismatch u1 v1 n1) (OspfCostSum s2) h k = absurd (omega (arith, h.0.0.0.1, k.1.above))
 RefusesNetwork-unique net (StubMismatch u1 v1 n1) (IsisMetricSum s2) h k = absurd (omega (arith, h.0.0.1, k.1.above))
-RefusesNetwork-unique net (StubMismatch u1 v1 n1) (SystemIdTwice u2 v2) h k = absurd (h.0.1 u2 v2 k.1.0 k.1.1.clash)
+RefusesNetwork-unique net (StubMismatch u1 v1 n1) (SystemIdTwice u2 v2) h k = absurd (h.0.1 k.1.1.first k.1.1.second k.1.0 k.1.1.pair.clash)
 RefusesNetwork-unique net (StubMismatch u1 v1 n1) (StubMismatch u2 v2 n2) h k =
-    let same = IsLeastPair-unique (λ a b. a ≤ b) (DifferOnStub net) u1 v1 n1 u2 v2 n2 antisymmetric h.1 k.1 in
+    let same = IsLeastNamedPair-unique (λ a b. a ≤ b) (DifferOnStub net) net u1 v1 n1 u2 v2 n2 antisymmetric h.1 k.1 in
     λ i. StubMismatch (same.0 i) (same.1 i) (same.2 i)
 RefusesNetwork-unique net (Limit _ _) other h k = absurd h
 RefusesNetwork-unique net (TwoNames _) other h k = absurd h

@@ -4,6 +4,7 @@ use Rattle.net_addr.specs.Addresses.{Block}
 use Rattle.net_model.specs.Configuration.{Configuration}
 use Rattle.net_model.specs.Least.{NoneClash}
 use Rattle.net_model.specs.Network.{Network, HasConfiguration, UpInterface, InArea, IsBorderRouter}
+use Rattle.net_model.specs.declared.bounds.TheConstants.{MOST_COST, MOST_PATH_METRIC}
 use Rattle.net_model.specs.declared.area.Range.{Range}
 use Rattle.net_model.specs.declared.area.Stub.{Stub}
 use Rattle.net_model.specs.declared.interface.Interface.{Interface}
@@ -110,13 +111,13 @@ AreasAgree net = NoneClash (RunTwoAreas net)
 abbrev pub BordersMeetBackbone : Network → Type 0
 BordersMeetBackbone net = (u : ℕ) → LacksBackbone net u → ⊥
 
--- the sum of all OSPF costs is below the cost that stands for unreachable (RFC 2328, appendix B)
+-- the sum of all OSPF costs is at most the greatest cost, one below what stands for unreachable (RFC 2328, appendix B)
 abbrev pub OspfCostsFit : Network → Type 0
-OspfCostsFit net = ospf_cost_sum net < 16777215
+OspfCostsFit net = ospf_cost_sum net ≤ MOST_COST
 
 -- the sum of all IS-IS metrics is at most the greatest metric of a path (RFC 5305, section 3)
 abbrev pub IsisMetricsFit : Network → Type 0
-IsisMetricsFit net = isis_metric_sum net ≤ 4261412864
+IsisMetricsFit net = isis_metric_sum net ≤ MOST_PATH_METRIC
 
 -- no two routers with IS-IS have one system id
 abbrev pub SystemsDiffer : Network → Type 0

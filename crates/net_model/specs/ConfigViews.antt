@@ -13,6 +13,7 @@ config_view c = record {
   isis_area = c.isis_area;
   system = c.system;
   levels = c.levels;
+  leak = c.leak;
   ranges = c.ranges;
   stubs = c.stubs;
   rfc1583 = c.rfc1583;

@@ -14,3 +14,4 @@ pub mod Links
 pub mod Subnets
 pub mod OffStarts
 pub mod Scans
+pub mod RouterNames

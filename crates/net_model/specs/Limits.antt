@@ -2,6 +2,7 @@
 use Rattle.std.specs.Prelude.{◌≡◌, ◌≢◌, ℕ, ◌≤◌, List, length, Some, IsTrue, AllPairs, Contains, sum_by, count_by, ◌↔◌}
 use Rattle.net_addr.specs.Addresses.{Block}
 use Rattle.net_model.specs.Configuration.{Configuration}
+use Rattle.net_model.specs.declared.bounds.TheConstants.{MOST_DESTS, MOST_ROUTERS, MOST_UP_INTERFACES}
 use Rattle.net_model.specs.declared.area.Range.{Range}
 use Rattle.net_model.specs.declared.interface.Interface.{Interface}
 
@@ -31,10 +32,10 @@ pub record CountsDests (configs : List Configuration) (count : ℕ) : Type 0 whe
   pub exact : (p : Block) → Contains dests p ↔ IsDest configs p
   pub count_is : length dests ≡ count
 
--- at most 200 routers, 2,000 up interfaces and 4,096 prefixes
+-- at most so many routers, up interfaces and prefixes
 pub record IsWithinLimits (configs : List Configuration) : Type 0 where
-  pub routers : length configs ≤ 200
-  pub interfaces : all_up_interfaces configs ≤ 2000
+  pub routers : length configs ≤ MOST_ROUTERS
+  pub interfaces : all_up_interfaces configs ≤ MOST_UP_INTERFACES
   pub dests : ℕ
   pub counted : CountsDests configs dests
-  pub few : dests ≤ 4096
+  pub few : dests ≤ MOST_DESTS

@@ -5,10 +5,12 @@ use Rattle.std.specs.Ordering.{nat_cmp}
 use Rattle.std.specs.declared.cmp.Ordering.TheVariants.{Less}
 use Rattle.net_model.specs.Conditions.{HaveOneAddress, RunTwoAreas, LacksBackbone, HaveOneSystem, DifferOnStub, ospf_cost_sum, isis_metric_sum, IsConsistent, AddressesDiffer, PassesAreas, PassesBorders, PassesOspfCosts, PassesIsisMetrics, PassesSystems}
 use Rattle.net_model.specs.Configuration.{Configuration, IsConfiguration}
-use Rattle.net_model.specs.Least.{IsBlockAtMost, IsLeastPair, IsLowest}
+use Rattle.net_model.specs.Least.{IsBlockAtMost}
 use Rattle.net_model.specs.Limits.{all_up_interfaces, CountsDests, IsWithinLimits}
 use Rattle.net_model.specs.Lookups.{IsNamed}
 use Rattle.net_model.specs.Network.{Network}
+use Rattle.net_model.specs.RouterNames.{IsLeastNamedPair, IsLowestNamed}
+use Rattle.net_model.specs.declared.bounds.TheConstants.{MOST_COST, MOST_DESTS, MOST_PATH_METRIC, MOST_ROUTERS, MOST_UP_INTERFACES}
 use Rattle.net_model.specs.declared.refusal.LimitWhat.TheVariants.{Routers, Interfaces, Dests}
 use Rattle.net_model.specs.declared.refusal.NetRefusal.{NetRefusal}
 use Rattle.net_model.specs.declared.refusal.NetRefusal.TheVariants.{Limit, TwoNames, AddressTwice, PrefixInTwoAreas, BorderWithoutBackbone, OspfCostSum, IsisMetricSum, SystemIdTwice, StubMismatch, OutOfMemory}
@@ -48,11 +50,11 @@ pub record IsAbove (most count number : ℕ) : Type 0 where
   pub above : most < count
   pub number_is : number ≡ carried count
 
--- the configurations name more than 4,096 prefixes, and the refusal carries how many
+-- the configurations name too many prefixes, and the refusal carries how many
 pub record NameTooMany (configs : List Configuration) (number : ℕ) : Type 0 where
   pub dests : ℕ
   pub counted : CountsDests configs dests
-  pub above : IsAbove 4096 dests number
+  pub above : IsAbove MOST_DESTS dests number
 
 -- two configurations have this name
 pub record TwoHaveName (configs : List Configuration) (name : List ℕ) : Type 0 where
@@ -75,17 +77,22 @@ RefusesName _ configs = ⊥
 
 -- when each refusal of a network comes: its condition holds, and none of those above it
 abbrev pub RefusesNetwork : NetRefusal → Network → Type 0
-RefusesNetwork (AddressTwice one two address) net = IsLeastPair (λ a b. a ≤ b) (HaveOneAddress net) one two address
+RefusesNetwork (AddressTwice one two address) net = IsLeastNamedPair (λ a b. a ≤ b) (HaveOneAddress net) net one two address
 RefusesNetwork (PrefixInTwoAreas one two dest) net =
-    AddressesDiffer net × IsLeastPair IsBlockAtMost (RunTwoAreas net) one two dest
-RefusesNetwork (BorderWithoutBackbone router) net = PassesAreas net × IsLowest (LacksBackbone net) router
-RefusesNetwork (OspfCostSum sum) net = PassesBorders net × IsAbove 16777214 (ospf_cost_sum net) sum
-RefusesNetwork (IsisMetricSum sum) net = PassesOspfCosts net × IsAbove 4261412864 (isis_metric_sum net) sum
+    AddressesDiffer net × IsLeastNamedPair IsBlockAtMost (RunTwoAreas net) net one two dest
+RefusesNetwork (BorderWithoutBackbone router) net = PassesAreas net × IsLowestNamed (LacksBackbone net) net router
+RefusesNetwork (OspfCostSum sum) net = PassesBorders net × IsAbove MOST_COST (ospf_cost_sum net) sum
+RefusesNetwork (IsisMetricSum sum) net = PassesOspfCosts net × IsAbove MOST_PATH_METRIC (isis_metric_sum net) sum
 RefusesNetwork (SystemIdTwice one two) net =
-    PassesIsisMetrics net × ((system : ℕ) × IsLeastPair (λ a b. a ≤ b) (HaveOneSystem net) one two system)
+    PassesIsisMetrics net × ((system : ℕ) × IsLeastNamedPair (λ a b. a ≤ b) (HaveOneSystem net) net one two system)
 RefusesNetwork (StubMismatch one two area) net =
-    PassesSystems net × IsLeastPair (λ a b. a ≤ b) (DifferOnStub net) one two area
+    PassesSystems net × IsLeastNamedPair (λ a b. a ≤ b) (DifferOnStub net) net one two area
 RefusesNetwork _ net = ⊥
+
+-- the refusal of a network, or want of memory
+abbrev pub MayRefuse : NetRefusal → Network → Type 0
+MayRefuse OutOfMemory net = Unit {0}
+MayRefuse refusal net = RefusesNetwork refusal net
 
 -- P holds of the network of configurations that are within the limits and have distinct names
 pub record HoldsOfNetwork (configs : List Configuration) (P : Network → Type 0) : Type 0 where
@@ -96,11 +103,11 @@ pub record HoldsOfNetwork (configs : List Configuration) (P : Network → Type 0
 
 -- when each refusal comes: its condition holds, and none of those above it
 abbrev pub Refuses : NetRefusal → List Configuration → Type 0
-Refuses (Limit Routers number) configs = IsAbove 200 (length configs) number
+Refuses (Limit Routers number) configs = IsAbove MOST_ROUTERS (length configs) number
 Refuses (Limit Interfaces number) configs =
-    (length configs ≤ 200) × IsAbove 2000 (all_up_interfaces configs) number
+    (length configs ≤ MOST_ROUTERS) × IsAbove MOST_UP_INTERFACES (all_up_interfaces configs) number
 Refuses (Limit Dests number) configs =
-    (length configs ≤ 200) × (all_up_interfaces configs ≤ 2000) × NameTooMany configs number
+    (length configs ≤ MOST_ROUTERS) × (all_up_interfaces configs ≤ MOST_UP_INTERFACES) × NameTooMany configs number
 Refuses (TwoNames name) configs = IsWithinLimits configs × IsLeastDouble configs name
 Refuses OutOfMemory configs = Unit {0}
 Refuses refusal configs = HoldsOfNetwork configs (RefusesNetwork refusal)

@@ -1,20 +1,21 @@
 ghost use Rattle.std.specs.Prelude.{◌≤◌, ◌↔◌, ℕ, length, Any, IfErr, IsTrue, OnOk};
 ghost use Rattle.net_model.specs.Conditions.{AddressesDiffer, HaveOneAddress};
 ghost use Rattle.net_model.specs.Least.{IsBest};
-ghost use Rattle.net_model.specs.Refusals.{RefusesNetwork};
+ghost use Rattle.net_model.specs.Refusals.{MayRefuse};
 ghost use Rattle.net_model.specs.Scans.{ClashOnAddress, OffersAddress};
 
 use crate::links::lower;
-use crate::pairs::{Clash, first_pair};
-use crate::{Config, Interface, NetRefusal};
+use crate::pairs::{Clash, first_clash};
+use crate::{Config, Interface, MOST_ROUTERS, NetRefusal};
+use std::alloc::Global;
 
 /// Refuses an address that two up interfaces have, if they belong to one router or one of them is no loopback.
-pub fn check_addresses(configs: &[Config]) -> Result<(), NetRefusal>
-    requires { length configs.now ≤ 200 }
+pub fn check_addresses(alloc: Global, configs: &[Config]) -> Result<(), NetRefusal>
+    requires { length configs.now ≤ MOST_ROUTERS }
     ensures ok { OnOk result (AddressesDiffer configs.now) }
-    ensures err { IfErr result (λ e. RefusesNetwork e configs.now) }
+    ensures err { IfErr result (λ e. MayRefuse e configs.now) }
 {
-    match first_pair::<OneAddress>(configs) {
+    match first_clash::<OneAddress>(alloc, configs)? {
         Some(pair) => Err(NetRefusal::AddressTwice {
             one: pair.one,
             two: pair.two,

@@ -1,22 +1,23 @@
 ghost use Rattle.std.specs.Prelude.{◌≡◌, ◌≤◌, ◌↔◌, ◌||◌, ◌&&◌, nat_eq, nat_lt, length, Any, IfErr, IsTrue, OnOk};
 ghost use Rattle.net_model.specs.Conditions.{AddressesDiffer, PassesAreas, RunTwoAreas};
 ghost use Rattle.net_model.specs.Least.{IsBest, IsBlockAtMost};
-ghost use Rattle.net_model.specs.Refusals.{RefusesNetwork};
+ghost use Rattle.net_model.specs.Refusals.{MayRefuse};
 ghost use Rattle.net_model.specs.Scans.{AreInTwoAreas, ClashOnArea, OffersDest, RunsArea, first_block};
 
 use crate::links::share_subnet;
-use crate::pairs::{Clash, first_pair};
-use crate::{Config, Interface, NetRefusal};
+use crate::pairs::{Clash, first_clash};
+use crate::{Config, Interface, MOST_ROUTERS, NetRefusal};
 use net_addr::Prefix;
+use std::alloc::Global;
 
 /// Refuses a subnet that up interfaces run in different OSPF areas.
-pub fn check_areas(configs: &[Config]) -> Result<(), NetRefusal>
-    requires few { length configs.now ≤ 200 }
+pub fn check_areas(alloc: Global, configs: &[Config]) -> Result<(), NetRefusal>
+    requires few { length configs.now ≤ MOST_ROUTERS }
     requires addresses { AddressesDiffer configs.now }
     ensures ok { OnOk result (PassesAreas configs.now) }
-    ensures err { IfErr result (λ e. RefusesNetwork e configs.now) }
+    ensures err { IfErr result (λ e. MayRefuse e configs.now) }
 {
-    match first_pair::<TwoAreas>(configs) {
+    match first_clash::<TwoAreas>(alloc, configs)? {
         Some(pair) => Err(NetRefusal::PrefixInTwoAreas {
             one: pair.one,
             two: pair.two,

@@ -1,28 +1,32 @@
 ghost use Rattle.std.specs.Prelude.{◌≤◌, ◌↔◌, length, Any, IfErr, IsTrue, MatchOption, OnOk};
 ghost use Rattle.net_model.specs.Conditions.{BordersMeetBackbone, LacksBackbone, PassesAreas, PassesBorders};
 ghost use Rattle.net_model.specs.Least.{IsLowest};
-ghost use Rattle.net_model.specs.Refusals.{RefusesNetwork};
+ghost use Rattle.net_model.specs.Refusals.{MayRefuse};
 ghost use Rattle.net_model.specs.Scans.{AreInTwoAreas, LeaveBackbone};
 
 use crate::areas::{has_area, in_two_areas};
-use crate::{Config, Interface, NetRefusal};
+use crate::pairs::name_of;
+use crate::{Config, Interface, MOST_ROUTERS, NetRefusal};
+use std::alloc::Global;
 
 /// Refuses the lowest border router that has no up interface in area 0.
-pub fn check_borders(configs: &[Config]) -> Result<(), NetRefusal>
-    requires few { length configs.now ≤ 200 }
+pub fn check_borders(alloc: Global, configs: &[Config]) -> Result<(), NetRefusal>
+    requires few { length configs.now ≤ MOST_ROUTERS }
     requires areas { PassesAreas configs.now }
     ensures ok { OnOk result (PassesBorders configs.now) }
-    ensures err { IfErr result (λ e. RefusesNetwork e configs.now) }
+    ensures err { IfErr result (λ e. MayRefuse e configs.now) }
 {
     match first_off_backbone(configs) {
-        Some(router) => Err(NetRefusal::BorderWithoutBackbone { router }),
+        Some(lowest) => Err(NetRefusal::BorderWithoutBackbone {
+            router: name_of(alloc, configs, lowest)?,
+        }),
         None => Ok(()),
     }
 }
 
 /// The lowest border router that has no up interface in area 0.
 fn first_off_backbone(configs: &[Config]) -> Option<u32>
-    requires { length configs.now ≤ 200 }
+    requires { length configs.now ≤ MOST_ROUTERS }
     ensures { MatchOption result (BordersMeetBackbone configs.now) (IsLowest (LacksBackbone configs.now)) }
 {
     for (router, config) in configs.iter().enumerate() {

@@ -33,12 +33,12 @@ impl Levels {
     }
 }
 
-/// The administrative distances of a router's two protocols; at 255 a protocol installs nothing.
+/// The administrative distances of a router's two protocols; at `MOST_DISTANCE` a protocol installs nothing.
 #[derive(Clone, Copy, Debug, PartialEq, Eq)]
 pub struct Distances {
-    /// The distance of OSPF, from 1 to 255 and not 115.
+    /// The distance of OSPF, from 1 to `MOST_DISTANCE` and not `ISIS_DISTANCE`.
     pub ospf: u8,
-    /// The distance of IS-IS, `ISIS_DISTANCE` or 255.
+    /// The distance of IS-IS, `ISIS_DISTANCE` or `MOST_DISTANCE`.
     pub isis: u8,
 }
 
@@ -52,9 +52,9 @@ pub struct Config {
     pub name: Name,
     /// Its interfaces, in the order of the configuration.
     pub interfaces: Interfaces,
-    /// The number of its OSPF process, from 1 to 65535, `None` where it runs no OSPF.
+    /// The number of its OSPF process, from 1 to `MOST_PROCESS`, `None` where it runs no OSPF.
     pub process: Option<u32>,
-    /// Whether it has an IS-IS process. Where it has none the next four fields mean nothing.
+    /// Whether it has an IS-IS process. Where it has none the next five fields mean nothing.
     pub isis: bool,
     /// The tag of the IS-IS process, empty where it has none.
     pub tag: Name,
@@ -64,6 +64,8 @@ pub struct Config {
     pub system: u64,
     /// The levels of IS-IS that the router runs.
     pub levels: Levels,
+    /// Whether level 2 routes are leaked into level 1 (RFC 5302).
+    pub leak: bool,
     /// The ranges of its OSPF areas.
     pub ranges: Ranges,
     /// Its stub areas.

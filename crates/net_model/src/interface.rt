@@ -26,9 +26,9 @@ pub struct Interface {
     pub level1: bool,
     /// Whether the interface runs level 2 of IS-IS.
     pub level2: bool,
-    /// The wide metric of level 1, from 1 to `MOST_COST` (RFC 5305, section 3).
+    /// The wide metric of level 1, from 1 to `MOST_METRIC` (RFC 5305, section 3).
     pub metric1: u32,
-    /// The wide metric of level 2, from 1 to `MOST_COST` (RFC 5305, section 3).
+    /// The wide metric of level 2, from 1 to `MOST_METRIC` (RFC 5305, section 3).
     pub metric2: u32,
     /// Whether the interface's subnet is announced by IS-IS without an adjacency.
     pub isis_passive: bool,

@@ -25,7 +25,10 @@ mod tests;
 mod zone;
 
 pub use area::{Range, Ranges, Stub, Stubs};
-pub use bounds::{ISIS_DISTANCE, MOST_COST, MOST_INTERFACE_COST};
+pub use bounds::{
+    ISIS_DISTANCE, MOST_COST, MOST_DESTS, MOST_DISTANCE, MOST_INTERFACE_COST, MOST_METRIC,
+    MOST_PATH_METRIC, MOST_PROCESS, MOST_ROUTERS, MOST_UP_INTERFACES, OSPF_DISTANCE,
+};
 pub use config::{Config, Configs, Distances, Levels};
 pub use interface::{Interface, Interfaces};
 pub use laws::build_laws;

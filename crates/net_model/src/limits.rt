@@ -5,18 +5,11 @@ ghost use Rattle.net_model.specs.Limits.{CountsDests, IsWithinLimits, all_up_int
 ghost use Rattle.net_model.specs.DestLists.{all_dests, own_dests, subnet_if_up};
 ghost use Rattle.net_model.specs.Refusals.{Refuses, carried};
 
-use crate::{Config, Interface, LimitWhat, NetRefusal, Range};
+use crate::{
+    Config, Interface, LimitWhat, MOST_DESTS, MOST_ROUTERS, MOST_UP_INTERFACES, NetRefusal, Range,
+};
 use net_addr::Prefix;
 use std::alloc::{AllocError, Global};
-
-/// The most routers of a network.
-const MOST_ROUTERS: usize = 200;
-
-/// The most up interfaces, of all routers together.
-const MOST_INTERFACES: u64 = 2000;
-
-/// The most prefixes that the configurations name.
-const MOST_DESTS: usize = 4096;
 
 /// Whether configurations are within the limits of a network; else the refusal is of the first that they exceed.
 pub fn within_limits(alloc: Global, configs: &[Config]) -> Result<(), NetRefusal>
@@ -29,7 +22,7 @@ pub fn within_limits(alloc: Global, configs: &[Config]) -> Result<(), NetRefusal
         return Err(above(LimitWhat::Routers, routers as u64));
     }
     let interfaces = count_interfaces(configs);
-    if interfaces > MOST_INTERFACES {
+    if interfaces > MOST_UP_INTERFACES as u64 {
         return Err(above(LimitWhat::Interfaces, interfaces));
     }
     let dests = count_dests(alloc, configs)?;

@@ -3,7 +3,7 @@ ghost use Rattle.net_addr.specs.Addresses.{Block, ContainsAddress};
 ghost use Rattle.net_model.specs.Network.{HasConfiguration, Connected, Adjacent};
 ghost use Rattle.net_model.specs.Conditions.{IsConsistent};
 ghost use Rattle.net_model.specs.OffStarts.{IsLowestOffStart, StartsOff};
-ghost use Rattle.net_model.specs.Refusals.{IsNetwork, MakeNetwork, Refuses, RefusesNetwork};
+ghost use Rattle.net_model.specs.Refusals.{IsNetwork, MakeNetwork, MayRefuse, Refuses};
 ghost use Rattle.net_model.specs.Lookups.{IsNamed, LeastArc, LongestConnected};
 
 use crate::addresses::check_addresses;
@@ -17,14 +17,14 @@ use crate::stubs::check_stubs;
 use crate::subnets::{has_subnet, longest_subnet};
 use crate::sums::{check_isis_metrics, check_ospf_costs};
 use crate::systems::check_systems;
-use crate::{Config, Configs, NetRefusal, Zone};
+use crate::{Config, Configs, MOST_ROUTERS, NetRefusal, Zone};
 use net_addr::Prefix;
 use std::alloc::Global;
 use std::marker::Model;
 
 /// A network: the configurations of its routers, which are numbered from 0 in byte order of their names.
 ///
-/// It keeps the limits, 200 routers, 2,000 up interfaces and 4,096 prefixes, no two of its routers have one name, and
+/// It keeps the limits, `MOST_ROUTERS`, `MOST_UP_INTERFACES` and `MOST_DESTS`, no two of its routers have one name, and
 /// it is consistent in its addresses, areas, costs, system ids and stub areas (`IsConsistent`).
 #[derive(Debug, Drop)]
 pub struct Net {
@@ -52,11 +52,11 @@ impl Net {
         within_limits(alloc, configs.as_slice())?;
         sort_by_name(&mut configs);
         check_names(alloc, configs.as_slice())?;
-        check_network(configs.as_slice())?;
+        check_network(alloc, configs.as_slice())?;
         Ok(Net { configs })
     }
 
-    /// The count of routers, at most 200.
+    /// The count of routers, at most `MOST_ROUTERS`.
     pub fn routers(&self) -> u32
         ensures count { result ≡ length self.now }
         ensures network { IsNetwork self.now }
@@ -118,8 +118,8 @@ impl Net {
         has_subnet(self.config(router).interfaces.as_slice(), dest)
     }
 
-    /// The lowest router that isn't where a migration starts: it has an OSPF process at OSPF distance 255, or
-    /// IS-IS at an IS-IS distance other than 255.
+    /// The lowest router that isn't where a migration starts: it has an OSPF process at OSPF distance
+    /// `MOST_DISTANCE`, or IS-IS at another IS-IS distance.
     pub fn off_start(&self) -> Option<u32>
         ensures { MatchOption result ((u : ℕ) → StartsOff self.now u → ⊥) (IsLowestOffStart self.now) }
     {
@@ -128,16 +128,16 @@ impl Net {
 }
 
 /// Refuses routers whose conditions on addresses, areas, costs, system ids or stub areas don't hold, by the first.
-fn check_network(configs: &[Config]) -> Result<(), NetRefusal>
-    requires { length configs.now ≤ 200 }
+fn check_network(alloc: Global, configs: &[Config]) -> Result<(), NetRefusal>
+    requires { length configs.now ≤ MOST_ROUTERS }
     ensures ok { OnOk result (IsConsistent configs.now) }
-    ensures err { IfErr result (λ e. RefusesNetwork e configs.now) }
+    ensures err { IfErr result (λ e. MayRefuse e configs.now) }
 {
-    check_addresses(configs)?;
-    check_areas(configs)?;
-    check_borders(configs)?;
+    check_addresses(alloc, configs)?;
+    check_areas(alloc, configs)?;
+    check_borders(alloc, configs)?;
     check_ospf_costs(configs)?;
     check_isis_metrics(configs)?;
-    check_systems(configs)?;
-    check_stubs(configs)
+    check_systems(alloc, configs)?;
+    check_stubs(alloc, configs)
 }

@@ -1,14 +1,18 @@
-ghost use Rattle.std.specs.Prelude.{◌≡◌, ◌^◌, ◌<◌, ℕ, length, IfSome, MatchOption};
+ghost use Rattle.std.specs.Prelude.{◌≡◌, ◌^◌, ◌<◌, ℕ, length, IfOk, IfSome, MatchOption};
 ghost use Rattle.net_model.specs.Least.{IsBest};
 ghost use Rattle.net_model.specs.Network.{Network};
+ghost use Rattle.net_model.specs.Lookups.{IsNamed};
+ghost use Rattle.net_model.specs.RouterNames.{IsFirstNamedPair};
 ghost use Rattle.net_model.specs.Scans.{IsFirstPair, IsFirstPartner, NonePair, NonePartner};
 
 use crate::Config;
+use net_addr::Name;
+use std::alloc::{AllocError, Global};
 
 /// What no two routers of a network may do.
 pub trait Clash {
     /// What they clash in.
-    type Item: Copy;
+    type Item: Copy + Drop;
 
     /// Which two routers clash, and in what.
     ghost clash: { Network → ℕ → ℕ → Self.Item → Type 0 };
@@ -23,19 +27,60 @@ pub trait Clash {
         ensures { IsBest at_most (clash configs.now one two) result };
 }
 
-/// Two routers that clash, and the item in which they do.
-#[derive(Clone, Copy, Debug)]
-pub struct Pair<T: Copy> {
-    /// The first router.
-    pub one: u32,
-    /// The second router.
-    pub two: u32,
+/// Two routers that clash, by their names, and the item in which they do.
+#[derive(Debug, Drop)]
+pub struct NamedPair<T: Copy + Drop> {
+    /// The name of the first router.
+    pub one: Name,
+    /// The name of the second router.
+    pub two: Name,
     /// What they clash in.
     pub item: T,
 }
 
+/// Two routers that clash, and the item in which they do.
+#[derive(Clone, Copy, Debug)]
+struct Pair<T: Copy> {
+    /// The first router.
+    one: u32,
+    /// The second router.
+    two: u32,
+    /// What they clash in.
+    item: T,
+}
+
+/// The first pair of routers that clash, by their names, with their least item.
+pub fn first_clash<C: Clash>(
+    alloc: Global,
+    configs: &[Config],
+) -> Result<Option<NamedPair<C::Item>>, AllocError>
+    requires { length configs.now < 2 ^ 32 }
+    ensures { IfOk result (λ found. MatchOption found
+        (NonePair (C.clash configs.now) (length configs.now))
+        (λ p. IsFirstNamedPair C.at_most (C.clash configs.now) configs.now p.one p.two p.item)) }
+{
+    match first_pair::<C>(configs) {
+        Some(pair) => Ok(Some(NamedPair {
+            one: name_of(alloc, configs, pair.one)?,
+            two: name_of(alloc, configs, pair.two)?,
+            item: pair.item,
+        })),
+        None => Ok(None),
+    }
+}
+
+/// The name of a router.
+pub fn name_of(alloc: Global, configs: &[Config], router: u32) -> Result<Name, AllocError>
+    requires { router < length configs.now }
+    ensures { IfOk result (λ name. IsNamed configs.now name router) }
+{
+    let config = &configs[router as usize];
+    let bytes = Vec::from_slice(alloc, config.name.as_slice())?;
+    Ok(Name::from_vec(bytes))
+}
+
 /// The first pair of routers that clash, with their least item.
-pub fn first_pair<C: Clash>(configs: &[Config]) -> Option<Pair<C::Item>>
+fn first_pair<C: Clash>(configs: &[Config]) -> Option<Pair<C::Item>>
     requires { length configs.now < 2 ^ 32 }
     ensures { MatchOption result
         (NonePair (C.clash configs.now) (length configs.now))

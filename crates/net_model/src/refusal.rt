@@ -5,19 +5,19 @@ use thiserror::Error;
 /// What a network may have too many of.
 #[derive(Clone, Copy, Debug, PartialEq, Eq)]
 pub enum LimitWhat {
-    /// Routers: at most 200.
+    /// Routers: at most `MOST_ROUTERS`.
     Routers,
-    /// Up interfaces, of all routers together: at most 2,000.
+    /// Up interfaces, of all routers together: at most `MOST_UP_INTERFACES`.
     Interfaces,
-    /// Distinct prefixes, subnets of up interfaces and ranges together: at most 4,096.
+    /// Distinct prefixes, subnets of up interfaces and ranges together: at most `MOST_DESTS`.
     Dests,
 }
 
 /// Why configurations make no network.
 ///
-/// The reasons are looked at in this order, and the first that stands is the answer. Routers are numbered in
-/// byte order of their names. Of several pairs of routers the least is carried, by the first and then by the
-/// second, with the least address, prefix or area that there is of it. Want of memory may be the answer in
+/// The reasons are looked at in this order, and the first that stands is the answer. Routers come in byte
+/// order of their names. Of several pairs of routers the names of the least are carried, by the first and then by
+/// the second, with the least address, prefix or area that there is of it. Want of memory may be the answer in
 /// place of any other.
 #[derive(Debug, Drop, Error)]
 pub enum NetRefusal {
@@ -36,61 +36,61 @@ pub enum NetRefusal {
         name: Name,
     },
     /// Two up interfaces have one address, and they belong to one router or one of them is no loopback.
-    #[error("routers {one} and {two} have the address {address}")]
+    #[error("two interfaces have the address {address}")]
     AddressTwice {
-        /// The first router.
-        one: u32,
-        /// The second router, which may be the first one.
-        two: u32,
+        /// The name of the first router.
+        one: Name,
+        /// The name of the second router, which may be the first one.
+        two: Name,
         /// The address.
         address: u32,
     },
     /// Two up interfaces of one subnet run OSPF in different areas.
-    #[error("routers {one} and {two} run a subnet in two areas")]
+    #[error("a subnet is run in two areas")]
     PrefixInTwoAreas {
-        /// The first router.
-        one: u32,
-        /// The second router, which may be the first one.
-        two: u32,
+        /// The name of the first router.
+        one: Name,
+        /// The name of the second router, which may be the first one.
+        two: Name,
         /// The subnet.
         dest: Prefix,
     },
     /// A border router has no up interface in area 0 (RFC 2328, section 3.3).
-    #[error("border router {router} has no interface in area 0")]
+    #[error("a border router has no interface in area 0")]
     BorderWithoutBackbone {
-        /// The lowest such router.
-        router: u32,
+        /// The name of the lowest such router.
+        router: Name,
     },
     /// The costs of all up OSPF interfaces, the costs of ranges and the default costs of stub areas sum to
-    /// 16777215 or more, the cost that stands for unreachable (RFC 2328, appendix B).
+    /// more than `MOST_COST` (RFC 2328, appendix B).
     #[error("the OSPF costs sum to {sum}")]
     OspfCostSum {
         /// Their sum, or 2^64 - 1 where it is more.
         sum: u64,
     },
-    /// The metrics of all up interfaces, once for each level that they run, sum to more than 4261412864, the
-    /// greatest metric of a path (RFC 5305, section 3).
+    /// The metrics of all up interfaces, once for each level that they run, sum to more than
+    /// `MOST_PATH_METRIC` (RFC 5305, section 3).
     #[error("the IS-IS metrics sum to {sum}")]
     IsisMetricSum {
         /// Their sum, or 2^64 - 1 where it is more.
         sum: u64,
     },
     /// Two routers with IS-IS have one system id (RFC 1195).
-    #[error("routers {one} and {two} have one system id")]
+    #[error("two routers have one system id")]
     SystemIdTwice {
-        /// The first router.
-        one: u32,
-        /// The second router.
-        two: u32,
+        /// The name of the first router.
+        one: Name,
+        /// The name of the second router.
+        two: Name,
     },
     /// Two routers have up interfaces in one area, and one of them alone has a stub line for it (RFC 2328,
     /// section 3.6).
-    #[error("routers {one} and {two} differ on whether area {area} is a stub area")]
+    #[error("two routers differ on whether area {area} is a stub area")]
     StubMismatch {
-        /// The first router.
-        one: u32,
-        /// The second router.
-        two: u32,
+        /// The name of the first router.
+        one: Name,
+        /// The name of the second router.
+        two: Name,
         /// The area.
         area: u32,
     },

@@ -1,11 +1,11 @@
 ghost use Rattle.std.specs.Prelude.{◌≤◌, ◌<◌, ◌↔◌, ◌^◌, ℕ, length, IsTrue, MatchOption};
 ghost use Rattle.net_model.specs.OffStarts.{IsLowestOffStart, IsOffStart, StartsOff};
 
-use crate::Config;
+use crate::{Config, MOST_DISTANCE, MOST_ROUTERS};
 
 /// The lowest router that isn't where a migration starts.
 pub fn first_off_start(configs: &[Config]) -> Option<u32>
-    requires { length configs.now ≤ 200 }
+    requires { length configs.now ≤ MOST_ROUTERS }
     ensures { MatchOption result ((u : ℕ) → StartsOff configs.now u → ⊥) (IsLowestOffStart configs.now) }
 {
     for (router, config) in configs.iter().enumerate() {
@@ -16,10 +16,10 @@ pub fn first_off_start(configs: &[Config]) -> Option<u32>
     None
 }
 
-/// Whether a router has OSPF at distance 255, or IS-IS at another distance than 255.
+/// Whether a router has OSPF at the greatest distance, or IS-IS at another.
 fn is_off_start(config: &Config) -> bool
     ensures { IsTrue result ↔ IsOffStart config.now }
 {
-    config.process.is_some() && config.distances.ospf == 255
-        || config.isis && config.distances.isis != 255
+    config.process.is_some() && config.distances.ospf == MOST_DISTANCE
+        || config.isis && config.distances.isis != MOST_DISTANCE
 }

@@ -1,22 +1,23 @@
 ghost use Rattle.std.specs.Prelude.{◌≤◌, ◌↔◌, length, Any, IfErr, IsTrue, OnOk};
 ghost use Rattle.net_model.specs.Conditions.{DifferOnStub, IsConsistent, PassesSystems};
 ghost use Rattle.net_model.specs.Least.{IsBest};
-ghost use Rattle.net_model.specs.Refusals.{RefusesNetwork};
+ghost use Rattle.net_model.specs.Refusals.{MayRefuse};
 ghost use Rattle.net_model.specs.Scans.{ClashOnStub, HaveStub, OffersArea, OneHasStub};
 
 use crate::areas::has_area;
 use crate::links::lower;
-use crate::pairs::{Clash, first_pair};
-use crate::{Config, Interface, NetRefusal, Stub};
+use crate::pairs::{Clash, first_clash};
+use crate::{Config, Interface, MOST_ROUTERS, NetRefusal, Stub};
+use std::alloc::Global;
 
 /// Refuses an area of two routers for which one of them alone has a stub line.
-pub fn check_stubs(configs: &[Config]) -> Result<(), NetRefusal>
-    requires few { length configs.now ≤ 200 }
+pub fn check_stubs(alloc: Global, configs: &[Config]) -> Result<(), NetRefusal>
+    requires few { length configs.now ≤ MOST_ROUTERS }
     requires systems { PassesSystems configs.now }
     ensures ok { OnOk result (IsConsistent configs.now) }
-    ensures err { IfErr result (λ e. RefusesNetwork e configs.now) }
+    ensures err { IfErr result (λ e. MayRefuse e configs.now) }
 {
-    match first_pair::<OneStub>(configs) {
+    match first_clash::<OneStub>(alloc, configs)? {
         Some(pair) => Err(NetRefusal::StubMismatch {
             one: pair.one,
             two: pair.two,

@@ -1,36 +1,30 @@
 ghost use Rattle.std.specs.Prelude.{◌≡◌, ◌<◌, ◌^◌, if◌then◌else◌, IfErr, OnOk, sum_by};
 ghost use Rattle.net_model.specs.Conditions.{PassesBorders, PassesIsisMetrics, PassesOspfCosts, isis_metric, isis_metric_sum, ospf_cost, ospf_cost_sum, ospf_costs, stated_cost};
-ghost use Rattle.net_model.specs.Refusals.{RefusesNetwork, carried};
+ghost use Rattle.net_model.specs.Refusals.{MayRefuse, carried};
 
-use crate::{Config, Interface, NetRefusal, Range, Stub};
+use crate::{Config, Interface, MOST_COST, MOST_PATH_METRIC, NetRefusal, Range, Stub};
 
-/// The greatest sum of OSPF costs: one below the cost that stands for unreachable (RFC 2328, appendix B).
-const MOST_OSPF_COSTS: u64 = 16777214;
-
-/// The greatest sum of IS-IS metrics (RFC 5305, section 3).
-const MOST_ISIS_METRICS: u64 = 4261412864;
-
-/// Refuses costs of OSPF whose sum is 16777215 or more.
+/// Refuses costs of OSPF whose sum is above the greatest cost of a path.
 pub fn check_ospf_costs(configs: &[Config]) -> Result<(), NetRefusal>
     requires { PassesBorders configs.now }
     ensures ok { OnOk result (PassesOspfCosts configs.now) }
-    ensures err { IfErr result (λ e. RefusesNetwork e configs.now) }
+    ensures err { IfErr result (λ e. MayRefuse e configs.now) }
 {
     let sum = sum_ospf_costs(configs);
-    if sum > MOST_OSPF_COSTS {
+    if sum > u64::from(MOST_COST) {
         return Err(NetRefusal::OspfCostSum { sum });
     }
     Ok(())
 }
 
-/// Refuses metrics of IS-IS whose sum is above 4261412864.
+/// Refuses metrics of IS-IS whose sum is above the greatest metric of a path.
 pub fn check_isis_metrics(configs: &[Config]) -> Result<(), NetRefusal>
     requires { PassesOspfCosts configs.now }
     ensures ok { OnOk result (PassesIsisMetrics configs.now) }
-    ensures err { IfErr result (λ e. RefusesNetwork e configs.now) }
+    ensures err { IfErr result (λ e. MayRefuse e configs.now) }
 {
     let sum = sum_isis_metrics(configs);
-    if sum > MOST_ISIS_METRICS {
+    if sum > u64::from(MOST_PATH_METRIC) {
         return Err(NetRefusal::IsisMetricSum { sum });
     }
     Ok(())

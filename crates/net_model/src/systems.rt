@@ -1,18 +1,19 @@
 ghost use Rattle.std.specs.Prelude.{◌≤◌, length, IfErr, OnOk};
 ghost use Rattle.net_model.specs.Conditions.{HaveOneSystem, PassesIsisMetrics, PassesSystems};
-ghost use Rattle.net_model.specs.Refusals.{RefusesNetwork};
+ghost use Rattle.net_model.specs.Refusals.{MayRefuse};
 
-use crate::pairs::{Clash, first_pair};
-use crate::{Config, NetRefusal};
+use crate::pairs::{Clash, first_clash};
+use crate::{Config, MOST_ROUTERS, NetRefusal};
+use std::alloc::Global;
 
 /// Refuses a system id that two routers with IS-IS have.
-pub fn check_systems(configs: &[Config]) -> Result<(), NetRefusal>
-    requires few { length configs.now ≤ 200 }
+pub fn check_systems(alloc: Global, configs: &[Config]) -> Result<(), NetRefusal>
+    requires few { length configs.now ≤ MOST_ROUTERS }
     requires metrics { PassesIsisMetrics configs.now }
     ensures ok { OnOk result (PassesSystems configs.now) }
-    ensures err { IfErr result (λ e. RefusesNetwork e configs.now) }
+    ensures err { IfErr result (λ e. MayRefuse e configs.now) }
 {
-    match first_pair::<OneSystem>(configs) {
+    match first_clash::<OneSystem>(alloc, configs)? {
         Some(pair) => Err(NetRefusal::SystemIdTwice {
             one: pair.one,
             two: pair.two,

@@ -2,6 +2,7 @@
 use Rattle.std.specs.Prelude.{◌≡◌, ◌≢◌, ℕ, List, Some, IsTrue, All, Contains}
 use Rattle.net_model.specs.Network.{Network, InArea, Adjacent}
 use Rattle.net_model.specs.Refusals.{IsNetwork}
+use Rattle.net_model.specs.declared.bounds.TheConstants.{MOST_ROUTERS}
 use Rattle.net_model.specs.declared.interface.Interface.{Interface}
 use Rattle.net_model.specs.declared.zone.Zone.TheVariants.{Area}
 use Rattle.walk_core.specs.Reach.{Reach, AreLeastWalks, AreNear}
@@ -49,10 +50,10 @@ pub record AreAreas (net : Network) (areas : List AreaWalks) : Type 0 where
   pub every : (u n : ℕ) → InArea net u n → HasArea areas n
 
 -- these are the least walks from router u in area n, none of them longer than one arc of 2^32 for each of
--- 200 routers
+-- the most routers
 pub record IsReach (net : Network) (n u : ℕ) (reach : Reach) : Type 0 where
   pub least : AreLeastWalks (Adjacent net (Area n)) u reach
-  pub near : AreNear 200 reach
+  pub near : AreNear MOST_ROUTERS reach
 
 -- and u is in the area
 pub record IsInside (net : Network) (n u : ℕ) (reach : Reach) : Type 0 where

@@ -1,6 +1,7 @@
 -- Candidates for the used entry, and the best of them.
 use Rattle.std.specs.Prelude.{◌≡◌, ℕ, ◌≤◌, ◌⊎◌, ◌==◌, Bool, true, false, not, if◌then◌else◌, List, Option, Some, None, slice_get}
 use Rattle.net_addr.specs.Addresses.{Block}
+use Rattle.net_model.specs.declared.bounds.TheConstants.{ISIS_DISTANCE, MOST_DISTANCE}
 use Rattle.route_core.specs.declared.entry.Entry.{Entry}
 use Rattle.igp_theory.specs.declared.phase.Phase.{Phase}
 use Rattle.igp_theory.specs.declared.phase.Phase.TheVariants.{Old, Middle, New}
@@ -25,12 +26,12 @@ old_of distance (Some m) = Some (record { len = m.len; distance = distance; way 
 -- the new table's longest entry
 abbrev pub new_of : Option Match → Option Candidate
 new_of None = None
-new_of (Some m) = Some (record { len = m.len; distance = 115; way = way.New m.place })
+new_of (Some m) = Some (record { len = m.len; distance = ISIS_DISTANCE; way = way.New m.place })
 
--- the old table counts in this phase, and at a distance other than 255
+-- the old table counts in this phase, and not at the greatest distance
 abbrev pub old_counts_at : Phase → ℕ → Bool
-old_counts_at Old distance = not (distance == 255)
-old_counts_at Middle distance = not (distance == 255)
+old_counts_at Old distance = not (distance == MOST_DISTANCE)
+old_counts_at Middle distance = not (distance == MOST_DISTANCE)
 old_counts_at New distance = false
 
 -- the new table counts in this phase

@@ -3,9 +3,7 @@ ghost use Rattle.rib_mix.specs.Candidates.{connected_of, old_if_counts, new_if_c
 
 use crate::found::{Found, Match};
 use igp_theory::Phase;
-
-/// The distance that IS-IS has once it is installed.
-const ISIS_DISTANCE: u8 = 115;
+use net_model::{ISIS_DISTANCE, MOST_DISTANCE};
 
 /// Where an entry stands.
 #[derive(Clone, Copy, Debug)]
@@ -58,7 +56,7 @@ fn old_candidate(found: Option<Match>, phase: Phase, ospf: u8) -> Option<Candida
     ensures { result ≡ old_if_counts phase ospf found }
 {
     match (phase, found) {
-        (Phase::Old | Phase::Middle, Some(best)) if ospf != u8::MAX => Some(Candidate {
+        (Phase::Old | Phase::Middle, Some(best)) if ospf != MOST_DISTANCE => Some(Candidate {
             len: best.len,
             distance: ospf,
             way: Way::Old(best.place),

@@ -20,6 +20,7 @@ fn router(alloc: Global, digit: u8) -> Result<Config, AllocError>
         isis_area: Name::from_vec(Vec::new(alloc)),
         system: 0,
         levels: Levels::Both,
+        leak: false,
         ranges: Ranges::from_vec(Vec::new(alloc)),
         stubs: Stubs::from_vec(Vec::new(alloc)),
         rfc1583: true,

@@ -1,7 +1,8 @@
 -- The graph of a zone: for each router the arcs that leave it.
-use Rattle.std.specs.Prelude.{◌≡◌, ◌↔◌, ◌⊎◌, ◌<◌, ◌≤◌, ℕ, List, [], length, Some, slice_get, slice_index_or, Contains}
+use Rattle.std.specs.Prelude.{◌≡◌, ◌↔◌, ◌⊎◌, ◌<◌, ◌≤◌, ℕ, ◌*◌, List, [], length, Some, slice_get, slice_index_or, Contains}
 use Rattle.walk_core.specs.Reach.{Reach, AreLeastWalks, AreNear}
 use Rattle.net_model.specs.Network.{Network, Adjacent}
+use Rattle.net_model.specs.declared.bounds.TheConstants.{MOST_ROUTERS, MOST_UP_INTERFACES}
 use Rattle.net_model.specs.declared.zone.Zone.{Zone}
 
 -- arcs from one router: where each leads, and what it costs
@@ -35,11 +36,11 @@ pub record AddsArcs (old new : ArcList) (v : ℕ) (cost : ℕ → Type 0) : Type
   pub added : (c : ℕ) → cost c → Contains new (v, c)
   pub nothing_else : (w c : ℕ) → Contains new (w, c) → Contains old (w, c) ⊎ ((w ≡ v) × cost c)
 
--- what the arcs of a zone keep: at most 200 routers with at most 400,000 arcs each, which lead to routers at costs
+-- what the arcs of a zone keep: at most so many routers with at most one arc each for every interface and router, which lead to routers at costs
 -- of at least 1
 pub record AreGraphArcs (arcs : List ArcList) : Type 0 where
-  pub few : length arcs ≤ 200
-  pub short : (u : ℕ) → length (arcs_from arcs u) ≤ 400000
+  pub few : length arcs ≤ MOST_ROUTERS
+  pub short : (u : ℕ) → length (arcs_from arcs u) ≤ MOST_UP_INTERFACES * MOST_ROUTERS
   pub ends : (u v cost : ℕ) → HasArc arcs u v cost → v < length arcs
   pub positive : (u v cost : ℕ) → HasArc arcs u v cost → 1 ≤ cost
 

@@ -4,7 +4,7 @@ ghost use Rattle.zone_graph.specs.Graphs.{AddsArcs, AreArcsFrom};
 
 use crate::OutOfMemory;
 use crate::links::push_links;
-use net_model::{Net, Zone, may_join};
+use net_model::{MOST_UP_INTERFACES, Net, Zone, may_join};
 use std::alloc::Global;
 use std::marker::Model;
 
@@ -32,7 +32,7 @@ impl Arcs {
     ) -> Result<Arcs, OutOfMemory>
         requires { u < length net.now }
         ensures arcs { IfOk result (AreArcsFrom net.now zone u) }
-        ensures few { IfOk result (λ arcs. length arcs ≤ 2000 * length net.now) }
+        ensures few { IfOk result (λ arcs. length arcs ≤ MOST_UP_INTERFACES * length net.now) }
     {
         let mut all = Vec::new(alloc);
         for v in 0..net.routers() {
@@ -68,7 +68,7 @@ fn push_arcs(
     requires near { u < length net.now }
     requires far { v < length net.now }
     ensures adds { OnOk result (AddsArcs arcs.old.items arcs.new.items v (Adjacent net.now zone u v)) }
-    ensures few { OnOk result (vec_len arcs.new ≤ vec_len arcs.old + 2000) }
+    ensures few { OnOk result (vec_len arcs.new ≤ vec_len arcs.old + MOST_UP_INTERFACES) }
 {
     let near = net.config(u);
     let far = net.config(v);

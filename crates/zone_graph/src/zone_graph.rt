@@ -1,4 +1,5 @@
 ghost use Rattle.std.specs.Prelude.{◌≡◌, ◌*◌, ◌<◌, ◌≤◌, ℕ, length, IfOk};
+ghost use Rattle.net_model.specs.declared.bounds.TheConstants.{MOST_ROUTERS, MOST_UP_INTERFACES};
 ghost use Rattle.zone_graph.specs.Graphs.{HasArc, arcs_from, AreAdjacencies, AreGraphArcs};
 
 use crate::OutOfMemory;
@@ -12,8 +13,8 @@ use walk_core::CostGraph;
 #[derive(Debug, Drop)]
 pub(crate) struct ZoneGraph {
     pub(crate) arcs: Vec<Arcs>,
-    ghost few: { length arcs.items ≤ 200 },
-    ghost short: { (u : ℕ) → length (arcs_from arcs.items u) ≤ 400000 },
+    ghost few: { length arcs.items ≤ MOST_ROUTERS },
+    ghost short: { (u : ℕ) → length (arcs_from arcs.items u) ≤ MOST_UP_INTERFACES * MOST_ROUTERS },
     ghost end_is_vertex: { (u v cost : ℕ) → HasArc arcs.items u v cost → v < length arcs.items },
     ghost cost_is_positive: { (u v cost : ℕ) → HasArc arcs.items u v cost → 1 ≤ cost },
 }

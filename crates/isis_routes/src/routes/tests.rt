@@ -84,6 +84,7 @@ fn router(
         isis_area: Name::from_vec(Vec::from_slice(alloc, &[area])?),
         system: u64::from(number),
         levels,
+        leak: false,
         ranges: Ranges::from_vec(Vec::new(alloc)),
         stubs: Stubs::from_vec(Vec::new(alloc)),
         rfc1583: true,

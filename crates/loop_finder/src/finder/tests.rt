@@ -115,6 +115,7 @@ fn router(alloc: Global, number: u8, area: Option<u32>) -> Result<Config, OutOfM
         isis_area: Name::from_vec(Vec::new(alloc)),
         system: 0,
         levels: Levels::Two,
+        leak: false,
         ranges: Ranges::from_vec(Vec::new(alloc)),
         stubs: Stubs::from_vec(Vec::new(alloc)),
         rfc1583: true,

@@ -127,6 +127,7 @@ fn router(
         isis_area: Name::from_vec(Vec::new(alloc)),
         system: u64::from(number),
         levels: Levels::Both,
+        leak: false,
         ranges: ranges(alloc, ranged)?,
         stubs: stubs(alloc, default_cost)?,
         rfc1583,

@@ -92,6 +92,7 @@ fn router(alloc: Global, letter: u8) -> Result<Config, OutOfMemory>
         isis_area: Name::from_vec(Vec::new(alloc)),
         system: 0,
         levels: Levels::Two,
+        leak: false,
         ranges: Ranges::from_vec(Vec::new(alloc)),
         stubs: Stubs::from_vec(Vec::new(alloc)),
         rfc1583: true,

@@ -3,7 +3,7 @@ use Rattle.igp_theory.specs.Loops.{IsFirstFault}
 use Rattle.igp_theory.specs.States.{IsSeamless, state_of}
 use Rattle.igp_theory.proofs.FaultLaws.{faulty_not_seamless}
 use Rattle.loop_finder.specs.Faults.{told_fault}
-use Rattle.migration_report.specs.Words.{names_of}
+use Rattle.net_model.specs.RouterNames.{names_of}
 use Rattle.route_core.specs.Tables.{HasEntry}
 use Rattle.migrate_cli.specs.AnswerTexts.{safe_text, unsafe_text}
 use Rattle.migrate_cli.specs.Faults.{NamesRouters}

@@ -1,5 +1,5 @@
 use Rattle.std.proofs.Common.{◌∙◌}
-use Rattle.migration_report.specs.Words.{names_of}
+use Rattle.net_model.specs.RouterNames.{names_of}
 use Rattle.migrate_cli.proofs.FaultFacts.{text_of}
 use Rattle.migrate_cli.proofs.verdict.unsafe_in.Goals as goal
 

@@ -1,15 +1,21 @@
-use Rattle.std.proofs.Common.{◌≤◌, length}
+use Rattle.std.proofs.Common.{ℕ, ◌≤◌, length}
+use Rattle.std.proofs.lemmas.Option.{MatchOption-at_none, MatchOption-at_some}
 use Rattle.net_model.specs.Conditions.{HaveOneAddress}
-use Rattle.net_model.proofs.PairFacts.{IsLeastPair-first, NoneClash-from}
+use Rattle.net_model.specs.RouterNames.{IsFirstNamedPair}
+use Rattle.net_model.specs.Scans.{NonePair}
+use Rattle.net_model.specs.declared.pairs.NamedPair.{NamedPair}
+use Rattle.net_model.proofs.PairFacts.{IsLeastNamedPair-first, NoneClash-from}
 use Rattle.net_model.proofs.AddressClashes.{HaveOneAddress-within, HaveOneAddress-sym}
 use Rattle.net_model.proofs.addresses.check_addresses.Goals as goal
 
 pub returns-in-Some-clause-err : goal.returns-in-Some-clause-err
 returns-in-Some-clause-err c =
     let net = c.args.configs.now in
-    IsLeastPair-first (λ a b. a ≤ b) (HaveOneAddress net) (length net) (HaveOneAddress-within net) c.in-Some.pair.one c.in-Some.pair.two c.in-Some.pair.item c.in-Some.ensures
+    let first = MatchOption-at_some (NonePair (HaveOneAddress net) (length net)) (λ (p : NamedPair ℕ). IsFirstNamedPair (λ a b. a ≤ b) (HaveOneAddress net) net p.one p.two p.item) c.in-Some.pair c.in-Some.is c.in_ok-pair.ensures in
+    IsLeastNamedPair-first (λ a b. a ≤ b) (HaveOneAddress net) net (HaveOneAddress-within net) c.in-Some.pair.one c.in-Some.pair.two c.in-Some.pair.item first
 
 pub returns-in-None-clause-ok : goal.returns-in-None-clause-ok
 returns-in-None-clause-ok c =
     let net = c.args.configs.now in
-    NoneClash-from (λ a b. a ≤ b) (HaveOneAddress net) (length net) (HaveOneAddress-within net) (HaveOneAddress-sym net) c.in-None.ensures
+    let none = MatchOption-at_none (NonePair (HaveOneAddress net) (length net)) (λ (p : NamedPair ℕ). IsFirstNamedPair (λ a b. a ≤ b) (HaveOneAddress net) net p.one p.two p.item) c.in-None.is c.in_ok-pair.ensures in
+    NoneClash-from (λ a b. a ≤ b) (HaveOneAddress net) (length net) (HaveOneAddress-within net) (HaveOneAddress-sym net) none

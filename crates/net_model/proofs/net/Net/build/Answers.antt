@@ -5,7 +5,7 @@ use Rattle.std.proofs.lemmas.Result.{err_from_is_err_and}
 use Rattle.net_model.specs.Conditions.{IsConsistent}
 use Rattle.net_model.specs.Configuration.{Configuration, IsConfiguration}
 use Rattle.net_model.specs.Limits.{IsWithinLimits}
-use Rattle.net_model.specs.Refusals.{NamesAscend, RefusesName, RefusesNetwork}
+use Rattle.net_model.specs.Refusals.{MayRefuse, NamesAscend, RefusesName}
 use Rattle.net_model.proofs.BuildFacts.{Refuses-by_name, Refuses-by_network}
 use Rattle.net_model.proofs.Dests.{IsWithinLimits-permutation}
 use Rattle.net_model.proofs.net.Net.build.Goals as goal
@@ -34,7 +34,7 @@ returns-in_err-check_network-clause-err c =
     let up = subst NamesAscend c.as_slice-2.ensures.value c.in_ok-check_names.ensures.ok in
     let refusal = c.in_err-check_network.field-0.0 in
     let p = err_from_is_err_and c.from_residual-in_err-check_network.result c.from_residual-in_err-check_network.ensures.1 in
-    rw (p.1, p.2) (Refuses-by_network c.args.configs sorted refusal limits (record { same = same; ascending = up }) (subst (RefusesNetwork refusal) c.as_slice-3.ensures.value c.in_err-check_network.ensures.err))
+    rw (p.1, p.2) (Refuses-by_network c.args.configs sorted refusal limits (record { same = same; ascending = up }) (subst (MayRefuse refusal) c.as_slice-3.ensures.value c.in_err-check_network.ensures.err))
 
 pub invariant_of-result : goal.invariant_of-result
 invariant_of-result c =
