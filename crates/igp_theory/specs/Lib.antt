@@ -10,4 +10,7 @@ pub mod Isis
 pub mod Forwarding
 pub mod States
 pub mod Loops
+pub mod Waves
+pub mod WaveFaults
+pub mod WaveLaws
 pub mod Laws
