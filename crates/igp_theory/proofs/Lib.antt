@@ -5,3 +5,6 @@ pub mod DistinctLists
 pub mod FoundRings
 pub mod Tags
 pub mod FaultLaws
+pub mod OrderedLists
+pub mod WaveStates
+pub mod FlatOrders
