@@ -8,3 +8,6 @@ pub mod FaultLaws
 pub mod OrderedLists
 pub mod WaveStates
 pub mod FlatOrders
+pub mod AlikeStates
+pub mod OnesWaves
+pub mod Delivery
