@@ -4,8 +4,9 @@ use Rattle.std.proofs.lemmas.Bool.{false≢true}
 use Rattle.net_model.specs.Network.{Network}
 use Rattle.igp_theory.specs.Loops.{EachToNext, AroundRing, Fault as WholeFault, IsFault, missing_step, loop_arises, IsFirstFault, ring_routers}
 use Rattle.igp_theory.specs.Routes.{Tables}
-use Rattle.igp_theory.specs.States.{State, StepsIn, IsOrder, IsSound, IsSeamless}
-use Rattle.order_search.specs.declared.turn.Turn.{Turn}
+use Rattle.order_core.specs.Orders.{IsOrder}
+use Rattle.igp_theory.specs.States.{State, StepsIn, IsSound, IsSeamless}
+use Rattle.order_core.specs.declared.turn.Turn.{Turn}
 use Rattle.loop_finder.specs.Faults.{told_fault}
 use Rattle.loop_finder.specs.Orders.{AreFirstStates}
 use Rattle.loop_finder.specs.Walks.{ReturnsNever}

@@ -6,8 +6,8 @@ use Rattle.igp_theory.specs.Loops.{RingRouter, EachToNext, AroundRing, ring_rout
 use Rattle.igp_theory.specs.declared.phase.Phase.{Phase}
 use Rattle.igp_theory.specs.declared.phase.Phase.TheVariants.{Old, Middle, New}
 use Rattle.igp_theory.proofs.ForwardingLaws.{middle_is_old_or_new}
-use Rattle.order_search.specs.declared.turn.Tag.TheVariants as tag
-use Rattle.order_search.specs.declared.turn.Turn.{Turn}
+use Rattle.order_core.specs.declared.turn.Tag.TheVariants as tag
+use Rattle.order_core.specs.declared.turn.Turn.{Turn}
 use Rattle.loop_finder.specs.Faults.{ring_of, ring_router}
 use Rattle.loop_finder.specs.Rings.{next_in}
 use Rattle.loop_finder.specs.Steps.{Listing, ClassState, StepsBy, IsTagged}

@@ -5,9 +5,9 @@ use Rattle.igp_theory.specs.States.{State}
 use Rattle.igp_theory.specs.declared.phase.Phase.{Phase}
 use Rattle.igp_theory.specs.declared.phase.Phase.TheVariants.{Old}
 use Rattle.rib_mix.specs.Mixture.{Mixture}
-use Rattle.order_search.specs.declared.turn.Tag.{Tag}
-use Rattle.order_search.specs.declared.turn.Tag.TheVariants as tag
-use Rattle.order_search.specs.declared.turn.Turn.{Turn}
+use Rattle.order_core.specs.declared.turn.Tag.{Tag}
+use Rattle.order_core.specs.declared.turn.Tag.TheVariants as tag
+use Rattle.order_core.specs.declared.turn.Turn.{Turn}
 use Rattle.loop_finder.specs.declared.fault.Fault.{Fault}
 use Rattle.loop_finder.specs.declared.fault.Fault.TheVariants.{Loop, Missing}
 

@@ -2,7 +2,7 @@
 use Rattle.std.specs.Prelude.{◌≡◌, ◌≢◌, ℕ, ◌≤◌, ◌<◌, Bool, List, ◌∷◌, ◌++◌, length, slice_index, Option, Some, None, All, AllPairs}
 use Rattle.igp_theory.specs.Loops.{EachToNext}
 use Rattle.igp_theory.specs.States.{Follows}
-use Rattle.precedence_set.specs.Marks.{IsMarked}
+use Rattle.order_core.specs.Marks.{IsMarked}
 
 -- no non-empty list of steps returns to its first router
 abbrev pub ReturnsNever : (ℕ → ℕ → Type 0) → Type 0

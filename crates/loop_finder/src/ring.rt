@@ -2,7 +2,7 @@ ghost use Rattle.std.specs.Prelude.{◌≡◌, ◌+◌, ◌<◌, ◌≤◌, ◌^
 ghost use Rattle.std.specs.Bool.{OnFalse, OnTrue};
 ghost use Rattle.std.specs.Vec.{vec_capacity};
 ghost use Rattle.igp_theory.specs.Loops.{IsFoundRing};
-ghost use Rattle.precedence_set.specs.Marks.{IsMarked};
+ghost use Rattle.order_core.specs.Marks.{IsMarked};
 ghost use Rattle.loop_finder.specs.Live.{ArePeeled};
 ghost use Rattle.loop_finder.specs.Walks.{IsMarkedHop, IsTurned, IsWalk, PlaceOf, ReturnsNever};
 

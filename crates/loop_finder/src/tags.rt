@@ -6,7 +6,7 @@ ghost use Rattle.loop_finder.specs.Rings.{next_in};
 ghost use Rattle.loop_finder.specs.Steps.{ClassStep, IsTagged, StepsBy};
 
 use crate::class_steps::ClassSteps;
-use order_search::{Tag, Turn};
+use order_core::{Tag, Turn};
 use rib_mix::Phase;
 use route_core::RouteSource;
 

@@ -7,7 +7,7 @@ use Rattle.igp_theory.specs.States.{State}
 use Rattle.loop_finder.specs.Faults.{ring_of, ring_router, told_fault, KeepsRing}
 use Rattle.loop_finder.specs.declared.fault.Fault.{Fault}
 use Rattle.loop_finder.specs.declared.fault.Fault.TheVariants.{Loop, Missing}
-use Rattle.order_search.specs.declared.turn.Turn.{Turn}
+use Rattle.order_core.specs.declared.turn.Turn.{Turn}
 use Rattle.migration_report.specs.Texts as report
 use Rattle.migration_report.specs.Words.{line, dotted, name_of}
 use Rattle.migrate_cli.specs.AnswerTexts.{fault_words, unsafe_text}

@@ -6,7 +6,7 @@ use crate::line::LineBuilder;
 use loop_finder::Fault;
 use net_addr::Bytes;
 use net_model::Net;
-use order_search::Turn;
+use order_core::Turn;
 use std::alloc::{AllocError, Global};
 
 /// What the planner found of an order.

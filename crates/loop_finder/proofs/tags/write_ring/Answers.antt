@@ -1,6 +1,6 @@
 use Rattle.std.proofs.Common.{ℕ, ◌≡◌, ◌+◌, ◌⊎◌, List, length, get_or, refl, subst, sym, arith}
 use Rattle.igp_theory.specs.declared.phase.Phase.TheVariants.{Old, New}
-use Rattle.order_search.specs.declared.turn.Turn.{Turn}
+use Rattle.order_core.specs.declared.turn.Turn.{Turn}
 use Rattle.loop_finder.specs.Faults.{state_in, ring_router}
 use Rattle.loop_finder.specs.Rings.{next_in}
 use Rattle.loop_finder.specs.Steps.{StepsBy, ClassStep, IsTagged}

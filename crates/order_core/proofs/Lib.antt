@@ -1,0 +1,4 @@
+pub mod DistinctLists
+pub mod Turning
+pub mod Orders
+pub mod Paths

@@ -1,0 +1,7 @@
+pub mod Orders
+pub mod Lowest
+pub mod Marks
+pub mod Pairs
+pub mod Rankings
+pub mod Rings
+pub mod Turns
