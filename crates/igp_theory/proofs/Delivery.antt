@@ -40,14 +40,14 @@ isis_hop_is_router net u h p e entry leads =
     ]
 
 leads_inside : {net : Network} {old new : Tables} {u d h : ℕ} {phase : Phase} {p : Block} {x : Usable} → HopsAreRouters net old → HopsAreRouters net new →
-    Counts net old new u phase p d x → LeadsTo x h → h < length net
-leads_inside in_old in_new (connected_counts is) leads = absurd leads
-leads_inside {u = u} {h = h} {p = p} in_old in_new (old_counts {e = e} counts c has is set entry) leads = in_old u h p e entry leads
-leads_inside {u = u} {h = h} {p = p} in_old in_new (new_counts {e = e} counts entry) leads = in_new u h p e entry leads
+    u < length net → Counts net old new u phase p d x → LeadsTo x h → h < length net
+leads_inside in_old in_new below (connected_counts is) leads = absurd leads
+leads_inside {u = u} {h = h} {p = p} in_old in_new below (old_counts {e = e} counts c has is set entry) leads = in_old u h p e below entry leads
+leads_inside {u = u} {h = h} {p = p} in_old in_new below (new_counts {e = e} counts entry) leads = in_new u h p e below entry leads
 
 pub steps_inside : {net : Network} {old new : Tables} {u a h : ℕ} {phase : Phase} → HopsAreRouters net old → HopsAreRouters net new →
     Steps net old new u phase a h → h < length net
-steps_inside in_old in_new steps = leads_inside in_old in_new steps.uses.counts steps.leads
+steps_inside in_old in_new steps = leads_inside in_old in_new steps.must.router steps.uses.counts steps.leads
 
 -- Lists of steps
 

@@ -10,24 +10,18 @@ use Rattle.std.proofs.lemmas.Map.Made.{IsDistinct-from_AllPairs}
 use Rattle.std.proofs.lemmas.Map.Steps.{length-le_from_distinct_below, le-length_from_below}
 use Rattle.std.proofs.lemmas.Map.Views.{Contains-from_any, list_any-from_Contains}
 use Rattle.net_model.specs.Network.{Network}
+use Rattle.order_core.specs.Orders.{IsOrder}
+use Rattle.order_core.specs.Rankings.{IsRanking, rank_of}
+use Rattle.order_core.proofs.Orders.{order_length}
 use Rattle.igp_theory.specs.Routes.{Tables}
-use Rattle.igp_theory.specs.States.{State, IsOrder, IsSound, IsSeamless, changes_of, changes_on, phase_after, state_of}
-use Rattle.igp_theory.specs.Waves.{IsWaveList, IsWavesState, AreSeamlessWaves, IsStateOfWave, AreOnes}
+use Rattle.igp_theory.specs.States.{State, IsSound, IsSeamless, changes_of, changes_on, phase_after, state_of}
+use Rattle.igp_theory.specs.Waves.{IsWavesState, AreSeamlessWaves, IsStateOfWave, AreOnes}
 use Rattle.igp_theory.specs.WaveLaws.{IsStateOfSomeWave}
 use Rattle.igp_theory.specs.declared.phase.Phase.{Phase}
 use Rattle.igp_theory.specs.declared.phase.Phase.TheVariants.{Old, Middle, New}
 use Rattle.igp_theory.proofs.AlikeStates.{AreAlike, sound_alike}
 use Rattle.igp_theory.proofs.OrderedLists.{contains_here, contains_there, pairs_first, pairs_rest}
 use Rattle.igp_theory.proofs.WaveStates.{state_of_wave}
-
--- An order lists as many routers as there are
-
-pub order_length : (n : ℕ) (order : List ℕ) → IsOrder n order → length order ≡ n
-order_length n order lists =
-    let few : length order ≤ n = length-le_from_distinct_below order n (IsDistinct-from_AllPairs Decides-eqb order lists.once)
-    (λ q found. (lists.all q).0 (Contains-from_any eqb-true q order found)) in
-    let many : n ≤ length order = le-length_from_below order n (λ q below. list_any-from_Contains nat_eq_equiv q order ((lists.all q).1 below)) in
-    omega (arith, few, many)
 
 -- What the first changes of an order make of a router
 
@@ -102,28 +96,38 @@ phase_reached New = refl
 
 -- a router stands in the order at its rank
 record StandsAtRank (order ranks : List ℕ) (u : ℕ) : Type 0 where
-  within : get_or ranks u 0 < length order
-  at : get_or order (get_or ranks u 0) 0 ≡ u
+  within : rank_of ranks u < length order
+  at : get_or order (rank_of ranks u) 0 ≡ u
 
 stands_at_rank : (n : ℕ) (order ranks : List ℕ) (u : ℕ) → IsOrder n order → AreOnes order ranks → u < n → StandsAtRank order ranks u
 stands_at_rank n order ranks u lists ones below =
     let place = (lists.all u).1 below in
     let at : get_or order place.0 0 ≡ u = get_or_default order place.0 0 u place.1 ∙ place.2 in
-    let rank : get_or ranks u 0 ≡ place.0 = ap (λ (v : ℕ). get_or ranks v 0) (sym at) ∙ ones.places place.0 place.1 in
+    let rank : rank_of ranks u ≡ place.0 = ap (λ (v : ℕ). rank_of ranks v) (sym at) ∙ ones.places place.0 place.1 in
     record {
       within = subst (λ (k : ℕ). k < length order) (sym rank) place.1;
       at = ap (λ (k : ℕ). get_or order k 0) rank ∙ at;
     }
 
-pub ones_are_waves : (n : ℕ) (order ranks : List ℕ) → IsOrder n order → AreOnes order ranks → IsWaveList n ranks
+wave_is_place : (n : ℕ) (order ranks : List ℕ) (w : ℕ) → IsOrder n order → AreOnes order ranks → Contains ranks w → w < length order
+wave_is_place n order ranks w lists ones inside =
+    let many = order_length n order lists in
+    let long = ones.each in
+    let place = inside.1 in
+    let stands = stands_at_rank n order ranks inside.0 lists ones (omega (arith, place, long, many)) in
+    let within = stands.within in
+    let is : rank_of ranks inside.0 ≡ w = get_or_default ranks inside.0 0 w inside.1 ∙ inside.2 in
+    omega (arith, within, is)
+
+pub ones_are_waves : (n : ℕ) (order ranks : List ℕ) → IsOrder n order → AreOnes order ranks → IsRanking n ranks
 ones_are_waves n order ranks lists ones =
     let many = order_length n order lists in
-    let long = ones.routers in
+    let long = ones.each in
     record {
-      routers = long ∙ many;
-      filled = λ u w below upto.
-          let stands = stands_at_rank n order ranks u lists ones below in
-          let within : w < length order = let inside = stands.within in omega (arith, inside, upto) in
+      each = long ∙ many;
+      whole = λ w r upto inside.
+          let last : r < length order = wave_is_place n order ranks r lists ones inside in
+          let within : w < length order = omega (arith, last, upto) in
           let router : get_or order w 0 < n = (lists.all (get_or order w 0)).0 (Contains-get_or order w 0 within) in
           subst (Contains ranks) (ones.places w within) (Contains-get_or ranks (get_or order w 0) 0 (omega (arith, router, long, many)));
     }
@@ -135,9 +139,9 @@ alike_order n order ranks w state lists ones of_wave u below =
     let stands = stands_at_rank n order ranks u lists ones below in
     let made : ℕ = changes_to (state (get_or order w 0)) in
     let few : made ≤ 2 = changes_to_few (state (get_or order w 0)) in
-    let count : changes_on u (take (2 * w + made) (changes_of order)) ≡ min 2 (2 * w + made - 2 * get_or ranks u 0) =
-    count_at u order (get_or ranks u 0) (2 * w + made) lists.once stands.within stands.at in
-    elim (cases_order (get_or ranks u 0) w) [
+    let count : changes_on u (take (2 * w + made) (changes_of order)) ≡ min 2 (2 * w + made - 2 * rank_of ranks u) =
+    count_at u order (rank_of ranks u) (2 * w + made) lists.once stands.within stands.at in
+    elim (cases_order (rank_of ranks u) w) [
       | inl same ↦
           let is : changes_on u (take (2 * w + made) (changes_of order)) ≡ made = omega (arith, count, same, few) in
           let router : get_or order w 0 ≡ u = ap (λ (k : ℕ). get_or order k 0) (sym same) ∙ stands.at in
@@ -150,23 +154,13 @@ alike_order n order ranks w state lists ones of_wave u below =
           ap phase_after is ∙ sym (of_wave.later u below later)
     ]
 
-wave_is_place : (n : ℕ) (order ranks : List ℕ) (w : ℕ) → IsOrder n order → AreOnes order ranks → Contains ranks w → w < length order
-wave_is_place n order ranks w lists ones inside =
-    let many = order_length n order lists in
-    let long = ones.routers in
-    let place = inside.1 in
-    let stands = stands_at_rank n order ranks inside.0 lists ones (omega (arith, place, long, many)) in
-    let within = stands.within in
-    let is : get_or ranks inside.0 0 ≡ w = get_or_default ranks inside.0 0 w inside.1 ∙ inside.2 in
-    omega (arith, within, is)
-
 -- a seamless order is a seamless wave list of ones
 pub order_is_seamless : (net : Network) (old new : Tables) (order ranks : List ℕ) → IsSeamless net old new order → AreOnes order ranks →
     AreSeamlessWaves net old new ranks
 order_is_seamless net old new order ranks seamless ones =
-    let waves : IsWaveList (length net) ranks = ones_are_waves (length net) order ranks seamless.lists ones in
+    let waves : IsRanking (length net) ranks = ones_are_waves (length net) order ranks seamless.lists ones in
     record {
-      lists = waves;
+      waves = waves;
       sound = λ state is. elim (cases_lt 0 (length net)) [
         | inr none ↦ sound_alike (λ u below. absurd (omega (arith, none, below))) (seamless.sound 0 (omega arith))
         | inl some ↦

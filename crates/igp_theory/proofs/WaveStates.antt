@@ -5,8 +5,10 @@ use Rattle.std.proofs.lemmas.Bool.{cases_lt, cases_eq}
 use Rattle.std.proofs.lemmas.Bool.Decides.{eqb_tells}
 use Rattle.std.proofs.lemmas.List.{map-append, take-append-drop, take_at}
 use Rattle.std.proofs.lemmas.List.Elements.{Contains-append_left, Contains-append_right, Contains-append_cases, Contains-get_or}
-use Rattle.igp_theory.specs.States.{State, IsOrder, changes_on, phase_after}
-use Rattle.igp_theory.specs.Waves.{Change, first, second, changed, IsWaveList, MayPrecede, IsRun, IsWavesState, IsStateOfWave, state_after}
+use Rattle.order_core.specs.Orders.{IsOrder}
+use Rattle.order_core.specs.Rankings.{IsRanking, rank_of}
+use Rattle.igp_theory.specs.States.{State, changes_on, phase_after}
+use Rattle.igp_theory.specs.Waves.{Change, first, second, changed, MayPrecede, IsRun, IsWavesState, IsStateOfWave, state_after}
 use Rattle.igp_theory.specs.WaveLaws.{IsStateOfSomeWave}
 use Rattle.igp_theory.specs.declared.phase.Phase.{Phase}
 use Rattle.igp_theory.specs.declared.phase.Phase.TheVariants.{Old, Middle, New}
@@ -81,18 +83,18 @@ new_after (suc (suc k)) many = refl
 -- the last wave that some changes are of, wave 0 where there is none
 record LastWave (ranks : List ℕ) (changes : List Change) : Type 0 where
   wave : ℕ
-  none_later : (c : Change) → Contains changes c → get_or ranks (changed c) 0 ≤ wave
-  of_one : (wave ≡ 0) ⊎ ((c : Change) × Contains changes c × (get_or ranks (changed c) 0 ≡ wave))
+  none_later : (c : Change) → Contains changes c → rank_of ranks (changed c) ≤ wave
+  of_one : (wave ≡ 0) ⊎ ((c : Change) × Contains changes c × (rank_of ranks (changed c) ≡ wave))
 
 last_wave : (ranks : List ℕ) (changes : List Change) → LastWave ranks changes
 last_wave ranks [] = record { wave = 0; none_later = λ c inside. absurd (contains_none c inside); of_one = inl refl }
 last_wave ranks (c ∷ changes) =
     let rest : LastWave ranks changes = last_wave ranks changes in
-    elim (cases_lt rest.wave (get_or ranks (changed c) 0)) [
+    elim (cases_lt rest.wave (rank_of ranks (changed c))) [
       | inl later ↦ record {
-        wave = get_or ranks (changed c) 0;
+        wave = rank_of ranks (changed c);
         none_later = λ d inside. elim (contains_cases c d changes inside) [
-          | inl same ↦ subst (λ (e : Change). get_or ranks (changed e) 0 ≤ get_or ranks (changed c) 0) same (omega arith)
+          | inl same ↦ subst (λ (e : Change). rank_of ranks (changed e) ≤ rank_of ranks (changed c)) same (omega arith)
           | inr among ↦ let k = rest.none_later d among in omega (arith, k, later)
         ];
         of_one = inr (c, contains_here c changes, refl);
@@ -100,7 +102,7 @@ last_wave ranks (c ∷ changes) =
       | inr earlier ↦ record {
         wave = rest.wave;
         none_later = λ d inside. elim (contains_cases c d changes inside) [
-          | inl same ↦ subst (λ (e : Change). get_or ranks (changed e) 0 ≤ rest.wave) same earlier
+          | inl same ↦ subst (λ (e : Change). rank_of ranks (changed e) ≤ rest.wave) same earlier
           | inr among ↦ rest.none_later d among
         ];
         of_one = elim rest.of_one [
@@ -121,7 +123,7 @@ made_in_run run k c inside =
 
 -- no change that isn't made yet is of an earlier wave than the last wave of those that are made
 none_earlier : (n : ℕ) (ranks : List ℕ) (run : List Change) (k : ℕ) → IsRun n ranks run → (last : LastWave ranks (take k run)) →
-    (d : Change) → Contains (drop k run) d → last.wave ≤ get_or ranks (changed d) 0
+    (d : Change) → Contains (drop k run) d → last.wave ≤ rank_of ranks (changed d)
 none_earlier n ranks run k is_run last d inside = elim last.of_one [
   | inl none ↦ omega (arith, none)
   | inr one ↦
@@ -133,17 +135,17 @@ none_earlier n ranks run k is_run last d inside = elim last.of_one [
       omega (arith, wave, is)
 ]
 
-is_wave : (n : ℕ) (ranks : List ℕ) (run : List Change) (k : ℕ) → 0 < n → IsWaveList n ranks → IsRun n ranks run →
+is_wave : (n : ℕ) (ranks : List ℕ) (run : List Change) (k : ℕ) → 0 < n → IsRanking n ranks → IsRun n ranks run →
     (last : LastWave ranks (take k run)) → Contains ranks last.wave
 is_wave n ranks run k some waves is_run last = elim last.of_one [
-  | inl none ↦ waves.filled 0 last.wave some (omega (arith, none))
+  | inl none ↦ waves.whole last.wave (rank_of ranks 0) (omega (arith, none)) (Contains-get_or ranks 0 0 (omega (arith, some, waves.each)))
   | inr one ↦
       let below : changed one.0 < n = (is_run.all one.0).0 (made_in_run run k one.0 one.1) in
-      let within : changed one.0 < length ranks = omega (arith, below, waves.routers) in
+      let within : changed one.0 < length ranks = omega (arith, below, waves.each) in
       subst (λ (w : ℕ). Contains ranks w) one.2 (Contains-get_or ranks (changed one.0) 0 within)
 ]
 
-pub state_of_wave : (n : ℕ) (ranks : List ℕ) (state : State) → 0 < n → IsWaveList n ranks → IsWavesState n ranks state → IsStateOfSomeWave n ranks state
+pub state_of_wave : (n : ℕ) (ranks : List ℕ) (state : State) → 0 < n → IsRanking n ranks → IsWavesState n ranks state → IsStateOfSomeWave n ranks state
 state_of_wave n ranks state some waves is =
     let last : LastWave ranks (take is.k is.run) = last_wave ranks (take is.k is.run) in
     record {
@@ -156,7 +158,7 @@ state_of_wave n ranks state some waves is =
                   | inl inside ↦ inside
                   | inr left ↦
                       let late = none_earlier n ranks is.run is.k is.is_run last c left in
-                      let rank : get_or ranks (changed c) 0 ≡ get_or ranks u 0 = ap (λ (v : ℕ). get_or ranks v 0) own in
+                      let rank : rank_of ranks (changed c) ≡ rank_of ranks u = ap (λ (v : ℕ). rank_of ranks v) own in
                       absurd (omega (arith, late, before, rank))
                 ] in
             is.after u below ∙ new_after (changes_on u (map changed (take is.k is.run)))
@@ -164,7 +166,7 @@ state_of_wave n ranks state some waves is =
         later = λ u below after.
             is.after u below ∙ ap phase_after (count_none u (take is.k is.run) (λ c inside own.
             let early = last.none_later c inside in
-            let rank : get_or ranks (changed c) 0 ≡ get_or ranks u 0 = ap (λ (v : ℕ). get_or ranks v 0) own in
+            let rank : rank_of ranks (changed c) ≡ rank_of ranks u = ap (λ (v : ℕ). rank_of ranks v) own in
             omega (arith, early, after, rank)));
       };
     }
@@ -199,7 +201,7 @@ inside_whole f (v ∷ order) u c router inside = elim (contains_cases v u order 
 -- routers in the order of their waves, each once
 pub record InWaveOrder (ranks : List ℕ) (u v : ℕ) : Type 0 where
   pub apart : u ≢ v
-  pub wave : get_or ranks u 0 ≤ get_or ranks v 0
+  pub wave : rank_of ranks u ≤ rank_of ranks v
 
 -- changes of routers of an earlier and of a later place
 precede_apart : (ranks : List ℕ) (c d : Change) → InWaveOrder ranks (changed c) (changed d) → MayPrecede ranks c d
@@ -296,7 +298,7 @@ made_before_left ranks Middle u c d made left =
     let two : second u ≡ d = contains_one (second u) d left in
     record {
       other = λ same. halves_apart u u (one ∙ same ∙ sym two);
-      wave = let e : get_or ranks (changed c) 0 ≡ get_or ranks (changed d) 0 = ap (λ (x : Change). get_or ranks (changed x) 0) (sym one) ∙ ap (λ (x : Change). get_or ranks (changed x) 0) two in omega (arith, e);
+      wave = let e : rank_of ranks (changed c) ≡ rank_of ranks (changed d) = ap (λ (x : Change). rank_of ranks (changed x)) (sym one) ∙ ap (λ (x : Change). rank_of ranks (changed x)) two in omega (arith, e);
       half = λ v is_second is_first. halves_apart u v (one ∙ is_second);
     }
 
@@ -328,15 +330,15 @@ made_phase New u = ap phase_after (count_own u (first u) (second u ∷ []) refl 
 
 -- a router with a change made isn't of a later wave, one with a change left isn't of an earlier one
 made_wave : (n : ℕ) (ranks : List ℕ) (w : ℕ) (state : State) (u : ℕ) (c : Change) → IsStateOfWave n ranks w state → u < n →
-    Contains (made_in (state u) u) c → get_or ranks u 0 ≤ w
-made_wave n ranks w state u c of_wave below made = elim (cases_lt w (get_or ranks u 0)) [
+    Contains (made_in (state u) u) c → rank_of ranks u ≤ w
+made_wave n ranks w state u c of_wave below made = elim (cases_lt w (rank_of ranks u)) [
   | inr within ↦ within
   | inl later ↦ absurd (contains_none c (subst (λ (p : Phase). Contains (made_in p u) c) (of_wave.later u below later) made))
 ]
 
 left_wave : (n : ℕ) (ranks : List ℕ) (w : ℕ) (state : State) (u : ℕ) (c : Change) → IsStateOfWave n ranks w state → u < n →
-    Contains (left_in (state u) u) c → w ≤ get_or ranks u 0
-left_wave n ranks w state u c of_wave below left = elim (cases_lt (get_or ranks u 0) w) [
+    Contains (left_in (state u) u) c → w ≤ rank_of ranks u
+left_wave n ranks w state u c of_wave below left = elim (cases_lt (rank_of ranks u) w) [
   | inr within ↦ within
   | inl earlier ↦ absurd (contains_none c (subst (λ (p : Phase). Contains (left_in p u) c) (of_wave.earlier u below earlier) left))
 ]

@@ -1,8 +1,10 @@
 -- The fault of a set of states, and of a wave list that isn't seamless.
 use Rattle.std.specs.Prelude.{ℕ, ◌^◌, ◌<◌, List, length}
 use Rattle.net_model.specs.Network.{Network}
+use Rattle.order_core.specs.Turns.{routers_of}
+use Rattle.order_core.specs.declared.turn.Turn.{Turn}
 use Rattle.igp_theory.specs.Forwarding.{MustForward, HasStep}
-use Rattle.igp_theory.specs.Loops.{RingRouter, IsTag, AroundRing, Fault, missing, loop, IsFoundRing, ring_routers}
+use Rattle.igp_theory.specs.Loops.{IsTag, AroundRing, Fault, missing, loop, IsFoundRing}
 use Rattle.igp_theory.specs.Routes.{Tables}
 use Rattle.igp_theory.specs.States.{State, StepsIn, IsSoundAt, IsSound}
 use Rattle.igp_theory.specs.Waves.{IsStateOfWave}
@@ -43,10 +45,10 @@ pub data IsFaultOver (net : Network) (old new : Tables) (states : State → Type
   missing_in_one : {a u : ℕ} → IsLeastUnsound net old new states a → LacksStep net old new states a u →
       ((v : ℕ) → v < u → MustForward net a v → HasStepsInAll net old new states a v) →
       IsFaultOver net old new states (missing a u)
-  loop_over_all : {a : ℕ} {ring : List RingRouter} → IsLeastUnsound net old new states a →
+  loop_over_all : {a : ℕ} {ring : List Turn} → IsLeastUnsound net old new states a →
       ((v : ℕ) → MustForward net a v → HasStepsInAll net old new states a v) →
-      IsFoundRing (StepsInSome net old new states a) (length net) (ring_routers ring) →
-      AroundRing (λ (r s : RingRouter). IsTag net old new a r s.router) ring →
+      IsFoundRing (StepsInSome net old new states a) (length net) (routers_of ring) →
+      AroundRing (λ (r s : Turn). IsTag net old new a r s.router) ring →
       IsFaultOver net old new states (loop a ring)
 
 -- the fault of a wave list: its first wave with an unsound state, and the fault of that wave's states

@@ -7,15 +7,16 @@ use Rattle.igp_theory.specs.Forwarding.{IsTarget, HasStep}
 use Rattle.igp_theory.specs.Isis.{IsisEntry}
 use Rattle.igp_theory.specs.Ospf.{OspfEntry}
 use Rattle.igp_theory.specs.Routes.{Tables, EntryLeadsTo}
-use Rattle.igp_theory.specs.States.{State, StepsIn, Follows, IsSound, IsOrder, IsSeamless, state_of}
-use Rattle.igp_theory.specs.Waves.{IsWaveList, IsRun, IsWavesState, AreSeamlessWaves, IsStateOfWave, IsFlatOrder, AreOnes, run_along, state_after}
+use Rattle.order_core.specs.Rankings.{IsRanking, flat_of}
+use Rattle.igp_theory.specs.States.{State, StepsIn, Follows, IsSound, IsSeamless, state_of}
+use Rattle.igp_theory.specs.Waves.{IsRun, IsWavesState, AreSeamlessWaves, IsStateOfWave, AreOnes, run_along, state_after}
 
 -- What sound means
 
--- every hop of a table's entries is a router of the network
+-- every hop of the entries of the network's routers is a router of the network
 abbrev pub HopsAreRouters : Network → Tables → Type 0
 HopsAreRouters net table =
-    (u h : ℕ) (p : Block) (e : Entry) → table u p e → EntryLeadsTo e h → h < length net
+    (u h : ℕ) (p : Block) (e : Entry) → u < length net → table u p e → EntryLeadsTo e h → h < length net
 
 -- that is so of both protocols' tables
 abbrev pub OspfHopsAreRouters : Type 0
@@ -50,15 +51,16 @@ pub record IsStateOfSomeWave (n : ℕ) (ranks : List ℕ) (state : State) : Type
 -- each earlier wave New and each later wave Old, is a state of some run, and there is no other
 abbrev pub StatesAreThoseOfWaves : Type 0
 StatesAreThoseOfWaves =
-    (n : ℕ) (ranks : List ℕ) (state : State) → 0 < n → IsWaveList n ranks →
+    (n : ℕ) (ranks : List ℕ) (state : State) → 0 < n → IsRanking n ranks →
     IsWavesState n ranks state ↔ IsStateOfSomeWave n ranks state
 
 -- Wave lists and orders
 
--- the flat run is a run, and its states are those of the flat order
+-- the flat run is a run
 abbrev pub FlatRunsAreRuns : Type 0
-FlatRunsAreRuns = (n : ℕ) (ranks order : List ℕ) → IsFlatOrder n ranks order → IsRun n ranks (run_along order)
+FlatRunsAreRuns = (n : ℕ) (ranks : List ℕ) → IsRanking n ranks → IsRun n ranks (run_along (flat_of ranks))
 
+-- the states along an order are those of the order
 abbrev pub StatesAlongAreThoseOfOrders : Type 0
 StatesAlongAreThoseOfOrders =
     (order : List ℕ) (k u : ℕ) → state_after (take k (run_along order)) u ≡ state_of order k u
@@ -66,8 +68,7 @@ StatesAlongAreThoseOfOrders =
 -- a seamless wave list, written wave by wave in number order, is a seamless order
 abbrev pub FlatOrdersAreSeamless : Tables → Tables → Type 0
 FlatOrdersAreSeamless old new =
-    (net : Network) (ranks order : List ℕ) → AreSeamlessWaves net old new ranks →
-    IsFlatOrder (length net) ranks order → IsSeamless net old new order
+    (net : Network) (ranks : List ℕ) → AreSeamlessWaves net old new ranks → IsSeamless net old new (flat_of ranks)
 
 -- a seamless order is a seamless wave list of ones
 abbrev pub OrdersAreSeamlessWaves : Tables → Tables → Type 0

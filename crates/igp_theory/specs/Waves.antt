@@ -2,17 +2,13 @@
 use Rattle.std.specs.Prelude.{◌≡◌, ◌≢◌, ℕ, ◌<◌, ◌≤◌, ◌↔◌, List, [], ◌∷◌, length, take, map, slice_index, Contains, AllPairs}
 use Rattle.std.specs.List.{flat_map}
 use Rattle.net_model.specs.Network.{Network}
+use Rattle.order_core.specs.Rankings.{IsRanking, rank_of}
 use Rattle.igp_theory.specs.Routes.{Tables}
-use Rattle.igp_theory.specs.States.{State, IsSound, IsOrder, changes_on, phase_after}
+use Rattle.igp_theory.specs.States.{State, IsSound, changes_on, phase_after}
 use Rattle.igp_theory.specs.declared.phase.Phase.TheVariants.{Old, New}
 
--- Waves, changes, runs
-
--- a wave list of the routers below n, told by ranks: router u stands in wave `ranks[u]`, counted from 0,
--- so in one wave, once; and no wave up to that one is empty
-pub record IsWaveList (n : ℕ) (ranks : List ℕ) : Type 0 where
-  pub routers : length ranks ≡ n
-  pub filled : (u w : ℕ) → u < n → w ≤ slice_index ranks u → Contains ranks w
+-- A wave list is told by a ranking: router u stands in the wave `rank_of ranks u`, counted from 0, so in
+-- one wave, once, and no wave is empty
 
 -- a change of a router: the first sets the distance of IS-IS to 115 and takes it from Old to Middle, the
 -- second sets that of OSPF to 255 and takes it from Middle to New
@@ -29,7 +25,7 @@ changed (second u) = u
 -- router's second change with d the first
 pub record MayPrecede (ranks : List ℕ) (c d : Change) : Type 0 where
   pub other : c ≢ d
-  pub wave : slice_index ranks (changed c) ≤ slice_index ranks (changed d)
+  pub wave : rank_of ranks (changed c) ≤ rank_of ranks (changed d)
   pub half : (u : ℕ) → c ≡ second u → d ≢ first u
 
 -- a run of a wave list: a list of all changes, each once, in which each change of a wave stands before
@@ -38,7 +34,10 @@ pub record IsRun (n : ℕ) (ranks : List ℕ) (run : List Change) : Type 0 where
   pub all : (c : Change) → Contains run c ↔ changed c < n
   pub in_turn : AllPairs (MayPrecede ranks) run
 
--- States
+-- the run along an order: router by router its two changes, one after the other. Along `flat_of ranks`,
+-- the waves in turn and the routers of a wave in number order, it is the flat run
+abbrev pub run_along : List ℕ → List Change
+run_along order = flat_map (λ (u : ℕ). first u ∷ second u ∷ []) order
 
 -- the state after some changes, where every router was Old before them
 abbrev pub state_after : List Change → State
@@ -53,33 +52,16 @@ pub record IsWavesState (n : ℕ) (ranks : List ℕ) (state : State) : Type 0 wh
 
 -- a wave list is seamless where all its states are sound
 pub record AreSeamlessWaves (net : Network) (old new : Tables) (ranks : List ℕ) : Type 0 where
-  pub lists : IsWaveList (length net) ranks
+  pub waves : IsRanking (length net) ranks
   pub sound : (state : State) → IsWavesState (length net) ranks state → IsSound net old new state
 
 -- a state of wave w: each router of an earlier wave is New, each of a later wave is Old, and each of w
 -- has any phase
 pub record IsStateOfWave (n : ℕ) (ranks : List ℕ) (w : ℕ) (state : State) : Type 0 where
-  pub earlier : (u : ℕ) → u < n → slice_index ranks u < w → state u ≡ New
-  pub later : (u : ℕ) → u < n → w < slice_index ranks u → state u ≡ Old
-
--- The flat run
-
--- in the flat order u stands before v: in an earlier wave, or in the same wave as the lower number
-pub data PrecedesFlat (ranks : List ℕ) (u v : ℕ) : Type 0 where
-  by_wave : slice_index ranks u < slice_index ranks v → PrecedesFlat ranks u v
-  by_number : slice_index ranks u ≡ slice_index ranks v → u < v → PrecedesFlat ranks u v
-
--- the flat order: the waves in turn, the routers of a wave in number order
-pub record IsFlatOrder (n : ℕ) (ranks order : List ℕ) : Type 0 where
-  pub lists : IsOrder n order
-  pub in_turn : AllPairs (PrecedesFlat ranks) order
-
--- the run that follows an order: router by router its two changes, one after the other. That of the flat
--- order is the flat run
-abbrev pub run_along : List ℕ → List Change
-run_along order = flat_map (λ (u : ℕ). first u ∷ second u ∷ []) order
+  pub earlier : (u : ℕ) → u < n → rank_of ranks u < w → state u ≡ New
+  pub later : (u : ℕ) → u < n → w < rank_of ranks u → state u ≡ Old
 
 -- an order as the wave list of ones: the rank of each router is its place in the order
 pub record AreOnes (order ranks : List ℕ) : Type 0 where
-  pub routers : length ranks ≡ length order
-  pub places : (k : ℕ) → k < length order → slice_index ranks (slice_index order k) ≡ k
+  pub each : length ranks ≡ length order
+  pub places : (k : ℕ) → k < length order → rank_of ranks (slice_index order k) ≡ k

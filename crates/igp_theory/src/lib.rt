@@ -6,13 +6,17 @@ mod fault_laws;
 mod forwarding_laws;
 mod phase;
 mod same_table_laws;
+mod sound_laws;
 mod table_laws;
 mod tables;
+mod wave_laws;
 
 pub use cost_laws::{ArcRelation, OfferRelation, best_cost_is_unique, least_cost_is_unique};
 pub use fault_laws::{faults_are_unique, faults_are_unsound};
 pub use forwarding_laws::{every_mixture_forwards, middle_is_old_or_new};
 pub use phase::Phase;
 pub use same_table_laws::same_tables_act_alike;
+pub use sound_laws::{hops_are_routers, sound_states_deliver};
 pub use table_laws::{costs_are_unique, entries_are_unique, entries_forward, hops_are_neighbors};
 pub use tables::TablePair;
+pub use wave_laws::{flat_runs_are_runs, seamless_waves_are_orders, states_are_those_of_waves};
