@@ -10,3 +10,5 @@ pub mod FlatOrders
 pub mod AlikeStates
 pub mod OnesWaves
 pub mod Delivery
+pub mod BestCounted
+pub mod MiddlePhase

@@ -16,4 +16,5 @@ pub mod Loops
 pub mod Waves
 pub mod WaveFaults
 pub mod WaveLaws
+pub mod MiddleLaws
 pub mod Laws

@@ -4,6 +4,7 @@
 mod cost_laws;
 mod fault_laws;
 mod forwarding_laws;
+mod middle_laws;
 mod phase;
 mod same_table_laws;
 mod sound_laws;
@@ -14,6 +15,7 @@ mod wave_laws;
 pub use cost_laws::{ArcRelation, OfferRelation, best_cost_is_unique, least_cost_is_unique};
 pub use fault_laws::{faults_are_unique, faults_are_unsound};
 pub use forwarding_laws::{every_mixture_forwards, middle_is_old_or_new};
+pub use middle_laws::{middle_acts_as_old_or_new, middle_uses_none};
 pub use phase::Phase;
 pub use same_table_laws::same_tables_act_alike;
 pub use sound_laws::{hops_are_routers, sound_states_deliver};
