@@ -12,3 +12,4 @@ pub mod OnesWaves
 pub mod Delivery
 pub mod BestCounted
 pub mod MiddlePhase
+pub mod WaveFaultLaws

@@ -16,5 +16,6 @@ pub mod Loops
 pub mod Waves
 pub mod WaveFaults
 pub mod WaveLaws
+pub mod WaveFaultLaws
 pub mod MiddleLaws
 pub mod Laws

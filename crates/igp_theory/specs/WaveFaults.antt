@@ -1,5 +1,5 @@
 -- The fault of a set of states, and of a wave list that isn't seamless.
-use Rattle.std.specs.Prelude.{ℕ, ◌^◌, ◌<◌, List, length}
+use Rattle.std.specs.Prelude.{ℕ, ◌^◌, ◌<◌, List, length, Contains}
 use Rattle.net_model.specs.Network.{Network}
 use Rattle.order_core.specs.Turns.{routers_of}
 use Rattle.order_core.specs.declared.turn.Turn.{Turn}
@@ -53,5 +53,6 @@ pub data IsFaultOver (net : Network) (old new : Tables) (states : State → Type
 
 -- the fault of a wave list: its first wave with an unsound state, and the fault of that wave's states
 pub record IsWavesFault (net : Network) (old new : Tables) (ranks : List ℕ) (w : ℕ) (fault : Fault) : Type 0 where
+  pub is_wave : Contains ranks w
   pub before : (v : ℕ) → v < w → (state : State) → IsStateOfWave (length net) ranks v state → IsSound net old new state
   pub here : IsFaultOver net old new (IsStateOfWave (length net) ranks w) fault

@@ -10,6 +10,7 @@ mod same_table_laws;
 mod sound_laws;
 mod table_laws;
 mod tables;
+mod wave_fault_laws;
 mod wave_laws;
 
 pub use cost_laws::{ArcRelation, OfferRelation, best_cost_is_unique, least_cost_is_unique};
@@ -21,4 +22,5 @@ pub use same_table_laws::same_tables_act_alike;
 pub use sound_laws::{hops_are_routers, sound_states_deliver};
 pub use table_laws::{costs_are_unique, entries_are_unique, entries_forward, hops_are_neighbors};
 pub use tables::TablePair;
+pub use wave_fault_laws::{StateSet, faults_over_states_are_unique, same_tables_have_same_waves, wave_faults_are_unique};
 pub use wave_laws::{flat_runs_are_runs, seamless_waves_are_orders, states_are_those_of_waves};
