@@ -81,7 +81,7 @@ new_wins {net} {old} {new} {u} {a} one shorter farther = record {
 }
 
 -- where Old and New both use something, Middle uses one of the two
-middle_uses_one : {net : Network} {old new : Tables} {u a : ℕ} {x y : Usable} →
+pub middle_uses_one : {net : Network} {old new : Tables} {u a : ℕ} {x y : Usable} →
     Uses net old new u Old a x → Uses net old new u New a y →
     Uses net old new u Middle a x ⊎ Uses net old new u Middle a y
 middle_uses_one one two =

@@ -13,3 +13,5 @@ pub mod Delivery
 pub mod BestCounted
 pub mod MiddlePhase
 pub mod WaveFaultLaws
+pub mod Rings
+pub mod LoopLaws

@@ -17,5 +17,6 @@ pub mod Waves
 pub mod WaveFaults
 pub mod WaveLaws
 pub mod WaveFaultLaws
+pub mod LoopLaws
 pub mod MiddleLaws
 pub mod Laws
