@@ -2,3 +2,5 @@ pub mod DistinctLists
 pub mod Turning
 pub mod Orders
 pub mod Paths
+pub mod WaveLists
+mod WaveSteps

@@ -5,3 +5,4 @@ pub mod Pairs
 pub mod Rankings
 pub mod Rings
 pub mod Turns
+pub mod HeldWaves

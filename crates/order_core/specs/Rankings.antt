@@ -1,5 +1,5 @@
 -- Rankings: each router stands in a wave, and the waves follow one another.
-use Rattle.std.specs.Prelude.{◌≡◌, ℕ, ◌+◌, ◌<◌, ◌≤◌, ◌==◌, max, List, [], ◌∷◌, length, slice_index, filter, Contains}
+use Rattle.std.specs.Prelude.{◌≡◌, ℕ, ◌+◌, ◌<◌, ◌≤◌, ◌==◌, ◌⊎◌, max, List, [], ◌∷◌, length, slice_index, filter, Contains}
 use Rattle.std.specs.List.{flat_map, range_with_len}
 use Rattle.order_core.specs.Pairs.{Pair}
 
@@ -33,6 +33,10 @@ waves_before ranks w = flat_map (wave_of ranks) (numbers_below w)
 -- the routers in the order of the flat run: wave by wave, ascending in each
 abbrev pub flat_of : List ℕ → List ℕ
 flat_of ranks = waves_before ranks (wave_count ranks)
+
+-- u comes before v in the flat run: in an earlier wave, or in the same one with a lower number
+abbrev pub ComesBefore : List ℕ → ℕ → ℕ → Type 0
+ComesBefore ranks u v = (rank_of ranks u < rank_of ranks v) ⊎ ((rank_of ranks u ≡ rank_of ranks v) × (u < v))
 
 -- a ranking keeps "u before v" where the wave of u comes before the wave of v
 abbrev pub KeepsPair : List ℕ → Pair → Type 0

@@ -2,5 +2,9 @@
 #![tactic(auto)]
 
 mod turn;
+mod wave_laws;
+mod waves;
 
 pub use turn::{Tag, Turn, Turns};
+pub use wave_laws::{flat_runs_are_orders, waves_are_ranks};
+pub use waves::Waves;
