@@ -15,3 +15,4 @@ pub mod MiddlePhase
 pub mod WaveFaultLaws
 pub mod Rings
 pub mod LoopLaws
+pub mod LoopWaves

@@ -129,12 +129,15 @@ distinct_or_short : (step : ℕ → ℕ → Type 0) (u : ℕ) (hops : List ℕ) 
     AreDistinct (u ∷ hops) ⊎ ((w : ℕ) × LeadsShort step w w (length hops))
 distinct_or_short step u [] v follows = inl (pairs_more (λ x y. x ≢ y) u [] (λ w inside. absurd (contains_none w inside)) (pairs_none (λ x y. x ≢ y)))
 distinct_or_short step u (h ∷ hops) v follows = elim (distinct_or_short step h hops v follows.1) [
-  | inr returns ↦ inr (returns.0, record {
-    hop = returns.1.hop;
-    hops = returns.1.hops;
-    follows = returns.1.follows;
-    short = let k = returns.1.short in omega (arith, k);
-  })
+  | inr returns ↦ inr (
+    returns.0,
+    record {
+      hop = returns.1.hop;
+      hops = returns.1.hops;
+      follows = returns.1.follows;
+      short = let k = returns.1.short in omega (arith, k);
+    },
+  )
   | inl distinct ↦ elim (contains_or_not u (h ∷ hops)) [
     | inl again ↦ inr (u, leads_short step u (h ∷ hops) v u follows again)
     | inr absent ↦ inl (pairs_more (λ x y. x ≢ y) u (h ∷ hops) (λ w inside same. absent (subst (Contains (h ∷ hops)) (sym same) inside)) distinct)

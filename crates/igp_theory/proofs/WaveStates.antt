@@ -154,13 +154,13 @@ state_of_wave n ranks state some waves is =
       of_wave = record {
         earlier = λ u below before.
             let made : (c : Change) → changed c ≡ u → Contains (take is.k is.run) c = λ c own.
-                elim (part_of_run is.run is.k c ((is.is_run.all c).1 (subst (λ (v : ℕ). v < n) (sym own) below))) [
-                  | inl inside ↦ inside
-                  | inr left ↦
-                      let late = none_earlier n ranks is.run is.k is.is_run last c left in
-                      let rank : rank_of ranks (changed c) ≡ rank_of ranks u = ap (λ (v : ℕ). rank_of ranks v) own in
-                      absurd (omega (arith, late, before, rank))
-                ] in
+            elim (part_of_run is.run is.k c ((is.is_run.all c).1 (subst (λ (v : ℕ). v < n) (sym own) below))) [
+              | inl inside ↦ inside
+              | inr left ↦
+                  let late = none_earlier n ranks is.run is.k is.is_run last c left in
+                  let rank : rank_of ranks (changed c) ≡ rank_of ranks u = ap (λ (v : ℕ). rank_of ranks v) own in
+                  absurd (omega (arith, late, before, rank))
+            ] in
             is.after u below ∙ new_after (changes_on u (map changed (take is.k is.run)))
             (count_both u (take is.k is.run) (made (first u) refl) (made (second u) refl));
         later = λ u below after.
