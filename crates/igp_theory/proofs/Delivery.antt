@@ -1,13 +1,15 @@
 -- What sound means: lists of steps are short, and lead on until an originator is reached.
-use Rattle.std.proofs.Common.{◌≡◌, ◌≢◌, ℕ, ◌^◌, ◌<◌, ◌≤◌, ◌⊎◌, inl, inr, List, [], ◌∷◌, length, Contains, arith, refl, sym, subst}
+use Rattle.std.proofs.Common.{Option, Some, None, IsTrue, ap, ◌∙◌, ◌≡◌, ◌≢◌, ℕ, ◌^◌, ◌<◌, ◌≤◌, ◌⊎◌, inl, inr, List, [], ◌∷◌, length, Contains, arith, refl, sym, subst}
 use Rattle.std.specs.List.{AllPairs}
-use Rattle.std.proofs.lemmas.Bool.{cases_eq, eqb-true}
+use Rattle.std.proofs.lemmas.Bool.{cases_eq, cases_Bool, eqb-true, false≢true}
 use Rattle.std.proofs.lemmas.Bool.Decides.{Decides-eqb}
 use Rattle.std.proofs.lemmas.Map.Made.{IsDistinct-from_AllPairs}
 use Rattle.std.proofs.lemmas.Map.Steps.{length-le_from_distinct_below}
 use Rattle.std.proofs.lemmas.Map.Views.{Contains-from_any}
-use Rattle.std.proofs.lemmas.Option.{slice_get_within}
+use Rattle.std.proofs.lemmas.Option.{same_Some, slice_get_within, slice_get_cases}
 use Rattle.net_addr.specs.Addresses.{Block}
+use Rattle.net_model.specs.Configuration.{Configuration}
+use Rattle.net_model.specs.declared.interface.Interface.{Interface}
 use Rattle.net_model.specs.Network.{Network, UpInterface, Connected, Adjacent}
 use Rattle.route_core.specs.declared.entry.Entry.{Entry}
 use Rattle.igp_theory.specs.Forwarding.{Usable, Counts, connected_counts, old_counts, new_counts, LeadsTo, IsTarget, MustForward, Steps, HasStep}
@@ -117,6 +119,62 @@ short_lists step n inside never u hops v below follows = elim (distinct_or_retur
       omega (arith, few)
 ]
 
+-- Whether a prefix is connected at a router
+
+subnet_or_not : (subnet : Option Block) (p : Block) → (subnet ≡ Some p) ⊎ (subnet ≡ Some p → ⊥)
+subnet_or_not None p = inr (λ same. cc)
+subnet_or_not (Some q) p = elim (cases_eq q.base p.base) [
+  | inl base ↦ elim (cases_eq q.len p.len) [
+    | inl len ↦ inl (λ i. Some (record { base = base i; len = len i }))
+    | inr apart ↦ inr (λ same. apart (ap (λ (b : Block). b.len) (same_Some q p same)))
+  ]
+  | inr apart ↦ inr (λ same. apart (ap (λ (b : Block). b.base) (same_Some q p same)))
+]
+
+-- one of some interfaces is up with this subnet, or none is
+record UpWith (interfaces : List Interface) (p : Block) : Type 0 where
+  interface : Interface
+  among : Contains interfaces interface
+  up : IsTrue interface.up
+  subnet : interface.subnet ≡ Some p
+
+up_with_or_not : (interfaces : List Interface) (p : Block) → UpWith interfaces p ⊎ (UpWith interfaces p → ⊥)
+up_with_or_not [] p = inr (λ one. contains_none one.interface one.among)
+up_with_or_not (i ∷ interfaces) p = elim (cases_Bool i.up) [
+  | inl up ↦ elim (subnet_or_not i.subnet p) [
+    | inl subnet ↦ inl (record { interface = i; among = contains_here i interfaces; up = up; subnet = subnet })
+    | inr other ↦ others (λ one same. other (ap (λ (x : Interface). x.subnet) same ∙ one.subnet)) (up_with_or_not interfaces p)
+  ]
+  | inr down ↦ others (λ one same. false≢true (sym down ∙ ap (λ (x : Interface). x.up) same ∙ one.up)) (up_with_or_not interfaces p)
+]
+  where
+    others : ((one : UpWith (i ∷ interfaces) p) → i ≡ one.interface → ⊥) → UpWith interfaces p ⊎ (UpWith interfaces p → ⊥) →
+        UpWith (i ∷ interfaces) p ⊎ (UpWith (i ∷ interfaces) p → ⊥)
+    others not_first (inl one) =
+        inl (record { interface = one.interface; among = contains_there i one.interface interfaces one.among; up = one.up; subnet = one.subnet })
+    others not_first (inr none) = inr (λ one. elim (contains_cases i one.interface interfaces one.among) [
+      | inl same ↦ not_first one same
+      | inr later ↦ none (record { interface = one.interface; among = later; up = one.up; subnet = one.subnet })
+    ])
+
+pub connected_or_not : (net : Network) (u : ℕ) (p : Block) → u < length net → Connected net u p ⊎ (Connected net u p → ⊥)
+connected_or_not net u p below = elim (slice_get_cases net u).1 [
+  | inr past ↦ absurd (let gone = past.0 in omega (arith, gone, below))
+  | inl here ↦ elim (up_with_or_not here.0.interfaces p) [
+    | inl one ↦ inl (record {
+      interface = one.interface;
+      up = record { config = here.0; router = here.2; among = one.among; up = one.up };
+      subnet = one.subnet;
+    })
+    | inr none ↦ inr (λ is. none (record {
+      interface = is.interface;
+      among = subst (λ (c : Configuration). Contains c.interfaces is.interface) (same_Some is.up.config here.0 (sym is.up.router ∙ here.2)) is.up.among;
+      up = is.up.up;
+      subnet = is.subnet;
+    }))
+  ]
+]
+
 -- a sound state delivers
 pub sound_delivers : (net : Network) (old new : Tables) (state : State) (a : ℕ) (p : Block) → HopsAreRouters net old → HopsAreRouters net new →
     IsSound net old new state → a < 2 ^ 32 → IsTarget net a p → Delivers net old new state a p
@@ -125,10 +183,10 @@ sound_delivers net old new state a p in_old in_new sound address target =
     let inside : (u h : ℕ) → StepsIn net old new state a u h → h < length net = λ u h steps. steps_inside in_old in_new steps in
     record {
       short = λ u v hops below follows. short_lists (StepsIn net old new state a) (length net) inside here.returns_never u hops v below follows;
-      onward = λ u v hops below follows away. here.forwards v (record {
-        router = last_below (StepsIn net old new state a) (length net) inside u hops v below follows;
-        target = p;
-        is_target = target;
-        away = away;
-      });
+      onward = λ u v hops below follows.
+          let router : v < length net = last_below (StepsIn net old new state a) (length net) inside u hops v below follows in
+          elim (connected_or_not net v p router) [
+            | inl reached ↦ inl reached
+            | inr away ↦ inr (here.forwards v (record { router = router; target = p; is_target = target; away = away }))
+          ];
     }

@@ -9,6 +9,7 @@ pub mod WaveStates
 pub mod FlatOrders
 pub mod AlikeStates
 pub mod OnesWaves
+pub mod OnesRuns
 pub mod Delivery
 pub mod BestCounted
 pub mod MiddlePhase

@@ -1,6 +1,6 @@
 -- Loops wave by wave: in which waves they arise, and that they say which wave lists are seamless.
 use Rattle.std.proofs.Common.{◌≡◌, ◌≢◌, ℕ, zero, suc, ◌^◌, ◌<◌, ◌≤◌, ◌⊎◌, inl, inr, List, [], ◌∷◌, length, get_or, Contains, AllPairs, refl, sym, ap, ◌∙◌, subst, arith}
-use Rattle.std.proofs.lemmas.Bool.{cases_lt}
+use Rattle.std.proofs.lemmas.Bool.{cases_lt, cases_eq}
 use Rattle.std.proofs.lemmas.List.Elements.{Contains-get_or}
 use Rattle.net_model.specs.Network.{Network}
 use Rattle.order_core.specs.Orders.{AreDistinct}
@@ -13,7 +13,8 @@ use Rattle.igp_theory.specs.Forwarding.{Steps}
 use Rattle.igp_theory.specs.LoopLaws.{AgreesWithTags, AreSoundEnds, IsLoopOfState, ArisesInWave, StandsRoundWave, PutsSomeOldFirst, PutsSomeOldFirstInEach}
 use Rattle.igp_theory.specs.Loops.{IsTagOf, IsTag, EachToNext, AroundRing, IsLoop, Arises}
 use Rattle.igp_theory.specs.Routes.{Tables}
-use Rattle.igp_theory.specs.States.{State, StepsIn, IsSoundAt, IsSound}
+use Rattle.igp_theory.specs.States.{State, StepsIn, Follows, IsSoundAt, IsSound}
+use Rattle.igp_theory.specs.WaveFaults.{StepsInSome, IsUnsoundInSome}
 use Rattle.igp_theory.specs.WaveLaws.{IsStateOfSomeWave}
 use Rattle.igp_theory.specs.Waves.{IsWavesState, AreSeamlessWaves, IsStateOfWave}
 use Rattle.igp_theory.specs.declared.phase.Phase.{Phase}
@@ -22,8 +23,8 @@ use Rattle.igp_theory.proofs.Delivery.{contains_or_not}
 use Rattle.igp_theory.proofs.FlatOrders.{wave_state_is_reached}
 use Rattle.igp_theory.proofs.ForwardingLaws.{every_phase_steps}
 use Rattle.igp_theory.proofs.LoopLaws.{TurnOf, old_turn, new_turn, old_or_new_step, tag_inside, loop_arises_by_tags, arising_is_unsound, old_is_early, new_is_late, ring_between_ends}
-use Rattle.igp_theory.proofs.OrderedLists.{contains_none, contains_here, contains_there, contains_cases}
-use Rattle.igp_theory.proofs.Rings.{around_at, StepRing, ring_of_return, around_of_routers, turns_distinct, one_turn}
+use Rattle.igp_theory.proofs.OrderedLists.{contains_none, contains_here, contains_there, contains_cases, pairs_first, pairs_rest}
+use Rattle.igp_theory.proofs.Rings.{each_inside, ring_returns, around_at, StepRing, ring_of_return, around_of_routers, turns_distinct, one_turn}
 use Rattle.igp_theory.proofs.WaveStates.{state_of_wave}
 
 -- Where a loop arises
@@ -328,5 +329,74 @@ old_first_is_seamless net old new ranks ends waves puts = record {
     | inl some ↦
         let one : IsStateOfSomeWave (length net) ranks state = state_of_wave (length net) ranks state some waves is in
         wave_is_sound net old new ranks one.wave state ends puts one.of_wave
+  ];
+}
+
+-- Over every hop of a wave's states
+
+-- a state of a wave in which each of some routers steps to the next
+record WaveSteps (net : Network) (old new : Tables) (ranks : List ℕ) (w a first : ℕ) (routers : List ℕ) : Type 0 where
+  state : State
+  of_wave : IsStateOfWave (length net) ranks w state
+  goes : EachToNext (StepsIn net old new state a) first routers
+
+abbrev put : ℕ → Phase → State → State
+put u phase state v = pick (cases_eq v u) phase (state v)
+
+put_of_wave : (n : ℕ) (ranks : List ℕ) (w u : ℕ) (one state : State) → IsStateOfWave n ranks w one → IsStateOfWave n ranks w state →
+    IsStateOfWave n ranks w (put u (one u) state)
+put_of_wave n ranks w u one state is_one is = record {
+  earlier = λ v below before. by_router v (cases_eq v u) New (is_one.earlier v below before) (is.earlier v below before);
+  later = λ v below after. by_router v (cases_eq v u) Old (is_one.later v below after) (is.later v below after);
+}
+  where
+    by_router : (v : ℕ) (either : (v ≡ u) ⊎ (v ≡ u → ⊥)) (phase : Phase) → one v ≡ phase → state v ≡ phase → pick either (one u) (state v) ≡ phase
+    by_router v (inl same) phase first second = ap one (sym same) ∙ first
+    by_router v (inr apart) phase first second = second
+
+wave_steps : (net : Network) (old new : Tables) (ranks : List ℕ) (w a first : ℕ) (routers : List ℕ) → AreDistinct routers →
+    EachToNext (StepsInSome net old new (IsStateOfWave (length net) ranks w) a) first routers → WaveSteps net old new ranks w a first routers
+wave_steps net old new ranks w a first [] distinct goes =
+    record { state = state_for ranks w []; of_wave = for_is_of_wave (length net) ranks w []; goes = tt }
+wave_steps net old new ranks w a first (u ∷ []) distinct goes = record { state = goes.state; of_wave = goes.among; goes = goes.steps }
+wave_steps net old new ranks w a first (u ∷ v ∷ rest) distinct goes =
+    let others : WaveSteps net old new ranks w a first (v ∷ rest) =
+    wave_steps net old new ranks w a first (v ∷ rest) (pairs_rest (λ x y. x ≢ y) u (v ∷ rest) distinct) goes.1 in
+    let state : State = put u (goes.0.state u) others.state in
+    record {
+      state = state;
+      of_wave = put_of_wave (length net) ranks w u goes.0.state others.state goes.0.among others.of_wave;
+      goes = (
+        subst (λ (phase : Phase). Steps net old new u phase a v) (sym (pick_first (cases_eq u u) (goes.0.state u) (others.state u) (λ apart. apart refl))) goes.0.steps,
+        each_inside (StepsIn net old new others.state a) (StepsIn net old new state a) first (v ∷ rest)
+        (λ x y inside steps. subst (λ (phase : Phase). Steps net old new x phase a y)
+        (sym (pick_second (cases_eq x u) (goes.0.state u) (others.state x) (λ same. pairs_first (λ p q. p ≢ q) u (v ∷ rest) distinct x inside (sym same)))) steps)
+        others.goes,
+      );
+    }
+
+pub return_is_unsound : (net : Network) (old new : Tables) (ranks : List ℕ) (w a u h : ℕ) (hops : List ℕ) →
+    Follows (StepsInSome net old new (IsStateOfWave (length net) ranks w) a) u (h ∷ hops) u →
+    IsUnsoundInSome net old new (IsStateOfWave (length net) ranks w) a
+return_is_unsound net old new ranks w a u h hops follows =
+    let ring : StepRing (StepsInSome net old new (IsStateOfWave (length net) ranks w) a) =
+    ring_of_return (StepsInSome net old new (IsStateOfWave (length net) ranks w) a) u h hops follows in
+    let there : WaveSteps net old new ranks w a ring.first (ring.first ∷ ring.others) =
+    wave_steps net old new ranks w a ring.first (ring.first ∷ ring.others) ring.distinct ring.goes in
+    let returns = ring_returns (StepsIn net old new there.state a) ring.first ring.others there.goes in
+    record {
+      state = there.state;
+      among = there.of_wave;
+      unsound = λ sound. sound.returns_never ring.first returns.hop returns.hops returns.follows;
+    }
+
+-- a wave list is seamless exactly where the states of its waves are sound
+pub seamless_by_waves : (net : Network) (old new : Tables) (ranks : List ℕ) → IsRanking (length net) ranks →
+    ((state : State) → IsStateOfSomeWave (length net) ranks state → IsSound net old new state) → AreSeamlessWaves net old new ranks
+seamless_by_waves net old new ranks waves sound = record {
+  waves = waves;
+  sound = λ state is. elim (cases_lt 0 (length net)) [
+    | inr none ↦ empty_is_sound net old new state none
+    | inl some ↦ sound state (state_of_wave (length net) ranks state some waves is)
   ];
 }

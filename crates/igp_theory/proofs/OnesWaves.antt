@@ -21,7 +21,7 @@ use Rattle.igp_theory.specs.declared.phase.Phase.{Phase}
 use Rattle.igp_theory.specs.declared.phase.Phase.TheVariants.{Old, Middle, New}
 use Rattle.igp_theory.proofs.AlikeStates.{AreAlike, sound_alike}
 use Rattle.igp_theory.proofs.OrderedLists.{contains_here, contains_there, pairs_first, pairs_rest}
-use Rattle.igp_theory.proofs.WaveStates.{state_of_wave}
+use Rattle.igp_theory.proofs.WaveStates.{InWaveOrder, state_of_wave}
 
 -- What the first changes of an order make of a router
 
@@ -131,6 +131,23 @@ ones_are_waves n order ranks lists ones =
           let router : get_or order w 0 < n = (lists.all (get_or order w 0)).0 (Contains-get_or order w 0 within) in
           subst (Contains ranks) (ones.places w within) (Contains-get_or ranks (get_or order w 0) 0 (omega (arith, router, long, many)));
     }
+
+-- routers of one rank are one
+pub rank_tells : (n : ℕ) (order ranks : List ℕ) (u v : ℕ) → IsOrder n order → AreOnes order ranks → u < n → v < n →
+    rank_of ranks u ≡ rank_of ranks v → u ≡ v
+rank_tells n order ranks u v lists ones u_below v_below same =
+    let one = stands_at_rank n order ranks u lists ones u_below in
+    let two = stands_at_rank n order ranks v lists ones v_below in
+    sym one.at ∙ ap (λ (k : ℕ). get_or order k 0) same ∙ two.at
+
+-- an order is one of its waves of ones
+pub ones_in_turn : (n : ℕ) (order ranks : List ℕ) → IsOrder n order → AreOnes order ranks → AllPairs (InWaveOrder ranks) order
+ones_in_turn n order ranks lists ones i j d before within =
+    let first : get_or order i d ≡ get_or order i 0 = get_or_default order i d 0 (omega (arith, before, within)) in
+    let second : get_or order j d ≡ get_or order j 0 = get_or_default order j d 0 within in
+    let low : rank_of ranks (get_or order i d) ≡ i = ap (rank_of ranks) first ∙ ones.places i (omega (arith, before, within)) in
+    let high : rank_of ranks (get_or order j d) ≡ j = ap (rank_of ranks) second ∙ ones.places j within in
+    record { apart = lists.once i j d before within; wave = omega (arith, low, high, before) }
 
 -- a state of wave w is state 2 w of the order, or one of the two after it
 alike_order : (n : ℕ) (order ranks : List ℕ) (w : ℕ) (state : State) → IsOrder n order → AreOnes order ranks →

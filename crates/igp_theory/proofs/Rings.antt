@@ -14,7 +14,7 @@ use Rattle.igp_theory.proofs.SameTables.{each_to_next_over}
 -- Each element of a ring and the next one
 
 -- from one relation to another, at the elements of the ring
-each_inside : {A : Type 0} (R S : A → A → Type 0) (first : A) (ring : List A) → ((r s : A) → Contains ring r → R r s → S r s) →
+pub each_inside : {A : Type 0} (R S : A → A → Type 0) (first : A) (ring : List A) → ((r s : A) → Contains ring r → R r s → S r s) →
     EachToNext R first ring → EachToNext S first ring
 each_inside R S first [] over goes = tt
 each_inside R S first (r ∷ []) over goes = over r first (contains_here r []) goes

@@ -157,8 +157,10 @@ pub delivers_over : {net : Network} {old new old' new' : Tables} {state : State}
     Delivers net old new state a p → Delivers net old' new' state a p
 delivers_over {net} {old} {new} {old'} {new'} {state} {a} same is = record {
   short = λ u v hops below follows. is.short u v hops below (follows_over (λ w h. steps_over (same_tables_sym same)) u hops v follows);
-  onward = λ u v hops below follows away.
-      has_step_over same (is.onward u v hops below (follows_over (λ w h. steps_over (same_tables_sym same)) u hops v follows) away);
+  onward = λ u v hops below follows. elim (is.onward u v hops below (follows_over (λ w h. steps_over (same_tables_sym same)) u hops v follows)) [
+    | inl reached ↦ inl reached
+    | inr has ↦ inr (has_step_over same has)
+  ];
 }
 
 pub seamless_waves_over : {net : Network} {old new old' new' : Tables} {ranks : List ℕ} → HaveSameTables net old new old' new' →

@@ -1,12 +1,13 @@
 -- What the laws of loops say: state by state, and wave by wave (Vanbever et al., SIGCOMM 2011).
-use Rattle.std.specs.Prelude.{◌≡◌, ℕ, ◌<◌, ◌≤◌, ◌↔◌, ◌⊎◌, List, length, Contains}
+use Rattle.std.specs.Prelude.{◌≡◌, ℕ, ◌<◌, ◌≤◌, ◌↔◌, ◌⊎◌, List, ◌∷◌, length, Contains}
 use Rattle.net_model.specs.Network.{Network}
 use Rattle.order_core.specs.Rankings.{IsRanking, rank_of}
 use Rattle.order_core.specs.Turns.{old_routers, new_routers, HasBothTags}
 use Rattle.order_core.specs.declared.turn.Turn.{Turn}
 use Rattle.igp_theory.specs.Loops.{IsLoop, Arises, Fault, loop, IsFault}
 use Rattle.igp_theory.specs.Routes.{Tables}
-use Rattle.igp_theory.specs.States.{State, IsSound}
+use Rattle.igp_theory.specs.States.{State, Follows, IsSound}
+use Rattle.igp_theory.specs.WaveFaults.{StepsInSome, IsUnsoundInSome}
 use Rattle.igp_theory.specs.Waves.{AreSeamlessWaves, IsStateOfWave}
 use Rattle.igp_theory.specs.declared.phase.Phase.TheVariants.{Old, Middle, New}
 
@@ -74,6 +75,15 @@ abbrev pub LoopsAriseInWaves : Tables → Tables → Type 0
 LoopsAriseInWaves old new =
     (net : Network) (ranks : List ℕ) (w a : ℕ) (ring : List Turn) → IsLoop net old new a ring →
     ArisesInWave net old new ranks w a ring ↔ StandsRoundWave ranks w ring
+
+-- over the states of wave w a router may have hops of both phases. Where a list of steps over all these
+-- hops returns to its first router, some state of w is unsound for the address: the list contains a ring of
+-- distinct routers, and each of them keeps one phase that makes its step
+abbrev pub ReturnsInWavesAreUnsound : Tables → Tables → Type 0
+ReturnsInWavesAreUnsound old new =
+    (net : Network) (ranks : List ℕ) (w a u h : ℕ) (hops : List ℕ) →
+    Follows (StepsInSome net old new (IsStateOfWave (length net) ranks w) a) u (h ∷ hops) u →
+    IsUnsoundInSome net old new (IsStateOfWave (length net) ranks w) a
 
 -- a wave list puts some router tagged Old in an earlier wave than some router tagged New
 pub record PutsSomeOldFirst (ranks : List ℕ) (ring : List Turn) : Type 0 where

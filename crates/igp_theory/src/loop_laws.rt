@@ -1,4 +1,4 @@
-ghost use Rattle.igp_theory.specs.LoopLaws.{LoopsArise, ArisingLoopsAreUnsound, FaultsBetweenSoundEndsAreLoops, LoopsAriseInWaves, SeamlessWavesPutOldFirst, WavesAreSeamlessByLoops};
+ghost use Rattle.igp_theory.specs.LoopLaws.{LoopsArise, ArisingLoopsAreUnsound, FaultsBetweenSoundEndsAreLoops, LoopsAriseInWaves, ReturnsInWavesAreUnsound, SeamlessWavesPutOldFirst, WavesAreSeamlessByLoops};
 
 use crate::tables::TablePair;
 
@@ -23,6 +23,14 @@ pub fn faults_between_sound_ends_are_loops<T: TablePair>()
 /// routers tagged `Old` in waves from w on.
 pub fn loops_arise_in_waves<T: TablePair>()
     ensures { LoopsAriseInWaves T.old T.new }
+{}
+
+/// The law of lists of steps over every hop that a router has in some state of a wave.
+///
+/// Where such a list returns to its first router some state of the wave is unsound: the list contains a
+/// ring of distinct routers, and each of them keeps one phase that makes its step.
+pub fn returns_in_waves_are_unsound<T: TablePair>()
+    ensures { ReturnsInWavesAreUnsound T.old T.new }
 {}
 
 /// The law that loops say which wave lists are seamless.
