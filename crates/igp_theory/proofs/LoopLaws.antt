@@ -15,7 +15,7 @@ use Rattle.igp_theory.specs.declared.phase.Phase.{Phase}
 use Rattle.igp_theory.specs.declared.phase.Phase.TheVariants.{Old, Middle, New}
 use Rattle.igp_theory.proofs.ForwardingLaws.{middle_is_old_or_new, middle_uses_one, every_phase_steps}
 use Rattle.igp_theory.proofs.OrderedLists.{contains_none, contains_here, contains_there, contains_cases}
-use Rattle.igp_theory.proofs.Rings.{around_inside, around_both, around_at, found_goes_round, found_distinct, around_of_routers, turns_distinct, turns_return}
+use Rattle.igp_theory.proofs.Rings.{around_inside, around_both, around_at, found_goes_round, found_distinct, around_of_routers, turns_distinct, turns_return, some_turn}
 
 -- The turns of a tag
 
@@ -272,7 +272,3 @@ fault_between_ends net old new state fault ends (loop_arises {a = a} {ring = rin
       of_state = ring_between_ends net old new state a ring ends address some (turns_distinct ring (found_distinct found)) tags
           (around_of_routers (StepsIn net old new state a) ring (found_goes_round found));
     }
-  where
-    some_turn : (turns : List Turn) (u : ℕ) (others : List ℕ) → routers_of turns ≡ u ∷ others → 0 < length turns
-    some_turn [] u others begins = cc
-    some_turn (t ∷ turns) u others begins = omega arith

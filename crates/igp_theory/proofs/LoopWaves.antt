@@ -10,11 +10,11 @@ use Rattle.order_core.specs.declared.turn.Tag.{Tag}
 use Rattle.order_core.specs.declared.turn.Tag.TheVariants as tag
 use Rattle.order_core.specs.declared.turn.Turn.{Turn}
 use Rattle.igp_theory.specs.Forwarding.{Steps}
-use Rattle.igp_theory.specs.LoopLaws.{AgreesWithTags, AreSoundEnds, IsLoopOfState, ArisesInWave, StandsRoundWave, PutsSomeOldFirst, PutsSomeOldFirstInEach}
-use Rattle.igp_theory.specs.Loops.{IsTagOf, IsTag, EachToNext, AroundRing, IsLoop, Arises}
+use Rattle.igp_theory.specs.LoopLaws.{AgreesWithTags, AreSoundEnds, IsLoopOfState, ArisesInWave, StandsRoundWave, PutsSomeOldFirst, PutsSomeOldFirstInEach, IsLoopOfWave}
+use Rattle.igp_theory.specs.Loops.{IsTagOf, IsTag, EachToNext, AroundRing, IsLoop, Arises, Fault, loop}
 use Rattle.igp_theory.specs.Routes.{Tables}
 use Rattle.igp_theory.specs.States.{State, StepsIn, Follows, IsSoundAt, IsSound}
-use Rattle.igp_theory.specs.WaveFaults.{StepsInSome, IsUnsoundInSome}
+use Rattle.igp_theory.specs.WaveFaults.{StepsInSome, IsUnsoundInSome, IsFaultOver, missing_in_one, loop_over_all, IsWavesFault}
 use Rattle.igp_theory.specs.WaveLaws.{IsStateOfSomeWave}
 use Rattle.igp_theory.specs.Waves.{IsWavesState, AreSeamlessWaves, IsStateOfWave}
 use Rattle.igp_theory.specs.declared.phase.Phase.{Phase}
@@ -24,7 +24,7 @@ use Rattle.igp_theory.proofs.FlatOrders.{wave_state_is_reached}
 use Rattle.igp_theory.proofs.ForwardingLaws.{every_phase_steps}
 use Rattle.igp_theory.proofs.LoopLaws.{TurnOf, old_turn, new_turn, old_or_new_step, tag_inside, loop_arises_by_tags, arising_is_unsound, old_is_early, new_is_late, ring_between_ends}
 use Rattle.igp_theory.proofs.OrderedLists.{contains_none, contains_here, contains_there, contains_cases, pairs_first, pairs_rest}
-use Rattle.igp_theory.proofs.Rings.{each_inside, ring_returns, around_at, StepRing, ring_of_return, around_of_routers, turns_distinct, one_turn}
+use Rattle.igp_theory.proofs.Rings.{each_inside, ring_returns, around_at, StepRing, ring_of_return, around_of_routers, turns_distinct, one_turn, some_turn, found_goes_round, found_distinct}
 use Rattle.igp_theory.proofs.WaveStates.{state_of_wave}
 
 -- Where a loop arises
@@ -287,7 +287,7 @@ ring_breaks : (net : Network) (old new : Tables) (ranks : List ℕ) (w : ℕ) (s
     PutsSomeOldFirstInEach net old new ranks → IsStateOfWave (length net) ranks w state → AreDistinct (u ∷ rest) →
     AroundRing (StepsIn net old new state a) (u ∷ rest) → TaggedRing net old new a (u ∷ rest) → ⊥
 ring_breaks net old new ranks w state a u rest ends address puts of_wave distinct goes tagged =
-    let some : 0 < length tagged.ring = some_turn tagged.ring tagged.same in
+    let some : 0 < length tagged.ring = some_turn tagged.ring u rest tagged.same in
     let arises : Arises net old new state a tagged.ring = around_of_routers (StepsIn net old new state a) tagged.ring
     (subst (AroundRing (StepsIn net old new state a)) (sym tagged.same) goes) in
     let is : IsLoopOfState net old new state a tagged.ring = ring_between_ends net old new state a tagged.ring ends address some
@@ -298,10 +298,6 @@ ring_breaks net old new ranks w state a u rest ends address puts of_wave distinc
     let from = round.old first.old first.is_old in
     let before = first.before in
     omega (arith, upto, from, before)
-  where
-    some_turn : (ring : List Turn) → routers_of ring ≡ u ∷ rest → 0 < length ring
-    some_turn [] same = cc
-    some_turn (t ∷ ring) same = omega arith
 
 wave_is_sound : (net : Network) (old new : Tables) (ranks : List ℕ) (w : ℕ) (state : State) → AreSoundEnds net old new →
     PutsSomeOldFirstInEach net old new ranks → IsStateOfWave (length net) ranks w state → IsSound net old new state
@@ -400,3 +396,37 @@ seamless_by_waves net old new ranks waves sound = record {
     | inl some ↦ sound state (state_of_wave (length net) ranks state some waves is)
   ];
 }
+
+-- The fault of a wave between sound ends
+
+-- a ring over every hop of a wave's states, with its tags, is a loop of the wave
+ring_of_wave : (net : Network) (old new : Tables) (ranks : List ℕ) (w a : ℕ) (ring : List Turn) (u : ℕ) (rest : List ℕ) → AreSoundEnds net old new → a < 2 ^ 32 →
+    routers_of ring ≡ u ∷ rest → AreDistinct (routers_of ring) → AroundRing (λ (r s : Turn). IsTag net old new a r s.router) ring →
+    AroundRing (StepsInSome net old new (IsStateOfWave (length net) ranks w) a) (routers_of ring) → IsLoopOfWave net old new ranks w (loop a ring)
+ring_of_wave net old new ranks w a ring u rest ends address begins distinct tags goes =
+    let there : WaveSteps net old new ranks w a u (u ∷ rest) = wave_steps net old new ranks w a u (u ∷ rest) (subst AreDistinct begins distinct)
+    (subst (AroundRing (StepsInSome net old new (IsStateOfWave (length net) ranks w) a)) begins goes) in
+    let arises : Arises net old new there.state a ring = around_of_routers (StepsIn net old new there.state a) ring
+    (subst (AroundRing (StepsIn net old new there.state a)) (sym begins) there.goes) in
+    let is : IsLoopOfState net old new there.state a ring =
+    ring_between_ends net old new there.state a ring ends address (some_turn ring u rest begins) (turns_distinct ring distinct) tags arises in
+    record {
+      address = a;
+      ring = ring;
+      is = refl;
+      is_loop = is.is_loop;
+      both = is.both;
+      arises = record { state = there.state; of_wave = there.of_wave; arises = arises };
+      round = stands_round net old new ranks w there.state a ring tags there.of_wave arises;
+    }
+
+fault_of_wave : (net : Network) (old new : Tables) (ranks : List ℕ) (w : ℕ) (fault : Fault) → AreSoundEnds net old new →
+    IsFaultOver net old new (IsStateOfWave (length net) ranks w) fault → IsLoopOfWave net old new ranks w fault
+fault_of_wave net old new ranks w fault ends (missing_in_one {a = a} {u = u} least lacks lowest) =
+    absurd (lacks.lacks (every_phase_steps ((ends.first a least.address).forwards u lacks.must) ((ends.last a least.address).forwards u lacks.must) (lacks.state u)))
+fault_of_wave net old new ranks w fault ends (loop_over_all {a = a} {ring = ring} least forwards found tags) =
+    ring_of_wave net old new ranks w a ring found.lowest found.others ends least.address found.first (found_distinct found) tags (found_goes_round found)
+
+pub wave_fault_between_ends : (net : Network) (old new : Tables) (ranks : List ℕ) (w : ℕ) (fault : Fault) → AreSoundEnds net old new →
+    IsWavesFault net old new ranks w fault → IsLoopOfWave net old new ranks w fault
+wave_fault_between_ends net old new ranks w fault ends is = fault_of_wave net old new ranks w fault ends is.here

@@ -181,6 +181,10 @@ pub around_of_routers : (step : ℕ → ℕ → Type 0) (ring : List Turn) → A
 around_of_routers step [] goes = tt
 around_of_routers step (r ∷ rest) goes = each_of_routers step r (r ∷ rest) goes
 
+pub some_turn : (ring : List Turn) (u : ℕ) (others : List ℕ) → routers_of ring ≡ u ∷ others → 0 < length ring
+some_turn [] u others begins = cc
+some_turn (t ∷ ring) u others begins = omega arith
+
 routers_contain : (ring : List Turn) (t : Turn) → Contains ring t → Contains (routers_of ring) t.router
 routers_contain [] t inside = absurd (contains_none t inside)
 routers_contain (r ∷ rest) t inside = elim (contains_cases r t rest inside) [

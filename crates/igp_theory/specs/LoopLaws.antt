@@ -7,7 +7,7 @@ use Rattle.order_core.specs.declared.turn.Turn.{Turn}
 use Rattle.igp_theory.specs.Loops.{IsLoop, Arises, Fault, loop, IsFault}
 use Rattle.igp_theory.specs.Routes.{Tables}
 use Rattle.igp_theory.specs.States.{State, Follows, IsSound}
-use Rattle.igp_theory.specs.WaveFaults.{StepsInSome, IsUnsoundInSome}
+use Rattle.igp_theory.specs.WaveFaults.{StepsInSome, IsUnsoundInSome, IsWavesFault}
 use Rattle.igp_theory.specs.Waves.{AreSeamlessWaves, IsStateOfWave}
 use Rattle.igp_theory.specs.declared.phase.Phase.TheVariants.{Old, Middle, New}
 
@@ -108,3 +108,20 @@ abbrev pub WavesAreSeamlessByLoops : Tables → Tables → Type 0
 WavesAreSeamlessByLoops old new =
     (net : Network) (ranks : List ℕ) → AreSoundEnds net old new → IsRanking (length net) ranks →
     AreSeamlessWaves net old new ranks ↔ PutsSomeOldFirstInEach net old new ranks
+
+-- the fault of a wave is a loop of the network with both tags, and no missing step; it arises in a state of
+-- the wave, and stands round it
+pub record IsLoopOfWave (net : Network) (old new : Tables) (ranks : List ℕ) (w : ℕ) (fault : Fault) : Type 0 where
+  pub address : ℕ
+  pub ring : List Turn
+  pub is : fault ≡ loop address ring
+  pub is_loop : IsLoop net old new address ring
+  pub both : HasBothTags ring
+  pub arises : ArisesInWave net old new ranks w address ring
+  pub round : StandsRoundWave ranks w ring
+
+-- between sound ends the fault of a wave list is such a loop
+abbrev pub WaveFaultsBetweenSoundEndsAreLoops : Tables → Tables → Type 0
+WaveFaultsBetweenSoundEndsAreLoops old new =
+    (net : Network) (ranks : List ℕ) (w : ℕ) (fault : Fault) → AreSoundEnds net old new →
+    IsWavesFault net old new ranks w fault → IsLoopOfWave net old new ranks w fault

@@ -1,4 +1,4 @@
-ghost use Rattle.igp_theory.specs.LoopLaws.{LoopsArise, ArisingLoopsAreUnsound, FaultsBetweenSoundEndsAreLoops, LoopsAriseInWaves, ReturnsInWavesAreUnsound, SeamlessWavesPutOldFirst, WavesAreSeamlessByLoops};
+ghost use Rattle.igp_theory.specs.LoopLaws.{LoopsArise, ArisingLoopsAreUnsound, FaultsBetweenSoundEndsAreLoops, LoopsAriseInWaves, ReturnsInWavesAreUnsound, WaveFaultsBetweenSoundEndsAreLoops, SeamlessWavesPutOldFirst, WavesAreSeamlessByLoops};
 
 use crate::tables::TablePair;
 
@@ -9,12 +9,13 @@ pub fn loops_arise<T: TablePair>()
     ensures unsound { ArisingLoopsAreUnsound T.old T.new }
 {}
 
-/// The law that between sound ends the fault of an unsound state is a loop that arises there, with a turn
-/// tagged `Old` and one tagged `New`.
+/// The law that between sound ends faults are loops with a turn tagged `Old` and one tagged `New`.
 ///
-/// A missing step and a loop of one tag are impossible there.
+/// The fault of an unsound state is such a loop that arises there, that of a wave list one that arises in a
+/// state of its wave. A missing step and a loop of one tag are impossible there.
 pub fn faults_between_sound_ends_are_loops<T: TablePair>()
-    ensures { FaultsBetweenSoundEndsAreLoops T.old T.new }
+    ensures state { FaultsBetweenSoundEndsAreLoops T.old T.new }
+    ensures waves { WaveFaultsBetweenSoundEndsAreLoops T.old T.new }
 {}
 
 /// The law of the waves in which loops arise.
