@@ -1,5 +1,5 @@
 -- States that give each router of the network one phase are sound alike.
-use Rattle.std.proofs.Common.{◌≡◌, ℕ, ◌<◌, List, ◌∷◌, length, sym, subst}
+use Rattle.std.proofs.Common.{◌≡◌, ℕ, ◌<◌, ◌∷◌, length, sym, subst}
 use Rattle.net_model.specs.Network.{Network}
 use Rattle.igp_theory.specs.Forwarding.{Steps, HasStep}
 use Rattle.igp_theory.specs.Routes.{Tables}

@@ -1,5 +1,5 @@
 -- What sound means: lists of steps are short, and lead on until an originator is reached.
-use Rattle.std.proofs.Common.{Option, Some, None, IsTrue, ap, ◌∙◌, ◌≡◌, ◌≢◌, ℕ, ◌^◌, ◌<◌, ◌≤◌, ◌⊎◌, inl, inr, List, [], ◌∷◌, length, Contains, arith, refl, sym, subst}
+use Rattle.std.proofs.Common.{Option, Some, None, IsTrue, ap, ◌∙◌, ◌≡◌, ◌≢◌, ℕ, ◌^◌, ◌<◌, ◌≤◌, ◌⊎◌, inl, inr, List, [], ◌∷◌, length, Contains, arith, sym, subst}
 use Rattle.std.specs.List.{AllPairs}
 use Rattle.std.proofs.lemmas.Bool.{cases_eq, cases_Bool, eqb-true, false≢true}
 use Rattle.std.proofs.lemmas.Bool.Decides.{Decides-eqb}
@@ -10,9 +10,9 @@ use Rattle.std.proofs.lemmas.Option.{same_Some, slice_get_within, slice_get_case
 use Rattle.net_addr.specs.Addresses.{Block}
 use Rattle.net_model.specs.Configuration.{Configuration}
 use Rattle.net_model.specs.declared.interface.Interface.{Interface}
-use Rattle.net_model.specs.Network.{Network, UpInterface, Connected, Adjacent}
+use Rattle.net_model.specs.Network.{Network, UpInterface, Connected}
 use Rattle.route_core.specs.declared.entry.Entry.{Entry}
-use Rattle.igp_theory.specs.Forwarding.{Usable, Counts, connected_counts, old_counts, new_counts, LeadsTo, IsTarget, MustForward, Steps, HasStep}
+use Rattle.igp_theory.specs.Forwarding.{Usable, Counts, connected_counts, old_counts, new_counts, LeadsTo, IsTarget, Steps}
 use Rattle.igp_theory.specs.Isis.{IsisEntry}
 use Rattle.igp_theory.specs.Laws.{IsOspfNeighbor, IsIsisNeighbor}
 use Rattle.igp_theory.specs.Ospf.{OspfEntry}

@@ -1,9 +1,7 @@
 -- The flat order of a wave list, and its run.
-use Rattle.std.proofs.Common.{◌≡◌, ◌≢◌, ℕ, zero, suc, ◌+◌, ◌<◌, ◌≤◌, inl, inr, ◌==◌, Bool, true, false, cond, max, List, [], ◌∷◌, ◌++◌, length, map, take, filter, get_or, Contains, arith, refl, sym, ap, ◌∙◌, subst}
-use Rattle.std.specs.List.{AllPairs, flat_map, range_with_len}
-use Rattle.std.proofs.lemmas.Bool.{cases_lt, cases_eq, eqb-true, eq-eqb, false≢true}
+use Rattle.std.proofs.Common.{◌≡◌, ℕ, inl, inr, List, [], ◌∷◌, length, map, take, Contains, arith, refl, sym, ap, ◌∙◌, subst}
+use Rattle.std.specs.List.{AllPairs}
 use Rattle.std.proofs.lemmas.List.{take-map}
-use Rattle.std.proofs.lemmas.List.Elements.{Contains-get_or, Contains-append_left, Contains-append_right, Contains-append_cases}
 use Rattle.net_model.specs.Network.{Network}
 use Rattle.order_core.specs.Orders.{IsOrder}
 use Rattle.order_core.specs.Rankings.{IsRanking, rank_of, wave_count, flat_of, ComesBefore}
@@ -11,8 +9,8 @@ use Rattle.order_core.proofs.WaveLists.{flat_is_order, waves_by_rank}
 use Rattle.igp_theory.specs.Routes.{Tables}
 use Rattle.igp_theory.specs.States.{State, IsSeamless, changes_of, changes_on, phase_after, state_of}
 use Rattle.igp_theory.specs.WaveLaws.{IsStateOfSomeWave}
-use Rattle.igp_theory.specs.Waves.{Change, first, second, changed, MayPrecede, IsRun, IsWavesState, AreSeamlessWaves, run_along, state_after}
-use Rattle.igp_theory.proofs.OrderedLists.{contains_none, contains_here, contains_there, contains_cases, pairs_none, pairs_more, pairs_first, pairs_rest, pairs_append, pairs_weaker}
+use Rattle.igp_theory.specs.Waves.{Change, first, second, changed, IsRun, IsWavesState, AreSeamlessWaves, run_along, state_after}
+use Rattle.igp_theory.proofs.OrderedLists.{contains_here, contains_there, pairs_weaker}
 use Rattle.igp_theory.proofs.WaveStates.{InWaveOrder, own_inside, inside_whole, in_turn_along, both_are_own, both_in_turn, wave_is_reached}
 
 -- The run along an order of waves

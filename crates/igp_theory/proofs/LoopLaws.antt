@@ -1,14 +1,14 @@
 -- Loops state by state: where they arise, and that an unsound state between sound ends has one with both tags.
-use Rattle.std.proofs.Common.{◌≡◌, ◌≢◌, ℕ, zero, suc, ◌^◌, ◌<◌, ◌≤◌, ◌⊎◌, inl, inr, Bool, true, false, cond, List, [], ◌∷◌, length, map, filter, Contains, AllPairs, refl, sym, ap, ◌∙◌, subst, arith}
+use Rattle.std.proofs.Common.{◌≡◌, ◌≢◌, ℕ, ◌^◌, ◌<◌, ◌≤◌, ◌⊎◌, inl, inr, Bool, true, false, cond, List, [], ◌∷◌, length, filter, Contains, AllPairs, refl, sym, ap, ◌∙◌, subst, arith}
 use Rattle.std.proofs.lemmas.Bool.{cases_lt, false≢true}
 use Rattle.net_model.specs.Network.{Network}
-use Rattle.order_core.specs.Turns.{is_old, is_new, routers_of, old_routers, new_routers, HasBothTags}
+use Rattle.order_core.specs.Turns.{is_old, is_new, routers_of, old_routers, new_routers}
 use Rattle.order_core.specs.declared.turn.Tag.{Tag}
 use Rattle.order_core.specs.declared.turn.Tag.TheVariants as tag
 use Rattle.order_core.specs.declared.turn.Turn.{Turn}
-use Rattle.igp_theory.specs.Forwarding.{LeadsTo, Uses, Steps, HasStep}
+use Rattle.igp_theory.specs.Forwarding.{Steps}
 use Rattle.igp_theory.specs.LoopLaws.{AgreesWithTags, AreSoundEnds, IsLoopOfState, IsLoopFault}
-use Rattle.igp_theory.specs.Loops.{IsTagOf, IsTag, AroundRing, IsLoop, Arises, Fault, loop, IsFault, missing_step, loop_arises, IsFoundRing}
+use Rattle.igp_theory.specs.Loops.{IsTagOf, IsTag, AroundRing, IsLoop, Arises, Fault, IsFault, missing_step, loop_arises}
 use Rattle.igp_theory.specs.Routes.{Tables}
 use Rattle.igp_theory.specs.States.{State, StepsIn, IsSoundAt, IsSound}
 use Rattle.igp_theory.specs.declared.phase.Phase.{Phase}

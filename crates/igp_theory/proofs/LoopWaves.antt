@@ -1,11 +1,11 @@
 -- Loops wave by wave: in which waves they arise, and that they say which wave lists are seamless.
-use Rattle.std.proofs.Common.{◌≡◌, ◌≢◌, ℕ, zero, suc, ◌^◌, ◌<◌, ◌≤◌, ◌⊎◌, inl, inr, List, [], ◌∷◌, length, get_or, Contains, AllPairs, refl, sym, ap, ◌∙◌, subst, arith}
+use Rattle.std.proofs.Common.{◌≡◌, ◌≢◌, ℕ, ◌^◌, ◌<◌, ◌≤◌, ◌⊎◌, inl, inr, List, [], ◌∷◌, length, Contains, AllPairs, refl, sym, ap, ◌∙◌, subst, arith}
 use Rattle.std.proofs.lemmas.Bool.{cases_lt, cases_eq}
 use Rattle.std.proofs.lemmas.List.Elements.{Contains-get_or}
 use Rattle.net_model.specs.Network.{Network}
 use Rattle.order_core.specs.Orders.{AreDistinct}
 use Rattle.order_core.specs.Rankings.{IsRanking, rank_of}
-use Rattle.order_core.specs.Turns.{routers_of, old_routers, new_routers, HasBothTags}
+use Rattle.order_core.specs.Turns.{routers_of, old_routers, new_routers}
 use Rattle.order_core.specs.declared.turn.Tag.{Tag}
 use Rattle.order_core.specs.declared.turn.Tag.TheVariants as tag
 use Rattle.order_core.specs.declared.turn.Turn.{Turn}
@@ -13,7 +13,7 @@ use Rattle.igp_theory.specs.Forwarding.{Steps}
 use Rattle.igp_theory.specs.LoopLaws.{AgreesWithTags, AreSoundEnds, IsLoopOfState, ArisesInWave, StandsRoundWave, PutsSomeOldFirst, PutsSomeOldFirstInEach, IsLoopOfWave}
 use Rattle.igp_theory.specs.Loops.{IsTagOf, IsTag, EachToNext, AroundRing, IsLoop, Arises, Fault, loop}
 use Rattle.igp_theory.specs.Routes.{Tables}
-use Rattle.igp_theory.specs.States.{State, StepsIn, Follows, IsSoundAt, IsSound}
+use Rattle.igp_theory.specs.States.{State, StepsIn, Follows, IsSound}
 use Rattle.igp_theory.specs.WaveFaults.{StepsInSome, IsUnsoundInSome, IsFaultOver, missing_in_one, loop_over_all, IsWavesFault}
 use Rattle.igp_theory.specs.WaveLaws.{IsStateOfSomeWave}
 use Rattle.igp_theory.specs.Waves.{IsWavesState, AreSeamlessWaves, IsStateOfWave}
@@ -22,7 +22,7 @@ use Rattle.igp_theory.specs.declared.phase.Phase.TheVariants.{Old, Middle, New}
 use Rattle.igp_theory.proofs.Delivery.{contains_or_not}
 use Rattle.igp_theory.proofs.FlatOrders.{wave_state_is_reached}
 use Rattle.igp_theory.proofs.ForwardingLaws.{every_phase_steps}
-use Rattle.igp_theory.proofs.LoopLaws.{TurnOf, old_turn, new_turn, old_or_new_step, tag_inside, loop_arises_by_tags, arising_is_unsound, old_is_early, new_is_late, ring_between_ends}
+use Rattle.igp_theory.proofs.LoopLaws.{old_turn, new_turn, old_or_new_step, tag_inside, loop_arises_by_tags, arising_is_unsound, old_is_early, new_is_late, ring_between_ends}
 use Rattle.igp_theory.proofs.OrderedLists.{contains_none, contains_here, contains_there, contains_cases, pairs_first, pairs_rest}
 use Rattle.igp_theory.proofs.Rings.{each_inside, ring_returns, around_at, StepRing, ring_of_return, around_of_routers, turns_distinct, one_turn, some_turn, found_goes_round, found_distinct}
 use Rattle.igp_theory.proofs.WaveStates.{state_of_wave}
@@ -365,9 +365,9 @@ wave_steps net old new ranks w a first (u ∷ v ∷ rest) distinct goes =
       goes = (
         subst (λ (phase : Phase). Steps net old new u phase a v) (sym (pick_first (cases_eq u u) (goes.0.state u) (others.state u) (λ apart. apart refl))) goes.0.steps,
         each_inside (StepsIn net old new others.state a) (StepsIn net old new state a) first (v ∷ rest)
-        (λ x y inside steps. subst (λ (phase : Phase). Steps net old new x phase a y)
-        (sym (pick_second (cases_eq x u) (goes.0.state u) (others.state x) (λ same. pairs_first (λ p q. p ≢ q) u (v ∷ rest) distinct x inside (sym same)))) steps)
-        others.goes,
+            (λ x y inside steps. subst (λ (phase : Phase). Steps net old new x phase a y)
+            (sym (pick_second (cases_eq x u) (goes.0.state u) (others.state x) (λ same. pairs_first (λ p q. p ≢ q) u (v ∷ rest) distinct x inside (sym same)))) steps)
+            others.goes,
       );
     }
 

@@ -1,10 +1,10 @@
 -- A router in Middle does what it does in Old, or what it does in New.
-use Rattle.std.proofs.Common.{◌≡◌, ◌≢◌, ℕ, ◌<◌, ◌≤◌, ◌⊎◌, inl, inr, List, length, get_or, arith, refl, sym, ap, ◌∙◌, subst, Some, slice_get}
-use Rattle.std.proofs.lemmas.Bool.{cases_lt, cases_order}
+use Rattle.std.proofs.Common.{◌≡◌, ◌≢◌, ℕ, ◌<◌, ◌≤◌, ◌⊎◌, inl, inr, List, length, arith, refl, sym, ◌∙◌}
+use Rattle.std.proofs.lemmas.Bool.{cases_order}
 use Rattle.std.proofs.lemmas.List.Elements.{All-contains}
 use Rattle.std.proofs.lemmas.Option.{get_or_from_slice_get, slice_get_cases, slice_get_within}
 use Rattle.net_addr.specs.Addresses.{Block, ContainsAddress}
-use Rattle.net_model.specs.Configuration.{Configuration, IsConfiguration, AreDistances}
+use Rattle.net_model.specs.Configuration.{Configuration, IsConfiguration}
 use Rattle.net_model.specs.Network.{Network, HasConfiguration}
 use Rattle.net_model.specs.Refusals.{IsNetwork}
 use Rattle.route_core.specs.Tables.{HasEntry}
@@ -14,7 +14,7 @@ use Rattle.igp_theory.specs.MiddleLaws.{MiddleActsAsIn}
 use Rattle.igp_theory.specs.Routes.{Tables}
 use Rattle.igp_theory.specs.declared.phase.Phase.{Phase}
 use Rattle.igp_theory.specs.declared.phase.Phase.TheVariants.{Old, Middle, New}
-use Rattle.igp_theory.proofs.BestCounted.{Place, UsesOrNone, one, nothing, uses_or_none}
+use Rattle.igp_theory.proofs.BestCounted.{Place, one, nothing, uses_or_none}
 use Rattle.igp_theory.proofs.ForwardingLaws.{old_in_middle, new_in_middle, middle_counts, old_wins, new_wins}
 
 -- what is used in Middle and counts in Old is used in Old

@@ -1,13 +1,12 @@
 -- An order as a wave list of ones: it has its ranks, and one run.
-use Rattle.std.proofs.Common.{◌≡◌, ◌≢◌, ℕ, zero, suc, ◌+◌, ◌<◌, ◌≤◌, ◌⊎◌, inl, inr, ◌==◌, if◌then◌else◌, Bool, true, false, List, [], ◌∷◌, length, map, get_or, Contains, refl, sym, ap, ◌∙◌, subst, arith}
+use Rattle.std.proofs.Common.{◌≡◌, ◌≢◌, ℕ, zero, suc, ◌+◌, ◌<◌, ◌⊎◌, inl, inr, ◌==◌, if◌then◌else◌, Bool, List, [], ◌∷◌, length, map, get_or, Contains, refl, sym, ap, ◌∙◌, subst, arith}
 use Rattle.std.specs.List.{AllPairs}
-use Rattle.std.proofs.lemmas.Bool.{cases_eq}
 use Rattle.std.proofs.lemmas.Bool.Decides.{eqb_tells}
-use Rattle.std.proofs.lemmas.List.{get_or-map, get_or_default, length-map}
+use Rattle.std.proofs.lemmas.List.{get_or-map, length-map}
 use Rattle.std.proofs.lemmas.List.Elements.{Contains-get_or}
 use Rattle.std.proofs.lemmas.List.FromFn.{get_or-range_with_len, length-range_with_len}
 use Rattle.order_core.specs.Orders.{IsOrder}
-use Rattle.order_core.specs.Rankings.{IsRanking, rank_of, numbers_below}
+use Rattle.order_core.specs.Rankings.{IsRanking, numbers_below}
 use Rattle.order_core.proofs.Orders.{order_length}
 use Rattle.igp_theory.specs.Waves.{Change, first, second, changed, MayPrecede, IsRun, AreOnes, run_along}
 use Rattle.igp_theory.proofs.FlatOrders.{along_is_run}

@@ -1,21 +1,17 @@
 -- An order is a wave list of ones: its states are those of the order.
-use Rattle.std.proofs.Common.{◌≡◌, ◌≢◌, ℕ, zero, suc, ◌+◌, ◌-◌, ◌*◌, ◌<◌, ◌≤◌, ◌⊎◌, inl, inr, ◌==◌, if◌then◌else◌, Bool, true, false, List, [], ◌∷◌, length, take, min, get_or, Contains, eqb, arith, refl, sym, ap, ◌∙◌, subst}
-use Rattle.std.specs.Cmp.{nat_eq_equiv}
+use Rattle.std.proofs.Common.{◌≡◌, ◌≢◌, ℕ, zero, suc, ◌+◌, ◌-◌, ◌*◌, ◌<◌, ◌≤◌, inl, inr, ◌==◌, if◌then◌else◌, Bool, List, [], ◌∷◌, length, take, min, get_or, Contains, arith, refl, sym, ap, ◌∙◌, subst}
 use Rattle.std.specs.List.{AllPairs}
-use Rattle.std.proofs.lemmas.Bool.{cases_lt, cases_order, eqb-true}
-use Rattle.std.proofs.lemmas.Bool.Decides.{eqb_tells, Decides-eqb}
+use Rattle.std.proofs.lemmas.Bool.{cases_lt, cases_order}
+use Rattle.std.proofs.lemmas.Bool.Decides.{eqb_tells}
 use Rattle.std.proofs.lemmas.List.{get_or_default}
 use Rattle.std.proofs.lemmas.List.Elements.{Contains-get_or}
-use Rattle.std.proofs.lemmas.Map.Made.{IsDistinct-from_AllPairs}
-use Rattle.std.proofs.lemmas.Map.Steps.{length-le_from_distinct_below, le-length_from_below}
-use Rattle.std.proofs.lemmas.Map.Views.{Contains-from_any, list_any-from_Contains}
 use Rattle.net_model.specs.Network.{Network}
 use Rattle.order_core.specs.Orders.{IsOrder}
 use Rattle.order_core.specs.Rankings.{IsRanking, rank_of}
 use Rattle.order_core.proofs.Orders.{order_length}
 use Rattle.igp_theory.specs.Routes.{Tables}
-use Rattle.igp_theory.specs.States.{State, IsSound, IsSeamless, changes_of, changes_on, phase_after, state_of}
-use Rattle.igp_theory.specs.Waves.{IsWavesState, AreSeamlessWaves, IsStateOfWave, AreOnes}
+use Rattle.igp_theory.specs.States.{State, IsSeamless, changes_of, changes_on, phase_after, state_of}
+use Rattle.igp_theory.specs.Waves.{AreSeamlessWaves, IsStateOfWave, AreOnes}
 use Rattle.igp_theory.specs.WaveLaws.{IsStateOfSomeWave}
 use Rattle.igp_theory.specs.declared.phase.Phase.{Phase}
 use Rattle.igp_theory.specs.declared.phase.Phase.TheVariants.{Old, Middle, New}

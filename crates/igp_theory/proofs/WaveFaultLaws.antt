@@ -1,16 +1,15 @@
 -- The faults of waves: there is one, a wave list that has one isn't seamless, and tables with the same entries have the same.
-use Rattle.std.proofs.Common.{◌≡◌, ℕ, ◌^◌, ◌<◌, ◌≤◌, ◌↔◌, inl, inr, List, length, Contains, refl, sym, ap, ◌∙◌, subst, arith}
+use Rattle.std.proofs.Common.{◌≡◌, ℕ, ◌^◌, ◌<◌, inl, inr, List, length, refl, sym, subst}
 use Rattle.std.proofs.lemmas.Bool.{cases_order}
 use Rattle.net_addr.specs.Addresses.{Block}
 use Rattle.net_model.specs.Network.{Network}
-use Rattle.order_core.specs.Rankings.{IsRanking}
 use Rattle.order_core.specs.Turns.{routers_of}
 use Rattle.order_core.specs.declared.turn.Turn.{Turn}
 use Rattle.igp_theory.specs.Forwarding.{MustForward, HasStep}
 use Rattle.igp_theory.specs.Laws.{HaveSameTables}
-use Rattle.igp_theory.specs.Loops.{IsFoundRing, Fault, loop, missing, IsFault, missing_step, loop_arises}
+use Rattle.igp_theory.specs.Loops.{IsFoundRing, Fault, loop, IsFault, missing_step, loop_arises}
 use Rattle.igp_theory.specs.Routes.{Tables}
-use Rattle.igp_theory.specs.States.{State, StepsIn, Follows, IsSoundAt, IsSound}
+use Rattle.igp_theory.specs.States.{State, StepsIn, IsSoundAt, IsSound}
 use Rattle.igp_theory.specs.WaveFaults.{StepsInSome, LacksStep, HasStepsInAll, IsLeastUnsound, IsFaultOver, missing_in_one, loop_over_all, IsWavesFault}
 use Rattle.igp_theory.specs.WaveLaws.{Delivers}
 use Rattle.igp_theory.specs.Waves.{AreSeamlessWaves, IsStateOfWave}

@@ -2,7 +2,6 @@
 use Rattle.std.specs.Prelude.{◌≡◌, ℕ, ◌↔◌, List}
 use Rattle.net_addr.specs.Addresses.{Block}
 use Rattle.net_model.specs.Network.{Network}
-use Rattle.order_core.specs.Rankings.{IsRanking}
 use Rattle.igp_theory.specs.Laws.{HaveSameTables}
 use Rattle.igp_theory.specs.Loops.{Fault, IsFault}
 use Rattle.igp_theory.specs.Routes.{Tables}

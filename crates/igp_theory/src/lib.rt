@@ -30,4 +30,7 @@ pub use tables::TablePair;
 pub use wave_fault_laws::{
     StateSet, faults_over_states_are_unique, same_tables_have_same_waves, wave_faults_are_unique,
 };
-pub use wave_laws::{flat_runs_are_runs, orders_are_waves_of_ones, seamless_waves_are_orders, states_are_those_of_waves, waves_are_seamless_one_by_one};
+pub use wave_laws::{
+    flat_runs_are_runs, orders_are_waves_of_ones, seamless_waves_are_orders,
+    states_are_those_of_waves, waves_are_seamless_one_by_one,
+};

@@ -1,6 +1,5 @@
 use Rattle.igp_theory.proofs.FlatOrders.{wave_state_is_reached}
 use Rattle.igp_theory.proofs.LoopWaves.{seamless_by_waves}
-use Rattle.igp_theory.specs.WaveLaws.{IsStateOfSomeWave}
 use Rattle.igp_theory.proofs.wave_laws.waves_are_seamless_one_by_one.Goals as goal
 
 pub returns : goal.returns
