@@ -9,21 +9,21 @@ use Rattle.igp_theory.specs.declared.phase.Phase.{Phase}
 use Rattle.igp_theory.specs.declared.phase.Phase.TheVariants.{Old, Middle, New}
 
 -- what counts in Old counts in Middle
-old_in_middle : {net : Network} {old new : Tables} {u : ℕ} {p : Block} {d : ℕ} {x : Usable} →
+pub old_in_middle : {net : Network} {old new : Tables} {u : ℕ} {p : Block} {d : ℕ} {x : Usable} →
     Counts net old new u Old p d x → Counts net old new u Middle p d x
 old_in_middle (connected_counts h) = connected_counts h
 old_in_middle (old_counts _ c has is set entry) = old_counts tt c has is set entry
 old_in_middle (new_counts counts entry) = absurd counts
 
 -- what counts in New counts in Middle
-new_in_middle : {net : Network} {old new : Tables} {u : ℕ} {p : Block} {d : ℕ} {x : Usable} →
+pub new_in_middle : {net : Network} {old new : Tables} {u : ℕ} {p : Block} {d : ℕ} {x : Usable} →
     Counts net old new u New p d x → Counts net old new u Middle p d x
 new_in_middle (connected_counts h) = connected_counts h
 new_in_middle (old_counts counts c has is set entry) = absurd counts
 new_in_middle (new_counts _ entry) = new_counts tt entry
 
 -- what counts in Middle counts in Old or in New
-middle_counts : {net : Network} {old new : Tables} {u : ℕ} {p : Block} {d : ℕ} {x : Usable} →
+pub middle_counts : {net : Network} {old new : Tables} {u : ℕ} {p : Block} {d : ℕ} {x : Usable} →
     Counts net old new u Middle p d x → Counts net old new u Old p d x ⊎ Counts net old new u New p d x
 middle_counts (connected_counts h) = inl (connected_counts h)
 middle_counts (old_counts _ c has is set entry) = inl (old_counts tt c has is set entry)
@@ -54,7 +54,7 @@ middle_is_old_or_new {net} {old} {new} {u} {a} {x} uses =
 
 -- what is used in Old is used in Middle, where each entry that counts in New is shorter, or as long
 -- and no closer
-old_wins : {net : Network} {old new : Tables} {u a : ℕ} {x : Usable} (one : Uses net old new u Old a x) →
+pub old_wins : {net : Network} {old new : Tables} {u a : ℕ} {x : Usable} (one : Uses net old new u Old a x) →
     ((q : Block) (d : ℕ) (other : Usable) → Counts net old new u New q d other → ContainsAddress q a → q.len ≤ one.prefix.len) →
     ((q : Block) (d : ℕ) (other : Usable) → Counts net old new u New q d other → ContainsAddress q a → q.len ≡ one.prefix.len → one.distance ≤ d) →
     Uses net old new u Middle a x
@@ -67,7 +67,7 @@ old_wins {net} {old} {new} {u} {a} one shorter farther = record {
   lowest = λ q d other h inside same. elim (middle_counts h) [ inl k ↦ one.lowest q d other k inside same | inr k ↦ farther q d other k inside same ];
 }
 
-new_wins : {net : Network} {old new : Tables} {u a : ℕ} {x : Usable} (one : Uses net old new u New a x) →
+pub new_wins : {net : Network} {old new : Tables} {u a : ℕ} {x : Usable} (one : Uses net old new u New a x) →
     ((q : Block) (d : ℕ) (other : Usable) → Counts net old new u Old q d other → ContainsAddress q a → q.len ≤ one.prefix.len) →
     ((q : Block) (d : ℕ) (other : Usable) → Counts net old new u Old q d other → ContainsAddress q a → q.len ≡ one.prefix.len → one.distance ≤ d) →
     Uses net old new u Middle a x
@@ -81,7 +81,7 @@ new_wins {net} {old} {new} {u} {a} one shorter farther = record {
 }
 
 -- where Old and New both use something, Middle uses one of the two
-middle_uses_one : {net : Network} {old new : Tables} {u a : ℕ} {x y : Usable} →
+pub middle_uses_one : {net : Network} {old new : Tables} {u a : ℕ} {x y : Usable} →
     Uses net old new u Old a x → Uses net old new u New a y →
     Uses net old new u Middle a x ⊎ Uses net old new u Middle a y
 middle_uses_one one two =

@@ -4,3 +4,16 @@ pub mod Tags
 pub mod SameTables
 pub mod FoundRings
 pub mod FaultLaws
+pub mod OrderedLists
+pub mod WaveStates
+pub mod FlatOrders
+pub mod AlikeStates
+pub mod OnesWaves
+pub mod OnesRuns
+pub mod Delivery
+pub mod BestCounted
+pub mod MiddlePhase
+pub mod WaveFaultLaws
+pub mod Rings
+pub mod LoopLaws
+pub mod LoopWaves

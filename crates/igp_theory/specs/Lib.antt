@@ -13,4 +13,10 @@ pub mod Isis
 pub mod Forwarding
 pub mod States
 pub mod Loops
+pub mod Waves
+pub mod WaveFaults
+pub mod WaveLaws
+pub mod WaveFaultLaws
+pub mod LoopLaws
+pub mod MiddleLaws
 pub mod Laws

@@ -1,0 +1,432 @@
+-- Loops wave by wave: in which waves they arise, and that they say which wave lists are seamless.
+use Rattle.std.proofs.Common.{◌≡◌, ◌≢◌, ℕ, ◌^◌, ◌<◌, ◌≤◌, ◌⊎◌, inl, inr, List, [], ◌∷◌, length, Contains, AllPairs, refl, sym, ap, ◌∙◌, subst, arith}
+use Rattle.std.proofs.lemmas.Bool.{cases_lt, cases_eq}
+use Rattle.std.proofs.lemmas.List.Elements.{Contains-get_or}
+use Rattle.net_model.specs.Network.{Network}
+use Rattle.order_core.specs.Orders.{AreDistinct}
+use Rattle.order_core.specs.Rankings.{IsRanking, rank_of}
+use Rattle.order_core.specs.Turns.{routers_of, old_routers, new_routers}
+use Rattle.order_core.specs.declared.turn.Tag.{Tag}
+use Rattle.order_core.specs.declared.turn.Tag.TheVariants as tag
+use Rattle.order_core.specs.declared.turn.Turn.{Turn}
+use Rattle.igp_theory.specs.Forwarding.{Steps}
+use Rattle.igp_theory.specs.LoopLaws.{AgreesWithTags, AreSoundEnds, IsLoopOfState, ArisesInWave, StandsRoundWave, PutsSomeOldFirst, PutsSomeOldFirstInEach, IsLoopOfWave}
+use Rattle.igp_theory.specs.Loops.{IsTagOf, IsTag, EachToNext, AroundRing, IsLoop, Arises, Fault, loop}
+use Rattle.igp_theory.specs.Routes.{Tables}
+use Rattle.igp_theory.specs.States.{State, StepsIn, Follows, IsSound}
+use Rattle.igp_theory.specs.WaveFaults.{StepsInSome, IsUnsoundInSome, IsFaultOver, missing_in_one, loop_over_all, IsWavesFault}
+use Rattle.igp_theory.specs.WaveLaws.{IsStateOfSomeWave}
+use Rattle.igp_theory.specs.Waves.{IsWavesState, AreSeamlessWaves, IsStateOfWave}
+use Rattle.igp_theory.specs.declared.phase.Phase.{Phase}
+use Rattle.igp_theory.specs.declared.phase.Phase.TheVariants.{Old, Middle, New}
+use Rattle.igp_theory.proofs.Delivery.{contains_or_not}
+use Rattle.igp_theory.proofs.FlatOrders.{wave_state_is_reached}
+use Rattle.igp_theory.proofs.ForwardingLaws.{every_phase_steps}
+use Rattle.igp_theory.proofs.LoopLaws.{old_turn, new_turn, old_or_new_step, tag_inside, loop_arises_by_tags, arising_is_unsound, old_is_early, new_is_late, ring_between_ends}
+use Rattle.igp_theory.proofs.OrderedLists.{contains_none, contains_here, contains_there, contains_cases, pairs_first, pairs_rest}
+use Rattle.igp_theory.proofs.Rings.{each_inside, ring_returns, around_at, StepRing, ring_of_return, around_of_routers, turns_distinct, one_turn, some_turn, found_goes_round, found_distinct}
+use Rattle.igp_theory.proofs.WaveStates.{state_of_wave}
+
+-- Where a loop arises
+
+-- each router of a loop is one of the network
+turn_inside : (net : Network) (old new : Tables) (a : ℕ) (ring : List Turn) (t : Turn) → AroundRing (λ (r s : Turn). IsTag net old new a r s.router) ring →
+    Contains ring t → t.router < length net
+turn_inside net old new a ring t tags inside =
+    let at = around_at (λ (r s : Turn). IsTag net old new a r s.router) ring t tags inside in
+    tag_inside net old new t.router a at.0.router t.tag at.1.steps
+
+old_inside : (net : Network) (old new : Tables) (a : ℕ) (ring : List Turn) (u : ℕ) → AroundRing (λ (r s : Turn). IsTag net old new a r s.router) ring →
+    Contains (old_routers ring) u → u < length net
+old_inside net old new a ring u tags inside =
+    let one = old_turn ring u inside in
+    subst (λ (v : ℕ). v < length net) one.router (turn_inside net old new a ring one.turn tags one.among)
+
+new_inside : (net : Network) (old new : Tables) (a : ℕ) (ring : List Turn) (u : ℕ) → AroundRing (λ (r s : Turn). IsTag net old new a r s.router) ring →
+    Contains (new_routers ring) u → u < length net
+new_inside net old new a ring u tags inside =
+    let one = new_turn ring u inside in
+    subst (λ (v : ℕ). v < length net) one.router (turn_inside net old new a ring one.turn tags one.among)
+
+is_not_old : (phase : Phase) → (phase ≡ Middle) ⊎ (phase ≡ New) → phase ≡ Old → ⊥
+is_not_old phase (inl middle) old = let clash : Middle ≡ Old = sym middle ∙ old in cc
+is_not_old phase (inr new) old = let clash : New ≡ Old = sym new ∙ old in cc
+
+is_not_new : (phase : Phase) → (phase ≡ Old) ⊎ (phase ≡ Middle) → phase ≡ New → ⊥
+is_not_new phase (inl old) new = let clash : Old ≡ New = sym old ∙ new in cc
+is_not_new phase (inr middle) new = let clash : Middle ≡ New = sym middle ∙ new in cc
+
+-- a ring that arises in a state of a wave stands round it
+pub stands_round : (net : Network) (old new : Tables) (ranks : List ℕ) (w : ℕ) (state : State) (a : ℕ) (ring : List Turn) →
+    AroundRing (λ (r s : Turn). IsTag net old new a r s.router) ring → IsStateOfWave (length net) ranks w state → Arises net old new state a ring →
+    StandsRoundWave ranks w ring
+stands_round net old new ranks w state a ring tags of_wave arises = record {
+  new = λ u inside. elim (cases_lt w (rank_of ranks u)) [
+    | inr within ↦ within
+    | inl later ↦ absurd (is_not_old (state u) (new_is_late net old new state a ring tags arises u inside)
+        (of_wave.later u (new_inside net old new a ring u tags inside) later))
+  ];
+  old = λ u inside. elim (cases_lt (rank_of ranks u) w) [
+    | inr within ↦ within
+    | inl earlier ↦ absurd (is_not_new (state u) (old_is_early net old new state a ring tags arises u inside)
+        (of_wave.earlier u (old_inside net old new a ring u tags inside) earlier))
+  ];
+}
+
+-- one of two phases, by which of two facts holds
+abbrev pick : {P Q : Type 0} → P ⊎ Q → Phase → Phase → Phase
+pick (inl here) one other = one
+pick (inr there) one other = other
+
+pick_first : {P Q : Type 0} (either : P ⊎ Q) (one other : Phase) → (Q → ⊥) → pick either one other ≡ one
+pick_first (inl here) one other not = refl
+pick_first (inr there) one other not = absurd (not there)
+
+pick_second : {P Q : Type 0} (either : P ⊎ Q) (one other : Phase) → (P → ⊥) → pick either one other ≡ other
+pick_second (inl here) one other not = absurd (not here)
+pick_second (inr there) one other not = refl
+
+pick_same : {P Q : Type 0} (either : P ⊎ Q) (one other phase : Phase) → one ≡ phase → other ≡ phase → pick either one other ≡ phase
+pick_same (inl here) one other phase first second = first
+pick_same (inr there) one other phase first second = second
+
+-- the state of wave w in which a loop arises: in the wave itself its routers tagged New are New, and all others Old
+abbrev state_for : List ℕ → ℕ → List Turn → State
+state_for ranks w ring u =
+    pick (cases_lt (rank_of ranks u) w) New (pick (cases_lt w (rank_of ranks u)) Old (pick (contains_or_not u (new_routers ring)) New Old))
+
+for_is_of_wave : (n : ℕ) (ranks : List ℕ) (w : ℕ) (ring : List Turn) → IsStateOfWave n ranks w (state_for ranks w ring)
+for_is_of_wave n ranks w ring = record {
+  earlier = λ u below before. pick_first (cases_lt (rank_of ranks u) w) New (pick (cases_lt w (rank_of ranks u)) Old (pick (contains_or_not u (new_routers ring)) New Old))
+      (λ late. omega (arith, before, late));
+  later = λ u below after.
+      pick_second (cases_lt (rank_of ranks u) w) New (pick (cases_lt w (rank_of ranks u)) Old (pick (contains_or_not u (new_routers ring)) New Old))
+      (λ early. omega (arith, after, early))
+      ∙ pick_first (cases_lt w (rank_of ranks u)) Old (pick (contains_or_not u (new_routers ring)) New Old) (λ early. omega (arith, after, early));
+}
+
+old_isnt_new : (ring : List Turn) (u : ℕ) → AllPairs (λ (r s : Turn). r.router ≢ s.router) ring → Contains (old_routers ring) u → Contains (new_routers ring) u → ⊥
+old_isnt_new ring u distinct is_old is_new =
+    let one = old_turn ring u is_old in
+    let two = new_turn ring u is_new in
+    let same : one.turn ≡ two.turn = one_turn ring one.turn two.turn distinct one.among two.among (one.router ∙ sym two.router) in
+    let clash : tag.Old ≡ tag.New = sym one.tagged ∙ ap (λ (t : Turn). t.tag) same ∙ two.tagged in
+    cc
+
+for_agrees : (ranks : List ℕ) (w : ℕ) (ring : List Turn) → AllPairs (λ (r s : Turn). r.router ≢ s.router) ring → StandsRoundWave ranks w ring →
+    AgreesWithTags (state_for ranks w ring) ring
+for_agrees ranks w ring distinct round = record {
+  old = λ u inside.
+      let from = round.old u inside in
+      pick_second (cases_lt (rank_of ranks u) w) New (pick (cases_lt w (rank_of ranks u)) Old (pick (contains_or_not u (new_routers ring)) New Old))
+      (λ early. omega (arith, early, from))
+      ∙ pick_same (cases_lt w (rank_of ranks u)) Old (pick (contains_or_not u (new_routers ring)) New Old) Old refl
+      (pick_second (contains_or_not u (new_routers ring)) New Old (λ is_new. old_isnt_new ring u distinct inside is_new));
+  new = λ u inside.
+      let upto = round.new u inside in
+      pick_same (cases_lt (rank_of ranks u) w) New (pick (cases_lt w (rank_of ranks u)) Old (pick (contains_or_not u (new_routers ring)) New Old)) New refl
+      (pick_second (cases_lt w (rank_of ranks u)) Old (pick (contains_or_not u (new_routers ring)) New Old) (λ late. omega (arith, late, upto))
+      ∙ pick_first (contains_or_not u (new_routers ring)) New Old (λ absent. absent inside));
+}
+
+pub arises_in_wave : (net : Network) (old new : Tables) (ranks : List ℕ) (w a : ℕ) (ring : List Turn) → IsLoop net old new a ring →
+    StandsRoundWave ranks w ring → ArisesInWave net old new ranks w a ring
+arises_in_wave net old new ranks w a ring is round = record {
+  state = state_for ranks w ring;
+  of_wave = for_is_of_wave (length net) ranks w ring;
+  arises = loop_arises_by_tags net old new (state_for ranks w ring) a ring is (for_agrees ranks w ring is.distinct round);
+}
+
+-- Seamless wave lists put some router tagged Old first
+
+-- a router of the latest wave
+record IsLatest (ranks routers : List ℕ) (u : ℕ) : Type 0 where
+  among : Contains routers u
+  latest : (v : ℕ) → Contains routers v → rank_of ranks v ≤ rank_of ranks u
+
+latest_router : (ranks : List ℕ) (u : ℕ) (routers : List ℕ) → (v : ℕ) × IsLatest ranks (u ∷ routers) v
+latest_router ranks u [] = (
+  u,
+  record {
+    among = contains_here u [];
+    latest = λ v inside. elim (contains_cases u v [] inside) [
+      | inl same ↦ let e : rank_of ranks u ≡ rank_of ranks v = ap (rank_of ranks) same in omega (arith, e)
+      | inr none ↦ absurd (contains_none v none)
+    ];
+  },
+)
+latest_router ranks u (x ∷ routers) =
+    let rest = latest_router ranks x routers in
+    let among = rest.1.among in
+    elim (cases_lt (rank_of ranks rest.0) (rank_of ranks u)) [
+      | inl later ↦ (
+        u,
+        record {
+          among = contains_here u (x ∷ routers);
+          latest = λ v inside. elim (contains_cases u v (x ∷ routers) inside) [
+            | inl same ↦ let e : rank_of ranks u ≡ rank_of ranks v = ap (rank_of ranks) same in omega (arith, e)
+            | inr there ↦ let k = rest.1.latest v there in omega (arith, k, later)
+          ];
+        },
+      )
+      | inr earlier ↦ (
+        rest.0,
+        record {
+          among = contains_there u rest.0 (x ∷ routers) among;
+          latest = λ v inside. elim (contains_cases u v (x ∷ routers) inside) [
+            | inl same ↦ let e : rank_of ranks u ≡ rank_of ranks v = ap (rank_of ranks) same in omega (arith, e, earlier)
+            | inr there ↦ rest.1.latest v there
+          ];
+        },
+      )
+    ]
+
+latest_of_some : (ranks routers : List ℕ) → 0 < length routers → (v : ℕ) × IsLatest ranks routers v
+latest_of_some ranks [] some = absurd (omega (arith, some))
+latest_of_some ranks (u ∷ routers) some = latest_router ranks u routers
+
+-- a router of an earlier wave than w, or none
+earlier_or_none : (ranks : List ℕ) (w : ℕ) (routers : List ℕ) →
+    ((u : ℕ) × Contains routers u × (rank_of ranks u < w)) ⊎ ((u : ℕ) → Contains routers u → w ≤ rank_of ranks u)
+earlier_or_none ranks w [] = inr (λ u inside. absurd (contains_none u inside))
+earlier_or_none ranks w (x ∷ routers) = elim (cases_lt (rank_of ranks x) w) [
+  | inl earlier ↦ inl (x, contains_here x routers, earlier)
+  | inr late ↦ elim (earlier_or_none ranks w routers) [
+    | inl one ↦ inl (one.0, contains_there x one.0 routers one.1, one.2)
+    | inr none ↦ inr (λ u inside. elim (contains_cases x u routers inside) [
+      | inl same ↦ let e : rank_of ranks x ≡ rank_of ranks u = ap (rank_of ranks) same in omega (arith, e, late)
+      | inr there ↦ none u there
+    ])
+  ]
+]
+
+pub seamless_puts_old_first : (net : Network) (old new : Tables) (ranks : List ℕ) → AreSeamlessWaves net old new ranks → PutsSomeOldFirstInEach net old new ranks
+seamless_puts_old_first net old new ranks seamless a ring is both =
+    let last = latest_of_some ranks (new_routers ring) both.new in
+    let w : ℕ = rank_of ranks last.0 in
+    let within : last.0 < length ranks = let k = new_inside net old new a ring last.0 is.tags last.1.among in omega (arith, k, seamless.waves.each) in
+    elim (earlier_or_none ranks w (old_routers ring)) [
+      | inl one ↦ record { old = one.0; new = last.0; is_old = one.1; is_new = last.1.among; before = one.2 }
+      | inr none ↦
+          let there : ArisesInWave net old new ranks w a ring = arises_in_wave net old new ranks w a ring is (record { new = last.1.latest; old = none }) in
+          let reached : IsWavesState (length net) ranks there.state = wave_state_is_reached (length net) ranks there.state seamless.waves
+          (record { wave = w; is_wave = Contains-get_or ranks last.0 0 within; of_wave = there.of_wave }) in
+          absurd (arising_is_unsound net old new there.state a ring is there.arises (seamless.sound there.state reached))
+    ]
+
+-- Between sound ends that is enough
+
+-- a router that steps to h in some phase has a tag towards it, so what holds for no tag holds not
+tag_towards : {net : Network} {old new : Tables} {u a h : ℕ} → Steps net old new u Old a h ⊎ Steps net old new u New a h →
+    ((t : Tag) → IsTagOf t (Steps net old new u Old a h) (Steps net old new u New a h) → ⊥) → ⊥
+tag_towards (inl one) none = none tag.Old (one, λ two. none tag.Both (one, two))
+tag_towards (inr two) none = none tag.New ((λ one. none tag.Both (one, two)), two)
+
+-- turns of some routers with their tags
+record TaggedTurns (net : Network) (old new : Tables) (a : ℕ) (first : Turn) (routers : List ℕ) : Type 0 where
+  turns : List Turn
+  same : routers_of turns ≡ routers
+  tags : EachToNext (λ (r s : Turn). IsTag net old new a r s.router) first turns
+
+one_more : {net : Network} {old new : Tables} {a : ℕ} (first : Turn) (u v : ℕ) (rest : List ℕ) (t : Tag) →
+    IsTagOf t (Steps net old new u Old a v) (Steps net old new u New a v) → TaggedTurns net old new a first (v ∷ rest) →
+    TaggedTurns net old new a first (u ∷ v ∷ rest)
+one_more {net} {old} {new} {a} first u v rest t is others = more others.turns others.same others.tags
+  where
+    more : (turns : List Turn) → routers_of turns ≡ v ∷ rest → EachToNext (λ (r s : Turn). IsTag net old new a r s.router) first turns →
+        TaggedTurns net old new a first (u ∷ v ∷ rest)
+    more [] same tags = cc
+    more (s ∷ turns) same tags =
+        let next : v ≡ s.router = cc in
+        record {
+          turns = record { router = u; tag = t } ∷ s ∷ turns;
+          same = ap (λ (l : List ℕ). u ∷ l) same;
+          tags = (record { steps = subst (λ (h : ℕ). IsTagOf t (Steps net old new u Old a h) (Steps net old new u New a h)) next is }, tags);
+        }
+
+-- it can't be that the routers have no tags
+tagged_turns : (net : Network) (old new : Tables) (state : State) (a : ℕ) (first : Turn) (routers : List ℕ) →
+    EachToNext (StepsIn net old new state a) first.router routers → (TaggedTurns net old new a first routers → ⊥) → ⊥
+tagged_turns net old new state a first [] goes none = none (record { turns = []; same = refl; tags = tt })
+tagged_turns net old new state a first (u ∷ []) goes none =
+    tag_towards (old_or_new_step (state u) goes) (λ t is. none (record { turns = record { router = u; tag = t } ∷ []; same = refl; tags = record { steps = is } }))
+tagged_turns net old new state a first (u ∷ v ∷ rest) goes none =
+    tag_towards (old_or_new_step (state u) goes.0) (λ t is. tagged_turns net old new state a first (v ∷ rest) goes.1 (λ others. none (one_more first u v rest t is others)))
+
+-- the first element of a ring may be told by its router alone
+other_first : (net : Network) (old new : Tables) (a : ℕ) (first other : Turn) (ring : List Turn) → first.router ≡ other.router →
+    EachToNext (λ (r s : Turn). IsTag net old new a r s.router) first ring → EachToNext (λ (r s : Turn). IsTag net old new a r s.router) other ring
+other_first net old new a first other [] same tags = tt
+other_first net old new a first other (r ∷ []) same tags = subst (λ (h : ℕ). IsTag net old new a r h) same tags
+other_first net old new a first other (r ∷ s ∷ rest) same tags = (tags.0, other_first net old new a first other (s ∷ rest) same tags.1)
+
+-- a ring of turns with their tags, of these routers
+record TaggedRing (net : Network) (old new : Tables) (a : ℕ) (routers : List ℕ) : Type 0 where
+  ring : List Turn
+  same : routers_of ring ≡ routers
+  tags : AroundRing (λ (r s : Turn). IsTag net old new a r s.router) ring
+
+close_ring : {net : Network} {old new : Tables} {a : ℕ} (u : ℕ) (rest : List ℕ) → TaggedTurns net old new a (record { router = u; tag = tag.Both }) (u ∷ rest) →
+    TaggedRing net old new a (u ∷ rest)
+close_ring {net} {old} {new} {a} u rest turns = close turns.turns turns.same turns.tags
+  where
+    close : (ring : List Turn) → routers_of ring ≡ u ∷ rest → EachToNext (λ (r s : Turn). IsTag net old new a r s.router) (record { router = u; tag = tag.Both }) ring →
+        TaggedRing net old new a (u ∷ rest)
+    close [] same tags = cc
+    close (t ∷ ring) same tags =
+        let first : u ≡ t.router = cc in
+        record { ring = t ∷ ring; same = same; tags = other_first net old new a (record { router = u; tag = tag.Both }) t (t ∷ ring) first tags }
+
+tagged_ring : (net : Network) (old new : Tables) (state : State) (a u : ℕ) (rest : List ℕ) → AroundRing (StepsIn net old new state a) (u ∷ rest) →
+    (TaggedRing net old new a (u ∷ rest) → ⊥) → ⊥
+tagged_ring net old new state a u rest goes none =
+    tagged_turns net old new state a (record { router = u; tag = tag.Both }) (u ∷ rest) goes (λ turns. none (close_ring u rest turns))
+
+-- what a ring between sound ends in a state of a wave would say of the wave list
+ring_breaks : (net : Network) (old new : Tables) (ranks : List ℕ) (w : ℕ) (state : State) (a u : ℕ) (rest : List ℕ) → AreSoundEnds net old new → a < 2 ^ 32 →
+    PutsSomeOldFirstInEach net old new ranks → IsStateOfWave (length net) ranks w state → AreDistinct (u ∷ rest) →
+    AroundRing (StepsIn net old new state a) (u ∷ rest) → TaggedRing net old new a (u ∷ rest) → ⊥
+ring_breaks net old new ranks w state a u rest ends address puts of_wave distinct goes tagged =
+    let some : 0 < length tagged.ring = some_turn tagged.ring u rest tagged.same in
+    let arises : Arises net old new state a tagged.ring = around_of_routers (StepsIn net old new state a) tagged.ring
+    (subst (AroundRing (StepsIn net old new state a)) (sym tagged.same) goes) in
+    let is : IsLoopOfState net old new state a tagged.ring = ring_between_ends net old new state a tagged.ring ends address some
+    (turns_distinct tagged.ring (subst AreDistinct (sym tagged.same) distinct)) tagged.tags arises in
+    let first : PutsSomeOldFirst ranks tagged.ring = puts a tagged.ring is.is_loop is.both in
+    let round : StandsRoundWave ranks w tagged.ring = stands_round net old new ranks w state a tagged.ring tagged.tags of_wave arises in
+    let upto = round.new first.new first.is_new in
+    let from = round.old first.old first.is_old in
+    let before = first.before in
+    omega (arith, upto, from, before)
+
+wave_is_sound : (net : Network) (old new : Tables) (ranks : List ℕ) (w : ℕ) (state : State) → AreSoundEnds net old new →
+    PutsSomeOldFirstInEach net old new ranks → IsStateOfWave (length net) ranks w state → IsSound net old new state
+wave_is_sound net old new ranks w state ends puts of_wave a address = record {
+  forwards = λ u must. every_phase_steps ((ends.first a address).forwards u must) ((ends.last a address).forwards u must) (state u);
+  returns_never = λ u h hops follows.
+      let ring : StepRing (StepsIn net old new state a) = ring_of_return (StepsIn net old new state a) u h hops follows in
+      tagged_ring net old new state a ring.first ring.others ring.goes
+      (ring_breaks net old new ranks w state a ring.first ring.others ends address puts of_wave ring.distinct ring.goes);
+}
+
+-- a network without a router has sound states alone
+empty_is_sound : (net : Network) (old new : Tables) (state : State) → length net ≤ 0 → IsSound net old new state
+empty_is_sound net old new state none a address = record {
+  forwards = λ u must. let within = must.router in absurd (omega (arith, within, none));
+  returns_never = λ u h hops follows. let within = follows.0.must.router in omega (arith, within, none);
+}
+
+pub old_first_is_seamless : (net : Network) (old new : Tables) (ranks : List ℕ) → AreSoundEnds net old new → IsRanking (length net) ranks →
+    PutsSomeOldFirstInEach net old new ranks → AreSeamlessWaves net old new ranks
+old_first_is_seamless net old new ranks ends waves puts = record {
+  waves = waves;
+  sound = λ state is. elim (cases_lt 0 (length net)) [
+    | inr none ↦ empty_is_sound net old new state none
+    | inl some ↦
+        let one : IsStateOfSomeWave (length net) ranks state = state_of_wave (length net) ranks state some waves is in
+        wave_is_sound net old new ranks one.wave state ends puts one.of_wave
+  ];
+}
+
+-- Over every hop of a wave's states
+
+-- a state of a wave in which each of some routers steps to the next
+record WaveSteps (net : Network) (old new : Tables) (ranks : List ℕ) (w a first : ℕ) (routers : List ℕ) : Type 0 where
+  state : State
+  of_wave : IsStateOfWave (length net) ranks w state
+  goes : EachToNext (StepsIn net old new state a) first routers
+
+abbrev put : ℕ → Phase → State → State
+put u phase state v = pick (cases_eq v u) phase (state v)
+
+put_of_wave : (n : ℕ) (ranks : List ℕ) (w u : ℕ) (one state : State) → IsStateOfWave n ranks w one → IsStateOfWave n ranks w state →
+    IsStateOfWave n ranks w (put u (one u) state)
+put_of_wave n ranks w u one state is_one is = record {
+  earlier = λ v below before. by_router v (cases_eq v u) New (is_one.earlier v below before) (is.earlier v below before);
+  later = λ v below after. by_router v (cases_eq v u) Old (is_one.later v below after) (is.later v below after);
+}
+  where
+    by_router : (v : ℕ) (either : (v ≡ u) ⊎ (v ≡ u → ⊥)) (phase : Phase) → one v ≡ phase → state v ≡ phase → pick either (one u) (state v) ≡ phase
+    by_router v (inl same) phase first second = ap one (sym same) ∙ first
+    by_router v (inr apart) phase first second = second
+
+wave_steps : (net : Network) (old new : Tables) (ranks : List ℕ) (w a first : ℕ) (routers : List ℕ) → AreDistinct routers →
+    EachToNext (StepsInSome net old new (IsStateOfWave (length net) ranks w) a) first routers → WaveSteps net old new ranks w a first routers
+wave_steps net old new ranks w a first [] distinct goes =
+    record { state = state_for ranks w []; of_wave = for_is_of_wave (length net) ranks w []; goes = tt }
+wave_steps net old new ranks w a first (u ∷ []) distinct goes = record { state = goes.state; of_wave = goes.among; goes = goes.steps }
+wave_steps net old new ranks w a first (u ∷ v ∷ rest) distinct goes =
+    let others : WaveSteps net old new ranks w a first (v ∷ rest) =
+    wave_steps net old new ranks w a first (v ∷ rest) (pairs_rest (λ x y. x ≢ y) u (v ∷ rest) distinct) goes.1 in
+    let state : State = put u (goes.0.state u) others.state in
+    record {
+      state = state;
+      of_wave = put_of_wave (length net) ranks w u goes.0.state others.state goes.0.among others.of_wave;
+      goes = (
+        subst (λ (phase : Phase). Steps net old new u phase a v) (sym (pick_first (cases_eq u u) (goes.0.state u) (others.state u) (λ apart. apart refl))) goes.0.steps,
+        each_inside (StepsIn net old new others.state a) (StepsIn net old new state a) first (v ∷ rest)
+            (λ x y inside steps. subst (λ (phase : Phase). Steps net old new x phase a y)
+            (sym (pick_second (cases_eq x u) (goes.0.state u) (others.state x) (λ same. pairs_first (λ p q. p ≢ q) u (v ∷ rest) distinct x inside (sym same)))) steps)
+            others.goes,
+      );
+    }
+
+pub return_is_unsound : (net : Network) (old new : Tables) (ranks : List ℕ) (w a u h : ℕ) (hops : List ℕ) →
+    Follows (StepsInSome net old new (IsStateOfWave (length net) ranks w) a) u (h ∷ hops) u →
+    IsUnsoundInSome net old new (IsStateOfWave (length net) ranks w) a
+return_is_unsound net old new ranks w a u h hops follows =
+    let ring : StepRing (StepsInSome net old new (IsStateOfWave (length net) ranks w) a) =
+    ring_of_return (StepsInSome net old new (IsStateOfWave (length net) ranks w) a) u h hops follows in
+    let there : WaveSteps net old new ranks w a ring.first (ring.first ∷ ring.others) =
+    wave_steps net old new ranks w a ring.first (ring.first ∷ ring.others) ring.distinct ring.goes in
+    let returns = ring_returns (StepsIn net old new there.state a) ring.first ring.others there.goes in
+    record {
+      state = there.state;
+      among = there.of_wave;
+      unsound = λ sound. sound.returns_never ring.first returns.hop returns.hops returns.follows;
+    }
+
+-- a wave list is seamless exactly where the states of its waves are sound
+pub seamless_by_waves : (net : Network) (old new : Tables) (ranks : List ℕ) → IsRanking (length net) ranks →
+    ((state : State) → IsStateOfSomeWave (length net) ranks state → IsSound net old new state) → AreSeamlessWaves net old new ranks
+seamless_by_waves net old new ranks waves sound = record {
+  waves = waves;
+  sound = λ state is. elim (cases_lt 0 (length net)) [
+    | inr none ↦ empty_is_sound net old new state none
+    | inl some ↦ sound state (state_of_wave (length net) ranks state some waves is)
+  ];
+}
+
+-- The fault of a wave between sound ends
+
+-- a ring over every hop of a wave's states, with its tags, is a loop of the wave
+ring_of_wave : (net : Network) (old new : Tables) (ranks : List ℕ) (w a : ℕ) (ring : List Turn) (u : ℕ) (rest : List ℕ) → AreSoundEnds net old new → a < 2 ^ 32 →
+    routers_of ring ≡ u ∷ rest → AreDistinct (routers_of ring) → AroundRing (λ (r s : Turn). IsTag net old new a r s.router) ring →
+    AroundRing (StepsInSome net old new (IsStateOfWave (length net) ranks w) a) (routers_of ring) → IsLoopOfWave net old new ranks w (loop a ring)
+ring_of_wave net old new ranks w a ring u rest ends address begins distinct tags goes =
+    let there : WaveSteps net old new ranks w a u (u ∷ rest) = wave_steps net old new ranks w a u (u ∷ rest) (subst AreDistinct begins distinct)
+    (subst (AroundRing (StepsInSome net old new (IsStateOfWave (length net) ranks w) a)) begins goes) in
+    let arises : Arises net old new there.state a ring = around_of_routers (StepsIn net old new there.state a) ring
+    (subst (AroundRing (StepsIn net old new there.state a)) (sym begins) there.goes) in
+    let is : IsLoopOfState net old new there.state a ring =
+    ring_between_ends net old new there.state a ring ends address (some_turn ring u rest begins) (turns_distinct ring distinct) tags arises in
+    record {
+      address = a;
+      ring = ring;
+      is = refl;
+      is_loop = is.is_loop;
+      both = is.both;
+      arises = record { state = there.state; of_wave = there.of_wave; arises = arises };
+      round = stands_round net old new ranks w there.state a ring tags there.of_wave arises;
+    }
+
+fault_of_wave : (net : Network) (old new : Tables) (ranks : List ℕ) (w : ℕ) (fault : Fault) → AreSoundEnds net old new →
+    IsFaultOver net old new (IsStateOfWave (length net) ranks w) fault → IsLoopOfWave net old new ranks w fault
+fault_of_wave net old new ranks w fault ends (missing_in_one {a = a} {u = u} least lacks lowest) =
+    absurd (lacks.lacks (every_phase_steps ((ends.first a least.address).forwards u lacks.must) ((ends.last a least.address).forwards u lacks.must) (lacks.state u)))
+fault_of_wave net old new ranks w fault ends (loop_over_all {a = a} {ring = ring} least forwards found tags) =
+    ring_of_wave net old new ranks w a ring found.lowest found.others ends least.address found.first (found_distinct found) tags (found_goes_round found)
+
+pub wave_fault_between_ends : (net : Network) (old new : Tables) (ranks : List ℕ) (w : ℕ) (fault : Fault) → AreSoundEnds net old new →
+    IsWavesFault net old new ranks w fault → IsLoopOfWave net old new ranks w fault
+wave_fault_between_ends net old new ranks w fault ends is = fault_of_wave net old new ranks w fault ends is.here

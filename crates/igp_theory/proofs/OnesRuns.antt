@@ -1,0 +1,106 @@
+-- An order as a wave list of ones: it has its ranks, and one run.
+use Rattle.std.proofs.Common.{◌≡◌, ◌≢◌, ℕ, zero, suc, ◌+◌, ◌<◌, ◌⊎◌, inl, inr, ◌==◌, if◌then◌else◌, Bool, List, [], ◌∷◌, length, map, get_or, Contains, refl, sym, ap, ◌∙◌, subst, arith}
+use Rattle.std.specs.List.{AllPairs}
+use Rattle.std.proofs.lemmas.Bool.Decides.{eqb_tells}
+use Rattle.std.proofs.lemmas.List.{get_or-map, length-map}
+use Rattle.std.proofs.lemmas.List.Elements.{Contains-get_or}
+use Rattle.std.proofs.lemmas.List.FromFn.{get_or-range_with_len, length-range_with_len}
+use Rattle.order_core.specs.Orders.{IsOrder}
+use Rattle.order_core.specs.Rankings.{IsRanking, numbers_below}
+use Rattle.order_core.proofs.Orders.{order_length}
+use Rattle.igp_theory.specs.Waves.{Change, first, second, changed, MayPrecede, IsRun, AreOnes, run_along}
+use Rattle.igp_theory.proofs.FlatOrders.{along_is_run}
+use Rattle.igp_theory.proofs.OnesWaves.{ones_are_waves, ones_in_turn, rank_tells}
+use Rattle.igp_theory.proofs.OrderedLists.{contains_none, contains_here, contains_there, contains_cases, pairs_first, pairs_rest}
+
+-- Ranks of ones
+
+-- the place of a number in a list
+abbrev place_in : List ℕ → ℕ → ℕ
+place_in [] u = 0
+place_in (v ∷ order) u = if u == v then 0 else suc (place_in order u)
+
+place_of : (order : List ℕ) (k : ℕ) → AllPairs (λ u v. u ≢ v) order → k < length order → place_in order (get_or order k 0) ≡ k
+place_of [] k distinct within = absurd (omega (arith, within))
+place_of (v ∷ order) zero distinct within = elim (eqb_tells v v) [
+  | inl same ↦ ap (λ (b : Bool). if b then 0 else suc (place_in order v)) same.0
+  | inr apart ↦ absurd (apart.1 refl)
+]
+place_of (v ∷ order) (suc k) distinct within = elim (eqb_tells (get_or order k 0) v) [
+  | inl same ↦ absurd (pairs_first (λ u w. u ≢ w) v order distinct (get_or order k 0) (Contains-get_or order k 0 (omega (arith, within))) (sym same.1))
+  | inr apart ↦
+      ap (λ (b : Bool). if b then 0 else suc (place_in order (get_or order k 0))) apart.0
+      ∙ ap suc (place_of order k (pairs_rest (λ u w. u ≢ w) v order distinct) (omega (arith, within)))
+]
+
+-- an order has its ranks of ones
+pub order_has_ones : (n : ℕ) (order : List ℕ) → IsOrder n order → (ranks : List ℕ) × AreOnes order ranks × IsRanking n ranks
+order_has_ones n order lists =
+    let ranks : List ℕ = map (place_in order) (numbers_below (length order)) in
+    let ones : AreOnes order ranks = record {
+      each = length-map (numbers_below (length order)) (place_in order) ∙ length-range_with_len 0 (length order);
+      places = λ k within.
+          let router : get_or order k 0 < length order =
+          let below : get_or order k 0 < n = (lists.all (get_or order k 0)).0 (Contains-get_or order k 0 within) in
+          let many = order_length n order lists in omega (arith, below, many) in
+          let long = length-range_with_len 0 (length order) in
+          get_or-map (place_in order) (numbers_below (length order)) (get_or order k 0) 0 0 (omega (arith, router, long))
+          ∙ ap (place_in order) (get_or-range_with_len 0 (length order) (get_or order k 0) 0 router ∙ plain (get_or order k 0))
+          ∙ place_of order k lists.once within;
+    } in
+    (ranks, ones, ones_are_waves n order ranks lists ones)
+  where
+    plain : (k : ℕ) → 0 + k ≡ k
+    plain k = omega arith
+
+-- One run
+
+-- two lists of the same elements in one strict order are the same
+same_in_turn : {X : Type 0} (R : X → X → Type 0) (xs ys : List X) → AllPairs R xs → AllPairs R ys →
+    ((x y : X) → Contains xs x → Contains xs y → R x y → R y x → ⊥) → ((x : X) → Contains xs x → Contains ys x) → ((x : X) → Contains ys x → Contains xs x) → xs ≡ ys
+same_in_turn R [] [] one two apart over back = refl
+same_in_turn R [] (y ∷ ys) one two apart over back = absurd (contains_none y (back y (contains_here y ys)))
+same_in_turn R (x ∷ xs) [] one two apart over back = absurd (contains_none x (over x (contains_here x xs)))
+same_in_turn {X} R (x ∷ xs) (y ∷ ys) one two apart over back =
+    let head : x ≡ y = first_same (contains_cases y x ys (over x (contains_here x xs))) (contains_cases x y xs (back y (contains_here y ys))) in
+    let tail : xs ≡ ys = same_in_turn R xs ys (pairs_rest R x xs one) (pairs_rest R y ys two)
+    (λ z w left right. apart z w (contains_there x z xs left) (contains_there x w xs right))
+    (λ z inside. later_over z inside (contains_cases y z ys (over z (contains_there x z xs inside))) head)
+    (λ z inside. later_back z inside (contains_cases x z xs (back z (contains_there y z ys inside))) head) in
+    ap (λ (z : X). z ∷ xs) head ∙ ap (λ (l : List X). y ∷ l) tail
+  where
+    first_same : (y ≡ x) ⊎ Contains ys x → (x ≡ y) ⊎ Contains xs y → x ≡ y
+    first_same (inl same) other = sym same
+    first_same (inr later) (inl same) = same
+    first_same (inr later) (inr after) =
+        absurd (apart x y (contains_here x xs) (contains_there x y xs after) (pairs_first R x xs one y after) (pairs_first R y ys two x later))
+
+    later_over : (z : X) → Contains xs z → (y ≡ z) ⊎ Contains ys z → x ≡ y → Contains ys z
+    later_over z inside (inr later) head = later
+    later_over z inside (inl same) head =
+        let own : R z z = subst (λ (w : X). R w z) (head ∙ same) (pairs_first R x xs one z inside) in
+        absurd (apart z z (contains_there x z xs inside) (contains_there x z xs inside) own own)
+
+    later_back : (z : X) → Contains ys z → (x ≡ z) ⊎ Contains xs z → x ≡ y → Contains xs z
+    later_back z inside (inr later) head = later
+    later_back z inside (inl same) head =
+        let own : R z z = subst (λ (w : X). R w z) (sym head ∙ same) (pairs_first R y ys two z inside) in
+        let here : Contains (x ∷ xs) z = back z (contains_there y z ys inside) in
+        absurd (apart z z here here own own)
+
+one_way : (ranks : List ℕ) (c d : Change) → changed c ≡ changed d → MayPrecede ranks c d → MayPrecede ranks d c → ⊥
+one_way ranks (first u) (first v) same one two = one.other (ap first same)
+one_way ranks (second u) (second v) same one two = one.other (ap second same)
+one_way ranks (first u) (second v) same one two = two.half v refl (ap first same)
+one_way ranks (second u) (first v) same one two = one.half u refl (ap first (sym same))
+
+pub order_has_one_run : (n : ℕ) (order ranks : List ℕ) (run : List Change) → IsOrder n order → AreOnes order ranks → IsRun n ranks run → run ≡ run_along order
+order_has_one_run n order ranks run lists ones is =
+    let along : IsRun n ranks (run_along order) = along_is_run n ranks order lists (ones_in_turn n order ranks lists ones) in
+    same_in_turn (MayPrecede ranks) run (run_along order) is.in_turn along.in_turn
+    (λ c d left right one two.
+    let up = one.wave in
+    let down = two.wave in
+    one_way ranks c d (rank_tells n order ranks (changed c) (changed d) lists ones ((is.all c).0 left) ((is.all d).0 right) (omega (arith, up, down))) one two)
+    (λ c inside. (along.all c).1 ((is.all c).0 inside))
+    (λ c inside. (is.all c).1 ((along.all c).0 inside))

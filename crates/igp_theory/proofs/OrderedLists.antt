@@ -1,0 +1,78 @@
+-- Lists whose elements stand in a relation to all later ones, and what they contain.
+use Rattle.std.proofs.Common.{◌≡◌, ℕ, zero, suc, ◌<◌, ◌⊎◌, inl, inr, List, [], ◌∷◌, ◌++◌, length, get_or, Contains, arith, refl, subst}
+use Rattle.std.specs.List.{AllPairs}
+use Rattle.std.proofs.lemmas.List.Elements.{Contains-append_right, Contains-append_cases}
+
+-- What a list contains
+
+pub contains_none : {X : Type 0} (x : X) → Contains [] x → ⊥
+contains_none x inside = omega (arith, inside.1)
+
+pub contains_here : {X : Type 0} (x : X) (xs : List X) → Contains (x ∷ xs) x
+contains_here x xs = (0, omega arith, refl)
+
+pub contains_there : {X : Type 0} (x y : X) (xs : List X) → Contains xs y → Contains (x ∷ xs) y
+contains_there x y xs inside = (suc inside.0, (let within = inside.1 in omega (arith, within)), inside.2)
+
+pub contains_cases : {X : Type 0} (x y : X) (xs : List X) → Contains (x ∷ xs) y → (x ≡ y) ⊎ Contains xs y
+contains_cases x y xs inside = at inside.0 inside.1 inside.2
+  where
+    at : (k : ℕ) → k < length (x ∷ xs) → get_or (x ∷ xs) k y ≡ y → (x ≡ y) ⊎ Contains xs y
+    at zero within is = inl is
+    at (suc k) within is = inr (k, omega (arith, within), is)
+
+pub contains_one : {X : Type 0} (x y : X) → Contains (x ∷ []) y → x ≡ y
+contains_one x y inside = elim (contains_cases x y [] inside) [
+  | inl same ↦ same
+  | inr rest ↦ absurd (contains_none y rest)
+]
+
+-- Each element and each later one
+
+pub pairs_none : {X : Type 0} (R : X → X → Type 0) → AllPairs R []
+pairs_none R i j d before within = absurd (omega (arith, within))
+
+pub pairs_more : {X : Type 0} (R : X → X → Type 0) (x : X) (xs : List X) → ((y : X) → Contains xs y → R x y) → AllPairs R xs →
+    AllPairs R (x ∷ xs)
+pairs_more R x xs first rest zero zero d before within = absurd (omega (arith, before))
+pairs_more {X} R x xs first rest zero (suc j) d before within =
+    let inside : j < length xs = omega (arith, within) in
+    first (get_or xs j d) (j, inside, get_or_same xs j (get_or xs j d) d inside)
+  where
+    get_or_same : (ys : List X) (k : ℕ) (d e : X) → k < length ys → get_or ys k d ≡ get_or ys k e
+    get_or_same [] k d e below = absurd (omega (arith, below))
+    get_or_same (y ∷ ys) zero d e below = refl
+    get_or_same (y ∷ ys) (suc k) d e below = get_or_same ys k d e (omega (arith, below))
+pairs_more R x xs first rest (suc i) zero d before within = absurd (omega (arith, before))
+pairs_more R x xs first rest (suc i) (suc j) d before within = rest i j d (omega (arith, before)) (omega (arith, within))
+
+pub pairs_first : {X : Type 0} (R : X → X → Type 0) (x : X) (xs : List X) → AllPairs R (x ∷ xs) → (y : X) → Contains xs y → R x y
+pairs_first R x xs pairs y inside =
+    let within = inside.1 in
+    subst (λ z. R x z) inside.2 (pairs 0 (suc inside.0) y (omega arith) (omega (arith, within)))
+
+pub pairs_rest : {X : Type 0} (R : X → X → Type 0) (x : X) (xs : List X) → AllPairs R (x ∷ xs) → AllPairs R xs
+pairs_rest R x xs pairs i j d before within = pairs (suc i) (suc j) d (omega (arith, before)) (omega (arith, within))
+
+pub pairs_append : {X : Type 0} (R : X → X → Type 0) (xs ys : List X) → AllPairs R xs → AllPairs R ys →
+    ((x y : X) → Contains xs x → Contains ys y → R x y) → AllPairs R (xs ++ ys)
+pairs_append R [] ys one two across = two
+pairs_append R (x ∷ xs) ys one two across =
+    pairs_more R x (xs ++ ys)
+    (λ y inside. elim (Contains-append_cases xs ys y inside) [
+      | inl left ↦ pairs_first R x xs one y left
+      | inr right ↦ across x y (contains_here x xs) right
+    ])
+    (pairs_append R xs ys (pairs_rest R x xs one) two (λ z y left right. across z y (contains_there x z xs left) right))
+
+-- an element before a place, and one from it on
+pub pairs_across : {X : Type 0} (R : X → X → Type 0) (xs ys : List X) → AllPairs R (xs ++ ys) → (x y : X) → Contains xs x →
+    Contains ys y → R x y
+pairs_across R [] ys pairs x y left right = absurd (contains_none x left)
+pairs_across R (z ∷ xs) ys pairs x y left right = elim (contains_cases z x xs left) [
+  | inl same ↦ subst (λ w. R w y) same (pairs_first R z (xs ++ ys) pairs y (Contains-append_right xs ys y right))
+  | inr rest ↦ pairs_across R xs ys (pairs_rest R z (xs ++ ys) pairs) x y rest right
+]
+
+pub pairs_weaker : {X : Type 0} (R S : X → X → Type 0) → ((x y : X) → R x y → S x y) → (xs : List X) → AllPairs R xs → AllPairs S xs
+pairs_weaker R S over xs pairs i j d before within = over (get_or xs i d) (get_or xs j d) (pairs i j d before within)

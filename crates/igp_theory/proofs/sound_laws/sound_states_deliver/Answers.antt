@@ -1,0 +1,5 @@
+use Rattle.igp_theory.proofs.Delivery.{sound_delivers}
+use Rattle.igp_theory.proofs.sound_laws.sound_states_deliver.Goals as goal
+
+pub returns : goal.returns
+returns g c net state a p in_old in_new sound address target = sound_delivers net g.T.TablePair.old g.T.TablePair.new state a p in_old in_new sound address target

@@ -1,0 +1,11 @@
+use Rattle.igp_theory.proofs.SameTables.{same_tables_sym}
+use Rattle.igp_theory.proofs.WaveFaultLaws.{delivers_over, seamless_waves_over, fault_over_tables, waves_fault_over}
+use Rattle.igp_theory.proofs.wave_fault_laws.same_tables_have_same_waves.Goals as goal
+
+pub returns : goal.returns
+returns g c = record {
+  deliveries = λ net state a p same. (delivers_over same, delivers_over (same_tables_sym same));
+  seamless = λ net ranks same. (seamless_waves_over same, seamless_waves_over (same_tables_sym same));
+  faults = λ net fault same. (fault_over_tables same, fault_over_tables (same_tables_sym same));
+  waves_faults = λ net ranks w fault same. (waves_fault_over same, waves_fault_over (same_tables_sym same));
+}

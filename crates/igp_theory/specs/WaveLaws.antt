@@ -1,0 +1,94 @@
+-- What the laws of sound states and of wave lists say.
+use Rattle.std.specs.Prelude.{◌≡◌, ℕ, ◌^◌, ◌<◌, ◌↔◌, ◌⊎◌, List, length, take, Contains}
+use Rattle.net_addr.specs.Addresses.{Block}
+use Rattle.net_model.specs.Network.{Network, Connected}
+use Rattle.route_core.specs.declared.entry.Entry.{Entry}
+use Rattle.igp_theory.specs.Forwarding.{IsTarget, HasStep}
+use Rattle.igp_theory.specs.Isis.{IsisEntry}
+use Rattle.igp_theory.specs.Ospf.{OspfEntry}
+use Rattle.igp_theory.specs.Routes.{Tables, EntryLeadsTo}
+use Rattle.order_core.specs.Orders.{IsOrder}
+use Rattle.order_core.specs.Rankings.{IsRanking, flat_of}
+use Rattle.igp_theory.specs.States.{State, StepsIn, Follows, IsSound, IsSeamless, state_of}
+use Rattle.igp_theory.specs.Waves.{Change, IsRun, IsWavesState, AreSeamlessWaves, IsStateOfWave, AreOnes, run_along, state_after}
+
+-- What sound means
+
+-- every hop of the entries of the network's routers is a router of the network
+abbrev pub HopsAreRouters : Network → Tables → Type 0
+HopsAreRouters net table =
+    (u h : ℕ) (p : Block) (e : Entry) → u < length net → table u p e → EntryLeadsTo e h → h < length net
+
+-- that is so of both protocols' tables
+abbrev pub OspfHopsAreRouters : Type 0
+OspfHopsAreRouters = (net : Network) → HopsAreRouters net (OspfEntry net)
+
+abbrev pub IsisHopsAreRouters : Type 0
+IsisHopsAreRouters = (net : Network) → HopsAreRouters net (IsisEntry net)
+
+-- a state delivers packets for an address with the target p: from every router every list of steps is
+-- shorter than the count of routers, and it has reached an originator or can be extended. So each packet
+-- reaches an originator, whichever of the equal-cost hops it takes at each router
+pub record Delivers (net : Network) (old new : Tables) (state : State) (a : ℕ) (p : Block) : Type 0 where
+  pub short : (u v : ℕ) (hops : List ℕ) → u < length net → Follows (StepsIn net old new state a) u hops v → length hops < length net
+  pub onward : (u v : ℕ) (hops : List ℕ) → u < length net → Follows (StepsIn net old new state a) u hops v →
+      Connected net v p ⊎ HasStep net old new v (state v) a
+
+-- over tables whose hops are routers a sound state delivers the packets of every address with a target
+abbrev pub SoundStatesDeliver : Tables → Tables → Type 0
+SoundStatesDeliver old new =
+    (net : Network) (state : State) (a : ℕ) (p : Block) → HopsAreRouters net old → HopsAreRouters net new →
+    IsSound net old new state → a < 2 ^ 32 → IsTarget net a p → Delivers net old new state a p
+
+-- The states of a wave list
+
+-- a state of one of the waves
+pub record IsStateOfSomeWave (n : ℕ) (ranks : List ℕ) (state : State) : Type 0 where
+  pub wave : ℕ
+  pub is_wave : Contains ranks wave
+  pub of_wave : IsStateOfWave n ranks wave state
+
+-- the states of a wave list are exactly those of its waves: every combination of phases of one wave, with
+-- each earlier wave New and each later wave Old, is a state of some run, and there is no other
+abbrev pub StatesAreThoseOfWaves : Type 0
+StatesAreThoseOfWaves =
+    (n : ℕ) (ranks : List ℕ) (state : State) → 0 < n → IsRanking n ranks →
+    IsWavesState n ranks state ↔ IsStateOfSomeWave n ranks state
+
+-- so a wave list is seamless exactly where every state of each of its waves is sound
+abbrev pub SeamlessWaveByWave : Tables → Tables → Type 0
+SeamlessWaveByWave old new =
+    (net : Network) (ranks : List ℕ) → IsRanking (length net) ranks →
+    AreSeamlessWaves net old new ranks
+    ↔ ((state : State) → IsStateOfSomeWave (length net) ranks state → IsSound net old new state)
+
+-- Wave lists and orders
+
+-- the flat run is a run
+abbrev pub FlatRunsAreRuns : Type 0
+FlatRunsAreRuns = (n : ℕ) (ranks : List ℕ) → IsRanking n ranks → IsRun n ranks (run_along (flat_of ranks))
+
+-- the states along an order are those of the order
+abbrev pub StatesAlongAreThoseOfOrders : Type 0
+StatesAlongAreThoseOfOrders =
+    (order : List ℕ) (k u : ℕ) → state_after (take k (run_along order)) u ≡ state_of order k u
+
+-- a seamless wave list, written wave by wave in number order, is a seamless order
+abbrev pub FlatOrdersAreSeamless : Tables → Tables → Type 0
+FlatOrdersAreSeamless old new =
+    (net : Network) (ranks : List ℕ) → AreSeamlessWaves net old new ranks → IsSeamless net old new (flat_of ranks)
+
+-- a seamless order is a seamless wave list of ones
+abbrev pub OrdersAreSeamlessWaves : Tables → Tables → Type 0
+OrdersAreSeamlessWaves old new =
+    (net : Network) (order ranks : List ℕ) → IsSeamless net old new order → AreOnes order ranks →
+    AreSeamlessWaves net old new ranks
+
+-- each order is a wave list of ones, and as that it has one run
+abbrev pub OrdersAreOnes : Type 0
+OrdersAreOnes = (n : ℕ) (order : List ℕ) → IsOrder n order → (ranks : List ℕ) × AreOnes order ranks × IsRanking n ranks
+
+abbrev pub OrdersHaveOneRun : Type 0
+OrdersHaveOneRun =
+    (n : ℕ) (order ranks : List ℕ) (run : List Change) → IsOrder n order → AreOnes order ranks → IsRun n ranks run →
+    run ≡ run_along order

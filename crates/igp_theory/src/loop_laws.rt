@@ -1,0 +1,45 @@
+ghost use Rattle.igp_theory.specs.LoopLaws.{LoopsArise, ArisingLoopsAreUnsound, FaultsBetweenSoundEndsAreLoops, LoopsAriseInWaves, ReturnsInWavesAreUnsound, WaveFaultsBetweenSoundEndsAreLoops, SeamlessWavesPutOldFirst, WavesAreSeamlessByLoops};
+
+use crate::tables::TablePair;
+
+/// The law that a loop of the network arises where every router tagged `Old` is in `Old` and every router
+/// tagged `New` in `New`, and that a state in which a loop arises isn't sound.
+pub fn loops_arise<T: TablePair>()
+    ensures arise { LoopsArise T.old T.new }
+    ensures unsound { ArisingLoopsAreUnsound T.old T.new }
+{}
+
+/// The law that between sound ends faults are loops with a turn tagged `Old` and one tagged `New`.
+///
+/// The fault of an unsound state is such a loop that arises there, that of a wave list one that arises in a
+/// state of its wave. A missing step and a loop of one tag are impossible there.
+pub fn faults_between_sound_ends_are_loops<T: TablePair>()
+    ensures state { FaultsBetweenSoundEndsAreLoops T.old T.new }
+    ensures waves { WaveFaultsBetweenSoundEndsAreLoops T.old T.new }
+{}
+
+/// The law of the waves in which loops arise.
+///
+/// A loop arises in a state of wave w exactly where its routers tagged `New` stand in waves up to w and its
+/// routers tagged `Old` in waves from w on.
+pub fn loops_arise_in_waves<T: TablePair>()
+    ensures { LoopsAriseInWaves T.old T.new }
+{}
+
+/// The law of lists of steps over every hop that a router has in some state of a wave.
+///
+/// Where such a list returns to its first router some state of the wave is unsound: the list contains a
+/// ring of distinct routers, and each of them keeps one phase that makes its step.
+pub fn returns_in_waves_are_unsound<T: TablePair>()
+    ensures { ReturnsInWavesAreUnsound T.old T.new }
+{}
+
+/// The law that loops say which wave lists are seamless.
+///
+/// Whatever the ends, a seamless wave list puts some router tagged `Old` of each loop with both tags in an
+/// earlier wave than some router tagged `New`. Between sound ends a wave list is seamless exactly where it
+/// does so for each such loop.
+pub fn loops_say_which_waves_are_seamless<T: TablePair>()
+    ensures seamless { SeamlessWavesPutOldFirst T.old T.new }
+    ensures exact { WavesAreSeamlessByLoops T.old T.new }
+{}

@@ -1,0 +1,15 @@
+ghost use Rattle.igp_theory.specs.MiddleLaws.{MiddleUsesNone, MiddleActsAsOldOrNew};
+
+use crate::tables::TablePair;
+
+/// The law that a router in `Middle` uses no entry for an address where it uses none in `Old` and none in
+/// `New`.
+pub fn middle_uses_none<T: TablePair>()
+    ensures { MiddleUsesNone T.old T.new }
+{}
+
+/// The law that over a network and tables that are lists of entries a router in `Middle` does with the
+/// packets of an address exactly what it does in `Old`, or exactly what it does in `New`.
+pub fn middle_acts_as_old_or_new()
+    ensures { MiddleActsAsOldOrNew }
+{}

@@ -1,0 +1,37 @@
+ghost use Rattle.igp_theory.specs.WaveLaws.{StatesAreThoseOfWaves, FlatRunsAreRuns, StatesAlongAreThoseOfOrders, FlatOrdersAreSeamless, OrdersAreSeamlessWaves, OrdersAreOnes, OrdersHaveOneRun, SeamlessWaveByWave};
+
+use crate::tables::TablePair;
+
+/// The law that the states of a wave list are those of its waves.
+///
+/// Every combination of phases of one wave, with each earlier wave `New` and each later wave `Old`, is the
+/// state after some prefix of some run, and there is no other.
+pub fn states_are_those_of_waves()
+    ensures { StatesAreThoseOfWaves }
+{}
+
+/// The law that a wave list is seamless exactly where every state of each of its waves is sound.
+pub fn waves_are_seamless_one_by_one<T: TablePair>()
+    ensures { SeamlessWaveByWave T.old T.new }
+{}
+
+/// The law that the flat run of a wave list is a run of it, with the states of the flat order.
+pub fn flat_runs_are_runs()
+    ensures run { FlatRunsAreRuns }
+    ensures states { StatesAlongAreThoseOfOrders }
+{}
+
+/// The law of wave lists and orders.
+///
+/// A seamless wave list, written wave by wave in number order, is a seamless order, and a seamless order is
+/// a seamless wave list of ones.
+pub fn seamless_waves_are_orders<T: TablePair>()
+    ensures flat { FlatOrdersAreSeamless T.old T.new }
+    ensures ones { OrdersAreSeamlessWaves T.old T.new }
+{}
+
+/// The law that each order is a wave list of ones, and that as such it has one run.
+pub fn orders_are_waves_of_ones()
+    ensures ones { OrdersAreOnes }
+    ensures one_run { OrdersHaveOneRun }
+{}
