@@ -18,4 +18,6 @@ pub use status::Status;
 pub use std::alloc::AllocError as OutOfMemory;
 
 #[cfg(test)]
+mod hops_tests;
+#[cfg(test)]
 mod tests;

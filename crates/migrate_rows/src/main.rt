@@ -1,5 +1,6 @@
 //! Answers the calls of the file `calls.txt`, one a line, on the files that lie beside it, held in memory. What is
-//! printed reads as a session at a terminal: each call, the line that it writes, and its code.
+//! printed reads as a session at a terminal: each call, the line that it writes, and its code. A line that begins with
+//! `#` is a remark, and is printed as it stands.
 #![tactic(auto)]
 
 ghost use Rattle.std.specs.Prelude.{◌≡◌, [], IfOk};
@@ -13,10 +14,14 @@ use store_edge::{Calls, FileList, MemoryFiles, RealSink};
 
 fn main(rt: HostRuntime) -> Result<()> {
     let calls = fs::read_to_string(&rt, "calls.txt")?;
-    for call in calls.as_str().lines() {
-        println!(rt; "$ migrate {call}")?;
-        let status = answer(&rt, call)?;
-        println!(rt; "ends with {}", status.code())?;
+    for line in calls.as_str().lines() {
+        if line.starts_with('#') {
+            println!(rt; "{line}")?;
+        } else {
+            println!(rt; "$ migrate {line}")?;
+            let status = answer(&rt, line)?;
+            println!(rt; "ends with {}", status.code())?;
+        }
     }
     Ok(())
 }
