@@ -1,11 +1,12 @@
 -- What sound means: lists of steps are short, and lead on until an originator is reached.
-use Rattle.std.proofs.Common.{Option, Some, None, IsTrue, ap, ◌∙◌, ◌≡◌, ◌≢◌, ℕ, ◌^◌, ◌<◌, ◌≤◌, ◌⊎◌, inl, inr, List, [], ◌∷◌, length, Contains, arith, sym, subst}
+use Rattle.std.proofs.Common.{refl, Option, Some, None, IsTrue, ap, ◌∙◌, ◌≡◌, ◌≢◌, ℕ, zero, suc, ◌+◌, ◌^◌, ◌<◌, ◌≤◌, ◌⊎◌, inl, inr, List, [], ◌∷◌, ◌++◌, length, Contains, arith, sym, subst}
 use Rattle.std.specs.List.{AllPairs}
 use Rattle.std.proofs.lemmas.Bool.{cases_eq, cases_Bool, eqb-true, false≢true}
 use Rattle.std.proofs.lemmas.Bool.Decides.{Decides-eqb}
 use Rattle.std.proofs.lemmas.Map.Made.{IsDistinct-from_AllPairs}
 use Rattle.std.proofs.lemmas.Map.Steps.{length-le_from_distinct_below}
 use Rattle.std.proofs.lemmas.Map.Views.{Contains-from_any}
+use Rattle.std.proofs.lemmas.List.{length-append}
 use Rattle.std.proofs.lemmas.Option.{same_Some, slice_get_within, slice_get_cases}
 use Rattle.net_addr.specs.Addresses.{Block}
 use Rattle.net_model.specs.Configuration.{Configuration}
@@ -190,3 +191,43 @@ sound_delivers net old new state a p in_old in_new sound address target =
             | inr away ↦ inr (here.forwards v (record { router = router; target = p; is_target = target; away = away }))
           ];
     }
+
+-- A state that delivers is sound
+
+-- lists of steps, one after the other
+steps_joined : (step : ℕ → ℕ → Type 0) (u : ℕ) (one : List ℕ) (v : ℕ) (two : List ℕ) (w : ℕ) → Follows step u one v → Follows step v two w →
+    Follows step u (one ++ two) w
+steps_joined step u [] v two w first second = subst (λ (x : ℕ). Follows step x two w) (sym first) second
+steps_joined step u (h ∷ one) v two w first second = (first.0, steps_joined step h one v two w first.1 second)
+
+-- a list of at least so many steps, from u back to u
+record LongReturn (step : ℕ → ℕ → Type 0) (u k : ℕ) : Type 0 where
+  hops : List ℕ
+  follows : Follows step u hops u
+  many : k ≤ length hops
+
+-- a list of steps that returns can be gone again and again
+long_return : (step : ℕ → ℕ → Type 0) (u h : ℕ) (hops : List ℕ) → Follows step u (h ∷ hops) u → (k : ℕ) → LongReturn step u k
+long_return step u h hops returns zero = record { hops = []; follows = refl; many = omega arith }
+long_return step u h hops returns (suc k) =
+    let rest : LongReturn step u k = long_return step u h hops returns k in
+    record {
+      hops = (h ∷ hops) ++ rest.hops;
+      follows = steps_joined step u (h ∷ hops) u rest.hops u returns rest.follows;
+      many = let e : length ((h ∷ hops) ++ rest.hops) ≡ length (h ∷ hops) + length rest.hops = length-append (h ∷ hops) rest.hops in omega (arith, e, rest.many);
+    }
+
+pub delivers_sound : (net : Network) (old new : Tables) (state : State) →
+    ((a : ℕ) (p : Block) → a < 2 ^ 32 → IsTarget net a p → Delivers net old new state a p) → IsSound net old new state
+delivers_sound net old new state delivers a address = record {
+  forwards = λ u must. elim ((delivers a must.target address must.is_target).onward u u [] must.router refl) [
+    | inl reached ↦ absurd (must.away reached)
+    | inr has ↦ has
+  ];
+  returns_never = λ u h hops follows.
+      let must = follows.0.must in
+      let long : LongReturn (StepsIn net old new state a) u (length net) = long_return (StepsIn net old new state a) u h hops follows (length net) in
+      let short = (delivers a must.target address must.is_target).short u u long.hops must.router long.follows in
+      let many = long.many in
+      omega (arith, short, many);
+}
