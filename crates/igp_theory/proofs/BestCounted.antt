@@ -8,13 +8,13 @@ use Rattle.net_addr.specs.Addresses.{Block, ContainsAddress, first_bits}
 use Rattle.net_model.specs.Configuration.{Configuration}
 use Rattle.net_model.specs.Network.{Network, HasConfiguration, Connected}
 use Rattle.net_model.specs.declared.interface.Interface.{Interface}
-use Rattle.net_model.proofs.Members.{Contains-flat_map, Contains-in_flat_map, Contains-map, Contains-in_map}
+use Rattle.net_model.proofs.Members.{Contains-none, Contains-first, Contains-rest, Contains-cases, Contains-flat_map, Contains-in_flat_map, Contains-map, Contains-in_map}
 use Rattle.route_core.specs.Tables.{HasEntry}
 use Rattle.route_core.specs.declared.entry.Entry.{Entry}
 use Rattle.igp_theory.specs.Forwarding.{Usable, connected, of_old, of_new, OldCounts, NewCounts, Counts, connected_counts, old_counts, new_counts, Uses}
 use Rattle.igp_theory.specs.declared.phase.Phase.{Phase}
 use Rattle.igp_theory.specs.declared.phase.Phase.TheVariants.{Old, Middle, New}
-use Rattle.igp_theory.proofs.OrderedLists.{contains_none, contains_here, contains_there, contains_cases, contains_one}
+use Rattle.igp_theory.proofs.OrderedLists.{contains_one}
 
 -- an entry that counts: its prefix, at its distance
 pub record Counted : Type 0 where
@@ -42,13 +42,13 @@ record NoWorse (a : ℕ) (one other : Counted) : Type 0 where
 
 stays_best : (a : ℕ) (c : Counted) (counted : List Counted) (b : Counted) → NoWorse a b c → IsBestOf a counted b → IsBestOf a (c ∷ counted) b
 stays_best a c counted b no_worse is = record {
-  among = contains_there c b counted is.among;
+  among = Contains-rest c counted b is.among;
   contains = is.contains;
-  longest = λ d inside contains. elim (contains_cases c d counted inside) [
+  longest = λ d inside contains. elim (Contains-cases c counted d inside) [
     | inl same ↦ subst (λ (x : Counted). x.prefix.len ≤ b.prefix.len) same (no_worse.longer (subst (λ (x : Counted). ContainsAddress x.prefix a) (sym same) contains))
     | inr rest ↦ is.longest d rest contains
   ];
-  lowest = λ d inside contains len. elim (contains_cases c d counted inside) [
+  lowest = λ d inside contains len. elim (Contains-cases c counted d inside) [
     | inl same ↦ subst (λ (x : Counted). b.distance ≤ x.distance) same
         (no_worse.closer (subst (λ (x : Counted). ContainsAddress x.prefix a) (sym same) contains) (ap (λ (x : Counted). x.prefix.len) same ∙ len))
     | inr rest ↦ is.lowest d rest contains len
@@ -58,13 +58,13 @@ stays_best a c counted b no_worse is = record {
 becomes_best : (a : ℕ) (c : Counted) (counted : List Counted) → ContainsAddress c.prefix a →
     ((d : Counted) → Contains counted d → NoWorse a c d) → IsBestOf a (c ∷ counted) c
 becomes_best a c counted contains no_worse = record {
-  among = contains_here c counted;
+  among = Contains-first c counted;
   contains = contains;
-  longest = λ d inside within. elim (contains_cases c d counted inside) [
+  longest = λ d inside within. elim (Contains-cases c counted d inside) [
     | inl same ↦ subst (λ (x : Counted). x.prefix.len ≤ c.prefix.len) same (omega arith)
     | inr rest ↦ (no_worse d rest).longer within
   ];
-  lowest = λ d inside within len. elim (contains_cases c d counted inside) [
+  lowest = λ d inside within len. elim (Contains-cases c counted d inside) [
     | inl same ↦ subst (λ (x : Counted). c.distance ≤ x.distance) same (omega arith)
     | inr rest ↦ (no_worse d rest).closer within len
   ];
@@ -94,7 +94,7 @@ better a c counted b contains is = elim (cases_order c.prefix.len b.prefix.len) 
 ]
 
 pub best_or_none : (a : ℕ) (counted : List Counted) → BestOrNone a counted
-best_or_none a [] = none (λ c inside. absurd (contains_none c inside))
+best_or_none a [] = none (λ c inside. absurd (Contains-none c inside))
 best_or_none a (c ∷ counted) = elim (cases_eq (first_bits c.prefix.len a) (first_bits c.prefix.len c.prefix.base)) [
   | inl contains ↦ elim (best_or_none a counted) [
     | best b is ↦ better a c counted b contains is
@@ -105,7 +105,7 @@ best_or_none a (c ∷ counted) = elim (cases_eq (first_bits c.prefix.len a) (fir
   ]
   | inr outside ↦ elim (best_or_none a counted) [
     | best b is ↦ best b (stays_best a c counted b (record { longer = λ within. absurd (outside within); closer = λ within. absurd (outside within) }) is)
-    | none others ↦ none (λ d inside within. elim (contains_cases c d counted inside) [
+    | none others ↦ none (λ d inside within. elim (Contains-cases c counted d inside) [
       | inl same ↦ outside (subst (λ (x : Counted). ContainsAddress x.prefix a) (sym same) within)
       | inr rest ↦ others d rest within
     ])
@@ -158,8 +158,8 @@ subnet_sound w phase i true (Some p) c among is_up is_subnet inside =
       up = record { config = w.config; router = w.has; among = among; up = is_up };
       subnet = is_subnet;
     }))
-subnet_sound w phase i true None c among is_up is_subnet inside = absurd (contains_none c inside)
-subnet_sound w phase i false subnet c among is_up is_subnet inside = absurd (contains_none c inside)
+subnet_sound w phase i true None c among is_up is_subnet inside = absurd (Contains-none c inside)
+subnet_sound w phase i false subnet c among is_up is_subnet inside = absurd (Contains-none c inside)
 
 old_sound : (w : Place) (phase : Phase) (c : Counted) → w.config.distances.ospf ≢ 255 →
     Contains (old_counted phase w.config.distances.ospf (w.old w.u)) c → CountsAt w phase c
@@ -169,10 +169,10 @@ old_sound w Old c far inside =
 old_sound w Middle c far inside =
     let one = Contains-map (λ (e : Block × Entry). counted_at e.0 w.config.distances.ospf (of_old e.1)) (w.old w.u) c inside in
     subst (CountsAt w Middle) one.gives (old_counts tt w.config w.has refl far one.among)
-old_sound w New c far inside = absurd (contains_none c inside)
+old_sound w New c far inside = absurd (Contains-none c inside)
 
 new_sound : (w : Place) (phase : Phase) (c : Counted) → Contains (new_counted phase (w.new w.u)) c → CountsAt w phase c
-new_sound w Old c inside = absurd (contains_none c inside)
+new_sound w Old c inside = absurd (Contains-none c inside)
 new_sound w Middle c inside =
     let one = Contains-map (λ (e : Block × Entry). counted_at e.0 115 (of_new e.1)) (w.new w.u) c inside in
     subst (CountsAt w Middle) one.gives (new_counts tt one.among)
@@ -203,7 +203,7 @@ one_config w c has = same_Some c w.config (sym has ∙ w.has)
 
 subnet_complete : (up : Bool) (subnet : Option Block) (p : Block) → up ≡ true → subnet ≡ Some p → Contains (subnet_counted up subnet) (counted_at p 0 connected)
 subnet_complete true (Some q) p is_up is_subnet =
-    subst (λ (x : Block). Contains (subnet_counted true (Some q)) (counted_at x 0 connected)) (same_Some q p is_subnet) (contains_here (counted_at q 0 connected) [])
+    subst (λ (x : Block). Contains (subnet_counted true (Some q)) (counted_at x 0 connected)) (same_Some q p is_subnet) (Contains-first (counted_at q 0 connected) [])
 subnet_complete true None p is_up is_subnet = cc
 subnet_complete false subnet p is_up is_subnet = cc
 

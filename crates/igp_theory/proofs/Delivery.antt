@@ -21,7 +21,8 @@ use Rattle.igp_theory.specs.Routes.{Tables, EntryLeadsTo}
 use Rattle.igp_theory.specs.States.{State, StepsIn, Follows, IsSoundAt, IsSound}
 use Rattle.igp_theory.specs.WaveLaws.{HopsAreRouters, Delivers}
 use Rattle.igp_theory.specs.declared.phase.Phase.{Phase}
-use Rattle.igp_theory.proofs.OrderedLists.{contains_none, contains_here, contains_there, contains_cases, pairs_none, pairs_more}
+use Rattle.net_model.proofs.Members.{Contains-none, Contains-first, Contains-rest, Contains-cases}
+use Rattle.igp_theory.proofs.OrderedLists.{pairs_none, pairs_more}
 use Rattle.igp_theory.proofs.TableLaws.{ospf_hop_is_neighbor, isis_hop_is_neighbor}
 
 -- Hops are routers
@@ -55,23 +56,23 @@ steps_inside in_old in_new steps = leads_inside in_old in_new steps.must.router 
 -- Lists of steps
 
 pub contains_or_not : (x : ℕ) (xs : List ℕ) → Contains xs x ⊎ (Contains xs x → ⊥)
-contains_or_not x [] = inr (contains_none x)
+contains_or_not x [] = inr (Contains-none x)
 contains_or_not x (y ∷ xs) = elim (cases_eq y x) [
-  | inl same ↦ inl (subst (λ (z : ℕ). Contains (y ∷ xs) z) same (contains_here y xs))
+  | inl same ↦ inl (subst (λ (z : ℕ). Contains (y ∷ xs) z) same (Contains-first y xs))
   | inr apart ↦ elim (contains_or_not x xs) [
-    | inl there ↦ inl (contains_there y x xs there)
-    | inr absent ↦ inr (λ inside. elim (contains_cases y x xs inside) [ inl same ↦ apart same | inr there ↦ absent there ])
+    | inl there ↦ inl (Contains-rest y xs x there)
+    | inr absent ↦ inr (λ inside. elim (Contains-cases y xs x inside) [ inl same ↦ apart same | inr there ↦ absent there ])
   ]
 ]
 
 -- every router of a list of steps is below n, where the first one and each hop is
 pub steps_below : (step : ℕ → ℕ → Type 0) (n : ℕ) → ((u h : ℕ) → step u h → h < n) → (u : ℕ) (hops : List ℕ) (v : ℕ) → u < n →
     Follows step u hops v → (w : ℕ) → Contains (u ∷ hops) w → w < n
-steps_below step n inside u [] v below follows w among = elim (contains_cases u w [] among) [
+steps_below step n inside u [] v below follows w among = elim (Contains-cases u [] w among) [
   | inl same ↦ subst (λ (x : ℕ). x < n) same below
-  | inr none ↦ absurd (contains_none w none)
+  | inr none ↦ absurd (Contains-none w none)
 ]
-steps_below step n inside u (h ∷ hops) v below follows w among = elim (contains_cases u w (h ∷ hops) among) [
+steps_below step n inside u (h ∷ hops) v below follows w among = elim (Contains-cases u (h ∷ hops) w among) [
   | inl same ↦ subst (λ (x : ℕ). x < n) same below
   | inr later ↦ steps_below step n inside h hops v (inside u h follows.0) follows.1 w later
 ]
@@ -88,8 +89,8 @@ pub record LeadsOn (step : ℕ → ℕ → Type 0) (u v : ℕ) : Type 0 where
   pub follows : Follows step u (hop ∷ hops) v
 
 pub leads_to : (step : ℕ → ℕ → Type 0) (u : ℕ) (hops : List ℕ) (v w : ℕ) → Follows step u hops v → Contains hops w → LeadsOn step u w
-leads_to step u [] v w follows among = absurd (contains_none w among)
-leads_to step u (h ∷ hops) v w follows among = elim (contains_cases h w hops among) [
+leads_to step u [] v w follows among = absurd (Contains-none w among)
+leads_to step u (h ∷ hops) v w follows among = elim (Contains-cases h hops w among) [
   | inl same ↦ record { hop = h; hops = []; follows = (follows.0, same) }
   | inr later ↦
       let rest : LeadsOn step h w = leads_to step h hops v w follows.1 later in
@@ -99,7 +100,7 @@ leads_to step u (h ∷ hops) v w follows among = elim (contains_cases h w hops a
 -- a list of steps visits distinct routers, or one of its routers comes back to itself
 pub distinct_or_returns : (step : ℕ → ℕ → Type 0) (u : ℕ) (hops : List ℕ) (v : ℕ) → Follows step u hops v →
     AllPairs (λ x y. x ≢ y) (u ∷ hops) ⊎ ((w : ℕ) × LeadsOn step w w)
-distinct_or_returns step u [] v follows = inl (pairs_more (λ x y. x ≢ y) u [] (λ w inside. absurd (contains_none w inside)) (pairs_none (λ x y. x ≢ y)))
+distinct_or_returns step u [] v follows = inl (pairs_more (λ x y. x ≢ y) u [] (λ w inside. absurd (Contains-none w inside)) (pairs_none (λ x y. x ≢ y)))
 distinct_or_returns step u (h ∷ hops) v follows = elim (distinct_or_returns step h hops v follows.1) [
   | inr returns ↦ inr returns
   | inl distinct ↦ elim (contains_or_not u (h ∷ hops)) [
@@ -140,10 +141,10 @@ record UpWith (interfaces : List Interface) (p : Block) : Type 0 where
   subnet : interface.subnet ≡ Some p
 
 up_with_or_not : (interfaces : List Interface) (p : Block) → UpWith interfaces p ⊎ (UpWith interfaces p → ⊥)
-up_with_or_not [] p = inr (λ one. contains_none one.interface one.among)
+up_with_or_not [] p = inr (λ one. Contains-none one.interface one.among)
 up_with_or_not (i ∷ interfaces) p = elim (cases_Bool i.up) [
   | inl up ↦ elim (subnet_or_not i.subnet p) [
-    | inl subnet ↦ inl (record { interface = i; among = contains_here i interfaces; up = up; subnet = subnet })
+    | inl subnet ↦ inl (record { interface = i; among = Contains-first i interfaces; up = up; subnet = subnet })
     | inr other ↦ others (λ one same. other (ap (λ (x : Interface). x.subnet) same ∙ one.subnet)) (up_with_or_not interfaces p)
   ]
   | inr down ↦ others (λ one same. false≢true (sym down ∙ ap (λ (x : Interface). x.up) same ∙ one.up)) (up_with_or_not interfaces p)
@@ -152,8 +153,8 @@ up_with_or_not (i ∷ interfaces) p = elim (cases_Bool i.up) [
     others : ((one : UpWith (i ∷ interfaces) p) → i ≡ one.interface → ⊥) → UpWith interfaces p ⊎ (UpWith interfaces p → ⊥) →
         UpWith (i ∷ interfaces) p ⊎ (UpWith (i ∷ interfaces) p → ⊥)
     others not_first (inl one) =
-        inl (record { interface = one.interface; among = contains_there i one.interface interfaces one.among; up = one.up; subnet = one.subnet })
-    others not_first (inr none) = inr (λ one. elim (contains_cases i one.interface interfaces one.among) [
+        inl (record { interface = one.interface; among = Contains-rest i interfaces one.interface one.among; up = one.up; subnet = one.subnet })
+    others not_first (inr none) = inr (λ one. elim (Contains-cases i interfaces one.interface one.among) [
       | inl same ↦ not_first one same
       | inr later ↦ none (record { interface = one.interface; among = later; up = one.up; subnet = one.subnet })
     ])
