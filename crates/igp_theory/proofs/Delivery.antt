@@ -1,5 +1,6 @@
 -- What sound means: lists of steps are short, and lead on until an originator is reached.
-use Rattle.std.proofs.Common.{refl, Option, Some, None, IsTrue, ap, ◌∙◌, ◌≡◌, ◌≢◌, ℕ, zero, suc, ◌+◌, ◌^◌, ◌<◌, ◌≤◌, ◌⊎◌, inl, inr, List, [], ◌∷◌, ◌++◌, length, Contains, arith, sym, subst}
+use Rattle.std.proofs.Common.{refl, Option, Some, None, IsTrue, ap, ◌∙◌, ◌≡◌, ◌≢◌, ℕ, zero, suc, ◌+◌, ◌^◌}
+use Rattle.std.proofs.Common.{◌<◌, ◌≤◌, ◌⊎◌, inl, inr, List, [], ◌∷◌, ◌++◌, length, Contains, arith, sym, subst}
 use Rattle.std.specs.List.{AllPairs}
 use Rattle.std.proofs.lemmas.Bool.{cases_eq, cases_Bool, eqb-true, false≢true}
 use Rattle.std.proofs.lemmas.Bool.Decides.{Decides-eqb}
@@ -215,7 +216,9 @@ long_return step u h hops returns (suc k) =
     record {
       hops = (h ∷ hops) ++ rest.hops;
       follows = steps_joined step u (h ∷ hops) u rest.hops u returns rest.follows;
-      many = let e : length ((h ∷ hops) ++ rest.hops) ≡ length (h ∷ hops) + length rest.hops = length-append (h ∷ hops) rest.hops in omega (arith, e, rest.many);
+      many =
+          let e : length ((h ∷ hops) ++ rest.hops) ≡ length (h ∷ hops) + length rest.hops = length-append (h ∷ hops) rest.hops in
+          omega (arith, e, rest.many);
     }
 
 pub delivers_sound : (net : Network) (old new : Tables) (state : State) →

@@ -1,5 +1,6 @@
 -- Loops state by state: where they arise, and that an unsound state between sound ends has one with both tags.
-use Rattle.std.proofs.Common.{◌≡◌, ◌≢◌, ℕ, ◌^◌, ◌<◌, ◌≤◌, ◌⊎◌, inl, inr, Bool, true, false, cond, List, [], ◌∷◌, length, filter, Contains, AllPairs, refl, sym, ap, ◌∙◌, subst, arith}
+use Rattle.std.proofs.Common.{◌≡◌, ◌≢◌, ℕ, ◌^◌, ◌<◌, ◌≤◌, ◌⊎◌, inl, inr, Bool, true, false, cond}
+use Rattle.std.proofs.Common.{List, [], ◌∷◌, length, filter, Contains, AllPairs, refl, sym, ap, ◌∙◌, subst, arith}
 use Rattle.std.proofs.lemmas.Bool.{cases_lt, false≢true}
 use Rattle.net_model.specs.Network.{Network}
 use Rattle.order_core.specs.Turns.{is_old, is_new, routers_of, old_routers, new_routers}
@@ -8,14 +9,15 @@ use Rattle.order_core.specs.declared.turn.Tag.TheVariants as tag
 use Rattle.order_core.specs.declared.turn.Turn.{Turn}
 use Rattle.igp_theory.specs.Forwarding.{Steps}
 use Rattle.igp_theory.specs.LoopLaws.{AgreesWithTags, AreSoundEnds, IsLoopOfState, IsLoopFault}
-use Rattle.igp_theory.specs.Loops.{IsTagOf, IsTag, AroundRing, IsLoop, Arises, Fault, IsFault, missing_step, loop_arises}
+use Rattle.igp_theory.specs.Loops.{IsTagOf, IsTag, IsLoop, Arises, Fault, IsFault, missing_step, loop_arises}
 use Rattle.igp_theory.specs.Routes.{Tables}
 use Rattle.igp_theory.specs.States.{State, StepsIn, IsSoundAt, IsSound}
 use Rattle.igp_theory.specs.declared.phase.Phase.{Phase}
 use Rattle.igp_theory.specs.declared.phase.Phase.TheVariants.{Old, Middle, New}
 use Rattle.igp_theory.proofs.ForwardingLaws.{middle_is_old_or_new, middle_uses_one, every_phase_steps}
 use Rattle.net_model.proofs.Members.{Contains-none, Contains-first, Contains-rest, Contains-cases}
-use Rattle.igp_theory.proofs.Rings.{around_inside, around_both, around_at, found_goes_round, found_distinct, around_of_routers, turns_distinct, turns_return, some_turn}
+use Rattle.igp_theory.proofs.Rings.{around_inside, around_both, around_at, found_goes_round, found_distinct}
+use Rattle.igp_theory.proofs.Rings.{around_of_routers, turns_distinct, turns_return, some_turn}
 use Rattle.igp_theory.proofs.Tags.{IsTagTo, AreTagged}
 
 -- The turns of a tag
@@ -125,15 +127,16 @@ old_step tag.New is other = absurd (other refl)
 old_step tag.Both is other = is.0
 
 -- each router of a loop is one of the network
-pub tag_inside : (net : Network) (old new : Tables) (u a h : ℕ) (t : Tag) → IsTagOf t (Steps net old new u Old a h) (Steps net old new u New a h) → u < length net
+pub tag_inside : (net : Network) (old new : Tables) (u a h : ℕ) (t : Tag) →
+    IsTagOf t (Steps net old new u Old a h) (Steps net old new u New a h) → u < length net
 tag_inside net old new u a h tag.Old is = is.0.must.router
 tag_inside net old new u a h tag.New is = is.1.must.router
 tag_inside net old new u a h tag.Both is = is.0.must.router
 
 -- Where loops arise
 
-pub loop_arises_by_tags : (net : Network) (old new : Tables) (state : State) (a : ℕ) (ring : List Turn) → IsLoop net old new a ring → AgreesWithTags state ring →
-    Arises net old new state a ring
+pub loop_arises_by_tags : (net : Network) (old new : Tables) (state : State) (a : ℕ) (ring : List Turn) → IsLoop net old new a ring →
+    AgreesWithTags state ring → Arises net old new state a ring
 loop_arises_by_tags net old new state a ring is agrees =
     around_inside (IsTagTo net old new a) (λ (r s : Turn). StepsIn net old new state a r.router s.router) ring
     (λ r s inside tagged. tag_step r.tag (state r.router) tagged.steps

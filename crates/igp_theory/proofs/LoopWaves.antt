@@ -10,7 +10,8 @@ use Rattle.order_core.specs.declared.turn.Tag.{Tag}
 use Rattle.order_core.specs.declared.turn.Tag.TheVariants as tag
 use Rattle.order_core.specs.declared.turn.Turn.{Turn}
 use Rattle.igp_theory.specs.Forwarding.{Steps}
-use Rattle.igp_theory.specs.LoopLaws.{AgreesWithTags, AreSoundEnds, IsLoopOfState, ArisesInWave, StandsRoundWave, PutsSomeOldFirst, PutsSomeOldFirstInEach, IsLoopOfWave}
+use Rattle.igp_theory.specs.LoopLaws.{AgreesWithTags, AreSoundEnds, IsLoopOfState, ArisesInWave}
+use Rattle.igp_theory.specs.LoopLaws.{StandsRoundWave, PutsSomeOldFirst, PutsSomeOldFirstInEach, IsLoopOfWave}
 use Rattle.igp_theory.specs.Loops.{IsTagOf, IsTag, EachToNext, AroundRing, IsLoop, Arises, Fault, loop}
 use Rattle.igp_theory.specs.Routes.{Tables}
 use Rattle.igp_theory.specs.States.{State, StepsIn, Follows, IsSound}
@@ -22,10 +23,12 @@ use Rattle.igp_theory.specs.declared.phase.Phase.TheVariants.{Old, Middle, New}
 use Rattle.igp_theory.proofs.Delivery.{contains_or_not}
 use Rattle.igp_theory.proofs.FlatOrders.{wave_state_is_reached}
 use Rattle.igp_theory.proofs.ForwardingLaws.{every_phase_steps}
-use Rattle.igp_theory.proofs.LoopLaws.{old_turn, new_turn, old_or_new_step, tag_inside, loop_arises_by_tags, arising_is_unsound, old_is_early, new_is_late, ring_between_ends}
+use Rattle.igp_theory.proofs.LoopLaws.{old_turn, new_turn, old_or_new_step, tag_inside, loop_arises_by_tags}
+use Rattle.igp_theory.proofs.LoopLaws.{arising_is_unsound, old_is_early, new_is_late, ring_between_ends}
 use Rattle.net_model.proofs.Members.{Contains-none, Contains-first, Contains-rest, Contains-cases}
 use Rattle.igp_theory.proofs.OrderedLists.{pairs_first, pairs_rest}
-use Rattle.igp_theory.proofs.Rings.{each_inside, ring_returns, around_at, StepRing, ring_of_return, around_of_routers, turns_distinct, one_turn, some_turn, found_goes_round, found_distinct}
+use Rattle.igp_theory.proofs.Rings.{each_inside, ring_returns, around_at, StepRing, ring_of_return, around_of_routers}
+use Rattle.igp_theory.proofs.Rings.{turns_distinct, one_turn, some_turn, found_goes_round, found_distinct}
 use Rattle.igp_theory.proofs.Tags.{IsTagTo, AreTagged}
 use Rattle.igp_theory.proofs.WaveStates.{state_of_wave}
 
@@ -112,7 +115,8 @@ for_is_of_wave n ranks w ring = record {
       ∙ pick_first (cases_lt w (rank_of ranks u)) Old (inside_wave ring u) (λ early. omega (arith, after, early));
 }
 
-old_isnt_new : (ring : List Turn) (u : ℕ) → AllPairs (λ (r s : Turn). r.router ≢ s.router) ring → Contains (old_routers ring) u → Contains (new_routers ring) u → ⊥
+old_isnt_new : (ring : List Turn) (u : ℕ) → AllPairs (λ (r s : Turn). r.router ≢ s.router) ring → Contains (old_routers ring) u →
+    Contains (new_routers ring) u → ⊥
 old_isnt_new ring u distinct is_old is_new =
     let one = old_turn ring u is_old in
     let two = new_turn ring u is_new in
@@ -206,7 +210,8 @@ earlier_or_none ranks w (x ∷ routers) = elim (cases_lt (rank_of ranks x) w) [
   ]
 ]
 
-pub seamless_puts_old_first : (net : Network) (old new : Tables) (ranks : List ℕ) → AreSeamlessWaves net old new ranks → PutsSomeOldFirstInEach net old new ranks
+pub seamless_puts_old_first : (net : Network) (old new : Tables) (ranks : List ℕ) → AreSeamlessWaves net old new ranks →
+    PutsSomeOldFirstInEach net old new ranks
 seamless_puts_old_first net old new ranks seamless a ring is both =
     let last = latest_of_some ranks (new_routers ring) both.new in
     let w : ℕ = rank_of ranks last.0 in
@@ -255,9 +260,11 @@ tagged_turns : (net : Network) (old new : Tables) (state : State) (a : ℕ) (fir
     EachToNext (StepsIn net old new state a) first.router routers → (TaggedTurns net old new a first routers → ⊥) → ⊥
 tagged_turns net old new state a first [] goes none = none (record { turns = []; same = refl; tags = tt })
 tagged_turns net old new state a first (u ∷ []) goes none =
-    tag_towards (old_or_new_step (state u) goes) (λ t is. none (record { turns = record { router = u; tag = t } ∷ []; same = refl; tags = record { steps = is } }))
+    tag_towards (old_or_new_step (state u) goes)
+    (λ t is. none (record { turns = record { router = u; tag = t } ∷ []; same = refl; tags = record { steps = is } }))
 tagged_turns net old new state a first (u ∷ v ∷ rest) goes none =
-    tag_towards (old_or_new_step (state u) goes.0) (λ t is. tagged_turns net old new state a first (v ∷ rest) goes.1 (λ others. none (one_more first u v rest t is others)))
+    tag_towards (old_or_new_step (state u) goes.0)
+    (λ t is. tagged_turns net old new state a first (v ∷ rest) goes.1 (λ others. none (one_more first u v rest t is others)))
 
 -- the first element of a ring may be told by its router alone
 other_first : (net : Network) (old new : Tables) (a : ℕ) (first other : Turn) (ring : List Turn) → first.router ≡ other.router →
@@ -272,7 +279,8 @@ record TaggedRing (net : Network) (old new : Tables) (a : ℕ) (routers : List �
   same : routers_of ring ≡ routers
   tags : AreTagged net old new a ring
 
-close_ring : {net : Network} {old new : Tables} {a : ℕ} (u : ℕ) (rest : List ℕ) → TaggedTurns net old new a (record { router = u; tag = tag.Both }) (u ∷ rest) →
+close_ring : {net : Network} {old new : Tables} {a : ℕ} (u : ℕ) (rest : List ℕ) →
+    TaggedTurns net old new a (record { router = u; tag = tag.Both }) (u ∷ rest) →
     TaggedRing net old new a (u ∷ rest)
 close_ring {net} {old} {new} {a} u rest turns = close turns.turns turns.same turns.tags
   where
@@ -369,10 +377,12 @@ wave_steps net old new ranks w a first (u ∷ v ∷ rest) distinct goes =
       state = state;
       of_wave = put_of_wave (length net) ranks w u goes.0.state others.state goes.0.among others.of_wave;
       goes = (
-        subst (λ (phase : Phase). Steps net old new u phase a v) (sym (pick_first (cases_eq u u) (goes.0.state u) (others.state u) (λ apart. apart refl))) goes.0.steps,
+        subst (λ (phase : Phase). Steps net old new u phase a v)
+            (sym (pick_first (cases_eq u u) (goes.0.state u) (others.state u) (λ apart. apart refl))) goes.0.steps,
         each_inside (StepsIn net old new others.state a) (StepsIn net old new state a) first (v ∷ rest)
             (λ x y inside steps. subst (λ (phase : Phase). Steps net old new x phase a y)
-            (sym (pick_second (cases_eq x u) (goes.0.state u) (others.state x) (λ same. pairs_first (λ p q. p ≢ q) u (v ∷ rest) distinct x inside (sym same)))) steps)
+            (sym (pick_second (cases_eq x u) (goes.0.state u) (others.state x)
+            (λ same. pairs_first (λ p q. p ≢ q) u (v ∷ rest) distinct x inside (sym same)))) steps)
             others.goes,
       );
     }
@@ -406,8 +416,8 @@ seamless_by_waves net old new ranks waves sound = record {
 -- The fault of a wave between sound ends
 
 -- a ring over every hop of a wave's states, with its tags, is a loop of the wave
-ring_of_wave : (net : Network) (old new : Tables) (ranks : List ℕ) (w a : ℕ) (ring : List Turn) (u : ℕ) (rest : List ℕ) → AreSoundEnds net old new → a < 2 ^ 32 →
-    routers_of ring ≡ u ∷ rest → AreDistinct (routers_of ring) → AreTagged net old new a ring →
+ring_of_wave : (net : Network) (old new : Tables) (ranks : List ℕ) (w a : ℕ) (ring : List Turn) (u : ℕ) (rest : List ℕ) → AreSoundEnds net old new →
+    a < 2 ^ 32 → routers_of ring ≡ u ∷ rest → AreDistinct (routers_of ring) → AreTagged net old new a ring →
     AroundRing (StepsInSome net old new (IsStateOfWave (length net) ranks w) a) (routers_of ring) → IsLoopOfWave net old new ranks w (loop a ring)
 ring_of_wave net old new ranks w a ring u rest ends address begins distinct tags goes =
     let there : WaveSteps net old new ranks w a u (u ∷ rest) = wave_steps net old new ranks w a u (u ∷ rest) (subst AreDistinct begins distinct)
@@ -429,7 +439,9 @@ ring_of_wave net old new ranks w a ring u rest ends address begins distinct tags
 fault_of_wave : (net : Network) (old new : Tables) (ranks : List ℕ) (w : ℕ) (fault : Fault) → AreSoundEnds net old new →
     IsFaultOver net old new (IsStateOfWave (length net) ranks w) fault → IsLoopOfWave net old new ranks w fault
 fault_of_wave net old new ranks w fault ends (missing_in_one {a = a} {u = u} least lacks lowest) =
-    absurd (lacks.lacks (every_phase_steps ((ends.first a least.address).forwards u lacks.must) ((ends.last a least.address).forwards u lacks.must) (lacks.state u)))
+    let first = (ends.first a least.address).forwards u lacks.must in
+    let last = (ends.last a least.address).forwards u lacks.must in
+    absurd (lacks.lacks (every_phase_steps first last (lacks.state u)))
 fault_of_wave net old new ranks w fault ends (loop_over_all {a = a} {ring = ring} least forwards found tags) =
     ring_of_wave net old new ranks w a ring found.lowest found.others ends least.address found.first (found_distinct found) tags (found_goes_round found)
 

@@ -1,5 +1,6 @@
 -- An order as a wave list of ones: it has its ranks, and one run.
-use Rattle.std.proofs.Common.{◌≡◌, ◌≢◌, ℕ, zero, suc, ◌+◌, ◌<◌, ◌⊎◌, inl, inr, ◌==◌, if◌then◌else◌, Bool, List, [], ◌∷◌, length, map, get_or, Contains, refl, sym, ap, ◌∙◌, subst, arith}
+use Rattle.std.proofs.Common.{◌≡◌, ◌≢◌, ℕ, zero, suc, ◌+◌, ◌<◌, ◌⊎◌, inl, inr, ◌==◌, if◌then◌else◌, Bool}
+use Rattle.std.proofs.Common.{List, [], ◌∷◌, length, map, get_or, Contains, refl, sym, ap, ◌∙◌, subst, arith}
 use Rattle.std.specs.List.{AllPairs}
 use Rattle.std.proofs.lemmas.Bool.Decides.{eqb_tells}
 use Rattle.std.proofs.lemmas.List.{get_or-map, length-map}
@@ -58,7 +59,8 @@ order_has_ones n order lists =
 
 -- two lists of the same elements in one strict order are the same
 same_in_turn : {X : Type 0} (R : X → X → Type 0) (xs ys : List X) → AllPairs R xs → AllPairs R ys →
-    ((x y : X) → Contains xs x → Contains xs y → R x y → R y x → ⊥) → ((x : X) → Contains xs x → Contains ys x) → ((x : X) → Contains ys x → Contains xs x) → xs ≡ ys
+    ((x y : X) → Contains xs x → Contains xs y → R x y → R y x → ⊥) → ((x : X) → Contains xs x → Contains ys x) →
+    ((x : X) → Contains ys x → Contains xs x) → xs ≡ ys
 same_in_turn R [] [] one two apart over back = refl
 same_in_turn R [] (y ∷ ys) one two apart over back = absurd (Contains-none y (back y (Contains-first y ys)))
 same_in_turn R (x ∷ xs) [] one two apart over back = absurd (Contains-none x (over x (Contains-first x xs)))

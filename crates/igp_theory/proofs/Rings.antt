@@ -1,5 +1,6 @@
 -- Rings: each element and the next one.
-use Rattle.std.proofs.Common.{◌≡◌, ◌≢◌, ℕ, zero, suc, ◌<◌, ◌≤◌, ◌⊎◌, inl, inr, List, [], ◌∷◌, ◌++◌, length, Contains, AllPairs, refl, sym, ap, ◌∙◌, subst, arith}
+use Rattle.std.proofs.Common.{◌≡◌, ◌≢◌, ℕ, zero, suc, ◌<◌, ◌≤◌, ◌⊎◌, inl, inr, List, []}
+use Rattle.std.proofs.Common.{◌∷◌, ◌++◌, length, Contains, AllPairs, refl, sym, ap, ◌∙◌, subst, arith}
 use Rattle.std.proofs.lemmas.List.{append-nil}
 use Rattle.std.proofs.lemmas.List.Elements.{Contains-append_left}
 use Rattle.order_core.specs.Orders.{AreDistinct}
@@ -80,7 +81,8 @@ around_turned R (x ∷ xs) (y ∷ ys) goes = each_join R y x (y ∷ ys) xs (each
 pairs_front : {A : Type 0} (R : A → A → Type 0) (xs ys : List A) → AllPairs R (xs ++ ys) → AllPairs R xs
 pairs_front R [] ys pairs = pairs_none R
 pairs_front R (x ∷ xs) ys pairs =
-    pairs_more R x xs (λ y inside. pairs_first R x (xs ++ ys) pairs y (Contains-append_left xs ys y inside)) (pairs_front R xs ys (pairs_rest R x (xs ++ ys) pairs))
+    pairs_more R x xs (λ y inside. pairs_first R x (xs ++ ys) pairs y (Contains-append_left xs ys y inside))
+    (pairs_front R xs ys (pairs_rest R x (xs ++ ys) pairs))
 
 pairs_back : {A : Type 0} (R : A → A → Type 0) (xs ys : List A) → AllPairs R (xs ++ ys) → AllPairs R ys
 pairs_back R [] ys pairs = pairs
@@ -105,7 +107,8 @@ found_goes_round {step} {n} found =
 
 pub found_distinct : {step : ℕ → ℕ → Type 0} {n : ℕ} {ring : List ℕ} → IsFoundRing step n ring → AreDistinct ring
 found_distinct found =
-    let part : AreDistinct (found.again ∷ found.rest) = pairs_back (λ u v. u ≢ v) found.lead (found.again ∷ found.rest) (subst AreDistinct found.in_order found.distinct) in
+    let part : AreDistinct (found.again ∷ found.rest) =
+    pairs_back (λ u v. u ≢ v) found.lead (found.again ∷ found.rest) (subst AreDistinct found.in_order found.distinct) in
     subst AreDistinct (sym found.turned) (distinct_turned found.front found.back (subst AreDistinct found.found part))
 
 -- Lists of steps that return

@@ -1,5 +1,6 @@
 -- The states of a wave list are those of its waves.
-use Rattle.std.proofs.Common.{◌≡◌, ◌≢◌, ℕ, zero, suc, ◌+◌, ◌<◌, ◌≤◌, ◌⊎◌, inl, inr, ◌==◌, if◌then◌else◌, Bool, List, [], ◌∷◌, ◌++◌, length, map, take, drop, Contains, arith, refl, sym, ap, ◌∙◌, subst}
+use Rattle.std.proofs.Common.{◌≡◌, ◌≢◌, ℕ, zero, suc, ◌+◌, ◌<◌, ◌≤◌, ◌⊎◌, inl, inr, ◌==◌, if◌then◌else◌, Bool, List}
+use Rattle.std.proofs.Common.{[], ◌∷◌, ◌++◌, length, map, take, drop, Contains, arith, refl, sym, ap, ◌∙◌, subst}
 use Rattle.std.specs.List.{AllPairs, flat_map}
 use Rattle.std.proofs.lemmas.Bool.{cases_lt, cases_eq}
 use Rattle.std.proofs.lemmas.Bool.Decides.{eqb_tells}
@@ -299,7 +300,10 @@ made_before_left ranks Middle u c d made left =
     let two : second u ≡ d = contains_one (second u) d left in
     record {
       other = λ same. halves_apart u u (one ∙ same ∙ sym two);
-      wave = let e : rank_of ranks (changed c) ≡ rank_of ranks (changed d) = ap (λ (x : Change). rank_of ranks (changed x)) (sym one) ∙ ap (λ (x : Change). rank_of ranks (changed x)) two in omega (arith, e);
+      wave =
+          let rank : Change → ℕ = λ x. rank_of ranks (changed x) in
+          let e : rank_of ranks (changed c) ≡ rank_of ranks (changed d) = ap rank (sym one) ∙ ap rank two in
+          omega (arith, e);
       half = λ v is_second is_first. halves_apart u v (one ∙ is_second);
     }
 
