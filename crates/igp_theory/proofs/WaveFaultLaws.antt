@@ -64,12 +64,12 @@ fault_over_unique {net} {old} {new} {states} (missing_in_one {a = a} {u = u} lea
     absurd (none_lacks lacks (subst (λ (x : ℕ). AllForward net old new states x) (sym (least_same least last)) forwards))
 fault_over_unique {net} {old} {new} {states} (loop_over_all {a = a} least forwards found tags) (missing_in_one {a = b} {u = v} last lack low) =
     absurd (none_lacks lack (subst (λ (x : ℕ). AllForward net old new states x) (least_same least last) forwards))
-fault_over_unique {net} {old} {new} {states} (loop_over_all {a = a} {ring = ring} least _ found tags) (loop_over_all {a = b} {ring = other} last _ finds marks) =
+fault_over_unique {net} {old} {new} {states} (loop_over_all {a = a} {ring = one} least _ found tags) (loop_over_all {a = b} {ring = two} last _ finds marks) =
     let address : a ≡ b = least_same least last in
-    let again : IsFoundRing (StepsInSome net old new states a) (length net) (routers_of other) =
-    subst (λ (x : ℕ). IsFoundRing (StepsInSome net old new states x) (length net) (routers_of other)) (sym address) finds in
-    let tagged : AreTagged net old new a other = subst (λ (x : ℕ). AreTagged net old new x other) (sym address) marks in
-    let rings : ring ≡ other = same_tagged net old new a ring other (found_ring_unique found again) tags tagged in
+    let again : IsFoundRing (StepsInSome net old new states a) (length net) (routers_of two) =
+    subst (λ (x : ℕ). IsFoundRing (StepsInSome net old new states x) (length net) (routers_of two)) (sym address) finds in
+    let tagged : AreTagged net old new a two = subst (λ (x : ℕ). AreTagged net old new x two) (sym address) marks in
+    let rings : one ≡ two = same_tagged net old new a one two (found_ring_unique found again) tags tagged in
     cc
 
 -- the state in which a fault's address is unsound
