@@ -10,8 +10,8 @@ use Rattle.igp_theory.specs.Routes.{Tables}
 use Rattle.igp_theory.specs.States.{State, StepsIn, Follows, IsSoundAt, IsSound, state_of}
 use Rattle.igp_theory.specs.declared.phase.Phase.TheVariants.{Old, New}
 
--- the tag of two things, of which the old phase does one and the new phase the other: Old where only the old one does it, New
--- where only the new one does, Both where both do
+-- which tag says what two phases do: Old where only the old phase does it, New where only the new phase
+-- does, Both where both do
 abbrev pub IsTagOf : Tag → Type 0 → Type 0 → Type 0
 IsTagOf tag.Old old new = old × (¬ new)
 IsTagOf tag.New old new = (¬ old) × new

@@ -1,19 +1,7 @@
 -- The least of what is found: an item, or a pair of routers with an item.
-use Rattle.std.specs.Prelude.{◌≡◌, ℕ, ◌<◌, ◌≤◌, ◌⊎◌, Option, MatchOption}
+use Rattle.std.specs.Prelude.{◌≡◌, ℕ, ◌<◌, ◌≤◌, ◌⊎◌}
 use Rattle.net_addr.specs.Addresses.{Block}
-
--- the least item of which P holds, in an order of items
-pub record IsLeast {A : Type 0} (AtMost : A → A → Type 0) (P : A → Type 0) (item : A) : Type 0 where
-  pub holds : P item
-  pub least : (other : A) → P other → AtMost item other
-
--- the lowest number of which P holds
-abbrev pub IsLowest : (ℕ → Type 0) → ℕ → Type 0
-IsLowest P n = IsLeast (λ a b. a ≤ b) P n
-
--- the least item of which P holds, and none exactly where there is none
-abbrev pub IsBest : {A : Type 0} → (A → A → Type 0) → (A → Type 0) → Option A → Type 0
-IsBest {A} AtMost P best = MatchOption best ((item : A) → P item → ⊥) (IsLeast AtMost P)
+pub use Rattle.order_core.specs.Least.{IsLeast, IsLowest, IsBest}
 
 -- prefixes are ordered by base, then by length
 abbrev pub IsBlockAtMost : Block → Block → Type 0

@@ -1,5 +1,5 @@
 pub mod Orders
-pub mod Lowest
+pub mod Least
 pub mod Marks
 pub mod Pairs
 pub mod Rankings

@@ -5,6 +5,7 @@ mod turn;
 mod wave_laws;
 mod waves;
 
+pub use std::alloc::AllocError as OutOfMemory;
 pub use turn::{Tag, Turn, Turns};
 pub use wave_laws::{flat_runs_are_orders, waves_are_ranks};
 pub use waves::Waves;

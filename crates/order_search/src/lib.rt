@@ -13,7 +13,7 @@ pub use depth_first::search;
 pub use descending::Descending;
 pub use found::{Found, Sequence};
 pub use oracle::{Answer, Oracle};
-pub use order_core::{Tag, Turn, Turns};
+pub use order_core::{Tag, Turn, Turns, Waves};
 pub use std::alloc::AllocError as OutOfMemory;
 pub use tree::{Cycle, Node, Tree};
 
