@@ -3,7 +3,7 @@ use Rattle.std.proofs.Common.{◌≡◌, ◌≢◌, ℕ, ◌^◌, ◌<◌, ◌�
 use Rattle.std.proofs.Common.{List, [], ◌∷◌, length, filter, Contains, AllPairs, refl, sym, ap, ◌∙◌, subst, arith}
 use Rattle.std.proofs.lemmas.Bool.{cases_lt, false≢true}
 use Rattle.net_model.specs.Network.{Network}
-use Rattle.order_core.specs.Turns.{is_old, is_new, routers_of, old_routers, new_routers}
+use Rattle.order_core.specs.Turns.{is_old, is_new, routers_of, old_routers, new_routers, HasBothTags}
 use Rattle.order_core.specs.declared.turn.Tag.{Tag}
 use Rattle.order_core.specs.declared.turn.Tag.TheVariants as tag
 use Rattle.order_core.specs.declared.turn.Turn.{Turn}
@@ -192,6 +192,13 @@ has_new {net} {old} {new} {a} ring ends address some tags = elim (cases_lt 0 (le
       (λ is. let among = new_listed ring r inside is in let within = among.1 in omega (arith, within, none))) tags)
       (ends.first a address))
 ]
+
+pub loop_has_both_tags : (net : Network) (old new : Tables) (a : ℕ) (ring : List Turn) → AreSoundEnds net old new → IsLoop net old new a ring →
+    HasBothTags ring
+loop_has_both_tags net old new a ring ends is =
+    let many = is.some in
+    let some : 0 < length ring = omega (arith, many) in
+    record { old = has_old ring ends is.address some is.tags; new = has_new ring ends is.address some is.tags }
 
 -- a router that doesn't step to h in New, and does in this phase, is in Old or Middle
 early_phase : {net : Network} {old new : Tables} {u a h : ℕ} (phase : Phase) → Steps net old new u phase a h → (Steps net old new u New a h → ⊥) →
