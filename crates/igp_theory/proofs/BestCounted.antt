@@ -1,5 +1,6 @@
 -- Over tables that are lists a router uses an entry for an address, or none that counts contains it.
-use Rattle.std.proofs.Common.{◌≡◌, ◌≢◌, ℕ, ◌≤◌, inl, inr, Bool, true, false, List, [], ◌∷◌, ◌++◌, map, Contains, Option, Some, None, arith, refl, sym, ap, ◌∙◌, subst}
+use Rattle.std.proofs.Common.{◌≡◌, ◌≢◌, ℕ, ◌≤◌, inl, inr, Bool, true, false, List, [], ◌∷◌}
+use Rattle.std.proofs.Common.{◌++◌, map, Contains, Option, Some, None, arith, refl, sym, ap, ◌∙◌, subst}
 use Rattle.std.specs.List.{flat_map}
 use Rattle.std.proofs.lemmas.Bool.{cases_lt, cases_eq, cases_order}
 use Rattle.std.proofs.lemmas.List.Elements.{Contains-append_left, Contains-append_right, Contains-append_cases}
@@ -8,13 +9,14 @@ use Rattle.net_addr.specs.Addresses.{Block, ContainsAddress, first_bits}
 use Rattle.net_model.specs.Configuration.{Configuration}
 use Rattle.net_model.specs.Network.{Network, HasConfiguration, Connected}
 use Rattle.net_model.specs.declared.interface.Interface.{Interface}
+use Rattle.net_model.proofs.Members.{Contains-none, Contains-first, Contains-rest, Contains-cases}
 use Rattle.net_model.proofs.Members.{Contains-flat_map, Contains-in_flat_map, Contains-map, Contains-in_map}
 use Rattle.route_core.specs.Tables.{HasEntry}
 use Rattle.route_core.specs.declared.entry.Entry.{Entry}
 use Rattle.igp_theory.specs.Forwarding.{Usable, connected, of_old, of_new, OldCounts, NewCounts, Counts, connected_counts, old_counts, new_counts, Uses}
 use Rattle.igp_theory.specs.declared.phase.Phase.{Phase}
 use Rattle.igp_theory.specs.declared.phase.Phase.TheVariants.{Old, Middle, New}
-use Rattle.igp_theory.proofs.OrderedLists.{contains_none, contains_here, contains_there, contains_cases, contains_one}
+use Rattle.igp_theory.proofs.OrderedLists.{contains_one}
 
 -- an entry that counts: its prefix, at its distance
 pub record Counted : Type 0 where
@@ -42,13 +44,14 @@ record NoWorse (a : ℕ) (one other : Counted) : Type 0 where
 
 stays_best : (a : ℕ) (c : Counted) (counted : List Counted) (b : Counted) → NoWorse a b c → IsBestOf a counted b → IsBestOf a (c ∷ counted) b
 stays_best a c counted b no_worse is = record {
-  among = contains_there c b counted is.among;
+  among = Contains-rest c counted b is.among;
   contains = is.contains;
-  longest = λ d inside contains. elim (contains_cases c d counted inside) [
-    | inl same ↦ subst (λ (x : Counted). x.prefix.len ≤ b.prefix.len) same (no_worse.longer (subst (λ (x : Counted). ContainsAddress x.prefix a) (sym same) contains))
+  longest = λ d inside contains. elim (Contains-cases c counted d inside) [
+    | inl same ↦ subst (λ (x : Counted). x.prefix.len ≤ b.prefix.len) same
+        (no_worse.longer (subst (λ (x : Counted). ContainsAddress x.prefix a) (sym same) contains))
     | inr rest ↦ is.longest d rest contains
   ];
-  lowest = λ d inside contains len. elim (contains_cases c d counted inside) [
+  lowest = λ d inside contains len. elim (Contains-cases c counted d inside) [
     | inl same ↦ subst (λ (x : Counted). b.distance ≤ x.distance) same
         (no_worse.closer (subst (λ (x : Counted). ContainsAddress x.prefix a) (sym same) contains) (ap (λ (x : Counted). x.prefix.len) same ∙ len))
     | inr rest ↦ is.lowest d rest contains len
@@ -58,13 +61,13 @@ stays_best a c counted b no_worse is = record {
 becomes_best : (a : ℕ) (c : Counted) (counted : List Counted) → ContainsAddress c.prefix a →
     ((d : Counted) → Contains counted d → NoWorse a c d) → IsBestOf a (c ∷ counted) c
 becomes_best a c counted contains no_worse = record {
-  among = contains_here c counted;
+  among = Contains-first c counted;
   contains = contains;
-  longest = λ d inside within. elim (contains_cases c d counted inside) [
+  longest = λ d inside within. elim (Contains-cases c counted d inside) [
     | inl same ↦ subst (λ (x : Counted). x.prefix.len ≤ c.prefix.len) same (omega arith)
     | inr rest ↦ (no_worse d rest).longer within
   ];
-  lowest = λ d inside within len. elim (contains_cases c d counted inside) [
+  lowest = λ d inside within len. elim (Contains-cases c counted d inside) [
     | inl same ↦ subst (λ (x : Counted). c.distance ≤ x.distance) same (omega arith)
     | inr rest ↦ (no_worse d rest).closer within len
   ];
@@ -85,8 +88,12 @@ through_best a c counted b is longer closer d inside = record {
 
 better : (a : ℕ) (c : Counted) (counted : List Counted) (b : Counted) → ContainsAddress c.prefix a → IsBestOf a counted b → BestOrNone a (c ∷ counted)
 better a c counted b contains is = elim (cases_order c.prefix.len b.prefix.len) [
-  | inr (inl shorter) ↦ best b (stays_best a c counted b (record { longer = λ within. omega (arith, shorter); closer = λ within len. absurd (omega (arith, shorter, len)) }) is)
-  | inr (inr longer) ↦ best c (becomes_best a c counted contains (through_best a c counted b is (omega (arith, longer)) (λ len. absurd (omega (arith, longer, len)))))
+  | inr (inl shorter) ↦ best b (stays_best a c counted b (record {
+    longer = λ within. omega (arith, shorter);
+    closer = λ within len. absurd (omega (arith, shorter, len));
+  }) is)
+  | inr (inr longer) ↦ best c (becomes_best a c counted contains
+      (through_best a c counted b is (omega (arith, longer)) (λ len. absurd (omega (arith, longer, len)))))
   | inl same ↦ elim (cases_lt c.distance b.distance) [
     | inl closer ↦ best c (becomes_best a c counted contains (through_best a c counted b is (omega (arith, same)) (λ len. omega (arith, closer))))
     | inr farther ↦ best b (stays_best a c counted b (record { longer = λ within. omega (arith, same); closer = λ within len. farther }) is)
@@ -94,7 +101,7 @@ better a c counted b contains is = elim (cases_order c.prefix.len b.prefix.len) 
 ]
 
 pub best_or_none : (a : ℕ) (counted : List Counted) → BestOrNone a counted
-best_or_none a [] = none (λ c inside. absurd (contains_none c inside))
+best_or_none a [] = none (λ c inside. absurd (Contains-none c inside))
 best_or_none a (c ∷ counted) = elim (cases_eq (first_bits c.prefix.len a) (first_bits c.prefix.len c.prefix.base)) [
   | inl contains ↦ elim (best_or_none a counted) [
     | best b is ↦ better a c counted b contains is
@@ -105,7 +112,7 @@ best_or_none a (c ∷ counted) = elim (cases_eq (first_bits c.prefix.len a) (fir
   ]
   | inr outside ↦ elim (best_or_none a counted) [
     | best b is ↦ best b (stays_best a c counted b (record { longer = λ within. absurd (outside within); closer = λ within. absurd (outside within) }) is)
-    | none others ↦ none (λ d inside within. elim (contains_cases c d counted inside) [
+    | none others ↦ none (λ d inside within. elim (Contains-cases c counted d inside) [
       | inl same ↦ outside (subst (λ (x : Counted). ContainsAddress x.prefix a) (sym same) within)
       | inr rest ↦ others d rest within
     ])
@@ -158,8 +165,8 @@ subnet_sound w phase i true (Some p) c among is_up is_subnet inside =
       up = record { config = w.config; router = w.has; among = among; up = is_up };
       subnet = is_subnet;
     }))
-subnet_sound w phase i true None c among is_up is_subnet inside = absurd (contains_none c inside)
-subnet_sound w phase i false subnet c among is_up is_subnet inside = absurd (contains_none c inside)
+subnet_sound w phase i true None c among is_up is_subnet inside = absurd (Contains-none c inside)
+subnet_sound w phase i false subnet c among is_up is_subnet inside = absurd (Contains-none c inside)
 
 old_sound : (w : Place) (phase : Phase) (c : Counted) → w.config.distances.ospf ≢ 255 →
     Contains (old_counted phase w.config.distances.ospf (w.old w.u)) c → CountsAt w phase c
@@ -169,10 +176,10 @@ old_sound w Old c far inside =
 old_sound w Middle c far inside =
     let one = Contains-map (λ (e : Block × Entry). counted_at e.0 w.config.distances.ospf (of_old e.1)) (w.old w.u) c inside in
     subst (CountsAt w Middle) one.gives (old_counts tt w.config w.has refl far one.among)
-old_sound w New c far inside = absurd (contains_none c inside)
+old_sound w New c far inside = absurd (Contains-none c inside)
 
 new_sound : (w : Place) (phase : Phase) (c : Counted) → Contains (new_counted phase (w.new w.u)) c → CountsAt w phase c
-new_sound w Old c inside = absurd (contains_none c inside)
+new_sound w Old c inside = absurd (Contains-none c inside)
 new_sound w Middle c inside =
     let one = Contains-map (λ (e : Block × Entry). counted_at e.0 115 (of_new e.1)) (w.new w.u) c inside in
     subst (CountsAt w Middle) one.gives (new_counts tt one.among)
@@ -192,6 +199,16 @@ new_complete entries Old p e counts inside = absurd counts
 new_complete entries Middle p e counts inside = Contains-in_map (λ (x : Block × Entry). counted_at x.0 115 (of_new x.1)) entries (p, e) inside
 new_complete entries New p e counts inside = Contains-in_map (λ (x : Block × Entry). counted_at x.0 115 (of_new x.1)) entries (p, e) inside
 
+-- what counts at a router: what is connected, what the old table has and what the new one has
+abbrev connected_list : Place → List Counted
+connected_list w = flat_map interface_counted w.config.interfaces
+
+abbrev old_list : Place → Phase → List Counted
+old_list w phase = old_counted phase w.config.distances.ospf (w.old w.u)
+
+abbrev new_list : Place → Phase → List Counted
+new_list w phase = new_counted phase (w.new w.u)
+
 -- a list of exactly what counts at a router in a phase
 record AreCounted (w : Place) (phase : Phase) : Type 0 where
   list : List Counted
@@ -201,20 +218,22 @@ record AreCounted (w : Place) (phase : Phase) : Type 0 where
 one_config : (w : Place) (c : Configuration) → HasConfiguration w.net w.u c → c ≡ w.config
 one_config w c has = same_Some c w.config (sym has ∙ w.has)
 
-subnet_complete : (up : Bool) (subnet : Option Block) (p : Block) → up ≡ true → subnet ≡ Some p → Contains (subnet_counted up subnet) (counted_at p 0 connected)
+subnet_complete : (up : Bool) (subnet : Option Block) (p : Block) → up ≡ true → subnet ≡ Some p →
+    Contains (subnet_counted up subnet) (counted_at p 0 connected)
 subnet_complete true (Some q) p is_up is_subnet =
-    subst (λ (x : Block). Contains (subnet_counted true (Some q)) (counted_at x 0 connected)) (same_Some q p is_subnet) (contains_here (counted_at q 0 connected) [])
+    subst (λ (x : Block). Contains (subnet_counted true (Some q)) (counted_at x 0 connected)) (same_Some q p is_subnet)
+    (Contains-first (counted_at q 0 connected) [])
 subnet_complete true None p is_up is_subnet = cc
 subnet_complete false subnet p is_up is_subnet = cc
 
-connected_complete : (w : Place) (p : Block) → Connected w.net w.u p → Contains (flat_map interface_counted w.config.interfaces) (counted_at p 0 connected)
+connected_complete : (w : Place) (p : Block) → Connected w.net w.u p → Contains (connected_list w) (counted_at p 0 connected)
 connected_complete w p is =
     let among : Contains w.config.interfaces is.interface =
     subst (λ (c : Configuration). Contains c.interfaces is.interface) (one_config w is.up.config is.up.router) is.up.among in
     Contains-in_flat_map interface_counted w.config.interfaces is.interface (counted_at p 0 connected) among
     (subnet_complete is.interface.up is.interface.subnet p is.up.up is.subnet)
 
-connected_sound : (w : Place) (phase : Phase) (c : Counted) → Contains (flat_map interface_counted w.config.interfaces) c → CountsAt w phase c
+connected_sound : (w : Place) (phase : Phase) (c : Counted) → Contains (connected_list w) c → CountsAt w phase c
 connected_sound w phase c inside =
     let one = Contains-flat_map interface_counted w.config.interfaces c inside in
     subnet_sound w phase one.item one.item.up one.item.subnet c one.among refl refl one.inside
@@ -222,11 +241,9 @@ connected_sound w phase c inside =
 -- without the old table, where its distance is 255
 counted_without : (w : Place) (phase : Phase) → w.config.distances.ospf ≡ 255 → AreCounted w phase
 counted_without w phase far =
-    let near : List Counted = flat_map interface_counted w.config.interfaces in
-    let fresh : List Counted = new_counted phase (w.new w.u) in
     record {
-      list = near ++ fresh;
-      sound = λ c inside. elim (Contains-append_cases near fresh c inside) [
+      list = connected_list w ++ new_list w phase;
+      sound = λ c inside. elim (Contains-append_cases (connected_list w) (new_list w phase) c inside) [
         | inl one ↦ connected_sound w phase c one
         | inr two ↦ new_sound w phase c two
       ];
@@ -234,26 +251,23 @@ counted_without w phase far =
     }
   where
     complete : (p : Block) (d : ℕ) (x : Usable) → Counts w.net (HasEntry w.old) (HasEntry w.new) w.u phase p d x →
-        Contains (flat_map interface_counted w.config.interfaces ++ new_counted phase (w.new w.u)) (counted_at p d x)
+        Contains (connected_list w ++ new_list w phase) (counted_at p d x)
     complete p d x (connected_counts is) =
-        Contains-append_left (flat_map interface_counted w.config.interfaces) (new_counted phase (w.new w.u)) (counted_at p 0 connected) (connected_complete w p is)
+        Contains-append_left (connected_list w) (new_list w phase) (counted_at p 0 connected) (connected_complete w p is)
     complete p d x (old_counts counts c has is set entry) =
         absurd (set (sym is ∙ ap (λ (y : Configuration). y.distances.ospf) (one_config w c has) ∙ far))
     complete p d x (new_counts {e = e} counts entry) =
-        Contains-append_right (flat_map interface_counted w.config.interfaces) (new_counted phase (w.new w.u)) (counted_at p 115 (of_new e))
+        Contains-append_right (connected_list w) (new_list w phase) (counted_at p 115 (of_new e))
         (new_complete (w.new w.u) phase p e counts entry)
 
 -- with it
 counted_with : (w : Place) (phase : Phase) → w.config.distances.ospf ≢ 255 → AreCounted w phase
 counted_with w phase set =
-    let near : List Counted = flat_map interface_counted w.config.interfaces in
-    let stale : List Counted = old_counted phase w.config.distances.ospf (w.old w.u) in
-    let fresh : List Counted = new_counted phase (w.new w.u) in
     record {
-      list = near ++ (stale ++ fresh);
-      sound = λ c inside. elim (Contains-append_cases near (stale ++ fresh) c inside) [
+      list = connected_list w ++ (old_list w phase ++ new_list w phase);
+      sound = λ c inside. elim (Contains-append_cases (connected_list w) (old_list w phase ++ new_list w phase) c inside) [
         | inl one ↦ connected_sound w phase c one
-        | inr rest ↦ elim (Contains-append_cases stale fresh c rest) [
+        | inr rest ↦ elim (Contains-append_cases (old_list w phase) (new_list w phase) c rest) [
           | inl two ↦ old_sound w phase c set two
           | inr three ↦ new_sound w phase c three
         ]
@@ -262,20 +276,18 @@ counted_with w phase set =
     }
   where
     complete : (p : Block) (d : ℕ) (x : Usable) → Counts w.net (HasEntry w.old) (HasEntry w.new) w.u phase p d x →
-        Contains (flat_map interface_counted w.config.interfaces ++ (old_counted phase w.config.distances.ospf (w.old w.u) ++ new_counted phase (w.new w.u))) (counted_at p d x)
+        Contains (connected_list w ++ (old_list w phase ++ new_list w phase)) (counted_at p d x)
     complete p d x (connected_counts is) =
-        Contains-append_left (flat_map interface_counted w.config.interfaces) (old_counted phase w.config.distances.ospf (w.old w.u) ++ new_counted phase (w.new w.u))
-        (counted_at p 0 connected) (connected_complete w p is)
+        Contains-append_left (connected_list w) (old_list w phase ++ new_list w phase) (counted_at p 0 connected) (connected_complete w p is)
     complete p d x (old_counts {e = e} counts c has is far entry) =
         let distance : w.config.distances.ospf ≡ d = sym (ap (λ (y : Configuration). y.distances.ospf) (one_config w c has)) ∙ is in
-        Contains-append_right (flat_map interface_counted w.config.interfaces) (old_counted phase w.config.distances.ospf (w.old w.u) ++ new_counted phase (w.new w.u))
-        (counted_at p d (of_old e))
-        (Contains-append_left (old_counted phase w.config.distances.ospf (w.old w.u)) (new_counted phase (w.new w.u)) (counted_at p d (of_old e))
-        (subst (λ (k : ℕ). Contains (old_counted phase k (w.old w.u)) (counted_at p d (of_old e))) (sym distance) (old_complete (w.old w.u) phase p d e counts entry)))
+        Contains-append_right (connected_list w) (old_list w phase ++ new_list w phase) (counted_at p d (of_old e))
+        (Contains-append_left (old_list w phase) (new_list w phase) (counted_at p d (of_old e))
+        (subst (λ (k : ℕ). Contains (old_counted phase k (w.old w.u)) (counted_at p d (of_old e))) (sym distance)
+        (old_complete (w.old w.u) phase p d e counts entry)))
     complete p d x (new_counts {e = e} counts entry) =
-        Contains-append_right (flat_map interface_counted w.config.interfaces) (old_counted phase w.config.distances.ospf (w.old w.u) ++ new_counted phase (w.new w.u))
-        (counted_at p 115 (of_new e))
-        (Contains-append_right (old_counted phase w.config.distances.ospf (w.old w.u)) (new_counted phase (w.new w.u)) (counted_at p 115 (of_new e))
+        Contains-append_right (connected_list w) (old_list w phase ++ new_list w phase) (counted_at p 115 (of_new e))
+        (Contains-append_right (old_list w phase) (new_list w phase) (counted_at p 115 (of_new e))
         (new_complete (w.new w.u) phase p e counts entry))
 
 are_counted : (w : Place) (phase : Phase) → AreCounted w phase

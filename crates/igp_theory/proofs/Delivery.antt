@@ -1,11 +1,13 @@
 -- What sound means: lists of steps are short, and lead on until an originator is reached.
-use Rattle.std.proofs.Common.{Option, Some, None, IsTrue, ap, ◌∙◌, ◌≡◌, ◌≢◌, ℕ, ◌^◌, ◌<◌, ◌≤◌, ◌⊎◌, inl, inr, List, [], ◌∷◌, length, Contains, arith, sym, subst}
+use Rattle.std.proofs.Common.{refl, Option, Some, None, IsTrue, ap, ◌∙◌, ◌≡◌, ◌≢◌, ℕ, zero, suc, ◌+◌, ◌^◌}
+use Rattle.std.proofs.Common.{◌<◌, ◌≤◌, ◌⊎◌, inl, inr, List, [], ◌∷◌, ◌++◌, length, Contains, arith, sym, subst}
 use Rattle.std.specs.List.{AllPairs}
 use Rattle.std.proofs.lemmas.Bool.{cases_eq, cases_Bool, eqb-true, false≢true}
 use Rattle.std.proofs.lemmas.Bool.Decides.{Decides-eqb}
 use Rattle.std.proofs.lemmas.Map.Made.{IsDistinct-from_AllPairs}
 use Rattle.std.proofs.lemmas.Map.Steps.{length-le_from_distinct_below}
 use Rattle.std.proofs.lemmas.Map.Views.{Contains-from_any}
+use Rattle.std.proofs.lemmas.List.{length-append}
 use Rattle.std.proofs.lemmas.Option.{same_Some, slice_get_within, slice_get_cases}
 use Rattle.net_addr.specs.Addresses.{Block}
 use Rattle.net_model.specs.Configuration.{Configuration}
@@ -20,7 +22,8 @@ use Rattle.igp_theory.specs.Routes.{Tables, EntryLeadsTo}
 use Rattle.igp_theory.specs.States.{State, StepsIn, Follows, IsSoundAt, IsSound}
 use Rattle.igp_theory.specs.WaveLaws.{HopsAreRouters, Delivers}
 use Rattle.igp_theory.specs.declared.phase.Phase.{Phase}
-use Rattle.igp_theory.proofs.OrderedLists.{contains_none, contains_here, contains_there, contains_cases, pairs_none, pairs_more}
+use Rattle.net_model.proofs.Members.{Contains-none, Contains-first, Contains-rest, Contains-cases}
+use Rattle.igp_theory.proofs.OrderedLists.{pairs_none, pairs_more}
 use Rattle.igp_theory.proofs.TableLaws.{ospf_hop_is_neighbor, isis_hop_is_neighbor}
 
 -- Hops are routers
@@ -54,23 +57,23 @@ steps_inside in_old in_new steps = leads_inside in_old in_new steps.must.router 
 -- Lists of steps
 
 pub contains_or_not : (x : ℕ) (xs : List ℕ) → Contains xs x ⊎ (Contains xs x → ⊥)
-contains_or_not x [] = inr (contains_none x)
+contains_or_not x [] = inr (Contains-none x)
 contains_or_not x (y ∷ xs) = elim (cases_eq y x) [
-  | inl same ↦ inl (subst (λ (z : ℕ). Contains (y ∷ xs) z) same (contains_here y xs))
+  | inl same ↦ inl (subst (λ (z : ℕ). Contains (y ∷ xs) z) same (Contains-first y xs))
   | inr apart ↦ elim (contains_or_not x xs) [
-    | inl there ↦ inl (contains_there y x xs there)
-    | inr absent ↦ inr (λ inside. elim (contains_cases y x xs inside) [ inl same ↦ apart same | inr there ↦ absent there ])
+    | inl there ↦ inl (Contains-rest y xs x there)
+    | inr absent ↦ inr (λ inside. elim (Contains-cases y xs x inside) [ inl same ↦ apart same | inr there ↦ absent there ])
   ]
 ]
 
 -- every router of a list of steps is below n, where the first one and each hop is
 pub steps_below : (step : ℕ → ℕ → Type 0) (n : ℕ) → ((u h : ℕ) → step u h → h < n) → (u : ℕ) (hops : List ℕ) (v : ℕ) → u < n →
     Follows step u hops v → (w : ℕ) → Contains (u ∷ hops) w → w < n
-steps_below step n inside u [] v below follows w among = elim (contains_cases u w [] among) [
+steps_below step n inside u [] v below follows w among = elim (Contains-cases u [] w among) [
   | inl same ↦ subst (λ (x : ℕ). x < n) same below
-  | inr none ↦ absurd (contains_none w none)
+  | inr none ↦ absurd (Contains-none w none)
 ]
-steps_below step n inside u (h ∷ hops) v below follows w among = elim (contains_cases u w (h ∷ hops) among) [
+steps_below step n inside u (h ∷ hops) v below follows w among = elim (Contains-cases u (h ∷ hops) w among) [
   | inl same ↦ subst (λ (x : ℕ). x < n) same below
   | inr later ↦ steps_below step n inside h hops v (inside u h follows.0) follows.1 w later
 ]
@@ -87,8 +90,8 @@ pub record LeadsOn (step : ℕ → ℕ → Type 0) (u v : ℕ) : Type 0 where
   pub follows : Follows step u (hop ∷ hops) v
 
 pub leads_to : (step : ℕ → ℕ → Type 0) (u : ℕ) (hops : List ℕ) (v w : ℕ) → Follows step u hops v → Contains hops w → LeadsOn step u w
-leads_to step u [] v w follows among = absurd (contains_none w among)
-leads_to step u (h ∷ hops) v w follows among = elim (contains_cases h w hops among) [
+leads_to step u [] v w follows among = absurd (Contains-none w among)
+leads_to step u (h ∷ hops) v w follows among = elim (Contains-cases h hops w among) [
   | inl same ↦ record { hop = h; hops = []; follows = (follows.0, same) }
   | inr later ↦
       let rest : LeadsOn step h w = leads_to step h hops v w follows.1 later in
@@ -98,7 +101,7 @@ leads_to step u (h ∷ hops) v w follows among = elim (contains_cases h w hops a
 -- a list of steps visits distinct routers, or one of its routers comes back to itself
 pub distinct_or_returns : (step : ℕ → ℕ → Type 0) (u : ℕ) (hops : List ℕ) (v : ℕ) → Follows step u hops v →
     AllPairs (λ x y. x ≢ y) (u ∷ hops) ⊎ ((w : ℕ) × LeadsOn step w w)
-distinct_or_returns step u [] v follows = inl (pairs_more (λ x y. x ≢ y) u [] (λ w inside. absurd (contains_none w inside)) (pairs_none (λ x y. x ≢ y)))
+distinct_or_returns step u [] v follows = inl (pairs_more (λ x y. x ≢ y) u [] (λ w inside. absurd (Contains-none w inside)) (pairs_none (λ x y. x ≢ y)))
 distinct_or_returns step u (h ∷ hops) v follows = elim (distinct_or_returns step h hops v follows.1) [
   | inr returns ↦ inr returns
   | inl distinct ↦ elim (contains_or_not u (h ∷ hops)) [
@@ -139,10 +142,10 @@ record UpWith (interfaces : List Interface) (p : Block) : Type 0 where
   subnet : interface.subnet ≡ Some p
 
 up_with_or_not : (interfaces : List Interface) (p : Block) → UpWith interfaces p ⊎ (UpWith interfaces p → ⊥)
-up_with_or_not [] p = inr (λ one. contains_none one.interface one.among)
+up_with_or_not [] p = inr (λ one. Contains-none one.interface one.among)
 up_with_or_not (i ∷ interfaces) p = elim (cases_Bool i.up) [
   | inl up ↦ elim (subnet_or_not i.subnet p) [
-    | inl subnet ↦ inl (record { interface = i; among = contains_here i interfaces; up = up; subnet = subnet })
+    | inl subnet ↦ inl (record { interface = i; among = Contains-first i interfaces; up = up; subnet = subnet })
     | inr other ↦ others (λ one same. other (ap (λ (x : Interface). x.subnet) same ∙ one.subnet)) (up_with_or_not interfaces p)
   ]
   | inr down ↦ others (λ one same. false≢true (sym down ∙ ap (λ (x : Interface). x.up) same ∙ one.up)) (up_with_or_not interfaces p)
@@ -151,8 +154,8 @@ up_with_or_not (i ∷ interfaces) p = elim (cases_Bool i.up) [
     others : ((one : UpWith (i ∷ interfaces) p) → i ≡ one.interface → ⊥) → UpWith interfaces p ⊎ (UpWith interfaces p → ⊥) →
         UpWith (i ∷ interfaces) p ⊎ (UpWith (i ∷ interfaces) p → ⊥)
     others not_first (inl one) =
-        inl (record { interface = one.interface; among = contains_there i one.interface interfaces one.among; up = one.up; subnet = one.subnet })
-    others not_first (inr none) = inr (λ one. elim (contains_cases i one.interface interfaces one.among) [
+        inl (record { interface = one.interface; among = Contains-rest i interfaces one.interface one.among; up = one.up; subnet = one.subnet })
+    others not_first (inr none) = inr (λ one. elim (Contains-cases i interfaces one.interface one.among) [
       | inl same ↦ not_first one same
       | inr later ↦ none (record { interface = one.interface; among = later; up = one.up; subnet = one.subnet })
     ])
@@ -190,3 +193,45 @@ sound_delivers net old new state a p in_old in_new sound address target =
             | inr away ↦ inr (here.forwards v (record { router = router; target = p; is_target = target; away = away }))
           ];
     }
+
+-- A state that delivers is sound
+
+-- lists of steps, one after the other
+steps_joined : (step : ℕ → ℕ → Type 0) (u : ℕ) (one : List ℕ) (v : ℕ) (two : List ℕ) (w : ℕ) → Follows step u one v → Follows step v two w →
+    Follows step u (one ++ two) w
+steps_joined step u [] v two w first second = subst (λ (x : ℕ). Follows step x two w) (sym first) second
+steps_joined step u (h ∷ one) v two w first second = (first.0, steps_joined step h one v two w first.1 second)
+
+-- a list of at least so many steps, from u back to u
+record LongReturn (step : ℕ → ℕ → Type 0) (u k : ℕ) : Type 0 where
+  hops : List ℕ
+  follows : Follows step u hops u
+  many : k ≤ length hops
+
+-- a list of steps that returns can be gone again and again
+long_return : (step : ℕ → ℕ → Type 0) (u h : ℕ) (hops : List ℕ) → Follows step u (h ∷ hops) u → (k : ℕ) → LongReturn step u k
+long_return step u h hops returns zero = record { hops = []; follows = refl; many = omega arith }
+long_return step u h hops returns (suc k) =
+    let rest : LongReturn step u k = long_return step u h hops returns k in
+    record {
+      hops = (h ∷ hops) ++ rest.hops;
+      follows = steps_joined step u (h ∷ hops) u rest.hops u returns rest.follows;
+      many =
+          let e : length ((h ∷ hops) ++ rest.hops) ≡ length (h ∷ hops) + length rest.hops = length-append (h ∷ hops) rest.hops in
+          omega (arith, e, rest.many);
+    }
+
+pub delivers_sound : (net : Network) (old new : Tables) (state : State) →
+    ((a : ℕ) (p : Block) → a < 2 ^ 32 → IsTarget net a p → Delivers net old new state a p) → IsSound net old new state
+delivers_sound net old new state delivers a address = record {
+  forwards = λ u must. elim ((delivers a must.target address must.is_target).onward u u [] must.router refl) [
+    | inl reached ↦ absurd (must.away reached)
+    | inr has ↦ has
+  ];
+  returns_never = λ u h hops follows.
+      let must = follows.0.must in
+      let long : LongReturn (StepsIn net old new state a) u (length net) = long_return (StepsIn net old new state a) u h hops follows (length net) in
+      let short = (delivers a must.target address must.is_target).short u u long.hops must.router long.follows in
+      let many = long.many in
+      omega (arith, short, many);
+}

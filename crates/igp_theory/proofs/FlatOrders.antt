@@ -10,7 +10,8 @@ use Rattle.igp_theory.specs.Routes.{Tables}
 use Rattle.igp_theory.specs.States.{State, IsSeamless, changes_of, changes_on, phase_after, state_of}
 use Rattle.igp_theory.specs.WaveLaws.{IsStateOfSomeWave}
 use Rattle.igp_theory.specs.Waves.{Change, first, second, changed, IsRun, IsWavesState, AreSeamlessWaves, run_along, state_after}
-use Rattle.igp_theory.proofs.OrderedLists.{contains_here, contains_there, pairs_weaker}
+use Rattle.net_model.proofs.Members.{Contains-first, Contains-rest}
+use Rattle.igp_theory.proofs.OrderedLists.{pairs_weaker}
 use Rattle.igp_theory.proofs.WaveStates.{InWaveOrder, own_inside, inside_whole, in_turn_along, both_are_own, both_in_turn, wave_is_reached}
 
 -- The run along an order of waves
@@ -28,8 +29,8 @@ along_is_run n ranks order lists turns =
     }
   where
     one_of_both : (c : Change) → Contains (first (changed c) ∷ second (changed c) ∷ []) c
-    one_of_both (first u) = contains_here (first u) (second u ∷ [])
-    one_of_both (second u) = contains_there (first u) (second u) (second u ∷ []) (contains_here (second u) [])
+    one_of_both (first u) = Contains-first (first u) (second u ∷ [])
+    one_of_both (second u) = Contains-rest (first u) (second u ∷ []) (second u) (Contains-first (second u) [])
 
 changed_along : (order : List ℕ) → map changed (run_along order) ≡ changes_of order
 changed_along [] = refl

@@ -1,21 +1,24 @@
 -- Loops state by state: where they arise, and that an unsound state between sound ends has one with both tags.
-use Rattle.std.proofs.Common.{◌≡◌, ◌≢◌, ℕ, ◌^◌, ◌<◌, ◌≤◌, ◌⊎◌, inl, inr, Bool, true, false, cond, List, [], ◌∷◌, length, filter, Contains, AllPairs, refl, sym, ap, ◌∙◌, subst, arith}
+use Rattle.std.proofs.Common.{◌≡◌, ◌≢◌, ℕ, ◌^◌, ◌<◌, ◌≤◌, ◌⊎◌, inl, inr, Bool, true, false, cond}
+use Rattle.std.proofs.Common.{List, [], ◌∷◌, length, filter, Contains, AllPairs, refl, sym, ap, ◌∙◌, subst, arith}
 use Rattle.std.proofs.lemmas.Bool.{cases_lt, false≢true}
 use Rattle.net_model.specs.Network.{Network}
-use Rattle.order_core.specs.Turns.{is_old, is_new, routers_of, old_routers, new_routers}
+use Rattle.order_core.specs.Turns.{is_old, is_new, routers_of, old_routers, new_routers, HasBothTags}
 use Rattle.order_core.specs.declared.turn.Tag.{Tag}
 use Rattle.order_core.specs.declared.turn.Tag.TheVariants as tag
 use Rattle.order_core.specs.declared.turn.Turn.{Turn}
 use Rattle.igp_theory.specs.Forwarding.{Steps}
 use Rattle.igp_theory.specs.LoopLaws.{AgreesWithTags, AreSoundEnds, IsLoopOfState, IsLoopFault}
-use Rattle.igp_theory.specs.Loops.{IsTagOf, IsTag, AroundRing, IsLoop, Arises, Fault, IsFault, missing_step, loop_arises}
+use Rattle.igp_theory.specs.Loops.{IsTagOf, IsTag, IsLoop, Arises, Fault, IsFault, missing_step, loop_arises}
 use Rattle.igp_theory.specs.Routes.{Tables}
 use Rattle.igp_theory.specs.States.{State, StepsIn, IsSoundAt, IsSound}
 use Rattle.igp_theory.specs.declared.phase.Phase.{Phase}
 use Rattle.igp_theory.specs.declared.phase.Phase.TheVariants.{Old, Middle, New}
 use Rattle.igp_theory.proofs.ForwardingLaws.{middle_is_old_or_new, middle_uses_one, every_phase_steps}
-use Rattle.igp_theory.proofs.OrderedLists.{contains_none, contains_here, contains_there, contains_cases}
-use Rattle.igp_theory.proofs.Rings.{around_inside, around_both, around_at, found_goes_round, found_distinct, around_of_routers, turns_distinct, turns_return, some_turn}
+use Rattle.net_model.proofs.Members.{Contains-none, Contains-first, Contains-rest, Contains-cases}
+use Rattle.igp_theory.proofs.Rings.{around_inside, around_both, around_at, found_goes_round, found_distinct}
+use Rattle.igp_theory.proofs.Rings.{around_of_routers, turns_distinct, turns_return, some_turn}
+use Rattle.igp_theory.proofs.Tags.{IsTagTo, AreTagged}
 
 -- The turns of a tag
 
@@ -27,34 +30,34 @@ pub record TurnOf (ring : List Turn) (t : Tag) (u : ℕ) : Type 0 where
   pub router : turn.router ≡ u
 
 later_turn : (r : Turn) (rest : List Turn) (t : Tag) (u : ℕ) → TurnOf rest t u → TurnOf (r ∷ rest) t u
-later_turn r rest t u one = record { turn = one.turn; among = contains_there r one.turn rest one.among; tagged = one.tagged; router = one.router }
+later_turn r rest t u one = record { turn = one.turn; among = Contains-rest r rest one.turn one.among; tagged = one.tagged; router = one.router }
 
 turn_passed : (p : Tag → Bool) (t : Tag) → ((s : Tag) → p s ≡ true → s ≡ t) → (ring : List Turn) (u : ℕ) →
     Contains (routers_of (filter (λ (x : Turn). p x.tag) ring)) u → TurnOf ring t u
-turn_passed p t only [] u inside = absurd (contains_none u inside)
+turn_passed p t only [] u inside = absurd (Contains-none u inside)
 turn_passed p t only (r ∷ rest) u inside = by_test (turn_passed p t only rest u) (p r.tag) refl inside
   where
     by_test : (Contains (routers_of (filter (λ (x : Turn). p x.tag) rest)) u → TurnOf rest t u) → (b : Bool) → p r.tag ≡ b →
         Contains (routers_of (cond b (r ∷ filter (λ (x : Turn). p x.tag) rest) (filter (λ (x : Turn). p x.tag) rest))) u → TurnOf (r ∷ rest) t u
-    by_test others true is found = elim (contains_cases r.router u (routers_of (filter (λ (x : Turn). p x.tag) rest)) found) [
-      | inl same ↦ record { turn = r; among = contains_here r rest; tagged = only r.tag is; router = same }
+    by_test others true is found = elim (Contains-cases r.router (routers_of (filter (λ (x : Turn). p x.tag) rest)) u found) [
+      | inl same ↦ record { turn = r; among = Contains-first r rest; tagged = only r.tag is; router = same }
       | inr later ↦ later_turn r rest t u (others later)
     ]
     by_test others false is found = later_turn r rest t u (others found)
 
 turn_passes : (p : Tag → Bool) (ring : List Turn) (t : Turn) → Contains ring t → p t.tag ≡ true →
     Contains (routers_of (filter (λ (x : Turn). p x.tag) ring)) t.router
-turn_passes p [] t inside is = absurd (contains_none t inside)
+turn_passes p [] t inside is = absurd (Contains-none t inside)
 turn_passes p (r ∷ rest) t inside is = by_test (λ later. turn_passes p rest t later is) (p r.tag) refl
   where
     by_test : (Contains rest t → Contains (routers_of (filter (λ (x : Turn). p x.tag) rest)) t.router) → (b : Bool) → p r.tag ≡ b →
         Contains (routers_of (cond b (r ∷ filter (λ (x : Turn). p x.tag) rest) (filter (λ (x : Turn). p x.tag) rest))) t.router
-    by_test others true at = elim (contains_cases r t rest inside) [
+    by_test others true at = elim (Contains-cases r rest t inside) [
       | inl same ↦ subst (λ (u : ℕ). Contains (r.router ∷ routers_of (filter (λ (x : Turn). p x.tag) rest)) u) (ap (λ (x : Turn). x.router) same)
-          (contains_here r.router (routers_of (filter (λ (x : Turn). p x.tag) rest)))
-      | inr later ↦ contains_there r.router t.router (routers_of (filter (λ (x : Turn). p x.tag) rest)) (others later)
+          (Contains-first r.router (routers_of (filter (λ (x : Turn). p x.tag) rest)))
+      | inr later ↦ Contains-rest r.router (routers_of (filter (λ (x : Turn). p x.tag) rest)) t.router (others later)
     ]
-    by_test others false at = elim (contains_cases r t rest inside) [
+    by_test others false at = elim (Contains-cases r rest t inside) [
       | inl same ↦ absurd (false≢true (sym at ∙ ap (λ (x : Turn). p x.tag) same ∙ is))
       | inr later ↦ others later
     ]
@@ -124,17 +127,18 @@ old_step tag.New is other = absurd (other refl)
 old_step tag.Both is other = is.0
 
 -- each router of a loop is one of the network
-pub tag_inside : (net : Network) (old new : Tables) (u a h : ℕ) (t : Tag) → IsTagOf t (Steps net old new u Old a h) (Steps net old new u New a h) → u < length net
+pub tag_inside : (net : Network) (old new : Tables) (u a h : ℕ) (t : Tag) →
+    IsTagOf t (Steps net old new u Old a h) (Steps net old new u New a h) → u < length net
 tag_inside net old new u a h tag.Old is = is.0.must.router
 tag_inside net old new u a h tag.New is = is.1.must.router
 tag_inside net old new u a h tag.Both is = is.0.must.router
 
 -- Where loops arise
 
-pub loop_arises_by_tags : (net : Network) (old new : Tables) (state : State) (a : ℕ) (ring : List Turn) → IsLoop net old new a ring → AgreesWithTags state ring →
-    Arises net old new state a ring
+pub loop_arises_by_tags : (net : Network) (old new : Tables) (state : State) (a : ℕ) (ring : List Turn) → IsLoop net old new a ring →
+    AgreesWithTags state ring → Arises net old new state a ring
 loop_arises_by_tags net old new state a ring is agrees =
-    around_inside (λ (r s : Turn). IsTag net old new a r s.router) (λ (r s : Turn). StepsIn net old new state a r.router s.router) ring
+    around_inside (IsTagTo net old new a) (λ (r s : Turn). StepsIn net old new state a r.router s.router) ring
     (λ r s inside tagged. tag_step r.tag (state r.router) tagged.steps
     (λ is_old. agrees.old r.router (old_listed ring r inside is_old)) (λ is_new. agrees.new r.router (new_listed ring r inside is_new)))
     is.tags
@@ -168,26 +172,33 @@ two_or_more state (r ∷ s ∷ rest) ends address some arises = omega arith
 
 -- a ring without a router tagged Old arises in the last state, one without a router tagged New in the first
 has_old : {net : Network} {old new : Tables} {a : ℕ} (ring : List Turn) → AreSoundEnds net old new → a < 2 ^ 32 → 0 < length ring →
-    AroundRing (λ (r s : Turn). IsTag net old new a r s.router) ring → 0 < length (old_routers ring)
+    AreTagged net old new a ring → 0 < length (old_routers ring)
 has_old {net} {old} {new} {a} ring ends address some tags = elim (cases_lt 0 (length (old_routers ring))) [
   | inl has ↦ has
   | inr none ↦ absurd (ring_is_unsound (λ (u : ℕ). New) ring some
-      (around_inside (λ (r s : Turn). IsTag net old new a r s.router) (λ (r s : Turn). Steps net old new r.router New a s.router) ring
+      (around_inside (IsTagTo net old new a) (λ (r s : Turn). Steps net old new r.router New a s.router) ring
       (λ r s inside tagged. new_step r.tag tagged.steps
       (λ is. let among = old_listed ring r inside is in let within = among.1 in omega (arith, within, none))) tags)
       (ends.last a address))
 ]
 
 has_new : {net : Network} {old new : Tables} {a : ℕ} (ring : List Turn) → AreSoundEnds net old new → a < 2 ^ 32 → 0 < length ring →
-    AroundRing (λ (r s : Turn). IsTag net old new a r s.router) ring → 0 < length (new_routers ring)
+    AreTagged net old new a ring → 0 < length (new_routers ring)
 has_new {net} {old} {new} {a} ring ends address some tags = elim (cases_lt 0 (length (new_routers ring))) [
   | inl has ↦ has
   | inr none ↦ absurd (ring_is_unsound (λ (u : ℕ). Old) ring some
-      (around_inside (λ (r s : Turn). IsTag net old new a r s.router) (λ (r s : Turn). Steps net old new r.router Old a s.router) ring
+      (around_inside (IsTagTo net old new a) (λ (r s : Turn). Steps net old new r.router Old a s.router) ring
       (λ r s inside tagged. old_step r.tag tagged.steps
       (λ is. let among = new_listed ring r inside is in let within = among.1 in omega (arith, within, none))) tags)
       (ends.first a address))
 ]
+
+pub loop_has_both_tags : (net : Network) (old new : Tables) (a : ℕ) (ring : List Turn) → AreSoundEnds net old new → IsLoop net old new a ring →
+    HasBothTags ring
+loop_has_both_tags net old new a ring ends is =
+    let many = is.some in
+    let some : 0 < length ring = omega (arith, many) in
+    record { old = has_old ring ends is.address some is.tags; new = has_new ring ends is.address some is.tags }
 
 -- a router that doesn't step to h in New, and does in this phase, is in Old or Middle
 early_phase : {net : Network} {old new : Tables} {u a h : ℕ} (phase : Phase) → Steps net old new u phase a h → (Steps net old new u New a h → ⊥) →
@@ -208,11 +219,11 @@ pub record StepsWithTag (net : Network) (old new : Tables) (state : State) (a : 
   pub steps : StepsIn net old new state a r.router s.router
 
 steps_with_tags : {net : Network} {old new : Tables} (state : State) {a : ℕ} (ring : List Turn) →
-    AroundRing (λ (r s : Turn). IsTag net old new a r s.router) ring → Arises net old new state a ring → (r : Turn) → Contains ring r →
+    AreTagged net old new a ring → Arises net old new state a ring → (r : Turn) → Contains ring r →
     (s : Turn) × StepsWithTag net old new state a r s
 steps_with_tags {net} {old} {new} state {a} ring tags arises r inside =
     let both = around_at (λ (x y : Turn). IsTag net old new a x y.router × StepsIn net old new state a x.router y.router) ring r
-    (around_both (λ (x y : Turn). IsTag net old new a x y.router) (λ (x y : Turn). StepsIn net old new state a x.router y.router) ring tags arises) inside in
+    (around_both (IsTagTo net old new a) (λ (x y : Turn). StepsIn net old new state a x.router y.router) ring tags arises) inside in
     (both.0, record { tagged = both.1.0; steps = both.1.1 })
 
 not_new : {net : Network} {old new : Tables} {u a h : ℕ} (t : Tag) → t ≡ tag.Old → IsTagOf t (Steps net old new u Old a h) (Steps net old new u New a h) →
@@ -228,7 +239,7 @@ not_old tag.New same is steps = is.0 steps
 not_old tag.Both same is steps = cc
 
 pub old_is_early : (net : Network) (old new : Tables) (state : State) (a : ℕ) (ring : List Turn) →
-    AroundRing (λ (r s : Turn). IsTag net old new a r s.router) ring → Arises net old new state a ring → (u : ℕ) → Contains (old_routers ring) u →
+    AreTagged net old new a ring → Arises net old new state a ring → (u : ℕ) → Contains (old_routers ring) u →
     (state u ≡ Old) ⊎ (state u ≡ Middle)
 old_is_early net old new state a ring tags arises u inside =
     let one = old_turn ring u inside in
@@ -237,7 +248,7 @@ old_is_early net old new state a ring tags arises u inside =
     (early_phase (state one.turn.router) at.1.steps (not_new one.turn.tag one.tagged at.1.tagged.steps))
 
 pub new_is_late : (net : Network) (old new : Tables) (state : State) (a : ℕ) (ring : List Turn) →
-    AroundRing (λ (r s : Turn). IsTag net old new a r s.router) ring → Arises net old new state a ring → (u : ℕ) → Contains (new_routers ring) u →
+    AreTagged net old new a ring → Arises net old new state a ring → (u : ℕ) → Contains (new_routers ring) u →
     (state u ≡ Middle) ⊎ (state u ≡ New)
 new_is_late net old new state a ring tags arises u inside =
     let one = new_turn ring u inside in
@@ -247,7 +258,7 @@ new_is_late net old new state a ring tags arises u inside =
 
 -- a ring of distinct routers with its tags that arises between sound ends is a loop with both tags
 pub ring_between_ends : (net : Network) (old new : Tables) (state : State) (a : ℕ) (ring : List Turn) → AreSoundEnds net old new → a < 2 ^ 32 →
-    0 < length ring → AllPairs (λ (r s : Turn). r.router ≢ s.router) ring → AroundRing (λ (r s : Turn). IsTag net old new a r s.router) ring →
+    0 < length ring → AllPairs (λ (r s : Turn). r.router ≢ s.router) ring → AreTagged net old new a ring →
     Arises net old new state a ring → IsLoopOfState net old new state a ring
 ring_between_ends net old new state a ring ends address some distinct tags arises = record {
   is_loop = record { address = address; some = two_or_more state ring ends address some arises; distinct = distinct; tags = tags };

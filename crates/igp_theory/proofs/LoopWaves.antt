@@ -10,7 +10,8 @@ use Rattle.order_core.specs.declared.turn.Tag.{Tag}
 use Rattle.order_core.specs.declared.turn.Tag.TheVariants as tag
 use Rattle.order_core.specs.declared.turn.Turn.{Turn}
 use Rattle.igp_theory.specs.Forwarding.{Steps}
-use Rattle.igp_theory.specs.LoopLaws.{AgreesWithTags, AreSoundEnds, IsLoopOfState, ArisesInWave, StandsRoundWave, PutsSomeOldFirst, PutsSomeOldFirstInEach, IsLoopOfWave}
+use Rattle.igp_theory.specs.LoopLaws.{AgreesWithTags, AreSoundEnds, IsLoopOfState, ArisesInWave}
+use Rattle.igp_theory.specs.LoopLaws.{StandsRoundWave, PutsSomeOldFirst, PutsSomeOldFirstInEach, IsLoopOfWave}
 use Rattle.igp_theory.specs.Loops.{IsTagOf, IsTag, EachToNext, AroundRing, IsLoop, Arises, Fault, loop}
 use Rattle.igp_theory.specs.Routes.{Tables}
 use Rattle.igp_theory.specs.States.{State, StepsIn, Follows, IsSound}
@@ -22,27 +23,31 @@ use Rattle.igp_theory.specs.declared.phase.Phase.TheVariants.{Old, Middle, New}
 use Rattle.igp_theory.proofs.Delivery.{contains_or_not}
 use Rattle.igp_theory.proofs.FlatOrders.{wave_state_is_reached}
 use Rattle.igp_theory.proofs.ForwardingLaws.{every_phase_steps}
-use Rattle.igp_theory.proofs.LoopLaws.{old_turn, new_turn, old_or_new_step, tag_inside, loop_arises_by_tags, arising_is_unsound, old_is_early, new_is_late, ring_between_ends}
-use Rattle.igp_theory.proofs.OrderedLists.{contains_none, contains_here, contains_there, contains_cases, pairs_first, pairs_rest}
-use Rattle.igp_theory.proofs.Rings.{each_inside, ring_returns, around_at, StepRing, ring_of_return, around_of_routers, turns_distinct, one_turn, some_turn, found_goes_round, found_distinct}
+use Rattle.igp_theory.proofs.LoopLaws.{old_turn, new_turn, old_or_new_step, tag_inside, loop_arises_by_tags}
+use Rattle.igp_theory.proofs.LoopLaws.{arising_is_unsound, old_is_early, new_is_late, ring_between_ends}
+use Rattle.net_model.proofs.Members.{Contains-none, Contains-first, Contains-rest, Contains-cases}
+use Rattle.igp_theory.proofs.OrderedLists.{pairs_first, pairs_rest}
+use Rattle.igp_theory.proofs.Rings.{each_inside, ring_returns, around_at, StepRing, ring_of_return, around_of_routers}
+use Rattle.igp_theory.proofs.Rings.{turns_distinct, one_turn, some_turn, found_goes_round, found_distinct}
+use Rattle.igp_theory.proofs.Tags.{IsTagTo, AreTagged}
 use Rattle.igp_theory.proofs.WaveStates.{state_of_wave}
 
 -- Where a loop arises
 
 -- each router of a loop is one of the network
-turn_inside : (net : Network) (old new : Tables) (a : ℕ) (ring : List Turn) (t : Turn) → AroundRing (λ (r s : Turn). IsTag net old new a r s.router) ring →
+turn_inside : (net : Network) (old new : Tables) (a : ℕ) (ring : List Turn) (t : Turn) → AreTagged net old new a ring →
     Contains ring t → t.router < length net
 turn_inside net old new a ring t tags inside =
-    let at = around_at (λ (r s : Turn). IsTag net old new a r s.router) ring t tags inside in
+    let at = around_at (IsTagTo net old new a) ring t tags inside in
     tag_inside net old new t.router a at.0.router t.tag at.1.steps
 
-old_inside : (net : Network) (old new : Tables) (a : ℕ) (ring : List Turn) (u : ℕ) → AroundRing (λ (r s : Turn). IsTag net old new a r s.router) ring →
+old_inside : (net : Network) (old new : Tables) (a : ℕ) (ring : List Turn) (u : ℕ) → AreTagged net old new a ring →
     Contains (old_routers ring) u → u < length net
 old_inside net old new a ring u tags inside =
     let one = old_turn ring u inside in
     subst (λ (v : ℕ). v < length net) one.router (turn_inside net old new a ring one.turn tags one.among)
 
-new_inside : (net : Network) (old new : Tables) (a : ℕ) (ring : List Turn) (u : ℕ) → AroundRing (λ (r s : Turn). IsTag net old new a r s.router) ring →
+new_inside : (net : Network) (old new : Tables) (a : ℕ) (ring : List Turn) (u : ℕ) → AreTagged net old new a ring →
     Contains (new_routers ring) u → u < length net
 new_inside net old new a ring u tags inside =
     let one = new_turn ring u inside in
@@ -58,7 +63,7 @@ is_not_new phase (inr middle) new = let clash : Middle ≡ New = sym middle ∙ 
 
 -- a ring that arises in a state of a wave stands round it
 pub stands_round : (net : Network) (old new : Tables) (ranks : List ℕ) (w : ℕ) (state : State) (a : ℕ) (ring : List Turn) →
-    AroundRing (λ (r s : Turn). IsTag net old new a r s.router) ring → IsStateOfWave (length net) ranks w state → Arises net old new state a ring →
+    AreTagged net old new a ring → IsStateOfWave (length net) ranks w state → Arises net old new state a ring →
     StandsRoundWave ranks w ring
 stands_round net old new ranks w state a ring tags of_wave arises = record {
   new = λ u inside. elim (cases_lt w (rank_of ranks u)) [
@@ -90,22 +95,28 @@ pick_same : {P Q : Type 0} (either : P ⊎ Q) (one other phase : Phase) → one 
 pick_same (inl here) one other phase first second = first
 pick_same (inr there) one other phase first second = second
 
+-- the phase of a router of the wave itself: New where it is tagged New, else Old
+abbrev inside_wave : List Turn → State
+inside_wave ring u = pick (contains_or_not u (new_routers ring)) New Old
+
+-- that of a router of the wave or a later one
+abbrev from_wave : List ℕ → ℕ → List Turn → State
+from_wave ranks w ring u = pick (cases_lt w (rank_of ranks u)) Old (inside_wave ring u)
+
 -- the state of wave w in which a loop arises: in the wave itself its routers tagged New are New, and all others Old
 abbrev state_for : List ℕ → ℕ → List Turn → State
-state_for ranks w ring u =
-    pick (cases_lt (rank_of ranks u) w) New (pick (cases_lt w (rank_of ranks u)) Old (pick (contains_or_not u (new_routers ring)) New Old))
+state_for ranks w ring u = pick (cases_lt (rank_of ranks u) w) New (from_wave ranks w ring u)
 
 for_is_of_wave : (n : ℕ) (ranks : List ℕ) (w : ℕ) (ring : List Turn) → IsStateOfWave n ranks w (state_for ranks w ring)
 for_is_of_wave n ranks w ring = record {
-  earlier = λ u below before. pick_first (cases_lt (rank_of ranks u) w) New (pick (cases_lt w (rank_of ranks u)) Old (pick (contains_or_not u (new_routers ring)) New Old))
-      (λ late. omega (arith, before, late));
+  earlier = λ u below before. pick_first (cases_lt (rank_of ranks u) w) New (from_wave ranks w ring u) (λ late. omega (arith, before, late));
   later = λ u below after.
-      pick_second (cases_lt (rank_of ranks u) w) New (pick (cases_lt w (rank_of ranks u)) Old (pick (contains_or_not u (new_routers ring)) New Old))
-      (λ early. omega (arith, after, early))
-      ∙ pick_first (cases_lt w (rank_of ranks u)) Old (pick (contains_or_not u (new_routers ring)) New Old) (λ early. omega (arith, after, early));
+      pick_second (cases_lt (rank_of ranks u) w) New (from_wave ranks w ring u) (λ early. omega (arith, after, early))
+      ∙ pick_first (cases_lt w (rank_of ranks u)) Old (inside_wave ring u) (λ early. omega (arith, after, early));
 }
 
-old_isnt_new : (ring : List Turn) (u : ℕ) → AllPairs (λ (r s : Turn). r.router ≢ s.router) ring → Contains (old_routers ring) u → Contains (new_routers ring) u → ⊥
+old_isnt_new : (ring : List Turn) (u : ℕ) → AllPairs (λ (r s : Turn). r.router ≢ s.router) ring → Contains (old_routers ring) u →
+    Contains (new_routers ring) u → ⊥
 old_isnt_new ring u distinct is_old is_new =
     let one = old_turn ring u is_old in
     let two = new_turn ring u is_new in
@@ -118,14 +129,13 @@ for_agrees : (ranks : List ℕ) (w : ℕ) (ring : List Turn) → AllPairs (λ (r
 for_agrees ranks w ring distinct round = record {
   old = λ u inside.
       let from = round.old u inside in
-      pick_second (cases_lt (rank_of ranks u) w) New (pick (cases_lt w (rank_of ranks u)) Old (pick (contains_or_not u (new_routers ring)) New Old))
-      (λ early. omega (arith, early, from))
-      ∙ pick_same (cases_lt w (rank_of ranks u)) Old (pick (contains_or_not u (new_routers ring)) New Old) Old refl
+      pick_second (cases_lt (rank_of ranks u) w) New (from_wave ranks w ring u) (λ early. omega (arith, early, from))
+      ∙ pick_same (cases_lt w (rank_of ranks u)) Old (inside_wave ring u) Old refl
       (pick_second (contains_or_not u (new_routers ring)) New Old (λ is_new. old_isnt_new ring u distinct inside is_new));
   new = λ u inside.
       let upto = round.new u inside in
-      pick_same (cases_lt (rank_of ranks u) w) New (pick (cases_lt w (rank_of ranks u)) Old (pick (contains_or_not u (new_routers ring)) New Old)) New refl
-      (pick_second (cases_lt w (rank_of ranks u)) Old (pick (contains_or_not u (new_routers ring)) New Old) (λ late. omega (arith, late, upto))
+      pick_same (cases_lt (rank_of ranks u) w) New (from_wave ranks w ring u) New refl
+      (pick_second (cases_lt w (rank_of ranks u)) Old (inside_wave ring u) (λ late. omega (arith, late, upto))
       ∙ pick_first (contains_or_not u (new_routers ring)) New Old (λ absent. absent inside));
 }
 
@@ -148,10 +158,10 @@ latest_router : (ranks : List ℕ) (u : ℕ) (routers : List ℕ) → (v : ℕ) 
 latest_router ranks u [] = (
   u,
   record {
-    among = contains_here u [];
-    latest = λ v inside. elim (contains_cases u v [] inside) [
+    among = Contains-first u [];
+    latest = λ v inside. elim (Contains-cases u [] v inside) [
       | inl same ↦ let e : rank_of ranks u ≡ rank_of ranks v = ap (rank_of ranks) same in omega (arith, e)
-      | inr none ↦ absurd (contains_none v none)
+      | inr none ↦ absurd (Contains-none v none)
     ];
   },
 )
@@ -162,8 +172,8 @@ latest_router ranks u (x ∷ routers) =
       | inl later ↦ (
         u,
         record {
-          among = contains_here u (x ∷ routers);
-          latest = λ v inside. elim (contains_cases u v (x ∷ routers) inside) [
+          among = Contains-first u (x ∷ routers);
+          latest = λ v inside. elim (Contains-cases u (x ∷ routers) v inside) [
             | inl same ↦ let e : rank_of ranks u ≡ rank_of ranks v = ap (rank_of ranks) same in omega (arith, e)
             | inr there ↦ let k = rest.1.latest v there in omega (arith, k, later)
           ];
@@ -172,8 +182,8 @@ latest_router ranks u (x ∷ routers) =
       | inr earlier ↦ (
         rest.0,
         record {
-          among = contains_there u rest.0 (x ∷ routers) among;
-          latest = λ v inside. elim (contains_cases u v (x ∷ routers) inside) [
+          among = Contains-rest u (x ∷ routers) rest.0 among;
+          latest = λ v inside. elim (Contains-cases u (x ∷ routers) v inside) [
             | inl same ↦ let e : rank_of ranks u ≡ rank_of ranks v = ap (rank_of ranks) same in omega (arith, e, earlier)
             | inr there ↦ rest.1.latest v there
           ];
@@ -188,19 +198,20 @@ latest_of_some ranks (u ∷ routers) some = latest_router ranks u routers
 -- a router of an earlier wave than w, or none
 earlier_or_none : (ranks : List ℕ) (w : ℕ) (routers : List ℕ) →
     ((u : ℕ) × Contains routers u × (rank_of ranks u < w)) ⊎ ((u : ℕ) → Contains routers u → w ≤ rank_of ranks u)
-earlier_or_none ranks w [] = inr (λ u inside. absurd (contains_none u inside))
+earlier_or_none ranks w [] = inr (λ u inside. absurd (Contains-none u inside))
 earlier_or_none ranks w (x ∷ routers) = elim (cases_lt (rank_of ranks x) w) [
-  | inl earlier ↦ inl (x, contains_here x routers, earlier)
+  | inl earlier ↦ inl (x, Contains-first x routers, earlier)
   | inr late ↦ elim (earlier_or_none ranks w routers) [
-    | inl one ↦ inl (one.0, contains_there x one.0 routers one.1, one.2)
-    | inr none ↦ inr (λ u inside. elim (contains_cases x u routers inside) [
+    | inl one ↦ inl (one.0, Contains-rest x routers one.0 one.1, one.2)
+    | inr none ↦ inr (λ u inside. elim (Contains-cases x routers u inside) [
       | inl same ↦ let e : rank_of ranks x ≡ rank_of ranks u = ap (rank_of ranks) same in omega (arith, e, late)
       | inr there ↦ none u there
     ])
   ]
 ]
 
-pub seamless_puts_old_first : (net : Network) (old new : Tables) (ranks : List ℕ) → AreSeamlessWaves net old new ranks → PutsSomeOldFirstInEach net old new ranks
+pub seamless_puts_old_first : (net : Network) (old new : Tables) (ranks : List ℕ) → AreSeamlessWaves net old new ranks →
+    PutsSomeOldFirstInEach net old new ranks
 seamless_puts_old_first net old new ranks seamless a ring is both =
     let last = latest_of_some ranks (new_routers ring) both.new in
     let w : ℕ = rank_of ranks last.0 in
@@ -226,14 +237,14 @@ tag_towards (inr two) none = none tag.New ((λ one. none tag.Both (one, two)), t
 record TaggedTurns (net : Network) (old new : Tables) (a : ℕ) (first : Turn) (routers : List ℕ) : Type 0 where
   turns : List Turn
   same : routers_of turns ≡ routers
-  tags : EachToNext (λ (r s : Turn). IsTag net old new a r s.router) first turns
+  tags : EachToNext (IsTagTo net old new a) first turns
 
 one_more : {net : Network} {old new : Tables} {a : ℕ} (first : Turn) (u v : ℕ) (rest : List ℕ) (t : Tag) →
     IsTagOf t (Steps net old new u Old a v) (Steps net old new u New a v) → TaggedTurns net old new a first (v ∷ rest) →
     TaggedTurns net old new a first (u ∷ v ∷ rest)
 one_more {net} {old} {new} {a} first u v rest t is others = more others.turns others.same others.tags
   where
-    more : (turns : List Turn) → routers_of turns ≡ v ∷ rest → EachToNext (λ (r s : Turn). IsTag net old new a r s.router) first turns →
+    more : (turns : List Turn) → routers_of turns ≡ v ∷ rest → EachToNext (IsTagTo net old new a) first turns →
         TaggedTurns net old new a first (u ∷ v ∷ rest)
     more [] same tags = cc
     more (s ∷ turns) same tags =
@@ -249,13 +260,15 @@ tagged_turns : (net : Network) (old new : Tables) (state : State) (a : ℕ) (fir
     EachToNext (StepsIn net old new state a) first.router routers → (TaggedTurns net old new a first routers → ⊥) → ⊥
 tagged_turns net old new state a first [] goes none = none (record { turns = []; same = refl; tags = tt })
 tagged_turns net old new state a first (u ∷ []) goes none =
-    tag_towards (old_or_new_step (state u) goes) (λ t is. none (record { turns = record { router = u; tag = t } ∷ []; same = refl; tags = record { steps = is } }))
+    tag_towards (old_or_new_step (state u) goes)
+    (λ t is. none (record { turns = record { router = u; tag = t } ∷ []; same = refl; tags = record { steps = is } }))
 tagged_turns net old new state a first (u ∷ v ∷ rest) goes none =
-    tag_towards (old_or_new_step (state u) goes.0) (λ t is. tagged_turns net old new state a first (v ∷ rest) goes.1 (λ others. none (one_more first u v rest t is others)))
+    tag_towards (old_or_new_step (state u) goes.0)
+    (λ t is. tagged_turns net old new state a first (v ∷ rest) goes.1 (λ others. none (one_more first u v rest t is others)))
 
 -- the first element of a ring may be told by its router alone
 other_first : (net : Network) (old new : Tables) (a : ℕ) (first other : Turn) (ring : List Turn) → first.router ≡ other.router →
-    EachToNext (λ (r s : Turn). IsTag net old new a r s.router) first ring → EachToNext (λ (r s : Turn). IsTag net old new a r s.router) other ring
+    EachToNext (IsTagTo net old new a) first ring → EachToNext (IsTagTo net old new a) other ring
 other_first net old new a first other [] same tags = tt
 other_first net old new a first other (r ∷ []) same tags = subst (λ (h : ℕ). IsTag net old new a r h) same tags
 other_first net old new a first other (r ∷ s ∷ rest) same tags = (tags.0, other_first net old new a first other (s ∷ rest) same tags.1)
@@ -264,13 +277,14 @@ other_first net old new a first other (r ∷ s ∷ rest) same tags = (tags.0, ot
 record TaggedRing (net : Network) (old new : Tables) (a : ℕ) (routers : List ℕ) : Type 0 where
   ring : List Turn
   same : routers_of ring ≡ routers
-  tags : AroundRing (λ (r s : Turn). IsTag net old new a r s.router) ring
+  tags : AreTagged net old new a ring
 
-close_ring : {net : Network} {old new : Tables} {a : ℕ} (u : ℕ) (rest : List ℕ) → TaggedTurns net old new a (record { router = u; tag = tag.Both }) (u ∷ rest) →
+close_ring : {net : Network} {old new : Tables} {a : ℕ} (u : ℕ) (rest : List ℕ) →
+    TaggedTurns net old new a (record { router = u; tag = tag.Both }) (u ∷ rest) →
     TaggedRing net old new a (u ∷ rest)
 close_ring {net} {old} {new} {a} u rest turns = close turns.turns turns.same turns.tags
   where
-    close : (ring : List Turn) → routers_of ring ≡ u ∷ rest → EachToNext (λ (r s : Turn). IsTag net old new a r s.router) (record { router = u; tag = tag.Both }) ring →
+    close : (ring : List Turn) → routers_of ring ≡ u ∷ rest → EachToNext (IsTagTo net old new a) (record { router = u; tag = tag.Both }) ring →
         TaggedRing net old new a (u ∷ rest)
     close [] same tags = cc
     close (t ∷ ring) same tags =
@@ -363,10 +377,12 @@ wave_steps net old new ranks w a first (u ∷ v ∷ rest) distinct goes =
       state = state;
       of_wave = put_of_wave (length net) ranks w u goes.0.state others.state goes.0.among others.of_wave;
       goes = (
-        subst (λ (phase : Phase). Steps net old new u phase a v) (sym (pick_first (cases_eq u u) (goes.0.state u) (others.state u) (λ apart. apart refl))) goes.0.steps,
+        subst (λ (phase : Phase). Steps net old new u phase a v)
+            (sym (pick_first (cases_eq u u) (goes.0.state u) (others.state u) (λ apart. apart refl))) goes.0.steps,
         each_inside (StepsIn net old new others.state a) (StepsIn net old new state a) first (v ∷ rest)
             (λ x y inside steps. subst (λ (phase : Phase). Steps net old new x phase a y)
-            (sym (pick_second (cases_eq x u) (goes.0.state u) (others.state x) (λ same. pairs_first (λ p q. p ≢ q) u (v ∷ rest) distinct x inside (sym same)))) steps)
+            (sym (pick_second (cases_eq x u) (goes.0.state u) (others.state x)
+            (λ same. pairs_first (λ p q. p ≢ q) u (v ∷ rest) distinct x inside (sym same)))) steps)
             others.goes,
       );
     }
@@ -400,8 +416,8 @@ seamless_by_waves net old new ranks waves sound = record {
 -- The fault of a wave between sound ends
 
 -- a ring over every hop of a wave's states, with its tags, is a loop of the wave
-ring_of_wave : (net : Network) (old new : Tables) (ranks : List ℕ) (w a : ℕ) (ring : List Turn) (u : ℕ) (rest : List ℕ) → AreSoundEnds net old new → a < 2 ^ 32 →
-    routers_of ring ≡ u ∷ rest → AreDistinct (routers_of ring) → AroundRing (λ (r s : Turn). IsTag net old new a r s.router) ring →
+ring_of_wave : (net : Network) (old new : Tables) (ranks : List ℕ) (w a : ℕ) (ring : List Turn) (u : ℕ) (rest : List ℕ) → AreSoundEnds net old new →
+    a < 2 ^ 32 → routers_of ring ≡ u ∷ rest → AreDistinct (routers_of ring) → AreTagged net old new a ring →
     AroundRing (StepsInSome net old new (IsStateOfWave (length net) ranks w) a) (routers_of ring) → IsLoopOfWave net old new ranks w (loop a ring)
 ring_of_wave net old new ranks w a ring u rest ends address begins distinct tags goes =
     let there : WaveSteps net old new ranks w a u (u ∷ rest) = wave_steps net old new ranks w a u (u ∷ rest) (subst AreDistinct begins distinct)
@@ -423,7 +439,9 @@ ring_of_wave net old new ranks w a ring u rest ends address begins distinct tags
 fault_of_wave : (net : Network) (old new : Tables) (ranks : List ℕ) (w : ℕ) (fault : Fault) → AreSoundEnds net old new →
     IsFaultOver net old new (IsStateOfWave (length net) ranks w) fault → IsLoopOfWave net old new ranks w fault
 fault_of_wave net old new ranks w fault ends (missing_in_one {a = a} {u = u} least lacks lowest) =
-    absurd (lacks.lacks (every_phase_steps ((ends.first a least.address).forwards u lacks.must) ((ends.last a least.address).forwards u lacks.must) (lacks.state u)))
+    let first = (ends.first a least.address).forwards u lacks.must in
+    let last = (ends.last a least.address).forwards u lacks.must in
+    absurd (lacks.lacks (every_phase_steps first last (lacks.state u)))
 fault_of_wave net old new ranks w fault ends (loop_over_all {a = a} {ring = ring} least forwards found tags) =
     ring_of_wave net old new ranks w a ring found.lowest found.others ends least.address found.first (found_distinct found) tags (found_goes_round found)
 

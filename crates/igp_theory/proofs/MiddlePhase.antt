@@ -209,5 +209,6 @@ middle_acts net old new u a network below =
   where
     apart : (net : Network) (u : ℕ) → IsNetwork net → ApartAt net u
     apart net u network c has =
-        let is : IsConfiguration c = All-contains IsConfiguration net c network.configurations (u, slice_get_within net u c has, get_or_from_slice_get net u c c has) in
+        let is : IsConfiguration c =
+        All-contains IsConfiguration net c network.configurations (u, slice_get_within net u c has, get_or_from_slice_get net u c c has) in
         (is.distances.some, is.distances.apart)

@@ -1,5 +1,6 @@
 -- An order as a wave list of ones: it has its ranks, and one run.
-use Rattle.std.proofs.Common.{◌≡◌, ◌≢◌, ℕ, zero, suc, ◌+◌, ◌<◌, ◌⊎◌, inl, inr, ◌==◌, if◌then◌else◌, Bool, List, [], ◌∷◌, length, map, get_or, Contains, refl, sym, ap, ◌∙◌, subst, arith}
+use Rattle.std.proofs.Common.{◌≡◌, ◌≢◌, ℕ, zero, suc, ◌+◌, ◌<◌, ◌⊎◌, inl, inr, ◌==◌, if◌then◌else◌, Bool}
+use Rattle.std.proofs.Common.{List, [], ◌∷◌, length, map, get_or, Contains, refl, sym, ap, ◌∙◌, subst, arith}
 use Rattle.std.specs.List.{AllPairs}
 use Rattle.std.proofs.lemmas.Bool.Decides.{eqb_tells}
 use Rattle.std.proofs.lemmas.List.{get_or-map, length-map}
@@ -11,7 +12,8 @@ use Rattle.order_core.proofs.Orders.{order_length}
 use Rattle.igp_theory.specs.Waves.{Change, first, second, changed, MayPrecede, IsRun, AreOnes, run_along}
 use Rattle.igp_theory.proofs.FlatOrders.{along_is_run}
 use Rattle.igp_theory.proofs.OnesWaves.{ones_are_waves, ones_in_turn, rank_tells}
-use Rattle.igp_theory.proofs.OrderedLists.{contains_none, contains_here, contains_there, contains_cases, pairs_first, pairs_rest}
+use Rattle.net_model.proofs.Members.{Contains-none, Contains-first, Contains-rest, Contains-cases}
+use Rattle.igp_theory.proofs.OrderedLists.{pairs_first, pairs_rest}
 
 -- Ranks of ones
 
@@ -57,35 +59,36 @@ order_has_ones n order lists =
 
 -- two lists of the same elements in one strict order are the same
 same_in_turn : {X : Type 0} (R : X → X → Type 0) (xs ys : List X) → AllPairs R xs → AllPairs R ys →
-    ((x y : X) → Contains xs x → Contains xs y → R x y → R y x → ⊥) → ((x : X) → Contains xs x → Contains ys x) → ((x : X) → Contains ys x → Contains xs x) → xs ≡ ys
+    ((x y : X) → Contains xs x → Contains xs y → R x y → R y x → ⊥) → ((x : X) → Contains xs x → Contains ys x) →
+    ((x : X) → Contains ys x → Contains xs x) → xs ≡ ys
 same_in_turn R [] [] one two apart over back = refl
-same_in_turn R [] (y ∷ ys) one two apart over back = absurd (contains_none y (back y (contains_here y ys)))
-same_in_turn R (x ∷ xs) [] one two apart over back = absurd (contains_none x (over x (contains_here x xs)))
+same_in_turn R [] (y ∷ ys) one two apart over back = absurd (Contains-none y (back y (Contains-first y ys)))
+same_in_turn R (x ∷ xs) [] one two apart over back = absurd (Contains-none x (over x (Contains-first x xs)))
 same_in_turn {X} R (x ∷ xs) (y ∷ ys) one two apart over back =
-    let head : x ≡ y = first_same (contains_cases y x ys (over x (contains_here x xs))) (contains_cases x y xs (back y (contains_here y ys))) in
+    let head : x ≡ y = first_same (Contains-cases y ys x (over x (Contains-first x xs))) (Contains-cases x xs y (back y (Contains-first y ys))) in
     let tail : xs ≡ ys = same_in_turn R xs ys (pairs_rest R x xs one) (pairs_rest R y ys two)
-    (λ z w left right. apart z w (contains_there x z xs left) (contains_there x w xs right))
-    (λ z inside. later_over z inside (contains_cases y z ys (over z (contains_there x z xs inside))) head)
-    (λ z inside. later_back z inside (contains_cases x z xs (back z (contains_there y z ys inside))) head) in
+    (λ z w left right. apart z w (Contains-rest x xs z left) (Contains-rest x xs w right))
+    (λ z inside. later_over z inside (Contains-cases y ys z (over z (Contains-rest x xs z inside))) head)
+    (λ z inside. later_back z inside (Contains-cases x xs z (back z (Contains-rest y ys z inside))) head) in
     ap (λ (z : X). z ∷ xs) head ∙ ap (λ (l : List X). y ∷ l) tail
   where
     first_same : (y ≡ x) ⊎ Contains ys x → (x ≡ y) ⊎ Contains xs y → x ≡ y
     first_same (inl same) other = sym same
     first_same (inr later) (inl same) = same
     first_same (inr later) (inr after) =
-        absurd (apart x y (contains_here x xs) (contains_there x y xs after) (pairs_first R x xs one y after) (pairs_first R y ys two x later))
+        absurd (apart x y (Contains-first x xs) (Contains-rest x xs y after) (pairs_first R x xs one y after) (pairs_first R y ys two x later))
 
     later_over : (z : X) → Contains xs z → (y ≡ z) ⊎ Contains ys z → x ≡ y → Contains ys z
     later_over z inside (inr later) head = later
     later_over z inside (inl same) head =
         let own : R z z = subst (λ (w : X). R w z) (head ∙ same) (pairs_first R x xs one z inside) in
-        absurd (apart z z (contains_there x z xs inside) (contains_there x z xs inside) own own)
+        absurd (apart z z (Contains-rest x xs z inside) (Contains-rest x xs z inside) own own)
 
     later_back : (z : X) → Contains ys z → (x ≡ z) ⊎ Contains xs z → x ≡ y → Contains xs z
     later_back z inside (inr later) head = later
     later_back z inside (inl same) head =
         let own : R z z = subst (λ (w : X). R w z) (sym head ∙ same) (pairs_first R y ys two z inside) in
-        let here : Contains (x ∷ xs) z = back z (contains_there y z ys inside) in
+        let here : Contains (x ∷ xs) z = back z (Contains-rest y ys z inside) in
         absurd (apart z z here here own own)
 
 one_way : (ranks : List ℕ) (c d : Change) → changed c ≡ changed d → MayPrecede ranks c d → MayPrecede ranks d c → ⊥

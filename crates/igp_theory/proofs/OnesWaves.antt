@@ -1,5 +1,6 @@
 -- An order is a wave list of ones: its states are those of the order.
-use Rattle.std.proofs.Common.{◌≡◌, ◌≢◌, ℕ, zero, suc, ◌+◌, ◌-◌, ◌*◌, ◌<◌, ◌≤◌, inl, inr, ◌==◌, if◌then◌else◌, Bool, List, [], ◌∷◌, length, take, min, get_or, Contains, arith, refl, sym, ap, ◌∙◌, subst}
+use Rattle.std.proofs.Common.{◌≡◌, ◌≢◌, ℕ, zero, suc, ◌+◌, ◌-◌, ◌*◌, ◌<◌, ◌≤◌, inl, inr, ◌==◌, if◌then◌else◌, Bool}
+use Rattle.std.proofs.Common.{List, [], ◌∷◌, length, take, min, get_or, Contains, arith, refl, sym, ap, ◌∙◌, subst}
 use Rattle.std.specs.List.{AllPairs}
 use Rattle.std.proofs.lemmas.Bool.{cases_lt, cases_order}
 use Rattle.std.proofs.lemmas.Bool.Decides.{eqb_tells}
@@ -16,7 +17,8 @@ use Rattle.igp_theory.specs.WaveLaws.{IsStateOfSomeWave}
 use Rattle.igp_theory.specs.declared.phase.Phase.{Phase}
 use Rattle.igp_theory.specs.declared.phase.Phase.TheVariants.{Old, Middle, New}
 use Rattle.igp_theory.proofs.AlikeStates.{AreAlike, sound_alike}
-use Rattle.igp_theory.proofs.OrderedLists.{contains_here, contains_there, pairs_first, pairs_rest}
+use Rattle.net_model.proofs.Members.{Contains-first, Contains-rest}
+use Rattle.igp_theory.proofs.OrderedLists.{pairs_first, pairs_rest}
 use Rattle.igp_theory.proofs.WaveStates.{InWaveOrder, state_of_wave}
 
 -- What the first changes of an order make of a router
@@ -42,11 +44,11 @@ count_absent u [] zero absent = refl
 count_absent u [] (suc k) absent = refl
 count_absent u (v ∷ order) zero absent = refl
 count_absent u (v ∷ order) (suc zero) absent =
-    let none = tally_other u v (λ same. absent (subst (λ (x : ℕ). Contains (v ∷ order) x) (sym same) (contains_here v order))) in
+    let none = tally_other u v (λ same. absent (subst (λ (x : ℕ). Contains (v ∷ order) x) (sym same) (Contains-first v order))) in
     omega (arith, none)
 count_absent u (v ∷ order) (suc (suc k)) absent =
-    let none = tally_other u v (λ same. absent (subst (λ (x : ℕ). Contains (v ∷ order) x) (sym same) (contains_here v order))) in
-    let rest : changes_on u (take k (changes_of order)) ≡ 0 = count_absent u order k (λ inside. absent (contains_there v u order inside)) in
+    let none = tally_other u v (λ same. absent (subst (λ (x : ℕ). Contains (v ∷ order) x) (sym same) (Contains-first v order))) in
+    let rest : changes_on u (take k (changes_of order)) ≡ 0 = count_absent u order k (λ inside. absent (Contains-rest v order u inside)) in
     omega (arith, none, rest)
 
 -- the router at place p is changed first by change 2 p, then by the next one

@@ -1,30 +1,15 @@
 -- Lists whose elements stand in a relation to all later ones, and what they contain.
-use Rattle.std.proofs.Common.{◌≡◌, ℕ, zero, suc, ◌<◌, ◌⊎◌, inl, inr, List, [], ◌∷◌, ◌++◌, length, get_or, Contains, arith, refl, subst}
+use Rattle.std.proofs.Common.{◌≡◌, ℕ, zero, suc, ◌<◌, inl, inr, List, [], ◌∷◌, ◌++◌, length, get_or, Contains, arith, refl, subst}
 use Rattle.std.specs.List.{AllPairs}
+use Rattle.net_model.proofs.Members.{Contains-none, Contains-first, Contains-rest, Contains-cases}
 use Rattle.std.proofs.lemmas.List.Elements.{Contains-append_right, Contains-append_cases}
 
 -- What a list contains
 
-pub contains_none : {X : Type 0} (x : X) → Contains [] x → ⊥
-contains_none x inside = omega (arith, inside.1)
-
-pub contains_here : {X : Type 0} (x : X) (xs : List X) → Contains (x ∷ xs) x
-contains_here x xs = (0, omega arith, refl)
-
-pub contains_there : {X : Type 0} (x y : X) (xs : List X) → Contains xs y → Contains (x ∷ xs) y
-contains_there x y xs inside = (suc inside.0, (let within = inside.1 in omega (arith, within)), inside.2)
-
-pub contains_cases : {X : Type 0} (x y : X) (xs : List X) → Contains (x ∷ xs) y → (x ≡ y) ⊎ Contains xs y
-contains_cases x y xs inside = at inside.0 inside.1 inside.2
-  where
-    at : (k : ℕ) → k < length (x ∷ xs) → get_or (x ∷ xs) k y ≡ y → (x ≡ y) ⊎ Contains xs y
-    at zero within is = inl is
-    at (suc k) within is = inr (k, omega (arith, within), is)
-
 pub contains_one : {X : Type 0} (x y : X) → Contains (x ∷ []) y → x ≡ y
-contains_one x y inside = elim (contains_cases x y [] inside) [
+contains_one x y inside = elim (Contains-cases x [] y inside) [
   | inl same ↦ same
-  | inr rest ↦ absurd (contains_none y rest)
+  | inr rest ↦ absurd (Contains-none y rest)
 ]
 
 -- Each element and each later one
@@ -61,15 +46,15 @@ pairs_append R (x ∷ xs) ys one two across =
     pairs_more R x (xs ++ ys)
     (λ y inside. elim (Contains-append_cases xs ys y inside) [
       | inl left ↦ pairs_first R x xs one y left
-      | inr right ↦ across x y (contains_here x xs) right
+      | inr right ↦ across x y (Contains-first x xs) right
     ])
-    (pairs_append R xs ys (pairs_rest R x xs one) two (λ z y left right. across z y (contains_there x z xs left) right))
+    (pairs_append R xs ys (pairs_rest R x xs one) two (λ z y left right. across z y (Contains-rest x xs z left) right))
 
 -- an element before a place, and one from it on
 pub pairs_across : {X : Type 0} (R : X → X → Type 0) (xs ys : List X) → AllPairs R (xs ++ ys) → (x y : X) → Contains xs x →
     Contains ys y → R x y
-pairs_across R [] ys pairs x y left right = absurd (contains_none x left)
-pairs_across R (z ∷ xs) ys pairs x y left right = elim (contains_cases z x xs left) [
+pairs_across R [] ys pairs x y left right = absurd (Contains-none x left)
+pairs_across R (z ∷ xs) ys pairs x y left right = elim (Contains-cases z xs x left) [
   | inl same ↦ subst (λ w. R w y) same (pairs_first R z (xs ++ ys) pairs y (Contains-append_right xs ys y right))
   | inr rest ↦ pairs_across R xs ys (pairs_rest R z (xs ++ ys) pairs) x y rest right
 ]

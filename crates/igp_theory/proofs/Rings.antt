@@ -1,5 +1,6 @@
 -- Rings: each element and the next one.
-use Rattle.std.proofs.Common.{◌≡◌, ◌≢◌, ℕ, zero, suc, ◌<◌, ◌≤◌, ◌⊎◌, inl, inr, List, [], ◌∷◌, ◌++◌, length, Contains, AllPairs, refl, sym, ap, ◌∙◌, subst, arith}
+use Rattle.std.proofs.Common.{◌≡◌, ◌≢◌, ℕ, zero, suc, ◌<◌, ◌≤◌, ◌⊎◌, inl, inr, List, []}
+use Rattle.std.proofs.Common.{◌∷◌, ◌++◌, length, Contains, AllPairs, refl, sym, ap, ◌∙◌, subst, arith}
 use Rattle.std.proofs.lemmas.List.{append-nil}
 use Rattle.std.proofs.lemmas.List.Elements.{Contains-append_left}
 use Rattle.order_core.specs.Orders.{AreDistinct}
@@ -8,7 +9,8 @@ use Rattle.order_core.specs.declared.turn.Turn.{Turn}
 use Rattle.igp_theory.specs.Loops.{EachToNext, AroundRing, IsLowestLiveHop, IsFoundRing}
 use Rattle.igp_theory.specs.States.{Follows}
 use Rattle.igp_theory.proofs.Delivery.{contains_or_not, LeadsOn}
-use Rattle.igp_theory.proofs.OrderedLists.{contains_none, contains_here, contains_there, contains_cases, pairs_none, pairs_more, pairs_first, pairs_rest, pairs_append, pairs_across}
+use Rattle.net_model.proofs.Members.{Contains-none, Contains-first, Contains-rest, Contains-cases}
+use Rattle.igp_theory.proofs.OrderedLists.{pairs_none, pairs_more, pairs_first, pairs_rest, pairs_append, pairs_across}
 use Rattle.igp_theory.proofs.SameTables.{each_to_next_over}
 
 -- Each element of a ring and the next one
@@ -17,9 +19,9 @@ use Rattle.igp_theory.proofs.SameTables.{each_to_next_over}
 pub each_inside : {A : Type 0} (R S : A → A → Type 0) (first : A) (ring : List A) → ((r s : A) → Contains ring r → R r s → S r s) →
     EachToNext R first ring → EachToNext S first ring
 each_inside R S first [] over goes = tt
-each_inside R S first (r ∷ []) over goes = over r first (contains_here r []) goes
+each_inside R S first (r ∷ []) over goes = over r first (Contains-first r []) goes
 each_inside R S first (r ∷ s ∷ rest) over goes =
-    (over r s (contains_here r (s ∷ rest)) goes.0, each_inside R S first (s ∷ rest) (λ x y inside. over x y (contains_there r x (s ∷ rest) inside)) goes.1)
+    (over r s (Contains-first r (s ∷ rest)) goes.0, each_inside R S first (s ∷ rest) (λ x y inside. over x y (Contains-rest r (s ∷ rest) x inside)) goes.1)
 
 pub around_inside : {A : Type 0} (R S : A → A → Type 0) (ring : List A) → ((r s : A) → Contains ring r → R r s → S r s) →
     AroundRing R ring → AroundRing S ring
@@ -39,18 +41,18 @@ around_both R S (r ∷ rest) one two = each_both R S r (r ∷ rest) one two
 
 -- what an element goes to
 each_at : {A : Type 0} (R : A → A → Type 0) (first : A) (ring : List A) (r : A) → EachToNext R first ring → Contains ring r → (s : A) × R r s
-each_at R first [] r goes inside = absurd (contains_none r inside)
-each_at R first (x ∷ []) r goes inside = elim (contains_cases x r [] inside) [
+each_at R first [] r goes inside = absurd (Contains-none r inside)
+each_at R first (x ∷ []) r goes inside = elim (Contains-cases x [] r inside) [
   | inl same ↦ (first, subst (λ y. R y first) same goes)
-  | inr none ↦ absurd (contains_none r none)
+  | inr none ↦ absurd (Contains-none r none)
 ]
-each_at R first (x ∷ s ∷ rest) r goes inside = elim (contains_cases x r (s ∷ rest) inside) [
+each_at R first (x ∷ s ∷ rest) r goes inside = elim (Contains-cases x (s ∷ rest) r inside) [
   | inl same ↦ (s, subst (λ y. R y s) same goes.0)
   | inr later ↦ each_at R first (s ∷ rest) r goes.1 later
 ]
 
 pub around_at : {A : Type 0} (R : A → A → Type 0) (ring : List A) (r : A) → AroundRing R ring → Contains ring r → (s : A) × R r s
-around_at R [] r goes inside = absurd (contains_none r inside)
+around_at R [] r goes inside = absurd (Contains-none r inside)
 around_at R (x ∷ rest) r goes inside = each_at R x (x ∷ rest) r goes inside
 
 -- Turning
@@ -79,7 +81,8 @@ around_turned R (x ∷ xs) (y ∷ ys) goes = each_join R y x (y ∷ ys) xs (each
 pairs_front : {A : Type 0} (R : A → A → Type 0) (xs ys : List A) → AllPairs R (xs ++ ys) → AllPairs R xs
 pairs_front R [] ys pairs = pairs_none R
 pairs_front R (x ∷ xs) ys pairs =
-    pairs_more R x xs (λ y inside. pairs_first R x (xs ++ ys) pairs y (Contains-append_left xs ys y inside)) (pairs_front R xs ys (pairs_rest R x (xs ++ ys) pairs))
+    pairs_more R x xs (λ y inside. pairs_first R x (xs ++ ys) pairs y (Contains-append_left xs ys y inside))
+    (pairs_front R xs ys (pairs_rest R x (xs ++ ys) pairs))
 
 pairs_back : {A : Type 0} (R : A → A → Type 0) (xs ys : List A) → AllPairs R (xs ++ ys) → AllPairs R ys
 pairs_back R [] ys pairs = pairs
@@ -104,7 +107,8 @@ found_goes_round {step} {n} found =
 
 pub found_distinct : {step : ℕ → ℕ → Type 0} {n : ℕ} {ring : List ℕ} → IsFoundRing step n ring → AreDistinct ring
 found_distinct found =
-    let part : AreDistinct (found.again ∷ found.rest) = pairs_back (λ u v. u ≢ v) found.lead (found.again ∷ found.rest) (subst AreDistinct found.in_order found.distinct) in
+    let part : AreDistinct (found.again ∷ found.rest) =
+    pairs_back (λ u v. u ≢ v) found.lead (found.again ∷ found.rest) (subst AreDistinct found.in_order found.distinct) in
     subst AreDistinct (sym found.turned) (distinct_turned found.front found.back (subst AreDistinct found.found part))
 
 -- Lists of steps that return
@@ -117,8 +121,8 @@ record LeadsShort (step : ℕ → ℕ → Type 0) (u v most : ℕ) : Type 0 wher
   short : length (hop ∷ hops) ≤ most
 
 leads_short : (step : ℕ → ℕ → Type 0) (u : ℕ) (hops : List ℕ) (v w : ℕ) → Follows step u hops v → Contains hops w → LeadsShort step u w (length hops)
-leads_short step u [] v w follows among = absurd (contains_none w among)
-leads_short step u (h ∷ hops) v w follows among = elim (contains_cases h w hops among) [
+leads_short step u [] v w follows among = absurd (Contains-none w among)
+leads_short step u (h ∷ hops) v w follows among = elim (Contains-cases h hops w among) [
   | inl same ↦ record { hop = h; hops = []; follows = (follows.0, same); short = omega arith }
   | inr later ↦
       let rest : LeadsShort step h w (length hops) = leads_short step h hops v w follows.1 later in
@@ -127,7 +131,7 @@ leads_short step u (h ∷ hops) v w follows among = elim (contains_cases h w hop
 
 distinct_or_short : (step : ℕ → ℕ → Type 0) (u : ℕ) (hops : List ℕ) (v : ℕ) → Follows step u hops v →
     AreDistinct (u ∷ hops) ⊎ ((w : ℕ) × LeadsShort step w w (length hops))
-distinct_or_short step u [] v follows = inl (pairs_more (λ x y. x ≢ y) u [] (λ w inside. absurd (contains_none w inside)) (pairs_none (λ x y. x ≢ y)))
+distinct_or_short step u [] v follows = inl (pairs_more (λ x y. x ≢ y) u [] (λ w inside. absurd (Contains-none w inside)) (pairs_none (λ x y. x ≢ y)))
 distinct_or_short step u (h ∷ hops) v follows = elim (distinct_or_short step h hops v follows.1) [
   | inr returns ↦ inr (
     returns.0,
@@ -186,10 +190,10 @@ some_turn [] u others begins = cc
 some_turn (t ∷ ring) u others begins = omega arith
 
 routers_contain : (ring : List Turn) (t : Turn) → Contains ring t → Contains (routers_of ring) t.router
-routers_contain [] t inside = absurd (contains_none t inside)
-routers_contain (r ∷ rest) t inside = elim (contains_cases r t rest inside) [
-  | inl same ↦ subst (λ (u : ℕ). Contains (r.router ∷ routers_of rest) u) (ap (λ (x : Turn). x.router) same) (contains_here r.router (routers_of rest))
-  | inr later ↦ contains_there r.router t.router (routers_of rest) (routers_contain rest t later)
+routers_contain [] t inside = absurd (Contains-none t inside)
+routers_contain (r ∷ rest) t inside = elim (Contains-cases r rest t inside) [
+  | inl same ↦ subst (λ (u : ℕ). Contains (r.router ∷ routers_of rest) u) (ap (λ (x : Turn). x.router) same) (Contains-first r.router (routers_of rest))
+  | inr later ↦ Contains-rest r.router (routers_of rest) t.router (routers_contain rest t later)
 ]
 
 pub turns_distinct : (ring : List Turn) → AreDistinct (routers_of ring) → AllPairs (λ (r s : Turn). r.router ≢ s.router) ring
@@ -201,13 +205,13 @@ turns_distinct (r ∷ rest) distinct = pairs_more (λ (x y : Turn). x.router ≢
 -- two turns of one router are one
 pub one_turn : (ring : List Turn) (r s : Turn) → AllPairs (λ (x y : Turn). x.router ≢ y.router) ring → Contains ring r → Contains ring s →
     r.router ≡ s.router → r ≡ s
-one_turn [] r s distinct one two same = absurd (contains_none r one)
-one_turn (t ∷ rest) r s distinct one two same = elim (contains_cases t r rest one) [
-  | inl is_r ↦ elim (contains_cases t s rest two) [
+one_turn [] r s distinct one two same = absurd (Contains-none r one)
+one_turn (t ∷ rest) r s distinct one two same = elim (Contains-cases t rest r one) [
+  | inl is_r ↦ elim (Contains-cases t rest s two) [
     | inl is_s ↦ sym is_r ∙ is_s
     | inr later ↦ absurd (pairs_first (λ (x y : Turn). x.router ≢ y.router) t rest distinct s later (ap (λ (x : Turn). x.router) is_r ∙ same))
   ]
-  | inr after ↦ elim (contains_cases t s rest two) [
+  | inr after ↦ elim (Contains-cases t rest s two) [
     | inl is_s ↦ absurd (pairs_first (λ (x y : Turn). x.router ≢ y.router) t rest distinct r after (ap (λ (x : Turn). x.router) is_s ∙ sym same))
     | inr later ↦ one_turn rest r s (pairs_rest (λ (x y : Turn). x.router ≢ y.router) t rest distinct) after later same
   ]

@@ -16,7 +16,8 @@ use Rattle.igp_theory.specs.Waves.{AreSeamlessWaves, IsStateOfWave}
 use Rattle.igp_theory.proofs.FaultLaws.{fault_is_unsound}
 use Rattle.igp_theory.proofs.FlatOrders.{wave_state_is_reached}
 use Rattle.igp_theory.proofs.FoundRings.{found_ring_unique}
-use Rattle.igp_theory.proofs.SameTables.{same_tables_sym, steps_over, has_step_over, follows_over, sound_at_over, sound_over, around_ring_over, tag_over, SameHops, found_ring_over}
+use Rattle.igp_theory.proofs.SameTables.{same_tables_sym, steps_over, has_step_over, follows_over, sound_at_over}
+use Rattle.igp_theory.proofs.SameTables.{sound_over, around_ring_over, tag_over, SameHops, found_ring_over}
 use Rattle.igp_theory.proofs.Tags.{AreTagged, same_tagged}
 
 -- One fault
@@ -63,12 +64,12 @@ fault_over_unique {net} {old} {new} {states} (missing_in_one {a = a} {u = u} lea
     absurd (none_lacks lacks (subst (λ (x : ℕ). AllForward net old new states x) (sym (least_same least last)) forwards))
 fault_over_unique {net} {old} {new} {states} (loop_over_all {a = a} least forwards found tags) (missing_in_one {a = b} {u = v} last lack low) =
     absurd (none_lacks lack (subst (λ (x : ℕ). AllForward net old new states x) (least_same least last) forwards))
-fault_over_unique {net} {old} {new} {states} (loop_over_all {a = a} {ring = ring} least forwards found tags) (loop_over_all {a = b} {ring = turns} last passes finds marks) =
+fault_over_unique {net} {old} {new} {states} (loop_over_all {a = a} {ring = one} least _ found tags) (loop_over_all {a = b} {ring = two} last _ finds marks) =
     let address : a ≡ b = least_same least last in
-    let again : IsFoundRing (StepsInSome net old new states a) (length net) (routers_of turns) =
-    subst (λ (x : ℕ). IsFoundRing (StepsInSome net old new states x) (length net) (routers_of turns)) (sym address) finds in
-    let tagged : AreTagged net old new a turns = subst (λ (x : ℕ). AreTagged net old new x turns) (sym address) marks in
-    let rings : ring ≡ turns = same_tagged net old new a ring turns (found_ring_unique found again) tags tagged in
+    let again : IsFoundRing (StepsInSome net old new states a) (length net) (routers_of two) =
+    subst (λ (x : ℕ). IsFoundRing (StepsInSome net old new states x) (length net) (routers_of two)) (sym address) finds in
+    let tagged : AreTagged net old new a two = subst (λ (x : ℕ). AreTagged net old new x two) (sym address) marks in
+    let rings : one ≡ two = same_tagged net old new a one two (found_ring_unique found again) tags tagged in
     cc
 
 -- the state in which a fault's address is unsound

@@ -1,5 +1,6 @@
 -- The states of a wave list are those of its waves.
-use Rattle.std.proofs.Common.{◌≡◌, ◌≢◌, ℕ, zero, suc, ◌+◌, ◌<◌, ◌≤◌, ◌⊎◌, inl, inr, ◌==◌, if◌then◌else◌, Bool, List, [], ◌∷◌, ◌++◌, length, map, take, drop, Contains, arith, refl, sym, ap, ◌∙◌, subst}
+use Rattle.std.proofs.Common.{◌≡◌, ◌≢◌, ℕ, zero, suc, ◌+◌, ◌<◌, ◌≤◌, ◌⊎◌, inl, inr, ◌==◌, if◌then◌else◌, Bool, List}
+use Rattle.std.proofs.Common.{[], ◌∷◌, ◌++◌, length, map, take, drop, Contains, arith, refl, sym, ap, ◌∙◌, subst}
 use Rattle.std.specs.List.{AllPairs, flat_map}
 use Rattle.std.proofs.lemmas.Bool.{cases_lt, cases_eq}
 use Rattle.std.proofs.lemmas.Bool.Decides.{eqb_tells}
@@ -12,7 +13,8 @@ use Rattle.igp_theory.specs.Waves.{Change, first, second, changed, MayPrecede, I
 use Rattle.igp_theory.specs.WaveLaws.{IsStateOfSomeWave}
 use Rattle.igp_theory.specs.declared.phase.Phase.{Phase}
 use Rattle.igp_theory.specs.declared.phase.Phase.TheVariants.{Old, Middle, New}
-use Rattle.igp_theory.proofs.OrderedLists.{contains_none, contains_here, contains_there, contains_cases, contains_one, pairs_none, pairs_more, pairs_first, pairs_rest, pairs_append, pairs_across}
+use Rattle.net_model.proofs.Members.{Contains-none, Contains-first, Contains-rest, Contains-cases}
+use Rattle.igp_theory.proofs.OrderedLists.{contains_one, pairs_none, pairs_more, pairs_first, pairs_rest, pairs_append, pairs_across}
 
 -- How many changes are made on a router
 
@@ -39,32 +41,32 @@ pub count_none : (u : ℕ) (changes : List Change) → ((c : Change) → Contain
     changes_on u (map changed changes) ≡ 0
 count_none u [] apart = refl
 count_none u (c ∷ changes) apart =
-    count_other u c changes (apart c (contains_here c changes))
-    ∙ count_none u changes (λ d inside. apart d (contains_there c d changes inside))
+    count_other u c changes (apart c (Contains-first c changes))
+    ∙ count_none u changes (λ d inside. apart d (Contains-rest c changes d inside))
 
 pub count_append : (u : ℕ) (one two : List ℕ) → changes_on u (one ++ two) ≡ changes_on u one + changes_on u two
 count_append u [] two = omega arith
 count_append u (v ∷ one) two = let e : changes_on u (one ++ two) ≡ changes_on u one + changes_on u two = count_append u one two in omega (arith, e)
 
 count_some : (u : ℕ) (c : Change) (changes : List Change) → Contains changes c → changed c ≡ u → 1 ≤ changes_on u (map changed changes)
-count_some u c [] inside own = absurd (contains_none c inside)
-count_some u c (d ∷ changes) inside own = elim (contains_cases d c changes inside) [
+count_some u c [] inside own = absurd (Contains-none c inside)
+count_some u c (d ∷ changes) inside own = elim (Contains-cases d changes c inside) [
   | inl same ↦ let e = count_own u d changes (ap changed same ∙ own) in omega (arith, e)
   | inr rest ↦ let k = count_some u c changes rest own in omega (arith, k)
 ]
 
 -- where both changes of a router are made, two are
 count_both : (u : ℕ) (changes : List Change) → Contains changes (first u) → Contains changes (second u) → 2 ≤ changes_on u (map changed changes)
-count_both u [] one two = absurd (contains_none (first u) one)
-count_both u (c ∷ changes) one two = elim (contains_cases c (first u) changes one) [
-  | inl is_first ↦ elim (contains_cases c (second u) changes two) [
+count_both u [] one two = absurd (Contains-none (first u) one)
+count_both u (c ∷ changes) one two = elim (Contains-cases c changes (first u) one) [
+  | inl is_first ↦ elim (Contains-cases c changes (second u) two) [
     | inl is_second ↦ absurd (let clash : first u ≡ second u = sym is_first ∙ is_second in cc)
     | inr rest ↦
         let more = count_some u (second u) changes rest refl in
         let own = count_own u c changes (ap changed is_first) in
         omega (arith, more, own)
   ]
-  | inr first_rest ↦ elim (contains_cases c (second u) changes two) [
+  | inr first_rest ↦ elim (Contains-cases c changes (second u) two) [
     | inl is_second ↦
         let more = count_some u (first u) changes first_rest refl in
         let own = count_own u c changes (ap changed is_second) in
@@ -87,27 +89,27 @@ record LastWave (ranks : List ℕ) (changes : List Change) : Type 0 where
   of_one : (wave ≡ 0) ⊎ ((c : Change) × Contains changes c × (rank_of ranks (changed c) ≡ wave))
 
 last_wave : (ranks : List ℕ) (changes : List Change) → LastWave ranks changes
-last_wave ranks [] = record { wave = 0; none_later = λ c inside. absurd (contains_none c inside); of_one = inl refl }
+last_wave ranks [] = record { wave = 0; none_later = λ c inside. absurd (Contains-none c inside); of_one = inl refl }
 last_wave ranks (c ∷ changes) =
     let rest : LastWave ranks changes = last_wave ranks changes in
     elim (cases_lt rest.wave (rank_of ranks (changed c))) [
       | inl later ↦ record {
         wave = rank_of ranks (changed c);
-        none_later = λ d inside. elim (contains_cases c d changes inside) [
+        none_later = λ d inside. elim (Contains-cases c changes d inside) [
           | inl same ↦ subst (λ (e : Change). rank_of ranks (changed e) ≤ rank_of ranks (changed c)) same (omega arith)
           | inr among ↦ let k = rest.none_later d among in omega (arith, k, later)
         ];
-        of_one = inr (c, contains_here c changes, refl);
+        of_one = inr (c, Contains-first c changes, refl);
       }
       | inr earlier ↦ record {
         wave = rest.wave;
-        none_later = λ d inside. elim (contains_cases c d changes inside) [
+        none_later = λ d inside. elim (Contains-cases c changes d inside) [
           | inl same ↦ subst (λ (e : Change). rank_of ranks (changed e) ≤ rest.wave) same earlier
           | inr among ↦ rest.none_later d among
         ];
         of_one = elim rest.of_one [
           | inl none ↦ inl none
-          | inr one ↦ inr (one.0, contains_there c one.0 changes one.1, one.2)
+          | inr one ↦ inr (one.0, Contains-rest c changes one.0 one.1, one.2)
         ];
       }
     ]
@@ -178,22 +180,22 @@ abbrev pub AreOwn : (ℕ → List Change) → Type 0
 AreOwn f = (u : ℕ) (c : Change) → Contains (f u) c → changed c ≡ u
 
 pub own_inside : (f : ℕ → List Change) (order : List ℕ) (c : Change) → AreOwn f → Contains (flat_map f order) c → Contains order (changed c)
-own_inside f [] c own inside = absurd (contains_none c inside)
+own_inside f [] c own inside = absurd (Contains-none c inside)
 own_inside f (u ∷ order) c own inside = elim (Contains-append_cases (f u) (flat_map f order) c inside) [
-  | inl here ↦ subst (λ (v : ℕ). Contains (u ∷ order) v) (sym (own u c here)) (contains_here u order)
-  | inr there ↦ contains_there u (changed c) order (own_inside f order c own there)
+  | inl here ↦ subst (λ (v : ℕ). Contains (u ∷ order) v) (sym (own u c here)) (Contains-first u order)
+  | inr there ↦ Contains-rest u order (changed c) (own_inside f order c own there)
 ]
 
 pub own_part : (f : ℕ → List Change) (order : List ℕ) (c : Change) → AreOwn f → Contains (flat_map f order) c → Contains (f (changed c)) c
-own_part f [] c own inside = absurd (contains_none c inside)
+own_part f [] c own inside = absurd (Contains-none c inside)
 own_part f (u ∷ order) c own inside = elim (Contains-append_cases (f u) (flat_map f order) c inside) [
   | inl here ↦ subst (λ (v : ℕ). Contains (f v) c) (sym (own u c here)) here
   | inr there ↦ own_part f order c own there
 ]
 
 pub inside_whole : (f : ℕ → List Change) (order : List ℕ) (u : ℕ) (c : Change) → Contains order u → Contains (f u) c → Contains (flat_map f order) c
-inside_whole f [] u c router inside = absurd (contains_none u router)
-inside_whole f (v ∷ order) u c router inside = elim (contains_cases v u order router) [
+inside_whole f [] u c router inside = absurd (Contains-none u router)
+inside_whole f (v ∷ order) u c router inside = elim (Contains-cases v order u router) [
   | inl same ↦ Contains-append_left (f v) (flat_map f order) c (subst (λ (w : ℕ). Contains (f w) c) (sym same) inside)
   | inr there ↦ Contains-append_right (f v) (flat_map f order) c (inside_whole f order u c there inside)
 ]
@@ -224,11 +226,11 @@ in_turn_along ranks f (u ∷ order) own each turns =
 -- what is made on a router is what is made at its place
 count_along : (ranks : List ℕ) (f : ℕ → List Change) (order : List ℕ) (u : ℕ) → AreOwn f → AllPairs (InWaveOrder ranks) order → Contains order u →
     changes_on u (map changed (flat_map f order)) ≡ changes_on u (map changed (f u))
-count_along ranks f [] u own turns router = absurd (contains_none u router)
+count_along ranks f [] u own turns router = absurd (Contains-none u router)
 count_along ranks f (v ∷ order) u own turns router =
     let split : changes_on u (map changed (f v ++ flat_map f order)) ≡ changes_on u (map changed (f v)) + changes_on u (map changed (flat_map f order)) =
     ap (changes_on u) (map-append changed (f v) (flat_map f order)) ∙ count_append u (map changed (f v)) (map changed (flat_map f order)) in
-    elim (contains_cases v u order router) [
+    elim (Contains-cases v order u router) [
       | inl same ↦
           let none : changes_on u (map changed (flat_map f order)) ≡ 0 = count_none u (flat_map f order)
           (λ c inside is. (pairs_first (InWaveOrder ranks) v order turns (changed c) (own_inside f order c own inside)).apart (same ∙ sym is)) in
@@ -256,7 +258,7 @@ left_in Middle u = second u ∷ []
 left_in New u = []
 
 pub both_own : (u : ℕ) (c : Change) → Contains (first u ∷ second u ∷ []) c → (first u ≡ c) ⊎ (second u ≡ c)
-both_own u c inside = elim (contains_cases (first u) c (second u ∷ []) inside) [
+both_own u c inside = elim (Contains-cases (first u) (second u ∷ []) c inside) [
   | inl one ↦ inl one
   | inr rest ↦ inr (contains_one (second u) c rest)
 ]
@@ -268,22 +270,22 @@ both_are_own u c inside = elim (both_own u c inside) [
 ]
 
 made_own : (phase : Phase) (u : ℕ) (c : Change) → Contains (made_in phase u) c → changed c ≡ u
-made_own Old u c inside = absurd (contains_none c inside)
+made_own Old u c inside = absurd (Contains-none c inside)
 made_own Middle u c inside = sym (ap changed (contains_one (first u) c inside))
 made_own New u c inside = both_are_own u c inside
 
 left_own : (phase : Phase) (u : ℕ) (c : Change) → Contains (left_in phase u) c → changed c ≡ u
 left_own Old u c inside = both_are_own u c inside
 left_own Middle u c inside = sym (ap changed (contains_one (second u) c inside))
-left_own New u c inside = absurd (contains_none c inside)
+left_own New u c inside = absurd (Contains-none c inside)
 
 made_or_left : (phase : Phase) (c : Change) → Contains (made_in phase (changed c)) c ⊎ Contains (left_in phase (changed c)) c
-made_or_left Old (first u) = inr (contains_here (first u) (second u ∷ []))
-made_or_left Old (second u) = inr (contains_there (first u) (second u) (second u ∷ []) (contains_here (second u) []))
-made_or_left Middle (first u) = inl (contains_here (first u) [])
-made_or_left Middle (second u) = inr (contains_here (second u) [])
-made_or_left New (first u) = inl (contains_here (first u) (second u ∷ []))
-made_or_left New (second u) = inl (contains_there (first u) (second u) (second u ∷ []) (contains_here (second u) []))
+made_or_left Old (first u) = inr (Contains-first (first u) (second u ∷ []))
+made_or_left Old (second u) = inr (Contains-rest (first u) (second u ∷ []) (second u) (Contains-first (second u) []))
+made_or_left Middle (first u) = inl (Contains-first (first u) [])
+made_or_left Middle (second u) = inr (Contains-first (second u) [])
+made_or_left New (first u) = inl (Contains-first (first u) (second u ∷ []))
+made_or_left New (second u) = inl (Contains-rest (first u) (second u ∷ []) (second u) (Contains-first (second u) []))
 
 halves_apart : (u v : ℕ) → first u ≡ second v → ⊥
 halves_apart u v same = cc
@@ -291,27 +293,30 @@ halves_apart u v same = cc
 -- in a router's own changes one that is made may precede one that is left
 made_before_left : (ranks : List ℕ) (phase : Phase) (u : ℕ) (c d : Change) → Contains (made_in phase u) c → Contains (left_in phase u) d →
     MayPrecede ranks c d
-made_before_left ranks Old u c d made left = absurd (contains_none c made)
-made_before_left ranks New u c d made left = absurd (contains_none d left)
+made_before_left ranks Old u c d made left = absurd (Contains-none c made)
+made_before_left ranks New u c d made left = absurd (Contains-none d left)
 made_before_left ranks Middle u c d made left =
     let one : first u ≡ c = contains_one (first u) c made in
     let two : second u ≡ d = contains_one (second u) d left in
     record {
       other = λ same. halves_apart u u (one ∙ same ∙ sym two);
-      wave = let e : rank_of ranks (changed c) ≡ rank_of ranks (changed d) = ap (λ (x : Change). rank_of ranks (changed x)) (sym one) ∙ ap (λ (x : Change). rank_of ranks (changed x)) two in omega (arith, e);
+      wave =
+          let rank : Change → ℕ = λ x. rank_of ranks (changed x) in
+          let e : rank_of ranks (changed c) ≡ rank_of ranks (changed d) = ap rank (sym one) ∙ ap rank two in
+          omega (arith, e);
       half = λ v is_second is_first. halves_apart u v (one ∙ is_second);
     }
 
 pub both_in_turn : (ranks : List ℕ) (u : ℕ) → AllPairs (MayPrecede ranks) (first u ∷ second u ∷ [])
 both_in_turn ranks u = pairs_more (MayPrecede ranks) (first u) (second u ∷ [])
-    (λ d inside. made_before_left ranks Middle u (first u) d (contains_here (first u) []) inside)
+    (λ d inside. made_before_left ranks Middle u (first u) d (Contains-first (first u) []) inside)
     (one_in_turn ranks (second u))
   where
     one_in_turn : (ranks : List ℕ) (c : Change) → AllPairs (MayPrecede ranks) (c ∷ [])
-    one_in_turn ranks c = pairs_more (MayPrecede ranks) c [] (λ d inside. absurd (contains_none d inside)) (pairs_none (MayPrecede ranks))
+    one_in_turn ranks c = pairs_more (MayPrecede ranks) c [] (λ d inside. absurd (Contains-none d inside)) (pairs_none (MayPrecede ranks))
 
 one_change : (ranks : List ℕ) (c : Change) → AllPairs (MayPrecede ranks) (c ∷ [])
-one_change ranks c = pairs_more (MayPrecede ranks) c [] (λ d inside. absurd (contains_none d inside)) (pairs_none (MayPrecede ranks))
+one_change ranks c = pairs_more (MayPrecede ranks) c [] (λ d inside. absurd (Contains-none d inside)) (pairs_none (MayPrecede ranks))
 
 made_in_turn : (ranks : List ℕ) (phase : Phase) (u : ℕ) → AllPairs (MayPrecede ranks) (made_in phase u)
 made_in_turn ranks Old u = pairs_none (MayPrecede ranks)
@@ -333,14 +338,14 @@ made_wave : (n : ℕ) (ranks : List ℕ) (w : ℕ) (state : State) (u : ℕ) (c 
     Contains (made_in (state u) u) c → rank_of ranks u ≤ w
 made_wave n ranks w state u c of_wave below made = elim (cases_lt w (rank_of ranks u)) [
   | inr within ↦ within
-  | inl later ↦ absurd (contains_none c (subst (λ (p : Phase). Contains (made_in p u) c) (of_wave.later u below later) made))
+  | inl later ↦ absurd (Contains-none c (subst (λ (p : Phase). Contains (made_in p u) c) (of_wave.later u below later) made))
 ]
 
 left_wave : (n : ℕ) (ranks : List ℕ) (w : ℕ) (state : State) (u : ℕ) (c : Change) → IsStateOfWave n ranks w state → u < n →
     Contains (left_in (state u) u) c → w ≤ rank_of ranks u
 left_wave n ranks w state u c of_wave below left = elim (cases_lt (rank_of ranks u) w) [
   | inr within ↦ within
-  | inl earlier ↦ absurd (contains_none c (subst (λ (p : Phase). Contains (left_in p u) c) (of_wave.earlier u below earlier) left))
+  | inl earlier ↦ absurd (Contains-none c (subst (λ (p : Phase). Contains (left_in p u) c) (of_wave.earlier u below earlier) left))
 ]
 
 -- the run that comes through a state of a wave: what is made in it along an order of waves, then what is left

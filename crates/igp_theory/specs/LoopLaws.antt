@@ -57,6 +57,11 @@ FaultsBetweenSoundEndsAreLoops old new =
     (net : Network) (state : State) (fault : Fault) → AreSoundEnds net old new → IsFault net old new state fault →
     IsLoopFault net old new state fault
 
+-- between sound ends every loop of the network has both tags
+abbrev pub LoopsBetweenSoundEndsHaveBothTags : Tables → Tables → Type 0
+LoopsBetweenSoundEndsHaveBothTags old new =
+    (net : Network) (a : ℕ) (ring : List Turn) → AreSoundEnds net old new → IsLoop net old new a ring → HasBothTags ring
+
 -- Wave by wave
 
 -- a loop arises in a state of wave w

@@ -34,11 +34,12 @@ pub record Delivers (net : Network) (old new : Tables) (state : State) (a : ℕ)
   pub onward : (u v : ℕ) (hops : List ℕ) → u < length net → Follows (StepsIn net old new state a) u hops v →
       Connected net v p ⊎ HasStep net old new v (state v) a
 
--- over tables whose hops are routers a sound state delivers the packets of every address with a target
+-- over tables whose hops are routers a state is sound exactly where it delivers the packets of every
+-- address with a target
 abbrev pub SoundStatesDeliver : Tables → Tables → Type 0
 SoundStatesDeliver old new =
-    (net : Network) (state : State) (a : ℕ) (p : Block) → HopsAreRouters net old → HopsAreRouters net new →
-    IsSound net old new state → a < 2 ^ 32 → IsTarget net a p → Delivers net old new state a p
+    (net : Network) (state : State) → HopsAreRouters net old → HopsAreRouters net new →
+    IsSound net old new state ↔ ((a : ℕ) (p : Block) → a < 2 ^ 32 → IsTarget net a p → Delivers net old new state a p)
 
 -- The states of a wave list
 

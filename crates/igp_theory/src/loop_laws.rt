@@ -1,4 +1,4 @@
-ghost use Rattle.igp_theory.specs.LoopLaws.{LoopsArise, ArisingLoopsAreUnsound, FaultsBetweenSoundEndsAreLoops, LoopsAriseInWaves, ReturnsInWavesAreUnsound, WaveFaultsBetweenSoundEndsAreLoops, SeamlessWavesPutOldFirst, WavesAreSeamlessByLoops};
+ghost use Rattle.igp_theory.specs.LoopLaws.{LoopsArise, ArisingLoopsAreUnsound, FaultsBetweenSoundEndsAreLoops, LoopsBetweenSoundEndsHaveBothTags, LoopsAriseInWaves, ReturnsInWavesAreUnsound, WaveFaultsBetweenSoundEndsAreLoops, SeamlessWavesPutOldFirst, WavesAreSeamlessByLoops};
 
 use crate::tables::TablePair;
 
@@ -38,8 +38,9 @@ pub fn returns_in_waves_are_unsound<T: TablePair>()
 ///
 /// Whatever the ends, a seamless wave list puts some router tagged `Old` of each loop with both tags in an
 /// earlier wave than some router tagged `New`. Between sound ends a wave list is seamless exactly where it
-/// does so for each such loop.
+/// does so for each such loop, and every loop has both tags there.
 pub fn loops_say_which_waves_are_seamless<T: TablePair>()
+    ensures both_tags { LoopsBetweenSoundEndsHaveBothTags T.old T.new }
     ensures seamless { SeamlessWavesPutOldFirst T.old T.new }
     ensures exact { WavesAreSeamlessByLoops T.old T.new }
 {}

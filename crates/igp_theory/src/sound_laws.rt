@@ -8,11 +8,12 @@ pub fn hops_are_routers()
     ensures isis { IsisHopsAreRouters }
 {}
 
-/// What a sound state means, over any tables whose hops are routers of the network.
+/// What a sound state means: over any tables whose hops are routers of the network a state is sound exactly
+/// where it delivers the packets of every address with a target.
 ///
-/// For an address with a target every list of steps from a router is shorter than the count of routers,
-/// and one that has not reached an originator can be extended. So each packet reaches an originator,
-/// whichever of the equal-cost hops it takes.
+/// From every router every list of steps is shorter than the count of routers, and it has reached an
+/// originator or can be extended. So each packet reaches an originator, whichever of the equal-cost hops it
+/// takes.
 pub fn sound_states_deliver<T: TablePair>()
     ensures { SoundStatesDeliver T.old T.new }
 {}
