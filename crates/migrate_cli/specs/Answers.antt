@@ -7,6 +7,7 @@ use Rattle.migration_report.specs.Words.{line}
 use Rattle.migrate_cli.specs.CommandWords.{IsCheck}
 use Rattle.migrate_cli.specs.Reading.{Contents, AreRead, AreWithin, IsTooLong, PassesTotal, ReadUpTo}
 use Rattle.migrate_cli.specs.Verdicts.{IsVerdict}
+use Rattle.migrate_cli.specs.declared.calls.TheConstants.{FILES_MOST}
 use Rattle.migrate_cli.specs.declared.answer.Answer.{Answer}
 use Rattle.migrate_cli.specs.declared.reading.Stop.{Stop}
 use Rattle.migrate_cli.specs.declared.reading.Stop.TheVariants.{Fault, Long, Total, OutOfMemory}
@@ -17,25 +18,25 @@ use Rattle.migrate_cli.specs.declared.status.Status.TheVariants.{Words, ReadFaul
 pub data IsAnswer (content : Contents) (words : List (List ℕ)) : List (List ℕ) → Status → List ℕ → Type 0 where
   other_words : ((order : List ℕ) (files : List (List ℕ)) → IsCheck words order files → ⊥) →
       IsAnswer content words [] Words (line (codes "words") (codes "refused" ∷ []))
-  many_files : (order : List ℕ) (files : List (List ℕ)) → IsCheck words order files → 200 < length files →
+  many_files : (order : List ℕ) (files : List (List ℕ)) → IsCheck words order files → FILES_MOST < length files →
       IsAnswer content words [] Limit (line (codes "limit") (codes "files" ∷ decimal (length files) ∷ []))
-  read_fault : (order : List ℕ) (files asked texts : List (List ℕ)) (file : List ℕ) → IsCheck words order files → length files ≤ 200 →
+  read_fault : (order : List ℕ) (files asked texts : List (List ℕ)) (file : List ℕ) → IsCheck words order files → length files ≤ FILES_MOST →
       ReadUpTo content (order ∷ files) asked texts file →
       IsAnswer content words asked ReadFault (line (codes "read") (codes "fault" ∷ file ∷ []))
-  long_file : (order : List ℕ) (files asked texts : List (List ℕ)) (file : List ℕ) → IsCheck words order files → length files ≤ 200 →
+  long_file : (order : List ℕ) (files asked texts : List (List ℕ)) (file : List ℕ) → IsCheck words order files → length files ≤ FILES_MOST →
       ReadUpTo content (order ∷ files) asked texts file → IsTooLong content file →
       IsAnswer content words asked Limit (line (codes "limit") (codes "bytes" ∷ file ∷ []))
-  long_files : (order : List ℕ) (files asked texts : List (List ℕ)) (file : List ℕ) (number : ℕ) → IsCheck words order files → length files ≤ 200 →
+  long_files : (order : List ℕ) (files asked texts : List (List ℕ)) (file : List ℕ) (number : ℕ) → IsCheck words order files → length files ≤ FILES_MOST →
       ReadUpTo content (order ∷ files) asked texts file → PassesTotal content file texts number →
       IsAnswer content words asked Limit (line (codes "limit") (codes "total" ∷ decimal number ∷ []))
   judged : (order : List ℕ) (files : List (List ℕ)) (order_text : List ℕ) (texts : List (List ℕ)) (status : Status) (text : List ℕ) →
-      IsCheck words order files → length files ≤ 200 → AreRead content (order ∷ files) (order_text ∷ texts) → AreWithin (order_text ∷ texts) →
+      IsCheck words order files → length files ≤ FILES_MOST → AreRead content (order ∷ files) (order_text ∷ texts) → AreWithin (order_text ∷ texts) →
       IsVerdict order files order_text texts status text → IsAnswer content words (order ∷ files) status text
 
 -- the names that were asked for when memory ran out: none, or those up to a file before which all were read within the limits
 pub data MayAsk (content : Contents) (words : List (List ℕ)) : List (List ℕ) → Type 0 where
   asks_none : MayAsk content words []
-  asks_some : (order : List ℕ) (files asked texts : List (List ℕ)) (file : List ℕ) → IsCheck words order files → length files ≤ 200 →
+  asks_some : (order : List ℕ) (files asked texts : List (List ℕ)) (file : List ℕ) → IsCheck words order files → length files ≤ FILES_MOST →
       ReadUpTo content (order ∷ files) asked texts file → MayAsk content words asked
 
 -- the count of the files' faults agrees with an answer: it rose where that is a read fault, and else it stands

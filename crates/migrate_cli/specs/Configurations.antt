@@ -33,6 +33,6 @@ pub record GiveNetwork (texts : List (List ℕ)) (net : Network) : Type 0 where
   pub read : ReadsTexts texts configs
   pub make : MakeNetwork configs net
 
--- every router is where a migration starts: OSPF below distance 255, IS-IS at 255
+-- every router is where a migration starts: OSPF below the greatest distance, IS-IS at it
 abbrev pub IsAtStart : Network → Type 0
 IsAtStart net = (u : ℕ) → StartsOff net u → ⊥

@@ -64,8 +64,8 @@ impl Texts {
 
     /// How many bytes the configurations have together, with this text too.
     fn len_with(&self, text: &Bytes) -> u64
-        requires most { total_of_configs self.now ≤ 67108864 }
-        requires short { length text.now ≤ 16777216 }
+        requires most { total_of_configs self.now ≤ CONFIGS_MOST }
+        requires short { length text.now ≤ FILE_MOST }
         ensures { result ≡ total_of_configs (self.now ++ text.now ∷ []) }
     {
         if self.all.is_empty() {

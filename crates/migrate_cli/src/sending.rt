@@ -25,7 +25,7 @@ pub fn send<S: Sink>(out: &mut S, text: &[u8]) -> Result<(), Failed>
 
 /// Where the piece ends that begins after so many bytes of a text of this length.
 fn piece_end(done: usize, len: usize) -> usize
-    ensures { result ≡ min (done + 4096) len }
+    ensures { result ≡ min (done + PIECE) len }
 {
     done.saturating_add(PIECE).min(len)
 }

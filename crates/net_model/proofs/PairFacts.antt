@@ -1,9 +1,9 @@
 -- The first pair that a scan finds is the least, and where it finds none no two routers clash.
-use Rattle.std.proofs.Common.{◌≡◌, ℕ, ◌<◌, ◌≤◌, List, length, Option, Some, ⊎_elim, refl, sym, ap, subst, ◌∙◌, arith}
+use Rattle.std.proofs.Common.{◌≡◌, ℕ, ◌<◌, ◌≤◌, List, length, ⊎_elim, refl, sym, ap, subst, ◌∙◌, arith}
 use Rattle.std.proofs.lemmas.Option.{same_Some}
 use Rattle.std.proofs.lemmas.Bool.{cases_lt, cases_order}
 use Rattle.net_model.specs.Configuration.{Configuration}
-use Rattle.net_model.specs.Least.{ComesNoLater, IsLeastPair, IsLowest, NoneClash}
+use Rattle.net_model.specs.Least.{ComesNoLater, IsLeastPair, NoneClash}
 use Rattle.net_model.specs.Least.ComesNoLater.{by_first, by_second, by_item}
 use Rattle.net_model.specs.Lookups.{IsNamed}
 use Rattle.net_model.specs.Network.{Network}

@@ -1,5 +1,5 @@
 -- What refuses the network of configurations: conditions on its routers, and what holds where none of them does.
-use Rattle.std.specs.Prelude.{◌≡◌, ◌≢◌, ℕ, ◌+◌, ◌<◌, ◌≤◌, false, if◌then◌else◌, ◌⊎◌, Option, None, Some, is_some, IsTrue, Contains, sum_by}
+use Rattle.std.specs.Prelude.{◌≡◌, ◌≢◌, ℕ, ◌+◌, ◌≤◌, false, if◌then◌else◌, ◌⊎◌, Option, None, Some, is_some, IsTrue, Contains, sum_by}
 use Rattle.net_addr.specs.Addresses.{Block}
 use Rattle.net_model.specs.Configuration.{Configuration}
 use Rattle.net_model.specs.Least.{NoneClash}
