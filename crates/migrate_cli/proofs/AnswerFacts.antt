@@ -3,7 +3,7 @@ use Rattle.std.proofs.Common.{◌≡◌, ◌≢◌, ◌⊎◌, inl, inr, ℕ, �
 use Rattle.std.specs.declared.alloc.AllocError.{AllocError}
 use Rattle.igp_theory.specs.Routes.{Tables}
 use Rattle.net_model.specs.Network.{Network}
-use Rattle.migration_report.specs.Words.{line}
+use Rattle.printed_lines.specs.Texts.{line}
 use Rattle.migrate_cli.specs.Answers.{IsAnswer, MayAsk, FaultsAgree, StopAnswer, HasAnswer}
 use Rattle.migrate_cli.specs.Answers.IsAnswer.{other_words, many_files, read_fault, long_file, long_files, judged}
 use Rattle.migrate_cli.specs.Answers.MayAsk.{asks_none, asks_some}

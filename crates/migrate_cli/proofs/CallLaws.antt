@@ -1,7 +1,7 @@
 -- Where the files that an answer asks for are told, it is the one answer of the call besides a read fault.
 use Rattle.std.proofs.Common.{◌≡◌, ◌≢◌, ◌⊎◌, inl, inr, ℕ, ◌<◌, ◌≤◌, List, [], ◌∷◌, ◌++◌, length, All, refl, sym, subst, ◌∙◌, arith}
 use Rattle.std.specs.Prelude.{codes, decimal}
-use Rattle.migration_report.specs.Words.{line}
+use Rattle.printed_lines.specs.Texts.{line}
 use Rattle.migrate_cli.specs.AnswerLaws.{IsTold, MayEnd}
 use Rattle.migrate_cli.specs.AnswerLaws.MayEnd.{as_answered, by_read_fault}
 use Rattle.migrate_cli.specs.Answers.{IsAnswer}

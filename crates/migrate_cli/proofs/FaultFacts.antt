@@ -9,7 +9,9 @@ use Rattle.loop_finder.specs.declared.fault.Fault.{Fault}
 use Rattle.loop_finder.specs.declared.fault.Fault.TheVariants.{Loop, Missing}
 use Rattle.order_search.specs.declared.turn.Turn.{Turn}
 use Rattle.migration_report.specs.Texts as report
-use Rattle.migration_report.specs.Words.{line, dotted, name_of}
+use Rattle.printed_lines.specs.Words.{dotted}
+use Rattle.printed_lines.specs.Texts.{line}
+use Rattle.migration_report.specs.Words.{name_of}
 use Rattle.migrate_cli.specs.AnswerTexts.{fault_words, unsafe_text}
 use Rattle.migrate_cli.specs.Faults.{NamesRouters}
 

@@ -3,7 +3,7 @@ use Rattle.std.proofs.Common.{◌≡◌, ℕ, ◌<◌, ◌≤◌, List, [], ◌�
 use Rattle.std.specs.Prelude.{codes, decimal}
 use Rattle.std.proofs.lemmas.List.Elements.{All-head, All-tail, All-contains, Contains-append_right}
 use Rattle.net_model.proofs.Members.{Contains-first}
-use Rattle.migration_report.specs.Words.{line}
+use Rattle.printed_lines.specs.Texts.{line}
 use Rattle.migrate_cli.specs.AnswerLaws.{IsTold}
 use Rattle.migrate_cli.specs.Reading.{Contents, IsReadOf, AreRead, total_of_configs, IsShort, AreWithin}
 use Rattle.migrate_cli.specs.Stops.{IsFrontOf}

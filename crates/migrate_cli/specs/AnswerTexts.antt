@@ -6,7 +6,9 @@ use Rattle.net_model.specs.declared.refusal.NetRefusal.TheVariants.{Limit, OutOf
 use Rattle.migrate_cli.specs.declared.status.Status.{Status}
 use Rattle.migrate_cli.specs.declared.status.Status.TheVariants.{Refused}
 use Rattle.migrate_cli.specs.declared.status.Status.TheVariants as status
-use Rattle.migration_report.specs.Words.{line, dotted, name_of}
+use Rattle.printed_lines.specs.Words.{dotted}
+use Rattle.printed_lines.specs.Texts.{line}
+use Rattle.migration_report.specs.Words.{name_of}
 
 -- a line of a file is faulty
 abbrev pub faulty_text : List ℕ → ℕ → List ℕ → List ℕ

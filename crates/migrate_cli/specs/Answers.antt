@@ -3,7 +3,7 @@ use Rattle.std.specs.Prelude.{◌≡◌, ◌≢◌, ℕ, ◌<◌, ◌≤◌, Lis
 use Rattle.std.specs.declared.alloc.AllocError.{AllocError}
 use Rattle.store_edge.specs.Faults.{Rose}
 use Rattle.store_edge.specs.Sink.{Adds, AddsFront}
-use Rattle.migration_report.specs.Words.{line}
+use Rattle.printed_lines.specs.Texts.{line}
 use Rattle.migrate_cli.specs.CommandWords.{IsCheck}
 use Rattle.migrate_cli.specs.Reading.{Contents, AreRead, AreWithin, IsTooLong, PassesTotal, ReadUpTo}
 use Rattle.migrate_cli.specs.Verdicts.{IsVerdict}

@@ -5,7 +5,9 @@ use Rattle.net_model.specs.declared.refusal.NetRefusal.TheVariants.{Limit, TwoNa
 use Rattle.loop_finder.specs.declared.fault.Fault.{Fault}
 use Rattle.loop_finder.specs.declared.fault.Fault.TheVariants.{Loop, Missing}
 use Rattle.order_search.specs.declared.turn.Turn.{Turn}
-use Rattle.migration_report.specs.Words.{line, dotted, prefix_word, name_of}
+use Rattle.printed_lines.specs.Words.{dotted, prefix_word}
+use Rattle.printed_lines.specs.Texts.{line}
+use Rattle.migration_report.specs.Words.{name_of}
 use Rattle.migration_report.specs.Kinds.{read_kind_name, order_kind_name, limit_name}
 use Rattle.migration_report.specs.declared.report.Report.{Report}
 use Rattle.migration_report.specs.declared.report.Report.TheVariants.{Safe, Unsafe}

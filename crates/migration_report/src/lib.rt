@@ -2,7 +2,6 @@
 #![tactic(auto)]
 
 mod kinds;
-mod line;
 mod names;
 mod network;
 mod refusal;

@@ -1,12 +1,14 @@
 ghost use Rattle.std.specs.Prelude.{◌≡◌, ◌<◌, ◌∷◌, ◌++◌, [], IfOk, codes, decimal, length};
-ghost use Rattle.migration_report.specs.Words.{line, name_of, spaced};
+ghost use Rattle.printed_lines.specs.Words.{spaced};
+ghost use Rattle.printed_lines.specs.Texts.{line};
+ghost use Rattle.migration_report.specs.Words.{name_of};
 ghost use Rattle.migration_report.specs.Texts.{NetworkBelow, network_text};
 
 use crate::Names;
 use crate::kinds::limit_name;
-use crate::line::LineBuilder;
 use net_addr::Bytes;
 use net_model::NetRefusal;
+use printed_lines::LineBuilder;
 use std::alloc::{AllocError, Global};
 
 /// The line for configurations that make no network.

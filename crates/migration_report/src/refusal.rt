@@ -1,14 +1,14 @@
 ghost use Rattle.std.specs.Prelude.{◌≡◌, ◌∷◌, [], IfOk, codes, decimal};
-ghost use Rattle.migration_report.specs.Words.{line};
+ghost use Rattle.printed_lines.specs.Texts.{line};
 ghost use Rattle.migration_report.specs.Texts.{HasNames, refusal_text};
 
 use crate::Names;
 use crate::kinds::{order_kind_name, read_kind_name};
-use crate::line::LineBuilder;
 use crate::network::{limit_text, network_text, refused};
 use ios_lines::ReadKind;
 use net_addr::{Bytes, Name};
 use net_model::NetRefusal;
+use printed_lines::LineBuilder;
 use std::alloc::{AllocError, Global};
 use step_scripts::OrderKind;
 

@@ -1,12 +1,13 @@
 ghost use Rattle.std.specs.Prelude.{◌≡◌, ◌<◌, ◌++◌, All, IfOk, length};
-ghost use Rattle.migration_report.specs.Words.{name_of, names_of, spaced};
+ghost use Rattle.printed_lines.specs.Words.{spaced};
+ghost use Rattle.migration_report.specs.Words.{name_of, names_of};
 ghost use Rattle.migration_report.specs.Texts.{FaultBelow, ReportBelow, fault_words, report_text, ring_words};
 
-use crate::line::LineBuilder;
 use loop_finder::Fault;
 use net_addr::Bytes;
 use net_model::Net;
 use order_search::Turn;
+use printed_lines::LineBuilder;
 use std::alloc::{AllocError, Global};
 
 /// What the planner found of an order.

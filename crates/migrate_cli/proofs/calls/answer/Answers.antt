@@ -1,7 +1,7 @@
 use Rattle.std.proofs.Common.{◌≡◌, ◌<◌, ◌≤◌, ◌∷◌, [], List, ℕ, IfOk, length, map, string_bytes, codes, decimal, arith, append-nil, sym, subst}
 use Rattle.std.proofs.lemmas.List.{length-map}
 use Rattle.std.proofs.lemmas.Result.{IfOk-weaker}
-use Rattle.migration_report.specs.Words.{line}
+use Rattle.printed_lines.specs.Texts.{line}
 use Rattle.migrate_cli.specs.Answers.{IsAnswer, MayAsk, FaultsAgree}
 use Rattle.migrate_cli.specs.Answers.IsAnswer.{other_words, many_files}
 use Rattle.migrate_cli.specs.Answers.MayAsk.{asks_none}

@@ -1,5 +1,6 @@
 use Rattle.std.proofs.Common.{◌≡◌, ◌++◌, take}
-use Rattle.migration_report.specs.Words.{names_of, spaced}
+use Rattle.printed_lines.specs.Words.{spaced}
+use Rattle.migration_report.specs.Words.{names_of}
 use Rattle.migration_report.specs.Texts.{ring_words}
 use Rattle.migration_report.proofs.report.ring_words.Given as goal
 
