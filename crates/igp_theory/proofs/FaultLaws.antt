@@ -3,9 +3,10 @@ use Rattle.std.proofs.Common.{◌≡◌, ℕ, ◌*◌, ◌^◌, ◌<◌, ◌≤�
 use Rattle.std.proofs.lemmas.Bool.{cases_lt, cases_order}
 use Rattle.std.proofs.lemmas.List.{take_all}
 use Rattle.net_model.specs.Network.{Network}
+use Rattle.order_core.specs.Turns.{routers_of}
 use Rattle.igp_theory.specs.Forwarding.{MustForward, HasStep}
 use Rattle.igp_theory.specs.Laws.{fault_address}
-use Rattle.igp_theory.specs.Loops.{Fault, ring_routers, IsFault, missing_step, loop_arises, IsFirstFault, IsFoundRing}
+use Rattle.igp_theory.specs.Loops.{Fault, IsFault, missing_step, loop_arises, IsFirstFault, IsFoundRing}
 use Rattle.igp_theory.specs.Routes.{Tables}
 use Rattle.igp_theory.specs.States.{State, StepsIn, IsSoundAt, IsSound, IsSeamless, changes_of, changes_on, phase_after, state_of}
 use Rattle.igp_theory.proofs.FoundRings.{found_ring_returns, found_ring_unique}
@@ -107,8 +108,8 @@ same_at_address {net} {old} {new} {state} (missing_step {u = u} _ _ must lacks l
 same_at_address {net} {old} {new} {state} (loop_arises _ _ forwards found tags) (missing_step {u = u} _ _ must lacks lowest) address =
     absurd (lacks (subst (λ (x : ℕ). AllForward net old new state x) address forwards u must))
 same_at_address {net} {old} {new} {state} (loop_arises {a = a} {ring = ring} _ _ forwards found tags) (loop_arises {a = b} {ring = turn} _ _ passes finds marks) address =
-    let again : IsFoundRing (StepsIn net old new state a) (length net) (ring_routers turn) =
-    subst (λ (x : ℕ). IsFoundRing (StepsIn net old new state x) (length net) (ring_routers turn)) (sym address) finds in
+    let again : IsFoundRing (StepsIn net old new state a) (length net) (routers_of turn) =
+    subst (λ (x : ℕ). IsFoundRing (StepsIn net old new state x) (length net) (routers_of turn)) (sym address) finds in
     let tagged : AreTagged net old new a turn = subst (λ (x : ℕ). AreTagged net old new x turn) (sym address) marks in
     let rings : ring ≡ turn = same_tagged net old new a ring turn (found_ring_unique found again) tags tagged in
     cc

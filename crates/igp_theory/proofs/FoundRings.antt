@@ -2,7 +2,10 @@
 use Rattle.std.proofs.Common.{◌≡◌, ℕ, ◌≤◌, List, [], ◌∷◌, ◌++◌, refl, sym, ap, ◌∙◌, subst, arith}
 use Rattle.igp_theory.specs.Loops.{EachToNext, IsLowestLive, IsLowestLiveHop, IsFoundRing}
 use Rattle.igp_theory.specs.States.{Follows}
-use Rattle.igp_theory.proofs.DistinctLists.{AreDistinct, back_distinct, twice_not_distinct, same_place, IsTurned, is_turned, same_turned}
+use Rattle.order_core.specs.Orders.{AreDistinct}
+use Rattle.order_core.specs.Rings.{IsTurned}
+use Rattle.order_core.proofs.DistinctLists.{back_distinct, twice_not_distinct, same_split}
+use Rattle.order_core.proofs.Turning.{same_turned}
 
 -- Rings return
 
@@ -104,13 +107,21 @@ same_part one other =
     let walk = same_walk one other in
     let splits : one.lead ++ one.again ∷ one.rest ≡ other.lead ++ one.again ∷ other.rest =
     sym one.in_order ∙ walk.visited ∙ other.in_order ∙ ap (λ (v : ℕ). other.lead ++ v ∷ other.rest) (sym walk.again) in
-    let place = same_place one.lead one.again one.rest other.lead other.rest (subst AreDistinct one.in_order one.distinct) splits in
+    let place = same_split one.lead one.again one.rest other.lead other.rest (subst AreDistinct one.in_order one.distinct) splits in
     ap (λ (v : ℕ). v ∷ one.rest) walk.again ∙ ap (λ (l : List ℕ). other.again ∷ l) place.1
 
 found_is_turned : {step : ℕ → ℕ → Type 0} {n : ℕ} {ring : List ℕ} (one : IsFoundRing step n ring) →
     IsTurned (one.again ∷ one.rest) ring
-found_is_turned {step} {n} {ring} one =
-    is_turned (one.again ∷ one.rest) ring one.front one.back one.lowest one.others one.found one.turned one.first one.least
+found_is_turned one = record {
+  front = one.front;
+  back = one.back;
+  found = one.found;
+  turned_is = one.turned;
+  lowest = one.lowest;
+  others = one.others;
+  first = one.first;
+  least = one.least;
+}
 
 -- there is one found ring
 pub found_ring_unique : {step : ℕ → ℕ → Type 0} {n : ℕ} {ring turn : List ℕ} → IsFoundRing step n ring → IsFoundRing step n turn →

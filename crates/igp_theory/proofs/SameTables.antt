@@ -2,12 +2,14 @@
 use Rattle.std.proofs.Common.{ℕ, ◌<◌, ◌↔◌, List, [], ◌∷◌, length}
 use Rattle.net_addr.specs.Addresses.{Block}
 use Rattle.net_model.specs.Network.{Network}
+use Rattle.order_core.specs.declared.turn.Turn.{Turn}
 use Rattle.igp_theory.specs.Forwarding.{Usable, Counts, connected_counts, old_counts, new_counts, Uses, Steps, HasStep}
 use Rattle.igp_theory.specs.Laws.{HaveSameTables}
-use Rattle.igp_theory.specs.Loops.{RingRouter, IsTag, EachToNext, AroundRing, IsLoop, Arises, Fault, IsLive, IsLowestLive, IsLowestLiveHop, IsFoundRing, IsFault, missing_step, loop_arises, IsFirstFault}
+use Rattle.igp_theory.specs.Loops.{IsTag, EachToNext, AroundRing, IsLoop, Arises, Fault, IsLive, IsLowestLive, IsLowestLiveHop, IsFoundRing, IsFault, missing_step, loop_arises, IsFirstFault}
 use Rattle.igp_theory.specs.Routes.{Tables}
 use Rattle.igp_theory.specs.States.{State, StepsIn, Follows, IsSoundAt, IsSound, IsSeamless}
 use Rattle.igp_theory.specs.declared.phase.Phase.{Phase}
+use Rattle.igp_theory.proofs.Tags.{tags_over}
 
 pub same_tables_sym : {net : Network} {old new old' new' : Tables} → HaveSameTables net old new old' new' →
     HaveSameTables net old' new' old new
@@ -94,28 +96,26 @@ pub around_ring_over : {A : Type 0} {R S : A → A → Type 0} → ((r s : A) �
 around_ring_over over [] goes = tt
 around_ring_over over (r ∷ rest) goes = each_to_next_over over r (r ∷ rest) goes
 
-pub tag_over : {net : Network} {old new old' new' : Tables} {a next : ℕ} {r : RingRouter} →
+pub tag_over : {net : Network} {old new old' new' : Tables} {a next : ℕ} {r : Turn} →
     HaveSameTables net old new old' new' → IsTag net old new a r next → IsTag net old' new' a r next
-tag_over same tag = record {
-  of_old = (λ is. steps_over same (tag.of_old.0 is), λ steps. tag.of_old.1 (steps_over (same_tables_sym same) steps));
-  of_new = (λ is. steps_over same (tag.of_new.0 is), λ steps. tag.of_new.1 (steps_over (same_tables_sym same) steps));
-  some = tag.some;
+tag_over {r = r} same tag = record {
+  steps = tags_over r.tag (steps_over same, steps_over (same_tables_sym same)) (steps_over same, steps_over (same_tables_sym same)) tag.steps;
 }
 
 -- the loops of the network are the same
-pub loop_over : {net : Network} {old new old' new' : Tables} {a : ℕ} {ring : List RingRouter} →
+pub loop_over : {net : Network} {old new old' new' : Tables} {a : ℕ} {ring : List Turn} →
     HaveSameTables net old new old' new' → IsLoop net old new a ring → IsLoop net old' new' a ring
 loop_over {ring = ring} same is = record {
   address = is.address;
   some = is.some;
   distinct = is.distinct;
-  tags = around_ring_over (λ (r s : RingRouter). tag_over {next = s.router} {r = r} same) ring is.tags;
+  tags = around_ring_over (λ (r s : Turn). tag_over {next = s.router} {r = r} same) ring is.tags;
 }
 
-pub arises_over : {net : Network} {old new old' new' : Tables} (state : State) (a : ℕ) (ring : List RingRouter) →
+pub arises_over : {net : Network} {old new old' new' : Tables} (state : State) (a : ℕ) (ring : List Turn) →
     HaveSameTables net old new old' new' → Arises net old new state a ring → Arises net old' new' state a ring
 arises_over state a ring same arises =
-    around_ring_over (λ (r s : RingRouter). steps_over {u = r.router} {a = a} {h = s.router} {phase = state r.router} same) ring arises
+    around_ring_over (λ (r s : Turn). steps_over {u = r.router} {a = a} {h = s.router} {phase = state r.router} same) ring arises
 
 -- The ring that is found
 
@@ -186,7 +186,7 @@ fault_over same (missing_step address below must lacks lowest) =
     (λ v less other. has_step_over same (lowest v less other))
 fault_over {state = state} same (loop_arises {a = a} {ring = ring} address below forwards found tags) =
     loop_arises address (λ b less. sound_at_over same (below b less)) (λ v must. has_step_over same (forwards v must))
-    (found_ring_over (same_steps_in state a same) found) (around_ring_over (λ (r s : RingRouter). tag_over {next = s.router} {r = r} same) ring tags)
+    (found_ring_over (same_steps_in state a same) found) (around_ring_over (λ (r s : Turn). tag_over {next = s.router} {r = r} same) ring tags)
 
 -- the first fault of an order is the same
 pub first_fault_over : {net : Network} {old new old' new' : Tables} {order : List ℕ} {k : ℕ} {fault : Fault} →

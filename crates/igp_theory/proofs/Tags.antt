@@ -1,66 +1,75 @@
 -- The tags of a ring are determined by its routers.
-use Rattle.std.proofs.Common.{◌≡◌, ℕ, Bool, true, false, IsTrue, List, [], ◌∷◌, refl, sym, subst}
+use Rattle.std.proofs.Common.{◌≡◌, ℕ, ◌↔◌, List, [], ◌∷◌, refl, sym, subst}
 use Rattle.net_model.specs.Network.{Network}
+use Rattle.order_core.specs.Turns.{routers_of}
+use Rattle.order_core.specs.declared.turn.Tag.{Tag}
+use Rattle.order_core.specs.declared.turn.Tag.TheVariants.{Old, New, Both}
+use Rattle.order_core.specs.declared.turn.Turn.{Turn}
 use Rattle.igp_theory.specs.Forwarding.{Steps}
-use Rattle.igp_theory.specs.Loops.{RingRouter, IsTag, EachToNext, AroundRing, ring_routers}
+use Rattle.igp_theory.specs.Loops.{IsTagOf, IsTag, EachToNext, AroundRing}
 use Rattle.igp_theory.specs.Routes.{Tables}
-use Rattle.igp_theory.specs.declared.phase.Phase.{Phase}
+use Rattle.igp_theory.specs.declared.phase.Phase.TheVariants as phase
 
-same_truth : (b c : Bool) → (IsTrue b → IsTrue c) → (IsTrue c → IsTrue b) → b ≡ c
-same_truth true c over back = sym (over refl)
-same_truth false true over back = back refl
-same_truth false false over back = refl
+-- two phases have one tag
+same_tag : (s t : Tag) (old new : Type 0) → IsTagOf s old new → IsTagOf t old new → s ≡ t
+same_tag Old Old old new one other = refl
+same_tag Old New old new one other = absurd (other.0 one.0)
+same_tag Old Both old new one other = absurd (one.1 other.1)
+same_tag New Old old new one other = absurd (one.0 other.0)
+same_tag New New old new one other = refl
+same_tag New Both old new one other = absurd (one.0 other.0)
+same_tag Both Old old new one other = absurd (other.1 one.1)
+same_tag Both New old new one other = absurd (other.0 one.0)
+same_tag Both Both old new one other = refl
 
-steps_same : {net : Network} {old new : Tables} {phase : Phase} {a u v h k : ℕ} → u ≡ v → h ≡ k →
-    Steps net old new u phase a h → Steps net old new v phase a k
-steps_same {net} {old} {new} {phase} {a} {u} {v} {h} {k} router next steps =
-    subst (λ (w : ℕ). Steps net old new w phase a k) router (subst (λ (w : ℕ). Steps net old new u phase a w) next steps)
+-- phases that do the same have the same tag
+pub tags_over : (t : Tag) {old new old' new' : Type 0} → old ↔ old' → new ↔ new' → IsTagOf t old new → IsTagOf t old' new'
+tags_over Old first second is = (first.0 is.0, λ new'. is.1 (second.1 new'))
+tags_over New first second is = (λ old'. is.0 (first.1 old'), second.0 is.1)
+tags_over Both first second is = (first.0 is.0, second.0 is.1)
 
 -- a router has one tag towards the next
-same_tag : {net : Network} {old new : Tables} {a : ℕ} (r s : RingRouter) (next other : ℕ) → r.router ≡ s.router → next ≡ other →
+same_turn : {net : Network} {old new : Tables} {a : ℕ} (r s : Turn) (next other : ℕ) → r.router ≡ s.router → next ≡ other →
     IsTag net old new a r next → IsTag net old new a s other → r ≡ s
-same_tag r s next other router follows tag mark =
-    let of_old : r.old ≡ s.old = same_truth r.old s.old
-    (λ is. mark.of_old.1 (steps_same router follows (tag.of_old.0 is)))
-    (λ is. tag.of_old.1 (steps_same (sym router) (sym follows) (mark.of_old.0 is))) in
-    let of_new : r.new ≡ s.new = same_truth r.new s.new
-    (λ is. mark.of_new.1 (steps_same router follows (tag.of_new.0 is)))
-    (λ is. tag.of_new.1 (steps_same (sym router) (sym follows) (mark.of_new.0 is))) in
-    λ i. record { router = router i; old = of_old i; new = of_new i }
+same_turn {net} {old} {new} {a} r s next other router follows one two =
+    let here = subst (λ (h : ℕ). IsTagOf s.tag (Steps net old new s.router phase.Old a h) (Steps net old new s.router phase.New a h)) (sym follows) two.steps in
+    let tags = subst (λ (u : ℕ). IsTagOf s.tag (Steps net old new u phase.Old a next) (Steps net old new u phase.New a next)) (sym router) here in
+    let tag : r.tag ≡ s.tag = same_tag r.tag s.tag _ _ one.steps tags in
+    λ i. record { router = router i; tag = tag i }
 
 -- each router of a ring has its tag towards the next
-abbrev pub IsTagTo : Network → Tables → Tables → ℕ → RingRouter → RingRouter → Type 0
+abbrev pub IsTagTo : Network → Tables → Tables → ℕ → Turn → Turn → Type 0
 IsTagTo net old new a r s = IsTag net old new a r s.router
 
-abbrev pub AreTagged : Network → Tables → Tables → ℕ → List RingRouter → Type 0
+abbrev pub AreTagged : Network → Tables → Tables → ℕ → List Turn → Type 0
 AreTagged net old new a ring = AroundRing (IsTagTo net old new a) ring
 
-same_tags : (net : Network) (old new : Tables) (a : ℕ) (first second : RingRouter) (ring turn : List RingRouter) →
-    first.router ≡ second.router → ring_routers ring ≡ ring_routers turn →
-    EachToNext (IsTagTo net old new a) first ring → EachToNext (IsTagTo net old new a) second turn → ring ≡ turn
-same_tags net old new a first second [] [] begins routers tags marks = refl
-same_tags net old new a first second [] (s ∷ turn) begins routers tags marks = cc
-same_tags net old new a first second (r ∷ ring) [] begins routers tags marks = cc
-same_tags net old new a first second (r ∷ []) (s ∷ []) begins routers tags marks =
+same_turns : (net : Network) (old new : Tables) (a : ℕ) (first second : Turn) (ring other : List Turn) →
+    first.router ≡ second.router → routers_of ring ≡ routers_of other →
+    EachToNext (IsTagTo net old new a) first ring → EachToNext (IsTagTo net old new a) second other → ring ≡ other
+same_turns net old new a first second [] [] begins routers one two = refl
+same_turns net old new a first second [] (s ∷ other) begins routers one two = cc
+same_turns net old new a first second (r ∷ ring) [] begins routers one two = cc
+same_turns net old new a first second (r ∷ []) (s ∷ []) begins routers one two =
     let router : r.router ≡ s.router = cc in
-    let same : r ≡ s = same_tag r s first.router second.router router begins tags marks in
+    let same : r ≡ s = same_turn r s first.router second.router router begins one two in
     cc
-same_tags net old new a first second (r ∷ []) (s ∷ t ∷ turn) begins routers tags marks = cc
-same_tags net old new a first second (r ∷ q ∷ ring) (s ∷ []) begins routers tags marks = cc
-same_tags net old new a first second (r ∷ q ∷ ring) (s ∷ t ∷ turn) begins routers tags marks =
+same_turns net old new a first second (r ∷ []) (s ∷ t ∷ other) begins routers one two = cc
+same_turns net old new a first second (r ∷ q ∷ ring) (s ∷ []) begins routers one two = cc
+same_turns net old new a first second (r ∷ q ∷ ring) (s ∷ t ∷ other) begins routers one two =
     let router : r.router ≡ s.router = cc in
     let next : q.router ≡ t.router = cc in
-    let others : ring_routers (q ∷ ring) ≡ ring_routers (t ∷ turn) = cc in
-    let same : r ≡ s = same_tag r s q.router t.router router next tags.0 marks.0 in
-    let rest : q ∷ ring ≡ t ∷ turn = same_tags net old new a first second (q ∷ ring) (t ∷ turn) begins others tags.1 marks.1 in
+    let others : routers_of (q ∷ ring) ≡ routers_of (t ∷ other) = cc in
+    let same : r ≡ s = same_turn r s q.router t.router router next one.0 two.0 in
+    let rest : q ∷ ring ≡ t ∷ other = same_turns net old new a first second (q ∷ ring) (t ∷ other) begins others one.1 two.1 in
     cc
 
 -- rings of the same routers have the same tags
-pub same_tagged : (net : Network) (old new : Tables) (a : ℕ) (ring turn : List RingRouter) → ring_routers ring ≡ ring_routers turn →
-    AreTagged net old new a ring → AreTagged net old new a turn → ring ≡ turn
-same_tagged net old new a [] [] routers tags marks = refl
-same_tagged net old new a [] (s ∷ turn) routers tags marks = cc
-same_tagged net old new a (r ∷ ring) [] routers tags marks = cc
-same_tagged net old new a (r ∷ ring) (s ∷ turn) routers tags marks =
+pub same_tagged : (net : Network) (old new : Tables) (a : ℕ) (ring other : List Turn) → routers_of ring ≡ routers_of other →
+    AreTagged net old new a ring → AreTagged net old new a other → ring ≡ other
+same_tagged net old new a [] [] routers one two = refl
+same_tagged net old new a [] (s ∷ other) routers one two = cc
+same_tagged net old new a (r ∷ ring) [] routers one two = cc
+same_tagged net old new a (r ∷ ring) (s ∷ other) routers one two =
     let begins : r.router ≡ s.router = cc in
-    same_tags net old new a r s (r ∷ ring) (s ∷ turn) begins routers tags marks
+    same_turns net old new a r s (r ∷ ring) (s ∷ other) begins routers one two

@@ -8,8 +8,9 @@ use Rattle.walk_core.specs.Walks.{Arcs, LeastCost}
 use Rattle.walk_core.specs.Offers.{Offers, BestCost}
 use Rattle.route_core.specs.declared.entry.Entry.{Entry}
 use Rattle.route_core.specs.declared.entry.Entry.TheVariants.{Discard}
+use Rattle.order_core.specs.declared.turn.Turn.{Turn}
 use Rattle.igp_theory.specs.Forwarding.{Usable, Uses, Steps}
-use Rattle.igp_theory.specs.Loops.{RingRouter, IsLoop, Arises, Fault, missing, loop, IsFault, IsFirstFault}
+use Rattle.igp_theory.specs.Loops.{IsLoop, Arises, Fault, missing, loop, IsFault, IsFirstFault}
 use Rattle.igp_theory.specs.Routes.{Tables, EntryLeadsTo, HaveSameEntries}
 use Rattle.igp_theory.specs.States.{State, IsSoundAt, IsSound, IsSeamless}
 use Rattle.igp_theory.specs.declared.phase.Phase.{Phase}
@@ -144,13 +145,13 @@ SameSeamlessOrders old new other_old other_new =
 -- the network has the same loops
 abbrev pub SameLoops : Tables → Tables → Tables → Tables → Type 0
 SameLoops old new other_old other_new =
-    (net : Network) (a : ℕ) (ring : List RingRouter) → HaveSameTables net old new other_old other_new →
+    (net : Network) (a : ℕ) (ring : List Turn) → HaveSameTables net old new other_old other_new →
     IsLoop net old new a ring ↔ IsLoop net other_old other_new a ring
 
 -- the same loops arise in a state
 abbrev pub SameArisingLoops : Tables → Tables → Tables → Tables → Type 0
 SameArisingLoops old new other_old other_new =
-    (net : Network) (state : State) (a : ℕ) (ring : List RingRouter) → HaveSameTables net old new other_old other_new →
+    (net : Network) (state : State) (a : ℕ) (ring : List Turn) → HaveSameTables net old new other_old other_new →
     Arises net old new state a ring ↔ Arises net other_old other_new state a ring
 
 -- a state has the same faults

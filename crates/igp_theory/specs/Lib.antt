@@ -4,6 +4,9 @@ pub use Rattle.net_model.specs.Network
 pub use Rattle.walk_core.specs.Walks
 pub use Rattle.walk_core.specs.Offers
 pub use Rattle.route_core.specs.Hops
+pub use Rattle.order_core.specs.Orders
+pub use Rattle.order_core.specs.Rankings
+pub use Rattle.order_core.specs.Turns
 pub mod Routes
 pub mod Ospf
 pub mod Isis

@@ -1,22 +1,25 @@
 -- Loops of the network, and the fault of an unsound state (Vanbever et al., SIGCOMM 2011).
-use Rattle.std.specs.Prelude.{◌≡◌, ◌≢◌, ℕ, ◌^◌, ◌<◌, ◌≤◌, ◌↔◌, ◌⊎◌, Bool, List, [], ◌∷◌, ◌++◌, length, map, IsTrue, All, AllPairs}
+use Rattle.std.specs.Prelude.{◌≡◌, ◌≢◌, ℕ, ◌^◌, ◌<◌, ◌≤◌, List, [], ◌∷◌, ◌++◌, length, All, AllPairs}
 use Rattle.net_model.specs.Network.{Network}
+use Rattle.order_core.specs.Turns.{routers_of}
+use Rattle.order_core.specs.declared.turn.Tag.{Tag}
+use Rattle.order_core.specs.declared.turn.Tag.TheVariants as tag
+use Rattle.order_core.specs.declared.turn.Turn.{Turn}
 use Rattle.igp_theory.specs.Forwarding.{MustForward, Steps, HasStep}
 use Rattle.igp_theory.specs.Routes.{Tables}
 use Rattle.igp_theory.specs.States.{State, StepsIn, Follows, IsSoundAt, IsSound, state_of}
 use Rattle.igp_theory.specs.declared.phase.Phase.TheVariants.{Old, New}
 
--- a router of a ring with its tag: whether its Old phase, whether its New phase steps to the next
-pub record RingRouter : Type 0 where
-  pub router : ℕ
-  pub old : Bool
-  pub new : Bool
+-- the tag of two things, of which the old phase does one and the new phase the other: Old where only the old one does it, New
+-- where only the new one does, Both where both do
+abbrev pub IsTagOf : Tag → Type 0 → Type 0 → Type 0
+IsTagOf tag.Old old new = old × (¬ new)
+IsTagOf tag.New old new = (¬ old) × new
+IsTagOf tag.Both old new = old × new
 
--- the tag says which of the two phases step to the next router; one of them does
-pub record IsTag (net : Network) (old new : Tables) (a : ℕ) (r : RingRouter) (next : ℕ) : Type 0 where
-  pub of_old : IsTrue r.old ↔ Steps net old new r.router Old a next
-  pub of_new : IsTrue r.new ↔ Steps net old new r.router New a next
-  pub some : IsTrue r.old ⊎ IsTrue r.new
+-- the tag of a ring's router says which of its phases Old and New step to the next router
+pub record IsTag (net : Network) (old new : Tables) (a : ℕ) (turn : Turn) (next : ℕ) : Type 0 where
+  pub steps : IsTagOf turn.tag (Steps net old new turn.router Old a next) (Steps net old new turn.router New a next)
 
 -- R holds of each router of a list and the next one, and of the last one and `first`
 abbrev pub EachToNext : {A : Type 0} → (A → A → Type 0) → A → List A → Type 0
@@ -31,21 +34,21 @@ AroundRing R (r ∷ rest) = EachToNext R r (r ∷ rest)
 
 -- a loop of the network: an address, and a ring of two or more distinct routers with their tags.
 -- By its tag each of them has to pass packets on: the address has a target that it doesn't originate
-pub record IsLoop (net : Network) (old new : Tables) (a : ℕ) (ring : List RingRouter) : Type 0 where
+pub record IsLoop (net : Network) (old new : Tables) (a : ℕ) (ring : List Turn) : Type 0 where
   pub address : a < 2 ^ 32
   pub some : 2 ≤ length ring
-  pub distinct : AllPairs (λ (r s : RingRouter). r.router ≢ s.router) ring
-  pub tags : AroundRing (λ (r s : RingRouter). IsTag net old new a r s.router) ring
+  pub distinct : AllPairs (λ (r s : Turn). r.router ≢ s.router) ring
+  pub tags : AroundRing (λ (r s : Turn). IsTag net old new a r s.router) ring
 
 -- a loop arises in a state where each of its routers steps there to the next
-abbrev pub Arises : Network → Tables → Tables → State → ℕ → List RingRouter → Type 0
+abbrev pub Arises : Network → Tables → Tables → State → ℕ → List Turn → Type 0
 Arises net old new state a ring =
-    AroundRing (λ (r s : RingRouter). StepsIn net old new state a r.router s.router) ring
+    AroundRing (λ (r s : Turn). StepsIn net old new state a r.router s.router) ring
 
 -- what is wrong in an unsound state, at its least address: a router without a step, or a loop
 pub data Fault : Type 0 where
   missing : (address router : ℕ) → Fault
-  loop : (address : ℕ) → List RingRouter → Fault
+  loop : (address : ℕ) → List Turn → Fault
 
 -- among n routers, one is live where a list of n steps starts at it
 pub record IsLive (step : ℕ → ℕ → Type 0) (n u : ℕ) : Type 0 where
@@ -87,10 +90,6 @@ pub record IsFoundRing (step : ℕ → ℕ → Type 0) (n : ℕ) (ring : List �
   pub first : ring ≡ lowest ∷ others
   pub least : All (λ u. lowest ≤ u) others
 
--- the routers of a ring
-abbrev pub ring_routers : List RingRouter → List ℕ
-ring_routers ring = map (λ (r : RingRouter). r.router) ring
-
 -- the fault of an unsound state: at the least address for which it isn't sound the lowest-numbered
 -- router that lacks a step, else the ring that is found, with its tags
 pub data IsFault (net : Network) (old new : Tables) (state : State) : Fault → Type 0 where
@@ -98,10 +97,10 @@ pub data IsFault (net : Network) (old new : Tables) (state : State) : Fault → 
       MustForward net a u → (HasStep net old new u (state u) a → ⊥) →
       ((v : ℕ) → v < u → MustForward net a v → HasStep net old new v (state v) a) →
       IsFault net old new state (missing a u)
-  loop_arises : {a : ℕ} {ring : List RingRouter} → a < 2 ^ 32 → ((b : ℕ) → b < a → IsSoundAt net old new state b) →
+  loop_arises : {a : ℕ} {ring : List Turn} → a < 2 ^ 32 → ((b : ℕ) → b < a → IsSoundAt net old new state b) →
       ((v : ℕ) → MustForward net a v → HasStep net old new v (state v) a) →
-      IsFoundRing (StepsIn net old new state a) (length net) (ring_routers ring) →
-      AroundRing (λ (r s : RingRouter). IsTag net old new a r s.router) ring →
+      IsFoundRing (StepsIn net old new state a) (length net) (routers_of ring) →
+      AroundRing (λ (r s : Turn). IsTag net old new a r s.router) ring →
       IsFault net old new state (loop a ring)
 
 -- the first fault of an order: the number of its first unsound state, with that state's fault

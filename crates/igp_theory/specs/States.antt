@@ -1,6 +1,7 @@
 -- Sound states, the states of an order, seamless orders (Vanbever et al., SIGCOMM 2011).
-use Rattle.std.specs.Prelude.{◌≡◌, ◌≢◌, ℕ, zero, suc, ◌+◌, ◌*◌, ◌^◌, ◌<◌, ◌≤◌, ◌↔◌, ◌==◌, if◌then◌else◌, List, [], ◌∷◌, length, take, Contains, AllPairs}
+use Rattle.std.specs.Prelude.{◌≡◌, ℕ, zero, suc, ◌+◌, ◌*◌, ◌^◌, ◌<◌, ◌≤◌, ◌==◌, if◌then◌else◌, List, [], ◌∷◌, length, take}
 use Rattle.net_model.specs.Network.{Network}
+use Rattle.order_core.specs.Orders.{IsOrder}
 use Rattle.igp_theory.specs.Forwarding.{MustForward, Steps, HasStep}
 use Rattle.igp_theory.specs.Routes.{Tables}
 use Rattle.igp_theory.specs.declared.phase.Phase.{Phase}
@@ -28,11 +29,6 @@ pub record IsSoundAt (net : Network) (old new : Tables) (state : State) (a : ℕ
 -- a state is sound where it is sound for every address
 abbrev pub IsSound : Network → Tables → Tables → State → Type 0
 IsSound net old new state = (a : ℕ) → a < 2 ^ 32 → IsSoundAt net old new state a
-
--- an order lists every router below n once
-pub record IsOrder (n : ℕ) (order : List ℕ) : Type 0 where
-  pub once : AllPairs (λ u v. u ≢ v) order
-  pub all : (u : ℕ) → Contains order u ↔ u < n
 
 -- the changes of an order, each told by the router that it is made on: router by router two, of
 -- which the first sets the distance of IS-IS to 115 and the second that of OSPF to 255

@@ -13,9 +13,9 @@ use Rattle.igp_theory.specs.Loops.{missing_step, loop_arises}
 use Rattle.igp_theory.specs.States.{State}
 use Rattle.igp_theory.specs.Routes.{Tables}
 use Rattle.prefix_atoms.specs.Classes.{Classes, AreClasses, IsInClass, HasTarget}
-use Rattle.order_search.specs.declared.turn.Turn.{Turn}
+use Rattle.order_core.specs.declared.turn.Turn.{Turn}
 use Rattle.rib_mix.specs.Mixture.{Mixture}
-use Rattle.precedence_set.specs.Marks.{IsMarked}
+use Rattle.order_core.specs.Marks.{IsMarked}
 use Rattle.loop_finder.specs.Faults.{state_in}
 use Rattle.loop_finder.specs.Steps.{Listing, ClassState, sample_of, AreForwarders, Moves}
 use Rattle.loop_finder.specs.Verdicts.{Verdict, SoundAt, SoundBelow, Faulty}

@@ -2,10 +2,12 @@
 use Rattle.std.proofs.Common.{ℕ, ◌+◌, ◌*◌, ◌≤◌, ◌↔◌, List, [], ◌∷◌, ◌++◌, length, Option, Some, None, IfSome, IfNone, IsNone, refl, sym, subst, arith}
 use Rattle.std.proofs.lemmas.Bool.{false≢true}
 use Rattle.net_model.specs.Network.{Network}
-use Rattle.igp_theory.specs.Loops.{EachToNext, AroundRing, Fault as WholeFault, IsFault, missing_step, loop_arises, IsFirstFault, ring_routers}
+use Rattle.igp_theory.specs.Loops.{EachToNext, AroundRing, Fault as WholeFault, IsFault, missing_step, loop_arises, IsFirstFault}
 use Rattle.igp_theory.specs.Routes.{Tables}
-use Rattle.igp_theory.specs.States.{State, StepsIn, IsOrder, IsSound, IsSeamless}
-use Rattle.order_search.specs.declared.turn.Turn.{Turn}
+use Rattle.order_core.specs.Orders.{IsOrder}
+use Rattle.order_core.specs.Turns.{routers_of}
+use Rattle.igp_theory.specs.States.{State, StepsIn, IsSound, IsSeamless}
+use Rattle.order_core.specs.declared.turn.Turn.{Turn}
 use Rattle.loop_finder.specs.Faults.{told_fault}
 use Rattle.loop_finder.specs.Orders.{AreFirstStates}
 use Rattle.loop_finder.specs.Walks.{ReturnsNever}
@@ -23,7 +25,7 @@ pub fault_unsound : {net : Network} {old new : Tables} {state : State} {fault : 
 fault_unsound (missing_step {a = a} {u = u} address below must lacks lowest) sound = lacks ((sound a address).forwards u must)
 fault_unsound {net} {old} {new} {state} (loop_arises {a = a} {ring = ring} address below forwards found tags) sound =
     let step : ℕ → ℕ → Type 0 = StepsIn net old new state a in
-    let around : AroundRing step (found.lowest ∷ found.others) = subst (AroundRing step) found.first (found_steps step (length net) (ring_routers ring) found) in
+    let around : AroundRing step (found.lowest ∷ found.others) = subst (AroundRing step) found.first (found_steps step (length net) (routers_of ring) found) in
     returns_around step found.lowest found.others around (sound a address).returns_never
 
 -- no fault is told exactly of a sound state

@@ -4,7 +4,7 @@ use Rattle.std.proofs.lemmas.Bool.{false≢true, cases_lt}
 use Rattle.std.proofs.lemmas.List.{get_or_past, length-append}
 use Rattle.igp_theory.specs.Loops.{IsLive}
 use Rattle.igp_theory.specs.States.{Follows}
-use Rattle.precedence_set.specs.Marks.{IsMarked}
+use Rattle.order_core.specs.Marks.{IsMarked}
 use Rattle.loop_finder.specs.Live.{marked_count, HasMarkedHop, ArePeeled}
 use Rattle.loop_finder.specs.Walks.{ReturnsNever}
 use Rattle.loop_finder.proofs.LowestSteps.{marked_cases}

@@ -6,23 +6,17 @@ use Rattle.std.proofs.lemmas.List.Elements.{All-contains_itself, All-weaker}
 use Rattle.std.proofs.lemmas.Map.Steps.{le-length_from_below}
 use Rattle.std.proofs.lemmas.Map.Views.{list_any-from_Contains}
 use Rattle.std.specs.Cmp.{nat_eq_equiv}
-use Rattle.igp_theory.specs.States.{State, IsOrder, changes_of, changes_on, phase_after, state_of}
+use Rattle.order_core.specs.Orders.{IsOrder}
+use Rattle.igp_theory.specs.States.{State, changes_of, changes_on, phase_after, state_of}
 use Rattle.igp_theory.specs.declared.phase.Phase.{Phase}
 use Rattle.igp_theory.specs.declared.phase.Phase.TheVariants.{Old}
-use Rattle.precedence_set.proofs.DistinctLists.{length-le_from_distinct}
+use Rattle.order_core.proofs.DistinctLists.{length-le_from_distinct}
 use Rattle.loop_finder.specs.Faults.{state_in}
 use Rattle.loop_finder.specs.Orders.{next_phase, IsStateOf, IsAdvanced}
 
 -- two states that give each router one phase are one
 pub same_state : (one other : State) → ((u : ℕ) → one u ≡ other u) → one ≡ other
 same_state one other same = λ i u. same u i
-
--- an order lists as many routers as there are
-pub order_length : (n : ℕ) (order : List ℕ) → IsOrder n order → length order ≡ n
-order_length n order is =
-    let few : length order ≤ n = length-le_from_distinct order n is.once (All-weaker (Contains order) (λ u. u < n) (λ u among. (is.all u).0 among) order (All-contains_itself order)) in
-    let many : n ≤ length order = le-length_from_below order n (λ q below. list_any-from_Contains nat_eq_equiv q order ((is.all q).1 below)) in
-    omega (arith, few, many)
 
 -- two changes for each router
 changes_length : (order : List ℕ) → length (changes_of order) ≡ 2 * length order

@@ -6,7 +6,7 @@ use Rattle.std.proofs.lemmas.Bool.{false≢true, cases_lt}
 use Rattle.std.proofs.lemmas.Bool.Decides.{eqb_tells}
 use Rattle.std.specs.Bool.{OnFalse}
 use Rattle.igp_theory.specs.States.{Follows}
-use Rattle.precedence_set.specs.Marks.{IsMarked}
+use Rattle.order_core.specs.Marks.{IsMarked}
 use Rattle.loop_finder.specs.Live.{marked_count, HasMarkedHop, AreBounded}
 
 -- a mark that is there stays where another is taken

@@ -14,7 +14,7 @@ use Rattle.igp_theory.proofs.SameTables.{sound_at_over, same_tables_sym}
 use Rattle.prefix_atoms.specs.Classes.{AreSamples, Classes, AreClasses, IsInClass, SourceEntry}
 use Rattle.prefix_atoms.specs.Laws.{ActAlike}
 use Rattle.prefix_atoms.proofs.ClassLaws.{one_class_acts_alike}
-use Rattle.precedence_set.proofs.DistinctLists.{length-le_from_distinct}
+use Rattle.order_core.proofs.DistinctLists.{length-le_from_distinct}
 use Rattle.rib_mix.specs.Mixture.{Mixture}
 use Rattle.loop_finder.specs.Steps.{Listing, sample_of}
 use Rattle.loop_finder.specs.Verdicts.{SoundAt, SoundBelow, Sound}

@@ -2,13 +2,13 @@
 use Rattle.std.proofs.Common.{◌≡◌, ℕ, suc, ◌+◌, ◌<◌, ◌≤◌, ◌⊎◌, inl, inr, false, List, [], ◌∷◌, ◌++◌, length, get_or, take, arith, refl, sym, ap, ◌∙◌, subst}
 use Rattle.std.proofs.lemmas.Bool.{false≢true}
 use Rattle.std.proofs.lemmas.List.{take_more, take_all, map_push, length-map, length-take-le, get_or_default, get_or_past}
-use Rattle.igp_theory.specs.Loops.{RingRouter, EachToNext, AroundRing, ring_routers}
+use Rattle.igp_theory.specs.Loops.{EachToNext, AroundRing}
 use Rattle.igp_theory.specs.declared.phase.Phase.{Phase}
 use Rattle.igp_theory.specs.declared.phase.Phase.TheVariants.{Old, Middle, New}
 use Rattle.igp_theory.proofs.ForwardingLaws.{middle_is_old_or_new}
-use Rattle.order_search.specs.declared.turn.Tag.TheVariants as tag
-use Rattle.order_search.specs.declared.turn.Turn.{Turn}
-use Rattle.loop_finder.specs.Faults.{ring_of, ring_router}
+use Rattle.order_core.specs.Turns.{routers_of}
+use Rattle.order_core.specs.declared.turn.Tag.TheVariants as tag
+use Rattle.order_core.specs.declared.turn.Turn.{Turn}
 use Rattle.loop_finder.specs.Rings.{next_in}
 use Rattle.loop_finder.specs.Steps.{Listing, ClassState, StepsBy, IsTagged}
 use Rattle.loop_finder.proofs.RingLaws.{each_at, each_to_next_push}
@@ -24,11 +24,9 @@ old_or_new old new c u Middle h steps = elim (middle_is_old_or_new steps.uses) [
 
 -- a router that doesn't step in Old steps in New alone
 pub tagged_new : {O N : Type 0} (old : Listing O) (new : Listing N) (c : ClassState O N) (u h : ℕ) → (StepsBy old new c u Old h → ⊥) → StepsBy old new c u Old h ⊎ StepsBy old new c u New h
-    → IsTagged old new c (ring_router (record { router = u; tag = tag.New })) h
+    → IsTagged old new c (record { router = u; tag = tag.New }) h
 tagged_new old new c u h never some = record {
-  of_old = (λ is. absurd (false≢true is), λ steps. absurd (never steps));
-  of_new = (λ is. elim some [ inl steps ↦ absurd (never steps) | inr steps ↦ steps ], λ steps. refl);
-  some = inr refl;
+  steps = (never, elim some [ inl steps ↦ absurd (never steps) | inr steps ↦ steps ]);
 }
 
 -- each router of a ring steps to the one after it
@@ -39,12 +37,12 @@ ring_step step (r ∷ rest) place around within =
     subst (λ (n : ℕ). step (get_or (r ∷ rest) place 0) (get_or (r ∷ rest) n r)) e (each_at step r 0 (r ∷ rest) place around within)
 
 -- each turn has the tag by which it steps to the next one
-abbrev pub TagsNext : {O N : Type 0} → Listing O → Listing N → ClassState O N → RingRouter → RingRouter → Type 0
+abbrev pub TagsNext : {O N : Type 0} → Listing O → Listing N → ClassState O N → Turn → Turn → Type 0
 TagsNext old new c r s = IsTagged old new c r s.router
 
 -- a router of a ring that is told by its number alone
-abbrev pub numbered : ℕ → RingRouter
-numbered n = record { router = n; old = false; new = false }
+abbrev pub numbered : ℕ → Turn
+numbered n = record { router = n; tag = tag.Both }
 
 -- the router at a place, the first one after the last
 abbrev pub here_in : List ℕ → ℕ → ℕ
@@ -52,48 +50,47 @@ here_in routers place = get_or routers place (get_or routers 0 0)
 
 -- the first turns of a ring
 pub record IsPartRing {O N : Type 0} (old : Listing O) (new : Listing N) (c : ClassState O N) (routers : List ℕ) (turns : List Turn) (place : ℕ) : Type 0 where
-  pub routers_are : ring_routers (ring_of turns) ≡ take place routers
-  pub tags : EachToNext (TagsNext old new c) (numbered (here_in routers place)) (ring_of turns)
+  pub routers_are : routers_of turns ≡ take place routers
+  pub tags : EachToNext (TagsNext old new c) (numbered (here_in routers place)) turns
 
 pub IsPartRing-first : {O N : Type 0} (old : Listing O) (new : Listing N) (c : ClassState O N) (routers : List ℕ) → IsPartRing old new c routers [] 0
 IsPartRing-first old new c routers = record { routers_are = refl; tags = tt }
 
 -- what is next to the last turn is told by its number
-next_by_number : {O N : Type 0} (old : Listing O) (new : Listing N) (c : ClassState O N) (f k : RingRouter) (xs : List RingRouter) → f.router ≡ k.router
+next_by_number : {O N : Type 0} (old : Listing O) (new : Listing N) (c : ClassState O N) (f k : Turn) (xs : List Turn) → f.router ≡ k.router
     → EachToNext (TagsNext old new c) f xs → EachToNext (TagsNext old new c) k xs
 next_by_number old new c f k [] same goes = tt
 next_by_number old new c f k (x ∷ []) same goes = subst (λ (n : ℕ). IsTagged old new c x n) same goes
 next_by_number old new c f k (x ∷ y ∷ rest) same goes = (goes.0, next_by_number old new c f k (y ∷ rest) same goes.1)
 
 pub IsPartRing-more : {O N : Type 0} (old : Listing O) (new : Listing N) (c : ClassState O N) (routers : List ℕ) (turns : List Turn) (place : ℕ) (turn : Turn) → place < length routers
-    → turn.router ≡ get_or routers place 0 → IsTagged old new c (ring_router turn) (next_in routers place) → IsPartRing old new c routers turns place → IsPartRing old new c routers (turns ++ turn ∷ []) (place + 1)
+    → turn.router ≡ get_or routers place 0 → IsTagged old new c turn (next_in routers place) → IsPartRing old new c routers turns place → IsPartRing old new c routers (turns ++ turn ∷ []) (place + 1)
 IsPartRing-more old new c routers turns place turn within router tagged part = record {
   routers_are =
-      ap ring_routers (map_push ring_router turns turn) ∙ map_push (λ (r : RingRouter). r.router) (ring_of turns) (ring_router turn)
+      map_push (λ (r : Turn). r.router) turns turn
       ∙ ap (λ (xs : List ℕ). xs ++ turn.router ∷ []) part.routers_are ∙ ap (λ (n : ℕ). take place routers ++ n ∷ []) router ∙ sym (take_more routers place 0 within);
-  tags = subst (λ (xs : List RingRouter). EachToNext (TagsNext old new c) (numbered (here_in routers (place + 1))) xs) (sym (map_push ring_router turns turn))
-      (each_to_next_push (TagsNext old new c) (numbered (here_in routers (place + 1))) (ring_router turn) (ring_of turns)
-      (next_by_number old new c (numbered (here_in routers place)) (ring_router turn) (ring_of turns) (get_or_default routers place (get_or routers 0 0) 0 within ∙ sym router) part.tags) tagged);
+  tags = each_to_next_push (TagsNext old new c) (numbered (here_in routers (place + 1))) turn turns
+      (next_by_number old new c (numbered (here_in routers place)) turn turns (get_or_default routers place (get_or routers 0 0) 0 within ∙ sym router) part.tags) tagged;
 }
 
 -- how many turns are written
 pub part_length : {O N : Type 0} (old : Listing O) (new : Listing N) (c : ClassState O N) (routers : List ℕ) (turns : List Turn) (place : ℕ) → place < length routers → IsPartRing old new c routers turns place
     → length turns ≡ place
 part_length old new c routers turns place within part =
-    let e : length (ring_routers (ring_of turns)) ≡ length turns = length-map (ring_of turns) (λ (r : RingRouter). r.router) ∙ length-map turns ring_router in
+    let e : length (routers_of turns) ≡ length turns = length-map turns (λ (r : Turn). r.router) in
     let k : length (take place routers) ≡ place = length-take-le place routers (omega arith) in
     sym e ∙ ap length part.routers_are ∙ k
 
 -- all turns of a ring
 pub ring_whole : {O N : Type 0} (old : Listing O) (new : Listing N) (c : ClassState O N) (routers : List ℕ) (turns : List Turn) (place : ℕ) → length routers ≤ place → IsPartRing old new c routers turns place
-    → (ring_routers (ring_of turns) ≡ routers) × AroundRing (TagsNext old new c) (ring_of turns)
-ring_whole old new c routers turns place whole part = (same, around (ring_of turns) same part.tags)
+    → (routers_of turns ≡ routers) × AroundRing (TagsNext old new c) turns
+ring_whole old new c routers turns place whole part = (same, around turns same part.tags)
   where
-    same : ring_routers (ring_of turns) ≡ routers
+    same : routers_of turns ≡ routers
     same = part.routers_are ∙ take_all place routers whole
 
-    around : (ring : List RingRouter) → ring_routers ring ≡ routers → EachToNext (TagsNext old new c) (numbered (here_in routers place)) ring → AroundRing (TagsNext old new c) ring
+    around : (ring : List Turn) → routers_of ring ≡ routers → EachToNext (TagsNext old new c) (numbered (here_in routers place)) ring → AroundRing (TagsNext old new c) ring
     around [] is tags = tt
     around (r ∷ rest) is tags =
-        let first : get_or (ring_routers (r ∷ rest)) 0 0 ≡ get_or routers 0 0 = ap (λ (xs : List ℕ). get_or xs 0 0) is in
+        let first : get_or (routers_of (r ∷ rest)) 0 0 ≡ get_or routers 0 0 = ap (λ (xs : List ℕ). get_or xs 0 0) is in
         next_by_number old new c (numbered (here_in routers place)) r (r ∷ rest) (get_or_past routers place (get_or routers 0 0) whole ∙ sym first) tags

@@ -6,10 +6,11 @@ use Rattle.std.proofs.lemmas.List.Elements.{All-append, All-drop, All-take, All-
 use Rattle.std.proofs.lemmas.List.Quantifiers.{all_pairs_push}
 use Rattle.igp_theory.specs.Loops.{EachToNext, AroundRing, IsLive, IsLowestLiveHop, IsFoundRing}
 use Rattle.igp_theory.proofs.SameTables.{each_to_next_over}
-use Rattle.precedence_set.specs.Marks.{IsMarked}
-use Rattle.precedence_set.proofs.DistinctLists.{length-le_from_distinct}
+use Rattle.order_core.specs.Marks.{IsMarked}
+use Rattle.order_core.specs.Rings.{IsTurned}
+use Rattle.order_core.proofs.DistinctLists.{length-le_from_distinct}
 use Rattle.loop_finder.specs.Live.{ArePeeled}
-use Rattle.loop_finder.specs.Walks.{IsMarkedHop, IsWalk, IsTurned}
+use Rattle.loop_finder.specs.Walks.{IsMarkedHop, IsWalk}
 use Rattle.loop_finder.proofs.LiveLaws.{marked_below, live_from_marked, marked_from_live}
 use Rattle.loop_finder.proofs.RingLaws.{each_to_next_push, each_to_next_drop, around_turned, all_from_each}
 

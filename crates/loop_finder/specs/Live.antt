@@ -1,7 +1,7 @@
 -- Which routers of a step relation are live: marks that are taken from those that can't step on.
 use Rattle.std.specs.Prelude.{◌≡◌, ℕ, ◌+◌, ◌≤◌, Bool, List, length, count_by, Contains, Option, Some, None, min}
 use Rattle.igp_theory.specs.States.{Follows}
-use Rattle.precedence_set.specs.Marks.{IsMarked}
+use Rattle.order_core.specs.Marks.{IsMarked}
 
 -- how many routers are marked
 abbrev pub marked_count : List Bool → ℕ

@@ -5,9 +5,10 @@ use Rattle.net_model.specs.Network.{Network}
 use Rattle.route_core.specs.Tables.{HasEntry}
 use Rattle.route_core.specs.declared.entry.Entry.{Entry}
 use Rattle.igp_theory.specs.Forwarding.{MustForward, Steps}
-use Rattle.igp_theory.specs.Loops.{IsTag, RingRouter}
+use Rattle.igp_theory.specs.Loops.{IsTag}
 use Rattle.igp_theory.specs.declared.phase.Phase.{Phase}
-use Rattle.precedence_set.specs.Marks.{IsMarked}
+use Rattle.order_core.specs.Marks.{IsMarked}
+use Rattle.order_core.specs.declared.turn.Turn.{Turn}
 use Rattle.rib_mix.specs.Mixture.{Mixture}
 use Rattle.loop_finder.specs.Faults.{state_in}
 
@@ -48,8 +49,8 @@ abbrev pub ClassStep : {O N : Type 0} → Listing O → Listing N → ClassState
 ClassStep old new c u h = StepsBy old new c u (state_in c.phases u) h
 
 -- a router of a ring has the tag by which it steps to the next one
-abbrev pub IsTagged : {O N : Type 0} → Listing O → Listing N → ClassState O N → RingRouter → ℕ → Type 0
-IsTagged old new c r next = IsTag c.mixture.net (HasEntry (old c.mixture.old)) (HasEntry (new c.mixture.new)) (sample_of c.mixture c.atom) r next
+abbrev pub IsTagged : {O N : Type 0} → Listing O → Listing N → ClassState O N → Turn → ℕ → Type 0
+IsTagged old new c turn next = IsTag c.mixture.net (HasEntry (old c.mixture.old)) (HasEntry (new c.mixture.new)) (sample_of c.mixture c.atom) turn next
 
 -- a router has to pass packets on, and has no step
 pub record IsStuck {O N : Type 0} (old : Listing O) (new : Listing N) (c : ClassState O N) (u : ℕ) : Type 0 where

@@ -1,11 +1,12 @@
 -- What is told of a class, of a state and of an order, over what is mixed.
 use Rattle.std.specs.Prelude.{◌≡◌, ℕ, ◌<◌, List, length, Option, Some, None}
 use Rattle.route_core.specs.Tables.{HasEntry}
-use Rattle.igp_theory.specs.Loops.{RingRouter, AroundRing, IsFoundRing, IsFault, IsFirstFault, ring_routers}
+use Rattle.igp_theory.specs.Loops.{AroundRing, IsFoundRing, IsFault, IsFirstFault}
 use Rattle.igp_theory.specs.States.{State, IsSoundAt, IsSound}
-use Rattle.order_search.specs.declared.turn.Turn.{Turn}
+use Rattle.order_core.specs.Turns.{routers_of}
+use Rattle.order_core.specs.declared.turn.Turn.{Turn}
 use Rattle.rib_mix.specs.Mixture.{Mixture}
-use Rattle.loop_finder.specs.Faults.{ring_of, told_fault}
+use Rattle.loop_finder.specs.Faults.{told_fault}
 use Rattle.loop_finder.specs.Steps.{Listing, ClassState, sample_of, ClassStep, IsTagged, Moves, FirstStuck}
 use Rattle.loop_finder.specs.Walks.{ReturnsNever}
 use Rattle.loop_finder.specs.declared.fault.Fault.{Fault}
@@ -15,8 +16,8 @@ use Rattle.loop_finder.specs.declared.fault.Fault.TheVariants.{Loop, Missing}
 pub record IsClassLoop {O N : Type 0} (old : Listing O) (new : Listing N) (c : ClassState O N) (a : ℕ) (turns : List Turn) : Type 0 where
   pub address : a ≡ sample_of c.mixture c.atom
   pub moves : (u : ℕ) → Moves old new c u
-  pub found : IsFoundRing (ClassStep old new c) (length c.mixture.net) (ring_routers (ring_of turns))
-  pub tags : AroundRing (λ (r s : RingRouter). IsTagged old new c r s.router) (ring_of turns)
+  pub found : IsFoundRing (ClassStep old new c) (length c.mixture.net) (routers_of turns)
+  pub tags : AroundRing (λ (s t : Turn). IsTagged old new c s t.router) turns
 
 -- what is told of a state and a class
 abbrev pub Verdict : {O N : Type 0} → Listing O → Listing N → ClassState O N → Option Fault → List Turn → Type 0

@@ -1,8 +1,8 @@
 -- Walks along marked routers, and the rings that they end in.
-use Rattle.std.specs.Prelude.{◌≡◌, ◌≢◌, ℕ, ◌≤◌, ◌<◌, Bool, List, ◌∷◌, ◌++◌, length, slice_index, Option, Some, None, All, AllPairs}
+use Rattle.std.specs.Prelude.{◌≡◌, ◌≢◌, ℕ, ◌≤◌, ◌<◌, Bool, List, ◌∷◌, length, slice_index, Option, Some, None, AllPairs}
 use Rattle.igp_theory.specs.Loops.{EachToNext}
 use Rattle.igp_theory.specs.States.{Follows}
-use Rattle.precedence_set.specs.Marks.{IsMarked}
+use Rattle.order_core.specs.Marks.{IsMarked}
 
 -- no non-empty list of steps returns to its first router
 abbrev pub ReturnsNever : (ℕ → ℕ → Type 0) → Type 0
@@ -27,14 +27,3 @@ pub record IsWalk (step : ℕ → ℕ → Type 0) (marks : List Bool) (start : �
 abbrev pub PlaceOf : List ℕ → ℕ → Option ℕ → Type 0
 PlaceOf routers router None = (k : ℕ) → k < length routers → slice_index routers k ≢ router
 PlaceOf routers router (Some place) = (place < length routers) × (slice_index routers place ≡ router)
-
--- a ring is turned so that its lowest-numbered router is first
-pub record IsTurned (ring turned : List ℕ) : Type 0 where
-  pub front : List ℕ
-  pub back : List ℕ
-  pub found : ring ≡ front ++ back
-  pub turned_is : turned ≡ back ++ front
-  pub lowest : ℕ
-  pub others : List ℕ
-  pub first : turned ≡ lowest ∷ others
-  pub least : All (λ u. lowest ≤ u) others

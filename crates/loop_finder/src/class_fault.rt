@@ -2,7 +2,7 @@ ghost use Rattle.std.specs.Prelude.{◌≡◌, ◌<◌, ◌≤◌, ◌↔◌, �
 ghost use Rattle.std.specs.Vec.{vec_capacity};
 ghost use Rattle.net_model.specs.Network.{Connected};
 ghost use Rattle.net_model.specs.Refusals.{IsNetwork};
-ghost use Rattle.precedence_set.specs.Marks.{IsMarked};
+ghost use Rattle.order_core.specs.Marks.{IsMarked};
 ghost use Rattle.loop_finder.specs.Faults.{KeepsRing, state_in};
 ghost use Rattle.loop_finder.specs.Rooms.{HasRoom};
 ghost use Rattle.loop_finder.specs.Steps.{sample_of};
@@ -15,7 +15,7 @@ use crate::room::Room;
 use crate::tags::write_ring;
 use net_addr::Prefix;
 use net_model::Net;
-use order_search::Turn;
+use order_core::Turn;
 use rib_mix::{Mixed, Phase};
 use route_core::RouteSource;
 

@@ -1,13 +1,14 @@
 ghost use Rattle.std.specs.Prelude.{◌≡◌, ◌↔◌, ◌*◌, ◌≤◌, [], length, IfOk, IfSome, IsNone};
 ghost use Rattle.route_core.specs.Tables.{HasEntry};
 ghost use Rattle.igp_theory.specs.Loops.{IsFault, IsFirstFault};
-ghost use Rattle.igp_theory.specs.States.{IsOrder, IsSeamless, IsSound};
+ghost use Rattle.order_core.specs.Orders.{IsOrder};
+ghost use Rattle.igp_theory.specs.States.{IsSeamless, IsSound};
 ghost use Rattle.loop_finder.specs.Faults.{KeepsRing, state_in, told, told_fault};
 
 use crate::fault::Fault;
 use crate::order_fault::{order_fault, state_fault};
 use crate::room::Room;
-use order_search::Turn;
+use order_core::Turn;
 use rib_mix::{Mixed, OutOfMemory, Phase};
 use route_core::RouteSource;
 use std::alloc::Global;

@@ -1,6 +1,6 @@
 ghost use Rattle.std.specs.Prelude.{◌≡◌, ◌<◌, ◌^◌, ◌↔◌, ℕ, false, length, slice_set, IsTrue};
 ghost use Rattle.std.specs.Bool.{OnFalse, OnTrue};
-ghost use Rattle.precedence_set.specs.Marks.{IsMarked};
+ghost use Rattle.order_core.specs.Marks.{IsMarked};
 ghost use Rattle.loop_finder.specs.Live.{AreBounded, ArePeeled, FirstMarked, HasMarkedHop, IsLowerMarked, LowestMarked, marked_count};
 
 use crate::graph::StepGraph;

@@ -1,5 +1,5 @@
 ghost use Rattle.std.specs.Prelude.{◌≡◌, ◌+◌, ◌*◌, ◌≤◌, ◌<◌, ℕ, Contains, IfNone, IfSome, length};
-ghost use Rattle.igp_theory.specs.States.{IsOrder};
+ghost use Rattle.order_core.specs.Orders.{IsOrder};
 ghost use Rattle.loop_finder.specs.Faults.{KeepsRing, told, state_in};
 ghost use Rattle.loop_finder.specs.Orders.{AreFirstStates, IsAdvanced, IsStateOf, next_phase};
 ghost use Rattle.loop_finder.specs.Rooms.{HasRoom};

@@ -1,7 +1,7 @@
 ghost use Rattle.std.specs.Prelude.{◌≡◌, [], IfOk};
 ghost use Rattle.loop_finder.specs.Rooms.{HasRoom};
 
-use order_search::Turn;
+use order_core::Turn;
 use rib_mix::OutOfMemory;
 use std::alloc::Global;
 

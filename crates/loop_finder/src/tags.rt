@@ -1,12 +1,13 @@
 ghost use Rattle.std.specs.Prelude.{◌≡◌, ◌<◌, ◌≤◌, ◌⊎◌, ◌∷◌, [], ◌++◌, length, vec_len};
 ghost use Rattle.std.specs.Vec.{vec_capacity};
-ghost use Rattle.igp_theory.specs.Loops.{AroundRing, RingRouter, ring_routers};
-ghost use Rattle.loop_finder.specs.Faults.{ring_of, ring_router};
+ghost use Rattle.igp_theory.specs.Loops.{AroundRing};
+ghost use Rattle.order_core.specs.Turns.{routers_of};
+ghost use Rattle.order_core.specs.declared.turn.Turn.{Turn};
 ghost use Rattle.loop_finder.specs.Rings.{next_in};
 ghost use Rattle.loop_finder.specs.Steps.{ClassStep, IsTagged, StepsBy};
 
 use crate::class_steps::ClassSteps;
-use order_search::{Tag, Turn};
+use order_core::{Tag, Turn};
 use rib_mix::Phase;
 use route_core::RouteSource;
 
@@ -18,8 +19,8 @@ pub fn write_ring<O: RouteSource, N: RouteSource>(
 )
     requires around { AroundRing (ClassStep O.table N.table steps.now) routers.now }
     requires room { length routers.now ≤ vec_capacity ring.old }
-    ensures routers { ring_routers (ring_of ring.new.items) ≡ routers.now }
-    ensures tags { AroundRing (λ (r s : RingRouter). IsTagged O.table N.table steps.now r s.router) (ring_of ring.new.items) }
+    ensures routers { routers_of ring.new.items ≡ routers.now }
+    ensures tags { AroundRing (λ (s t : Turn). IsTagged O.table N.table steps.now s t.router) ring.new.items }
     ensures capacity { vec_capacity ring.old ≤ vec_capacity ring.new }
 {
     ring.clear();
@@ -51,7 +52,7 @@ fn tag_of<O: RouteSource, N: RouteSource>(
 ) -> Tag
     requires router { router < length steps.now.mixture.net }
     requires some { StepsBy O.table N.table steps.now router Phase.Old next ⊎ StepsBy O.table N.table steps.now router Phase.New next }
-    ensures { IsTagged O.table N.table steps.now (ring_router (record { router = router; tag = result })) next }
+    ensures { IsTagged O.table N.table steps.now (record { router = router; tag = result }) next }
 {
     let old = steps.leads(router, Phase::Old, next);
     let new = steps.leads(router, Phase::New, next);

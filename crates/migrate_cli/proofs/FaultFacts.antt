@@ -1,13 +1,18 @@
 -- What is printed of a fault.
-use Rattle.std.proofs.Common.{◌≡◌, ℕ, zero, suc, ◌<◌, ⊎_elim, List, [], ◌∷◌, length, map, All, decimal, codes, Some, refl, arith, ap, sym, ◌∙◌, subst}
+use Rattle.std.proofs.Common.{◌≡◌, ℕ, zero, suc, ◌<◌, List, [], ◌∷◌, length, map, All, decimal, codes, Some, refl, arith, ap, sym, ◌∙◌, subst}
 use Rattle.net_model.specs.Network.{Network}
-use Rattle.igp_theory.specs.Loops.{RingRouter, IsTag, EachToNext, AroundRing, IsFault, missing_step, loop_arises, ring_routers}
+use Rattle.igp_theory.specs.Loops.{IsTagOf, IsTag, EachToNext, AroundRing, IsFault, missing_step, loop_arises}
+use Rattle.igp_theory.specs.Forwarding.{Steps}
 use Rattle.igp_theory.specs.Routes.{Tables}
+use Rattle.igp_theory.specs.declared.phase.Phase.TheVariants as phase
 use Rattle.igp_theory.specs.States.{State}
-use Rattle.loop_finder.specs.Faults.{ring_of, ring_router, told_fault, KeepsRing}
+use Rattle.loop_finder.specs.Faults.{told_fault, KeepsRing}
 use Rattle.loop_finder.specs.declared.fault.Fault.{Fault}
 use Rattle.loop_finder.specs.declared.fault.Fault.TheVariants.{Loop, Missing}
-use Rattle.order_search.specs.declared.turn.Turn.{Turn}
+use Rattle.order_core.specs.Turns.{routers_of}
+use Rattle.order_core.specs.declared.turn.Tag.{Tag}
+use Rattle.order_core.specs.declared.turn.Tag.TheVariants.{Old, New, Both}
+use Rattle.order_core.specs.declared.turn.Turn.{Turn}
 use Rattle.migration_report.specs.Texts as report
 use Rattle.printed_lines.specs.Words.{dotted}
 use Rattle.printed_lines.specs.Texts.{line}
@@ -16,7 +21,7 @@ use Rattle.migrate_cli.specs.AnswerTexts.{fault_words, unsafe_text}
 use Rattle.migrate_cli.specs.Faults.{NamesRouters}
 
 -- the names of the routers of a ring are those of its turns
-ring_names : (names : List (List ℕ)) (turns : List Turn) → report.ring_words names turns ≡ map (name_of names) (ring_routers (ring_of turns))
+ring_names : (names : List (List ℕ)) (turns : List Turn) → report.ring_words names turns ≡ map (name_of names) (routers_of turns)
 ring_names names [] = refl
 ring_names names (turn ∷ turns) = ap (λ some. name_of names turn.router ∷ some) (ring_names names turns)
 
@@ -37,21 +42,26 @@ All-cons P x xs first others (suc k) d within = others k d (omega arith)
 
 module _ (net : Network) (old new : Tables) (a : ℕ) where
   -- a router with a tag is one of the network
-  tag_within : (r : RingRouter) (next : ℕ) → IsTag net old new a r next → r.router < length net
-  tag_within r next tag = ⊎_elim (λ by_old. (tag.of_old.0 by_old).must.router) (λ by_new. (tag.of_new.0 by_new).must.router) tag.some
+  tag_within : (r : Turn) (next : ℕ) → IsTag net old new a r next → r.router < length net
+  tag_within r next is = by_tag r.tag is.steps
+    where
+      by_tag : (t : Tag) → IsTagOf t (Steps net old new r.router phase.Old a next) (Steps net old new r.router phase.New a next) → r.router < length net
+      by_tag Old steps = steps.0.must.router
+      by_tag New steps = steps.1.must.router
+      by_tag Both steps = steps.0.must.router
 
-  each_within : (first : RingRouter) (turns : List Turn) → EachToNext (λ (r s : RingRouter). IsTag net old new a r s.router) first (ring_of turns)
+  each_within : (first : Turn) (turns : List Turn) → EachToNext (λ (r s : Turn). IsTag net old new a r s.router) first turns
       → All (λ (turn : Turn). turn.router < length net) turns
   each_within first [] tags = λ k d within. absurd (omega arith)
-  each_within first (turn ∷ []) tags = All-cons (λ (t : Turn). t.router < length net) turn [] (tag_within (ring_router turn) first.router tags) (λ k d within. absurd (omega arith))
+  each_within first (turn ∷ []) tags = All-cons (λ (t : Turn). t.router < length net) turn [] (tag_within turn first.router tags) (λ k d within. absurd (omega arith))
   each_within first (turn ∷ next ∷ turns) tags =
-      All-cons (λ (t : Turn). t.router < length net) turn (next ∷ turns) (tag_within (ring_router turn) next.router tags.0) (each_within first (next ∷ turns) tags.1)
+      All-cons (λ (t : Turn). t.router < length net) turn (next ∷ turns) (tag_within turn next.router tags.0) (each_within first (next ∷ turns) tags.1)
 
   -- so are the routers of a ring with its tags
-  around_within : (turns : List Turn) → AroundRing (λ (r s : RingRouter). IsTag net old new a r s.router) (ring_of turns)
+  around_within : (turns : List Turn) → AroundRing (λ (r s : Turn). IsTag net old new a r s.router) turns
       → All (λ (turn : Turn). turn.router < length net) turns
   around_within [] tags = λ k d within. absurd (omega arith)
-  around_within (turn ∷ turns) tags = each_within (ring_router turn) (turn ∷ turns) tags
+  around_within (turn ∷ turns) tags = each_within turn (turn ∷ turns) tags
 
 -- the routers that a fault of a state names are those of the network
 pub loop_within : (net : Network) (old new : Tables) (state : State) (a : ℕ) (turns : List Turn) → IsFault net old new state (told_fault (Loop a) turns)

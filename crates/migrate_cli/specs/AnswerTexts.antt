@@ -1,6 +1,7 @@
 -- What the program writes.
 use Rattle.std.specs.Prelude.{ℕ, ◌*◌, List, [], ◌∷◌, map, codes, decimal, Option, Some, None}
-use Rattle.igp_theory.specs.Loops.{Fault, missing, loop, ring_routers}
+use Rattle.igp_theory.specs.Loops.{Fault, missing, loop}
+use Rattle.order_core.specs.Turns.{routers_of}
 use Rattle.net_model.specs.declared.refusal.NetRefusal.{NetRefusal}
 use Rattle.net_model.specs.declared.refusal.NetRefusal.TheVariants.{Limit, OutOfMemory}
 use Rattle.migrate_cli.specs.declared.status.Status.{Status}
@@ -31,7 +32,7 @@ refusal_status _ = Some Refused
 -- what is wrong in a state, by the names of the routers
 abbrev pub fault_words : List (List ℕ) → Fault → List (List ℕ)
 fault_words names (missing a u) = dotted a ∷ codes "missing" ∷ name_of names u ∷ []
-fault_words names (loop a ring) = dotted a ∷ codes "loop" ∷ map (name_of names) (ring_routers ring)
+fault_words names (loop a ring) = dotted a ∷ codes "loop" ∷ map (name_of names) (routers_of ring)
 
 -- an order isn't safe: the number of its first unsound state, and what is wrong there
 abbrev pub unsafe_text : List (List ℕ) → ℕ → Fault → List ℕ

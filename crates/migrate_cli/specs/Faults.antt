@@ -1,7 +1,7 @@
 -- The routers that a fault names.
 use Rattle.std.specs.Prelude.{ℕ, ◌<◌, List, All}
 use Rattle.loop_finder.specs.declared.fault.Fault.{Fault}
-use Rattle.order_search.specs.declared.turn.Turn.{Turn}
+use Rattle.order_core.specs.declared.turn.Turn.{Turn}
 use Rattle.migration_report.specs.Texts.{FaultBelow}
 
 -- they are below the count of routers, in the fault and in the turns beside it

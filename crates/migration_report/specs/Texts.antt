@@ -4,7 +4,7 @@ use Rattle.net_model.specs.declared.refusal.NetRefusal.{NetRefusal}
 use Rattle.net_model.specs.declared.refusal.NetRefusal.TheVariants.{Limit, TwoNames, AddressTwice, PrefixInTwoAreas, BorderWithoutBackbone, OspfCostSum, IsisMetricSum, SystemIdTwice, StubMismatch, OutOfMemory}
 use Rattle.loop_finder.specs.declared.fault.Fault.{Fault}
 use Rattle.loop_finder.specs.declared.fault.Fault.TheVariants.{Loop, Missing}
-use Rattle.order_search.specs.declared.turn.Turn.{Turn}
+use Rattle.order_core.specs.declared.turn.Turn.{Turn}
 use Rattle.printed_lines.specs.Words.{dotted, prefix_word}
 use Rattle.printed_lines.specs.Texts.{line}
 use Rattle.migration_report.specs.Words.{name_of}

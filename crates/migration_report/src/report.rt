@@ -6,7 +6,7 @@ ghost use Rattle.migration_report.specs.Texts.{FaultBelow, ReportBelow, fault_wo
 use loop_finder::Fault;
 use net_addr::Bytes;
 use net_model::Net;
-use order_search::Turn;
+use order_core::Turn;
 use printed_lines::LineBuilder;
 use std::alloc::{AllocError, Global};
 

@@ -8,7 +8,7 @@ use net_addr::{Name, Prefix};
 use net_model::{
     Config, Configs, Distances, Interfaces, Levels, LimitWhat, Net, NetRefusal, Ranges, Stubs,
 };
-use order_search::{Tag, Turn};
+use order_core::{Tag, Turn};
 use std::alloc::{AllocError, Global};
 use std::process::Abort;
 use std::test::Fail;

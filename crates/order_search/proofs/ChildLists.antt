@@ -2,10 +2,11 @@
 use Rattle.std.proofs.Common.{◌≡◌, ℕ, ◌+◌, ◌<◌, Bool, true, false, cond, List, [], ◌∷◌, ◌++◌, length, get_or, drop, map, append_assoc, sym, refl, ap, ◌∙◌}
 use Rattle.std.specs.List.{filter, flat_map}
 use Rattle.std.proofs.lemmas.List.{at_drop_more, map-append}
-use Rattle.precedence_set.specs.Pairs.{Pair}
-use Rattle.order_search.specs.Turns.{is_old, is_new, old_routers, new_routers, row_of, cell_of}
+use Rattle.order_core.specs.Pairs.{Pair}
+use Rattle.order_core.specs.Turns.{is_old, is_new, old_routers, new_routers}
+use Rattle.order_search.specs.Rows.{row_of, cell_of}
 use Rattle.order_search.specs.Waiting.{child_of}
-use Rattle.order_search.specs.declared.turn.Turn.{Turn}
+use Rattle.order_core.specs.declared.turn.Turn.{Turn}
 use Rattle.order_search.specs.declared.children.Child.{Child}
 
 -- the pairs of one router with the New turns' routers

@@ -6,9 +6,9 @@ use Rattle.std.proofs.lemmas.Bool.{cases_lt}
 use Rattle.std.proofs.Math.Nat.{mul-le-mul}
 use Rattle.std.proofs.lemmas.List.{take-take, take_all, take_more, take-append-le, length-take, length_push, get_or-take, get_or_append_left, get_or_push}
 use Rattle.std.proofs.lemmas.List.Elements.{All-nil, All-cons, All-weaker, All-push, All-take, All-get_or, Contains-append_left, Contains-push}
-use Rattle.precedence_set.specs.Pairs.{Pair, Leads, Reaches}
-use Rattle.precedence_set.proofs.DistinctLists.{AllPairs-cons, length-le_from_distinct}
-use Rattle.precedence_set.proofs.Paths.{HasNoCycle-push, HasNoCycle-take, IsPath-more, Leads-step, Reaches-itself}
+use Rattle.order_core.specs.Pairs.{Pair, Leads, Reaches}
+use Rattle.order_core.proofs.DistinctLists.{AllPairs-cons, length-le_from_distinct}
+use Rattle.order_core.proofs.Paths.{HasNoCycle-push, HasNoCycle-take, IsPath-more, Leads-step, Reaches-itself}
 use Rattle.order_search.specs.Waiting.{AreFresh}
 
 -- no pair is fresh

@@ -3,10 +3,10 @@ use Rattle.std.proofs.Common.{◌≡◌, ◌≢◌, ℕ, ◌<◌, ◌≤◌, Lis
 use Rattle.std.specs.List.{AllPairs}
 use Rattle.std.proofs.lemmas.List.{take-append-le, length-append, length_push, get_or_append_left, get_or_at, append-nil}
 use Rattle.std.proofs.lemmas.List.Elements.{Contains-push}
-use Rattle.precedence_set.specs.Pairs.{Pair, IsPath, Leads, HasNoCycle}
+use Rattle.order_core.specs.Pairs.{Pair, IsPath, Leads, HasNoCycle}
 use Rattle.precedence_set.specs.LeastCycle.{GoesBack, IsLeastCycle}
-use Rattle.precedence_set.proofs.DistinctLists.{AllPairs-cons}
-use Rattle.precedence_set.proofs.Paths.{IsPath-more, distinct_path}
+use Rattle.order_core.proofs.DistinctLists.{AllPairs-cons}
+use Rattle.order_core.proofs.Paths.{IsPath-more, distinct_path}
 use Rattle.order_search.specs.Trees.{Place, IsCycle}
 use Rattle.order_search.specs.Waiting.{place_of, places_of, AreChildren}
 use Rattle.order_search.specs.Leaves.{IsLeaf, GrowsLeaves}

@@ -3,13 +3,14 @@ use Rattle.std.proofs.Common.{◌≡◌, ◌≢◌, ℕ, zero, suc, ◌<◌, ◌
 use Rattle.std.specs.List.{All, AllPairs, Contains, flat_map}
 use Rattle.std.proofs.lemmas.List.{length-map, get_or-map}
 use Rattle.std.proofs.lemmas.List.Elements.{All-head, All-tail, Contains-append_left, Contains-append_right, Contains-push_cases}
-use Rattle.precedence_set.specs.Pairs.{Pair, IsPath, IsOrder, IsBefore}
-use Rattle.precedence_set.proofs.Orders.{IsBefore-trans, IsBefore-irrefl}
-use Rattle.order_search.specs.Turns.{HasBothTags, old_routers, new_routers, child_pairs}
+use Rattle.order_core.specs.Orders.{IsOrder, IsBefore}
+use Rattle.order_core.specs.Pairs.{Pair, IsPath}
+use Rattle.order_core.proofs.Orders.{IsBefore-trans, IsBefore-irrefl}
+use Rattle.order_core.specs.Turns.{HasBothTags, old_routers, new_routers, child_pairs}
 use Rattle.order_search.specs.Trees.{Place, Real, Fill, places_below, IsTreeNode, IsCycle, IsVisited}
 use Rattle.order_search.specs.Refutations.{IsClosed}
 use Rattle.order_search.specs.Oracles.{PlacesSomeOldFirst}
-use Rattle.order_search.specs.declared.turn.Turn.{Turn}
+use Rattle.order_core.specs.declared.turn.Turn.{Turn}
 use Rattle.order_search.specs.declared.tree.Node.{Node}
 use Rattle.order_search.specs.declared.tree.Node.TheVariants.{Branch, Leaf, Unvisited}
 

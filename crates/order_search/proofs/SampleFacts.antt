@@ -3,13 +3,13 @@ use Rattle.std.proofs.Common.{◌≡◌, ◌≢◌, ℕ, zero, suc, ◌+◌, ◌
 use Rattle.std.specs.List.{AllPairs, Contains}
 use Rattle.std.proofs.lemmas.List.Elements.{All-nil, All-cons, Contains-get_or}
 use Rattle.std.proofs.lemmas.Bool.{cases_lt}
-use Rattle.precedence_set.specs.Pairs.{IsOrder}
-use Rattle.precedence_set.proofs.DistinctLists.{AllPairs-cons, place_from_Contains}
+use Rattle.order_core.specs.Orders.{IsOrder}
+use Rattle.order_core.proofs.DistinctLists.{AllPairs-cons, place_from_Contains}
 use Rattle.order_search.specs.Trees.{Real, Picked}
 use Rattle.order_search.specs.Oracles.{Break}
 use Rattle.order_search.specs.SampleOracles.{IsDescending, AreTurnsOfTwo, turns_of}
-use Rattle.order_search.specs.declared.turn.Turn.{Turn}
-use Rattle.order_search.specs.declared.turn.Tag.TheVariants.{Old, New}
+use Rattle.order_core.specs.declared.turn.Turn.{Turn}
+use Rattle.order_core.specs.declared.turn.Tag.TheVariants.{Old, New}
 
 -- an order whose neighbours never rise falls from each place to each later one
 falls : (order : List ℕ) → ((i : ℕ) → i + 1 < length order → get_or order (i + 1) 0 ≤ get_or order i 0) → (i k : ℕ) → i + k < length order → get_or order (i + k) 0 ≤ get_or order i 0

@@ -3,16 +3,18 @@ use Rattle.std.proofs.Common.{◌≡◌, ◌≢◌, ℕ, zero, suc, ◌+◌, ◌
 use Rattle.std.specs.List.{All, Contains, filter, flat_map}
 use Rattle.std.proofs.lemmas.List.{take_all, length-append, length_push, length-take-le, get_or_append_left, get_or_push}
 use Rattle.std.proofs.lemmas.List.Elements.{All-nil, All-cons, All-head, All-tail, All-append, All-push, All-map, All-filter, All-weaker, All-contains, All-contains_itself}
-use Rattle.precedence_set.specs.Pairs.{Pair, Leads, HasNoCycle, IsBefore, IsOrder}
+use Rattle.order_core.specs.Orders.{IsBefore, IsOrder}
+use Rattle.order_core.specs.Pairs.{Pair, Leads, HasNoCycle}
 use Rattle.precedence_set.specs.LeastExtension.{IsLeastExtension}
-use Rattle.precedence_set.proofs.Orders.{distinct_least, IsBefore-trans, IsBefore-irrefl, IsBefore-from_Leads}
-use Rattle.order_search.specs.Turns.{old_routers, new_routers, HasBothTags, child_pairs, is_old, is_new}
+use Rattle.order_core.proofs.Orders.{IsBefore-trans, IsBefore-irrefl}
+use Rattle.precedence_set.proofs.Orders.{distinct_least, IsBefore-from_Leads}
+use Rattle.order_core.specs.Turns.{old_routers, new_routers, HasBothTags, child_pairs, is_old, is_new}
 use Rattle.order_search.specs.Trees.{Place, Real, Picked, Fill, IsTreeNode, IsVisited, HasOneChild, branch_count}
 use Rattle.order_search.specs.Oracles.{Break, PlacesSomeOldFirst}
 use Rattle.order_search.specs.Answers.{IsFoundNode, IsFoundOrder, IsRefutation, IsSpent, IsFound, RefutesAll}
 use Rattle.order_search.specs.Waiting.{child_of, place_of, places_of, children_below, AreChildren, AreFresh}
 use Rattle.order_search.specs.Leaves.{IsLeaf, GrowsLeaves}
-use Rattle.order_search.specs.declared.turn.Turn.{Turn}
+use Rattle.order_core.specs.declared.turn.Turn.{Turn}
 use Rattle.order_search.specs.declared.children.Child.{Child}
 use Rattle.order_search.specs.declared.tree.Node.{Node}
 use Rattle.order_search.specs.declared.tree.Node.TheVariants.{Branch, Leaf, Unvisited}

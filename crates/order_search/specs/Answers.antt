@@ -1,6 +1,6 @@
 -- What the search may answer.
 use Rattle.std.specs.Prelude.{ℕ, ◌*◌, ◌-◌, ◌/◌, ◌≤◌, List, All}
-use Rattle.precedence_set.specs.Pairs.{IsOrder}
+use Rattle.order_core.specs.Orders.{IsOrder}
 use Rattle.order_search.specs.Trees.{Place, Real, Picked, IsTreeNode, IsEarned, NamesLeastCycle, HasOneChild, branch_count}
 use Rattle.order_search.specs.Refutations.{IsClosed, LeadsTo, IsStoppedAt}
 use Rattle.order_search.specs.declared.tree.Node.{Node}

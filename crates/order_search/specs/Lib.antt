@@ -1,8 +1,11 @@
-pub mod Turns
+pub use Rattle.order_core.specs.Orders
+pub use Rattle.order_core.specs.Pairs
+pub use Rattle.order_core.specs.Turns
 pub mod Trees
 pub mod Refutations
 pub mod Oracles
 pub mod Answers
 pub mod Waiting
+pub mod Rows
 pub mod Leaves
 pub mod SampleOracles

@@ -1,9 +1,9 @@
 -- What an oracle says of an order.
 use Rattle.std.specs.Prelude.{◌≢◌, ℕ, ◌<◌, List, All, AllPairs, Contains}
-use Rattle.precedence_set.specs.Pairs.{IsBefore}
-use Rattle.order_search.specs.Turns.{old_routers, new_routers, HasBothTags}
+use Rattle.order_core.specs.Orders.{IsBefore}
+use Rattle.order_core.specs.Turns.{old_routers, new_routers, HasBothTags}
 use Rattle.order_search.specs.Trees.{Real, Picked}
-use Rattle.order_search.specs.declared.turn.Turn.{Turn}
+use Rattle.order_core.specs.declared.turn.Turn.{Turn}
 
 -- the address and turns break an order: they are real and picked for it, their routers are distinct and
 -- below n, some turn is Old and some New, and the order places each New turn's router before each Old turn's

@@ -1,7 +1,7 @@
 -- Closed trees, trees stopped at a budget, and nodes that lead to an order. What P says holds of each
 -- node at its place.
 use Rattle.std.specs.Prelude.{◌≡◌, ℕ, suc, List, [], ◌∷◌, ◌++◌, length, replicate, All}
-use Rattle.precedence_set.specs.Pairs.{HasNoCycle}
+use Rattle.order_core.specs.Pairs.{HasNoCycle}
 use Rattle.precedence_set.specs.LeastExtension.{IsLeastExtension}
 use Rattle.order_search.specs.Trees.{Place, Fill, IsVisited, branch_count}
 use Rattle.order_search.specs.declared.tree.Node.{Node}

@@ -1,10 +1,10 @@
 -- Two oracles for tests and measurements: one to which only the descending order is good, and one to which none is.
 use Rattle.std.specs.Prelude.{◌≡◌, ℕ, ◌<◌, List, [], ◌∷◌, refl}
 use Rattle.std.proofs.Common.{arith, subst, sym}
-use Rattle.precedence_set.specs.Pairs.{IsBefore}
+use Rattle.order_core.specs.Orders.{IsBefore}
 use Rattle.order_search.specs.Oracles.{PlacesSomeOldFirst}
-use Rattle.order_search.specs.declared.turn.Turn.{Turn}
-use Rattle.order_search.specs.declared.turn.Tag.TheVariants.{Old, New}
+use Rattle.order_core.specs.declared.turn.Turn.{Turn}
+use Rattle.order_core.specs.declared.turn.Tag.TheVariants.{Old, New}
 
 -- of two routers below n the higher stands before the lower
 abbrev pub IsDescending : ℕ → List ℕ → Type 0

@@ -1,10 +1,10 @@
 -- Trees of places, seen as the list of their nodes, each followed by its children.
 use Rattle.std.specs.Prelude.{◌≡◌, ◌≢◌, ℕ, ◌+◌, ◌≤◌, List, [], ◌∷◌, ◌++◌, length, map, AllPairs}
-use Rattle.precedence_set.specs.Pairs.{Pair, IsPath, HasNoCycle}
+use Rattle.order_core.specs.Pairs.{Pair, IsPath, HasNoCycle}
 use Rattle.precedence_set.specs.LeastExtension.{IsLeastExtension}
 use Rattle.precedence_set.specs.LeastCycle.{IsLeastCycle}
-use Rattle.order_search.specs.Turns.{HasBothTags, child_pairs}
-use Rattle.order_search.specs.declared.turn.Turn.{Turn}
+use Rattle.order_core.specs.Turns.{HasBothTags, child_pairs}
+use Rattle.order_core.specs.declared.turn.Turn.{Turn}
 use Rattle.order_search.specs.declared.tree.Node.{Node}
 use Rattle.order_search.specs.declared.tree.Node.TheVariants.{Branch, Leaf, Unvisited}
 

@@ -1,9 +1,9 @@
 -- The places that wait to be visited, told by the pairs that are assumed now.
 use Rattle.std.specs.Prelude.{◌≢◌, ℕ, ◌<◌, ◌≤◌, List, [], ◌∷◌, ◌++◌, length, map, take, slice_index_or}
-use Rattle.precedence_set.specs.Pairs.{Pair, Leads, HasNoCycle, AreBelow}
-use Rattle.order_search.specs.Turns.{child_pairs}
+use Rattle.order_core.specs.Pairs.{Pair, Leads, HasNoCycle, AreBelow}
+use Rattle.order_core.specs.Turns.{child_pairs}
 use Rattle.order_search.specs.Trees.{Place}
-use Rattle.order_search.specs.declared.turn.Turn.{Turn}
+use Rattle.order_core.specs.declared.turn.Turn.{Turn}
 use Rattle.order_search.specs.declared.children.Child.{Child}
 
 -- the child of a branch that assumes so many pairs

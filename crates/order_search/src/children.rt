@@ -1,8 +1,9 @@
 ghost use Rattle.std.specs.Prelude.{◌≡◌, ◌++◌, ◌<◌, OnOk, length, map, reverse};
-ghost use Rattle.order_search.specs.Turns.{child_pairs, row_of, cell_of};
+ghost use Rattle.order_core.specs.Turns.{child_pairs};
+ghost use Rattle.order_search.specs.Rows.{row_of, cell_of};
 ghost use Rattle.order_search.specs.Waiting.{child_of};
 
-use crate::turn::Turn;
+use order_core::Turn;
 use std::alloc::AllocError;
 
 /// A child that waits to be visited: it assumes that one router comes before another, besides the first

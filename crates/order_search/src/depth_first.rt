@@ -1,20 +1,20 @@
 ghost use Rattle.std.specs.Prelude.{◌≡◌, ℕ, List, ◌+◌, ◌≤◌, ◌∷◌, [], ◌++◌, ◌↔◌, IfOk, OnOk, length, map, replicate, reverse};
 ghost use Rattle.std.specs.Bool.{OnTrue, OnFalse};
 ghost use Rattle.precedence_set.specs.LeastExtension.{IsLeastExtension};
-ghost use Rattle.precedence_set.specs.Pairs.{AreBelow, HasNoCycle};
-ghost use Rattle.order_search.specs.Turns.{child_pairs};
+ghost use Rattle.order_core.specs.Pairs.{AreBelow, HasNoCycle};
+ghost use Rattle.order_core.specs.Turns.{child_pairs};
 ghost use Rattle.order_search.specs.Oracles.{Break};
 ghost use Rattle.order_search.specs.Answers.{IsFound, RefutesAll};
 ghost use Rattle.order_search.specs.Waiting.{child_of, places_of, children_below, AreChildren, AreFresh};
 ghost use Rattle.order_search.specs.Leaves.{GrowsLeaves};
-ghost use Rattle.order_search.specs.declared.turn.Turn.{Turn};
+ghost use Rattle.order_core.specs.declared.turn.Turn.{Turn};
 
 use crate::children::{Child, push_children};
 use crate::found::{Found, Sequence};
 use crate::oracle::{Answer, Oracle};
 use crate::places::next_place;
 use crate::tree::{Node, Tree};
-use crate::turn::{Turn, Turns};
+use order_core::{Turn, Turns};
 use precedence_set::Precedences;
 use std::alloc::{AllocError, Global};
 

@@ -2,7 +2,7 @@ ghost use Rattle.std.specs.Prelude.{◌≡◌, ℕ, ◌+◌, ◌<◌, ◌≤◌,
 ghost use Rattle.order_search.specs.SampleOracles.{turns_of};
 
 use crate::oracle::{Answer, Oracle};
-use crate::turn::{Tag, Turn};
+use order_core::{Tag, Turn};
 
 /// Calls only the descending order good. Of another one it tells the first neighbours that rise, the lower
 /// one as New and the higher one as Old. The oracle of the tests and the measurements: from the ascending

@@ -8,15 +8,14 @@ mod found;
 mod oracle;
 mod places;
 mod tree;
-mod turn;
 
 pub use depth_first::search;
 pub use descending::Descending;
 pub use found::{Found, Sequence};
 pub use oracle::{Answer, Oracle};
+pub use order_core::{Tag, Turn, Turns};
 pub use std::alloc::AllocError as OutOfMemory;
 pub use tree::{Cycle, Node, Tree};
-pub use turn::{Tag, Turn, Turns};
 
 #[cfg(test)]
 mod tests;

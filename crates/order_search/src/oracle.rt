@@ -1,10 +1,10 @@
 ghost use Rattle.std.specs.Prelude.{◌≡◌, ℕ, List, ◌↔◌};
-ghost use Rattle.precedence_set.specs.Pairs.{IsOrder};
-ghost use Rattle.order_search.specs.Turns.{HasBothTags};
+ghost use Rattle.order_core.specs.Orders.{IsOrder};
+ghost use Rattle.order_core.specs.Turns.{HasBothTags};
 ghost use Rattle.order_search.specs.Oracles.{Break, PlacesSomeOldFirst};
-ghost use Rattle.order_search.specs.declared.turn.Turn.{Turn};
+ghost use Rattle.order_core.specs.declared.turn.Turn.{Turn};
 
-use crate::turn::Turn;
+use order_core::Turn;
 
 /// What an oracle answers of an order.
 #[derive(Clone, Copy, Debug, PartialEq, Eq)]

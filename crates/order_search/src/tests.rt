@@ -5,7 +5,7 @@ use crate::descending::{Descending, NO_TURNS, turns_at};
 use crate::found::Found;
 use crate::oracle::{Answer, Oracle};
 use crate::tree::Node;
-use crate::turn::Turn;
+use order_core::Turn;
 use std::alloc::AllocError;
 use std::process::Abort;
 

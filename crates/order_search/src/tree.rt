@@ -1,6 +1,6 @@
 ghost use Rattle.std.specs.Prelude.{◌≡◌, [], ◌∷◌, ◌++◌, IfOk, OnOk, OnErr};
 
-use crate::turn::Turns;
+use order_core::Turns;
 use std::alloc::{AllocError, Global};
 use std::marker::Model;
 

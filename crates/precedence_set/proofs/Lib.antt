@@ -1,5 +1,3 @@
-pub mod DistinctLists
-pub mod Paths
 pub mod Orders
 mod SuccessorFacts
 mod MarkedLinks

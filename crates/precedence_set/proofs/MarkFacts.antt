@@ -6,9 +6,10 @@ use Rattle.std.proofs.lemmas.List.{get_or-set_same, get_or-set_other, get_or_pas
 use Rattle.std.proofs.lemmas.List.Elements.{All-contains}
 use Rattle.std.proofs.lemmas.Bool.{false≢true, cases_lt}
 use Rattle.std.proofs.lemmas.Bool.Decides.{eqb_tells}
-use Rattle.precedence_set.specs.Pairs.{Pair, AreBelow, Reaches, IsPath}
-use Rattle.precedence_set.specs.Marks.{IsMarked, unmarked_count}
-use Rattle.precedence_set.proofs.Paths.{Reaches-step}
+use Rattle.order_core.specs.Pairs.{Pair, AreBelow, Reaches, IsPath}
+use Rattle.order_core.specs.Marks.{IsMarked}
+use Rattle.precedence_set.specs.Marks.{unmarked_count}
+use Rattle.order_core.proofs.Paths.{Reaches-step}
 
 -- a mark stays when another is set
 pub IsMarked-kept : (marks : List Bool) (u r : ℕ) → u < length marks → IsMarked marks r → IsMarked (set marks u true) r

@@ -7,7 +7,7 @@ use Rattle.std.proofs.lemmas.Bool.{cases_lt}
 use Rattle.std.proofs.lemmas.Bool.Decides.{eqb_tells}
 use Rattle.link_trail.specs.Lists.{LinkedLists, IsFree, linked, list_at, lists_at_mark}
 use Rattle.link_trail.proofs.ListLemmas.{length-linked, linked-at, linked-other}
-use Rattle.precedence_set.specs.Pairs.{Pair}
+use Rattle.order_core.specs.Pairs.{Pair}
 use Rattle.precedence_set.specs.Successors.{numbers_from, AreSuccessors}
 use Rattle.precedence_set.proofs.SuccessorFacts.{numbers_from-append, numbers_from-below}
 

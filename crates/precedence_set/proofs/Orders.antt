@@ -4,9 +4,11 @@ use Rattle.std.specs.List.{All, AllPairs, Contains}
 use Rattle.std.proofs.lemmas.List.{get_or-take, get_or_default, length-take-le, take_all, take_more}
 use Rattle.std.proofs.lemmas.List.Elements.{All-contains, All-from_get_or}
 use Rattle.std.proofs.lemmas.Bool.{cases_lt}
-use Rattle.precedence_set.specs.Pairs.{Pair, IsPath, Leads, AreBelow, IsOrder, IsBefore}
+use Rattle.order_core.specs.Orders.{IsOrder, IsBefore}
+use Rattle.order_core.specs.Pairs.{Pair, IsPath, Leads, AreBelow}
 use Rattle.precedence_set.specs.LeastExtension.{IsReady, IsLeastExtension}
-use Rattle.precedence_set.proofs.DistinctLists.{Contains-take, Contains-from_distinct, place_from_Contains}
+use Rattle.order_core.proofs.DistinctLists.{Contains-take, Contains-from_distinct, place_from_Contains}
+use Rattle.order_core.proofs.Orders.{IsBefore-trans}
 
 -- the routers of a least extension are distinct
 pub distinct_least : (n : ℕ) (pairs : List Pair) (order : List ℕ) → IsLeastExtension n pairs order → AllPairs (λ u v. u ≢ v) order
@@ -25,27 +27,6 @@ IsOrder-from_least n pairs order least = record {
   once = distinct_least n pairs order least;
   all = λ u. (λ has. All-contains (λ (x : ℕ). x < n) order u (below_least n pairs order least) has, λ lt. Contains-from_distinct order n (distinct_least n pairs order least) (below_least n pairs order least) least.whole u lt);
 }
-
--- two places of one router in a list of distinct routers are the same
-pub same_place : (order : List ℕ) → AllPairs (λ u v. u ≢ v) order → (i j : ℕ) → i < length order → j < length order → get_or order i 0 ≡ get_or order j 0 → i ≡ j
-same_place order once i j i_in j_in same = elim (cases_lt i j) [
-  | inl lt ↦ absurd (once i j 0 lt j_in same)
-  | inr ge ↦ elim (cases_lt j i) [
-    | inl lt ↦ absurd (once j i 0 lt i_in (sym same))
-    | inr le ↦ omega (arith, ge, le)
-  ]
-]
-
-pub IsBefore-trans : (order : List ℕ) → AllPairs (λ u v. u ≢ v) order → (u v w : ℕ) → IsBefore order u v → IsBefore order v w → IsBefore order u w
-IsBefore-trans order once u v w a b =
-    let a_in : a.later < length order = a.within in
-    let b_in : b.place < length order = omega (arith, b.earlier, b.within) in
-    let e : a.later ≡ b.place = same_place order once a.later b.place a_in b_in (a.second ∙ sym b.first) in
-    record { place = a.place; later = b.later; earlier = omega (arith, a.earlier, b.earlier, e); within = b.within; first = a.first; second = b.second }
-
--- no router stands before itself
-pub IsBefore-irrefl : (order : List ℕ) → AllPairs (λ u v. u ≢ v) order → (u : ℕ) → ¬ IsBefore order u u
-IsBefore-irrefl order once u b = once b.place b.later 0 b.earlier b.within (b.first ∙ sym b.second)
 
 -- a least extension keeps each pair
 pub IsBefore-from_pair : (n : ℕ) (pairs : List Pair) (order : List ℕ) → IsLeastExtension n pairs order → AreBelow n pairs → (u v : ℕ) → Contains pairs (u, v) → IsBefore order u v

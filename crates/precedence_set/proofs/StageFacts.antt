@@ -8,8 +8,8 @@ use Rattle.std.proofs.lemmas.Bool.Decides.{eqb_tells}
 use Rattle.link_trail.specs.Lists.{LinkedLists, IsApart, IsNext, first_of, linked, list_at, lists_at_mark, unlinked, without}
 use Rattle.link_trail.specs.Lists as links
 use Rattle.link_trail.proofs.ListLemmas.{length-linked, length-unlinked, linked-at, linked-other, unlinked-at}
-use Rattle.precedence_set.specs.Pairs.{Pair, AreBelow, HasNoCycle}
-use Rattle.precedence_set.specs.Marks.{IsMarked}
+use Rattle.order_core.specs.Pairs.{Pair, AreBelow, HasNoCycle}
+use Rattle.order_core.specs.Marks.{IsMarked}
 use Rattle.precedence_set.specs.Waits.{IsFree, IsHeld}
 use Rattle.precedence_set.specs.Stages.{AreStages, IsLowestOf, IsLowerOf}
 use Rattle.precedence_set.proofs.WaitFacts.{some_free}

@@ -6,8 +6,8 @@ use Rattle.std.proofs.lemmas.List.{take-append-drop, length-take-le, get_or-drop
 use Rattle.std.proofs.lemmas.List.Elements.{Contains-get_or}
 use Rattle.std.proofs.lemmas.Bool.{cases_lt, eq-eqb, eqb-true, eqb-false}
 use Rattle.link_trail.specs.Lists.{IsNext, first_of, list_at}
-use Rattle.precedence_set.specs.Pairs.{Pair}
-use Rattle.precedence_set.specs.Marks.{IsMarked}
+use Rattle.order_core.specs.Pairs.{Pair}
+use Rattle.order_core.specs.Marks.{IsMarked}
 use Rattle.precedence_set.specs.Waits.{pair_at}
 use Rattle.precedence_set.specs.Successors.{numbers_from, AreSuccessors, IsFirstFrom, IsAtMost}
 

@@ -2,10 +2,10 @@
 use Rattle.std.proofs.Common.{◌≡◌, ◌≢◌, ℕ, ◌<◌, ◌≤◌, List, [], ◌∷◌, ◌++◌, length, length-append, take, set, Bool, arith, subst, sym, refl, ap, ◌∙◌}
 use Rattle.std.specs.List.{Contains}
 use Rattle.std.proofs.lemmas.List.Elements.{All-contains}
-use Rattle.precedence_set.specs.Pairs.{Pair, Reaches, IsPath, AreBelow, HasNoCycle}
+use Rattle.order_core.specs.Pairs.{Pair, Reaches, IsPath, AreBelow, HasNoCycle}
 use Rattle.precedence_set.specs.LeastCycle.{IsLowestBack, GoesBack, IsLeastCycle}
-use Rattle.precedence_set.specs.Marks.{IsMarked}
-use Rattle.precedence_set.proofs.Paths.{IsPath-append, length-path}
+use Rattle.order_core.specs.Marks.{IsMarked}
+use Rattle.order_core.proofs.Paths.{IsPath-append, length-path}
 
 -- the way back as far as it has come: from x over these routers, the last of them `last`
 abbrev pub WentBack : List Pair → ℕ → ℕ → List ℕ → ℕ → Type 0

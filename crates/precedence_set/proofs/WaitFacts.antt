@@ -6,11 +6,12 @@ use Rattle.std.proofs.lemmas.List.{get_or-set_same, get_or-set_other, get_or_def
 use Rattle.std.proofs.lemmas.List.Elements.{All-contains, Contains-get_or, Contains-append_left, Contains-push, Contains-push_cases}
 use Rattle.std.proofs.lemmas.Bool.{cases_lt, eqb-true, eqb-false}
 use Rattle.std.proofs.lemmas.Bool.Decides.{eqb_tells}
-use Rattle.precedence_set.specs.Pairs.{Pair, IsPath, AreBelow, HasNoCycle}
+use Rattle.order_core.specs.Pairs.{Pair, IsPath, AreBelow, HasNoCycle}
 use Rattle.precedence_set.specs.LeastExtension.{IsLowestReady}
-use Rattle.precedence_set.specs.Marks.{IsMarked, unmarked_count}
+use Rattle.order_core.specs.Marks.{IsMarked}
+use Rattle.precedence_set.specs.Marks.{unmarked_count}
 use Rattle.precedence_set.specs.Waits.{pair_at, last_into, WaitsAt, AllWait, IsFree, IsHeld}
-use Rattle.precedence_set.proofs.Paths.{length-path}
+use Rattle.order_core.proofs.Paths.{length-path}
 use Rattle.precedence_set.proofs.MarkFacts.{IsMarked-kept, IsMarked-cases, IsMarked-set, unmarked_count-set}
 
 pub last_into-le : (pairs : List Pair) (k s : ℕ) → last_into pairs k s ≤ k

@@ -1,6 +1,6 @@
 -- What contracts see of the assumed pairs.
 use Rattle.std.specs.Prelude.{ℕ, List}
-use Rattle.precedence_set.specs.Pairs.{Pair}
+use Rattle.order_core.specs.Pairs.{Pair}
 
 -- the count of routers, the assumed pairs in order, the cycle of the latest pair that closed one,
 -- and for how many more pairs there is room

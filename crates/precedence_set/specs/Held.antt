@@ -1,7 +1,7 @@
 -- How the fields of `Precedences` hold the assumed pairs.
 use Rattle.std.specs.Prelude.{◌≡◌, ℕ, ◌+◌, ◌-◌, ◌*◌, ◌≤◌, [], ◌∷◌, length, take, vec_len}
 use Rattle.link_trail.specs.Lists.{lists_at_mark}
-use Rattle.precedence_set.specs.Pairs.{AreBelow, HasNoCycle}
+use Rattle.order_core.specs.Pairs.{AreBelow, HasNoCycle}
 use Rattle.precedence_set.specs.Successors.{AreSuccessors}
 use Rattle.precedence_set.specs.Assumed.{Assumed}
 use Rattle.precedence_set.specs.declared.precedences.Precedences.TheInside.{Inside}

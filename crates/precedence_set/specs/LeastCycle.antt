@@ -1,6 +1,6 @@
 -- The cycle that a pair (u, v) closes: from v back to u, each time to the lowest-numbered router.
 use Rattle.std.specs.Prelude.{◌≡◌, ◌≢◌, ℕ, ◌≤◌, List, [], ◌∷◌, Contains}
-use Rattle.precedence_set.specs.Pairs.{Pair, Reaches}
+use Rattle.order_core.specs.Pairs.{Pair, Reaches}
 
 -- w is assumed after x, and it is u or leads to u
 pub record LeadsBack (pairs : List Pair) (u x w : ℕ) : Type 0 where

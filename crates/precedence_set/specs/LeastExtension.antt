@@ -1,7 +1,7 @@
 -- The least extension of assumed pairs: place repeatedly the lowest-numbered router whose
 -- predecessors are all placed.
 use Rattle.std.specs.Prelude.{◌≡◌, ℕ, ◌<◌, ◌≤◌, List, length, take, slice_index, Contains}
-use Rattle.precedence_set.specs.Pairs.{Pair}
+use Rattle.order_core.specs.Pairs.{Pair}
 
 -- a router below n can be placed next: it isn't placed yet, and all that is assumed before it is
 pub record IsReady (n : ℕ) (pairs : List Pair) (placed : List ℕ) (r : ℕ) : Type 0 where

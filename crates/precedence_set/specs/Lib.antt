@@ -1,4 +1,5 @@
-pub mod Pairs
+pub use Rattle.order_core.specs.Orders
+pub use Rattle.order_core.specs.Pairs
 pub mod LeastExtension
 pub mod LeastCycle
 pub mod Assumed

@@ -1,9 +1,5 @@
--- Marks of routers: the router r is marked where place r is true.
-use Rattle.std.specs.Prelude.{◌≡◌, ℕ, ◌+◌, Bool, true, false, List, [], ◌∷◌, slice_index_or}
-
--- router r is marked
-abbrev pub IsMarked : List Bool → ℕ → Type 0
-IsMarked marks r = slice_index_or marks r false ≡ true
+-- How many routers aren't marked.
+use Rattle.std.specs.Prelude.{ℕ, ◌+◌, Bool, true, false, List, [], ◌∷◌}
 
 -- how many routers aren't marked
 abbrev pub unmarked_count : List Bool → ℕ

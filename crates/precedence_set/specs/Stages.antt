@@ -1,8 +1,8 @@
 -- The two lists of routers while an order is made: those that can be placed next, and those that are placed.
 use Rattle.std.specs.Prelude.{◌≡◌, ℕ, ◌<◌, ◌≤◌, ◌⊎◌, Bool, List, length, Option, Some, None, Contains}
 use Rattle.link_trail.specs.Lists.{list_at}
-use Rattle.precedence_set.specs.Pairs.{Pair}
-use Rattle.precedence_set.specs.Marks.{IsMarked}
+use Rattle.order_core.specs.Pairs.{Pair}
+use Rattle.order_core.specs.Marks.{IsMarked}
 use Rattle.precedence_set.specs.Waits.{IsFree}
 
 -- the first list has routers below n that can be placed next, the second has placed ones, and a listed

@@ -1,7 +1,7 @@
 -- How lists of pair numbers, one for each router, hold the successors of the routers.
 use Rattle.std.specs.Prelude.{◌≡◌, ◌≢◌, ℕ, suc, ◌<◌, ◌≤◌, ◌==◌, if◌then◌else◌, List, [], ◌∷◌, length, Option, Some, None}
 use Rattle.link_trail.specs.Lists.{list_at}
-use Rattle.precedence_set.specs.Pairs.{Pair}
+use Rattle.order_core.specs.Pairs.{Pair}
 use Rattle.precedence_set.specs.Waits.{pair_at}
 
 -- the numbers of the pairs from router u, where the pairs are numbered from s on

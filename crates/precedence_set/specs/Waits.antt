@@ -1,7 +1,7 @@
 -- Which pair a router waits for: of the pairs into it, the latest whose first router isn't placed.
 use Rattle.std.specs.Prelude.{◌≡◌, ℕ, zero, suc, ◌-◌, ◌<◌, ◌≤◌, ◌==◌, if◌then◌else◌, ◌⊎◌, Bool, List, length, slice_index, slice_index_or, Contains}
-use Rattle.precedence_set.specs.Pairs.{Pair}
-use Rattle.precedence_set.specs.Marks.{IsMarked}
+use Rattle.order_core.specs.Pairs.{Pair}
+use Rattle.order_core.specs.Marks.{IsMarked}
 
 -- the pair at place i
 abbrev pub pair_at : List Pair → ℕ → Pair

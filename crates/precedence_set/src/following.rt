@@ -1,6 +1,6 @@
 ghost use Rattle.std.specs.Prelude.{◌≡◌, ℕ, ◌<◌, ◌≤◌, length, Contains, Some, ◌⊎◌, IfSome, IfNone};
-ghost use Rattle.precedence_set.specs.Pairs.{AreBelow};
-ghost use Rattle.precedence_set.specs.Marks.{IsMarked};
+ghost use Rattle.order_core.specs.Pairs.{AreBelow};
+ghost use Rattle.order_core.specs.Marks.{IsMarked};
 ghost use Rattle.precedence_set.specs.Successors.{AreSuccessors, IsAtMost};
 
 use link_trail::Links;

@@ -1,9 +1,10 @@
 ghost use Rattle.std.specs.Prelude.{◌≡◌, ℕ, ◌+◌, ◌*◌, ◌^◌, ◌<◌, ◌≤◌, ◌⊎◌, [], ◌∷◌, length, slice_index, Contains, Some, None};
 ghost use Rattle.std.specs.Bool.{OnTrue, OnFalse};
 ghost use Rattle.link_trail.specs.Lists.{linked, list_at, lists_at_mark, unlinked};
-ghost use Rattle.precedence_set.specs.Pairs.{AreBelow, HasNoCycle};
+ghost use Rattle.order_core.specs.Pairs.{AreBelow, HasNoCycle};
 ghost use Rattle.precedence_set.specs.LeastExtension.{IsLeastExtension};
-ghost use Rattle.precedence_set.specs.Marks.{IsMarked, unmarked_count};
+ghost use Rattle.order_core.specs.Marks.{IsMarked};
+ghost use Rattle.precedence_set.specs.Marks.{unmarked_count};
 ghost use Rattle.precedence_set.specs.Waits.{HeadsChain, GoesOn, AllWait, IsFree, IsHeld};
 ghost use Rattle.precedence_set.specs.Stages.{AreStages, IsLowerOf, IsLowestOf};
 

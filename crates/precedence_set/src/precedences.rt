@@ -1,5 +1,5 @@
 ghost use Rattle.std.specs.Prelude.{◌≡◌, ◌≢◌, ◌+◌, ◌-◌, ◌<◌, ◌≤◌, ◌↔◌, [], ◌∷◌, ◌++◌, length, take, IfOk, OnOk, vec_len};
-ghost use Rattle.precedence_set.specs.Pairs.{AreBelow, HasNoCycle, Leads};
+ghost use Rattle.order_core.specs.Pairs.{AreBelow, HasNoCycle, Leads};
 ghost use Rattle.precedence_set.specs.LeastExtension.{IsLeastExtension};
 ghost use Rattle.precedence_set.specs.LeastCycle.{IsLeastCycle};
 

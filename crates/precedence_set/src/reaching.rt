@@ -1,7 +1,8 @@
 ghost use Rattle.std.specs.Prelude.{◌≡◌, ℕ, ◌^◌, ◌<◌, ◌≤◌, length, true, false, slice_set, Contains};
 ghost use Rattle.std.specs.Bool.{OnTrue, OnFalse};
-ghost use Rattle.precedence_set.specs.Pairs.{AreBelow, Reaches};
-ghost use Rattle.precedence_set.specs.Marks.{IsMarked, unmarked_count};
+ghost use Rattle.order_core.specs.Pairs.{AreBelow, Reaches};
+ghost use Rattle.order_core.specs.Marks.{IsMarked};
+ghost use Rattle.precedence_set.specs.Marks.{unmarked_count};
 ghost use Rattle.precedence_set.specs.Successors.{AreSuccessors};
 
 use crate::following::lowest_marked_after;

@@ -1,7 +1,7 @@
 ghost use Rattle.std.specs.Prelude.{◌≡◌, ◌≢◌, ℕ, ◌^◌, ◌<◌, ◌≤◌, length, take, Contains, IfSome, IfNone};
-ghost use Rattle.precedence_set.specs.Pairs.{AreBelow, HasNoCycle, Reaches};
+ghost use Rattle.order_core.specs.Pairs.{AreBelow, HasNoCycle, Reaches};
 ghost use Rattle.precedence_set.specs.LeastCycle.{IsLeastCycle};
-ghost use Rattle.precedence_set.specs.Marks.{IsMarked};
+ghost use Rattle.order_core.specs.Marks.{IsMarked};
 ghost use Rattle.precedence_set.specs.Successors.{AreSuccessors};
 
 use crate::following::lowest_marked_after;

@@ -4,7 +4,7 @@ use Rattle.std.specs.List.{AllZip}
 use Rattle.net_addr.specs.Lines.{line_texts}
 use Rattle.net_model.specs.Lookups.{IsNamed}
 use Rattle.net_model.specs.Network.{Network}
-use Rattle.igp_theory.specs.States.{IsOrder}
+use Rattle.order_core.specs.Orders.{IsOrder}
 use Rattle.step_scripts.specs.declared.kind.OrderKind.{OrderKind}
 use Rattle.step_scripts.specs.declared.kind.OrderKind.TheVariants.{Header, NotInNetwork, Twice, Missing}
 use Rattle.step_scripts.specs.declared.kind.OrderRefusal.{OrderRefusal}

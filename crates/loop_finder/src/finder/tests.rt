@@ -1,12 +1,12 @@
 ghost use Rattle.std.specs.Prelude.{◌≡◌, ◌≢◌, ◌<◌, ◌≤◌, [], ◌∷◌, length, IfOk};
 ghost use Rattle.net_model.specs.Configuration.{IsInterface};
 ghost use Rattle.route_core.specs.declared.entry.Entry.TheVariants.{Via};
-ghost use Rattle.igp_theory.specs.States.{IsOrder};
+ghost use Rattle.order_core.specs.Orders.{IsOrder};
 
 use super::*;
 use net_addr::{Name, Prefix};
 use net_model::{Config, Configs, Distances, Interface, Interfaces, Levels, Net, Ranges, Stubs};
-use order_search::Tag;
+use order_core::Tag;
 use route_core::{Entries, Entry, Hops, Table};
 use std::test::Fail;
 

@@ -1,6 +1,6 @@
 use Rattle.std.proofs.Common.{ℕ, ◌<◌, ◌↔◌}
 use Rattle.net_model.specs.Network.{Connected}
-use Rattle.precedence_set.specs.Marks.{IsMarked}
+use Rattle.order_core.specs.Marks.{IsMarked}
 use Rattle.loop_finder.proofs.class_fault.mark_forwarders.Given as goal
 
 abbrev pub invariant-loop-router : goal.invariant-loop-router

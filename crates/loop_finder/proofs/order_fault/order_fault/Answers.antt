@@ -1,9 +1,10 @@
 use Rattle.std.proofs.Common.{ℕ, length, ap, ◌∙◌, subst, arith, below_more}
 use Rattle.net_model.specs.Network.{Network}
+use Rattle.order_core.proofs.Orders.{order_length}
 use Rattle.igp_theory.specs.States.{State, state_of}
 use Rattle.loop_finder.specs.Faults.{state_in}
 use Rattle.loop_finder.specs.Verdicts.{Sound, Faulty}
-use Rattle.loop_finder.proofs.OrderStates.{same_state, order_length}
+use Rattle.loop_finder.proofs.OrderStates.{same_state}
 use Rattle.loop_finder.proofs.order_fault.order_fault.Goals as goal
 
 pub returns-in-Some-clause-within : goal.returns-in-Some-clause-within

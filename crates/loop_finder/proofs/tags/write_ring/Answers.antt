@@ -1,7 +1,7 @@
 use Rattle.std.proofs.Common.{ℕ, ◌≡◌, ◌+◌, ◌⊎◌, List, length, get_or, refl, subst, sym, arith}
 use Rattle.igp_theory.specs.declared.phase.Phase.TheVariants.{Old, New}
-use Rattle.order_search.specs.declared.turn.Turn.{Turn}
-use Rattle.loop_finder.specs.Faults.{state_in, ring_router}
+use Rattle.order_core.specs.declared.turn.Turn.{Turn}
+use Rattle.loop_finder.specs.Faults.{state_in}
 use Rattle.loop_finder.specs.Rings.{next_in}
 use Rattle.loop_finder.specs.Steps.{StepsBy, ClassStep, IsTagged}
 use Rattle.loop_finder.proofs.TagSteps.{old_or_new, ring_step, IsPartRing, IsPartRing-more, part_length, ring_whole}
@@ -25,8 +25,8 @@ pub loop-place-preserved : goal.loop-place-preserved
 loop-place-preserved g c =
     let router : ℕ = get_or c.args.routers.now c.loop-place.place 0 in
     let turn : Turn = record { router = router; tag = c.tag_of-tag.result } in
-    let tagged : IsTagged g.O.RouteSource.table g.N.RouteSource.table c.args.steps.now (ring_router turn) (next_in c.args.routers.now c.loop-place.place) =
-    subst (λ (n : ℕ). IsTagged g.O.RouteSource.table g.N.RouteSource.table c.args.steps.now (ring_router turn) n) c.next_router-next.ensures c.tag_of-tag.ensures in
+    let tagged : IsTagged g.O.RouteSource.table g.N.RouteSource.table c.args.steps.now turn (next_in c.args.routers.now c.loop-place.place) =
+    subst (λ (n : ℕ). IsTagged g.O.RouteSource.table g.N.RouteSource.table c.args.steps.now turn n) c.next_router-next.ensures c.tag_of-tag.ensures in
     record {
       part = subst (λ (ts : List Turn). IsPartRing g.O.RouteSource.table g.N.RouteSource.table c.args.steps.now c.args.routers.now ts (c.loop-place.place + 1)) (sym c.add_turn.ensures.items)
           (IsPartRing-more g.O.RouteSource.table g.N.RouteSource.table c.args.steps.now c.args.routers.now c.loop-place.ring.items c.loop-place.place turn c.loop-place-test.true refl tagged c.loop-place.invariant.part);

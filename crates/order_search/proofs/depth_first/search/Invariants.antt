@@ -1,6 +1,6 @@
 use Rattle.std.proofs.Common.{◌≡◌, ◌-◌, ℕ, List, reverse, vec_len}
 use Rattle.std.specs.Prelude.{◌↔◌}
-use Rattle.order_search.specs.declared.turn.Turn.{Turn}
+use Rattle.order_core.specs.declared.turn.Turn.{Turn}
 use Rattle.order_search.proofs.SearchSteps.{IsSearching}
 use Rattle.order_search.proofs.depth_first.search.Given as goal
 

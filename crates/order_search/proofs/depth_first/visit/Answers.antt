@@ -1,9 +1,9 @@
 -- A least extension is an order, and what is real and picked stays.
 use Rattle.std.proofs.Common.{◌<◌, ℕ, sym, subst}
 use Rattle.std.specs.List.{All}
-use Rattle.precedence_set.specs.Pairs.{IsOrder}
+use Rattle.order_core.specs.Orders.{IsOrder}
 use Rattle.precedence_set.proofs.Orders.{IsOrder-from_least}
-use Rattle.order_search.specs.declared.turn.Turn.{Turn}
+use Rattle.order_core.specs.declared.turn.Turn.{Turn}
 use Rattle.order_search.proofs.depth_first.visit.Goals as goal
 
 pub ask-requires : goal.ask-requires

@@ -1,10 +1,10 @@
 -- The child's pair is new to the pairs above it, so it is fresh where it closes no cycle.
 use Rattle.std.proofs.Common.{◌≡◌, ◌≤◌, ◌∷◌, [], ◌++◌, List, ℕ, length, take, arith, sym, subst, ap, refl, ◌∙◌}
 use Rattle.std.proofs.lemmas.List.{length-take}
-use Rattle.precedence_set.specs.Pairs.{Pair, Leads, Reaches}
+use Rattle.order_core.specs.Pairs.{Pair, Leads, Reaches}
 use Rattle.precedence_set.specs.Assumed.{Assumed}
 use Rattle.precedence_set.specs.LeastCycle.{IsLeastCycle}
-use Rattle.precedence_set.proofs.Paths.{Leads-from_Reaches}
+use Rattle.order_core.proofs.Paths.{Leads-from_Reaches}
 use Rattle.order_search.specs.Waiting.{AreFresh}
 use Rattle.order_search.proofs.FreshPairs.{few_fresh, AreFresh-take, AreFresh-push}
 use Rattle.order_search.proofs.LeafFacts.{GrowsLeaves-leaf}

@@ -4,7 +4,7 @@ use Rattle.std.specs.List.{Contains}
 use Rattle.std.proofs.lemmas.Bool.{false≢true}
 use Rattle.std.proofs.lemmas.List.{length_push}
 use Rattle.link_trail.specs.Lists.{linked, list_at}
-use Rattle.precedence_set.specs.Marks.{IsMarked}
+use Rattle.order_core.specs.Marks.{IsMarked}
 use Rattle.precedence_set.specs.Stages.{AreStages}
 use Rattle.precedence_set.proofs.MarkFacts.{unmarked_count-set}
 use Rattle.precedence_set.proofs.StageFacts.{AreStages-offer, ready-new}

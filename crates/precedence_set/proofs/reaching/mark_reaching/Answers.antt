@@ -1,4 +1,4 @@
-use Rattle.precedence_set.proofs.Paths.{Reaches-trans}
+use Rattle.order_core.proofs.Paths.{Reaches-trans}
 use Rattle.precedence_set.proofs.MarkFacts.{marked_along}
 use Rattle.precedence_set.proofs.reaching.mark_reaching.Goals as goal
 

@@ -1,6 +1,7 @@
 use Rattle.std.proofs.Common.{ℕ}
-use Rattle.precedence_set.specs.Pairs.{Reaches}
-use Rattle.precedence_set.specs.Marks.{IsMarked, unmarked_count}
+use Rattle.order_core.specs.Pairs.{Reaches}
+use Rattle.order_core.specs.Marks.{IsMarked}
+use Rattle.precedence_set.specs.Marks.{unmarked_count}
 use Rattle.precedence_set.proofs.reaching.mark_reaching.Given as goal
 
 abbrev pub invariant-loop : goal.invariant-loop

@@ -1,6 +1,6 @@
 use Rattle.std.proofs.Common.{arith, ◌<◌, ◌≤◌, ◌≢◌, ◌++◌, ◌∷◌, [], length, length-set, take, sym, subst, List, ℕ}
 use Rattle.std.proofs.lemmas.List.{take_more_set, length_push, length-take-le}
-use Rattle.precedence_set.specs.Pairs.{Pair, AreBelow, HasNoCycle, Reaches}
+use Rattle.order_core.specs.Pairs.{Pair, AreBelow, HasNoCycle, Reaches}
 use Rattle.precedence_set.specs.LeastCycle.{IsLowestBack}
 use Rattle.precedence_set.proofs.TraceFacts.{IsTraced, IsTraced-begins, IsTraced-below, IsTraced-push, IsTraced-reaches, IsTraced-differs, IsLowestBack-from_marks, IsLeastCycle-end, first_back, length-traced}
 use Rattle.precedence_set.proofs.tracing.trace_cycle.Goals as goal

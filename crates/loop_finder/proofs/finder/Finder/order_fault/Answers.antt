@@ -1,6 +1,7 @@
 use Rattle.std.proofs.Common.{◌↔◌, IsNone, length, subst, sym}
 use Rattle.route_core.specs.Tables.{HasEntry}
-use Rattle.igp_theory.specs.States.{IsOrder, IsSeamless}
+use Rattle.order_core.specs.Orders.{IsOrder}
+use Rattle.igp_theory.specs.States.{IsSeamless}
 use Rattle.loop_finder.specs.Faults.{Finding}
 use Rattle.loop_finder.proofs.FaultLaws.{none_seamless}
 use Rattle.loop_finder.proofs.finder.Finder.order_fault.Goals as goal

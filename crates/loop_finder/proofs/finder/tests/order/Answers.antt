@@ -2,8 +2,8 @@ use Rattle.std.proofs.Common.{◌≢◌, ℕ, zero, suc, ◌<◌, [], ◌∷◌,
 use Rattle.std.specs.List.{All, AllPairs}
 use Rattle.std.proofs.lemmas.List.Elements.{All-nil, All-cons, All-contains}
 use Rattle.std.proofs.lemmas.List.Quantifiers.{all_pairs_push}
-use Rattle.igp_theory.specs.States.{IsOrder}
-use Rattle.precedence_set.proofs.DistinctLists.{Contains-from_distinct}
+use Rattle.order_core.specs.Orders.{IsOrder}
+use Rattle.order_core.proofs.DistinctLists.{Contains-from_distinct}
 use Rattle.loop_finder.proofs.finder.tests.order.Goals as goal
 
 after_one : (a b : ℕ) → a ≢ b → (k d : ℕ) → k < length (a ∷ []) → get_or (a ∷ []) k d ≢ b

@@ -2,9 +2,9 @@
 use Rattle.std.proofs.Common.{◌≡◌, ◌<◌, List, take, length, arith, subst, sym, ap, refl, ◌∙◌, ℕ, ◌+◌}
 use Rattle.std.proofs.lemmas.List.{take_more_set, length_push, length-take-le}
 use Rattle.std.proofs.lemmas.List.Elements.{All-push}
-use Rattle.precedence_set.specs.Pairs.{Pair, AreBelow, HasNoCycle, Leads, Reaches}
+use Rattle.order_core.specs.Pairs.{Pair, AreBelow, HasNoCycle, Leads, Reaches}
 use Rattle.precedence_set.specs.Assumed.{Assumed}
-use Rattle.precedence_set.proofs.Paths.{HasNoCycle-push, Leads-from_Reaches, Reaches-from_Leads}
+use Rattle.order_core.proofs.Paths.{HasNoCycle-push, Leads-from_Reaches, Reaches-from_Leads}
 use Rattle.precedence_set.specs.Successors.{AreSuccessors}
 use Rattle.precedence_set.proofs.MarkedLinks.{AreMarked-now, AreMarked-linked, IsFree-next}
 use Rattle.precedence_set.proofs.precedences.Precedences.add.Goals as goal

@@ -1,5 +1,5 @@
 use Rattle.std.proofs.Common.{◌≡◌, List, ℕ, take, length, arith, subst, sym, ap, ◌∙◌}
-use Rattle.precedence_set.specs.Pairs.{Pair, HasNoCycle}
+use Rattle.order_core.specs.Pairs.{Pair, HasNoCycle}
 use Rattle.precedence_set.specs.Assumed.{Assumed}
 use Rattle.precedence_set.specs.LeastExtension.{IsLeastExtension}
 use Rattle.precedence_set.proofs.precedences.Precedences.least_extension.Goals as goal

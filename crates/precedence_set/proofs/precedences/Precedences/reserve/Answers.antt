@@ -1,7 +1,7 @@
 -- The pairs stay the first ones of the room.
 use Rattle.std.proofs.Common.{◌≡◌, ◌≤◌, ℕ, List, length, take, arith, subst, sym, ap, ◌∙◌}
 use Rattle.std.proofs.lemmas.List.{take-take}
-use Rattle.precedence_set.specs.Pairs.{Pair, AreBelow, HasNoCycle}
+use Rattle.order_core.specs.Pairs.{Pair, AreBelow, HasNoCycle}
 use Rattle.precedence_set.proofs.MarkedLinks.{AreMarked-same}
 use Rattle.precedence_set.proofs.precedences.Precedences.reserve.Goals as goal
 

@@ -2,9 +2,9 @@
 use Rattle.std.proofs.Common.{◌≤◌, ◌<◌, ◌≡◌, List, length, take, arith, subst, ap, ℕ, ◌∙◌}
 use Rattle.std.proofs.lemmas.List.{take-take, length-take-le}
 use Rattle.std.proofs.lemmas.List.Elements.{All-take}
-use Rattle.precedence_set.specs.Pairs.{Pair, AreBelow, HasNoCycle}
+use Rattle.order_core.specs.Pairs.{Pair, AreBelow, HasNoCycle}
 use Rattle.precedence_set.specs.Assumed.{Assumed}
-use Rattle.precedence_set.proofs.Paths.{HasNoCycle-take}
+use Rattle.order_core.proofs.Paths.{HasNoCycle-take}
 use Rattle.precedence_set.proofs.MarkedLinks.{AreMarked-undone}
 use Rattle.precedence_set.proofs.precedences.Precedences.undo_to.Goals as goal
 

@@ -3,8 +3,8 @@ use Rattle.std.proofs.Common.{◌≡◌, ◌≢◌, ℕ, zero, suc, ◌<◌, ◌
 use Rattle.std.specs.List.{All, AllPairs, Contains}
 use Rattle.std.proofs.lemmas.List.{take-append-drop}
 use Rattle.std.proofs.lemmas.List.Elements.{Contains-append_left, Contains-push_cases, All-contains, All-cons, All-nil}
-use Rattle.precedence_set.specs.Pairs.{Pair, IsPath, Leads, Reaches, HasNoCycle, AreBelow}
-use Rattle.precedence_set.proofs.DistinctLists.{AllPairs-cons, length-le_from_distinct}
+use Rattle.order_core.specs.Pairs.{Pair, IsPath, Leads, Reaches, HasNoCycle, AreBelow}
+use Rattle.order_core.proofs.DistinctLists.{AllPairs-cons, length-le_from_distinct}
 
 -- paths end to end
 pub IsPath-append : (pairs : List Pair) (u v w : ℕ) (a b : List ℕ) → IsPath pairs u a v → IsPath pairs v b w → IsPath pairs u (a ++ b) w

@@ -14,7 +14,7 @@ pub enum Tag {
 }
 
 impl Tag {
-    ghost use Rattle.order_search.specs.Turns.{is_old, is_new};
+    ghost use Rattle.order_core.specs.Turns.{is_old, is_new};
 
     /// Whether only the old routes step on.
     pub fn is_old(self) -> bool
@@ -48,7 +48,7 @@ pub struct Turns {
 
 impl Model for Turns {
     ghost use Rattle.std.specs.Prelude.{List};
-    ghost use Rattle.order_search.specs.declared.turn.Turn.{Turn};
+    ghost use Rattle.order_core.specs.declared.turn.Turn.{Turn};
 
     ghost Value = { List Turn };
 

@@ -1,5 +1,5 @@
--- Assumed pairs of routers, "u before v": where they lead, and orders of routers.
-use Rattle.std.specs.Prelude.{◌≡◌, ◌≢◌, ℕ, ◌<◌, ◌↔◌, List, [], ◌∷◌, length, slice_index, All, AllPairs, Contains}
+-- Pairs of routers, "u before v", and where they lead.
+use Rattle.std.specs.Prelude.{◌≡◌, ℕ, ◌<◌, List, [], ◌∷◌, All, Contains}
 
 -- the first router of a pair is assumed before the second
 abbrev pub Pair : Type 0
@@ -29,17 +29,3 @@ HasNoCycle pairs = (u : ℕ) → ¬ Leads pairs u u
 -- the pairs are of routers below n
 abbrev pub AreBelow : ℕ → List Pair → Type 0
 AreBelow n pairs = All (λ (p : Pair). (p.0 < n) × (p.1 < n)) pairs
-
--- an order lists every router below n once
-pub record IsOrder (n : ℕ) (order : List ℕ) : Type 0 where
-  pub once : AllPairs (λ u v. u ≢ v) order
-  pub all : (u : ℕ) → Contains order u ↔ u < n
-
--- u stands before v in an order: at an earlier place
-pub record IsBefore (order : List ℕ) (u v : ℕ) : Type 0 where
-  pub place : ℕ
-  pub later : ℕ
-  pub earlier : place < later
-  pub within : later < length order
-  pub first : slice_index order place ≡ u
-  pub second : slice_index order later ≡ v

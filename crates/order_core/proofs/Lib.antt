@@ -1,0 +1,6 @@
+pub mod DistinctLists
+pub mod Turning
+pub mod Orders
+pub mod Paths
+pub mod WaveLists
+mod WaveSteps
