@@ -9,7 +9,7 @@ use Rattle.net_model.specs.declared.refusal.NetRefusal.{NetRefusal}
 use Rattle.net_model.specs.declared.refusal.NetRefusal.TheVariants.{Limit, TwoNames, AddressTwice, PrefixInTwoAreas, BorderWithoutBackbone, OspfCostSum, IsisMetricSum, SystemIdTwice, StubMismatch, OutOfMemory}
 use Rattle.migration_report.specs.Texts.{network_text, NetworkBelow}
 use Rattle.migration_report.specs.Words.{names_of}
-use Rattle.migrate_cli.specs.AnswerTexts.{refusal_status}
+use Rattle.migrate_cli.specs.RefusalStatus.{refusal_status}
 use Rattle.migrate_cli.specs.Configurations.{ReadsTexts}
 use Rattle.migrate_cli.specs.Verdicts.{IsVerdict}
 use Rattle.migrate_cli.specs.Verdicts.IsVerdict.{above_limit, two_names, inconsistent}

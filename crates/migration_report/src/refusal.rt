@@ -1,6 +1,5 @@
-ghost use Rattle.std.specs.Prelude.{◌≡◌, ◌∷◌, [], IfOk, codes, decimal};
-ghost use Rattle.printed_lines.specs.Texts.{line};
-ghost use Rattle.migration_report.specs.Texts.{HasNames, refusal_text};
+ghost use Rattle.std.specs.Prelude.{◌≡◌, IfOk};
+ghost use Rattle.migration_report.specs.Texts.{HasNames, faulty_text, refusal_text};
 
 use crate::Names;
 use crate::kinds::{order_kind_name, read_kind_name};
@@ -98,7 +97,7 @@ pub fn refusal_text(alloc: Global, refusal: &Refusal<'_>) -> Result<Bytes, Alloc
 
 /// The line for a faulty line of a file.
 fn faulty_line(alloc: Global, file: &str, number: u32, kind: &[u8]) -> Result<Bytes, AllocError>
-    ensures { IfOk result (λ text. text ≡ line (codes "refused") (file.now ∷ decimal number ∷ kind.now ∷ [])) }
+    ensures { IfOk result (λ text. text ≡ faulty_text file.now number kind.now) }
 {
     let line = LineBuilder::start(alloc, b"refused")?.word(file.as_bytes())?;
     line.number(u64::from(number))?.word(kind)?.finish()

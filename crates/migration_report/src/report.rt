@@ -1,5 +1,6 @@
 ghost use Rattle.std.specs.Prelude.{◌≡◌, ◌<◌, ◌++◌, All, IfOk, length};
 ghost use Rattle.printed_lines.specs.Words.{spaced};
+ghost use Rattle.loop_finder.specs.Faults.{told_fault};
 ghost use Rattle.migration_report.specs.Words.{name_of, names_of};
 ghost use Rattle.migration_report.specs.Texts.{FaultBelow, ReportBelow, fault_words, report_text, ring_words};
 
@@ -56,7 +57,7 @@ fn fault_words(
 ) -> Result<LineBuilder, AllocError>
     requires fault { FaultBelow (length net.now) fault }
     requires ring { All (λ turn. turn.router < length net.now) ring.now }
-    ensures { IfOk result (λ longer. longer ≡ line ++ spaced (fault_words (names_of net.now) fault ring.now)) }
+    ensures { IfOk result (λ longer. longer ≡ line ++ spaced (fault_words (names_of net.now) (told_fault fault ring.now))) }
 {
     match fault {
         Fault::Loop { address } => {

@@ -1,8 +1,7 @@
 use Rattle.std.proofs.Common.{◌∙◌, map, string_bytes, sym, subst}
 use Rattle.net_model.specs.Refusals.{IsNetworkOf}
 use Rattle.migration_report.specs.Kinds.{read_kind_name}
-use Rattle.migration_report.specs.Texts.{network_text}
-use Rattle.migrate_cli.specs.AnswerTexts.{faulty_text}
+use Rattle.migration_report.specs.Texts.{faulty_text, network_text}
 use Rattle.migrate_cli.specs.Unread.{IsUnread}
 use Rattle.migrate_cli.specs.Verdicts.{IsVerdict}
 use Rattle.migrate_cli.specs.Verdicts.IsVerdict.{faulty_configuration}
