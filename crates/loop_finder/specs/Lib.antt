@@ -1,7 +1,6 @@
 pub use Rattle.igp_theory.specs.Forwarding
 pub use Rattle.igp_theory.specs.States
 pub use Rattle.igp_theory.specs.Loops
-pub use Rattle.order_core.specs.Orders
 pub use Rattle.order_core.specs.Turns
 pub mod Faults
 pub mod Live
