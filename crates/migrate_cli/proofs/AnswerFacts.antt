@@ -1,9 +1,9 @@
 -- Which answer each step of a call gives.
-use Rattle.std.proofs.Common.{◌≡◌, ◌≢◌, ◌⊎◌, inl, inr, ℕ, ◌≤◌, List, [], ◌∷◌, ◌++◌, length, Result, Ok, Err, IfOk, codes, refl, arith, ◌∙◌, sym, subst, append-nil}
+use Rattle.std.proofs.Common.{◌≡◌, ◌≢◌, ◌⊎◌, inl, inr, ℕ, ◌≤◌, List, [], ◌∷◌, ◌++◌, length, Result, Ok, Err, IfOk, refl, arith, ◌∙◌, sym, subst, append-nil}
 use Rattle.std.specs.declared.alloc.AllocError.{AllocError}
 use Rattle.igp_theory.specs.Routes.{Tables}
 use Rattle.net_model.specs.Network.{Network}
-use Rattle.printed_lines.specs.Texts.{line}
+use Rattle.migration_report.specs.Texts.{long_file_text, read_fault_text}
 use Rattle.migrate_cli.specs.Answers.{IsAnswer, MayAsk, FaultsAgree, StopAnswer, HasAnswer}
 use Rattle.migrate_cli.specs.Answers.IsAnswer.{other_words, many_files, read_fault, long_file, long_files, judged}
 use Rattle.migrate_cli.specs.Answers.MayAsk.{asks_none, asks_some}
@@ -73,7 +73,7 @@ stop_answer content words before after order files (Fault file) (Ok a) check few
       asked_is = read.asked_is;
       answers =
           subst (λ s. Q s a.text) (sym answer.0) (subst (Q ReadFault) (sym answer.1)
-          (subst (λ n. Q ReadFault (line (codes "read") (codes "fault" ∷ n ∷ []))) (sym named)
+          (subst (λ n. Q ReadFault (read_fault_text n)) (sym named)
           (read_fault order files read.asked read.reads.texts read.reads.name check few read.reads.up_to)));
     }
 stop_answer content words before after order files (Long file) (Ok a) check few read answer =
@@ -84,7 +84,7 @@ stop_answer content words before after order files (Long file) (Ok a) check few 
       asked_is = read.asked_is;
       answers =
           subst (λ s. Q s a.text) (sym answer.0) (subst (Q Limit) (sym answer.1)
-          (subst (λ n. Q Limit (line (codes "limit") (codes "bytes" ∷ n ∷ []))) (sym named)
+          (subst (λ n. Q Limit (long_file_text n)) (sym named)
           (long_file order files read.asked read.reads.texts read.reads.name check few read.reads.up_to read.reads.stops.1)));
     }
 stop_answer content words before after order files (Total number) (Ok a) check few read answer =

@@ -60,17 +60,37 @@ network_text names (SystemIdTwice u v) = line (codes "refused") (codes "network"
 network_text names (StubMismatch u v area) = line (codes "refused") (codes "network" ∷ codes "StubMismatch" ∷ name_of names u ∷ name_of names v ∷ decimal area ∷ [])
 network_text names OutOfMemory = []
 
+-- the words of the command are other words
+abbrev pub words_refused_text : List ℕ
+words_refused_text = line (codes "words") (codes "refused" ∷ [])
+
+-- a file can't be read
+abbrev pub read_fault_text : List ℕ → List ℕ
+read_fault_text file = line (codes "read") (codes "fault" ∷ file ∷ [])
+
+-- there are too many files
+abbrev pub many_files_text : ℕ → List ℕ
+many_files_text number = line (codes "limit") (codes "files" ∷ decimal number ∷ [])
+
+-- a file is too long
+abbrev pub long_file_text : List ℕ → List ℕ
+long_file_text file = line (codes "limit") (codes "bytes" ∷ file ∷ [])
+
+-- the files are too long together
+abbrev pub long_files_text : ℕ → List ℕ
+long_files_text number = line (codes "limit") (codes "total" ∷ decimal number ∷ [])
+
 -- why the input was refused
 abbrev pub refusal_text : Refusal → List ℕ
-refusal_text Words = line (codes "words") (codes "refused" ∷ [])
-refusal_text (Read file) = line (codes "read") (codes "fault" ∷ file.now ∷ [])
+refusal_text Words = words_refused_text
+refusal_text (Read file) = read_fault_text file.now
 refusal_text (Config file number kind) = faulty_text file.now number (read_kind_name kind)
 refusal_text (Order file number kind) = faulty_text file.now number (order_kind_name kind)
 refusal_text (Network refusal names) = network_text names.now refusal.now
 refusal_text (OffStart name) = off_start_text name.now
-refusal_text (Files number) = line (codes "limit") (codes "files" ∷ decimal number ∷ [])
-refusal_text (Length file) = line (codes "limit") (codes "bytes" ∷ file.now ∷ [])
-refusal_text (Total number) = line (codes "limit") (codes "total" ∷ decimal number ∷ [])
+refusal_text (Files number) = many_files_text number
+refusal_text (Length file) = long_file_text file.now
+refusal_text (Total number) = long_files_text number
 
 -- the router that a fault names is below the count
 abbrev pub FaultBelow : ℕ → Fault → Type 0

@@ -40,10 +40,13 @@ more_digits n word large front = record {
 pub decimal-IsNumeral : (n : ℕ) → n < 2 ^ 64 → IsNumeral (decimal n) n
 decimal-IsNumeral n fits = decimal_by_steps (λ (m : ℕ) (word : List ℕ). IsNumeral word m) one_digit more_digits n fits
 
-digit_in_word : (b : ℕ) → IsAsciiDigit b → IsWordByte b
-digit_in_word b digit =
-    let low : 48 ≤ b = digit.0 in
+-- a byte above the blank is one of a word
+pub IsWordByte-above_blank : (b : ℕ) → 32 < b → IsWordByte b
+IsWordByte-above_blank b above =
     record { no_space = λ e. omega arith; no_tab = λ e. omega arith; no_feed = λ e. omega arith; no_return = λ e. omega arith }
+
+digit_in_word : (b : ℕ) → IsAsciiDigit b → IsWordByte b
+digit_in_word b digit = let low : 48 ≤ b = digit.0 in IsWordByte-above_blank b (omega arith)
 
 pub decimal-IsPrintedWord : (n : ℕ) → n < 2 ^ 64 → IsPrintedWord (decimal n)
 decimal-IsPrintedWord n fits =
@@ -105,9 +108,6 @@ dotted-IsAddressWord a fits =
           (four_bytes a);
     }
 
-dot_in_word : IsWordByte 46
-dot_in_word = record { no_space = λ e. omega arith; no_tab = λ e. omega arith; no_feed = λ e. omega arith; no_return = λ e. omega arith }
-
 -- two words with a mark between them, a byte of a word, are a word
 pub marked-IsPrintedWord :
     (one other : List ℕ) (mark : ℕ) → IsWordByte mark → IsPrintedWord one → IsPrintedWord other → IsPrintedWord (one ++ mark ∷ other)
@@ -117,7 +117,7 @@ marked-IsPrintedWord one other mark byte first second = record {
 }
 
 with_dot : (one other : List ℕ) → IsPrintedWord one → IsPrintedWord other → IsPrintedWord (one ++ 46 ∷ other)
-with_dot one other first second = marked-IsPrintedWord one other 46 dot_in_word first second
+with_dot one other first second = marked-IsPrintedWord one other 46 (IsWordByte-above_blank 46 (omega arith)) first second
 
 byte_word : (n : ℕ) → n < 256 → IsPrintedWord (decimal n)
 byte_word n small = decimal-IsPrintedWord n (omega arith)
