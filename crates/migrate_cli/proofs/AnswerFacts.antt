@@ -6,8 +6,8 @@ use Rattle.igp_theory.specs.Routes.{Tables}
 use Rattle.net_model.specs.Network.{Network}
 use Rattle.net_model.specs.declared.refusal.NetRefusal.{NetRefusal}
 use Rattle.net_model.specs.declared.refusal.NetRefusal.TheVariants.{Limit as NetLimit, OutOfMemory as NoMemory}
-use Rattle.migration_report.specs.Words.{line}
-use Rattle.migrate_cli.specs.AnswerTexts.{refusal_status}
+use Rattle.migration_report.specs.Texts.{long_file_text, read_fault_text}
+use Rattle.migrate_cli.specs.RefusalStatus.{refusal_status}
 use Rattle.migrate_cli.specs.Answers.{IsAnswer, MayAsk, FaultsAgree, StopAnswer, HasAnswer}
 use Rattle.migrate_cli.specs.Answers.IsAnswer.{other_words, many_files, read_fault, long_file, long_files, judged}
 use Rattle.migrate_cli.specs.Answers.MayAsk.{asks_none, asks_some}
@@ -77,7 +77,7 @@ stop_answer content words before after order files (Fault file) (Ok a) check few
       asked_is = read.asked_is;
       answers =
           subst (λ s. Q s a.text) (sym answer.0) (subst (Q ReadFault) (sym answer.1)
-          (subst (λ n. Q ReadFault (line (codes "read") (codes "fault" ∷ n ∷ []))) (sym named)
+          (subst (λ n. Q ReadFault (read_fault_text n)) (sym named)
           (read_fault order files read.asked read.reads.texts read.reads.name check few read.reads.up_to)));
     }
 stop_answer content words before after order files (Long file) (Ok a) check few read answer =
@@ -88,7 +88,7 @@ stop_answer content words before after order files (Long file) (Ok a) check few 
       asked_is = read.asked_is;
       answers =
           subst (λ s. Q s a.text) (sym answer.0) (subst (Q Limit) (sym answer.1)
-          (subst (λ n. Q Limit (line (codes "limit") (codes "bytes" ∷ n ∷ []))) (sym named)
+          (subst (λ n. Q Limit (long_file_text n)) (sym named)
           (long_file order files read.asked read.reads.texts read.reads.name check few read.reads.up_to read.reads.stops.1)));
     }
 stop_answer content words before after order files (Total number) (Ok a) check few read answer =

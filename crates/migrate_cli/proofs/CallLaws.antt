@@ -1,7 +1,7 @@
 -- Where the files that an answer asks for are told, it is the one answer of the call besides a read fault.
 use Rattle.std.proofs.Common.{◌≡◌, ◌≢◌, ◌⊎◌, inl, inr, ℕ, ◌<◌, ◌≤◌, List, [], ◌∷◌, ◌++◌, length, All, refl, sym, subst, ◌∙◌, arith}
-use Rattle.std.specs.Prelude.{codes, decimal}
-use Rattle.migration_report.specs.Words.{line}
+use Rattle.std.specs.Prelude.{codes}
+use Rattle.migration_report.specs.Texts.{many_files_text, words_refused_text}
 use Rattle.migrate_cli.specs.AnswerLaws.{IsTold, MayEnd}
 use Rattle.migrate_cli.specs.AnswerLaws.MayEnd.{as_answered, by_read_fault}
 use Rattle.migrate_cli.specs.Answers.{IsAnswer}
@@ -22,7 +22,7 @@ SameAnswer asked s t also z w = (asked ≡ also) × (s ≡ z) × (t ≡ w)
 -- ---- the files of a call ----
 
 data OfFiles (content : Contents) (order : List ℕ) (files : List (List ℕ)) : List (List ℕ) → Status → List ℕ → Type 0 where
-  above : 200 < length files → OfFiles content order files [] Limit (line (codes "limit") (codes "files" ∷ decimal (length files) ∷ []))
+  above : 200 < length files → OfFiles content order files [] Limit (many_files_text (length files))
   stopped : {asked : List (List ℕ)} {status : Status} {answer : List ℕ} (before : List (List ℕ)) (name : List ℕ) (texts : List (List ℕ)) (text : List ℕ)
       → length files ≤ 200 → asked ≡ before ++ name ∷ [] → StopsAfter content (order ∷ files) before name texts text
       → IsBrokenSo name texts text status answer → OfFiles content order files asked status answer
@@ -79,7 +79,7 @@ module _ (content : Contents) (order : List ℕ) (files : List (List ℕ)) where
 -- ---- the words of a call ----
 
 data OfWords (content : Contents) (words : List (List ℕ)) : List (List ℕ) → Status → List ℕ → Type 0 where
-  no_check : ((order : List ℕ) (files : List (List ℕ)) → IsCheck words order files → ⊥) → OfWords content words [] Words (line (codes "words") (codes "refused" ∷ []))
+  no_check : ((order : List ℕ) (files : List (List ℕ)) → IsCheck words order files → ⊥) → OfWords content words [] Words words_refused_text
   a_check : {asked : List (List ℕ)} {status : Status} {answer : List ℕ} (order : List ℕ) (files : List (List ℕ)) → IsCheck words order files
       → OfFiles content order files asked status answer → OfWords content words asked status answer
 

@@ -1,5 +1,5 @@
--- What is printed of a fault.
-use Rattle.std.proofs.Common.{◌≡◌, ℕ, zero, suc, ◌<◌, List, [], ◌∷◌, length, map, All, decimal, codes, Some, refl, arith, ap, sym, ◌∙◌, subst}
+-- The routers that a fault names.
+use Rattle.std.proofs.Common.{◌≡◌, ℕ, zero, suc, ◌<◌, List, [], ◌∷◌, length, All, Some, arith, sym, ◌∙◌, subst}
 use Rattle.net_model.specs.Network.{Network}
 use Rattle.igp_theory.specs.Loops.{IsTagOf, IsTag, EachToNext, AroundRing, IsFault, missing_step, loop_arises}
 use Rattle.igp_theory.specs.Forwarding.{Steps}
@@ -9,29 +9,10 @@ use Rattle.igp_theory.specs.States.{State}
 use Rattle.loop_finder.specs.Faults.{told_fault, KeepsRing}
 use Rattle.loop_finder.specs.declared.fault.Fault.{Fault}
 use Rattle.loop_finder.specs.declared.fault.Fault.TheVariants.{Loop, Missing}
-use Rattle.order_core.specs.Turns.{routers_of}
 use Rattle.order_core.specs.declared.turn.Tag.{Tag}
 use Rattle.order_core.specs.declared.turn.Tag.TheVariants.{Old, New, Both}
 use Rattle.order_core.specs.declared.turn.Turn.{Turn}
-use Rattle.migration_report.specs.Texts as report
-use Rattle.migration_report.specs.Words.{line, dotted, name_of}
-use Rattle.migrate_cli.specs.AnswerTexts.{fault_words, unsafe_text}
 use Rattle.migrate_cli.specs.Faults.{NamesRouters}
-
--- the names of the routers of a ring are those of its turns
-ring_names : (names : List (List ℕ)) (turns : List Turn) → report.ring_words names turns ≡ map (name_of names) (routers_of turns)
-ring_names names [] = refl
-ring_names names (turn ∷ turns) = ap (λ some. name_of names turn.router ∷ some) (ring_names names turns)
-
--- the words of a fault with the turns beside it are those of the fault that they tell
-words_of : (names : List (List ℕ)) (fault : Fault) (turns : List Turn) → report.fault_words names fault turns ≡ fault_words names (told_fault fault turns)
-words_of names (Loop a) turns = ap (λ some. dotted a ∷ codes "loop" ∷ some) (ring_names names turns)
-words_of names (Missing a u) turns = refl
-
--- and so are their lines
-pub text_of : (names : List (List ℕ)) (state : ℕ) (fault : Fault) (turns : List Turn)
-    → line (codes "unsafe") (decimal state ∷ report.fault_words names fault turns) ≡ unsafe_text names state (told_fault fault turns)
-text_of names state fault turns = ap (λ some. line (codes "unsafe") (decimal state ∷ some)) (words_of names fault turns)
 
 -- a list of one element more
 All-cons : {X : Type 0} (P : X → Type 0) (x : X) (xs : List X) → P x → All P xs → All P (x ∷ xs)

@@ -1,9 +1,8 @@
 -- Where the files up to one are told, reading stops at it or it doesn't.
 use Rattle.std.proofs.Common.{◌≡◌, ℕ, ◌<◌, ◌≤◌, List, [], ◌∷◌, ◌++◌, Option, Some, None, IsSome, IfSome, length, take, All, refl, sym, ap, subst, ◌∙◌, append_assoc, arith}
-use Rattle.std.specs.Prelude.{codes, decimal}
 use Rattle.std.proofs.lemmas.List.Elements.{All-head, All-tail, All-contains, Contains-append_right}
 use Rattle.net_model.proofs.Members.{Contains-first}
-use Rattle.migration_report.specs.Words.{line}
+use Rattle.migration_report.specs.Texts.{long_file_text, long_files_text}
 use Rattle.migrate_cli.specs.AnswerLaws.{IsTold}
 use Rattle.migrate_cli.specs.Reading.{Contents, IsReadOf, AreRead, total_of_configs, IsShort, AreWithin}
 use Rattle.migrate_cli.specs.Stops.{IsFrontOf}
@@ -62,9 +61,9 @@ pub record StopsAfter (content : Contents) (names before : List (List ℕ)) (nam
 
 -- which limit that file breaks, and the answer
 pub data IsBrokenSo (name : List ℕ) (texts : List (List ℕ)) (text : List ℕ) : Status → List ℕ → Type 0 where
-  too_long : 16777216 < length text → IsBrokenSo name texts text Limit (line (codes "limit") (codes "bytes" ∷ name ∷ []))
+  too_long : 16777216 < length text → IsBrokenSo name texts text Limit (long_file_text name)
   too_many : (number : ℕ) → IsShort text → number ≡ total_of_configs (texts ++ text ∷ []) →
-      IsBrokenSo name texts text Limit (line (codes "limit") (codes "total" ∷ decimal number ∷ []))
+      IsBrokenSo name texts text Limit (long_files_text number)
 
 short_not_long : (text : List ℕ) → 16777216 < length text → IsShort text → ⊥
 short_not_long text above short = let most : length text ≤ 16777216 = short in omega (arith, above, most)
@@ -75,7 +74,7 @@ one_limit name texts text (too_long _) (too_long _) = (refl, refl)
 one_limit name texts text (too_long above) (too_many _ short _) = absurd (short_not_long text above short)
 one_limit name texts text (too_many _ short _) (too_long above) = absurd (short_not_long text above short)
 one_limit name texts text (too_many n _ is) (too_many m _ also) =
-    (refl, ap (λ number. line (codes "limit") (codes "total" ∷ decimal number ∷ [])) (is ∙ sym also))
+    (refl, ap (λ number. long_files_text number) (is ∙ sym also))
 
 module _ (content : Contents) where
   -- one text is read of a file that is told

@@ -16,9 +16,9 @@ use Rattle.net_model.proofs.RefusalLaws.{IsNetworkOf-unique, MakeNetwork-refused
 use Rattle.step_scripts.specs.Orders.{NamesOrder, IsLeastFaultyLine}
 use Rattle.step_scripts.specs.declared.kind.OrderKind.{OrderKind}
 use Rattle.migration_report.specs.Kinds.{read_kind_name, order_kind_name}
-use Rattle.migration_report.specs.Texts.{network_text}
+use Rattle.migration_report.specs.Texts.{faulty_text, network_text, off_start_text, unsafe_text}
 use Rattle.net_model.specs.RouterNames.{names_of}
-use Rattle.migrate_cli.specs.AnswerTexts.{faulty_text, off_start_text, refusal_status, unsafe_text}
+use Rattle.migrate_cli.specs.RefusalStatus.{refusal_status}
 use Rattle.migrate_cli.specs.Configurations.{ReadsTexts, IsFirstRefused, IsAtStart}
 use Rattle.migrate_cli.specs.Verdicts.{IsVerdict, IsOrderVerdict}
 use Rattle.migrate_cli.specs.Verdicts.IsOrderVerdict.{safe, unsafe}

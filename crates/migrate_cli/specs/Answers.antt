@@ -1,9 +1,9 @@
 -- What `check` answers to its words and its files.
-use Rattle.std.specs.Prelude.{◌≡◌, ◌≢◌, ℕ, ◌<◌, ◌≤◌, List, [], ◌∷◌, ◌++◌, Option, Result, Ok, Err, length, codes, decimal}
+use Rattle.std.specs.Prelude.{◌≡◌, ◌≢◌, ℕ, ◌<◌, ◌≤◌, List, [], ◌∷◌, ◌++◌, Option, Result, Ok, Err, length}
 use Rattle.std.specs.declared.alloc.AllocError.{AllocError}
 use Rattle.store_edge.specs.Faults.{Rose}
 use Rattle.store_edge.specs.Sink.{Adds, AddsFront}
-use Rattle.migration_report.specs.Words.{line}
+use Rattle.migration_report.specs.Texts.{long_file_text, long_files_text, many_files_text, read_fault_text, words_refused_text}
 use Rattle.migrate_cli.specs.CommandWords.{IsCheck}
 use Rattle.migrate_cli.specs.Reading.{Contents, AreRead, AreWithin, IsTooLong, PassesTotal, ReadUpTo}
 use Rattle.migrate_cli.specs.Verdicts.{IsVerdict}
@@ -17,18 +17,18 @@ use Rattle.migrate_cli.specs.declared.status.Status.TheVariants.{Words, ReadFaul
 -- each case, with the names that were asked for and the status and the text that answer it
 pub data IsAnswer (content : Contents) (words : List (List ℕ)) : List (List ℕ) → Status → List ℕ → Type 0 where
   other_words : ((order : List ℕ) (files : List (List ℕ)) → IsCheck words order files → ⊥) →
-      IsAnswer content words [] Words (line (codes "words") (codes "refused" ∷ []))
+      IsAnswer content words [] Words words_refused_text
   many_files : (order : List ℕ) (files : List (List ℕ)) → IsCheck words order files → FILES_MOST < length files →
-      IsAnswer content words [] Limit (line (codes "limit") (codes "files" ∷ decimal (length files) ∷ []))
+      IsAnswer content words [] Limit (many_files_text (length files))
   read_fault : (order : List ℕ) (files asked texts : List (List ℕ)) (file : List ℕ) → IsCheck words order files → length files ≤ FILES_MOST →
       ReadUpTo content (order ∷ files) asked texts file →
-      IsAnswer content words asked ReadFault (line (codes "read") (codes "fault" ∷ file ∷ []))
+      IsAnswer content words asked ReadFault (read_fault_text file)
   long_file : (order : List ℕ) (files asked texts : List (List ℕ)) (file : List ℕ) → IsCheck words order files → length files ≤ FILES_MOST →
       ReadUpTo content (order ∷ files) asked texts file → IsTooLong content file →
-      IsAnswer content words asked Limit (line (codes "limit") (codes "bytes" ∷ file ∷ []))
+      IsAnswer content words asked Limit (long_file_text file)
   long_files : (order : List ℕ) (files asked texts : List (List ℕ)) (file : List ℕ) (number : ℕ) → IsCheck words order files → length files ≤ FILES_MOST →
       ReadUpTo content (order ∷ files) asked texts file → PassesTotal content file texts number →
-      IsAnswer content words asked Limit (line (codes "limit") (codes "total" ∷ decimal number ∷ []))
+      IsAnswer content words asked Limit (long_files_text number)
   judged : (order : List ℕ) (files : List (List ℕ)) (order_text : List ℕ) (texts : List (List ℕ)) (status : Status) (text : List ℕ) →
       IsCheck words order files → length files ≤ FILES_MOST → AreRead content (order ∷ files) (order_text ∷ texts) → AreWithin (order_text ∷ texts) →
       IsVerdict order files order_text texts status text → IsAnswer content words (order ∷ files) status text
@@ -60,9 +60,9 @@ pub record Ran (content : Contents) (words asked_before asked_after : List (List
 
 -- the answer that reading stopped
 abbrev pub StopAnswer : Stop → Status → List ℕ → Type 0
-StopAnswer (Fault file) status text = (status ≡ ReadFault) × (text ≡ line (codes "read") (codes "fault" ∷ file.now ∷ []))
-StopAnswer (Long file) status text = (status ≡ Limit) × (text ≡ line (codes "limit") (codes "bytes" ∷ file.now ∷ []))
-StopAnswer (Total number) status text = (status ≡ Limit) × (text ≡ line (codes "limit") (codes "total" ∷ decimal number ∷ []))
+StopAnswer (Fault file) status text = (status ≡ ReadFault) × (text ≡ read_fault_text file.now)
+StopAnswer (Long file) status text = (status ≡ Limit) × (text ≡ long_file_text file.now)
+StopAnswer (Total number) status text = (status ≡ Limit) × (text ≡ long_files_text number)
 StopAnswer OutOfMemory status text = ⊥
 
 -- an answer, or want of memory

@@ -4,7 +4,7 @@ pub mod Stops
 pub mod Codes
 pub mod Configurations
 pub mod Unread
-pub mod AnswerTexts
+pub mod RefusalStatus
 pub mod Verdicts
 pub mod Answers
 pub mod AnswerLaws

@@ -1,5 +1,5 @@
 -- What `check` answers to the texts of an order file and of configuration files.
-use Rattle.std.specs.Prelude.{◌≡◌, ℕ, List, length, Some}
+use Rattle.std.specs.Prelude.{◌≡◌, ℕ, ◌*◌, List, length, Some}
 use Rattle.ios_reader.specs.declared.kind.ReadKind.{ReadKind}
 use Rattle.net_model.specs.Configuration.{Configuration}
 use Rattle.net_model.specs.Network.{Network, HasConfiguration}
@@ -14,9 +14,9 @@ use Rattle.igp_theory.specs.States.{IsSeamless}
 use Rattle.step_scripts.specs.Orders.{NamesOrder, IsLeastFaultyLine}
 use Rattle.step_scripts.specs.declared.kind.OrderKind.{OrderKind}
 use Rattle.migration_report.specs.Kinds.{read_kind_name, order_kind_name}
-use Rattle.migration_report.specs.Texts.{network_text}
+use Rattle.migration_report.specs.Texts.{faulty_text, network_text, off_start_text, safe_text, unsafe_text}
 use Rattle.net_model.specs.RouterNames.{names_of}
-use Rattle.migrate_cli.specs.AnswerTexts.{faulty_text, off_start_text, refusal_status, safe_text, unsafe_text}
+use Rattle.migrate_cli.specs.RefusalStatus.{refusal_status}
 use Rattle.migrate_cli.specs.Configurations.{ReadsTexts, IsFirstRefused, GiveNetwork, IsAtStart}
 use Rattle.migrate_cli.specs.declared.status.Status.{Status}
 use Rattle.migrate_cli.specs.declared.status.Status.TheVariants.{Done, Negative, Refused}
@@ -27,9 +27,9 @@ pub record GiveStart (texts : List (List ℕ)) (net : Network) : Type 0 where
   pub start : IsAtStart net
 
 -- what is answered of an order, by the tables of the two protocols: it is safe where every packet to an originated
--- address, along every equal-cost choice, is delivered in every state of it
+-- address, along every equal-cost choice, is delivered in every state of it; it has two distance changes for each router
 pub data IsOrderVerdict (net : Network) (old new : Tables) (order : List ℕ) : Status → List ℕ → Type 0 where
-  safe : IsSeamless net old new order → IsOrderVerdict net old new order Done (safe_text (length net))
+  safe : IsSeamless net old new order → IsOrderVerdict net old new order Done (safe_text (2 * length net))
   unsafe : (state : ℕ) (fault : Fault) → (IsSeamless net old new order → ⊥) → IsFirstFault net old new order state fault →
       IsOrderVerdict net old new order Negative (unsafe_text (names_of net) state fault)
 

@@ -1,6 +1,6 @@
 ghost use Rattle.std.specs.Prelude.{◌≡◌, ℕ, List, All, IfOk, length, map, string_bytes};
 ghost use Rattle.net_model.specs.declared.refusal.NetRefusal.{NetRefusal};
-ghost use Rattle.migrate_cli.specs.AnswerTexts.{refusal_status};
+ghost use Rattle.migrate_cli.specs.RefusalStatus.{refusal_status};
 ghost use Rattle.migrate_cli.specs.Configurations.{GiveNetwork};
 ghost use Rattle.migrate_cli.specs.Reading.{IsShort};
 ghost use Rattle.migrate_cli.specs.Verdicts.{IsVerdict};

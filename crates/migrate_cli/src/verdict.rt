@@ -6,9 +6,9 @@ ghost use Rattle.igp_theory.specs.Routes.{Tables};
 ghost use Rattle.order_core.specs.Orders.{IsOrder};
 ghost use Rattle.igp_theory.specs.States.{State};
 ghost use Rattle.loop_finder.specs.Faults.{told_fault};
+ghost use Rattle.migration_report.specs.Texts.{safe_text, unsafe_text};
 ghost use Rattle.net_model.specs.RouterNames.{names_of};
 ghost use Rattle.route_core.specs.Tables.{HasEntry};
-ghost use Rattle.migrate_cli.specs.AnswerTexts.{safe_text, unsafe_text};
 ghost use Rattle.migrate_cli.specs.Faults.{NamesRouters};
 ghost use Rattle.migrate_cli.specs.Verdicts.{IsOrderVerdict};
 
@@ -58,7 +58,7 @@ fn judge_between<O: RouteSource, N: RouteSource>(
 /// The answer that an order of the routers is safe.
 fn safe(alloc: Global, net: &Net) -> Result<Answer, OutOfMemory>
     ensures status { IfOk result (λ answer. answer.status ≡ Status.Done) }
-    ensures text { IfOk result (λ answer. answer.text ≡ safe_text (length net.now)) }
+    ensures text { IfOk result (λ answer. answer.text ≡ safe_text (2 * length net.now)) }
 {
     let changes = 2 * net.routers();
     let text = report_text(alloc, net, &Report::Safe { changes })?;

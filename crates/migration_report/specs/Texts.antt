@@ -2,10 +2,15 @@
 use Rattle.std.specs.Prelude.{◌≢◌, ℕ, ◌<◌, List, [], ◌∷◌, map, All, codes, decimal}
 use Rattle.net_model.specs.declared.refusal.NetRefusal.{NetRefusal}
 use Rattle.net_model.specs.declared.refusal.NetRefusal.TheVariants.{Limit, TwoNames, AddressTwice, PrefixInTwoAreas, BorderWithoutBackbone, OspfCostSum, IsisMetricSum, SystemIdTwice, StubMismatch, OutOfMemory}
+use Rattle.igp_theory.specs.Loops.{Fault as WholeFault, missing, loop}
+use Rattle.loop_finder.specs.Faults.{told_fault}
 use Rattle.loop_finder.specs.declared.fault.Fault.{Fault}
 use Rattle.loop_finder.specs.declared.fault.Fault.TheVariants.{Loop, Missing}
+use Rattle.order_core.specs.Turns.{routers_of}
 use Rattle.order_core.specs.declared.turn.Turn.{Turn}
-use Rattle.migration_report.specs.Words.{line, dotted, prefix_word, name_of}
+use Rattle.printed_lines.specs.Words.{dotted, prefix_word}
+use Rattle.printed_lines.specs.Texts.{line}
+use Rattle.migration_report.specs.Words.{name_of}
 use Rattle.migration_report.specs.Kinds.{read_kind_name, order_kind_name, limit_name}
 use Rattle.migration_report.specs.declared.report.Report.{Report}
 use Rattle.migration_report.specs.declared.report.Report.TheVariants.{Safe, Unsafe}
@@ -14,17 +19,33 @@ use Rattle.migration_report.specs.declared.refusal.Refusal.TheVariants.{Words, R
 
 -- the names of the routers of a ring, in order
 abbrev pub ring_words : List (List ℕ) → List Turn → List (List ℕ)
-ring_words names ring = map (λ (turn : Turn). name_of names turn.router) ring
+ring_words names ring = map (name_of names) (routers_of ring)
 
--- what is wrong in a state, and at which address
-abbrev pub fault_words : List (List ℕ) → Fault → List Turn → List (List ℕ)
-fault_words names (Loop a) ring = dotted a ∷ codes "loop" ∷ ring_words names ring
-fault_words names (Missing a u) ring = dotted a ∷ codes "missing" ∷ name_of names u ∷ []
+-- what is wrong in a state, and at which address, by the names of the routers
+abbrev pub fault_words : List (List ℕ) → WholeFault → List (List ℕ)
+fault_words names (missing a u) = dotted a ∷ codes "missing" ∷ name_of names u ∷ []
+fault_words names (loop a ring) = dotted a ∷ codes "loop" ∷ ring_words names ring
+
+-- an order is safe: the count of its changes
+abbrev pub safe_text : ℕ → List ℕ
+safe_text changes = line (codes "safe") (decimal changes ∷ [])
+
+-- an order isn't safe: the number of its first unsound state, and what is wrong there
+abbrev pub unsafe_text : List (List ℕ) → ℕ → WholeFault → List ℕ
+unsafe_text names state fault = line (codes "unsafe") (decimal state ∷ fault_words names fault)
 
 -- what was found of an order, by the names of the routers
 abbrev pub report_text : List (List ℕ) → Report → List ℕ
-report_text names (Safe changes) = line (codes "safe") (decimal changes ∷ [])
-report_text names (Unsafe state fault ring) = line (codes "unsafe") (decimal state ∷ fault_words names fault ring.now)
+report_text names (Safe changes) = safe_text changes
+report_text names (Unsafe state fault ring) = unsafe_text names state (told_fault fault ring.now)
+
+-- a line of a file is faulty
+abbrev pub faulty_text : List ℕ → ℕ → List ℕ → List ℕ
+faulty_text file number kind = line (codes "refused") (file ∷ decimal number ∷ kind ∷ [])
+
+-- a router isn't where a migration starts
+abbrev pub off_start_text : List ℕ → List ℕ
+off_start_text name = line (codes "refused") (codes "network" ∷ codes "NotAtStart" ∷ name ∷ [])
 
 -- why configurations make no network; want of memory is never printed
 abbrev pub network_text : NetRefusal → List ℕ
@@ -39,17 +60,37 @@ network_text (SystemIdTwice one two) = line (codes "refused") (codes "network" �
 network_text (StubMismatch one two area) = line (codes "refused") (codes "network" ∷ codes "StubMismatch" ∷ one ∷ two ∷ decimal area ∷ [])
 network_text OutOfMemory = []
 
+-- the words of the command are other words
+abbrev pub words_refused_text : List ℕ
+words_refused_text = line (codes "words") (codes "refused" ∷ [])
+
+-- a file can't be read
+abbrev pub read_fault_text : List ℕ → List ℕ
+read_fault_text file = line (codes "read") (codes "fault" ∷ file ∷ [])
+
+-- there are too many files
+abbrev pub many_files_text : ℕ → List ℕ
+many_files_text number = line (codes "limit") (codes "files" ∷ decimal number ∷ [])
+
+-- a file is too long
+abbrev pub long_file_text : List ℕ → List ℕ
+long_file_text file = line (codes "limit") (codes "bytes" ∷ file ∷ [])
+
+-- the files are too long together
+abbrev pub long_files_text : ℕ → List ℕ
+long_files_text number = line (codes "limit") (codes "total" ∷ decimal number ∷ [])
+
 -- why the input was refused
 abbrev pub refusal_text : Refusal → List ℕ
-refusal_text Words = line (codes "words") (codes "refused" ∷ [])
-refusal_text (Read file) = line (codes "read") (codes "fault" ∷ file.now ∷ [])
-refusal_text (Config file number kind) = line (codes "refused") (file.now ∷ decimal number ∷ read_kind_name kind ∷ [])
-refusal_text (Order file number kind) = line (codes "refused") (file.now ∷ decimal number ∷ order_kind_name kind ∷ [])
+refusal_text Words = words_refused_text
+refusal_text (Read file) = read_fault_text file.now
+refusal_text (Config file number kind) = faulty_text file.now number (read_kind_name kind)
+refusal_text (Order file number kind) = faulty_text file.now number (order_kind_name kind)
 refusal_text (Network refusal) = network_text refusal.now
-refusal_text (OffStart name) = line (codes "refused") (codes "network" ∷ codes "NotAtStart" ∷ name.now ∷ [])
-refusal_text (Files number) = line (codes "limit") (codes "files" ∷ decimal number ∷ [])
-refusal_text (Length file) = line (codes "limit") (codes "bytes" ∷ file.now ∷ [])
-refusal_text (Total number) = line (codes "limit") (codes "total" ∷ decimal number ∷ [])
+refusal_text (OffStart name) = off_start_text name.now
+refusal_text (Files number) = many_files_text number
+refusal_text (Length file) = long_file_text file.now
+refusal_text (Total number) = long_files_text number
 
 -- the router that a fault names is below the count
 abbrev pub FaultBelow : ℕ → Fault → Type 0

@@ -2,7 +2,6 @@
 #![tactic(auto)]
 
 mod kinds;
-mod line;
 mod network;
 mod refusal;
 mod report;

@@ -1,11 +1,12 @@
 ghost use Rattle.std.specs.Prelude.{◌≡◌, ◌≢◌, ◌∷◌, ◌++◌, [], IfOk, codes, decimal};
-ghost use Rattle.migration_report.specs.Words.{line, spaced};
+ghost use Rattle.printed_lines.specs.Words.{spaced};
+ghost use Rattle.printed_lines.specs.Texts.{line};
 ghost use Rattle.migration_report.specs.Texts.{network_text};
 
 use crate::kinds::limit_name;
-use crate::line::LineBuilder;
 use net_addr::{Bytes, Name};
 use net_model::NetRefusal;
+use printed_lines::LineBuilder;
 use std::alloc::{AllocError, Global};
 
 /// The line for configurations that make no network.

@@ -1,13 +1,12 @@
-ghost use Rattle.std.specs.Prelude.{◌≡◌, ◌∷◌, [], IfOk, codes, decimal};
-ghost use Rattle.migration_report.specs.Words.{line};
-ghost use Rattle.migration_report.specs.Texts.{IsPrinted, refusal_text};
+ghost use Rattle.std.specs.Prelude.{◌≡◌, IfOk};
+ghost use Rattle.migration_report.specs.Texts.{IsPrinted, faulty_text, refusal_text};
 
 use crate::kinds::{order_kind_name, read_kind_name};
-use crate::line::LineBuilder;
 use crate::network::{limit_text, network_text, refused};
 use ios_lines::ReadKind;
 use net_addr::{Bytes, Name};
 use net_model::NetRefusal;
+use printed_lines::LineBuilder;
 use std::alloc::{AllocError, Global};
 use step_scripts::OrderKind;
 
@@ -95,7 +94,7 @@ pub fn refusal_text(alloc: Global, refusal: &Refusal<'_>) -> Result<Bytes, Alloc
 
 /// The line for a faulty line of a file.
 fn faulty_line(alloc: Global, file: &str, number: u32, kind: &[u8]) -> Result<Bytes, AllocError>
-    ensures { IfOk result (λ text. text ≡ line (codes "refused") (file.now ∷ decimal number ∷ kind.now ∷ [])) }
+    ensures { IfOk result (λ text. text ≡ faulty_text file.now number kind.now) }
 {
     let line = LineBuilder::start(alloc, b"refused")?.word(file.as_bytes())?;
     line.number(u64::from(number))?.word(kind)?.finish()

@@ -1,13 +1,15 @@
 ghost use Rattle.std.specs.Prelude.{◌≡◌, ◌<◌, ◌++◌, All, IfOk, length};
+ghost use Rattle.printed_lines.specs.Words.{spaced};
+ghost use Rattle.loop_finder.specs.Faults.{told_fault};
 ghost use Rattle.net_model.specs.RouterNames.{names_of};
-ghost use Rattle.migration_report.specs.Words.{name_of, spaced};
+ghost use Rattle.migration_report.specs.Words.{name_of};
 ghost use Rattle.migration_report.specs.Texts.{FaultBelow, ReportBelow, fault_words, report_text, ring_words};
 
-use crate::line::LineBuilder;
 use loop_finder::Fault;
 use net_addr::Bytes;
 use net_model::Net;
 use order_core::Turn;
+use printed_lines::LineBuilder;
 use std::alloc::{AllocError, Global};
 
 /// What the planner found of an order.
@@ -56,7 +58,7 @@ fn fault_words(
 ) -> Result<LineBuilder, AllocError>
     requires fault { FaultBelow (length net.now) fault }
     requires ring { All (λ turn. turn.router < length net.now) ring.now }
-    ensures { IfOk result (λ longer. longer ≡ line ++ spaced (fault_words (names_of net.now) fault ring.now)) }
+    ensures { IfOk result (λ longer. longer ≡ line ++ spaced (fault_words (names_of net.now) (told_fault fault ring.now))) }
 {
     match fault {
         Fault::Loop { address } => {

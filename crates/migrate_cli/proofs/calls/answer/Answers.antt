@@ -1,7 +1,7 @@
-use Rattle.std.proofs.Common.{◌≡◌, ◌<◌, ◌≤◌, ◌∷◌, [], List, ℕ, IfOk, length, map, string_bytes, codes, decimal, arith, append-nil, sym, subst}
+use Rattle.std.proofs.Common.{◌≡◌, ◌<◌, ◌≤◌, ◌∷◌, [], List, ℕ, IfOk, length, map, string_bytes, arith, append-nil, sym, subst}
 use Rattle.std.proofs.lemmas.List.{length-map}
 use Rattle.std.proofs.lemmas.Result.{IfOk-weaker}
-use Rattle.migration_report.specs.Words.{line}
+use Rattle.migration_report.specs.Texts.{many_files_text, words_refused_text}
 use Rattle.migrate_cli.specs.Answers.{IsAnswer, MayAsk, FaultsAgree}
 use Rattle.migrate_cli.specs.Answers.IsAnswer.{other_words, many_files}
 use Rattle.migrate_cli.specs.Answers.MayAsk.{asks_none}
@@ -16,7 +16,7 @@ returns-in_default-clause-answer g c =
     let words = map string_bytes c.args.words.now in
     let asked = g.F.Files.asked c.args.files.now in
     answered content words asked asked [] c.refuse.result (sym (append-nil asked))
-    (from_refusal c.refuse.result Words (line (codes "words") (codes "refused" ∷ [])) (λ s t. IsAnswer content words [] s t) c.refuse.ensures.status c.refuse.ensures.text
+    (from_refusal c.refuse.result Words words_refused_text (λ s t. IsAnswer content words [] s t) c.refuse.ensures.status c.refuse.ensures.text
     (other_words c.in_default.ensures))
     asks_none
 
@@ -31,8 +31,8 @@ returns-then-number-gt-FILES_MOST-clause-answer g c =
     let r = c.refuse-then-number-gt-FILES_MOST in
     let many : 200 < length files = grind (arith, long) in
     answered content words asked asked [] r.result (sym (append-nil asked))
-    (from_refusal r.result Limit (line (codes "limit") (codes "files" ∷ decimal (length configs) ∷ [])) (λ s t. IsAnswer content words [] s t) r.ensures.status r.ensures.text
-    (subst (λ n. IsAnswer content words [] Limit (line (codes "limit") (codes "files" ∷ decimal n ∷ []))) long (many_files c.in-Some.check.order.now files c.in-Some.ensures many)))
+    (from_refusal r.result Limit (many_files_text (length configs)) (λ s t. IsAnswer content words [] s t) r.ensures.status r.ensures.text
+    (subst (λ n. IsAnswer content words [] Limit (many_files_text n)) long (many_files c.in-Some.check.order.now files c.in-Some.ensures many)))
     asks_none
 
 pub judge_texts-requires-clause-lengths : goal.judge_texts-requires-clause-lengths

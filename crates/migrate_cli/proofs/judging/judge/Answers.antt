@@ -1,7 +1,7 @@
 use Rattle.std.proofs.Common.{◌≡◌, ◌∙◌, None, Some, map, string_bytes, ap, sym, subst}
 use Rattle.migration_report.specs.Kinds.{read_kind_name}
-use Rattle.migration_report.specs.Texts.{network_text}
-use Rattle.migrate_cli.specs.AnswerTexts.{faulty_text, refusal_status}
+use Rattle.migration_report.specs.Texts.{faulty_text, network_text}
+use Rattle.migrate_cli.specs.RefusalStatus.{refusal_status}
 use Rattle.migrate_cli.specs.Unread.{IsUnread}
 use Rattle.migrate_cli.specs.Verdicts.{IsVerdict}
 use Rattle.migrate_cli.specs.Verdicts.IsVerdict.{faulty_configuration, no_network}

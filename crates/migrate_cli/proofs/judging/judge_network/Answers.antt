@@ -5,7 +5,7 @@ use Rattle.step_scripts.specs.Orders.{NamesOrder, IsLeastFaultyLine, RefusesOrde
 use Rattle.igp_theory.specs.Isis.{IsisEntry}
 use Rattle.igp_theory.specs.Ospf.{OspfEntry}
 use Rattle.migration_report.specs.Kinds.{order_kind_name}
-use Rattle.migrate_cli.specs.AnswerTexts.{faulty_text, off_start_text}
+use Rattle.migration_report.specs.Texts.{faulty_text, off_start_text}
 use Rattle.migrate_cli.specs.Configurations.{GiveNetwork}
 use Rattle.migrate_cli.specs.Verdicts.{IsVerdict, IsOrderVerdict}
 use Rattle.migrate_cli.specs.Verdicts.IsVerdict.{off_start, faulty_order, of_order}

@@ -1,11 +1,11 @@
-use Rattle.std.proofs.Common.{◌∙◌, ℕ, List, length, refl, ap, sym, subst}
+use Rattle.std.proofs.Common.{◌∙◌, ◌*◌, ℕ, List, length, refl, ap, sym, subst}
 use Rattle.igp_theory.specs.Loops.{IsFirstFault}
 use Rattle.igp_theory.specs.States.{IsSeamless, state_of}
 use Rattle.igp_theory.proofs.FaultLaws.{faulty_not_seamless}
 use Rattle.loop_finder.specs.Faults.{told_fault}
 use Rattle.net_model.specs.RouterNames.{names_of}
 use Rattle.route_core.specs.Tables.{HasEntry}
-use Rattle.migrate_cli.specs.AnswerTexts.{safe_text, unsafe_text}
+use Rattle.migration_report.specs.Texts.{safe_text, unsafe_text}
 use Rattle.migrate_cli.specs.Faults.{NamesRouters}
 use Rattle.migrate_cli.specs.Verdicts.{IsOrderVerdict}
 use Rattle.migrate_cli.specs.Verdicts.IsOrderVerdict.{safe, unsafe}
@@ -25,7 +25,7 @@ returns-in-None g c =
     let seamless = moved (λ net old new. IsSeamless net (HasEntry (table_old old)) (HasEntry (table_new new)) order)
     (ap (λ m. m.net) same ∙ c.in_ok-mixed.ensures.net) (ap (λ m. m.old) same ∙ c.in_ok-mixed.ensures.old) (ap (λ m. m.new) same ∙ c.in_ok-mixed.ensures.new)
     (c.in-None.ensures.seamless.0 refl) in
-    from_refusal c.safe.result Done (safe_text (length c.args.net.now))
+    from_refusal c.safe.result Done (safe_text (2 * length c.args.net.now))
     (λ s t. IsOrderVerdict c.args.net.now (HasEntry (table_old c.args.old.now)) (HasEntry (table_new c.args.new.now)) order s t) c.safe.ensures.status c.safe.ensures.text
     (safe seamless)
 

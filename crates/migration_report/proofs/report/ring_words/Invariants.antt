@@ -1,6 +1,6 @@
 use Rattle.std.proofs.Common.{◌≡◌, ◌++◌, take}
+use Rattle.printed_lines.specs.Words.{spaced}
 use Rattle.net_model.specs.RouterNames.{names_of}
-use Rattle.migration_report.specs.Words.{spaced}
 use Rattle.migration_report.specs.Texts.{ring_words}
 use Rattle.migration_report.proofs.report.ring_words.Given as goal
 

@@ -1,12 +1,12 @@
 ghost use Rattle.std.specs.Prelude.{◌≡◌, ◌∷◌, ◌++◌, [], IfOk, decimal};
-ghost use Rattle.migration_report.specs.Words.{dotted, prefix_word};
+ghost use Rattle.printed_lines.specs.Words.{dotted, prefix_word};
 
 use itoa::Buffer;
 use net_addr::{Bytes, Prefix};
 use std::alloc::{AllocError, Global};
 use std::marker::Model;
 
-/// A line that is being printed: words with one blank between each and the next.
+/// A line that is being printed: words with one blank between each and the next, and maybe a blank before the first.
 #[derive(Drop)]
 pub struct LineBuilder {
     bytes: Vec<u8>,
@@ -29,18 +29,26 @@ impl LineBuilder {
         Ok(LineBuilder { bytes })
     }
 
+    /// The line of a section, which begins with a blank and this word.
+    pub fn indented(alloc: Global, word: &[u8]) -> Result<LineBuilder, AllocError>
+        ensures { IfOk result (λ line. line ≡ 32 ∷ word.now) }
+    {
+        let bytes = Vec::new(alloc);
+        LineBuilder { bytes }.word(word)
+    }
+
     /// The line with one more word.
     pub fn word(self, word: &[u8]) -> Result<LineBuilder, AllocError>
         ensures { IfOk result (λ line. line ≡ self ++ 32 ∷ word.now) }
     {
-        self.joined(b' ', word)
+        self.attach(b' ', word)
     }
 
     /// The line with one more word, a number.
     pub fn number(self, number: u64) -> Result<LineBuilder, AllocError>
         ensures { IfOk result (λ line. line ≡ self ++ 32 ∷ decimal number) }
     {
-        self.joined_number(b' ', number)
+        self.attach_number(b' ', number)
     }
 
     /// The line with one more word, an address in dotted decimal.
@@ -48,10 +56,10 @@ impl LineBuilder {
         ensures { IfOk result (λ line. line ≡ self ++ 32 ∷ dotted address) }
     {
         let address = u64::from(address);
-        self.joined_number(b' ', address / 16777216)?
-            .joined_number(b'.', address / 65536 % 256)?
-            .joined_number(b'.', address / 256 % 256)?
-            .joined_number(b'.', address % 256)
+        self.attach_number(b' ', address / 16777216)?
+            .attach_number(b'.', address / 65536 % 256)?
+            .attach_number(b'.', address / 256 % 256)?
+            .attach_number(b'.', address % 256)
     }
 
     /// The line with one more word, a prefix.
@@ -59,10 +67,20 @@ impl LineBuilder {
         ensures { IfOk result (λ line. line ≡ self ++ 32 ∷ prefix_word prefix) }
     {
         self.address(prefix.base())?
-            .joined_number(b'/', u64::from(prefix.len()))
+            .attach_number(b'/', u64::from(prefix.len()))
     }
 
-    /// The bytes of the line, with a line feed at its end.
+    /// The line with a mark and some bytes more at the end of its last word, as `:O` behind the name of a router.
+    pub fn attach(self, mark: u8, more: &[u8]) -> Result<LineBuilder, AllocError>
+        ensures { IfOk result (λ line. line ≡ self ++ mark ∷ more.now) }
+    {
+        let LineBuilder { mut bytes } = self;
+        bytes.push(mark)?;
+        bytes.extend_from_slice(more)?;
+        Ok(LineBuilder { bytes })
+    }
+
+    /// The text of this one line: its bytes with a line feed at their end.
     pub fn finish(self) -> Result<Bytes, AllocError>
         ensures { IfOk result (λ text. text ≡ self ++ 10 ∷ []) }
     {
@@ -71,21 +89,11 @@ impl LineBuilder {
         Ok(Bytes::from_vec(bytes))
     }
 
-    /// The line with a byte and a number more.
-    fn joined_number(self, join: u8, number: u64) -> Result<LineBuilder, AllocError>
-        ensures { IfOk result (λ line. line ≡ self ++ join ∷ decimal number) }
+    /// The line with a mark and a number more at the end of its last word.
+    fn attach_number(self, mark: u8, number: u64) -> Result<LineBuilder, AllocError>
+        ensures { IfOk result (λ line. line ≡ self ++ mark ∷ decimal number) }
     {
         let mut buffer = Buffer::new();
-        self.joined(join, buffer.format(number).as_bytes())
-    }
-
-    /// The line with a byte and some bytes more.
-    fn joined(self, join: u8, more: &[u8]) -> Result<LineBuilder, AllocError>
-        ensures { IfOk result (λ line. line ≡ self ++ join ∷ more.now) }
-    {
-        let LineBuilder { mut bytes } = self;
-        bytes.push(join)?;
-        bytes.extend_from_slice(more)?;
-        Ok(LineBuilder { bytes })
+        self.attach(mark, buffer.format(number).as_bytes())
     }
 }

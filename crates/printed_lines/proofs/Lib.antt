@@ -1,0 +1,3 @@
+pub mod LineFacts
+pub mod WordFacts
+pub mod NumberFacts
