@@ -33,9 +33,9 @@ originated_block net p network o =
 -- an address has one target
 one_target : (net : Network) (a : ℕ) (p q : Block) → IsNetwork net → IsTarget net a p → IsTarget net a q → p ≡ q
 one_target net a p q network one two =
-    let below : p.len ≤ q.len = two.longest p one.offered one.contains in
-    let above : q.len ≤ p.len = one.longest q two.offered two.contains in
-    same_block p q a (originated_block net p network one.offered) (originated_block net q network two.offered) (omega arith) one.contains two.contains
+    let below : p.len ≤ q.len = two.longest p one.originated one.contains in
+    let above : q.len ≤ p.len = one.longest q two.originated two.contains in
+    same_block p q a (originated_block net p network one.originated) (originated_block net q network two.originated) (omega arith) one.contains two.contains
 
 -- the routers at which the target isn't connected have to pass packets on
 pub forwarders_from : (net : Network) (a : ℕ) (p : Block) (forwards : List Bool) → IsNetwork net → IsTarget net a p

@@ -6,4 +6,3 @@ pub mod AddressWords
 pub mod Spans
 pub mod Blanks
 pub mod Lines
-pub mod LongestMatch

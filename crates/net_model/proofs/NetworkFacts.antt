@@ -99,8 +99,8 @@ LeastArc-unique net z u v c d h k = omega (arith, h.least d k.adjacent, k.least 
 
 pub LongestConnected-unique : (net : Network) (u a : ℕ) (p q : Block) → IsNetwork net → LongestConnected net u a p → LongestConnected net u a q → p ≡ q
 LongestConnected-unique net u a p q n h k =
-    same_block p q a (Connected-block net u p n h.offered) (Connected-block net u q n k.offered)
-    (omega (arith, h.longest q k.offered k.contains, k.longest p h.offered h.contains)) h.contains k.contains
+    same_block p q a (Connected-block net u p n h.connected) (Connected-block net u q n k.connected)
+    (omega (arith, h.longest q k.connected k.contains, k.longest p h.connected h.contains)) h.contains k.contains
 
 named_apart : (net : Network) (name : List ℕ) (u v : ℕ) → NamesAscend net → IsNamed net name u → IsNamed net name v → u < v → ⊥
 named_apart net name u v up h k l =

@@ -80,12 +80,12 @@ longest_alike prefixes a b None blocks one two p member = (
 )
 longest_alike prefixes a b (Some place) blocks one two p member =
     let same : one.prefix ≡ two.prefix = same_Some one.prefix two.prefix (sym one.stands ∙ two.stands) in (
-      longer_contains prefixes a b p one.prefix blocks member (place_member prefixes place one.prefix one.stands) one.is_match.contains
-          (subst (λ (q : Block). ContainsAddress q b) (sym same) two.is_match.contains)
-          (one.is_match.longest p member),
-      longer_contains prefixes b a p two.prefix blocks member (place_member prefixes place two.prefix two.stands) two.is_match.contains
-          (subst (λ (q : Block). ContainsAddress q a) same one.is_match.contains)
-          (two.is_match.longest p member),
+      longer_contains prefixes a b p one.prefix blocks member (place_member prefixes place one.prefix one.stands) one.contains
+          (subst (λ (q : Block). ContainsAddress q b) (sym same) two.contains)
+          (All-contains (λ q. ContainsAddress q a → q.len ≤ one.prefix.len) prefixes p one.longest member),
+      longer_contains prefixes b a p two.prefix blocks member (place_member prefixes place two.prefix two.stands) two.contains
+          (subst (λ (q : Block). ContainsAddress q a) same one.contains)
+          (All-contains (λ q. ContainsAddress q b → q.len ≤ two.prefix.len) prefixes p two.longest member),
     )
   where
     place_member : (prefixes : List Block) (place : ℕ) (p : Block) → slice_get prefixes place ≡ Some p → Contains prefixes p
@@ -118,20 +118,20 @@ alike_longest : (prefixes : List Block) (a b : ℕ) (o r : Option ℕ) → All I
 alike_longest prefixes a b None None blocks apart one two alike = refl
 alike_longest prefixes a b None (Some j) blocks apart one two alike =
     let member : Contains prefixes two.prefix = (j, slice_get_within prefixes j two.prefix two.stands, get_or_from_slice_get prefixes j two.prefix two.prefix two.stands) in
-    absurd (All-contains (λ q. ¬ ContainsAddress q a) prefixes two.prefix one member ((alike two.prefix member).1 two.is_match.contains))
+    absurd (All-contains (λ q. ¬ ContainsAddress q a) prefixes two.prefix one member ((alike two.prefix member).1 two.contains))
 alike_longest prefixes a b (Some i) None blocks apart one two alike =
     let member : Contains prefixes one.prefix = (i, slice_get_within prefixes i one.prefix one.stands, get_or_from_slice_get prefixes i one.prefix one.prefix one.stands) in
-    absurd (All-contains (λ q. ¬ ContainsAddress q b) prefixes one.prefix two member ((alike one.prefix member).0 one.is_match.contains))
+    absurd (All-contains (λ q. ¬ ContainsAddress q b) prefixes one.prefix two member ((alike one.prefix member).0 one.contains))
 alike_longest prefixes a b (Some i) (Some j) blocks apart one two alike =
     let in_one : Contains prefixes one.prefix = (i, slice_get_within prefixes i one.prefix one.stands, get_or_from_slice_get prefixes i one.prefix one.prefix one.stands) in
     let in_two : Contains prefixes two.prefix = (j, slice_get_within prefixes j two.prefix two.stands, get_or_from_slice_get prefixes j two.prefix two.prefix two.stands) in
-    let one_at_b : ContainsAddress one.prefix b = (alike one.prefix in_one).0 one.is_match.contains in
-    let two_at_a : ContainsAddress two.prefix a = (alike two.prefix in_two).1 two.is_match.contains in
-    let up : one.prefix.len ≤ two.prefix.len = two.is_match.longest one.prefix in_one one_at_b in
-    let down : two.prefix.len ≤ one.prefix.len = one.is_match.longest two.prefix in_two two_at_a in
+    let one_at_b : ContainsAddress one.prefix b = (alike one.prefix in_one).0 one.contains in
+    let two_at_a : ContainsAddress two.prefix a = (alike two.prefix in_two).1 two.contains in
+    let up : one.prefix.len ≤ two.prefix.len = All-contains (λ q. ContainsAddress q b → q.len ≤ two.prefix.len) prefixes one.prefix two.longest in_one one_at_b in
+    let down : two.prefix.len ≤ one.prefix.len = All-contains (λ q. ContainsAddress q a → q.len ≤ one.prefix.len) prefixes two.prefix one.longest in_two two_at_a in
     let len : one.prefix.len ≡ two.prefix.len = omega arith in
     let same : one.prefix ≡ two.prefix = same_block one.prefix two.prefix a
-    (All-contains IsBlock prefixes one.prefix blocks in_one) (All-contains IsBlock prefixes two.prefix blocks in_two) len one.is_match.contains two_at_a in
+    (All-contains IsBlock prefixes one.prefix blocks in_one) (All-contains IsBlock prefixes two.prefix blocks in_two) len one.contains two_at_a in
     ap Some (one_place prefixes i j two.prefix apart (subst (λ (q : Block). slice_get prefixes i ≡ Some q) same one.stands) two.stands)
 
 -- Keys

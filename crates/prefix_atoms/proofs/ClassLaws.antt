@@ -41,8 +41,8 @@ counting_occurs {u = u} (new_counts {e = e} _ listed) = new_occurs u e listed
 
 same_target : {net : Network} {old new : Tables} {a b : ℕ} → OccurAlike net old new a b → (p : Block) → IsTarget net a p → IsTarget net b p
 same_target {net} {old} {new} h p t = record {
-  offered = t.offered;
-  contains = h.to p (originated_occurs old new t.offered) t.contains;
+  originated = t.originated;
+  contains = h.to p (originated_occurs old new t.originated) t.contains;
   longest = λ q o inside. t.longest q o (h.from q (originated_occurs old new o) inside);
 }
 
@@ -53,29 +53,23 @@ has_target_alike h None none = λ p t. none p (same_target (flip h) p t)
 
 same_connected : {net : Network} {old new : Tables} {a b : ℕ} → OccurAlike net old new a b → (u : ℕ) (p : Block) → LongestConnected net u a p → LongestConnected net u b p
 same_connected h u p t = record {
-  offered = t.offered;
-  contains = h.to p (connected_occurs u t.offered) t.contains;
+  connected = t.connected;
+  contains = h.to p (connected_occurs u t.connected) t.contains;
   longest = λ q o inside. t.longest q o (h.from q (connected_occurs u o) inside);
 }
 
 same_old : {net : Network} {old new : Tables} {a b : ℕ} → OccurAlike net old new a b → (u : ℕ) (p : Block) (e : Entry) → LongestOf old u a p e → LongestOf old u b p e
 same_old h u p e t = record {
   listed = t.listed;
-  is_match = record {
-    offered = t.is_match.offered;
-    contains = h.to p (old_occurs u e t.listed) t.is_match.contains;
-    longest = λ q o inside. t.is_match.longest q o (h.from q (old_occurs u o.0 o.1) inside);
-  };
+  contains = h.to p (old_occurs u e t.listed) t.contains;
+  longest = λ q f o inside. t.longest q f o (h.from q (old_occurs u f o) inside);
 }
 
 same_new : {net : Network} {old new : Tables} {a b : ℕ} → OccurAlike net old new a b → (u : ℕ) (p : Block) (e : Entry) → LongestOf new u a p e → LongestOf new u b p e
 same_new h u p e t = record {
   listed = t.listed;
-  is_match = record {
-    offered = t.is_match.offered;
-    contains = h.to p (new_occurs u e t.listed) t.is_match.contains;
-    longest = λ q o inside. t.is_match.longest q o (h.from q (new_occurs u o.0 o.1) inside);
-  };
+  contains = h.to p (new_occurs u e t.listed) t.contains;
+  longest = λ q f o inside. t.longest q f o (h.from q (new_occurs u f o) inside);
 }
 
 same_used : {net : Network} {old new : Tables} {a b : ℕ} → OccurAlike net old new a b → (u : ℕ) (phase : Phase) (x : Usable) →

@@ -2,15 +2,14 @@
 use Rattle.std.proofs.Common.{◌≡◌, ℕ, zero, suc, ◌+◌, ◌<◌, ◌≤◌, List, [], ◌∷◌, ◌++◌, length, take, get_or, set, Option, Some, None, IfSome, All, slice_get, ⊎_elim, arith, refl, sym, ap, subst, ◌∙◌, ◌≢◌, below_more, get_or-set_other, get_or-set_same, replicate}
 use Rattle.std.proofs.lemmas.Bool.{cases_lt}
 use Rattle.std.proofs.lemmas.List.{length-take-le, length-set, length-replicate, get_or-replicate}
-use Rattle.std.proofs.lemmas.List.Elements.{All-contains, All-nil, All-push, All-weaker, Contains-get_or}
+use Rattle.std.proofs.lemmas.List.Elements.{All-nil, All-push, All-weaker}
 use Rattle.std.proofs.lemmas.Option.{slice_get_within, slice_get-get_or, get_or_from_slice_get}
 use Rattle.std.specs.List.Sorted.{IsStrictlyIncreasing}
 use Rattle.net_addr.specs.Addresses.{Block, block_at, ContainsAddress, IsBlock}
 use Rattle.net_addr.specs.Boundaries.{last_address}
-use Rattle.net_addr.specs.LongestMatch.{IsMatchAtPlace}
 use Rattle.net_addr.proofs.Blocks.{block_size, ContainsAddress-bounds, ContainsAddress-between}
 use Rattle.net_addr.proofs.BoundaryFacts.{last_address-after}
-use Rattle.prefix_atoms.specs.Lists.{IsLongest, AreLongest, TakesLongerPlace, IsPlaceOf, IsPrefixAt, IsLongestPrefix}
+use Rattle.prefix_atoms.specs.Lists.{LongestAt, IsLongest, AreLongest, TakesLonger, IsPlaceOf, IsPrefixAt, IsLongestPrefix}
 use Rattle.prefix_atoms.proofs.Ascending.{at_most_later}
 use Rattle.prefix_atoms.proofs.Collected.{take_place}
 
@@ -32,45 +31,37 @@ NoLonger a len q = ContainsAddress q a → q.len ≤ len
 abbrev Misses : ℕ → Block → Type 0
 Misses a q = ¬ ContainsAddress q a
 
--- none of the prefixes that contain the address is longer than the longest match
-none_longer : (xs : List Block) (a place : ℕ) (h : IsMatchAtPlace xs a place) → All (NoLonger a h.prefix.len) xs
-none_longer xs a place h = λ k d below inside. h.is_match.longest (get_or xs k d) (Contains-get_or xs k d below) inside
-
-match_at : (xs : List Block) (a place : ℕ) (p : Block) → slice_get xs place ≡ Some p → ContainsAddress p a → All (NoLonger a p.len) xs → IsMatchAtPlace xs a place
-match_at xs a place p stands inside longest = record {
-  prefix = p;
-  stands = stands;
-  is_match = record {
-    offered = (place, slice_get_within xs place p stands, get_or_from_slice_get xs place p p stands);
-    contains = inside;
-    longest = λ q has. All-contains (NoLonger a p.len) xs q longest has;
-  };
+kept_at : (xs : List Block) (a place : ℕ) (next : Block) (h : LongestAt xs a place) → (ContainsAddress next a → next.len ≤ h.prefix.len) → LongestAt (xs ++ next ∷ []) a place
+kept_at xs a place next h short = record {
+  prefix = h.prefix;
+  stands = slice_get-push_old xs next place h.prefix h.stands;
+  contains = h.contains;
+  longest = All-push (NoLonger a h.prefix.len) xs next h.longest short;
 }
-
-kept_at : (xs : List Block) (a place : ℕ) (next : Block) (h : IsMatchAtPlace xs a place) → (ContainsAddress next a → next.len ≤ h.prefix.len) → IsMatchAtPlace (xs ++ next ∷ []) a place
-kept_at xs a place next h short =
-    match_at (xs ++ next ∷ []) a place h.prefix (slice_get-push_old xs next place h.prefix h.stands) h.is_match.contains
-    (All-push (NoLonger a h.prefix.len) xs next (none_longer xs a place h) short)
 
 -- a prefix that doesn't contain the address changes nothing
 longest_kept : (xs : List Block) (a : ℕ) (next : Block) (o : Option ℕ) → IsLongest xs a o → ¬ ContainsAddress next a → IsLongest (xs ++ next ∷ []) a o
 longest_kept xs a next None h out = All-push (Misses a) xs next h out
 longest_kept xs a next (Some place) h out = kept_at xs a place next h (λ inside. absurd (out inside))
 
-taken_at : (xs : List Block) (a : ℕ) (next : Block) → ContainsAddress next a → All (NoLonger a next.len) xs → IsMatchAtPlace (xs ++ next ∷ []) a (length xs)
-taken_at xs a next inside longest =
-    match_at (xs ++ next ∷ []) a (length xs) next (slice_get-push_new xs next) inside (All-push (NoLonger a next.len) xs next longest (λ _. omega arith))
+taken_at : (xs : List Block) (a : ℕ) (next : Block) → ContainsAddress next a → All (NoLonger a next.len) xs → LongestAt (xs ++ next ∷ []) a (length xs)
+taken_at xs a next inside longest = record {
+  prefix = next;
+  stands = slice_get-push_new xs next;
+  contains = inside;
+  longest = All-push (NoLonger a next.len) xs next longest (λ _. omega arith);
+}
 
 -- the longer of the one before and the next
 longest_taken : (xs : List Block) (a : ℕ) (next : Block) (o r : Option ℕ) → IsLongest xs a o → ContainsAddress next a
-    → TakesLongerPlace (xs ++ next ∷ []) o (length xs) r → IsLongest (xs ++ next ∷ []) a r
+    → TakesLonger (xs ++ next ∷ []) o (length xs) r → IsLongest (xs ++ next ∷ []) a r
 longest_taken xs a next None r h inside takes =
     subst (IsLongest (xs ++ next ∷ []) a) (sym takes) (taken_at xs a next inside (All-weaker (Misses a) (NoLonger a next.len) (λ q out in_q. absurd (out in_q)) xs h))
 longest_taken xs a next (Some old) r h inside takes =
     let which = takes h.prefix next (slice_get-push_old xs next old h.prefix h.stands) (slice_get-push_new xs next) in
     ⊎_elim
     (λ (l : h.prefix.len < next.len). subst (IsLongest (xs ++ next ∷ []) a) (sym (which.0 l))
-    (taken_at xs a next inside (All-weaker (NoLonger a h.prefix.len) (NoLonger a next.len) (λ q short in_q. let le : q.len ≤ h.prefix.len = short in_q in omega arith) xs (none_longer xs a old h))))
+    (taken_at xs a next inside (All-weaker (NoLonger a h.prefix.len) (NoLonger a next.len) (λ q short in_q. let le : q.len ≤ h.prefix.len = short in_q in omega arith) xs h.longest)))
     (λ (l : next.len ≤ h.prefix.len). subst (IsLongest (xs ++ next ∷ []) a) (sym (which.1 l)) (kept_at xs a old next h (λ _. l)))
     (cases_lt h.prefix.len next.len)
 
@@ -81,21 +72,21 @@ slice_get-take (y ∷ xs) zero i x h = cc
 slice_get-take (y ∷ xs) (suc n) zero x h = h
 slice_get-take (y ∷ xs) (suc n) (suc i) x h = slice_get-take xs n i x h
 
-takes_of_take : (prefixes : List Block) (n place : ℕ) (o r : Option ℕ) → TakesLongerPlace prefixes o place r → TakesLongerPlace (take n prefixes) o place r
+takes_of_take : (prefixes : List Block) (n place : ℕ) (o r : Option ℕ) → TakesLonger prefixes o place r → TakesLonger (take n prefixes) o place r
 takes_of_take prefixes n place None r h = h
 takes_of_take prefixes n place (Some old) r h = λ p q at_old at_place. h p q (slice_get-take prefixes n old p at_old) (slice_get-take prefixes n place q at_place)
 
 -- the next prefix of a list contains the address
 pub longest_more : (prefixes : List Block) (place a : ℕ) (next : Block) (o r : Option ℕ) → slice_get prefixes place ≡ Some next
-    → IsLongest (take place prefixes) a o → ContainsAddress next a → TakesLongerPlace prefixes o place r → IsLongest (take (place + 1) prefixes) a r
+    → IsLongest (take place prefixes) a o → ContainsAddress next a → TakesLonger prefixes o place r → IsLongest (take (place + 1) prefixes) a r
 longest_more prefixes place a next o r at h inside takes =
     let more : take (place + 1) prefixes ≡ take place prefixes ++ next ∷ [] = take_place prefixes place next at in
     let within : place < length prefixes = slice_get_within prefixes place next at in
     let long : length (take place prefixes) ≡ place = length-take-le place prefixes (omega arith) in
     subst (λ (xs : List Block). IsLongest xs a r) (sym more)
     (longest_taken (take place prefixes) a next o r h inside
-    (subst (λ (n : ℕ). TakesLongerPlace (take place prefixes ++ next ∷ []) o n r) (sym long)
-    (subst (λ (xs : List Block). TakesLongerPlace xs o place r) more (takes_of_take prefixes (place + 1) place o r takes))))
+    (subst (λ (n : ℕ). TakesLonger (take place prefixes ++ next ∷ []) o n r) (sym long)
+    (subst (λ (xs : List Block). TakesLonger xs o place r) more (takes_of_take prefixes (place + 1) place o r takes))))
 
 -- the next prefix of a list doesn't contain the address
 pub longest_same : (prefixes : List Block) (place a : ℕ) (next : Block) (o : Option ℕ) → slice_get prefixes place ≡ Some next
@@ -159,7 +150,7 @@ painted_all prefixes place addresses found p i at block up painted past = record
 -- the next address of the prefix gets the longer one
 pub painted_more : (prefixes : List Block) (place : ℕ) (addresses : List ℕ) (found : List (Option ℕ)) (p : Block) (i : ℕ) (r : Option ℕ)
     → slice_get prefixes place ≡ Some p → IsBlock p → Painted prefixes place addresses found p.base i
-    → i < length addresses → get_or addresses i 0 ≤ last_address p → TakesLongerPlace prefixes (get_or found i None) place r
+    → i < length addresses → get_or addresses i 0 ≤ last_address p → TakesLonger prefixes (get_or found i None) place r
     → Painted prefixes place addresses (set found i r) p.base (i + 1)
 painted_more prefixes place addresses found p i r at block painted within low takes = record {
   count = length-set found i r ∙ painted.count;
@@ -182,8 +173,12 @@ longest_none addresses found same = record {
 
 -- the prefix at the place of the longest one is the longest
 pub prefix_longest : (prefixes : List Block) (a : ℕ) (o : Option ℕ) (t : Option Block) → IsLongest prefixes a o → IsPrefixAt prefixes o t → IsLongestPrefix prefixes a t
-prefix_longest prefixes a None t h at = subst (IsLongestPrefix prefixes a) (sym at) (λ p has. All-contains (Misses a) prefixes p h has)
-prefix_longest prefixes a (Some place) t h at = subst (IsLongestPrefix prefixes a) (sym (at ∙ h.stands)) h.is_match
+prefix_longest prefixes a None t h at = subst (IsLongestPrefix prefixes a) (sym at) h
+prefix_longest prefixes a (Some place) t h at = subst (IsLongestPrefix prefixes a) (sym (at ∙ h.stands)) (record {
+  listed = (place, slice_get_within prefixes place h.prefix h.stands, get_or_from_slice_get prefixes place h.prefix h.prefix h.stands);
+  contains = h.contains;
+  longest = h.longest;
+})
 
 -- the place of a longest prefix is one of the list's
 pub longest_inside : (prefixes : List Block) (a : ℕ) (o : Option ℕ) → IsLongest prefixes a o → IfSome o (λ old. old < length prefixes)

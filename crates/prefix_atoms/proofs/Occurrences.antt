@@ -171,11 +171,11 @@ list_from_originated net p o =
 -- the longest originated prefix is the target
 pub target_from_list : (net : Network) (a : ℕ) (t : Option Block) → IsLongestPrefix (all_originated net) a t → HasTarget net a t
 target_from_list net a None h = λ p target.
-    h p (list_from_originated net p target.offered) target.contains
+    All-contains (λ q. ¬ ContainsAddress q a) (all_originated net) p h (list_from_originated net p target.originated) target.contains
 target_from_list net a (Some p) h = record {
-  offered = originated_from_list net p h.offered;
+  originated = originated_from_list net p h.listed;
   contains = h.contains;
-  longest = λ q o inside. h.longest q (list_from_originated net q o) inside;
+  longest = λ q o inside. All-contains (λ r. ContainsAddress r a → r.len ≤ p.len) (all_originated net) q h.longest (list_from_originated net q o) inside;
 }
 
 -- a list that gained the prefixes of the network and then those of both sources

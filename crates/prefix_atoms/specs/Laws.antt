@@ -1,7 +1,6 @@
 -- What the law of this crate says: the addresses of a class act alike.
-use Rattle.std.specs.Prelude.{◌≡◌, ℕ, ◌↔◌}
-use Rattle.net_addr.specs.Addresses.{Block}
-use Rattle.net_addr.specs.LongestMatch.{IsLongestMatch}
+use Rattle.std.specs.Prelude.{◌≡◌, ℕ, ◌≤◌, ◌↔◌}
+use Rattle.net_addr.specs.Addresses.{Block, ContainsAddress}
 use Rattle.net_model.specs.Lookups.{LongestConnected}
 use Rattle.net_model.specs.Network.{Network}
 use Rattle.route_core.specs.declared.entry.Entry.{Entry}
@@ -11,14 +10,11 @@ use Rattle.igp_theory.specs.States.{State, IsSoundAt}
 use Rattle.igp_theory.specs.declared.phase.Phase.{Phase}
 use Rattle.prefix_atoms.specs.Classes.{Classes, AreClasses, IsInClass}
 
--- router u has an entry for this prefix
-abbrev pub HasEntryFor : Tables → ℕ → Block → Type 0
-HasEntryFor table u p = (e : Entry) × table u p e
-
 -- the longest entry of router u that contains the address
 pub record LongestOf (table : Tables) (u a : ℕ) (p : Block) (e : Entry) : Type 0 where
   pub listed : table u p e
-  pub is_match : IsLongestMatch (HasEntryFor table u) a p
+  pub contains : ContainsAddress p a
+  pub longest : (q : Block) (f : Entry) → table u q f → ContainsAddress q a → q.len ≤ p.len
 
 -- two addresses have one target, and at every router the same longest connected prefix, the same
 -- longest entries and the same used entries; a state is sound for both or for neither

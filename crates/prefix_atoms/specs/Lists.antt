@@ -4,7 +4,6 @@ use Rattle.std.specs.List.{filter_map, flat_map}
 use Rattle.std.specs.List.Sorted.{IsStrictlyIncreasing}
 use Rattle.net_addr.specs.Addresses.{Block, ContainsAddress}
 use Rattle.net_addr.specs.Boundaries.{IsBoundary}
-use Rattle.net_addr.specs.LongestMatch.{IsMatchAtPlace, IsMatchOption}
 use Rattle.net_model.specs.Configuration.{Configuration}
 use Rattle.net_model.specs.declared.interface.Interface.{Interface}
 use Rattle.route_core.specs.declared.entry.Entry.{Entry}
@@ -39,10 +38,17 @@ pub record GainsBoundaries (old new : List ℕ) (p : Block) : Type 0 where
   pub kept : (c : ℕ) → Contains old c → Contains new c
   pub gained : (c : ℕ) → IsBoundary p c → c < 2 ^ 32 → Contains new c
 
+-- the prefix at a place contains the address, and none that contains it is longer
+pub record LongestAt (prefixes : List Block) (a place : ℕ) : Type 0 where
+  pub prefix : Block
+  pub stands : slice_get prefixes place ≡ Some prefix
+  pub contains : ContainsAddress prefix a
+  pub longest : All (λ q. ContainsAddress q a → q.len ≤ prefix.len) prefixes
+
 -- the place of the longest prefix that contains the address, none where no prefix does
 abbrev pub IsLongest : List Block → ℕ → Option ℕ → Type 0
 IsLongest prefixes a None = All (λ q. ¬ ContainsAddress q a) prefixes
-IsLongest prefixes a (Some place) = IsMatchAtPlace prefixes a place
+IsLongest prefixes a (Some place) = LongestAt prefixes a place
 
 -- for each address the place of the longest prefix that contains it
 pub record AreLongest (prefixes : List Block) (addresses : List ℕ) (found : List (Option ℕ)) : Type 0 where
@@ -50,9 +56,9 @@ pub record AreLongest (prefixes : List Block) (addresses : List ℕ) (found : Li
   pub each : (i : ℕ) → i < length addresses → IsLongest prefixes (slice_index addresses i) (slice_index_or found i None)
 
 -- the longer of two prefixes, the one that was found before where they are as long
-abbrev pub TakesLongerPlace : List Block → Option ℕ → ℕ → Option ℕ → Type 0
-TakesLongerPlace prefixes None place taken = taken ≡ Some place
-TakesLongerPlace prefixes (Some old) place taken =
+abbrev pub TakesLonger : List Block → Option ℕ → ℕ → Option ℕ → Type 0
+TakesLonger prefixes None place taken = taken ≡ Some place
+TakesLonger prefixes (Some old) place taken =
     (p q : Block) → slice_get prefixes old ≡ Some p → slice_get prefixes place ≡ Some q →
     (p.len < q.len → taken ≡ Some place) × (q.len ≤ p.len → taken ≡ Some old)
 
@@ -68,8 +74,14 @@ IsPrefixAt prefixes None p = p ≡ None
 IsPrefixAt prefixes (Some place) p = p ≡ slice_get prefixes place
 
 -- the longest prefix of a list that contains the address, none where no prefix does
+pub record LongestOfList (prefixes : List Block) (a : ℕ) (p : Block) : Type 0 where
+  pub listed : Contains prefixes p
+  pub contains : ContainsAddress p a
+  pub longest : All (λ q. ContainsAddress q a → q.len ≤ p.len) prefixes
+
 abbrev pub IsLongestPrefix : List Block → ℕ → Option Block → Type 0
-IsLongestPrefix prefixes a best = IsMatchOption (Contains prefixes) a best
+IsLongestPrefix prefixes a None = All (λ q. ¬ ContainsAddress q a) prefixes
+IsLongestPrefix prefixes a (Some p) = LongestOfList prefixes a p
 
 -- for each address the longest prefix that contains it
 pub record AreTargets (prefixes : List Block) (addresses : List ℕ) (targets : List (Option Block)) : Type 0 where

@@ -1,7 +1,7 @@
 ghost use Rattle.std.specs.Prelude.{◌≡◌, ◌+◌, ◌<◌, All, IfOk, OnOk, IfSome, Some, length, take, slice_get};
 ghost use Rattle.std.specs.List.Sorted.{IsStrictlyIncreasing};
 ghost use Rattle.net_addr.specs.Addresses.{Block, IsBlock};
-ghost use Rattle.prefix_atoms.specs.Lists.{AreLongest, IsPlaceOf, TakesLongerPlace};
+ghost use Rattle.prefix_atoms.specs.Lists.{AreLongest, IsPlaceOf, TakesLonger};
 
 use net_addr::Prefix;
 use std::alloc::{AllocError as OutOfMemory, Global};
@@ -58,7 +58,7 @@ pub fn place_of(numbers: &[u32], x: u32) -> usize
 fn longer(prefixes: &[Prefix], found: Option<usize>, place: usize) -> Option<usize>
     requires found { IfSome found (λ old. old < length prefixes.now) }
     requires place { place < length prefixes.now }
-    ensures { TakesLongerPlace prefixes.now found place result }
+    ensures { TakesLonger prefixes.now found place result }
 {
     match found {
         Some(old) if prefixes[place].len() <= prefixes[old].len() => found,

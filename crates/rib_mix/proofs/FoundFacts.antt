@@ -14,7 +14,7 @@ use Rattle.rib_mix.specs.Mixture.{Mixture}
 use Rattle.rib_mix.specs.declared.next.Next.{Next}
 use Rattle.rib_mix.specs.Rows.{IsConnectedLength, IsMatch, IsFound, IsMixed}
 use Rattle.rib_mix.specs.declared.found.Found.{Found}
-use Rattle.route_core.specs.declared.matches.Match.{Match}
+use Rattle.rib_mix.specs.declared.found.Match.{Match}
 use Rattle.rib_mix.proofs.UsedEntries.{Where, Setting, Lawful}
 
 -- where an answer is asked for
@@ -27,8 +27,8 @@ connected_alike net u s a None same h = λ p c inside. h p c ((same p c).1 insid
 connected_alike net u s a (Some len) same h = record {
   prefix = h.prefix;
   longest = record {
-    offered = h.longest.offered;
-    contains = (same h.prefix h.longest.offered).0 h.longest.contains;
+    connected = h.longest.connected;
+    contains = (same h.prefix h.longest.connected).0 h.longest.contains;
     longest = λ q c inside. h.longest.longest q c ((same q c).1 inside);
   };
   len_is = h.len_is;
@@ -44,7 +44,7 @@ match_alike entries s a (Some m) same h = record {
     stands = h.at.stands;
     longest = LongestEntry-same_prefixes entries s a h.at.dest h.at.entry same h.at.longest;
   };
-  len = h.len;
+  len_is = h.len_is;
 }
 
 -- the prefixes of a router contain the sample of a class and its other addresses alike

@@ -2,15 +2,13 @@
 use Rattle.std.proofs.Common.{◌≡◌, ℕ, zero, suc, ◌+◌, ◌<◌, ◌≤◌, List, [], ◌∷◌, ◌++◌, length, take, get_or, Option, Some, None, IfSome, All, Contains, slice_get, ⊎_elim, arith, sym, ap, subst, ◌∙◌, length-append}
 use Rattle.std.proofs.lemmas.Bool.{cases_lt}
 use Rattle.std.proofs.lemmas.List.{take_more, map-append, length-map, get_or-map}
-use Rattle.std.proofs.lemmas.List.Elements.{All-contains, Contains-get_or}
 use Rattle.std.proofs.lemmas.Option.{slice_get_within, get_or_from_slice_get, same_Some}
 use Rattle.net_addr.specs.Addresses.{Block, ContainsAddress, IsBlock}
 use Rattle.route_core.specs.declared.entry.Entry.{Entry}
 use Rattle.route_core.specs.Tables.{HasDistinctPrefixes}
-use Rattle.route_core.proofs.TableLaws.{LongestEntry-from_members}
 use Rattle.prefix_atoms.specs.Lists.{IsLongest, AreLongest, table_prefixes}
 use Rattle.rib_mix.specs.Rows.{IsMatch, IsMatchAt, IsLawful}
-use Rattle.route_core.specs.declared.matches.Match.{Match}
+use Rattle.rib_mix.specs.declared.found.Match.{Match}
 
 slice_get_push_old : {X : Type 0} (xs : List X) (y : X) (k : ℕ) (x : X) → k < length xs → slice_get (xs ++ y ∷ []) k ≡ Some x → slice_get xs k ≡ Some x
 slice_get_push_old [] y k x l h = absurd (omega arith)
@@ -85,12 +83,14 @@ match_from entries prefixes a (Some place) m same h at =
         dest = h.prefix;
         entry = e.0;
         stands = e.1;
-        longest = LongestEntry-from_members entries a h.prefix e.0 (member_at entries place (h.prefix, e.0) e.1) h.is_match.contains
-            (λ q f. All-contains (λ x. ContainsAddress x.0 a → x.0.len ≤ h.prefix.len) entries (q, f)
-            (entries_all (λ r. ContainsAddress r a → r.len ≤ h.prefix.len) entries (subst (All (λ r. ContainsAddress r a → r.len ≤ h.prefix.len)) same
-            (λ k d below. h.is_match.longest (get_or prefixes k d) (Contains-get_or prefixes k d below)))));
+        longest = record {
+          listed = member_at entries place (h.prefix, e.0) e.1;
+          contains = h.contains;
+          longest = entries_all (λ q. ContainsAddress q a → q.len ≤ h.prefix.len) entries
+              (subst (All (λ q. ContainsAddress q a → q.len ≤ h.prefix.len)) same h.longest);
+        };
       };
-      len = ap (λ (q : Block). q.len) one;
+      len_is = ap (λ (q : Block). q.len) one;
     })
 
 -- what was found for the address at a place

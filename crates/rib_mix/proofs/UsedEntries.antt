@@ -20,7 +20,7 @@ use Rattle.rib_mix.specs.declared.candidate.Candidate.{Candidate}
 use Rattle.rib_mix.specs.declared.candidate.Way.{Way}
 use Rattle.rib_mix.specs.declared.candidate.Way.TheVariants as way
 use Rattle.rib_mix.specs.declared.found.Found.{Found}
-use Rattle.route_core.specs.declared.matches.Match.{Match}
+use Rattle.rib_mix.specs.declared.found.Match.{Match}
 use Rattle.rib_mix.specs.declared.next.Next.{Next}
 use Rattle.rib_mix.specs.declared.next.Next.TheVariants.{Absent}
 
@@ -82,7 +82,7 @@ connected_realizes w phase None h = tt
 connected_realizes w phase (Some len) h = record {
   used = connected;
   prefix = h.prefix;
-  counts = connected_counts h.longest.offered;
+  counts = connected_counts h.longest.connected;
   contains = h.longest.contains;
   len_is = h.len_is;
   way_is = refl;
@@ -95,8 +95,8 @@ old_realizes w phase ospf c (Some m) counts has is set h = record {
   used = of_old h.at.entry;
   prefix = h.at.dest;
   counts = old_counts counts c has is set h.at.longest.listed;
-  contains = h.at.longest.is_match.contains;
-  len_is = h.len;
+  contains = h.at.longest.contains;
+  len_is = h.len_is;
   way_is = (h.at.dest, h.at.entry, h.at.stands, refl);
 }
 
@@ -115,8 +115,8 @@ new_realizes w phase (Some m) counts h = record {
   used = of_new h.at.entry;
   prefix = h.at.dest;
   counts = new_counts counts h.at.longest.listed;
-  contains = h.at.longest.is_match.contains;
-  len_is = h.len;
+  contains = h.at.longest.contains;
+  len_is = h.len_is;
   way_is = (h.at.dest, h.at.entry, h.at.stands, refl);
 }
 
@@ -167,15 +167,15 @@ match_covers_old : (entries : List (Block × Entry)) (a distance : ℕ) (o : Opt
     → ContainsAddress q a → Covers (old_of distance o) q.len distance
 match_covers_old entries a distance None h q e has inside = absurd (All-contains (λ x. ¬ ContainsAddress x.0 a) entries (q, e) h has inside)
 match_covers_old entries a distance (Some m) h q e has inside =
-    let le : q.len ≤ h.at.dest.len = h.at.longest.is_match.longest q (e, has) inside in
-    (omega (arith, h.len), λ _. omega arith)
+    let le : q.len ≤ h.at.dest.len = All-contains (λ x. ContainsAddress x.0 a → x.0.len ≤ h.at.dest.len) entries (q, e) h.at.longest.longest has inside in
+    (omega (arith, h.len_is), λ _. omega arith)
 
 match_covers_new : (entries : List (Block × Entry)) (a : ℕ) (o : Option Match) → IsMatch entries a o → (q : Block) (e : Entry) → Contains entries (q, e)
     → ContainsAddress q a → Covers (new_of o) q.len 115
 match_covers_new entries a None h q e has inside = absurd (All-contains (λ x. ¬ ContainsAddress x.0 a) entries (q, e) h has inside)
 match_covers_new entries a (Some m) h q e has inside =
-    let le : q.len ≤ h.at.dest.len = h.at.longest.is_match.longest q (e, has) inside in
-    (omega (arith, h.len), λ _. omega arith)
+    let le : q.len ≤ h.at.dest.len = All-contains (λ x. ContainsAddress x.0 a → x.0.len ≤ h.at.dest.len) entries (q, e) h.at.longest.longest has inside in
+    (omega (arith, h.len_is), λ _. omega arith)
 
 old_covers : (phase : Phase) (entries : List (Block × Entry)) (a ospf : ℕ) (o : Option Match) → OldCounts phase → ospf ≢ 255 → IsMatch entries a o
     → (q : Block) (e : Entry) → Contains entries (q, e) → ContainsAddress q a → Covers (old_if_counts phase ospf o) q.len ospf

@@ -9,7 +9,7 @@ use Rattle.rib_mix.specs.Answers.{ShowsEntry}
 use Rattle.rib_mix.specs.declared.candidate.Candidate.{Candidate}
 use Rattle.rib_mix.specs.declared.candidate.Way.{Way}
 use Rattle.rib_mix.specs.declared.candidate.Way.TheVariants as way
-use Rattle.route_core.specs.declared.matches.Match.{Match}
+use Rattle.rib_mix.specs.declared.found.Match.{Match}
 use Rattle.rib_mix.specs.declared.next.Next.{Next}
 use Rattle.rib_mix.specs.declared.next.Next.TheVariants as next
 

@@ -4,11 +4,10 @@ use Rattle.net_addr.specs.Addresses.{Block, ContainsAddress, IsBlock}
 use Rattle.net_model.specs.Lookups.{LongestConnected}
 use Rattle.net_model.specs.Network.{Network, Connected}
 use Rattle.net_model.specs.Refusals.{IsNetwork}
-use Rattle.route_core.specs.Matches.{FoundLongest}
-use Rattle.route_core.specs.Tables.{NoneContains, HasDistinctPrefixes}
+use Rattle.route_core.specs.Tables.{NoneContains, LongestAt, HasDistinctPrefixes}
 use Rattle.route_core.specs.declared.entry.Entry.{Entry}
 use Rattle.prefix_atoms.specs.Classes.{Classes, AreClasses, SourceEntry}
-use Rattle.route_core.specs.declared.matches.Match.{Match}
+use Rattle.rib_mix.specs.declared.found.Match.{Match}
 use Rattle.rib_mix.specs.declared.found.Found.{Found}
 
 -- the longest connected prefix that contains the address has this length
@@ -22,10 +21,15 @@ abbrev pub IsConnectedLength : Network → ℕ → ℕ → Option ℕ → Type 0
 IsConnectedLength net u a None = (p : Block) → Connected net u p → ContainsAddress p a → ⊥
 IsConnectedLength net u a (Some len) = ConnectedLength net u a len
 
+-- the place of the longest entry, and the length of its prefix
+pub record MatchesAt (entries : List (Block × Entry)) (a : ℕ) (m : Match) : Type 0 where
+  pub at : LongestAt entries a m.place
+  pub len_is : at.dest.len ≡ m.len
+
 -- the longest entry of a table, none where no entry contains the address
 abbrev pub IsMatch : List (Block × Entry) → ℕ → Option Match → Type 0
 IsMatch entries a None = NoneContains entries a
-IsMatch entries a (Some m) = FoundLongest entries a m
+IsMatch entries a (Some m) = MatchesAt entries a m
 
 -- the longest entry of a table for each of some addresses
 pub record AreMatches (entries : List (Block × Entry)) (addresses : List ℕ) (matches : List (Option Match)) : Type 0 where

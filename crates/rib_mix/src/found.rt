@@ -1,4 +1,11 @@
-use route_core::Match;
+/// An entry of a table that is the longest for an address.
+#[derive(Clone, Copy, Debug)]
+pub struct Match {
+    /// The entry's place in the table.
+    pub place: usize,
+    /// The length of its prefix.
+    pub len: u8,
+}
 
 /// What is found for a router and an address.
 #[derive(Clone, Copy, Debug)]

@@ -4,8 +4,7 @@ ghost use Rattle.prefix_atoms.specs.Lists.{table_prefixes};
 ghost use Rattle.route_core.specs.Tables.{HasDistinctPrefixes};
 ghost use Rattle.rib_mix.specs.Rows.{AreMatches, IsConnectedLength, IsLawful, IsMatchAt, IsRow};
 
-use crate::found::Found;
-use route_core::Match;
+use crate::found::{Found, Match};
 use net_addr::Prefix;
 use net_model::Net;
 use prefix_atoms::longest_of_each;

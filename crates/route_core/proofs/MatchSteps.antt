@@ -1,13 +1,12 @@
 -- One more entry, and the longest match so far.
-use Rattle.std.proofs.Common.{◌≡◌, ℕ, zero, suc, ◌≤◌, ◌⊎◌, inl, inr, List, [], ◌∷◌, ◌++◌, length, slice_get, Option, Some, None, All, Contains, MatchOption, refl, sym, arith, subst}
-use Rattle.std.proofs.lemmas.List.Elements.{All-contains, All-push, All-weaker, Contains-push, Contains-append_left}
+use Rattle.std.proofs.Common.{◌≡◌, ℕ, zero, suc, ◌≤◌, ◌⊎◌, inl, inr, List, [], ◌∷◌, ◌++◌, length, slice_get, Option, Some, None, All, MatchOption, refl, sym, arith, subst}
+use Rattle.std.proofs.lemmas.List.Elements.{All-push, All-weaker, Contains-push, Contains-append_left}
 use Rattle.std.proofs.lemmas.Bool.{cases_lt}
 use Rattle.net_addr.specs.Addresses.{Block, ContainsAddress, IsBlock}
 use Rattle.route_core.specs.declared.entry.Entry.{Entry}
 use Rattle.route_core.specs.declared.matches.Match.{Match}
-use Rattle.route_core.specs.Tables.{NoneContains, LongestEntry}
+use Rattle.route_core.specs.Tables.{NoneContains}
 use Rattle.route_core.specs.Matches.{AreBlocks, FoundLongest, TakesLonger}
-use Rattle.route_core.proofs.TableLaws.{LongestEntry-from_members, none_longer}
 
 -- an entry is no longer than this where it contains the address
 abbrev pub NoLonger : ℕ → ℕ → Block × Entry → Type 0
@@ -30,9 +29,6 @@ pub slice_get-push_new : {X : Type 0} (xs : List X) (y : X) → slice_get (xs ++
 slice_get-push_new [] y = refl
 slice_get-push_new (z ∷ xs) y = slice_get-push_new xs y
 
-longest_from : (xs : List (Block × Entry)) (a : ℕ) (p : Block) (e : Entry) → Contains xs (p, e) → ContainsAddress p a → All (NoLonger a p.len) xs → LongestEntry xs a p e
-longest_from xs a p e has inside longest = LongestEntry-from_members xs a p e has inside (λ q f listed. All-contains (NoLonger a p.len) xs (q, f) longest listed)
-
 -- an entry that isn't longer, or doesn't contain the address, changes nothing
 kept : (xs : List (Block × Entry)) (a : ℕ) (next : Block × Entry) (found : Match) → FoundLongest xs a found
     → (ContainsAddress next.0 a → next.0.len ≤ found.len) → FoundLongest (xs ++ next ∷ []) a found
@@ -41,8 +37,11 @@ kept xs a next found f short = record {
     dest = f.at.dest;
     entry = f.at.entry;
     stands = slice_get-push_old xs next found.place (f.at.dest, f.at.entry) f.at.stands;
-    longest = longest_from (xs ++ next ∷ []) a f.at.dest f.at.entry (Contains-append_left xs (next ∷ []) (f.at.dest, f.at.entry) f.at.longest.listed) f.at.longest.is_match.contains
-        (All-push (NoLonger a f.at.dest.len) xs next (none_longer xs a f.at.dest f.at.entry f.at.longest) (λ h. let le : next.0.len ≤ found.len = short h in omega (arith, f.len)));
+    longest = record {
+      listed = Contains-append_left xs (next ∷ []) (f.at.dest, f.at.entry) f.at.longest.listed;
+      contains = f.at.longest.contains;
+      longest = All-push (NoLonger a f.at.dest.len) xs next f.at.longest.longest (λ h. let le : next.0.len ≤ found.len = short h in omega (arith, f.len));
+    };
   };
   len = f.len;
 }
@@ -56,7 +55,11 @@ taken xs a next inside longest = record {
     dest = next.0;
     entry = next.1;
     stands = slice_get-push_new xs next;
-    longest = longest_from (xs ++ next ∷ []) a next.0 next.1 (Contains-push xs next) inside (All-push (NoLonger a next.0.len) xs next longest (λ _. omega arith));
+    longest = record {
+      listed = Contains-push xs next;
+      contains = inside;
+      longest = All-push (NoLonger a next.0.len) xs next longest (λ _. omega arith);
+    };
   };
   len = refl;
 }
@@ -77,7 +80,7 @@ longer_taken xs a None next after h inside takes =
     subst (Found (xs ++ next ∷ []) a) (sym takes) (taken xs a next inside (All-weaker (Misses a) (NoLonger a next.0.len) (λ other out inside'. absurd (out inside')) xs h))
 longer_taken xs a (Some old) next after h inside takes = elim (cases_lt old.len next.0.len) [
   | inl longer ↦ subst (Found (xs ++ next ∷ []) a) (sym (takes.0 longer))
-      (taken xs a next inside (All-weaker (NoLonger a h.at.dest.len) (NoLonger a next.0.len) (λ other le inside'. let under : other.0.len ≤ h.at.dest.len = le inside' in omega (arith, h.len)) xs (none_longer xs a h.at.dest h.at.entry h.at.longest)))
+      (taken xs a next inside (All-weaker (NoLonger a h.at.dest.len) (NoLonger a next.0.len) (λ other le inside'. let under : other.0.len ≤ h.at.dest.len = le inside' in omega (arith, h.len)) xs h.at.longest.longest))
   | inr short ↦ subst (Found (xs ++ next ∷ []) a) (sym (takes.1 short)) (kept xs a next old h (λ _. short))
 ]
 

@@ -1,5 +1,5 @@
 -- Laws of tables: entries by place and by membership, one entry a prefix, one longest match.
-use Rattle.std.proofs.Common.{◌≡◌, ◌≢◌, ℕ, ◌<◌, ◌≤◌, ◌↔◌, inl, inr, List, [], ◌∷◌, ◌++◌, length, get_or, slice_get, Some, All, Contains, sym, ap, ◌∙◌, arith, subst}
+use Rattle.std.proofs.Common.{◌≡◌, ◌≢◌, ℕ, ◌<◌, ◌≤◌, ◌↔◌, inl, inr, List, [], ◌∷◌, ◌++◌, length, get_or, slice_get, Some, Contains, sym, ap, ◌∙◌, arith, subst}
 use Rattle.std.proofs.lemmas.Bool.{cases_lt}
 use Rattle.std.proofs.lemmas.List.Elements.{Contains-get_or, All-contains}
 use Rattle.std.proofs.lemmas.List.Quantifiers.{all_pairs_push}
@@ -70,12 +70,12 @@ one_entry xs p e f distinct has_e has_f =
 pub one_longest : (xs : List (Block × Entry)) (a : ℕ) (p q : Block) (e f : Entry) → HasDistinctPrefixes xs → AreBlocks xs a
     → LongestEntry xs a p e → LongestEntry xs a q f → (p ≡ q) × (e ≡ f)
 one_longest xs a p q e f distinct blocks one other =
-    let short : p.len ≤ q.len = other.is_match.longest p (e, one.listed) one.is_match.contains in
-    let long : q.len ≤ p.len = one.is_match.longest q (f, other.listed) other.is_match.contains in
+    let short : p.len ≤ q.len = All-contains (λ x. ContainsAddress x.0 a → x.0.len ≤ q.len) xs (p, e) other.longest one.listed one.contains in
+    let long : q.len ≤ p.len = All-contains (λ x. ContainsAddress x.0 a → x.0.len ≤ p.len) xs (q, f) one.longest other.listed other.contains in
     let len : p.len ≡ q.len = omega arith in
-    let block_p : IsBlock p = All-contains (λ x. ContainsAddress x.0 a → IsBlock x.0) xs (p, e) blocks one.listed one.is_match.contains in
-    let block_q : IsBlock q = All-contains (λ x. ContainsAddress x.0 a → IsBlock x.0) xs (q, f) blocks other.listed other.is_match.contains in
-    let same : p ≡ q = same_block p q a block_p block_q len one.is_match.contains other.is_match.contains in
+    let block_p : IsBlock p = All-contains (λ x. ContainsAddress x.0 a → IsBlock x.0) xs (p, e) blocks one.listed one.contains in
+    let block_q : IsBlock q = All-contains (λ x. ContainsAddress x.0 a → IsBlock x.0) xs (q, f) blocks other.listed other.contains in
+    let same : p ≡ q = same_block p q a block_p block_q len one.contains other.contains in
     (same, one_entry xs q e f distinct (subst (λ (r : Block). Contains xs (r, e)) same one.listed) other.listed)
 
 -- the longest match stands where one was found
@@ -91,33 +91,26 @@ longest_stands xs a i p e distinct blocks at longest =
 -- no entry that contains the address is longer than the longest match
 pub longest_bound : (xs : List (Block × Entry)) (a : ℕ) (p q : Block) (e f : Entry) → LongestEntry xs a p e
     → Contains xs (q, f) → ContainsAddress q a → q.len ≤ p.len
-longest_bound xs a p q e f longest has inside = longest.is_match.longest q (f, has) inside
+longest_bound xs a p q e f longest has inside = All-contains (λ x. ContainsAddress x.0 a → x.0.len ≤ p.len) xs (q, f) longest.longest has inside
 
 -- an entry that contains the address is the longest match where no other that does is longer
 pub LongestEntry-from_members : (xs : List (Block × Entry)) (a : ℕ) (p : Block) (e : Entry) → Contains xs (p, e) → ContainsAddress p a
     → ((q : Block) (f : Entry) → Contains xs (q, f) → ContainsAddress q a → q.len ≤ p.len) → LongestEntry xs a p e
 LongestEntry-from_members xs a p e has inside longest = record {
   listed = has;
-  is_match = record {
-    offered = (e, has);
-    contains = inside;
-    longest = λ q some. longest q some.0 some.1;
-  };
+  contains = inside;
+  longest = λ k d below. longest (get_or xs k d).0 (get_or xs k d).1 (Contains-get_or xs k d below);
 }
-
--- no entry of the list that contains the address is longer than the longest match
-pub none_longer : (xs : List (Block × Entry)) (a : ℕ) (p : Block) (e : Entry) → LongestEntry xs a p e → All (λ x. ContainsAddress x.0 a → x.0.len ≤ p.len) xs
-none_longer xs a p e longest = λ k d below. longest.is_match.longest (get_or xs k d).0 ((get_or xs k d).1, Contains-get_or xs k d below)
 
 -- where no entry contains the address there is no longest match
 pub none_is_longest : (xs : List (Block × Entry)) (a : ℕ) (p : Block) (e : Entry) → NoneContains xs a → ¬ LongestEntry xs a p e
-none_is_longest xs a p e none longest = All-contains (λ x. ¬ ContainsAddress x.0 a) xs (p, e) none longest.listed longest.is_match.contains
+none_is_longest xs a p e none longest = All-contains (λ x. ¬ ContainsAddress x.0 a) xs (p, e) none longest.listed longest.contains
 
 -- two addresses that the same prefixes of the table contain have one longest match
 pub LongestEntry-same_prefixes : (xs : List (Block × Entry)) (a b : ℕ) (p : Block) (e : Entry)
     → ((q : Block) (f : Entry) → Contains xs (q, f) → ContainsAddress q a ↔ ContainsAddress q b) → LongestEntry xs a p e → LongestEntry xs b p e
 LongestEntry-same_prefixes xs a b p e same longest = LongestEntry-from_members xs b p e longest.listed
-    ((same p e longest.listed).0 longest.is_match.contains)
+    ((same p e longest.listed).0 longest.contains)
     (λ q f has inside. longest_bound xs a p q e f longest has ((same q f has).1 inside))
 
 pub NoneContains-same_prefixes : (xs : List (Block × Entry)) (a b : ℕ)

@@ -1,8 +1,7 @@
 -- Route tables as lists of entries, the longest match, and what a source of tables promises.
-use Rattle.std.specs.Prelude.{◌≡◌, ◌≢◌, ℕ, ◌<◌, List, length, slice_get, Some, All, AllPairs, Contains}
+use Rattle.std.specs.Prelude.{◌≡◌, ◌≢◌, ℕ, ◌<◌, ◌≤◌, List, length, slice_get, Some, All, AllPairs, Contains}
 use Rattle.std.specs.List.Sorted.{IsStrictlyIncreasing}
 use Rattle.net_addr.specs.Addresses.{Block, ContainsAddress}
-use Rattle.net_addr.specs.LongestMatch.{IsLongestMatch}
 use Rattle.route_core.specs.declared.entry.Entry.{Entry}
 use Rattle.route_core.specs.declared.entry.Entry.TheVariants.{Via}
 
@@ -14,14 +13,11 @@ HasDistinctPrefixes entries = AllPairs (λ one other. one.0 ≢ other.0) entries
 abbrev pub NoneContains : List (Block × Entry) → ℕ → Type 0
 NoneContains entries a = All (λ other. ¬ ContainsAddress other.0 a) entries
 
--- some entry is for this prefix
-abbrev pub HasPrefix : List (Block × Entry) → Block → Type 0
-HasPrefix entries dest = (entry : Entry) × Contains entries (dest, entry)
-
--- the entry of the longest match among the prefixes of the entries
+-- the longest match (RFC 1812, section 5.2.4.3): the prefix contains the address, and none that contains it is longer
 pub record LongestEntry (entries : List (Block × Entry)) (a : ℕ) (dest : Block) (entry : Entry) : Type 0 where
   pub listed : Contains entries (dest, entry)
-  pub is_match : IsLongestMatch (HasPrefix entries) a dest
+  pub contains : ContainsAddress dest a
+  pub longest : All (λ other. ContainsAddress other.0 a → other.0.len ≤ dest.len) entries
 
 -- the entry at a place of the list is the longest match
 pub record LongestAt (entries : List (Block × Entry)) (a place : ℕ) : Type 0 where

@@ -9,7 +9,6 @@ mod table;
 
 pub use entries::Entries;
 pub use entry::{Entry, Hops};
-pub use matches::Match;
 pub use source::RouteSource;
 pub use std::alloc::AllocError as OutOfMemory;
 pub use table::Table;

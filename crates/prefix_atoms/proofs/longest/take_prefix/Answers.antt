@@ -3,7 +3,7 @@ use Rattle.std.proofs.lemmas.List.{get_or_default}
 use Rattle.std.proofs.lemmas.Option.{slice_get-get_or, same_Some}
 use Rattle.net_addr.specs.Addresses.{Block, IsBlock}
 use Rattle.net_addr.specs.Boundaries.{last_address}
-use Rattle.prefix_atoms.specs.Lists.{IsPlaceOf, TakesLongerPlace}
+use Rattle.prefix_atoms.specs.Lists.{IsPlaceOf, TakesLonger}
 use Rattle.prefix_atoms.proofs.LongestSteps.{Painted, painted_none, painted_more, painted_all, longest_within}
 use Rattle.prefix_atoms.proofs.longest.take_prefix.Goals as goal
 
@@ -53,7 +53,7 @@ loop-i-preserved c =
     (stands_at c.args.prefixes.now c.args.place p c.requires.place c.index-prefixes-place.is) c.base-base.ensures.block
     (subst (λ (b : ℕ). Painted c.args.prefixes.now c.args.place c.args.addresses.now c.loop-i.found.items b c.loop-i.i) base c.loop-i.invariant)
     c.loop-i-test.true low
-    (subst (λ (o : Option ℕ). TakesLongerPlace c.args.prefixes.now o c.args.place c.longer.result)
+    (subst (λ (o : Option ℕ). TakesLonger c.args.prefixes.now o c.args.place c.longer.result)
     (sym (read_none c.loop-i.found.items c.loop-i.i c.index.result.now within c.index.ensures)) c.longer.ensures))
 
 pub returns-then-addresses-i-clause-longest : goal.returns-then-addresses-i-clause-longest

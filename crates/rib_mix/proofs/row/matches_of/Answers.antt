@@ -1,7 +1,7 @@
 use Rattle.std.proofs.Common.{◌≡◌, ◌∙◌, ℕ, Option, None, length, get_or, arith, ap, sym}
 use Rattle.prefix_atoms.specs.Lists.{table_prefixes}
 use Rattle.rib_mix.specs.Rows.{IsMatch}
-use Rattle.route_core.specs.declared.matches.Match.{Match}
+use Rattle.rib_mix.specs.declared.found.Match.{Match}
 use Rattle.rib_mix.proofs.RowSteps.{count_more, each_more, lawful_from, match_from, place_at, place_within}
 use Rattle.rib_mix.proofs.row.matches_of.Goals as goal
 

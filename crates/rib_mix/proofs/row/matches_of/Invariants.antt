@@ -1,6 +1,6 @@
 use Rattle.std.proofs.Common.{◌≡◌, ℕ, length, get_or, slice_get, Option, Some}
 use Rattle.rib_mix.specs.Rows.{IsMatch}
-use Rattle.route_core.specs.declared.matches.Match.{Match}
+use Rattle.rib_mix.specs.declared.found.Match.{Match}
 use Rattle.rib_mix.proofs.row.matches_of.Given as goal
 
 abbrev pub invariant-loop-place : goal.invariant-loop-place
