@@ -4,7 +4,7 @@ use Rattle.std.proofs.lemmas.List.Elements.{All-nil, All-push}
 use Rattle.std.proofs.lemmas.List.Quantifiers.{all_pairs_push}
 use Rattle.net_model.specs.Configuration.{IsInterface}
 use Rattle.net_model.specs.declared.interface.Interface.{Interface}
-use Rattle.ospf_routes.proofs.routes.tests.interfaces.Goals as goal
+use Rattle.test_networks.proofs.interface.three_interfaces.Goals as goal
 
 -- two interfaces have different names
 abbrev Apart : Interface → Interface → Type 0
@@ -41,21 +41,21 @@ pushed none one two three given a b c e f g h k =
 
 pub returns-clause-kept : goal.returns-clause-kept
 returns-clause-kept c =
-    let x : Interface = c.in_ok-loopback.loopback in
-    let y : Interface = c.in_ok-first.first in
-    let z : Interface = c.in_ok-second.second in
+    let x : Interface = c.args.zero in
+    let y : Interface = c.args.one in
+    let z : Interface = c.args.two in
     subst (λ (l : List Interface). All IsInterface l)
     (pushed c.new-all.result.items c.push.new.self.items c.push-2.new.self.items c.push-3.new.self.items c.from_vec.result x y z c.new-all.ensures.items c.in_ok-push.ensures.items c.in_ok-push-2.ensures.items c.in_ok-push-3.ensures.items c.from_vec.ensures)
-    (three_kept x y z c.in_ok-loopback.ensures.kept c.in_ok-first.ensures.kept c.in_ok-second.ensures.kept)
+    (three_kept x y z c.requires.kept.0 c.requires.kept.1 c.requires.kept.2)
 
 pub returns-clause-apart : goal.returns-clause-apart
 returns-clause-apart c =
-    let x : Interface = c.in_ok-loopback.loopback in
-    let y : Interface = c.in_ok-first.first in
-    let z : Interface = c.in_ok-second.second in
+    let x : Interface = c.args.zero in
+    let y : Interface = c.args.one in
+    let z : Interface = c.args.two in
     subst (λ (l : List Interface). AllPairs Apart l)
     (pushed c.new-all.result.items c.push.new.self.items c.push-2.new.self.items c.push-3.new.self.items c.from_vec.result x y z c.new-all.ensures.items c.in_ok-push.ensures.items c.in_ok-push-2.ensures.items c.in_ok-push-3.ensures.items c.from_vec.ensures)
     (three_apart x y z
-    (names_differ x y 0 1 c.in_ok-loopback.ensures.named c.in_ok-first.ensures.named (λ e. absurd (omega arith)))
-    (names_differ x z 0 2 c.in_ok-loopback.ensures.named c.in_ok-second.ensures.named (λ e. absurd (omega arith)))
-    (names_differ y z 1 2 c.in_ok-first.ensures.named c.in_ok-second.ensures.named (λ e. absurd (omega arith))))
+    (names_differ x y 0 1 c.requires.zero c.requires.one (λ e. absurd (omega arith)))
+    (names_differ x z 0 2 c.requires.zero c.requires.two (λ e. absurd (omega arith)))
+    (names_differ y z 1 2 c.requires.one c.requires.two (λ e. absurd (omega arith))))
