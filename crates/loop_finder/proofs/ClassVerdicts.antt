@@ -1,5 +1,5 @@
 -- What is told of a class holds of the state for all addresses of the class.
-use Rattle.std.proofs.Common.{◌≡◌, ℕ, ◌^◌, ◌<◌, ◌≤◌, ◌↔◌, List, length, get_or, Option, Some, None, IfSome, IfNone, Bool, slice_get, arith, sym, subst}
+use Rattle.std.proofs.Common.{◌≡◌, ℕ, ◌^◌, ◌<◌, ◌↔◌, List, length, get_or, Option, Some, None, IfSome, IfNone, Bool, slice_get, sym, subst}
 use Rattle.std.proofs.lemmas.List.Elements.{All-contains}
 use Rattle.std.proofs.lemmas.Option.{slice_get_within, get_or_from_slice_get}
 use Rattle.net_addr.specs.Addresses.{Block, IsBlock}

@@ -1,5 +1,5 @@
 -- One more entry, and the longest match so far.
-use Rattle.std.proofs.Common.{◌≡◌, ℕ, ◌⊎◌, inl, inr, List, [], ◌∷◌, ◌++◌, length, Option, Some, None, Contains, MatchOption, sym, subst, ⊎_elim}
+use Rattle.std.proofs.Common.{◌≡◌, ℕ, ◌⊎◌, inl, inr, List, [], ◌∷◌, ◌++◌, length, Option, Some, None, MatchOption, sym, subst, ⊎_elim}
 use Rattle.std.proofs.lemmas.List.Elements.{Contains-push_cases}
 use Rattle.net_addr.specs.Addresses.{Block, ContainsAddress, IsBlock}
 use Rattle.net_addr.specs.LongestMatches.{IsMatch, TakesLonger}
