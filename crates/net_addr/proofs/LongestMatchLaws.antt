@@ -30,11 +30,13 @@ IsLongestMatch-alike offered a b p alike h = record {
   longest = λ q on inside. h.longest q on ((alike q on).1 inside);
 }
 
-pub HasNoMatch-alike : (offered : Block → Type 0) (a b : ℕ) → ((q : Block) → offered q → ContainsAddress q a ↔ ContainsAddress q b) → HasNoMatch offered a → HasNoMatch offered b
+pub HasNoMatch-alike : (offered : Block → Type 0) (a b : ℕ) → ((q : Block) → offered q → ContainsAddress q a ↔ ContainsAddress q b)
+    → HasNoMatch offered a → HasNoMatch offered b
 HasNoMatch-alike offered a b alike h = λ q on inside. h q on ((alike q on).1 inside)
 
 -- there is one longest match, since blocks as long that contain one address are the same
-pub one_longest_match : (offered : Block → Type 0) (a : ℕ) (p q : Block) → IsBlock p → IsBlock q → IsLongestMatch offered a p → IsLongestMatch offered a q → p ≡ q
+pub one_longest_match : (offered : Block → Type 0) (a : ℕ) (p q : Block) → IsBlock p → IsBlock q → IsLongestMatch offered a p
+    → IsLongestMatch offered a q → p ≡ q
 one_longest_match offered a p q block_p block_q one other =
     let short : p.len ≤ q.len = other.longest p one.is_offered one.contains in
     let long : q.len ≤ p.len = one.longest q other.is_offered other.contains in
@@ -58,7 +60,8 @@ pub Contains-stands : {X : Type 0} (xs : List X) (i : ℕ) (x : X) → slice_get
 Contains-stands xs i x h = (i, slice_get_within xs i x h, get_or_from_slice_get xs i x x h)
 
 -- a prefix that doesn't contain the address, or isn't longer, changes nothing
-kept : (xs : List Block) (a : ℕ) (next : Block) (found : Match) → MatchAt xs a found → (ContainsAddress next a → next.len ≤ found.len) → MatchAt (xs ++ next ∷ []) a found
+kept : (xs : List Block) (a : ℕ) (next : Block) (found : Match) → MatchAt xs a found → (ContainsAddress next a → next.len ≤ found.len)
+    → MatchAt (xs ++ next ∷ []) a found
 kept xs a next found h short = record {
   at = record {
     prefix = h.at.prefix;
@@ -99,7 +102,8 @@ taken xs a next inside longest = record {
 }
 
 -- the next prefix doesn't contain the address
-pub IsMatch-out : (xs : List Block) (a : ℕ) (next : Block) (found : Option Match) → IsMatch xs a found → ¬ ContainsAddress next a → IsMatch (xs ++ next ∷ []) a found
+pub IsMatch-out : (xs : List Block) (a : ℕ) (next : Block) (found : Option Match) → IsMatch xs a found → ¬ ContainsAddress next a
+    → IsMatch (xs ++ next ∷ []) a found
 IsMatch-out xs a next None h out = λ q has inside. ⊎_elim
     (λ earlier. h q earlier inside)
     (λ same. out (subst (λ (r : Block). ContainsAddress r a) (sym same) inside))
@@ -126,7 +130,8 @@ IsMatch-within xs a None h = tt
 IsMatch-within xs a (Some m) h = slice_get_within xs m.place h.at.prefix h.at.stands
 
 -- addresses that the same prefixes of a list contain have one match
-pub IsMatch-alike : (xs : List Block) (a b : ℕ) (found : Option Match) → ((q : Block) → Contains xs q → ContainsAddress q a ↔ ContainsAddress q b) → IsMatch xs a found → IsMatch xs b found
+pub IsMatch-alike : (xs : List Block) (a b : ℕ) (found : Option Match) → ((q : Block) → Contains xs q → ContainsAddress q a ↔ ContainsAddress q b)
+    → IsMatch xs a found → IsMatch xs b found
 IsMatch-alike xs a b None alike h = HasNoMatch-alike (Contains xs) a b alike h
 IsMatch-alike xs a b (Some m) alike h = record {
   at = record { prefix = h.at.prefix; stands = h.at.stands; match = IsLongestMatch-alike (Contains xs) a b h.at.prefix alike h.at.match };

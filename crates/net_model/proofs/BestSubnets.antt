@@ -28,7 +28,8 @@ of_cases xs ys p P h left right =
 
 module _ (a : ℕ) where
   -- the longest match of the first list, where no match of the second is longer
-  left_longest : (xs ys : List Interface) (p : Block) → IsLongestMatch (IsSubnetOf xs) a p → ((q : Block) → IsSubnetOf ys q → ContainsAddress q a → q.len ≤ p.len)
+  left_longest : (xs ys : List Interface) (p : Block) → IsLongestMatch (IsSubnetOf xs) a p
+      → ((q : Block) → IsSubnetOf ys q → ContainsAddress q a → q.len ≤ p.len)
       → IsLongestMatch (IsSubnetOf (xs ++ ys)) a p
   left_longest xs ys p h short = record {
     is_offered = of_left xs ys p h.is_offered;
@@ -36,7 +37,8 @@ module _ (a : ℕ) where
     longest = λ q on inside. of_cases xs ys q (q.len ≤ p.len) on (λ l. h.longest q l inside) (λ r. short q r inside);
   }
 
-  right_longest : (xs ys : List Interface) (p : Block) → IsLongestMatch (IsSubnetOf ys) a p → ((q : Block) → IsSubnetOf xs q → ContainsAddress q a → q.len ≤ p.len)
+  right_longest : (xs ys : List Interface) (p : Block) → IsLongestMatch (IsSubnetOf ys) a p
+      → ((q : Block) → IsSubnetOf xs q → ContainsAddress q a → q.len ≤ p.len)
       → IsLongestMatch (IsSubnetOf (xs ++ ys)) a p
   right_longest xs ys p h short = record {
     is_offered = of_right xs ys p h.is_offered;
@@ -47,7 +49,8 @@ module _ (a : ℕ) where
   pub BestSubnet-none : BestSubnet a [] None
   BestSubnet-none p h inside = Contains-none h.interface h.among
 
-  longer_cases : (xs ys : List Interface) (p q : Block) (second : Bool) → nat_lt p.len q.len ≡ second → IsLongestMatch (IsSubnetOf xs) a p → IsLongestMatch (IsSubnetOf ys) a q
+  longer_cases : (xs ys : List Interface) (p q : Block) (second : Bool) → nat_lt p.len q.len ≡ second → IsLongestMatch (IsSubnetOf xs) a p
+      → IsLongestMatch (IsSubnetOf ys) a q
       → IsLongestMatch (IsSubnetOf (xs ++ ys)) a (if second then q else p)
   longer_cases xs ys p q true e h k =
       let longer = ltb-true p.len q.len e in right_longest xs ys q k (λ r on inside. omega (arith, h.longest r on inside))

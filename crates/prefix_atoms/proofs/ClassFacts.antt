@@ -76,7 +76,8 @@ each_in_interval cuts (a) some first =
 -- The longest prefix tells the class
 
 -- addresses with one longest prefix are in one class, since a prefix that contains one covers that prefix
-longest_alike : (prefixes : List Block) (a b : ℕ) (found : Option Match) → All IsBlock prefixes → IsMatch prefixes a found → IsMatch prefixes b found → SameBlocksContain prefixes a b
+longest_alike : (prefixes : List Block) (a b : ℕ) (found : Option Match) → All IsBlock prefixes → IsMatch prefixes a found → IsMatch prefixes b found
+    → SameBlocksContain prefixes a b
 longest_alike prefixes a b None blocks one two p member = (λ inside. absurd (one p member inside), λ inside. absurd (two p member inside))
 longest_alike prefixes a b (Some found) blocks one two p member =
     let same : one.at.prefix ≡ two.at.prefix = same_Some one.at.prefix two.at.prefix (sym one.at.stands ∙ two.at.stands) in (
@@ -160,7 +161,8 @@ pub keys_below : (prefixes : List Block) (cuts : List ℕ) (found : List (Option
     → keys ≡ map (place_or (length prefixes)) found → All (λ key. key < length prefixes + 1) keys
 keys_below prefixes cuts found keys longest keyed k d l =
     let within : k < length found = omega (arith, keys_count (length prefixes) found keys keyed) in
-    let at : get_or keys k d ≡ place_or (length prefixes) (get_or found k None) = get_or_default keys k d 0 l ∙ key_at (length prefixes) found keys k keyed within in
+    let at : get_or keys k d ≡ place_or (length prefixes) (get_or found k None) = get_or_default keys k d 0 l ∙ key_at
+    (length prefixes) found keys k keyed within in
     let low : place_or (length prefixes) (get_or found k None) < length prefixes + 1 =
     key_within prefixes (get_or cuts k 0) (get_or found k None) (longest.each k (omega (arith, longest.count))) in
     omega arith

@@ -42,7 +42,8 @@ counting_occurs {u = u} (old_counts {e = e} _ _ _ _ _ listed) = old_occurs u e l
 counting_occurs {u = u} (new_counts {e = e} _ listed) = new_occurs u e listed
 
 -- what occurs contains both addresses or neither
-alike_both : {net : Network} {old new : Tables} {a b : ℕ} → OccurAlike net old new a b → (offered : Block → Type 0) → ((q : Block) → offered q → Occurs net old new q)
+alike_both : {net : Network} {old new : Tables} {a b : ℕ} → OccurAlike net old new a b → (offered : Block → Type 0)
+    → ((q : Block) → offered q → Occurs net old new q)
     → (q : Block) → offered q → ContainsAddress q a ↔ ContainsAddress q b
 alike_both h offered occurs q on = (h.to q (occurs q on), h.from q (occurs q on))
 
@@ -56,16 +57,19 @@ has_target_alike h (Some p) t = same_target h p t
 has_target_alike h None none = λ p t. none p (same_target (flip h) p t)
 
 same_connected : {net : Network} {old new : Tables} {a b : ℕ} → OccurAlike net old new a b → (u : ℕ) (p : Block) → LongestConnected net u a p → LongestConnected net u b p
-same_connected {net} {old} {new} {a} {b} h u p t = IsLongestMatch-alike (Connected net u) a b p (alike_both h (Connected net u) (λ q on. connected_occurs u on)) t
+same_connected {net} {old} {new} {a} {b} h u p t = IsLongestMatch-alike (Connected net u) a b p (alike_both h (Connected net u)
+    (λ q on. connected_occurs u on)) t
 
-same_old : {net : Network} {old new : Tables} {a b : ℕ} → OccurAlike net old new a b → (u : ℕ) (p : Block) (e : Entry) → LongestEntry (old u) a p e → LongestEntry (old u) b p e
+same_old : {net : Network} {old new : Tables} {a b : ℕ} → OccurAlike net old new a b → (u : ℕ) (p : Block) (e : Entry) → LongestEntry (old u) a p e
+    → LongestEntry (old u) b p e
 same_old {net} {old} {new} {a} {b} h u p e t = record {
   listed = t.listed;
   match = IsLongestMatch-alike (λ q. (f : Entry) × old u q f) a b p
       (alike_both h (λ q. (f : Entry) × old u q f) (λ q on. old_occurs u on.0 on.1)) t.match;
 }
 
-same_new : {net : Network} {old new : Tables} {a b : ℕ} → OccurAlike net old new a b → (u : ℕ) (p : Block) (e : Entry) → LongestEntry (new u) a p e → LongestEntry (new u) b p e
+same_new : {net : Network} {old new : Tables} {a b : ℕ} → OccurAlike net old new a b → (u : ℕ) (p : Block) (e : Entry) → LongestEntry (new u) a p e
+    → LongestEntry (new u) b p e
 same_new {net} {old} {new} {a} {b} h u p e t = record {
   listed = t.listed;
   match = IsLongestMatch-alike (λ q. (f : Entry) × new u q f) a b p

@@ -19,7 +19,8 @@ use Rattle.prefix_atoms.proofs.Collected.{take_place}
 
 -- the next prefix of a list contains the address
 pub match_more : (prefixes : List Block) (place a : ℕ) (next : Block) (found : Option Match) (r : Match) → slice_get prefixes place ≡ Some next
-    → IsMatch (take place prefixes) a found → ContainsAddress next a → TakesLonger found (record { place = place; len = next.len }) r → IsMatch (take (place + 1) prefixes) a (Some r)
+    → IsMatch (take place prefixes) a found → ContainsAddress next a → TakesLonger found (record { place = place; len = next.len }) r
+    → IsMatch (take (place + 1) prefixes) a (Some r)
 match_more prefixes place a next found r at h inside takes =
     let within : place < length prefixes = slice_get_within prefixes place next at in
     let long : length (take place prefixes) ≡ place = length-take-le place prefixes (omega arith) in
@@ -62,7 +63,8 @@ pub painted_none : (prefixes : List Block) (place : ℕ) (addresses : List ℕ) 
 painted_none prefixes place addresses found p i at block are first = record {
   count = are.count;
   low = first.after;
-  done = λ j l m. match_same prefixes place (get_or addresses j 0) p (get_or found j None) at (are.each j m) (misses_before p (get_or addresses j 0) block (first.before j l));
+  done = λ j l m. match_same prefixes place (get_or addresses j 0) p (get_or found j None) at (are.each j m) (misses_before p
+      (get_or addresses j 0) block (first.before j l));
   rest = λ j l m. are.each j m;
 }
 
@@ -77,7 +79,8 @@ painted_all prefixes place addresses found p i at block up painted past = record
       (λ (l : i ≤ j).
       let high : last_address p < get_or addresses i 0 = past (omega arith) in
       let later : get_or addresses i 0 ≤ get_or addresses j 0 = at_most_later addresses i j up l m in
-      match_same prefixes place (get_or addresses j 0) p (get_or found j None) at (painted.rest j l m) (misses_after p (get_or addresses j 0) block (omega arith)))
+      match_same prefixes place (get_or addresses j 0) p (get_or found j None) at (painted.rest j l m) (misses_after p (get_or addresses j 0) block
+      (omega arith)))
       (cases_lt j i);
 }
 
@@ -90,23 +93,28 @@ painted_more prefixes place addresses found p i r at block painted within low ta
   count = length-set found i (Some r) ∙ painted.count;
   low = λ j l m. painted.low j (omega arith) m;
   done = below_more (λ (j : ℕ). j < length addresses → IsMatch (take (place + 1) prefixes) (get_or addresses j 0) (get_or (set found i (Some r)) j None)) i
-      (λ j l m. subst (IsMatch (take (place + 1) prefixes) (get_or addresses j 0)) (sym (get_or-set_other found i j (Some r) None (let ne : j ≢ i = omega arith in ne))) (painted.done j l m))
-      (λ m. subst (IsMatch (take (place + 1) prefixes) (get_or addresses i 0)) (sym (get_or-set_same found i (Some r) None (let in' : i < length found = omega (arith, painted.count) in in')))
+      (λ j l m. subst (IsMatch (take (place + 1) prefixes) (get_or addresses j 0)) (sym
+      (get_or-set_other found i j (Some r) None (let ne : j ≢ i = omega arith in ne))) (painted.done j l m))
+      (λ m. subst (IsMatch (take (place + 1) prefixes) (get_or addresses i 0)) (sym
+      (get_or-set_same found i (Some r) None (let in' : i < length found = omega (arith, painted.count) in in')))
       (match_more prefixes place (get_or addresses i 0) p (get_or found i None) r at (painted.rest i (omega arith) within)
       (contains_between p (get_or addresses i 0) block (painted.low i (omega arith) within) low) takes));
-  rest = λ j l m. subst (IsMatch (take place prefixes) (get_or addresses j 0)) (sym (get_or-set_other found i j (Some r) None (let ne : j ≢ i = omega arith in ne))) (painted.rest j (omega arith) m);
+  rest = λ j l m. subst (IsMatch (take place prefixes) (get_or addresses j 0)) (sym (get_or-set_other found i j (Some r) None
+      (let ne : j ≢ i = omega arith in ne))) (painted.rest j (omega arith) m);
 }
 
 -- of no prefixes none contains an address
 pub longest_none : (addresses : List ℕ) (found : List (Option Match)) → found ≡ replicate (length addresses) None → AreMatches [] addresses found
 longest_none addresses found same = record {
   count = ap length same ∙ length-replicate (length addresses) None;
-  each = λ i l. subst (IsMatch [] (get_or addresses i 0)) (sym (ap (λ (xs : List (Option Match)). get_or xs i None) same ∙ get_or-replicate (length addresses) i None None l))
+  each = λ i l. subst (IsMatch [] (get_or addresses i 0)) (sym (ap (λ (xs : List (Option Match)). get_or xs i None) same ∙ get_or-replicate
+      (length addresses) i None None l))
       (λ q on inside. Contains-none q on);
 }
 
 -- the prefix at the place of the match is the longest match
-pub prefix_longest : (prefixes : List Block) (a : ℕ) (found : Option Match) (t : Option Block) → IsMatch prefixes a found → IsPrefixAt prefixes found t → IsBestMatch (Contains prefixes) a t
+pub prefix_longest : (prefixes : List Block) (a : ℕ) (found : Option Match) (t : Option Block) → IsMatch prefixes a found
+    → IsPrefixAt prefixes found t → IsBestMatch (Contains prefixes) a t
 prefix_longest prefixes a None t h at = subst (IsBestMatch (Contains prefixes) a) (sym at) h
 prefix_longest prefixes a (Some m) t h at = subst (IsBestMatch (Contains prefixes) a) (sym (at ∙ h.at.stands)) h.at.match
 

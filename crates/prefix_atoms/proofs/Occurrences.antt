@@ -170,8 +170,10 @@ list_from_originated net p o =
 -- the longest originated prefix is the target
 pub target_from_list : (net : Network) (a : ℕ) (t : Option Block) → IsBestMatch (Contains (all_originated net)) a t → HasTarget net a t
 target_from_list net a None h = λ p target.
-    HasNoMatch-same (Contains (all_originated net)) (IsOriginated net) a (λ q. (originated_from_list net q, list_from_originated net q)) h p target.is_offered target.contains
-target_from_list net a (Some p) h = IsLongestMatch-same (Contains (all_originated net)) (IsOriginated net) a p (λ q. (originated_from_list net q, list_from_originated net q)) h
+    HasNoMatch-same (Contains (all_originated net)) (IsOriginated net) a (λ q.
+    (originated_from_list net q, list_from_originated net q)) h p target.is_offered target.contains
+target_from_list net a (Some p) h = IsLongestMatch-same (Contains (all_originated net)) (IsOriginated net) a p (λ q.
+    (originated_from_list net q, list_from_originated net q)) h
 
 -- a list that gained the prefixes of the network and then those of both sources
 pub gathered : (start first second all net old new : List Block) → start ≡ [] → first ≡ start ++ net → second ≡ first ++ old → all ≡ second ++ new

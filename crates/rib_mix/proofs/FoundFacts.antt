@@ -32,7 +32,8 @@ connected_alike net u s a (Some len) same h = record {
   len_is = h.len_is;
 }
 
-match_alike : (entries : List (Block × Entry)) (s a : ℕ) (found : Option Match) → ((p : Block) (e : Entry) → Contains entries (p, e) → ContainsAddress p s ↔ ContainsAddress p a)
+match_alike : (entries : List (Block × Entry)) (s a : ℕ) (found : Option Match)
+    → ((p : Block) (e : Entry) → Contains entries (p, e) → ContainsAddress p s ↔ ContainsAddress p a)
     → IsMatch (table_prefixes entries) s found → IsMatch (table_prefixes entries) a found
 match_alike entries s a found same h =
     IsMatch-alike (table_prefixes entries) s a found (λ p has. let one = entry_of_prefix entries p has in same p one.0 one.1) h

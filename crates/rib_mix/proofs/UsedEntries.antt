@@ -90,19 +90,22 @@ connected_realizes w phase (Some len) h = record {
 }
 
 old_realizes : (w : Where) (phase : Phase) (ospf : ℕ) (c : Configuration) (o : Option Match) →
-    OldCounts phase → HasConfiguration w.net w.u c → c.distances.ospf ≡ ospf → ospf ≢ 255 → IsMatch (table_prefixes (w.old w.u)) w.a o → IfSome (old_of ospf o) (Realizes w phase)
+    OldCounts phase → HasConfiguration w.net w.u c → c.distances.ospf ≡ ospf → ospf ≢ 255 → IsMatch (table_prefixes (w.old w.u)) w.a o
+    → IfSome (old_of ospf o) (Realizes w phase)
 old_realizes w phase ospf c None counts has is set h = tt
 old_realizes w phase ospf c (Some m) counts has is set h = record {
   used = of_old (entry_at (w.old w.u) m.place h.at.prefix h.at.stands).0;
   prefix = h.at.prefix;
-  counts = let e = entry_at (w.old w.u) m.place h.at.prefix h.at.stands in old_counts counts c has is set (Contains-from_place (w.old w.u) m.place (h.at.prefix, e.0) e.1);
+  counts = let e = entry_at (w.old w.u) m.place h.at.prefix h.at.stands in old_counts counts c has is set (Contains-from_place (w.old w.u) m.place
+      (h.at.prefix, e.0) e.1);
   contains = h.at.match.contains;
   len_is = h.len_is;
   way_is = let e = entry_at (w.old w.u) m.place h.at.prefix h.at.stands in (h.at.prefix, e.0, e.1, refl);
 }
 
 old_if_realizes : (w : Where) (phase : Phase) (ospf : ℕ) (c : Configuration) (o : Option Match) →
-    HasConfiguration w.net w.u c → c.distances.ospf ≡ ospf → IsMatch (table_prefixes (w.old w.u)) w.a o → IfSome (old_if_counts phase ospf o) (Realizes w phase)
+    HasConfiguration w.net w.u c → c.distances.ospf ≡ ospf → IsMatch (table_prefixes (w.old w.u)) w.a o
+    → IfSome (old_if_counts phase ospf o) (Realizes w phase)
 old_if_realizes w Old ospf c o has is h =
     if_some (Realizes w Old) (not (ospf == 255)) (old_of ospf o) (λ e. old_realizes w Old ospf c o tt has is (not_equal ospf 255 e) h)
 old_if_realizes w Middle ospf c o has is h =
@@ -164,21 +167,24 @@ connected_covers net u a (Some len) h q c inside =
     let le : q.len ≤ h.prefix.len = h.longest.longest q c inside in
     (omega (arith, h.len_is), λ _. omega arith)
 
-match_covers_old : (entries : List (Block × Entry)) (a distance : ℕ) (o : Option Match) → IsMatch (table_prefixes entries) a o → (q : Block) (e : Entry) → Contains entries (q, e)
+match_covers_old : (entries : List (Block × Entry)) (a distance : ℕ) (o : Option Match) → IsMatch (table_prefixes entries) a o
+    → (q : Block) (e : Entry) → Contains entries (q, e)
     → ContainsAddress q a → Covers (old_of distance o) q.len distance
 match_covers_old entries a distance None h q e has inside = absurd (h q (prefix_of_entry entries q e has) inside)
 match_covers_old entries a distance (Some m) h q e has inside =
     let le : q.len ≤ h.at.prefix.len = h.at.match.longest q (prefix_of_entry entries q e has) inside in
     (omega (arith, h.len_is), λ _. omega arith)
 
-match_covers_new : (entries : List (Block × Entry)) (a : ℕ) (o : Option Match) → IsMatch (table_prefixes entries) a o → (q : Block) (e : Entry) → Contains entries (q, e)
+match_covers_new : (entries : List (Block × Entry)) (a : ℕ) (o : Option Match) → IsMatch (table_prefixes entries) a o → (q : Block) (e : Entry)
+    → Contains entries (q, e)
     → ContainsAddress q a → Covers (new_of o) q.len 115
 match_covers_new entries a None h q e has inside = absurd (h q (prefix_of_entry entries q e has) inside)
 match_covers_new entries a (Some m) h q e has inside =
     let le : q.len ≤ h.at.prefix.len = h.at.match.longest q (prefix_of_entry entries q e has) inside in
     (omega (arith, h.len_is), λ _. omega arith)
 
-old_covers : (phase : Phase) (entries : List (Block × Entry)) (a ospf : ℕ) (o : Option Match) → OldCounts phase → ospf ≢ 255 → IsMatch (table_prefixes entries) a o
+old_covers : (phase : Phase) (entries : List (Block × Entry)) (a ospf : ℕ) (o : Option Match) → OldCounts phase → ospf ≢ 255
+    → IsMatch (table_prefixes entries) a o
     → (q : Block) (e : Entry) → Contains entries (q, e) → ContainsAddress q a → Covers (old_if_counts phase ospf o) q.len ospf
 old_covers Old entries a ospf o counts set h q e has inside = covers_if (not (ospf == 255)) (old_of ospf o) q.len ospf (differs ospf 255 set) (match_covers_old entries a ospf o h q e has inside)
 old_covers Middle entries a ospf o counts set h q e has inside = covers_if (not (ospf == 255)) (old_of ospf o) q.len ospf (differs ospf 255 set) (match_covers_old entries a ospf o h q e has inside)

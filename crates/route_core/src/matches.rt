@@ -23,7 +23,7 @@ pub fn longest_match(entries: &[(Prefix, Entry)], a: u32) -> Option<Match>
 fn longer(best: Option<Match>, place: usize, dest: Prefix, a: u32) -> Option<Match>
     ensures { (¬ ContainsAddress dest a × (result ≡ best))
         ⊎ (ContainsAddress dest a × IsBlock dest
-            × MatchOption result ⊥ (TakesLonger best (record { place = place; len = dest.len }))) }
+        × MatchOption result ⊥ (TakesLonger best (record { place = place; len = dest.len }))) }
 {
     if !dest.contains(a) {
         return best;

@@ -63,7 +63,13 @@ fn a_range_costs_the_least_of_its_components(rt: HostRuntime) -> Result<(), Fail
 
 #[test]
 fn without_rfc_1583_it_costs_the_greatest(rt: HostRuntime) -> Result<(), Fail> {
-    let net = ring(rt.alloc(), Rules { rfc1583: false, ..RANGED })?;
+    let net = ring(
+        rt.alloc(),
+        Rules {
+            rfc1583: false,
+            ..RANGED
+        },
+    )?;
     let routes = OspfRoutes::build(rt.alloc(), &net)?;
     assert_eq!(rt; hops(&routes, 0, 0x0a01_6363), [3u32].as_slice());
     Ok(())
@@ -71,7 +77,13 @@ fn without_rfc_1583_it_costs_the_greatest(rt: HostRuntime) -> Result<(), Fail> {
 
 #[test]
 fn the_intra_area_route_wins(rt: HostRuntime) -> Result<(), Fail> {
-    let net = ring(rt.alloc(), Rules { ranged: false, ..RANGED })?;
+    let net = ring(
+        rt.alloc(),
+        Rules {
+            ranged: false,
+            ..RANGED
+        },
+    )?;
     let routes = OspfRoutes::build(rt.alloc(), &net)?;
     assert_eq!(rt; hops(&routes, 1, 0x0a01_0003), [2u32].as_slice());
     Ok(())
@@ -79,7 +91,14 @@ fn the_intra_area_route_wins(rt: HostRuntime) -> Result<(), Fail> {
 
 #[test]
 fn both_defaults_of_a_stub_area(rt: HostRuntime) -> Result<(), Fail> {
-    let net = ring(rt.alloc(), Rules { near: Some(1), far: Some(1), ..RANGED })?;
+    let net = ring(
+        rt.alloc(),
+        Rules {
+            near: Some(1),
+            far: Some(1),
+            ..RANGED
+        },
+    )?;
     let routes = OspfRoutes::build(rt.alloc(), &net)?;
     assert_eq!(rt; hops(&routes, 2, 0xc000_0201), [1u32, 3].as_slice());
     Ok(())
@@ -87,7 +106,14 @@ fn both_defaults_of_a_stub_area(rt: HostRuntime) -> Result<(), Fail> {
 
 #[test]
 fn the_cheaper_default_alone(rt: HostRuntime) -> Result<(), Fail> {
-    let net = ring(rt.alloc(), Rules { near: Some(5), far: Some(1), ..RANGED })?;
+    let net = ring(
+        rt.alloc(),
+        Rules {
+            near: Some(5),
+            far: Some(1),
+            ..RANGED
+        },
+    )?;
     let routes = OspfRoutes::build(rt.alloc(), &net)?;
     assert_eq!(rt; hops(&routes, 2, 0xc000_0201), [3u32].as_slice());
     Ok(())

@@ -8,7 +8,8 @@ use Rattle.prefix_atoms.proofs.PickSteps.{made_more}
 use Rattle.prefix_atoms.proofs.atoms.targets_of.Goals as goal
 
 -- what was found for the address at a place
-found_at : (prefixes : List Block) (addresses : List ℕ) (found items : List (Option Match)) (i : ℕ) → AreMatches prefixes addresses found → items ≡ found → i < length items
+found_at : (prefixes : List Block) (addresses : List ℕ) (found items : List (Option Match)) (i : ℕ) → AreMatches prefixes addresses found
+    → items ≡ found → i < length items
     → IsMatch prefixes (get_or addresses i 0) (get_or items i None)
 found_at prefixes addresses found items i are same within =
     let long : length items ≡ length found = ap length same in
