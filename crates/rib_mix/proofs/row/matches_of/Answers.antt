@@ -1,5 +1,5 @@
 use Rattle.std.proofs.Common.{◌≡◌, ◌∙◌, ℕ, List, Option, Vec, Global, subst}
-use Rattle.std.proofs.lemmas.Result.{IfOk-weaker, OnOk-weaker}
+use Rattle.std.proofs.lemmas.Result.{IfOk-weaker, on_ok_weaker}
 use Rattle.net_addr.specs.Addresses.{Block}
 use Rattle.net_addr.specs.LongestMatches.{AreMatches}
 use Rattle.net_addr.specs.declared.matches.Match.{Match}
@@ -15,3 +15,10 @@ returns-clause-matches c =
     (λ (v : Vec (Option Match) Global). AreMatches (table_prefixes c.args.table.now) c.args.addresses.now v.items)
     (λ v are. subst (λ (ps : List Block). AreMatches ps c.args.addresses.now v.items) same are)
     c.longest_of_each.ensures.longest
+
+pub returns-clause-lawful : goal.returns-clause-lawful
+returns-clause-lawful c =
+    let same : c.as_slice.result.now ≡ table_prefixes c.args.table.now = c.as_slice.ensures.value ∙ c.in_ok-prefixes.ensures.prefixes in
+    on_ok_weaker c.longest_of_each.result
+    (λ blocks. lawful_from c.args.table.now c.as_slice.result.now same blocks c.in_ok-prefixes.ensures.distinct)
+    c.longest_of_each.ensures.blocks
