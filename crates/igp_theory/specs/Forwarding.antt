@@ -1,6 +1,7 @@
 -- Forwarding by longest match and administrative distance, over the network and any two tables.
 use Rattle.std.specs.Prelude.{◌≡◌, ◌≢◌, ℕ, ◌<◌, ◌≤◌, ◌⊎◌, length, Some, IsTrue, IsSome}
 use Rattle.net_addr.specs.Addresses.{Block, ContainsAddress}
+use Rattle.net_addr.specs.LongestMatches.{IsLongestMatch}
 use Rattle.net_model.specs.Configuration.{Configuration}
 use Rattle.net_model.specs.Network.{Network, HasConfiguration, UpInterface, Connected}
 use Rattle.net_model.specs.declared.bounds.TheConstants.{ISIS_DISTANCE, MOST_DISTANCE}
@@ -22,10 +23,8 @@ pub record IsOriginated (net : Network) (p : Block) : Type 0 where
 
 -- the target of an address is the longest originated prefix that contains it; its originators are
 -- the routers at which that prefix is connected
-pub record IsTarget (net : Network) (a : ℕ) (p : Block) : Type 0 where
-  pub originated : IsOriginated net p
-  pub contains : ContainsAddress p a
-  pub longest : (q : Block) → IsOriginated net q → ContainsAddress q a → q.len ≤ p.len
+abbrev pub IsTarget : Network → ℕ → Block → Type 0
+IsTarget net = IsLongestMatch (IsOriginated net)
 
 -- The entries that count
 

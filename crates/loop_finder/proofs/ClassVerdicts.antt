@@ -1,9 +1,9 @@
 -- What is told of a class holds of the state for all addresses of the class.
-use Rattle.std.proofs.Common.{◌≡◌, ℕ, ◌^◌, ◌<◌, ◌≤◌, ◌↔◌, List, length, get_or, Option, Some, None, IfSome, IfNone, Bool, slice_get, arith, sym, subst}
+use Rattle.std.proofs.Common.{◌≡◌, ℕ, ◌^◌, ◌<◌, ◌↔◌, List, length, get_or, Option, Some, None, IfSome, IfNone, Bool, slice_get, sym, subst}
 use Rattle.std.proofs.lemmas.List.Elements.{All-contains}
 use Rattle.std.proofs.lemmas.Option.{slice_get_within, get_or_from_slice_get}
 use Rattle.net_addr.specs.Addresses.{Block, IsBlock}
-use Rattle.net_addr.proofs.Blocks.{same_block}
+use Rattle.net_addr.proofs.LongestMatchLaws.{one_longest_match}
 use Rattle.net_model.specs.Configuration.{Configuration, IsConfiguration, IsInterface}
 use Rattle.net_model.specs.Network.{Network, Connected}
 use Rattle.net_model.specs.Refusals.{IsNetwork}
@@ -33,9 +33,7 @@ originated_block net p network o =
 -- an address has one target
 one_target : (net : Network) (a : ℕ) (p q : Block) → IsNetwork net → IsTarget net a p → IsTarget net a q → p ≡ q
 one_target net a p q network one two =
-    let below : p.len ≤ q.len = two.longest p one.originated one.contains in
-    let above : q.len ≤ p.len = one.longest q two.originated two.contains in
-    same_block p q a (originated_block net p network one.originated) (originated_block net q network two.originated) (omega arith) one.contains two.contains
+    one_longest_match (IsOriginated net) a p q (originated_block net p network one.is_offered) (originated_block net q network two.is_offered) one two
 
 -- the routers at which the target isn't connected have to pass packets on
 pub forwarders_from : (net : Network) (a : ℕ) (p : Block) (forwards : List Bool) → IsNetwork net → IsTarget net a p

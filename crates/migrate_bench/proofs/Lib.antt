@@ -1,3 +1,1 @@
 pub mod RowLaws
-pub mod AreaLaws
-pub mod TextLaws

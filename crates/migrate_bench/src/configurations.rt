@@ -1,11 +1,11 @@
-ghost use Rattle.std.specs.Prelude.{◌≡◌, All, IfOk, length};
-ghost use Rattle.migrate_bench.specs.Readings.{IsPlacedWithin, IsReading, IsRefusedAt};
-ghost use Rattle.migrate_bench.specs.Texts.{IsShort};
-
+use crate::texts::FileText;
+use anyhow::{Result, bail, ensure};
 use ios_reader::{ReadKind, ReadRefusal, read_configs};
-use net_addr::Bytes;
 use net_model::Configs;
-use std::alloc::{AllocError, Global};
+use std::alloc::Global;
+
+/// How many bytes a file has at most, 16 MiB.
+const FILE_MOST: usize = 16_777_216;
 
 /// What texts are read as.
 #[derive(Drop)]
@@ -14,8 +14,8 @@ pub enum Reading {
     Configurations(Configs),
     /// This is the first text that has a faulty line.
     Refused {
-        /// The place of the text.
-        place: usize,
+        /// The name of its file.
+        file: String,
         /// Its first faulty line, counted from 1.
         line: u32,
         /// Why the line is faulty.
@@ -23,28 +23,33 @@ pub enum Reading {
     },
 }
 
-/// Reads the configurations of texts.
-pub fn read_all(alloc: Global, texts: &[Bytes]) -> Result<Reading, AllocError>
-    requires { All IsShort texts.now }
-    ensures reading { IfOk result (IsReading texts.now) }
-    ensures within { IfOk result (IsPlacedWithin (length texts.now)) }
-{
+/// Reads the configurations of texts. One that is longer than a file may be is an error.
+pub fn read_all(alloc: Global, texts: &[FileText]) -> Result<Reading> {
     let mut all = Vec::new(alloc);
-    for (place, text) in texts.iter().enumerate() {
-        match read_configs(alloc, text.as_slice()) {
-            Ok(configs) => all.append(&mut configs.into_vec())?,
-            Err(refusal) => return Ok(refused(place, refusal)?),
+    for text in texts {
+        match read_one(alloc, text)? {
+            Reading::Configurations(configs) => all.append(&mut configs.into_vec())?,
+            refused => return Ok(refused),
         }
     }
     Ok(Reading::Configurations(Configs::from_vec(all)))
 }
 
-/// What the refusal of the text at a place says; want of memory is none.
-fn refused(place: usize, refusal: ReadRefusal) -> Result<Reading, AllocError>
-    ensures { IfOk result (IsRefusedAt place refusal) }
-{
-    match refusal {
-        ReadRefusal::Bad { line, kind } => Ok(Reading::Refused { place, line, kind }),
-        ReadRefusal::OutOfMemory => Err(AllocError),
+/// Reads the configurations of a text.
+fn read_one(alloc: Global, text: &FileText) -> Result<Reading> {
+    let bytes = text.bytes.as_slice();
+    ensure!(
+        bytes.len() <= FILE_MOST,
+        "{} is longer than {FILE_MOST} bytes",
+        text.name
+    );
+    match read_configs(alloc, bytes) {
+        Ok(configs) => Ok(Reading::Configurations(configs)),
+        Err(ReadRefusal::Bad { line, kind }) => Ok(Reading::Refused {
+            file: text.name.clone()?,
+            line,
+            kind,
+        }),
+        Err(ReadRefusal::OutOfMemory) => bail!("out of memory"),
     }
 }

@@ -38,7 +38,7 @@ fn run(rt: &(impl AllocGlobal + Clock + Env + Eprint + Files + Print)) -> Result
     match Task::read(rt.alloc(), words)? {
         Task::Walks { size } => walks::measure(rt, size),
         Task::Search { size, budget } => searches::measure(rt, size, budget),
-        Task::Read { files } => reading::measure(rt, files.as_slice()),
-        Task::Tables { files } => tables::measure(rt, files.as_slice()),
+        Task::Read { files } => reading::measure(rt, files),
+        Task::Tables { files } => tables::measure(rt, files),
     }
 }

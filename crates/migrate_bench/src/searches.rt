@@ -1,8 +1,5 @@
-ghost use Rattle.std.specs.Prelude.{◌≡◌, ◌≤◌};
-ghost use Rattle.order_search.specs.Trees.{branches_at as branches_of, branch_count};
-
 use crate::seconds::print_seconds;
-use anyhow::Result;
+use anyhow::{Result, ensure};
 use order_search::{Descending, Found, Node, search};
 use std::rt::Clock;
 use std::time::Instant;
@@ -12,11 +9,9 @@ pub fn measure(
     rt: &(impl AllocGlobal + Clock + Eprint + Print),
     size: u32,
     budget: u32,
-) -> Result<()>
-    requires size_some { 1 ≤ size }
-    requires size_few { size ≤ 1000 }
-    requires budget_some { 1 ≤ budget }
-{
+) -> Result<()> {
+    ensure!(1 <= size && size <= 1000, "{size} isn't from 1 to 1000");
+    ensure!(1 <= budget, "{budget} isn't from 1 to {}", u32::MAX);
     let mut oracle = Descending::new(size);
     let start = Instant::now(rt)?;
     let found = search(rt.alloc(), &mut oracle, budget)?;
@@ -41,23 +36,9 @@ fn report(rt: &impl Print, found: &Found) -> Result<()> {
 }
 
 /// How many of the nodes are branches.
-fn count_branches(nodes: &[Node]) -> usize
-    ensures { result ≡ branch_count nodes.now }
-{
-    let mut count = 0;
-    for node in nodes {
-        count += branches_at(node);
-    }
-    count
-}
-
-/// How many branches a node is.
-fn branches_at(node: &Node) -> usize
-    ensures count { result ≡ branches_of node.now }
-    ensures few { result ≤ 1 }
-{
-    match node {
-        Node::Branch { .. } => 1,
-        Node::Leaf { .. } | Node::Unvisited => 0,
-    }
+fn count_branches(nodes: &[Node]) -> usize {
+    nodes
+        .iter()
+        .filter(|node| matches!(node, Node::Branch { .. }))
+        .count()
 }

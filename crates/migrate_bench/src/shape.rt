@@ -1,5 +1,3 @@
-ghost use Rattle.std.specs.Prelude.{◌↔◌, IsTrue};
-
 /// How the links of a network are laid out.
 #[derive(Clone, Copy)]
 pub enum Shape {
@@ -11,25 +9,18 @@ pub enum Shape {
 }
 
 impl Shape {
-    ghost use Rattle.migrate_bench.specs.Shapes.{IsWide, ComesAfter, AreJoined};
-
     /// Whether a link joins u and v, among so many routers.
-    pub fn joins(self, count: u32, u: u32, v: u32) -> bool
-        requires { IsWide self }
-        ensures { IsTrue result ↔ AreJoined self count u v }
-    {
+    pub fn joins(self, count: u32, u: u32, v: u32) -> bool {
         self.comes_after(count, u, v) || self.comes_after(count, v, u)
     }
 
     /// Whether v comes after u.
-    fn comes_after(self, count: u32, u: u32, v: u32) -> bool
-        requires { IsWide self }
-        ensures { IsTrue result ↔ ComesAfter self count u v }
-    {
+    fn comes_after(self, count: u32, u: u32, v: u32) -> bool {
         let one_on = v.checked_sub(1) == Some(u);
         match self {
             Shape::Ring => one_on || (v == 0 && count.checked_sub(1) == Some(u)),
-            Shape::Grid(width) => v.checked_sub(width) == Some(u) || (one_on && v % width != 0),
+            Shape::Grid(width) => v.checked_sub(width) == Some(u)
+                || (one_on && v.checked_rem(width) != Some(0)),
         }
     }
 }

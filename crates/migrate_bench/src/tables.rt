@@ -17,15 +17,13 @@ use zone_graph::ZoneWalks;
 /// Measures the route tables of both protocols of the network of files.
 pub fn measure(
     rt: &(impl AllocGlobal + Clock + Eprint + Files + Print),
-    files: &[String],
+    files: Vec<String>,
 ) -> Result<()> {
     let alloc = rt.alloc();
     let texts = read_texts(alloc, &mut RealFiles::new(rt, alloc), files)?;
     match read_all(alloc, texts.as_slice())? {
         Reading::Configurations(configs) => measure_configs(rt, configs),
-        Reading::Refused { place, line, kind } => {
-            print_refused(rt, files[place].as_str(), line, kind)
-        }
+        Reading::Refused { file, line, kind } => { print_refused(rt, file.as_str(), line, kind) }
     }
 }
 

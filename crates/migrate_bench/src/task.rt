@@ -1,5 +1,3 @@
-ghost use Rattle.std.specs.Prelude.{◌≡◌, ◌≤◌, IfOk, vec_len};
-
 use anyhow::{Context, Result, bail, ensure};
 use std::alloc::Global;
 use std::env::Args;
@@ -21,20 +19,16 @@ pub enum Task {
 }
 
 impl Task {
-    ghost use Rattle.migrate_bench.specs.Tasks.{IsFeasible};
-
     /// Reads the name of a task, and then what it takes.
-    pub fn read(alloc: Global, mut words: Args) -> Result<Task>
-        ensures { IfOk result IsFeasible }
-    {
+    pub fn read(alloc: Global, mut words: Args) -> Result<Task> {
         let name = words.next().context(USAGE)?;
         let task = match name.as_str() {
             "walks" => Task::Walks {
-                size: read_count(&mut words, u32::MAX)?,
+                size: read_count(&mut words)?,
             },
             "search" => Task::Search {
-                size: read_count(&mut words, 1000)?,
-                budget: read_count(&mut words, u32::MAX)?,
+                size: read_count(&mut words)?,
+                budget: read_count(&mut words)?,
             },
             "read" => Task::Read {
                 files: read_files(alloc, &mut words)?,
@@ -49,24 +43,15 @@ impl Task {
     }
 }
 
-/// Reads a number from 1 to `most`.
-fn read_count(words: &mut Args, most: u32) -> Result<u32>
-    ensures some { IfOk result (λ n. 1 ≤ n) }
-    ensures few { IfOk result (λ n. n ≤ most) }
-{
+/// Reads a number.
+fn read_count(words: &mut Args) -> Result<u32> {
     let word = words.next().context(USAGE)?;
     let count = word.parse().context("no number")?;
-    ensure!(
-        1 <= count && count <= most,
-        "{count} isn't from 1 to {most}"
-    );
     Ok(count)
 }
 
 /// Reads the names of files, at least one, from the rest of the words.
-fn read_files(alloc: Global, words: &mut Args) -> Result<Vec<String>>
-    ensures { IfOk result (λ files. 1 ≤ vec_len files) }
-{
+fn read_files(alloc: Global, words: &mut Args) -> Result<Vec<String>> {
     let mut files = Vec::new(alloc);
     for word in words {
         files.push(word)?;

@@ -1,17 +1,14 @@
-ghost use Rattle.std.specs.Prelude.{◌≤◌};
-
 use crate::mesh::Mesh;
 use crate::seconds::print_seconds;
 use crate::shape::Shape;
-use anyhow::Result;
+use anyhow::{Result, ensure};
 use std::rt::Clock;
 use std::time::Instant;
 use walk_core::{CostGraph, LeastWalks, least_walks};
 
 /// Measures the least walks of a ring and of a grid of so many routers.
-pub fn measure(rt: &(impl AllocGlobal + Clock + Eprint + Print), size: u32) -> Result<()>
-    requires { 1 ≤ size }
-{
+pub fn measure(rt: &(impl AllocGlobal + Clock + Eprint + Print), size: u32) -> Result<()> {
+    ensure!(1 <= size, "{size} isn't from 1 to {}", u32::MAX);
     let alloc = rt.alloc();
     report(rt, "ring", &Mesh::new(alloc, Shape::Ring, size)?)?;
     let width = size.isqrt().max(1);

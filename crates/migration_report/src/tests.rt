@@ -1,50 +1,20 @@
-ghost use Rattle.std.specs.Prelude.{◌≤◌};
 ghost use Rattle.migration_report.specs.Texts.{IsPrinted};
 
 use super::*;
 use ios_lines::ReadKind;
 use loop_finder::Fault;
 use net_addr::{Name, Prefix};
-use net_model::{
-    Config, Configs, Distances, Interfaces, Levels, LimitWhat, Net, NetRefusal, Ranges, Stubs,
-};
+use net_model::{LimitWhat, Net, NetRefusal};
 use order_core::{Tag, Turn};
 use std::alloc::{AllocError, Global};
 use std::process::Abort;
 use std::test::Fail;
 use step_scripts::OrderKind;
-
-/// A router that is named R and a digit, without interfaces.
-fn router(alloc: Global, digit: u8) -> Result<Config, AllocError>
-    requires low { 48 ≤ digit }
-    requires high { digit ≤ 57 }
-{
-    Ok(Config {
-        name: Name::from_vec(Vec::from_slice(alloc, &[b'R', digit])?),
-        interfaces: Interfaces::from_vec(Vec::new(alloc)),
-        process: Some(1),
-        isis: false,
-        tag: Name::from_vec(Vec::new(alloc)),
-        isis_area: Name::from_vec(Vec::new(alloc)),
-        system: 0,
-        levels: Levels::Both,
-        leak: false,
-        ranges: Ranges::from_vec(Vec::new(alloc)),
-        stubs: Stubs::from_vec(Vec::new(alloc)),
-        rfc1583: true,
-        distances: Distances {
-            ospf: 110,
-            isis: 255,
-        },
-    })
-}
+use test_networks::bare;
 
 #[test]
 fn an_order_is_safe_or_unsafe(rt: HostRuntime) -> Result<(), Fail> {
-    let mut all = Vec::new(rt.alloc());
-    all.push(router(rt.alloc(), b'1')?)?;
-    all.push(router(rt.alloc(), b'2')?)?;
-    let net = Net::build(rt.alloc(), Configs::from_vec(all))?;
+    let net = Net::build(rt.alloc(), bare(rt.alloc(), 2)?)?;
     assert_eq!(rt; net.routers(), 2);
     let ring = [
         Turn {

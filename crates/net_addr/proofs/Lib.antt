@@ -6,3 +6,4 @@ pub mod MaskFacts
 pub mod PieceFacts
 pub mod PlacedPieces
 pub mod WordFacts
+pub mod LongestMatchLaws

@@ -1,4 +1,4 @@
-//! IPv4 addresses and prefixes, and the lines, words and numbers of configuration texts.
+//! IPv4 addresses, prefixes and their longest match, and the lines, words and numbers of configuration texts.
 #![tactic(auto)]
 
 mod address;
@@ -6,6 +6,7 @@ mod blank;
 mod boundary;
 mod line;
 mod mask;
+mod matches;
 mod name;
 mod number;
 mod prefix;
@@ -16,6 +17,7 @@ pub use address::read_addr;
 pub use boundary::boundary_law;
 pub use line::{Line, LineList, lines};
 pub use mask::read_mask;
+pub use matches::Match;
 pub use name::{Bytes, Name};
 pub use number::read_number;
 pub use prefix::Prefix;

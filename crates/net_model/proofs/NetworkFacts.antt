@@ -4,7 +4,7 @@ use Rattle.std.proofs.lemmas.Bool.{cases_lt, cases_eq}
 use Rattle.std.proofs.lemmas.List.Elements.{All-contains, Contains-get_or}
 use Rattle.std.proofs.lemmas.Option.{slice_get_within, same_Some, get_or_from_slice_get}
 use Rattle.net_addr.specs.Addresses.{Block, IsBlock}
-use Rattle.net_addr.proofs.Blocks.{same_block}
+use Rattle.net_addr.proofs.LongestMatchLaws.{one_longest_match}
 use Rattle.net_model.specs.Configuration.{Configuration, IsConfiguration, IsInterface}
 use Rattle.net_model.specs.Lookups.{IsNamed, LeastArc, LongestConnected}
 use Rattle.net_model.specs.Network.{Network, HasConfiguration, UpInterface, Connected, InArea, Adjacent, cost_in, MayJoin}
@@ -99,8 +99,7 @@ LeastArc-unique net z u v c d h k = omega (arith, h.least d k.adjacent, k.least 
 
 pub LongestConnected-unique : (net : Network) (u a : ℕ) (p q : Block) → IsNetwork net → LongestConnected net u a p → LongestConnected net u a q → p ≡ q
 LongestConnected-unique net u a p q n h k =
-    same_block p q a (Connected-block net u p n h.connected) (Connected-block net u q n k.connected)
-    (omega (arith, h.longest q k.connected k.contains, k.longest p h.connected h.contains)) h.contains k.contains
+    one_longest_match (Connected net u) a p q (Connected-block net u p n h.is_offered) (Connected-block net u q n k.is_offered) h k
 
 named_apart : (net : Network) (name : List ℕ) (u v : ℕ) → NamesAscend net → IsNamed net name u → IsNamed net name v → u < v → ⊥
 named_apart net name u v up h k l =

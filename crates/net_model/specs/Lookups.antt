@@ -1,6 +1,7 @@
 -- What is asked of a network.
 use Rattle.std.specs.Prelude.{◌≡◌, ℕ, ◌≤◌, List}
-use Rattle.net_addr.specs.Addresses.{Block, ContainsAddress}
+use Rattle.net_addr.specs.Addresses.{Block}
+use Rattle.net_addr.specs.LongestMatches.{IsLongestMatch}
 use Rattle.net_model.specs.Configuration.{Configuration}
 use Rattle.net_model.specs.Network.{Network, HasConfiguration, Connected, Adjacent}
 use Rattle.net_model.specs.declared.zone.Zone.{Zone}
@@ -17,7 +18,5 @@ pub record LeastArc (net : Network) (zone : Zone) (u v cost : ℕ) : Type 0 wher
   pub least : (other : ℕ) → Adjacent net zone u v other → cost ≤ other
 
 -- the longest prefix that is connected at router u and contains the address
-pub record LongestConnected (net : Network) (u a : ℕ) (p : Block) : Type 0 where
-  pub connected : Connected net u p
-  pub contains : ContainsAddress p a
-  pub longest : (q : Block) → Connected net u q → ContainsAddress q a → q.len ≤ p.len
+abbrev pub LongestConnected : Network → ℕ → ℕ → Block → Type 0
+LongestConnected net u = IsLongestMatch (Connected net u)

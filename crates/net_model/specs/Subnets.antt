@@ -1,6 +1,7 @@
 -- The subnets of a router's interfaces.
-use Rattle.std.specs.Prelude.{◌≡◌, ℕ, ◌≤◌, nat_lt, if◌then◌else◌, List, Option, Some, None, IsTrue, Contains, MatchOption}
-use Rattle.net_addr.specs.Addresses.{Block, ContainsAddress}
+use Rattle.std.specs.Prelude.{◌≡◌, ℕ, nat_lt, if◌then◌else◌, List, Option, Some, None, IsTrue, Contains}
+use Rattle.net_addr.specs.Addresses.{Block}
+use Rattle.net_addr.specs.LongestMatches.{IsBestMatch}
 use Rattle.net_model.specs.declared.interface.Interface.{Interface}
 
 -- an interface is up and has this subnet
@@ -8,22 +9,15 @@ pub record HasSubnet (p : Block) (i : Interface) : Type 0 where
   pub up : IsTrue i.up
   pub subnet : i.subnet ≡ Some p
 
--- an interface of the list is up and has this subnet, which contains the address
-pub record IsSubnetAround (a : ℕ) (interfaces : List Interface) (p : Block) : Type 0 where
+-- an interface of the list is up and has this subnet
+pub record IsSubnetOf (interfaces : List Interface) (p : Block) : Type 0 where
   pub interface : Interface
   pub among : Contains interfaces interface
   pub has : HasSubnet p interface
-  pub contains : ContainsAddress p a
 
--- the longest such subnet
-pub record LongestSubnet (a : ℕ) (interfaces : List Interface) (p : Block) : Type 0 where
-  pub around : IsSubnetAround a interfaces p
-  pub longest : (q : Block) → IsSubnetAround a interfaces q → q.len ≤ p.len
-
--- the longest such subnet, if there is one
+-- the longest such subnet that contains the address, if there is one
 abbrev pub BestSubnet : ℕ → List Interface → Option Block → Type 0
-BestSubnet a interfaces best =
-    MatchOption best ((p : Block) → IsSubnetAround a interfaces p → ⊥) (LongestSubnet a interfaces)
+BestSubnet a interfaces = IsBestMatch (IsSubnetOf interfaces) a
 
 -- the longer of two prefixes, or the one that there is
 abbrev pub longer_of : Option Block → Option Block → Option Block

@@ -1,5 +1,5 @@
 -- Why intervals between cuts tell classes apart, and why numbers by the longest prefix number the classes.
-use Rattle.std.proofs.Common.{◌≡◌, ◌≢◌, ℕ, zero, suc, ◌+◌, ◌^◌, ◌<◌, ◌≤◌, List, length, get_or, map, unwrap_or, Option, Some, None, All, AllPairs, Contains, slice_get, ⊎_elim, arith, refl, sym, ap, subst, ◌∙◌}
+use Rattle.std.proofs.Common.{◌≡◌, ◌≢◌, ℕ, zero, suc, ◌+◌, ◌^◌, ◌<◌, ◌≤◌, List, length, get_or, map, Option, Some, None, All, AllPairs, Contains, slice_get, ⊎_elim, arith, refl, sym, ap, subst, ◌∙◌}
 use Rattle.std.proofs.lemmas.Bool.{cases_lt}
 use Rattle.std.proofs.lemmas.List.{get_or_default, get_or-map, length-map}
 use Rattle.std.proofs.lemmas.List.Elements.{All-contains}
@@ -7,10 +7,13 @@ use Rattle.std.proofs.lemmas.Option.{slice_get_within, get_or_from_slice_get, sa
 use Rattle.std.specs.List.Sorted.{IsStrictlyIncreasing}
 use Rattle.net_addr.specs.Addresses.{Block, ContainsAddress, IsBlock}
 use Rattle.net_addr.specs.Boundaries.{SameBlocksContain}
-use Rattle.net_addr.proofs.Blocks.{same_block, Covers-common, ContainsAddress-covers}
+use Rattle.net_addr.specs.LongestMatches.{IsLongestMatch, MatchAt, IsMatch, AreMatches}
+use Rattle.net_addr.specs.declared.matches.Match.{Match}
+use Rattle.net_addr.proofs.LongestMatchLaws.{IsLongestMatch-alike, IsMatch-alike, IsMatch-within, one_longest_match}
+use Rattle.net_addr.proofs.Blocks.{Covers-common, ContainsAddress-covers}
 use Rattle.net_addr.proofs.BoundaryFacts.{ContainsAddress-alike}
 use Rattle.prefix_atoms.specs.Classes.{AreSamples, Classes}
-use Rattle.prefix_atoms.specs.Lists.{AreCuts, IsLongest, AreLongest}
+use Rattle.prefix_atoms.specs.Lists.{AreCuts, place_or}
 use Rattle.prefix_atoms.specs.Numbers.{IsNumbering, NumbersClasses, ArePicked, InInterval, TellClasses}
 use Rattle.prefix_atoms.proofs.Ascending.{below_later, at_most_later, start_is_last}
 use Rattle.prefix_atoms.proofs.ClassLaws.{alike_sym, alike_trans}
@@ -73,29 +76,22 @@ each_in_interval cuts (a) some first =
 -- The longest prefix tells the class
 
 -- addresses with one longest prefix are in one class, since a prefix that contains one covers that prefix
-longest_alike : (prefixes : List Block) (a b : ℕ) (o : Option ℕ) → All IsBlock prefixes → IsLongest prefixes a o → IsLongest prefixes b o → SameBlocksContain prefixes a b
-longest_alike prefixes a b None blocks one two p member = (
-  λ inside. absurd (All-contains (λ q. ¬ ContainsAddress q a) prefixes p one member inside),
-  λ inside. absurd (All-contains (λ q. ¬ ContainsAddress q b) prefixes p two member inside),
-)
-longest_alike prefixes a b (Some place) blocks one two p member =
-    let same : one.prefix ≡ two.prefix = same_Some one.prefix two.prefix (sym one.stands ∙ two.stands) in (
-      longer_contains prefixes a b p one.prefix blocks member (place_member prefixes place one.prefix one.stands) one.contains
-          (subst (λ (q : Block). ContainsAddress q b) (sym same) two.contains)
-          (All-contains (λ q. ContainsAddress q a → q.len ≤ one.prefix.len) prefixes p one.longest member),
-      longer_contains prefixes b a p two.prefix blocks member (place_member prefixes place two.prefix two.stands) two.contains
-          (subst (λ (q : Block). ContainsAddress q a) same one.contains)
-          (All-contains (λ q. ContainsAddress q b → q.len ≤ two.prefix.len) prefixes p two.longest member),
+longest_alike : (prefixes : List Block) (a b : ℕ) (found : Option Match) → All IsBlock prefixes → IsMatch prefixes a found → IsMatch prefixes b found
+    → SameBlocksContain prefixes a b
+longest_alike prefixes a b None blocks one two p member = (λ inside. absurd (one p member inside), λ inside. absurd (two p member inside))
+longest_alike prefixes a b (Some found) blocks one two p member =
+    let same : one.at.prefix ≡ two.at.prefix = same_Some one.at.prefix two.at.prefix (sym one.at.stands ∙ two.at.stands) in (
+      longer_contains prefixes a b p one.at.prefix blocks one.at.match
+          (subst (λ (q : Block). ContainsAddress q b) (sym same) two.at.match.contains) member,
+      longer_contains prefixes b a p two.at.prefix blocks two.at.match
+          (subst (λ (q : Block). ContainsAddress q a) same one.at.match.contains) member,
     )
   where
-    place_member : (prefixes : List Block) (place : ℕ) (p : Block) → slice_get prefixes place ≡ Some p → Contains prefixes p
-    place_member prefixes place p at = (place, slice_get_within prefixes place p at, get_or_from_slice_get prefixes place p p at)
-
-    longer_contains : (prefixes : List Block) (a b : ℕ) (p q : Block) → All IsBlock prefixes → Contains prefixes p → Contains prefixes q
-        → ContainsAddress q a → ContainsAddress q b → (ContainsAddress p a → p.len ≤ q.len) → ContainsAddress p a → ContainsAddress p b
-    longer_contains prefixes a b p q blocks in_p in_q at_a at_b shorter inside =
-        let block : IsBlock q = All-contains IsBlock prefixes q blocks in_q in
-        ContainsAddress-covers p q b block (Covers-common p q a block (shorter inside) inside at_a) at_b
+    longer_contains : (prefixes : List Block) (a b : ℕ) (p q : Block) → All IsBlock prefixes → IsLongestMatch (Contains prefixes) a q
+        → ContainsAddress q b → Contains prefixes p → ContainsAddress p a → ContainsAddress p b
+    longer_contains prefixes a b p q blocks longest at_b in_p inside =
+        let block : IsBlock q = All-contains IsBlock prefixes q blocks longest.is_offered in
+        ContainsAddress-covers p q b block (Covers-common p q a block (longest.longest p in_p inside) inside longest.contains) at_b
 
 -- no prefix of a list without repeats stands at two places
 one_place : (prefixes : List Block) (i j : ℕ) (p : Block) → AllPairs (λ p q. p ≢ q) prefixes → slice_get prefixes i ≡ Some p → slice_get prefixes j ≡ Some p → i ≡ j
@@ -112,74 +108,73 @@ one_place prefixes i j p apart at_i at_j =
     (cases_lt j i))
     (cases_lt i j)
 
+-- matches at one place have one length
+same_match : (prefixes : List Block) (a b : ℕ) (m n : Match) → MatchAt prefixes a m → MatchAt prefixes b n → m.place ≡ n.place → m ≡ n
+same_match prefixes a b m n one two place =
+    let same : one.at.prefix ≡ two.at.prefix = same_Some one.at.prefix two.at.prefix
+    (sym one.at.stands ∙ ap (slice_get prefixes) place ∙ two.at.stands) in
+    let len : m.len ≡ n.len = sym one.len_is ∙ ap (λ (p : Block). p.len) same ∙ two.len_is in
+    λ i. record { place = place i; len = len i }
+
 -- addresses of one class have one longest prefix
-alike_longest : (prefixes : List Block) (a b : ℕ) (o r : Option ℕ) → All IsBlock prefixes → AllPairs (λ p q. p ≢ q) prefixes
-    → IsLongest prefixes a o → IsLongest prefixes b r → SameBlocksContain prefixes a b → o ≡ r
+alike_longest : (prefixes : List Block) (a b : ℕ) (found other : Option Match) → All IsBlock prefixes → AllPairs (λ p q. p ≢ q) prefixes
+    → IsMatch prefixes a found → IsMatch prefixes b other → SameBlocksContain prefixes a b → found ≡ other
 alike_longest prefixes a b None None blocks apart one two alike = refl
-alike_longest prefixes a b None (Some j) blocks apart one two alike =
-    let member : Contains prefixes two.prefix = (j, slice_get_within prefixes j two.prefix two.stands, get_or_from_slice_get prefixes j two.prefix two.prefix two.stands) in
-    absurd (All-contains (λ q. ¬ ContainsAddress q a) prefixes two.prefix one member ((alike two.prefix member).1 two.contains))
-alike_longest prefixes a b (Some i) None blocks apart one two alike =
-    let member : Contains prefixes one.prefix = (i, slice_get_within prefixes i one.prefix one.stands, get_or_from_slice_get prefixes i one.prefix one.prefix one.stands) in
-    absurd (All-contains (λ q. ¬ ContainsAddress q b) prefixes one.prefix two member ((alike one.prefix member).0 one.contains))
-alike_longest prefixes a b (Some i) (Some j) blocks apart one two alike =
-    let in_one : Contains prefixes one.prefix = (i, slice_get_within prefixes i one.prefix one.stands, get_or_from_slice_get prefixes i one.prefix one.prefix one.stands) in
-    let in_two : Contains prefixes two.prefix = (j, slice_get_within prefixes j two.prefix two.stands, get_or_from_slice_get prefixes j two.prefix two.prefix two.stands) in
-    let one_at_b : ContainsAddress one.prefix b = (alike one.prefix in_one).0 one.contains in
-    let two_at_a : ContainsAddress two.prefix a = (alike two.prefix in_two).1 two.contains in
-    let up : one.prefix.len ≤ two.prefix.len = All-contains (λ q. ContainsAddress q b → q.len ≤ two.prefix.len) prefixes one.prefix two.longest in_one one_at_b in
-    let down : two.prefix.len ≤ one.prefix.len = All-contains (λ q. ContainsAddress q a → q.len ≤ one.prefix.len) prefixes two.prefix one.longest in_two two_at_a in
-    let len : one.prefix.len ≡ two.prefix.len = omega arith in
-    let same : one.prefix ≡ two.prefix = same_block one.prefix two.prefix a
-    (All-contains IsBlock prefixes one.prefix blocks in_one) (All-contains IsBlock prefixes two.prefix blocks in_two) len one.contains two_at_a in
-    ap Some (one_place prefixes i j two.prefix apart (subst (λ (q : Block). slice_get prefixes i ≡ Some q) same one.stands) two.stands)
+alike_longest prefixes a b None (Some n) blocks apart one two alike =
+    absurd (IsMatch-alike prefixes a b None (λ q on. alike q on) one two.at.prefix two.at.match.is_offered two.at.match.contains)
+alike_longest prefixes a b (Some m) None blocks apart one two alike =
+    absurd (IsMatch-alike prefixes b a None (λ q on. ((alike q on).1, (alike q on).0)) two one.at.prefix one.at.match.is_offered one.at.match.contains)
+alike_longest prefixes a b (Some m) (Some n) blocks apart one two alike =
+    let same : one.at.prefix ≡ two.at.prefix = one_longest_match (Contains prefixes) b one.at.prefix two.at.prefix
+    (All-contains IsBlock prefixes one.at.prefix blocks one.at.match.is_offered)
+    (All-contains IsBlock prefixes two.at.prefix blocks two.at.match.is_offered)
+    (IsLongestMatch-alike (Contains prefixes) a b one.at.prefix (λ q on. alike q on) one.at.match) two.at.match in
+    ap Some (same_match prefixes a b m n one two
+    (one_place prefixes m.place n.place two.at.prefix apart (subst (λ (q : Block). slice_get prefixes m.place ≡ Some q) same one.at.stands) two.at.stands))
 
 -- Keys
 
--- the place of the longest prefix, and the count of prefixes where there is none
-abbrev pub key_of : ℕ → Option ℕ → ℕ
-key_of n o = unwrap_or o n
-
--- equal keys are of equal places
-same_found : (prefixes : List Block) (a b : ℕ) (o r : Option ℕ) → IsLongest prefixes a o → IsLongest prefixes b r
-    → key_of (length prefixes) o ≡ key_of (length prefixes) r → o ≡ r
+-- equal keys are of one match
+same_found : (prefixes : List Block) (a b : ℕ) (found other : Option Match) → IsMatch prefixes a found → IsMatch prefixes b other
+    → place_or (length prefixes) found ≡ place_or (length prefixes) other → found ≡ other
 same_found prefixes a b None None h k e = refl
-same_found prefixes a b None (Some j) h k e = let l : j < length prefixes = slice_get_within prefixes j k.prefix k.stands in absurd (omega arith)
-same_found prefixes a b (Some i) None h k e = let l : i < length prefixes = slice_get_within prefixes i h.prefix h.stands in absurd (omega arith)
-same_found prefixes a b (Some i) (Some j) h k e = ap Some e
+same_found prefixes a b None (Some n) h k e = let l : n.place < length prefixes = IsMatch-within prefixes b (Some n) k in absurd (omega arith)
+same_found prefixes a b (Some m) None h k e = let l : m.place < length prefixes = IsMatch-within prefixes a (Some m) h in absurd (omega arith)
+same_found prefixes a b (Some m) (Some n) h k e = ap Some (same_match prefixes a b m n h k e)
 
 -- Classes
 
 -- the key of each cut is that of its longest prefix
-key_at : (n : ℕ) (found : List (Option ℕ)) (keys : List ℕ) (i : ℕ) → keys ≡ map (key_of n) found → i < length found
-    → get_or keys i 0 ≡ key_of n (get_or found i None)
-key_at n found keys i keyed l = ap (λ (ks : List ℕ). get_or ks i 0) keyed ∙ get_or-map (key_of n) found i None 0 l
+key_at : (n : ℕ) (found : List (Option Match)) (keys : List ℕ) (i : ℕ) → keys ≡ map (place_or n) found → i < length found
+    → get_or keys i 0 ≡ place_or n (get_or found i None)
+key_at n found keys i keyed l = ap (λ (ks : List ℕ). get_or ks i 0) keyed ∙ get_or-map (place_or n) found i None 0 l
 
-pub keys_count : (n : ℕ) (found : List (Option ℕ)) (keys : List ℕ) → keys ≡ map (key_of n) found → length keys ≡ length found
-keys_count n found keys keyed = ap length keyed ∙ length-map found (key_of n)
+pub keys_count : (n : ℕ) (found : List (Option Match)) (keys : List ℕ) → keys ≡ map (place_or n) found → length keys ≡ length found
+keys_count n found keys keyed = ap length keyed ∙ length-map found (place_or n)
 
-key_within : (prefixes : List Block) (a : ℕ) (o : Option ℕ) → IsLongest prefixes a o → key_of (length prefixes) o < length prefixes + 1
+key_within : (prefixes : List Block) (a : ℕ) (found : Option Match) → IsMatch prefixes a found → place_or (length prefixes) found < length prefixes + 1
 key_within prefixes a None h = omega arith
-key_within prefixes a (Some place) h = let l : place < length prefixes = slice_get_within prefixes place h.prefix h.stands in omega arith
+key_within prefixes a (Some m) h = let l : m.place < length prefixes = IsMatch-within prefixes a (Some m) h in omega arith
 
 -- no key is above the count of prefixes
-pub keys_below : (prefixes : List Block) (cuts : List ℕ) (found : List (Option ℕ)) (keys : List ℕ) → AreLongest prefixes cuts found
-    → keys ≡ map (key_of (length prefixes)) found → All (λ key. key < length prefixes + 1) keys
+pub keys_below : (prefixes : List Block) (cuts : List ℕ) (found : List (Option Match)) (keys : List ℕ) → AreMatches prefixes cuts found
+    → keys ≡ map (place_or (length prefixes)) found → All (λ key. key < length prefixes + 1) keys
 keys_below prefixes cuts found keys longest keyed k d l =
     let within : k < length found = omega (arith, keys_count (length prefixes) found keys keyed) in
-    let at : get_or keys k d ≡ key_of (length prefixes) (get_or found k None) = get_or_default keys k d 0 l ∙ key_at (length prefixes) found keys k keyed within in
-    let low : key_of (length prefixes) (get_or found k None) < length prefixes + 1 =
+    let at : get_or keys k d ≡ place_or (length prefixes) (get_or found k None) = get_or_default keys k d 0 l ∙ key_at
+    (length prefixes) found keys k keyed within in
+    let low : place_or (length prefixes) (get_or found k None) < length prefixes + 1 =
     key_within prefixes (get_or cuts k 0) (get_or found k None) (longest.each k (omega (arith, longest.count))) in
     omega arith
 
 -- numbers by the longest prefix number the classes
-pub numbers_classes : (prefixes : List Block) (cuts : List ℕ) (found : List (Option ℕ)) (keys numbers firsts : List ℕ)
-    → All IsBlock prefixes → AllPairs (λ p q. p ≢ q) prefixes → AreLongest prefixes cuts found
-    → keys ≡ map (key_of (length prefixes)) found → IsNumbering keys numbers firsts → NumbersClasses prefixes cuts numbers firsts
+pub numbers_classes : (prefixes : List Block) (cuts : List ℕ) (found : List (Option Match)) (keys numbers firsts : List ℕ)
+    → All IsBlock prefixes → AllPairs (λ p q. p ≢ q) prefixes → AreMatches prefixes cuts found
+    → keys ≡ map (place_or (length prefixes)) found → IsNumbering keys numbers firsts → NumbersClasses prefixes cuts numbers firsts
 numbers_classes prefixes cuts found keys numbers firsts blocks apart longest keyed numbering =
     let n : ℕ = length prefixes in
     let many : length keys ≡ length cuts = keys_count n found keys keyed ∙ longest.count in
-    let at : (i : ℕ) → i < length cuts → get_or keys i 0 ≡ key_of n (get_or found i None) =
+    let at : (i : ℕ) → i < length cuts → get_or keys i 0 ≡ place_or n (get_or found i None) =
     λ i l. key_at n found keys i keyed (omega (arith, longest.count)) in
     record {
       count = numbering.count ∙ many;
@@ -190,7 +185,7 @@ numbers_classes prefixes cuts found keys numbers firsts blocks apart longest key
           let in_j : j < length cuts = omega arith in
           let one : get_or found j None ≡ get_or found (get_or firsts k 0) None = alike_longest prefixes (get_or cuts j 0) (get_or cuts (get_or firsts k 0) 0)
           (get_or found j None) (get_or found (get_or firsts k 0) None) blocks apart (longest.each j in_j) (longest.each (get_or firsts k 0) in_f) alike in
-          numbering.first k j l before (at j in_j ∙ ap (key_of n) one ∙ sym (at (get_or firsts k 0) in_f));
+          numbering.first k j l before (at j in_j ∙ ap (place_or n) one ∙ sym (at (get_or firsts k 0) in_f));
       numbered = λ j l. numbering.numbered j (omega arith);
       same = λ j l.
           let f : ℕ = get_or firsts (get_or numbers j 0) 0 in
@@ -199,7 +194,7 @@ numbers_classes prefixes cuts found keys numbers firsts blocks apart longest key
           let one : get_or found f None ≡ get_or found j None = same_found prefixes (get_or cuts f 0) (get_or cuts j 0) (get_or found f None) (get_or found j None)
           (longest.each f in_f) (longest.each j l) (sym (at f in_f) ∙ numbering.same j in_keys ∙ at j l) in
           longest_alike prefixes (get_or cuts f 0) (get_or cuts j 0) (get_or found j None) blocks
-          (subst (IsLongest prefixes (get_or cuts f 0)) one (longest.each f in_f)) (longest.each j l);
+          (subst (IsMatch prefixes (get_or cuts f 0)) one (longest.each f in_f)) (longest.each j l);
     }
 
 -- what the steps of the construction have made of the prefixes

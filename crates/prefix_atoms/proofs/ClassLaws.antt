@@ -3,15 +3,17 @@ use Rattle.std.proofs.Common.{◌≡◌, ℕ, ◌<◌, ◌≤◌, ◌↔◌, Lis
 use Rattle.std.proofs.lemmas.Bool.{cases_lt}
 use Rattle.net_addr.specs.Addresses.{Block, ContainsAddress}
 use Rattle.net_addr.specs.Boundaries.{SameBlocksContain}
+use Rattle.net_addr.proofs.LongestMatchLaws.{IsLongestMatch-alike}
 use Rattle.net_model.specs.Lookups.{LongestConnected}
-use Rattle.net_model.specs.Network.{Network}
+use Rattle.net_model.specs.Network.{Network, Connected}
+use Rattle.route_core.specs.Tables.{LongestEntry}
 use Rattle.route_core.specs.declared.entry.Entry.{Entry}
 use Rattle.igp_theory.specs.Forwarding.{IsOriginated, IsTarget, Usable, Counts, connected_counts, old_counts, new_counts, Uses, MustForward, Steps}
 use Rattle.igp_theory.specs.Routes.{Tables}
 use Rattle.igp_theory.specs.States.{State, StepsIn, Follows, IsSoundAt}
 use Rattle.igp_theory.specs.declared.phase.Phase.{Phase}
 use Rattle.prefix_atoms.specs.Classes.{Occurs, connected_occurs, old_occurs, new_occurs, AreSamples, Classes, IsInClass, HasTarget, AreClasses}
-use Rattle.prefix_atoms.specs.Laws.{LongestOf, ActAlike}
+use Rattle.prefix_atoms.specs.Laws.{ActAlike}
 use Rattle.prefix_atoms.proofs.Ascending.{below_later}
 
 -- the same blocks contain both, whichever is named first
@@ -39,12 +41,15 @@ counting_occurs {u = u} (connected_counts h) = connected_occurs u h
 counting_occurs {u = u} (old_counts {e = e} _ _ _ _ _ listed) = old_occurs u e listed
 counting_occurs {u = u} (new_counts {e = e} _ listed) = new_occurs u e listed
 
+-- what occurs contains both addresses or neither
+alike_both : {net : Network} {old new : Tables} {a b : ℕ} → OccurAlike net old new a b → (offered : Block → Type 0)
+    → ((q : Block) → offered q → Occurs net old new q)
+    → (q : Block) → offered q → ContainsAddress q a ↔ ContainsAddress q b
+alike_both h offered occurs q on = (h.to q (occurs q on), h.from q (occurs q on))
+
 same_target : {net : Network} {old new : Tables} {a b : ℕ} → OccurAlike net old new a b → (p : Block) → IsTarget net a p → IsTarget net b p
-same_target {net} {old} {new} h p t = record {
-  originated = t.originated;
-  contains = h.to p (originated_occurs old new t.originated) t.contains;
-  longest = λ q o inside. t.longest q o (h.from q (originated_occurs old new o) inside);
-}
+same_target {net} {old} {new} {a} {b} h p t =
+    IsLongestMatch-alike (IsOriginated net) a b p (alike_both h (IsOriginated net) (λ q on. originated_occurs old new on)) t
 
 -- addresses that the same prefixes contain have one target, or none
 pub has_target_alike : {net : Network} {old new : Tables} {a b : ℕ} → OccurAlike net old new a b → (t : Option Block) → HasTarget net a t → HasTarget net b t
@@ -52,24 +57,23 @@ has_target_alike h (Some p) t = same_target h p t
 has_target_alike h None none = λ p t. none p (same_target (flip h) p t)
 
 same_connected : {net : Network} {old new : Tables} {a b : ℕ} → OccurAlike net old new a b → (u : ℕ) (p : Block) → LongestConnected net u a p → LongestConnected net u b p
-same_connected h u p t = record {
-  connected = t.connected;
-  contains = h.to p (connected_occurs u t.connected) t.contains;
-  longest = λ q o inside. t.longest q o (h.from q (connected_occurs u o) inside);
+same_connected {net} {old} {new} {a} {b} h u p t = IsLongestMatch-alike (Connected net u) a b p (alike_both h (Connected net u)
+    (λ q on. connected_occurs u on)) t
+
+same_old : {net : Network} {old new : Tables} {a b : ℕ} → OccurAlike net old new a b → (u : ℕ) (p : Block) (e : Entry) → LongestEntry (old u) a p e
+    → LongestEntry (old u) b p e
+same_old {net} {old} {new} {a} {b} h u p e t = record {
+  listed = t.listed;
+  match = IsLongestMatch-alike (λ q. (f : Entry) × old u q f) a b p
+      (alike_both h (λ q. (f : Entry) × old u q f) (λ q on. old_occurs u on.0 on.1)) t.match;
 }
 
-same_old : {net : Network} {old new : Tables} {a b : ℕ} → OccurAlike net old new a b → (u : ℕ) (p : Block) (e : Entry) → LongestOf old u a p e → LongestOf old u b p e
-same_old h u p e t = record {
+same_new : {net : Network} {old new : Tables} {a b : ℕ} → OccurAlike net old new a b → (u : ℕ) (p : Block) (e : Entry) → LongestEntry (new u) a p e
+    → LongestEntry (new u) b p e
+same_new {net} {old} {new} {a} {b} h u p e t = record {
   listed = t.listed;
-  contains = h.to p (old_occurs u e t.listed) t.contains;
-  longest = λ q f o inside. t.longest q f o (h.from q (old_occurs u f o) inside);
-}
-
-same_new : {net : Network} {old new : Tables} {a b : ℕ} → OccurAlike net old new a b → (u : ℕ) (p : Block) (e : Entry) → LongestOf new u a p e → LongestOf new u b p e
-same_new h u p e t = record {
-  listed = t.listed;
-  contains = h.to p (new_occurs u e t.listed) t.contains;
-  longest = λ q f o inside. t.longest q f o (h.from q (new_occurs u f o) inside);
+  match = IsLongestMatch-alike (λ q. (f : Entry) × new u q f) a b p
+      (alike_both h (λ q. (f : Entry) × new u q f) (λ q on. new_occurs u on.0 on.1)) t.match;
 }
 
 same_used : {net : Network} {old new : Tables} {a b : ℕ} → OccurAlike net old new a b → (u : ℕ) (phase : Phase) (x : Usable) →

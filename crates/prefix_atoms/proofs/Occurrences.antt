@@ -2,19 +2,23 @@
 use Rattle.std.proofs.Common.{◌≡◌, ℕ, zero, suc, ◌<◌, ◌≤◌, ◌⊎◌, ◌↔◌, inl, inr, Bool, true, false, ◌&&◌, ◌||◌, if◌then◌else◌, List, [], ◌++◌, get_or, map, Option, Some, None, IsTrue, IsSome, is_some, Contains, ⊎_elim, arith, refl, sym, ap, subst, ◌∙◌}
 use Rattle.std.specs.List.{slice_get, filter_map}
 use Rattle.std.proofs.lemmas.Bool.{cases_lt}
-use Rattle.std.proofs.lemmas.List.Elements.{All-contains, Contains-append_left, Contains-append_right, Contains-append_cases}
+use Rattle.std.proofs.lemmas.List.Elements.{Contains-append_left, Contains-append_right, Contains-append_cases}
 use Rattle.std.proofs.lemmas.Option.{slice_get_within, slice_get-get_or, get_or_from_slice_get}
-use Rattle.net_addr.specs.Addresses.{Block, ContainsAddress}
+use Rattle.net_addr.specs.Addresses.{Block}
+use Rattle.net_addr.specs.LongestMatches.{IsBestMatch}
+use Rattle.net_addr.proofs.LongestMatchLaws.{IsLongestMatch-same, HasNoMatch-same}
 use Rattle.net_model.specs.Configuration.{Configuration}
 use Rattle.net_model.specs.DestLists.{subnet_if_up, own_dests, all_dests}
 use Rattle.net_model.specs.Network.{Network, Connected}
 use Rattle.net_model.specs.declared.area.Range.{Range}
 use Rattle.net_model.proofs.Members.{Contains-flat_map, Contains-in_flat_map, Contains-map, Contains-in_map, Contains-filter_map, Contains-in_filter_map, Contains-none}
+use Rattle.route_core.specs.Tables.{table_prefixes}
 use Rattle.route_core.specs.declared.entry.Entry.{Entry}
+use Rattle.route_core.proofs.TableLaws.{entry_of_prefix}
 use Rattle.igp_theory.specs.Forwarding.{IsOriginated}
 use Rattle.igp_theory.specs.Routes.{Tables}
 use Rattle.prefix_atoms.specs.Classes.{SourceEntry, HasRangeOf, Occurs, connected_occurs, range_occurs, old_occurs, new_occurs, HasTarget, Classes, AreClasses}
-use Rattle.prefix_atoms.specs.Lists.{originated_subnet, all_originated, table_prefixes, source_prefixes, IsLongestPrefix, AreClassesOf}
+use Rattle.prefix_atoms.specs.Lists.{originated_subnet, all_originated, source_prefixes, AreClassesOf}
 use Rattle.prefix_atoms.proofs.ClassLaws.{occur_alike, has_target_alike}
 
 -- what stands in a list stands at some place
@@ -94,11 +98,6 @@ range_listed net u p r =
 
 -- Sources
 
-entry_of_prefix : (entries : List (Block × Entry)) (p : Block) → Contains (table_prefixes entries) p → (e : Entry) × Contains entries (p, e)
-entry_of_prefix entries p h =
-    let one = Contains-map (λ (x : Block × Entry). x.0) entries p h in
-    (one.item.1, subst (λ (q : Block). Contains entries (q, one.item.1)) one.gives one.among)
-
 source_entry : (table : ℕ → List (Block × Entry)) (n : ℕ) (p : Block) → Contains (source_prefixes table n) p → (u : ℕ) × (u < n) × (e : Entry) × Contains (table u) (p, e)
 source_entry table zero p h = absurd (Contains-none p h)
 source_entry table (suc n) p h = ⊎_elim
@@ -169,14 +168,12 @@ list_from_originated net p o =
     (three_of_some o.interface.area o.interface.level1 o.interface.level2 o.runs)) o.subnet))
 
 -- the longest originated prefix is the target
-pub target_from_list : (net : Network) (a : ℕ) (t : Option Block) → IsLongestPrefix (all_originated net) a t → HasTarget net a t
+pub target_from_list : (net : Network) (a : ℕ) (t : Option Block) → IsBestMatch (Contains (all_originated net)) a t → HasTarget net a t
 target_from_list net a None h = λ p target.
-    All-contains (λ q. ¬ ContainsAddress q a) (all_originated net) p h (list_from_originated net p target.originated) target.contains
-target_from_list net a (Some p) h = record {
-  originated = originated_from_list net p h.listed;
-  contains = h.contains;
-  longest = λ q o inside. All-contains (λ r. ContainsAddress r a → r.len ≤ p.len) (all_originated net) q h.longest (list_from_originated net q o) inside;
-}
+    HasNoMatch-same (Contains (all_originated net)) (IsOriginated net) a (λ q.
+    (originated_from_list net q, list_from_originated net q)) h p target.is_offered target.contains
+target_from_list net a (Some p) h = IsLongestMatch-same (Contains (all_originated net)) (IsOriginated net) a p (λ q.
+    (originated_from_list net q, list_from_originated net q)) h
 
 -- a list that gained the prefixes of the network and then those of both sources
 pub gathered : (start first second all net old new : List Block) → start ≡ [] → first ≡ start ++ net → second ≡ first ++ old → all ≡ second ++ new
@@ -195,8 +192,8 @@ classes_collected net o n old new collected prefixes originated c all same targe
       has_target_alike (occur_alike net (SourceEntry o old) (SourceEntry n new) c.prefixes (get_or c.samples k 0) a
       (classes_occur net o n old new collected prefixes c.prefixes all same are.prefixes_are) inside.alike) t
       (target_from_list net (get_or c.samples k 0) t
-      (subst (λ (ps : List Block). IsLongestPrefix ps (get_or c.samples k 0) t) targets
-      (subst (IsLongestPrefix originated (get_or c.samples k 0)) (get_or_from_slice_get c.targets k t None at) (are.targets.each k inside.class))));
+      (subst (λ (ps : List Block). IsBestMatch (Contains ps) (get_or c.samples k 0) t) targets
+      (subst (IsBestMatch (Contains originated) (get_or c.samples k 0)) (get_or_from_slice_get c.targets k t None at) (are.targets.each k inside.class))));
 }
   where
     classes_occur : (net : Network) (o n : ℕ) (old new : ℕ → List (Block × Entry)) (collected prefixes mine : List Block)

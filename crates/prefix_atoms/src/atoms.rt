@@ -1,8 +1,8 @@
-ghost use Rattle.std.specs.Prelude.{◌≡◌, ◌≢◌, ◌<◌, ◌≤◌, ◌^◌, ◌+◌, All, AllPairs, IfOk, IfSome, List, length, map, slice_get, slice_index, Some, unwrap_or};
+ghost use Rattle.std.specs.Prelude.{◌≡◌, ◌≢◌, ◌<◌, ◌≤◌, ◌^◌, ◌+◌, All, AllPairs, IfOk, IfSome, List, length, map, slice_get, slice_index, Some};
 ghost use Rattle.std.specs.List.Sorted.{IsStrictlyIncreasing};
 ghost use Rattle.net_addr.specs.Addresses.{IsBlock};
 ghost use Rattle.prefix_atoms.specs.Classes.{AreClasses, IsClassing, IsInClass, SourceEntry};
-ghost use Rattle.prefix_atoms.specs.Lists.{AreClassesOf, AreTargets, IsPrefixAt};
+ghost use Rattle.prefix_atoms.specs.Lists.{AreClassesOf, AreTargets, IsPrefixAt, place_or};
 ghost use Rattle.prefix_atoms.specs.Numbers.{ArePicked, InInterval, NumbersClasses};
 
 use crate::collect::{add_net, add_source, originated_prefixes};
@@ -10,7 +10,7 @@ use crate::cuts::cuts_of;
 use crate::distinct::keep_distinct_prefixes;
 use crate::longest::{longest_of_each, place_of};
 use crate::number::{Numbering, number};
-use net_addr::Prefix;
+use net_addr::{Match, Prefix};
 use net_model::Net;
 use route_core::RouteSource;
 use std::alloc::{AllocError as OutOfMemory, Global};
@@ -134,11 +134,21 @@ fn number_cuts(alloc: Global, prefixes: &[Prefix], cuts: &[u32]) -> Result<Numbe
     number(alloc, keys.as_slice(), prefixes.len() + 1)
 }
 
-/// A key for each place: the place, and a key of its own for none.
-fn keys_of(alloc: Global, found: &[Option<usize>], none: usize) -> Result<Vec<usize>, OutOfMemory>
-    ensures { IfOk result (λ v. v.items ≡ map (λ o. unwrap_or o none) found.now) }
+/// A key for each match: its place, and a key of its own for none.
+fn keys_of(alloc: Global, found: &[Option<Match>], none: usize) -> Result<Vec<usize>, OutOfMemory>
+    ensures { IfOk result (λ v. v.items ≡ map (place_or none) found.now) }
 {
-    found.iter().map(|o| o.unwrap_or(none)).collect(alloc)
+    found.iter().map(|one| place_or(*one, none)).collect(alloc)
+}
+
+/// The place of a match, and this number where there is none.
+fn place_or(found: Option<Match>, none: usize) -> usize
+    ensures { result ≡ place_or none found }
+{
+    match found {
+        Some(found) => found.place,
+        None => none,
+    }
 }
 
 /// The numbers that stand at these places.
@@ -164,19 +174,19 @@ fn targets_of(
 {
     let found = longest_of_each(alloc, prefixes, addresses)?;
     let mut targets = Vec::new(alloc);
-    for place in found.as_slice() {
-        targets.push(prefix_at(prefixes, *place))?;
+    for one in found.as_slice() {
+        targets.push(prefix_at(prefixes, *one))?;
     }
     Ok(targets)
 }
 
-/// The prefix at a place, none where there is no place.
-fn prefix_at(prefixes: &[Prefix], place: Option<usize>) -> Option<Prefix>
-    requires { IfSome place (λ i. i < length prefixes.now) }
-    ensures { IsPrefixAt prefixes.now place result }
+/// The prefix at the place of a match, none where there is none.
+fn prefix_at(prefixes: &[Prefix], found: Option<Match>) -> Option<Prefix>
+    requires { IfSome found (λ one. one.place < length prefixes.now) }
+    ensures { IsPrefixAt prefixes.now found result }
 {
-    let place = place?;
-    Some(prefixes[place])
+    let found = found?;
+    Some(prefixes[found.place])
 }
 
 /// The place of the interval that an address lies in.

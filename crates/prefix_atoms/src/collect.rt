@@ -1,7 +1,8 @@
 ghost use Rattle.std.specs.Prelude.{◌≡◌, ◌++◌, [], IfOk, OnOk, map};
 ghost use Rattle.std.specs.List.{cons_option, filter_map};
 ghost use Rattle.net_model.specs.DestLists.{all_dests, subnet_if_up};
-ghost use Rattle.prefix_atoms.specs.Lists.{all_originated, originated_subnet, source_prefixes, table_prefixes};
+ghost use Rattle.prefix_atoms.specs.Lists.{all_originated, originated_subnet, source_prefixes};
+ghost use Rattle.route_core.specs.Tables.{table_prefixes};
 
 use net_addr::Prefix;
 use net_model::{Interface, Net, Range};

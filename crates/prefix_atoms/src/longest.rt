@@ -1,21 +1,22 @@
-ghost use Rattle.std.specs.Prelude.{◌≡◌, ◌+◌, ◌<◌, All, IfOk, OnOk, IfSome, Some, length, take, slice_get};
+ghost use Rattle.std.specs.Prelude.{◌≡◌, ◌+◌, ◌<◌, All, IfOk, OnOk, Some, length, take, slice_get};
 ghost use Rattle.std.specs.List.Sorted.{IsStrictlyIncreasing};
 ghost use Rattle.net_addr.specs.Addresses.{Block, IsBlock};
-ghost use Rattle.prefix_atoms.specs.Lists.{AreLongest, IsPlaceOf, TakesLonger};
+ghost use Rattle.net_addr.specs.LongestMatches.{AreMatches};
+ghost use Rattle.prefix_atoms.specs.Lists.{IsPlaceOf};
 
-use net_addr::Prefix;
+use net_addr::{Match, Prefix};
 use std::alloc::{AllocError as OutOfMemory, Global};
 
-/// For each address the place of the longest of the prefixes that contain it.
+/// For each address the longest match among the prefixes.
 ///
 /// The addresses ascend, so those of one prefix stand side by side.
 pub fn longest_of_each(
     alloc: Global,
     prefixes: &[Prefix],
     addresses: &[u32],
-) -> Result<Vec<Option<usize>>, OutOfMemory>
+) -> Result<Vec<Option<Match>>, OutOfMemory>
     requires { IsStrictlyIncreasing addresses.now }
-    ensures longest { IfOk result (λ v. AreLongest prefixes.now addresses.now v.items) }
+    ensures longest { IfOk result (λ v. AreMatches prefixes.now addresses.now v.items) }
     ensures blocks { OnOk result (All IsBlock prefixes.now) }
 {
     let mut found = vec![in alloc; None; addresses.len()]?;
@@ -26,20 +27,25 @@ pub fn longest_of_each(
 }
 
 /// Gives the addresses of a prefix that prefix, where it is longer than the one found before.
-fn take_prefix(prefixes: &[Prefix], place: usize, addresses: &[u32], found: &mut Vec<Option<usize>>)
+fn take_prefix(prefixes: &[Prefix], place: usize, addresses: &[u32], found: &mut Vec<Option<Match>>)
     requires place { place < length prefixes.now }
     requires ascending { IsStrictlyIncreasing addresses.now }
-    requires found { AreLongest (take place prefixes.now) addresses.now found.old.items }
-    ensures longest { AreLongest (take (place + 1) prefixes.now) addresses.now found.new.items }
+    requires found { AreMatches (take place prefixes.now) addresses.now found.old.items }
+    ensures longest { AreMatches (take (place + 1) prefixes.now) addresses.now found.new.items }
     ensures block { (p : Block) → slice_get prefixes.now place ≡ Some p → IsBlock p }
 {
-    let base = prefixes[place].base();
-    let last = prefixes[place].last();
+    let prefix = prefixes[place];
+    let base = prefix.base();
+    let last = prefix.last();
+    let next = Match {
+        place,
+        len: prefix.len(),
+    };
     for i in place_of(addresses, base)..addresses.len() {
         if addresses[i] > last {
             return;
         }
-        found[i] = longer(prefixes, found[i], place);
+        found[i] = Some(next.or_longer(found[i]));
     }
 }
 
@@ -51,17 +57,5 @@ pub fn place_of(numbers: &[u32], x: u32) -> usize
     match numbers.binary_search(&x) {
         Ok(place) => place,
         Err(place) => place,
-    }
-}
-
-/// The longer of two prefixes by place, the one found before where they are as long.
-fn longer(prefixes: &[Prefix], found: Option<usize>, place: usize) -> Option<usize>
-    requires found { IfSome found (λ old. old < length prefixes.now) }
-    requires place { place < length prefixes.now }
-    ensures { TakesLonger prefixes.now found place result }
-{
-    match found {
-        Some(old) if prefixes[place].len() <= prefixes[old].len() => found,
-        _ => Some(place),
     }
 }

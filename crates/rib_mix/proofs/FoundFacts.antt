@@ -2,19 +2,21 @@
 use Rattle.std.proofs.Common.{◌≡◌, ℕ, ◌<◌, ◌↔◌, List, length, get_or, Option, Some, None, Contains, slice_get, arith, refl, sym, ap, subst}
 use Rattle.std.proofs.lemmas.Option.{slice_get_read}
 use Rattle.net_addr.specs.Addresses.{Block, ContainsAddress}
+use Rattle.net_addr.specs.LongestMatches.{IsMatch}
+use Rattle.net_addr.specs.declared.matches.Match.{Match}
+use Rattle.net_addr.proofs.LongestMatchLaws.{HasNoMatch-alike, IsLongestMatch-alike, IsMatch-alike}
 use Rattle.net_model.specs.Network.{Network, HasConfiguration, Connected}
 use Rattle.net_model.specs.Configuration.{Configuration}
 use Rattle.route_core.specs.declared.entry.Entry.{Entry}
-use Rattle.route_core.proofs.TableLaws.{LongestEntry-same_prefixes, NoneContains-same_prefixes}
+use Rattle.route_core.proofs.TableLaws.{entry_of_prefix}
 use Rattle.prefix_atoms.specs.Classes.{Classes, AreClasses, SourceEntry, connected_occurs, old_occurs, new_occurs, IsInClass}
 use Rattle.igp_theory.specs.declared.phase.Phase.{Phase}
-use Rattle.route_core.specs.Tables.{HasEntry}
+use Rattle.route_core.specs.Tables.{HasEntry, table_prefixes}
 use Rattle.rib_mix.specs.Answers.{IsNext}
 use Rattle.rib_mix.specs.Mixture.{Mixture}
 use Rattle.rib_mix.specs.declared.next.Next.{Next}
-use Rattle.rib_mix.specs.Rows.{IsConnectedLength, IsMatch, IsFound, IsMixed}
+use Rattle.rib_mix.specs.Rows.{IsConnectedLength, IsFound, IsMixed}
 use Rattle.rib_mix.specs.declared.found.Found.{Found}
-use Rattle.rib_mix.specs.declared.found.Match.{Match}
 use Rattle.rib_mix.proofs.UsedEntries.{Where, Setting, Lawful}
 
 -- where an answer is asked for
@@ -23,29 +25,18 @@ where_at net old new u a = record { net = net; old = old; new = new; u = u; a = 
 
 connected_alike : (net : Network) (u s a : ℕ) (o : Option ℕ) → ((p : Block) → Connected net u p → ContainsAddress p s ↔ ContainsAddress p a)
     → IsConnectedLength net u s o → IsConnectedLength net u a o
-connected_alike net u s a None same h = λ p c inside. h p c ((same p c).1 inside)
+connected_alike net u s a None same h = HasNoMatch-alike (Connected net u) s a same h
 connected_alike net u s a (Some len) same h = record {
   prefix = h.prefix;
-  longest = record {
-    connected = h.longest.connected;
-    contains = (same h.prefix h.longest.connected).0 h.longest.contains;
-    longest = λ q c inside. h.longest.longest q c ((same q c).1 inside);
-  };
+  longest = IsLongestMatch-alike (Connected net u) s a h.prefix same h.longest;
   len_is = h.len_is;
 }
 
-match_alike : (entries : List (Block × Entry)) (s a : ℕ) (o : Option Match) → ((p : Block) (e : Entry) → Contains entries (p, e) → ContainsAddress p s ↔ ContainsAddress p a)
-    → IsMatch entries s o → IsMatch entries a o
-match_alike entries s a None same h = NoneContains-same_prefixes entries s a same h
-match_alike entries s a (Some m) same h = record {
-  at = record {
-    dest = h.at.dest;
-    entry = h.at.entry;
-    stands = h.at.stands;
-    longest = LongestEntry-same_prefixes entries s a h.at.dest h.at.entry same h.at.longest;
-  };
-  len_is = h.len_is;
-}
+match_alike : (entries : List (Block × Entry)) (s a : ℕ) (found : Option Match)
+    → ((p : Block) (e : Entry) → Contains entries (p, e) → ContainsAddress p s ↔ ContainsAddress p a)
+    → IsMatch (table_prefixes entries) s found → IsMatch (table_prefixes entries) a found
+match_alike entries s a found same h =
+    IsMatch-alike (table_prefixes entries) s a found (λ p has. let one = entry_of_prefix entries p has in same p one.0 one.1) h
 
 -- the prefixes of a router contain the sample of a class and its other addresses alike
 pub found_alike : (net : Network) (old new : ℕ → List (Block × Entry)) (c : Classes) (u k a : ℕ) (found : Found) → u < length net

@@ -1,14 +1,13 @@
--- Lists that are made place by place, and matches from places.
-use Rattle.std.proofs.Common.{◌≡◌, ℕ, zero, suc, ◌+◌, ◌<◌, ◌≤◌, List, [], ◌∷◌, ◌++◌, length, take, get_or, Option, Some, None, IfSome, All, Contains, slice_get, ⊎_elim, arith, sym, ap, subst, ◌∙◌, length-append}
+-- Lists that are made place by place.
+use Rattle.std.proofs.Common.{◌≡◌, ℕ, zero, suc, ◌+◌, ◌<◌, ◌≤◌, List, [], ◌∷◌, ◌++◌, length, take, get_or, Option, Some, None, All, slice_get, ⊎_elim, arith, sym, ap, subst, ◌∙◌, length-append}
 use Rattle.std.proofs.lemmas.Bool.{cases_lt}
-use Rattle.std.proofs.lemmas.List.{take_more, map-append, length-map, get_or-map}
-use Rattle.std.proofs.lemmas.Option.{slice_get_within, get_or_from_slice_get, same_Some}
-use Rattle.net_addr.specs.Addresses.{Block, ContainsAddress, IsBlock}
+use Rattle.std.proofs.lemmas.List.{take_more, map-append, length-map, get_or-map, get_or_default}
+use Rattle.std.proofs.lemmas.Option.{slice_get_within, get_or_from_slice_get}
+use Rattle.net_addr.specs.Addresses.{Block, IsBlock}
+use Rattle.net_addr.specs.declared.matches.Match.{Match}
 use Rattle.route_core.specs.declared.entry.Entry.{Entry}
-use Rattle.route_core.specs.Tables.{HasDistinctPrefixes}
-use Rattle.prefix_atoms.specs.Lists.{IsLongest, AreLongest, table_prefixes}
-use Rattle.rib_mix.specs.Rows.{IsMatch, IsMatchAt, IsLawful}
-use Rattle.rib_mix.specs.declared.found.Match.{Match}
+use Rattle.route_core.specs.Tables.{HasDistinctPrefixes, table_prefixes}
+use Rattle.rib_mix.specs.Rows.{IsLawful}
 
 slice_get_push_old : {X : Type 0} (xs : List X) (y : X) (k : ℕ) (x : X) → k < length xs → slice_get (xs ++ y ∷ []) k ≡ Some x → slice_get xs k ≡ Some x
 slice_get_push_old [] y k x l h = absurd (omega arith)
@@ -60,48 +59,6 @@ lawful_from entries prefixes same blocks distinct = record {
   distinct = distinct;
 }
 
--- an entry stands where its prefix does
-entry_at : (entries : List (Block × Entry)) (place : ℕ) (p : Block) → slice_get (table_prefixes entries) place ≡ Some p → (e : Entry) × (slice_get entries place ≡ Some (p, e))
-entry_at [] place p h = cc
-entry_at (x ∷ entries) zero p h = (x.1, ap Some (λ i. (same_Some x.0 p h i, x.1)))
-entry_at (x ∷ entries) (suc place) p h = entry_at entries place p h
-
-member_at : (entries : List (Block × Entry)) (place : ℕ) (x : Block × Entry) → slice_get entries place ≡ Some x → Contains entries x
-member_at entries place x h = (place, slice_get_within entries place x h, get_or_from_slice_get entries place x x h)
-
--- the longest prefix's entry is the longest match
-pub match_from : (entries : List (Block × Entry)) (prefixes : List Block) (a : ℕ) (o : Option ℕ) (m : Option Match) → prefixes ≡ table_prefixes entries
-    → IsLongest prefixes a o → IsMatchAt prefixes o m → IsMatch entries a m
-match_from entries prefixes a None m same h at =
-    subst (IsMatch entries a) (sym at) (entries_all (λ q. ¬ ContainsAddress q a) entries (subst (All (λ q. ¬ ContainsAddress q a)) same h))
-match_from entries prefixes a (Some place) m same h at =
-    let one : h.prefix ≡ at.0 = same_Some h.prefix at.0 (sym h.stands ∙ at.1) in
-    let e : (e : Entry) × (slice_get entries place ≡ Some (h.prefix, e)) =
-    entry_at entries place h.prefix (subst (λ (ps : List Block). slice_get ps place ≡ Some h.prefix) same h.stands) in
-    subst (IsMatch entries a) (sym at.2) (record {
-      at = record {
-        dest = h.prefix;
-        entry = e.0;
-        stands = e.1;
-        longest = record {
-          listed = member_at entries place (h.prefix, e.0) e.1;
-          contains = h.contains;
-          longest = entries_all (λ q. ContainsAddress q a → q.len ≤ h.prefix.len) entries
-              (subst (All (λ q. ContainsAddress q a → q.len ≤ h.prefix.len)) same h.longest);
-        };
-      };
-      len_is = ap (λ (q : Block). q.len) one;
-    })
-
--- what was found for the address at a place
-pub place_at : (prefixes p1 : List Block) (addresses : List ℕ) (places items : List (Option ℕ)) (i : ℕ) → AreLongest p1 addresses places → p1 ≡ prefixes → items ≡ places
-    → i < length items → IsLongest prefixes (get_or addresses i 0) (get_or items i None)
-place_at prefixes p1 addresses places items i are same_p same within =
-    let long : length items ≡ length places = ap length same in
-    let one : IsLongest p1 (get_or addresses i 0) (get_or items i None) =
-    subst (λ (os : List (Option ℕ)). IsLongest p1 (get_or addresses i 0) (get_or os i None)) (sym same) (are.each i (omega (arith, are.count))) in
-    subst (λ (ps : List Block). IsLongest ps (get_or addresses i 0) (get_or items i None)) same_p one
-
-pub place_within : (prefixes : List Block) (a : ℕ) (o : Option ℕ) → IsLongest prefixes a o → IfSome o (λ i. i < length prefixes)
-place_within prefixes a None h = tt
-place_within prefixes a (Some place) h = slice_get_within prefixes place h.prefix h.stands
+-- what was read of a list's place stands there
+pub read_match : (found : List (Option Match)) (i : ℕ) (one : Option Match) → i < length found → one ≡ get_or found i one → get_or found i None ≡ one
+read_match found i one within read = get_or_default found i None one within ∙ sym read

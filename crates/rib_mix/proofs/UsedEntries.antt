@@ -3,24 +3,25 @@ use Rattle.std.proofs.Common.{◌≡◌, ◌≢◌, ℕ, ◌≤◌, inl, inr, Bo
 use Rattle.std.proofs.lemmas.List.Elements.{All-contains}
 use Rattle.std.proofs.lemmas.Option.{same_Some, slice_get_within, get_or_from_slice_get}
 use Rattle.net_addr.specs.Addresses.{Block, ContainsAddress, IsBlock}
+use Rattle.net_addr.specs.LongestMatches.{IsMatch}
+use Rattle.net_addr.specs.declared.matches.Match.{Match}
 use Rattle.net_addr.proofs.Blocks.{same_block}
 use Rattle.net_model.specs.Configuration.{Configuration, IsConfiguration, IsInterface, AreDistances}
 use Rattle.net_model.specs.Network.{Network, HasConfiguration, Connected}
 use Rattle.net_model.specs.Refusals.{IsNetwork}
-use Rattle.route_core.specs.Tables.{HasEntry}
-use Rattle.route_core.proofs.TableLaws.{one_entry}
+use Rattle.route_core.specs.Tables.{HasEntry, table_prefixes}
+use Rattle.route_core.proofs.TableLaws.{Contains-from_place, entry_at, one_entry, prefix_of_entry}
 use Rattle.route_core.specs.declared.entry.Entry.{Entry}
 use Rattle.igp_theory.specs.Forwarding.{Usable, connected, of_old, of_new, OldCounts, NewCounts, Counts, connected_counts, old_counts, new_counts, Uses}
 use Rattle.igp_theory.specs.declared.phase.Phase.{Phase}
 use Rattle.igp_theory.specs.declared.phase.Phase.TheVariants.{Old, Middle, New}
 use Rattle.rib_mix.specs.Answers.{Says, IsNext}
 use Rattle.rib_mix.specs.Candidates.{connected_of, old_of, new_of, old_if_counts, new_if_counts, NoWorse, IsBest, IsPlaced, ShowsWay}
-use Rattle.rib_mix.specs.Rows.{IsConnectedLength, IsMatch, IsFound, IsLawful}
+use Rattle.rib_mix.specs.Rows.{IsConnectedLength, IsFound, IsLawful}
 use Rattle.rib_mix.specs.declared.candidate.Candidate.{Candidate}
 use Rattle.rib_mix.specs.declared.candidate.Way.{Way}
 use Rattle.rib_mix.specs.declared.candidate.Way.TheVariants as way
 use Rattle.rib_mix.specs.declared.found.Found.{Found}
-use Rattle.rib_mix.specs.declared.found.Match.{Match}
 use Rattle.rib_mix.specs.declared.next.Next.{Next}
 use Rattle.rib_mix.specs.declared.next.Next.TheVariants.{Absent}
 
@@ -82,26 +83,29 @@ connected_realizes w phase None h = tt
 connected_realizes w phase (Some len) h = record {
   used = connected;
   prefix = h.prefix;
-  counts = connected_counts h.longest.connected;
+  counts = connected_counts h.longest.is_offered;
   contains = h.longest.contains;
   len_is = h.len_is;
   way_is = refl;
 }
 
 old_realizes : (w : Where) (phase : Phase) (ospf : ℕ) (c : Configuration) (o : Option Match) →
-    OldCounts phase → HasConfiguration w.net w.u c → c.distances.ospf ≡ ospf → ospf ≢ 255 → IsMatch (w.old w.u) w.a o → IfSome (old_of ospf o) (Realizes w phase)
+    OldCounts phase → HasConfiguration w.net w.u c → c.distances.ospf ≡ ospf → ospf ≢ 255 → IsMatch (table_prefixes (w.old w.u)) w.a o
+    → IfSome (old_of ospf o) (Realizes w phase)
 old_realizes w phase ospf c None counts has is set h = tt
 old_realizes w phase ospf c (Some m) counts has is set h = record {
-  used = of_old h.at.entry;
-  prefix = h.at.dest;
-  counts = old_counts counts c has is set h.at.longest.listed;
-  contains = h.at.longest.contains;
+  used = of_old (entry_at (w.old w.u) m.place h.at.prefix h.at.stands).0;
+  prefix = h.at.prefix;
+  counts = let e = entry_at (w.old w.u) m.place h.at.prefix h.at.stands in old_counts counts c has is set (Contains-from_place (w.old w.u) m.place
+      (h.at.prefix, e.0) e.1);
+  contains = h.at.match.contains;
   len_is = h.len_is;
-  way_is = (h.at.dest, h.at.entry, h.at.stands, refl);
+  way_is = let e = entry_at (w.old w.u) m.place h.at.prefix h.at.stands in (h.at.prefix, e.0, e.1, refl);
 }
 
 old_if_realizes : (w : Where) (phase : Phase) (ospf : ℕ) (c : Configuration) (o : Option Match) →
-    HasConfiguration w.net w.u c → c.distances.ospf ≡ ospf → IsMatch (w.old w.u) w.a o → IfSome (old_if_counts phase ospf o) (Realizes w phase)
+    HasConfiguration w.net w.u c → c.distances.ospf ≡ ospf → IsMatch (table_prefixes (w.old w.u)) w.a o
+    → IfSome (old_if_counts phase ospf o) (Realizes w phase)
 old_if_realizes w Old ospf c o has is h =
     if_some (Realizes w Old) (not (ospf == 255)) (old_of ospf o) (λ e. old_realizes w Old ospf c o tt has is (not_equal ospf 255 e) h)
 old_if_realizes w Middle ospf c o has is h =
@@ -109,19 +113,19 @@ old_if_realizes w Middle ospf c o has is h =
 old_if_realizes w New ospf c o has is h = tt
 
 new_realizes : (w : Where) (phase : Phase) (o : Option Match) →
-    NewCounts phase → IsMatch (w.new w.u) w.a o → IfSome (new_of o) (Realizes w phase)
+    NewCounts phase → IsMatch (table_prefixes (w.new w.u)) w.a o → IfSome (new_of o) (Realizes w phase)
 new_realizes w phase None counts h = tt
 new_realizes w phase (Some m) counts h = record {
-  used = of_new h.at.entry;
-  prefix = h.at.dest;
-  counts = new_counts counts h.at.longest.listed;
-  contains = h.at.longest.contains;
+  used = of_new (entry_at (w.new w.u) m.place h.at.prefix h.at.stands).0;
+  prefix = h.at.prefix;
+  counts = let e = entry_at (w.new w.u) m.place h.at.prefix h.at.stands in new_counts counts (Contains-from_place (w.new w.u) m.place (h.at.prefix, e.0) e.1);
+  contains = h.at.match.contains;
   len_is = h.len_is;
-  way_is = (h.at.dest, h.at.entry, h.at.stands, refl);
+  way_is = let e = entry_at (w.new w.u) m.place h.at.prefix h.at.stands in (h.at.prefix, e.0, e.1, refl);
 }
 
 new_if_realizes : (w : Where) (phase : Phase) (o : Option Match) →
-    IsMatch (w.new w.u) w.a o → IfSome (new_if_counts phase o) (Realizes w phase)
+    IsMatch (table_prefixes (w.new w.u)) w.a o → IfSome (new_if_counts phase o) (Realizes w phase)
 new_if_realizes w Old o h = tt
 new_if_realizes w Middle o h = new_realizes w Middle o tt h
 new_if_realizes w New o h = new_realizes w New o tt h
@@ -163,27 +167,30 @@ connected_covers net u a (Some len) h q c inside =
     let le : q.len ≤ h.prefix.len = h.longest.longest q c inside in
     (omega (arith, h.len_is), λ _. omega arith)
 
-match_covers_old : (entries : List (Block × Entry)) (a distance : ℕ) (o : Option Match) → IsMatch entries a o → (q : Block) (e : Entry) → Contains entries (q, e)
+match_covers_old : (entries : List (Block × Entry)) (a distance : ℕ) (o : Option Match) → IsMatch (table_prefixes entries) a o
+    → (q : Block) (e : Entry) → Contains entries (q, e)
     → ContainsAddress q a → Covers (old_of distance o) q.len distance
-match_covers_old entries a distance None h q e has inside = absurd (All-contains (λ x. ¬ ContainsAddress x.0 a) entries (q, e) h has inside)
+match_covers_old entries a distance None h q e has inside = absurd (h q (prefix_of_entry entries q e has) inside)
 match_covers_old entries a distance (Some m) h q e has inside =
-    let le : q.len ≤ h.at.dest.len = All-contains (λ x. ContainsAddress x.0 a → x.0.len ≤ h.at.dest.len) entries (q, e) h.at.longest.longest has inside in
+    let le : q.len ≤ h.at.prefix.len = h.at.match.longest q (prefix_of_entry entries q e has) inside in
     (omega (arith, h.len_is), λ _. omega arith)
 
-match_covers_new : (entries : List (Block × Entry)) (a : ℕ) (o : Option Match) → IsMatch entries a o → (q : Block) (e : Entry) → Contains entries (q, e)
+match_covers_new : (entries : List (Block × Entry)) (a : ℕ) (o : Option Match) → IsMatch (table_prefixes entries) a o → (q : Block) (e : Entry)
+    → Contains entries (q, e)
     → ContainsAddress q a → Covers (new_of o) q.len 115
-match_covers_new entries a None h q e has inside = absurd (All-contains (λ x. ¬ ContainsAddress x.0 a) entries (q, e) h has inside)
+match_covers_new entries a None h q e has inside = absurd (h q (prefix_of_entry entries q e has) inside)
 match_covers_new entries a (Some m) h q e has inside =
-    let le : q.len ≤ h.at.dest.len = All-contains (λ x. ContainsAddress x.0 a → x.0.len ≤ h.at.dest.len) entries (q, e) h.at.longest.longest has inside in
+    let le : q.len ≤ h.at.prefix.len = h.at.match.longest q (prefix_of_entry entries q e has) inside in
     (omega (arith, h.len_is), λ _. omega arith)
 
-old_covers : (phase : Phase) (entries : List (Block × Entry)) (a ospf : ℕ) (o : Option Match) → OldCounts phase → ospf ≢ 255 → IsMatch entries a o
+old_covers : (phase : Phase) (entries : List (Block × Entry)) (a ospf : ℕ) (o : Option Match) → OldCounts phase → ospf ≢ 255
+    → IsMatch (table_prefixes entries) a o
     → (q : Block) (e : Entry) → Contains entries (q, e) → ContainsAddress q a → Covers (old_if_counts phase ospf o) q.len ospf
 old_covers Old entries a ospf o counts set h q e has inside = covers_if (not (ospf == 255)) (old_of ospf o) q.len ospf (differs ospf 255 set) (match_covers_old entries a ospf o h q e has inside)
 old_covers Middle entries a ospf o counts set h q e has inside = covers_if (not (ospf == 255)) (old_of ospf o) q.len ospf (differs ospf 255 set) (match_covers_old entries a ospf o h q e has inside)
 old_covers New entries a ospf o counts set h q e has inside = absurd counts
 
-new_covers : (phase : Phase) (entries : List (Block × Entry)) (a : ℕ) (o : Option Match) → NewCounts phase → IsMatch entries a o
+new_covers : (phase : Phase) (entries : List (Block × Entry)) (a : ℕ) (o : Option Match) → NewCounts phase → IsMatch (table_prefixes entries) a o
     → (q : Block) (e : Entry) → Contains entries (q, e) → ContainsAddress q a → Covers (new_if_counts phase o) q.len 115
 new_covers Old entries a o counts h q e has inside = absurd counts
 new_covers Middle entries a o counts h q e has inside = match_covers_new entries a o h q e has inside

@@ -1,6 +1,7 @@
 -- Candidates for the used entry, and the best of them.
 use Rattle.std.specs.Prelude.{◌≡◌, ℕ, ◌≤◌, ◌⊎◌, ◌==◌, Bool, true, false, not, if◌then◌else◌, List, Option, Some, None, slice_get}
 use Rattle.net_addr.specs.Addresses.{Block}
+use Rattle.net_addr.specs.declared.matches.Match.{Match}
 use Rattle.net_model.specs.declared.bounds.TheConstants.{ISIS_DISTANCE, MOST_DISTANCE}
 use Rattle.route_core.specs.declared.entry.Entry.{Entry}
 use Rattle.igp_theory.specs.declared.phase.Phase.{Phase}
@@ -9,7 +10,6 @@ use Rattle.rib_mix.specs.Answers.{ShowsEntry}
 use Rattle.rib_mix.specs.declared.candidate.Candidate.{Candidate}
 use Rattle.rib_mix.specs.declared.candidate.Way.{Way}
 use Rattle.rib_mix.specs.declared.candidate.Way.TheVariants as way
-use Rattle.rib_mix.specs.declared.found.Match.{Match}
 use Rattle.rib_mix.specs.declared.next.Next.{Next}
 use Rattle.rib_mix.specs.declared.next.Next.TheVariants as next
 

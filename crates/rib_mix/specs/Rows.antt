@@ -1,13 +1,13 @@
 -- What was found for each router and class: the longest connected prefix and the longest entries of both tables.
 use Rattle.std.specs.Prelude.{◌≡◌, ℕ, ◌<◌, List, length, slice_get, slice_index, Option, Some, None, All}
 use Rattle.net_addr.specs.Addresses.{Block, ContainsAddress, IsBlock}
+use Rattle.net_addr.specs.LongestMatches.{IsMatch}
 use Rattle.net_model.specs.Lookups.{LongestConnected}
 use Rattle.net_model.specs.Network.{Network, Connected}
 use Rattle.net_model.specs.Refusals.{IsNetwork}
-use Rattle.route_core.specs.Tables.{NoneContains, LongestAt, HasDistinctPrefixes}
+use Rattle.route_core.specs.Tables.{HasDistinctPrefixes, table_prefixes}
 use Rattle.route_core.specs.declared.entry.Entry.{Entry}
 use Rattle.prefix_atoms.specs.Classes.{Classes, AreClasses, SourceEntry}
-use Rattle.rib_mix.specs.declared.found.Match.{Match}
 use Rattle.rib_mix.specs.declared.found.Found.{Found}
 
 -- the longest connected prefix that contains the address has this length
@@ -21,31 +21,11 @@ abbrev pub IsConnectedLength : Network → ℕ → ℕ → Option ℕ → Type 0
 IsConnectedLength net u a None = (p : Block) → Connected net u p → ContainsAddress p a → ⊥
 IsConnectedLength net u a (Some len) = ConnectedLength net u a len
 
--- the place of the longest entry, and the length of its prefix
-pub record MatchesAt (entries : List (Block × Entry)) (a : ℕ) (m : Match) : Type 0 where
-  pub at : LongestAt entries a m.place
-  pub len_is : at.dest.len ≡ m.len
-
--- the longest entry of a table, none where no entry contains the address
-abbrev pub IsMatch : List (Block × Entry) → ℕ → Option Match → Type 0
-IsMatch entries a None = NoneContains entries a
-IsMatch entries a (Some m) = MatchesAt entries a m
-
--- the longest entry of a table for each of some addresses
-pub record AreMatches (entries : List (Block × Entry)) (addresses : List ℕ) (matches : List (Option Match)) : Type 0 where
-  pub count : length matches ≡ length addresses
-  pub each : (k : ℕ) (m : Option Match) → k < length addresses → slice_get matches k ≡ Some m → IsMatch entries (slice_index addresses k) m
-
--- the prefix at a place, with its length, none where there is no place
-abbrev pub IsMatchAt : List Block → Option ℕ → Option Match → Type 0
-IsMatchAt prefixes None m = m ≡ None
-IsMatchAt prefixes (Some place) m = (p : Block) × (slice_get prefixes place ≡ Some p) × (m ≡ Some (record { place = place; len = p.len }))
-
 -- what is found for a router and an address
 pub record IsFound (net : Network) (old new : List (Block × Entry)) (u a : ℕ) (found : Found) : Type 0 where
   pub connected : IsConnectedLength net u a found.connected
-  pub old_match : IsMatch old a found.old
-  pub new_match : IsMatch new a found.new
+  pub old_match : IsMatch (table_prefixes old) a found.old
+  pub new_match : IsMatch (table_prefixes new) a found.new
 
 -- what is found for a router and each of some addresses
 pub record IsRow (net : Network) (old new : List (Block × Entry)) (u : ℕ) (addresses : List ℕ) (row : List Found) : Type 0 where

@@ -1,8 +1,9 @@
 ghost use Rattle.std.specs.Prelude.{◌≡◌};
 ghost use Rattle.rib_mix.specs.Candidates.{connected_of, old_if_counts, new_if_counts, IsBetter, IsBest};
 
-use crate::found::{Found, Match};
+use crate::found::Found;
 use igp_theory::Phase;
+use net_addr::Match;
 use net_model::{ISIS_DISTANCE, MOST_DISTANCE};
 
 /// Where an entry stands.

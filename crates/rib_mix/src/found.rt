@@ -1,11 +1,4 @@
-/// An entry of a table that is the longest for an address.
-#[derive(Clone, Copy, Debug)]
-pub struct Match {
-    /// The entry's place in the table.
-    pub place: usize,
-    /// The length of its prefix.
-    pub len: u8,
-}
+use net_addr::Match;
 
 /// What is found for a router and an address.
 #[derive(Clone, Copy, Debug)]

@@ -1,11 +1,11 @@
-ghost use Rattle.std.specs.Prelude.{◌≡◌, ◌<◌, IfOk, IfSome, OnOk, Some, length, slice_get};
+ghost use Rattle.std.specs.Prelude.{◌≡◌, ◌<◌, IfOk, OnOk, Some, length, slice_get};
 ghost use Rattle.std.specs.List.Sorted.{IsStrictlyIncreasing};
-ghost use Rattle.prefix_atoms.specs.Lists.{table_prefixes};
-ghost use Rattle.route_core.specs.Tables.{HasDistinctPrefixes};
-ghost use Rattle.rib_mix.specs.Rows.{AreMatches, IsConnectedLength, IsLawful, IsMatchAt, IsRow};
+ghost use Rattle.net_addr.specs.LongestMatches.{AreMatches};
+ghost use Rattle.route_core.specs.Tables.{HasDistinctPrefixes, table_prefixes};
+ghost use Rattle.rib_mix.specs.Rows.{IsConnectedLength, IsLawful, IsRow};
 
-use crate::found::{Found, Match};
-use net_addr::Prefix;
+use crate::found::Found;
+use net_addr::{Match, Prefix};
 use net_model::Net;
 use prefix_atoms::longest_of_each;
 use route_core::{OutOfMemory, Table};
@@ -76,23 +76,18 @@ fn connected_length(net: &Net, router: u32, a: u32) -> Option<u8>
     }
 }
 
-/// The longest entry of a table for each of some ascending addresses.
+/// The longest match in a table of each of some ascending addresses.
 fn matches_of(
     alloc: Global,
     table: &Table,
     addresses: &[u32],
 ) -> Result<Vec<Option<Match>>, OutOfMemory>
     requires { IsStrictlyIncreasing addresses.now }
-    ensures matches { IfOk result (λ v. AreMatches table.now addresses.now v.items) }
+    ensures matches { IfOk result (λ v. AreMatches (table_prefixes table.now) addresses.now v.items) }
     ensures lawful { OnOk result (IsLawful table.now) }
 {
     let prefixes = prefixes_of(alloc, table)?;
-    let places = longest_of_each(alloc, prefixes.as_slice(), addresses)?;
-    let mut matches = Vec::new(alloc);
-    for place in places.as_slice() {
-        matches.push(match_at(prefixes.as_slice(), *place))?;
-    }
-    Ok(matches)
+    longest_of_each(alloc, prefixes.as_slice(), addresses)
 }
 
 /// The prefixes of a table's entries.
@@ -106,16 +101,4 @@ fn prefixes_of(alloc: Global, table: &Table) -> Result<Vec<Prefix>, OutOfMemory>
         prefixes.push(dest)?;
     }
     Ok(prefixes)
-}
-
-/// The entry at a place, with the length of its prefix.
-fn match_at(prefixes: &[Prefix], place: Option<usize>) -> Option<Match>
-    requires { IfSome place (λ i. i < length prefixes.now) }
-    ensures { IsMatchAt prefixes.now place result }
-{
-    let place = place?;
-    Some(Match {
-        place,
-        len: prefixes[place].len(),
-    })
 }

@@ -1,13 +1,14 @@
 -- Laws of tables: entries by place and by membership, one entry a prefix, one longest match.
-use Rattle.std.proofs.Common.{◌≡◌, ◌≢◌, ℕ, ◌<◌, ◌≤◌, ◌↔◌, inl, inr, List, [], ◌∷◌, ◌++◌, length, get_or, slice_get, Some, Contains, sym, ap, ◌∙◌, arith, subst}
+use Rattle.std.proofs.Common.{◌≡◌, ◌≢◌, ℕ, zero, suc, ◌<◌, inl, inr, List, [], ◌∷◌, ◌++◌, length, get_or, slice_get, Some, Contains, sym, ap, ◌∙◌, arith, subst}
 use Rattle.std.proofs.lemmas.Bool.{cases_lt}
-use Rattle.std.proofs.lemmas.List.Elements.{Contains-get_or, All-contains}
+use Rattle.std.proofs.lemmas.List.Elements.{Contains-get_or}
 use Rattle.std.proofs.lemmas.List.Quantifiers.{all_pairs_push}
-use Rattle.std.proofs.lemmas.Option.{slice_get_within, slice_get-get_or, get_or_from_slice_get}
-use Rattle.net_addr.proofs.Blocks.{same_block}
-use Rattle.net_addr.specs.Addresses.{Block, ContainsAddress, IsBlock}
+use Rattle.std.proofs.lemmas.Option.{slice_get_within, slice_get-get_or, get_or_from_slice_get, same_Some}
+use Rattle.net_addr.proofs.LongestMatchLaws.{IsLongestMatch-same, one_longest_match}
+use Rattle.net_addr.specs.Addresses.{Block}
+use Rattle.net_addr.specs.LongestMatches.{IsLongestMatch, LongestAt}
 use Rattle.route_core.specs.declared.entry.Entry.{Entry}
-use Rattle.route_core.specs.Tables.{HasDistinctPrefixes, NoneContains, LongestEntry, LongestAt}
+use Rattle.route_core.specs.Tables.{HasDistinctPrefixes, IsListed, LongestEntry, table_prefixes}
 use Rattle.route_core.specs.Matches.{AreBlocks}
 
 -- what stands at a place of a list is in the list
@@ -66,54 +67,40 @@ one_entry xs p e f distinct has_e has_f =
     let both : slice_get xs at_f.0 ≡ Some (p, e) = subst (λ (k : ℕ). slice_get xs k ≡ Some (p, e)) same at_e.1 in
     ap (λ (x : Block × Entry). x.1) (some_eq (p, e) (p, f) (sym both ∙ at_f.1))
 
--- a table has at most one longest match of an address
-pub one_longest : (xs : List (Block × Entry)) (a : ℕ) (p q : Block) (e f : Entry) → HasDistinctPrefixes xs → AreBlocks xs a
-    → LongestEntry xs a p e → LongestEntry xs a q f → (p ≡ q) × (e ≡ f)
-one_longest xs a p q e f distinct blocks one other =
-    let short : p.len ≤ q.len = All-contains (λ x. ContainsAddress x.0 a → x.0.len ≤ q.len) xs (p, e) other.longest one.listed one.contains in
-    let long : q.len ≤ p.len = All-contains (λ x. ContainsAddress x.0 a → x.0.len ≤ p.len) xs (q, f) one.longest other.listed other.contains in
-    let len : p.len ≡ q.len = omega arith in
-    let block_p : IsBlock p = All-contains (λ x. ContainsAddress x.0 a → IsBlock x.0) xs (p, e) blocks one.listed one.contains in
-    let block_q : IsBlock q = All-contains (λ x. ContainsAddress x.0 a → IsBlock x.0) xs (q, f) blocks other.listed other.contains in
-    let same : p ≡ q = same_block p q a block_p block_q len one.contains other.contains in
-    (same, one_entry xs q e f distinct (subst (λ (r : Block). Contains xs (r, e)) same one.listed) other.listed)
+-- Prefixes of a table
 
--- the longest match stands where one was found
-pub longest_stands : (xs : List (Block × Entry)) (a i : ℕ) (p : Block) (e : Entry) → HasDistinctPrefixes xs → AreBlocks xs a
-    → LongestAt xs a i → LongestEntry xs a p e → slice_get xs i ≡ Some (p, e)
+-- an entry stands where its prefix does
+pub entry_at : (xs : List (Block × Entry)) (i : ℕ) (p : Block) → slice_get (table_prefixes xs) i ≡ Some p → (e : Entry) × (slice_get xs i ≡ Some (p, e))
+entry_at [] i p h = cc
+entry_at (x ∷ xs) zero p h = (x.1, ap Some (λ i. (same_Some x.0 p h i, x.1)))
+entry_at (x ∷ xs) (suc i) p h = entry_at xs i p h
+
+prefix_at : (xs : List (Block × Entry)) (i : ℕ) (p : Block) (e : Entry) → slice_get xs i ≡ Some (p, e) → slice_get (table_prefixes xs) i ≡ Some p
+prefix_at [] i p e h = cc
+prefix_at (x ∷ xs) zero p e h = ap Some (ap (λ (y : Block × Entry). y.0) (same_Some x (p, e) h))
+prefix_at (x ∷ xs) (suc i) p e h = prefix_at xs i p e h
+
+-- a table's prefixes are those of its entries
+pub entry_of_prefix : (xs : List (Block × Entry)) (p : Block) → Contains (table_prefixes xs) p → (e : Entry) × Contains xs (p, e)
+entry_of_prefix xs p h =
+    let at : (i : ℕ) × (slice_get (table_prefixes xs) i ≡ Some p) = place_from_Contains (table_prefixes xs) p h in
+    let one : (e : Entry) × (slice_get xs at.0 ≡ Some (p, e)) = entry_at xs at.0 p at.1 in
+    (one.0, Contains-from_place xs at.0 (p, one.0) one.1)
+
+pub prefix_of_entry : (xs : List (Block × Entry)) (p : Block) (e : Entry) → Contains xs (p, e) → Contains (table_prefixes xs) p
+prefix_of_entry xs p e h =
+    let at : (i : ℕ) × (slice_get xs i ≡ Some (p, e)) = place_from_Contains xs (p, e) h in
+    Contains-from_place (table_prefixes xs) at.0 p (prefix_at xs at.0 p e at.1)
+
+-- the entry of the longest match stands where the longest match was found
+pub longest_stands : (xs : List (Block × Entry)) (a i : ℕ) (p : Block) (e : Entry) → HasDistinctPrefixes xs → AreBlocks (table_prefixes xs) a
+    → LongestAt (table_prefixes xs) a i → LongestEntry (IsListed xs) a p e → slice_get xs i ≡ Some (p, e)
 longest_stands xs a i p e distinct blocks at longest =
-    let same : (at.dest ≡ p) × (at.entry ≡ e) = one_longest xs a at.dest p at.entry e distinct blocks at.longest longest in
-    let dest : at.dest ≡ p = same.0 in
-    let entry : at.entry ≡ e = same.1 in
-    let stands : slice_get xs i ≡ Some (at.dest, at.entry) = at.stands in
-    cc
-
--- no entry that contains the address is longer than the longest match
-pub longest_bound : (xs : List (Block × Entry)) (a : ℕ) (p q : Block) (e f : Entry) → LongestEntry xs a p e
-    → Contains xs (q, f) → ContainsAddress q a → q.len ≤ p.len
-longest_bound xs a p q e f longest has inside = All-contains (λ x. ContainsAddress x.0 a → x.0.len ≤ p.len) xs (q, f) longest.longest has inside
-
--- an entry that contains the address is the longest match where no other that does is longer
-pub LongestEntry-from_members : (xs : List (Block × Entry)) (a : ℕ) (p : Block) (e : Entry) → Contains xs (p, e) → ContainsAddress p a
-    → ((q : Block) (f : Entry) → Contains xs (q, f) → ContainsAddress q a → q.len ≤ p.len) → LongestEntry xs a p e
-LongestEntry-from_members xs a p e has inside longest = record {
-  listed = has;
-  contains = inside;
-  longest = λ k d below. longest (get_or xs k d).0 (get_or xs k d).1 (Contains-get_or xs k d below);
-}
-
--- where no entry contains the address there is no longest match
-pub none_is_longest : (xs : List (Block × Entry)) (a : ℕ) (p : Block) (e : Entry) → NoneContains xs a → ¬ LongestEntry xs a p e
-none_is_longest xs a p e none longest = All-contains (λ x. ¬ ContainsAddress x.0 a) xs (p, e) none longest.listed longest.contains
-
--- two addresses that the same prefixes of the table contain have one longest match
-pub LongestEntry-same_prefixes : (xs : List (Block × Entry)) (a b : ℕ) (p : Block) (e : Entry)
-    → ((q : Block) (f : Entry) → Contains xs (q, f) → ContainsAddress q a ↔ ContainsAddress q b) → LongestEntry xs a p e → LongestEntry xs b p e
-LongestEntry-same_prefixes xs a b p e same longest = LongestEntry-from_members xs b p e longest.listed
-    ((same p e longest.listed).0 longest.contains)
-    (λ q f has inside. longest_bound xs a p q e f longest has ((same q f has).1 inside))
-
-pub NoneContains-same_prefixes : (xs : List (Block × Entry)) (a b : ℕ)
-    → ((q : Block) (f : Entry) → Contains xs (q, f) → ContainsAddress q a ↔ ContainsAddress q b) → NoneContains xs a → NoneContains xs b
-NoneContains-same_prefixes xs a b same none = λ k d below inside.
-    none k d below ((same (get_or xs k d).0 (get_or xs k d).1 (Contains-get_or xs k d below)).1 inside)
+    let other : IsLongestMatch (Contains (table_prefixes xs)) a p =
+    IsLongestMatch-same (λ q. (f : Entry) × Contains xs (q, f)) (Contains (table_prefixes xs)) a p
+    (λ q. (λ has. prefix_of_entry xs q has.0 has.1, entry_of_prefix xs q)) longest.match in
+    let same : at.prefix ≡ p = one_longest_match (Contains (table_prefixes xs)) a at.prefix p
+    (blocks at.prefix at.match.is_offered at.match.contains) (blocks p other.is_offered other.contains) at.match other in
+    let stands : (f : Entry) × (slice_get xs i ≡ Some (p, f)) = entry_at xs i p (at.stands ∙ ap Some same) in
+    let one : stands.0 ≡ e = one_entry xs p stands.0 e distinct (Contains-from_place xs i (p, stands.0) stands.1) longest.listed in
+    subst (λ (f : Entry). slice_get xs i ≡ Some (p, f)) one stands.1

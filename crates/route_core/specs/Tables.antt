@@ -1,7 +1,8 @@
--- Route tables as lists of entries, the longest match, and what a source of tables promises.
-use Rattle.std.specs.Prelude.{◌≡◌, ◌≢◌, ℕ, ◌<◌, ◌≤◌, List, length, slice_get, Some, All, AllPairs, Contains}
+-- Route tables as lists of entries, the entry of the longest match, and what a source of tables promises.
+use Rattle.std.specs.Prelude.{◌≢◌, ℕ, ◌<◌, List, length, map, All, AllPairs, Contains}
 use Rattle.std.specs.List.Sorted.{IsStrictlyIncreasing}
-use Rattle.net_addr.specs.Addresses.{Block, ContainsAddress}
+use Rattle.net_addr.specs.Addresses.{Block}
+use Rattle.net_addr.specs.LongestMatches.{IsLongestMatch}
 use Rattle.route_core.specs.declared.entry.Entry.{Entry}
 use Rattle.route_core.specs.declared.entry.Entry.TheVariants.{Via}
 
@@ -9,26 +10,22 @@ use Rattle.route_core.specs.declared.entry.Entry.TheVariants.{Via}
 abbrev pub HasDistinctPrefixes : List (Block × Entry) → Type 0
 HasDistinctPrefixes entries = AllPairs (λ one other. one.0 ≢ other.0) entries
 
--- no entry's prefix contains the address
-abbrev pub NoneContains : List (Block × Entry) → ℕ → Type 0
-NoneContains entries a = All (λ other. ¬ ContainsAddress other.0 a) entries
+-- the prefixes of a table's entries
+abbrev pub table_prefixes : List (Block × Entry) → List Block
+table_prefixes entries = map (λ entry. entry.0) entries
 
--- the longest match (RFC 1812, section 5.2.4.3): the prefix contains the address, and none that contains it is longer
-pub record LongestEntry (entries : List (Block × Entry)) (a : ℕ) (dest : Block) (entry : Entry) : Type 0 where
-  pub listed : Contains entries (dest, entry)
-  pub contains : ContainsAddress dest a
-  pub longest : All (λ other. ContainsAddress other.0 a → other.0.len ≤ dest.len) entries
+-- the table's entries have this one
+abbrev pub IsListed : List (Block × Entry) → Block → Entry → Type 0
+IsListed entries dest entry = Contains entries (dest, entry)
 
--- the entry at a place of the list is the longest match
-pub record LongestAt (entries : List (Block × Entry)) (a place : ℕ) : Type 0 where
-  pub dest : Block
-  pub entry : Entry
-  pub stands : slice_get entries place ≡ Some (dest, entry)
-  pub longest : LongestEntry entries a dest entry
+-- the entry of the longest match, of a table that has entries for prefixes
+pub record LongestEntry (has : Block → Entry → Type 0) (a : ℕ) (dest : Block) (entry : Entry) : Type 0 where
+  pub listed : has dest entry
+  pub match : IsLongestMatch (λ p. (e : Entry) × has p e) a dest
 
 -- a table as a relation: router u has this entry for this prefix
 abbrev pub HasEntry : (ℕ → List (Block × Entry)) → ℕ → Block → Entry → Type 0
-HasEntry table u dest entry = Contains (table u) (dest, entry)
+HasEntry table u = IsListed (table u)
 
 -- hops that a router may forward to: there are some, in ascending order, and each is a router that it has a link to
 pub record AreLinkedHops (routers : ℕ) (link : ℕ → Type 0) (hops : List ℕ) : Type 0 where

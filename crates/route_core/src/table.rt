@@ -1,7 +1,8 @@
-ghost use Rattle.std.specs.Prelude.{◌≡◌, ◌<◌, ℕ, length, slice_get, Some, IfOk, IfSome, IfNone};
+ghost use Rattle.std.specs.Prelude.{◌≡◌, ◌<◌, ℕ, length, slice_get, Contains, Some, IfOk, IfSome, IfNone};
 ghost use Rattle.net_addr.specs.Addresses.{Block};
 ghost use Rattle.route_core.specs.declared.entry.Entry.{Entry};
-ghost use Rattle.route_core.specs.Tables.{HasDistinctPrefixes, NoneContains, LongestEntry, LongestAt};
+ghost use Rattle.net_addr.specs.LongestMatches.{HasNoMatch, LongestAt};
+ghost use Rattle.route_core.specs.Tables.{HasDistinctPrefixes, IsListed, LongestEntry, table_prefixes};
 
 use crate::entries::Entries;
 use crate::entry::Entry;
@@ -66,10 +67,10 @@ impl Table {
 
     /// The entry with the longest prefix that contains the address `a` (RFC 1812, section 5.2.4.3).
     pub fn longest(&self, a: u32) -> Option<usize>
-        ensures none { IfNone result (NoneContains self.now a) }
-        ensures found { IfSome result (λ i. LongestAt self.now a i) }
+        ensures none { IfNone result (HasNoMatch (Contains (table_prefixes self.now)) a) }
+        ensures found { IfSome result (LongestAt (table_prefixes self.now) a) }
         ensures only { IfSome result (λ i. (dest : Block) (entry : Entry) →
-            LongestEntry self.now a dest entry → slice_get self.now i ≡ Some (dest, entry)) }
+            LongestEntry (IsListed self.now) a dest entry → slice_get self.now i ≡ Some (dest, entry)) }
         ensures within { IfSome result (λ i. i < length self.now) }
     {
         let found = longest_match(self.all.as_slice(), a)?;

@@ -64,60 +64,13 @@ fn all_walks(alloc: Global, graph: &ZoneGraph) -> Result<Vec<LeastWalks>, OutOfM
 #[cfg(test)]
 mod tests {
     use super::*;
-    use net_addr::{Name, Prefix};
-    use net_model::{Config, Configs, Distances, Interface, Interfaces, Levels, Ranges, Stubs};
+    use net_model::Net;
     use std::test::Fail;
-
-    /// A router named by a letter, whose one interface is in area 0 on 10.0.0.0/24.
-    fn router(alloc: Global, letter: u8, cost: u32) -> Result<Config, OutOfMemory>
-        requires low { 97 ≤ letter }
-        requires high { letter ≤ 122 }
-        requires some { 1 ≤ cost }
-        requires most { cost ≤ 65535 }
-    {
-        let address = 0x0a00_0000 + u32::from(letter);
-        let mut interfaces = Vec::new(alloc);
-        interfaces.push(Interface {
-            name: Name::from_vec(Vec::from_slice(alloc, b"e")?),
-            address,
-            subnet: Prefix::around(address, 24),
-            up: true,
-            loopback: false,
-            area: Some(0),
-            cost,
-            ospf_passive: false,
-            level1: false,
-            level2: false,
-            metric1: 10,
-            metric2: 10,
-            isis_passive: false,
-        })?;
-        Ok(Config {
-            name: Name::from_vec(Vec::from_slice(alloc, &[letter])?),
-            interfaces: Interfaces::from_vec(interfaces),
-            process: Some(1),
-            isis: false,
-            tag: Name::from_vec(Vec::new(alloc)),
-            isis_area: Name::from_vec(Vec::new(alloc)),
-            system: 0,
-            levels: Levels::Both,
-            leak: false,
-            ranges: Ranges::from_vec(Vec::new(alloc)),
-            stubs: Stubs::from_vec(Vec::new(alloc)),
-            rfc1583: true,
-            distances: Distances {
-                ospf: 110,
-                isis: 255,
-            },
-        })
-    }
+    use test_networks::pair;
 
     #[test]
     fn two_routers_reach_each_other(rt: HostRuntime) -> Result<(), Fail> {
-        let mut configs = Vec::new(rt.alloc());
-        configs.push(router(rt.alloc(), b'a', 7)?)?;
-        configs.push(router(rt.alloc(), b'b', 9)?)?;
-        let net = Net::build(rt.alloc(), Configs::from_vec(configs))?;
+        let net = Net::build(rt.alloc(), pair(rt.alloc(), 7, 9)?)?;
         let area = ZoneWalks::build(rt.alloc(), &net, Zone::Area(0))?;
         assert_eq!(rt; area.len(), 2);
         assert_eq!(rt; area.from_router(0).distance(1), Some(7));

@@ -1,14 +1,14 @@
-ghost use Rattle.std.specs.Prelude.{◌≡◌, ◌≢◌, ◌<◌, ◌≤◌, [], ◌∷◌, length, IfOk};
-ghost use Rattle.net_model.specs.Configuration.{IsInterface};
+ghost use Rattle.std.specs.Prelude.{◌≡◌, ◌≢◌, ◌<◌, [], ◌∷◌, length, IfOk};
 ghost use Rattle.route_core.specs.declared.entry.Entry.TheVariants.{Via};
 ghost use Rattle.order_core.specs.Orders.{IsOrder};
 
 use super::*;
-use net_addr::{Name, Prefix};
-use net_model::{Config, Configs, Distances, Interface, Interfaces, Levels, Net, Ranges, Stubs};
+use net_addr::Prefix;
+use net_model::Net;
 use order_core::Tag;
 use route_core::{Entries, Entry, Hops, Table};
 use std::test::Fail;
+use test_networks::one_target;
 
 /// The tables of three routers for one prefix: that of the first, and that of both others.
 #[derive(Drop)]
@@ -78,66 +78,6 @@ fn make_ways(alloc: Global, dest: Prefix, hop: u32, other: u32) -> Result<Ways, 
     Ok(Ways { first, others })
 }
 
-/// The loopback 10.0.0.number/32, in an area where it's said.
-fn loopback(alloc: Global, number: u8, area: Option<u32>) -> Result<Interface, OutOfMemory>
-    ensures { IfOk result IsInterface }
-{
-    let address = 0x0a00_0000 + u32::from(number);
-    Ok(Interface {
-        name: Name::from_vec(Vec::from_slice(alloc, b"lo0")?),
-        address,
-        subnet: Prefix::around(address, 32),
-        up: true,
-        loopback: true,
-        area,
-        cost: 1,
-        ospf_passive: false,
-        level1: false,
-        level2: false,
-        metric1: 10,
-        metric2: 10,
-        isis_passive: false,
-    })
-}
-
-/// A router named by a digit, with its loopback.
-fn router(alloc: Global, number: u8, area: Option<u32>) -> Result<Config, OutOfMemory>
-    requires { number ≤ 9 }
-{
-    let mut interfaces = Vec::new(alloc);
-    interfaces.push(loopback(alloc, number, area)?)?;
-    Ok(Config {
-        name: Name::from_vec(Vec::from_slice(alloc, &[b'0' + number])?),
-        interfaces: Interfaces::from_vec(interfaces),
-        process: Some(1),
-        isis: false,
-        tag: Name::from_vec(Vec::new(alloc)),
-        isis_area: Name::from_vec(Vec::new(alloc)),
-        system: 0,
-        levels: Levels::Two,
-        leak: false,
-        ranges: Ranges::from_vec(Vec::new(alloc)),
-        stubs: Stubs::from_vec(Vec::new(alloc)),
-        rfc1583: true,
-        distances: Distances {
-            ospf: 110,
-            isis: 255,
-        },
-    })
-}
-
-/// Three routers. Only the loopback of the last, 10.0.0.3, is announced.
-fn three(alloc: Global) -> Result<Net, Fail> {
-    let mut all = Vec::new(alloc);
-    all.push(router(alloc, 1, None)?)?;
-    all.push(router(alloc, 2, None)?)?;
-    all.push(router(alloc, 3, Some(0))?)?;
-    let net = Net::build(alloc, Configs::from_vec(all))
-        .ok()
-        .ok_or("refused")?;
-    Ok(net)
-}
-
 /// An order of three routers.
 fn order(a: u32, b: u32, c: u32) -> [u32; 3]
     requires below { (a < 3) × (b < 3) × (c < 3) }
@@ -187,7 +127,7 @@ fn finds(alloc: Global, net: &Net, old: &Ways, new: &Ways) -> Result<bool, OutOf
 #[test]
 fn a_seamless_order_and_a_loop(rt: HostRuntime) -> Result<(), Fail> {
     let dest = Prefix::new(0x0a00_0003, 32).ok_or("no prefix")?;
-    let net = three(rt.alloc())?;
+    let net = Net::build(rt.alloc(), one_target(rt.alloc(), 3)?)?;
     let old = make_ways(rt.alloc(), dest, 1, 2)?;
     let new = make_ways(rt.alloc(), dest, 2, 0)?;
     let found = finds(rt.alloc(), &net, &old, &new)?;

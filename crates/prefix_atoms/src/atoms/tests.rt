@@ -2,10 +2,10 @@ ghost use Rattle.std.specs.Prelude.{◌≡◌, [], ◌∷◌, IfOk};
 ghost use Rattle.route_core.specs.declared.entry.Entry.TheVariants.{Discard};
 
 use super::*;
-use net_model::Configs;
 use route_core::{Entries, Entry, Table};
 use std::marker::Model;
 use std::test::Fail;
+use test_networks::bare;
 
 /// A source of one router, whose table drops the packets of one prefix.
 #[derive(Drop)]
@@ -66,9 +66,7 @@ fn table_of(alloc: Global, prefix: Prefix) -> Result<Table, OutOfMemory>
 /// The classes of 10.0.0.0/8 and of 10.0.1.128/25.
 #[test]
 fn nested_prefixes_make_classes(rt: HostRuntime) -> Result<(), Fail> {
-    let net = Net::build(rt.alloc(), Configs::from_vec(Vec::new(rt.alloc())))
-        .ok()
-        .ok_or("refused")?;
+    let net = Net::build(rt.alloc(), bare(rt.alloc(), 0)?)?;
     let old = make_dropper(rt.alloc(), 0x0a00_0000, 8)?;
     let new = make_dropper(rt.alloc(), 0x0a00_0180, 25)?;
     let atoms = Atoms::build(rt.alloc(), &net, &old, &new)?;

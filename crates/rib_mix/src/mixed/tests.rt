@@ -1,11 +1,11 @@
-ghost use Rattle.std.specs.Prelude.{◌≡◌, ◌<◌, ◌≤◌, [], ◌∷◌, length, IfOk};
+ghost use Rattle.std.specs.Prelude.{◌≡◌, ◌<◌, [], ◌∷◌, length, IfOk};
 ghost use Rattle.route_core.specs.declared.entry.Entry.TheVariants.{Via, Discard};
 
 use super::*;
-use net_addr::{Name, Prefix};
-use net_model::{Config, Configs, Distances, Interfaces, Levels, Ranges, Stubs};
+use net_addr::Prefix;
 use route_core::{Entries, Hops};
 use std::test::Fail;
+use test_networks::bare;
 
 /// A source of some routers, all with one table.
 #[derive(Drop)]
@@ -78,42 +78,6 @@ fn table_without(alloc: Global, prefix: Prefix) -> Result<Table, OutOfMemory>
     Table::from_entries(alloc, Entries::from_vec(entries))
 }
 
-/// A router without interfaces, named by a letter, with OSPF distance 110.
-fn router(alloc: Global, letter: u8) -> Result<Config, OutOfMemory>
-    requires low { 97 ≤ letter }
-    requires high { letter ≤ 122 }
-{
-    Ok(Config {
-        name: Name::from_vec(Vec::from_slice(alloc, &[letter])?),
-        interfaces: Interfaces::from_vec(Vec::new(alloc)),
-        process: Some(1),
-        isis: false,
-        tag: Name::from_vec(Vec::new(alloc)),
-        isis_area: Name::from_vec(Vec::new(alloc)),
-        system: 0,
-        levels: Levels::Two,
-        leak: false,
-        ranges: Ranges::from_vec(Vec::new(alloc)),
-        stubs: Stubs::from_vec(Vec::new(alloc)),
-        rfc1583: true,
-        distances: Distances {
-            ospf: 110,
-            isis: 255,
-        },
-    })
-}
-
-/// Two routers.
-fn two(alloc: Global) -> Result<Net, Fail> {
-    let mut all = Vec::new(alloc);
-    all.push(router(alloc, b'a')?)?;
-    all.push(router(alloc, b'b')?)?;
-    let net = Net::build(alloc, Configs::from_vec(all))
-        .ok()
-        .ok_or("refused")?;
-    Ok(net)
-}
-
 /// Whether an answer is one hop, the router 1.
 fn is_to_one(next: Next<'_>) -> bool {
     match next {
@@ -144,7 +108,7 @@ fn mixes(alloc: Global, net: &Net, old: &Alike, new: &Alike) -> Result<bool, Out
 #[test]
 fn a_router_answers_in_each_phase(rt: HostRuntime) -> Result<(), Fail> {
     let prefix = Prefix::new(0x0a00_0003, 32).ok_or("no prefix")?;
-    let net = two(rt.alloc())?;
+    let net = Net::build(rt.alloc(), bare(rt.alloc(), 2)?)?;
     let old = sends(rt.alloc(), prefix)?;
     let new = drops(rt.alloc(), prefix)?;
     let mixed = mixes(rt.alloc(), &net, &old, &new)?;

@@ -1,5 +1,5 @@
 use Rattle.std.proofs.Common.{◌≡◌, ◌++◌, take}
-use Rattle.prefix_atoms.specs.Lists.{table_prefixes}
+use Rattle.route_core.specs.Tables.{table_prefixes}
 use Rattle.prefix_atoms.proofs.collect.add_table.Given as goal
 
 abbrev pub invariant-loop-place : goal.invariant-loop-place

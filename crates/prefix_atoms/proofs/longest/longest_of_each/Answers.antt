@@ -1,7 +1,7 @@
 use Rattle.std.proofs.Common.{◌≡◌, List, None, All, length, replicate, rules, subst}
 use Rattle.std.proofs.lemmas.List.Elements.{All-nil}
 use Rattle.net_addr.specs.Addresses.{Block, IsBlock}
-use Rattle.prefix_atoms.specs.Lists.{AreLongest}
+use Rattle.net_addr.specs.LongestMatches.{AreMatches}
 use Rattle.prefix_atoms.proofs.CutSteps.{take_whole}
 use Rattle.prefix_atoms.proofs.LongestSteps.{longest_none, blocks_next}
 use Rattle.prefix_atoms.proofs.longest.longest_of_each.Goals as goal
@@ -18,7 +18,7 @@ loop-place-preserved c = record {
 }
 
 pub returns-clause-longest : goal.returns-clause-longest
-returns-clause-longest c = subst (λ (ps : List Block). AreLongest ps c.args.addresses.now c.loop-place.found.items)
+returns-clause-longest c = subst (λ (ps : List Block). AreMatches ps c.args.addresses.now c.loop-place.found.items)
     (take_whole c.args.prefixes.now c.loop-place.place c.loop-place-test.false) c.loop-place.invariant.longest
 
 pub returns-clause-blocks : goal.returns-clause-blocks

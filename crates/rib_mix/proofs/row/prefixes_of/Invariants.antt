@@ -1,5 +1,5 @@
 use Rattle.std.proofs.Common.{◌≡◌, take}
-use Rattle.prefix_atoms.specs.Lists.{table_prefixes}
+use Rattle.route_core.specs.Tables.{table_prefixes}
 use Rattle.rib_mix.proofs.row.prefixes_of.Given as goal
 
 abbrev pub invariant-loop-place : goal.invariant-loop-place

@@ -1,8 +1,9 @@
-use Rattle.std.proofs.Common.{◌<◌, ℕ, length, get_or, arith, refl}
-use Rattle.std.proofs.lemmas.Option.{slice_get_read}
+use Rattle.std.proofs.Common.{◌<◌, ℕ, length, get_or, arith, subst}
+use Rattle.net_addr.specs.LongestMatches.{IsMatch}
+use Rattle.route_core.specs.Tables.{table_prefixes}
 use Rattle.rib_mix.specs.Rows.{IsFound}
 use Rattle.rib_mix.specs.declared.found.Found.{Found}
-use Rattle.rib_mix.proofs.RowSteps.{count_more, each_more}
+use Rattle.rib_mix.proofs.RowSteps.{count_more, each_more, read_match}
 use Rattle.rib_mix.proofs.row.row_of.Goals as goal
 
 pub loop-k-preserved : goal.loop-k-preserved
@@ -16,9 +17,11 @@ loop-k-preserved c =
           c.loop-k.row.items c.push.new.self.items found c.loop-k.k c.loop-k.invariant.count c.loop-k.invariant.each c.in_ok-push.ensures.items
           (record {
             connected = c.connected_length.ensures;
-            old_match = c.in_ok-olds.ensures.matches.each c.loop-k.k c.index.result.now c.loop-k-test.true
-                (slice_get_read c.in_ok-olds.olds.items (length c.in_ok-olds.olds.items) c.loop-k.k c.index.result.now refl in_olds c.index.ensures);
-            new_match = c.in_ok-news.ensures.matches.each c.loop-k.k c.index-in-loop-k.result.now c.loop-k-test.true
-                (slice_get_read c.in_ok-news.news.items (length c.in_ok-news.news.items) c.loop-k.k c.index-in-loop-k.result.now refl in_news c.index-in-loop-k.ensures);
+            old_match = subst (IsMatch (table_prefixes c.args.old.now) (get_or c.args.addresses.now c.loop-k.k 0))
+                (read_match c.in_ok-olds.olds.items c.loop-k.k c.index.result.now in_olds c.index.ensures)
+                (c.in_ok-olds.ensures.matches.each c.loop-k.k c.loop-k-test.true);
+            new_match = subst (IsMatch (table_prefixes c.args.new.now) (get_or c.args.addresses.now c.loop-k.k 0))
+                (read_match c.in_ok-news.news.items c.loop-k.k c.index-in-loop-k.result.now in_news c.index-in-loop-k.ensures)
+                (c.in_ok-news.ensures.matches.each c.loop-k.k c.loop-k-test.true);
           });
     }

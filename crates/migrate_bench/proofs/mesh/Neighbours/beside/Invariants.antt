@@ -1,10 +1,8 @@
-use Rattle.std.proofs.Common.{◌<◌, ◌≤◌, ◌↔◌, ℕ, vec_len, length, Contains, get_or}
-use Rattle.migrate_bench.specs.Shapes.{AreJoined}
+use Rattle.std.proofs.Common.{◌<◌, ◌≤◌, ℕ, vec_len, length, get_or}
 use Rattle.migrate_bench.proofs.mesh.Neighbours.beside.Given as goal
 
 abbrev pub invariant-loop-v : goal.invariant-loop-v
 invariant-loop-v l = record {
   short : vec_len l.all ≤ l.v;
   within : (k : ℕ) → k < length l.all.items → get_or l.all.items k 0 < l.count;
-  joined : (w : ℕ) → Contains l.all.items w ↔ ((w < l.v) × AreJoined l.shape l.count l.u w);
 }

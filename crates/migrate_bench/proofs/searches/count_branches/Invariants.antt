@@ -1,9 +1,0 @@
-use Rattle.std.proofs.Common.{◌≡◌, ◌≤◌, take}
-use Rattle.order_search.specs.Trees.{branch_count}
-use Rattle.migrate_bench.proofs.searches.count_branches.Given as goal
-
-abbrev pub invariant-loop-node : goal.invariant-loop-node
-invariant-loop-node l = record {
-  so_far : l.count ≡ branch_count (take l.node-index l.nodes);
-  few : l.count ≤ l.node-index;
-}
