@@ -51,7 +51,6 @@ pub fn isis_router(
     number: u8,
     area: u8,
     levels: Levels,
-    leak: false,
     interfaces: Interfaces,
 ) -> Result<Config, OutOfMemory>
     requires digit { number ≤ 9 }
