@@ -26,6 +26,3 @@ pub use laws::read_laws;
 pub use reader::read_configs;
 pub use refusal::ReadRefusal;
 pub use std::alloc::AllocError as OutOfMemory;
-
-#[cfg(test)]
-mod tests;

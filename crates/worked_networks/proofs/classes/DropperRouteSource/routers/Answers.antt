@@ -2,7 +2,7 @@ use Rattle.std.proofs.Common.{◌≢◌, List, subst}
 use Rattle.net_addr.specs.Addresses.{Block}
 use Rattle.route_core.specs.declared.entry.Entry.{Entry}
 use Rattle.route_core.specs.Tables.{AreTables}
-use Rattle.prefix_atoms.proofs.atoms.tests.DropperRouteSource.routers.Goals as goal
+use Rattle.worked_networks.proofs.classes.DropperRouteSource.routers.Goals as goal
 
 pub returns-clause-lawful : goal.returns-clause-lawful
 returns-clause-lawful c =

@@ -1,5 +1,7 @@
-use super::*;
-use route_core::Entry;
+use net_model::Net;
+use ospf_routes::OspfRoutes;
+use route_core::{Entry, RouteSource};
+use std::alloc::Global;
 use std::test::Fail;
 use test_networks::{Rules, ring_of_areas};
 

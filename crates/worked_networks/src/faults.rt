@@ -2,11 +2,15 @@ ghost use Rattle.std.specs.Prelude.{◌≡◌, ◌≢◌, ◌<◌, [], ◌∷◌
 ghost use Rattle.route_core.specs.declared.entry.Entry.TheVariants.{Via};
 ghost use Rattle.order_core.specs.Orders.{IsOrder};
 
-use super::*;
+use igp_theory::Phase;
+use loop_finder::{Fault, Finder};
 use net_addr::Prefix;
 use net_model::Net;
-use order_core::Tag;
-use route_core::{Entries, Entry, Hops, Table};
+use order_core::{Tag, Turn};
+use rib_mix::Mixed;
+use route_core::{Entries, Entry, Hops, RouteSource, Table};
+use std::alloc::{AllocError as OutOfMemory, Global};
+use std::marker::Model;
 use std::test::Fail;
 use test_networks::one_target;
 

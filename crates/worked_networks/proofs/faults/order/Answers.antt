@@ -4,7 +4,7 @@ use Rattle.std.proofs.lemmas.List.Elements.{All-nil, All-cons, All-contains}
 use Rattle.std.proofs.lemmas.List.Quantifiers.{all_pairs_push}
 use Rattle.order_core.specs.Orders.{IsOrder}
 use Rattle.order_core.proofs.DistinctLists.{Contains-from_distinct}
-use Rattle.loop_finder.proofs.finder.tests.order.Goals as goal
+use Rattle.worked_networks.proofs.faults.order.Goals as goal
 
 after_one : (a b : ℕ) → a ≢ b → (k d : ℕ) → k < length (a ∷ []) → get_or (a ∷ []) k d ≢ b
 after_one a b apart zero d within = apart

@@ -2,7 +2,7 @@ use Rattle.std.proofs.Common.{ℕ, List, subst}
 use Rattle.net_addr.specs.Addresses.{Block}
 use Rattle.route_core.specs.declared.entry.Entry.{Entry}
 use Rattle.route_core.specs.Tables.{AreTables}
-use Rattle.rib_mix.proofs.mixed.tests.AlikeRouteSource.routers.Goals as goal
+use Rattle.worked_networks.proofs.mixtures.AlikeRouteSource.routers.Goals as goal
 
 pub returns-clause-lawful : goal.returns-clause-lawful
 returns-clause-lawful c =

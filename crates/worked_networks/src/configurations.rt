@@ -1,4 +1,4 @@
-use crate::read_configs;
+use ios_reader::read_configs;
 use net_model::{Config, Configs, Interface, Levels, Range};
 use std::alloc::Global;
 use std::process::Abort;

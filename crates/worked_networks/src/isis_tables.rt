@@ -1,5 +1,6 @@
-use super::*;
-use route_core::Entry;
+use isis_routes::IsisRoutes;
+use net_model::Net;
+use route_core::{Entry, RouteSource};
 use std::test::Fail;
 use test_networks::ring_of_levels;
 

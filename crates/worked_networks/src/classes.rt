@@ -1,8 +1,11 @@
 ghost use Rattle.std.specs.Prelude.{◌≡◌, [], ◌∷◌, IfOk};
 ghost use Rattle.route_core.specs.declared.entry.Entry.TheVariants.{Discard};
 
-use super::*;
-use route_core::{Entries, Entry, Table};
+use net_addr::Prefix;
+use net_model::Net;
+use prefix_atoms::Atoms;
+use route_core::{Entries, Entry, RouteSource, Table};
+use std::alloc::{AllocError as OutOfMemory, Global};
 use std::marker::Model;
 use std::test::Fail;
 use test_networks::bare;

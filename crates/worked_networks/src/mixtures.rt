@@ -1,9 +1,13 @@
 ghost use Rattle.std.specs.Prelude.{◌≡◌, ◌<◌, [], ◌∷◌, length, IfOk};
 ghost use Rattle.route_core.specs.declared.entry.Entry.TheVariants.{Via, Discard};
 
-use super::*;
+use igp_theory::Phase;
 use net_addr::Prefix;
-use route_core::{Entries, Hops};
+use net_model::Net;
+use rib_mix::{Mixed, Next};
+use route_core::{Entries, Entry, Hops, RouteSource, Table};
+use std::alloc::{AllocError as OutOfMemory, Global};
+use std::marker::Model;
 use std::test::Fail;
 use test_networks::bare;
 

@@ -1,6 +1,6 @@
-use super::*;
 use net_model::Net;
 use std::test::Fail;
+use step_scripts::{OrderKind, OrderRefusal, order_laws, read_order};
 use test_networks::bare;
 
 #[test]
