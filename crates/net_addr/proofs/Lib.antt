@@ -5,4 +5,5 @@ pub mod AddressWordFacts
 pub mod MaskFacts
 pub mod PieceFacts
 pub mod PlacedPieces
+pub mod JoinedFacts
 pub mod WordFacts

@@ -6,3 +6,4 @@ pub mod AddressWords
 pub mod Spans
 pub mod Blanks
 pub mod Lines
+pub mod JoinedLines
