@@ -1,11 +1,10 @@
 -- Texts joined end to end, and lines put before an `end` line: what they are read as.
-use Rattle.std.specs.Prelude.{◌≡◌, ℕ, ◌<◌, Bool, true, false, List, [], ◌∷◌, ◌++◌, length, codes}
+use Rattle.std.specs.Prelude.{◌≡◌, ℕ, ◌<◌, true, false, List, [], ◌∷◌, ◌++◌, length}
 use Rattle.std.specs.List.{list_any}
 use Rattle.net_addr.specs.JoinedLines.{is_of_whole_lines}
 use Rattle.net_model.specs.Configuration.{Configuration}
-use Rattle.ios_lines.specs.Words.{says}
-use Rattle.ios_sections.specs.TextLines.{TextLine, lines_in, counted_lines, is_end, rest_after, first_indent}
-use Rattle.ios_sections.specs.JoinedLines.{is_in_banner, begins_with_end, open_sections, sections_further_on}
+use Rattle.ios_sections.specs.TextLines.{lines_in, counted_lines, is_end, rest_after, first_indent}
+use Rattle.ios_sections.specs.JoinedLines.{is_in_banner, begins_banner, begins_with_end, open_sections, sections_further_on}
 use Rattle.ios_sections.specs.declared.section.Section.{Section}
 use Rattle.ios_reader.specs.Faults.{section_faults}
 use Rattle.ios_reader.specs.Configurations.{configurations_in, configuration_of}
@@ -44,10 +43,6 @@ abbrev pub SomeConfigurationLaw : Type 0
 SomeConfigurationLaw = (text : List ℕ) (configurations : List Configuration) → ReadsText text configurations → 0 < length configurations
 
 -- ---- lines put before an `end` line ----
-
--- the first word of the line is `banner`
-abbrev pub begins_banner : TextLine → Bool
-begins_banner line = says line.words 0 (codes "banner")
 
 -- a block of whole lines, of which the first one that counts is at indent 0, without a `banner` and without an `end` line
 pub record IsBlock (block : List ℕ) : Type 0 where

@@ -3,3 +3,5 @@ pub mod GatheringFacts
 pub mod TableFacts
 pub mod TitleFacts
 pub mod GoodSections
+pub mod JoinedFacts
+pub mod FurtherFacts

@@ -1,5 +1,6 @@
 -- The lines of texts joined end to end, and the sections behind the last `end` line.
-use Rattle.std.specs.Prelude.{ℕ, ◌+◌, Bool, false, List, [], ◌∷◌, map, fold}
+use Rattle.std.specs.Prelude.{ℕ, ◌+◌, Bool, false, List, [], ◌∷◌, map, fold, codes}
+use Rattle.ios_lines.specs.Words.{says}
 use Rattle.ios_sections.specs.TextLines.{TextLine, TextSection, lines_in, banner_after, counted_lines, is_end, rest_after, sections_of}
 use Rattle.ios_sections.specs.Sections.{section_of}
 use Rattle.ios_sections.specs.declared.section.Section.{Section}
@@ -11,6 +12,10 @@ further_on count line = record { number = count + line.number; indent = line.ind
 -- whether a banner is open behind some lines
 abbrev pub is_in_banner : List TextLine → Bool
 is_in_banner lines = fold banner_after false lines
+
+-- the first word of the line is `banner`
+abbrev pub begins_banner : TextLine → Bool
+begins_banner line = says line.words 0 (codes "banner")
 
 -- the first of some lines is an `end` line
 abbrev pub begins_with_end : List TextLine → Bool
