@@ -1,14 +1,13 @@
 -- Lines further on: their parts and sections are the same, with the line numbers further on.
-use Rattle.std.proofs.Common.{sym, ◌≡◌, ℕ, ◌+◌, ◌<◌, Bool, true, false, not, ◌||◌, List, [], ◌∷◌, ◌++◌, length, take, drop, refl, ap, subst, ◌∙◌, cond, map, nat_lt, nat_eq, Option, Some, None, Result, Ok, Err, arith, zero, suc, bytes_eq}
+use Rattle.std.proofs.Common.{sym, ◌≡◌, ℕ, ◌+◌, Bool, true, false, not, ◌||◌, ◌&&◌, List, [], ◌∷◌, ◌++◌, take, refl, ap, ◌∙◌, cond, map, nat_lt, nat_eq, Option, Some, None, Ok, Err, arith, zero, suc, bytes_eq}
 use Rattle.std.specs.Prelude.{filter, filter_map, flat_map, fold, option_map}
 use Rattle.std.specs.List.{list_any, cons_option, before_first, position_or_len, prefix_len}
 use Rattle.std.proofs.lemmas.Bool.Decides.{nat_tests}
 use Rattle.std.proofs.lemmas.List.{map-append}
-use Rattle.ios_lines.specs.Words.{Word}
 use Rattle.ios_lines.specs.Lookups.{later, last_of}
 use Rattle.ios_lines.specs.FaultOrder.{rank, is_before, lesser_fault}
 use Rattle.ios_lines.specs.Heads.{head_of}
-use Rattle.ios_lines.specs.InterfaceLines.{interface_line, counting, in_vrf}
+use Rattle.ios_lines.specs.InterfaceLines.{interface_line}
 use Rattle.ios_lines.specs.OspfLines.{ospf_line}
 use Rattle.ios_lines.specs.IsisLines.{isis_line}
 use Rattle.ios_lines.specs.declared.fault.Fault.{Fault}
@@ -94,9 +93,9 @@ banner-further k xs = banner-fold k false xs
 abbrev pub part_further : ℕ → Part → Part
 part_further k part = record { lines = map (further_on k) part.lines; ends = k + part.ends }
 
-parts_choice : (t : Bool) (k : ℕ) (p : Part) (as bs : List Part) → cond t (part_further k p ∷ map (part_further k) as) (map (part_further k) bs) ≡ map (part_further k) (cond t (p ∷ as) bs)
-parts_choice true k p as bs = refl
-parts_choice false k p as bs = refl
+parts_choice : (t : Bool) (k : ℕ) (p : Part) (ps qs : List Part) → cond t (part_further k p ∷ map (part_further k) ps) (map (part_further k) qs) ≡ map (part_further k) (cond t (p ∷ ps) qs)
+parts_choice true k p ps qs = refl
+parts_choice false k p ps qs = refl
 
 cond_two : {A : Type 0} (t : Bool) (a b c d : A) → a ≡ c → b ≡ d → cond t a b ≡ cond t c d
 cond_two true a b c d p q = p
@@ -110,9 +109,9 @@ parts-further k before (x ∷ xs) =
     (ap (λ (ls : List TextLine). parts_after ls (map (further_on k) xs)) (sym (map-append (further_on k) before (x ∷ []))) ∙ parts-further k (before ++ x ∷ []) xs)
     ∙ parts_choice (is_end x) k (record { lines = before; ends = x.number }) (parts_after [] xs) (parts_after (before ++ x ∷ []) xs)
 
-lines_choice : (t : Bool) (k : ℕ) (as bs : List TextLine) → cond t (map (further_on k) as) (map (further_on k) bs) ≡ map (further_on k) (cond t as bs)
-lines_choice true k as bs = refl
-lines_choice false k as bs = refl
+lines_choice : (t : Bool) (k : ℕ) (xs ys : List TextLine) → cond t (map (further_on k) xs) (map (further_on k) ys) ≡ map (further_on k) (cond t xs ys)
+lines_choice true k xs ys = refl
+lines_choice false k xs ys = refl
 
 pub rest-further : (k : ℕ) (before xs : List TextLine) → rest_after (map (further_on k) before) (map (further_on k) xs) ≡ map (further_on k) (rest_after before xs)
 rest-further k before [] = refl
@@ -137,7 +136,7 @@ inside-further : (k : ℕ) (xs : List TextLine) → before_first opens_section (
 inside-further k xs =
     ap (λ (n : ℕ). take n (map (further_on k) xs)) (prefix-further k xs) ∙ take-map (position_or_len opens_section xs) k xs
 
-first-further : (k : ℕ) (xs : List TextLine) → first_indent (map (further_on k) xs) ≡ first_indent xs
+pub first-further : (k : ℕ) (xs : List TextLine) → first_indent (map (further_on k) xs) ≡ first_indent xs
 first-further k [] = refl
 first-further k (x ∷ xs) = refl
 

@@ -1,8 +1,9 @@
 -- The lines, the counted lines and the parts of texts joined end to end.
-use Rattle.std.proofs.Common.{sym, ◌≡◌, ℕ, ◌+◌, ◌-◌, ◌<◌, ◌≤◌, Bool, true, false, not, ◌&&◌, ◌||◌, List, [], ◌∷◌, ◌++◌, length, take, drop, refl, ap, subst, ◌∙◌, cond, map, append_assoc, append-nil, length-append, length-drop, arith}
+use Rattle.std.proofs.Common.{sym, ◌≡◌, ℕ, ◌+◌, ◌-◌, ◌≤◌, Bool, true, false, not, ◌&&◌, ◌||◌, List, [], ◌∷◌, ◌++◌, length, take, drop, refl, ap, ◌∙◌, cond, map, append_assoc, append-nil, length-drop, nat_eq, arith}
 use Rattle.std.specs.Prelude.{filter, fold, All}
-use Rattle.std.specs.List.{list_any}
-use Rattle.std.proofs.lemmas.Bool.{or_parts}
+use Rattle.std.specs.List.{list_any, prefix_len, before_first}
+use Rattle.std.proofs.lemmas.Bool.{or_parts, eq-eqb}
+use Rattle.std.proofs.lemmas.List.Sums.{prefix_len-le-length}
 use Rattle.std.proofs.lemmas.Grind.{fold-append}
 use Rattle.std.proofs.lemmas.List.{map-append, length-map, take-append-le, drop-append-le, drop-drop, drop_at}
 use Rattle.std.proofs.lemmas.List.Elements.{All-head, All-tail, filter-append}
@@ -13,8 +14,9 @@ use Rattle.net_addr.specs.Lines.{text_lines}
 use Rattle.net_addr.specs.JoinedLines.{is_of_whole_lines, line_further_on}
 use Rattle.net_addr.proofs.JoinedFacts.{text_lines-append}
 use Rattle.net_addr.proofs.PlacedPieces.{text_lines-inside}
-use Rattle.ios_sections.specs.TextLines.{TextLine, Part, text_line, lines_in, opens_banner, banner_after, outside_banner, outside_banners, counts, counted_lines, is_end, parts_after, rest_after}
-use Rattle.ios_sections.specs.JoinedLines.{further_on, is_in_banner, begins_banner}
+use Rattle.ios_sections.specs.TextLines.{TextLine, Part, text_line, lines_in, opens_banner, banner_after, outside_banner, outside_banners, counts, counted_lines, is_end, parts_after, rest_after, TextSection, opens_section, first_indent, section_lines, sections_of}
+use Rattle.ios_sections.specs.Sections.{section_of}
+use Rattle.ios_sections.specs.JoinedLines.{further_on, is_in_banner, begins_banner, sections_among}
 
 -- ---- the lines of a text ----
 
@@ -170,3 +172,41 @@ rest-none before (x ∷ xs) none =
     ap (λ (b : Bool). cond b (rest_after [] xs) (rest_after (before ++ x ∷ []) xs)) parts.0
     ∙ rest-none (before ++ x ∷ []) xs parts.1
     ∙ append_assoc before (x ∷ []) xs
+
+-- ---- the sections ----
+
+prefix-append : (p : TextLine → Bool) (xs ys : List TextLine) → prefix_len p ys ≡ 0 → prefix_len p (xs ++ ys) ≡ prefix_len p xs
+prefix-append p [] ys none = none
+prefix-append p (x ∷ xs) ys none = ap (λ (n : ℕ). cond (p x) (1 + n) 0) (prefix-append p xs ys none)
+
+abbrev is_inside : TextLine → Bool
+is_inside line = not (opens_section line)
+
+none_inside : (ys : List TextLine) → first_indent ys ≡ 0 → prefix_len is_inside ys ≡ 0
+none_inside [] e = refl
+none_inside (y ∷ ys) e = ap (λ (b : Bool). cond (not b) (1 + prefix_len is_inside ys) 0) (eq-eqb y.indent 0 e)
+
+section_lines-append : (xs ys : List TextLine) → first_indent ys ≡ 0 → section_lines (xs ++ ys) ≡ section_lines xs
+section_lines-append xs ys e =
+    let within : prefix_len is_inside xs ≤ length xs = prefix_len-le-length is_inside xs in
+    let inside : before_first opens_section (xs ++ ys) ≡ before_first opens_section xs =
+    ap (λ (n : ℕ). take n (xs ++ ys)) (prefix-append is_inside xs ys (none_inside ys e)) ∙ take-append-le (prefix_len is_inside xs) xs ys within in
+    ap (λ (ls : List TextLine). filter (λ (line : TextLine). nat_eq line.indent (first_indent ls)) ls) inside
+
+abbrev text_section : TextLine → List TextLine → TextSection
+text_section head body = record { head = head; body = body }
+
+sections_choice : (t : Bool) (s : TextSection) (ss ts : List TextSection) → cond t (s ∷ (ss ++ ts)) (ss ++ ts) ≡ cond t (s ∷ ss) ss ++ ts
+sections_choice true s ss ts = refl
+sections_choice false s ss ts = refl
+
+sections_of-append : (xs ys : List TextLine) → first_indent ys ≡ 0 → sections_of (xs ++ ys) ≡ sections_of xs ++ sections_of ys
+sections_of-append [] ys e = refl
+sections_of-append (x ∷ xs) ys e =
+    ap (λ (ls : List TextLine). cond (opens_section x) (text_section x ls ∷ sections_of (xs ++ ys)) (sections_of (xs ++ ys))) (section_lines-append xs ys e)
+    ∙ ap (λ (ss : List TextSection). cond (opens_section x) (text_section x (section_lines xs) ∷ ss) ss) (sections_of-append xs ys e)
+    ∙ sections_choice (opens_section x) (text_section x (section_lines xs)) (sections_of xs) (sections_of ys)
+
+-- what the sections of some lines say, and then those of others, of which the first opens a section
+pub sections_among-append : (xs ys : List TextLine) → first_indent ys ≡ 0 → sections_among (xs ++ ys) ≡ sections_among xs ++ sections_among ys
+sections_among-append xs ys e = ap (map section_of) (sections_of-append xs ys e) ∙ map-append section_of (sections_of xs) (sections_of ys)

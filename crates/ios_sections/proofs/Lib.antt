@@ -5,3 +5,4 @@ pub mod TitleFacts
 pub mod GoodSections
 pub mod JoinedFacts
 pub mod FurtherFacts
+pub mod FurtherProcesses

@@ -1,7 +1,7 @@
 -- The lines of texts joined end to end, and the sections behind the last `end` line.
 use Rattle.std.specs.Prelude.{ℕ, ◌+◌, Bool, false, List, [], ◌∷◌, map, fold, codes}
 use Rattle.ios_lines.specs.Words.{says}
-use Rattle.ios_sections.specs.TextLines.{TextLine, TextSection, lines_in, banner_after, counted_lines, is_end, rest_after, sections_of}
+use Rattle.ios_sections.specs.TextLines.{TextLine, lines_in, banner_after, counted_lines, is_end, rest_after, sections_of}
 use Rattle.ios_sections.specs.Sections.{section_of}
 use Rattle.ios_sections.specs.declared.section.Section.{Section}
 

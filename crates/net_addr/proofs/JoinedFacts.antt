@@ -1,5 +1,5 @@
 -- The lines of a text of whole lines and of another behind it.
-use Rattle.std.proofs.Common.{◌≡◌, ℕ, ◌+◌, ◌<◌, ◌≤◌, Bool, true, false, cond, eqb, List, [], ◌∷◌, ◌++◌, length, map, arith, suc, refl, sym, ap, ◌∙◌}
+use Rattle.std.proofs.Common.{◌≡◌, ℕ, ◌+◌, ◌<◌, Bool, true, false, cond, eqb, List, [], ◌∷◌, ◌++◌, length, map, arith, suc, refl, sym, ap, ◌∙◌}
 use Rattle.std.specs.List.{slice_split, onto_first, position_or_len}
 use Rattle.std.specs.Str.Lines.{strip_carriage_return}
 use Rattle.std.proofs.lemmas.List.{append-nil}
@@ -62,6 +62,16 @@ last_of_append (piece ∷ front) pieces some =
 pub line_pieces-append : (xs ys : List ℕ) → is_of_whole_lines xs ≡ true → line_pieces (xs ++ ys) ≡ line_pieces xs ++ line_pieces ys
 line_pieces-append xs ys whole =
     ap without_empty_last (split-append xs ys whole) ∙ last_of_append (line_pieces xs) (split ys) (some_pieces is_line_feed ys)
+
+whole_more : (b : ℕ) (ys : List ℕ) → is_of_whole_lines (b ∷ []) ≡ true → is_of_whole_lines ys ≡ true → is_of_whole_lines (b ∷ ys) ≡ true
+whole_more b [] one whole = one
+whole_more b (y ∷ ys) one whole = whole
+
+-- two texts of whole lines are one, together
+pub is_of_whole_lines-append : (xs ys : List ℕ) → is_of_whole_lines xs ≡ true → is_of_whole_lines ys ≡ true → is_of_whole_lines (xs ++ ys) ≡ true
+is_of_whole_lines-append [] ys one two = two
+is_of_whole_lines-append (b ∷ []) ys one two = whole_more b ys one two
+is_of_whole_lines-append (b ∷ c ∷ more) ys one two = is_of_whole_lines-append (c ∷ more) ys one two
 
 -- ---- how many bytes they take ----
 
