@@ -106,7 +106,8 @@ router_further k r = record {
   metric = r.metric;
 }
 
-router_with-further : (k : ℕ) (p : Option ℕ) (os : List OspfStatement) (is : List IsisStatement) → router_with p (map (ospf_line_further k) os) (map (isis_line_further k) is) ≡ router_further k (router_with p os is)
+router_with-further : (k : ℕ) (p : Option ℕ) (os : List OspfStatement) (is : List IsisStatement) →
+    router_with p (map (ospf_line_further k) os) (map (isis_line_further k) is) ≡ router_further k (router_with p os is)
 router_with-further k p os is =
     rw (
       last_of-map (λ (s : OspfStatement). passive_default_said s.says) (ospf_line_further k) (λ x. refl) os,
@@ -133,7 +134,8 @@ first_of-map : {A B : Type 0} (h : A → Option B) (f : A → A) → ((x : A) �
 first_of-map h f same [] = refl
 first_of-map h f same (x ∷ xs) = ap (λ o. earlier o (first_of h (map f xs))) (same x) ∙ ap (earlier (h x)) (first_of-map h f same xs)
 
-area-further : (k : ℕ) (r : Router) (facts : InterfaceFacts) (given : Option InterfaceAddress) → area_with (router_further k r) (facts_further k facts) given ≡ area_with r facts given
+area-further : (k : ℕ) (r : Router) (facts : InterfaceFacts) (given : Option InterfaceAddress) →
+    area_with (router_further k r) (facts_further k facts) given ≡ area_with r facts given
 area-further k r facts None = refl
 area-further k r facts (Some given) =
     ap (area_by r.process facts.area) (first_of-map (λ (s : OspfStatement). area_taken given.address s.says) (ospf_line_further k) (λ x. refl) r.ospf)
@@ -144,7 +146,8 @@ interface_area-further k r facts =
 
 ospf_passive-further : (k : ℕ) (r : Router) (name : Word) → is_ospf_passive (router_further k r) name ≡ is_ospf_passive r name
 ospf_passive-further k r name =
-    ap (λ (o : Option Bool). unwrap_or o r.passive_default) (last_of-map (λ (s : OspfStatement). ospf_passive_said name s.says) (ospf_line_further k) (λ x. refl) r.ospf)
+    ap (λ (o : Option Bool). unwrap_or o r.passive_default)
+    (last_of-map (λ (s : OspfStatement). ospf_passive_said name s.says) (ospf_line_further k) (λ x. refl) r.ospf)
 
 isis_passive-further : (k : ℕ) (r : Router) (name : Word) → is_isis_passive (router_further k r) name ≡ is_isis_passive r name
 isis_passive-further k r name =
@@ -168,11 +171,15 @@ interface_by router name facts given area ospf_passive isis_passive = record {
   isis_passive = isis_passive;
 }
 
-interface_by-further : (k : ℕ) (r : Router) (name : Word) (facts : InterfaceFacts) → interface_with (router_further k r) name (facts_further k facts) ≡ interface_with r name facts
+interface_by-further : (k : ℕ) (r : Router) (name : Word) (facts : InterfaceFacts) →
+    interface_with (router_further k r) name (facts_further k facts) ≡ interface_with r name facts
 interface_by-further k r name facts =
-    ap (λ (g : Option InterfaceAddress). interface_by r name facts g (interface_area (router_further k r) (facts_further k facts)) (is_ospf_passive (router_further k r) name) (is_isis_passive (router_further k r) name)) (given-further k facts.address)
-    ∙ ap (λ (a : Option ℕ). interface_by r name facts (address_given facts.address) a (is_ospf_passive (router_further k r) name) (is_isis_passive (router_further k r) name)) (interface_area-further k r facts)
-    ∙ ap (λ (b : Bool). interface_by r name facts (address_given facts.address) (interface_area r facts) b (is_isis_passive (router_further k r) name)) (ospf_passive-further k r name)
+    ap (λ (g : Option InterfaceAddress). interface_by r name facts g (interface_area (router_further k r) (facts_further k facts))
+    (is_ospf_passive (router_further k r) name) (is_isis_passive (router_further k r) name)) (given-further k facts.address)
+    ∙ ap (λ (a : Option ℕ). interface_by r name facts (address_given facts.address) a (is_ospf_passive (router_further k r) name)
+    (is_isis_passive (router_further k r) name)) (interface_area-further k r facts)
+    ∙ ap (λ (b : Bool). interface_by r name facts (address_given facts.address) (interface_area r facts) b (is_isis_passive (router_further k r) name))
+    (ospf_passive-further k r name)
     ∙ ap (interface_by r name facts (address_given facts.address) (interface_area r facts) (is_ospf_passive r name)) (isis_passive-further k r name)
 
 counted_facts : (k : ℕ) (s : InterfaceSection) → facts_of (counting (map (interface_line_further k) s.lines)) ≡ facts_further k (facts_of (counting s.lines))
@@ -181,7 +188,8 @@ counted_facts k s = ap facts_of (counting-further k s.lines) ∙ facts-further k
 as_read-further : (k : ℕ) (r : Router) (s : InterfaceSection) → interface_as_read (router_further k r) (interface_further k s) ≡ interface_as_read r s
 as_read-further k r s = ap (interface_with (router_further k r) s.name) (counted_facts k s) ∙ interface_by-further k r s.name (facts_of (counting s.lines))
 
-all_read-further : (k : ℕ) (r : Router) (ss : List InterfaceSection) → map (interface_as_read (router_further k r)) (map (interface_further k) ss) ≡ map (interface_as_read r) ss
+all_read-further : (k : ℕ) (r : Router) (ss : List InterfaceSection) →
+    map (interface_as_read (router_further k r)) (map (interface_further k) ss) ≡ map (interface_as_read r) ss
 all_read-further k r [] = refl
 all_read-further k r (s ∷ ss) =
     ap (λ (i : Interface). i ∷ map (interface_as_read (router_further k r)) (map (interface_further k) ss)) (as_read-further k r s)
@@ -189,7 +197,8 @@ all_read-further k r (s ∷ ss) =
 
 -- ---- the faults of an interface ----
 
-statement-further : (k : ℕ) (tag : Option Word) (s : InterfaceStatement) → statement_faults tag (interface_line_further k s) ≡ map (fault_further k) (statement_faults tag s)
+statement-further : (k : ℕ) (tag : Option Word) (s : InterfaceStatement) →
+    statement_faults tag (interface_line_further k s) ≡ map (fault_further k) (statement_faults tag s)
 statement-further k tag s =
     two-further k _ _ (faults_at s.line (interface_line_fault s.says)) (faults_at s.line (membership_fault tag s.says))
     (faults_at-further (interface_line_fault s.says) k s.line) (faults_at-further (membership_fault tag s.says) k s.line)
@@ -207,27 +216,36 @@ loopback_choice : (t : Bool) (k : ℕ) (fs : List Fault) → cond t (map (fault_
 loopback_choice true k fs = refl
 loopback_choice false k fs = refl
 
-loopback-further : (k : ℕ) (name : Word) (facts : InterfaceFacts) → loopback_faults name (facts_further k facts) ≡ map (fault_further k) (loopback_faults name facts)
+loopback-further : (k : ℕ) (name : Word) (facts : InterfaceFacts) →
+    loopback_faults name (facts_further k facts) ≡ map (fault_further k) (loopback_faults name facts)
 loopback-further k name facts =
-    ap (λ (g : Option InterfaceAddress). cond (is_loopback name && (is_some g && not (unwrap_or facts.shut false)) && not (is_point_to_point facts.point_to_point)) (address_mask_faults (given_further k facts.address)) []) (given-further k facts.address)
+    ap (λ (g : Option InterfaceAddress). cond
+    (is_loopback name && (is_some g && not (unwrap_or facts.shut false)) && not (is_point_to_point facts.point_to_point))
+    (address_mask_faults (given_further k facts.address)) []) (given-further k facts.address)
     ∙ ap (λ (fs : List Fault). cond (is_loopback name && is_up facts && not (is_point_to_point facts.point_to_point)) fs []) (mask-further k facts.address)
     ∙ loopback_choice (is_loopback name && is_up facts && not (is_point_to_point facts.point_to_point)) k (address_mask_faults facts.address)
 
-bandwidth-further : (k : ℕ) (r : Router) (s : InterfaceSection) (facts : InterfaceFacts) → bandwidth_faults (router_further k r) (interface_further k s) (facts_further k facts) ≡ map (fault_further k) (bandwidth_faults r s facts)
+bandwidth-further : (k : ℕ) (r : Router) (s : InterfaceSection) (facts : InterfaceFacts) →
+    bandwidth_faults (router_further k r) (interface_further k s) (facts_further k facts) ≡ map (fault_further k) (bandwidth_faults r s facts)
 bandwidth-further k r s facts =
-    ap (λ (g : Option InterfaceAddress). faults_if ((is_some g && not (unwrap_or facts.shut false)) && is_some (interface_area (router_further k r) (facts_further k facts)) && is_none (ospf_cost r s.name facts)) (k + s.line) NoBandwidth) (given-further k facts.address)
-    ∙ ap (λ (a : Option ℕ). faults_if (is_up facts && is_some a && is_none (ospf_cost r s.name facts)) (k + s.line) NoBandwidth) (interface_area-further k r facts)
+    ap (λ (g : Option InterfaceAddress). faults_if
+    ((is_some g && not (unwrap_or facts.shut false)) && is_some (interface_area (router_further k r) (facts_further k facts)) && is_none
+    (ospf_cost r s.name facts)) (k + s.line) NoBandwidth) (given-further k facts.address)
+    ∙ ap (λ (a : Option ℕ). faults_if (is_up facts && is_some a && is_none (ospf_cost r s.name facts)) (k + s.line) NoBandwidth)
+    (interface_area-further k r facts)
     ∙ faults_if-further (is_up facts && is_some (interface_area r facts) && is_none (ospf_cost r s.name facts)) k s.line NoBandwidth
 
 abbrev faults_by : Router → Option Word → InterfaceSection → List InterfaceStatement → InterfaceFacts → List Fault
 faults_by router tag section lines facts =
     interface_line_faults tag lines ++ loopback_faults section.name facts ++ bandwidth_faults router section facts
 
-interface_faults-further : (k : ℕ) (r : Router) (tag : Option Word) (s : InterfaceSection) → interface_faults (router_further k r) tag (interface_further k s) ≡ map (fault_further k) (interface_faults r tag s)
+interface_faults-further : (k : ℕ) (r : Router) (tag : Option Word) (s : InterfaceSection) →
+    interface_faults (router_further k r) tag (interface_further k s) ≡ map (fault_further k) (interface_faults r tag s)
 interface_faults-further k r tag s =
     ap (λ (ls : List InterfaceStatement). faults_by (router_further k r) tag (interface_further k s) ls (facts_of ls)) (counting-further k s.lines)
     ∙ ap (faults_by (router_further k r) tag (interface_further k s) (map (interface_line_further k) (counting s.lines))) (facts-further k (counting s.lines))
-    ∙ two-further k _ _ (interface_line_faults tag (counting s.lines) ++ loopback_faults s.name (facts_of (counting s.lines))) (bandwidth_faults r s (facts_of (counting s.lines)))
+    ∙ two-further k _ _ (interface_line_faults tag (counting s.lines) ++ loopback_faults s.name (facts_of (counting s.lines)))
+    (bandwidth_faults r s (facts_of (counting s.lines)))
     (two-further k _ _ (interface_line_faults tag (counting s.lines)) (loopback_faults s.name (facts_of (counting s.lines)))
     (flat_map-map (statement_faults tag) (statement_faults tag) (interface_line_further k) (fault_further k) (statement-further k tag) (counting s.lines))
     (loopback-further k s.name (facts_of (counting s.lines))))
@@ -236,24 +254,33 @@ interface_faults-further k r tag s =
 -- ---- the faults of a configuration ----
 
 interfaces_faults-further : (k : ℕ) (ss : List Section) →
-    flat_map (interface_faults (router_of (map (section_further k) ss)) (first_tag (filter_map as_isis (map (section_further k) ss)))) (interfaces_in (map (section_further k) ss))
+    flat_map (interface_faults (router_of (map (section_further k) ss)) (first_tag (filter_map as_isis (map (section_further k) ss))))
+    (interfaces_in (map (section_further k) ss))
     ≡ map (fault_further k) (flat_map (interface_faults (router_of ss) (first_tag (filter_map as_isis ss))) (interfaces_in ss))
 interfaces_faults-further k ss =
-    ap (λ (r : Router). flat_map (interface_faults r (first_tag (filter_map as_isis (map (section_further k) ss)))) (interfaces_in (map (section_further k) ss))) (router-further k ss)
+    ap (λ (r : Router). flat_map (interface_faults r (first_tag (filter_map as_isis (map (section_further k) ss))))
+    (interfaces_in (map (section_further k) ss))) (router-further k ss)
     ∙ ap (λ (t : Option Word). flat_map (interface_faults (router_further k (router_of ss)) t) (interfaces_in (map (section_further k) ss)))
     (ap first_tag (isis_sections-further k ss) ∙ tag-further k (filter_map as_isis ss))
     ∙ ap (flat_map (interface_faults (router_further k (router_of ss)) (first_tag (filter_map as_isis ss)))) (interfaces-further k ss)
-    ∙ flat_map-map (interface_faults (router_further k (router_of ss)) (first_tag (filter_map as_isis ss))) (interface_faults (router_of ss) (first_tag (filter_map as_isis ss)))
+    ∙ flat_map-map (interface_faults (router_further k (router_of ss)) (first_tag (filter_map as_isis ss)))
+    (interface_faults (router_of ss) (first_tag (filter_map as_isis ss)))
     (interface_further k) (fault_further k) (interface_faults-further k (router_of ss) (first_tag (filter_map as_isis ss))) (interfaces_in ss)
 
-nameless-further : (k ends : ℕ) (ss : List Section) → faults_if (is_none (last_of as_hostname (map (section_further k) ss))) (k + ends) NoHostname ≡ map (fault_further k) (faults_if (is_none (last_of as_hostname ss)) ends NoHostname)
+nameless-further : (k ends : ℕ) (ss : List Section) →
+    faults_if (is_none (last_of as_hostname (map (section_further k) ss))) (k + ends) NoHostname ≡ map (fault_further k)
+    (faults_if (is_none (last_of as_hostname ss)) ends NoHostname)
 nameless-further k ends ss =
-    ap (λ (o : Option Word). faults_if (is_none o) (k + ends) NoHostname) (name-further k ss) ∙ faults_if-further (is_none (last_of as_hostname ss)) k ends NoHostname
+    ap (λ (o : Option Word). faults_if (is_none o) (k + ends) NoHostname) (name-further k ss)
+    ∙ faults_if-further (is_none (last_of as_hostname ss)) k ends NoHostname
 
-section_faults-further : (k ends : ℕ) (ss : List Section) → section_faults (map (section_further k) ss) (k + ends) ≡ map (fault_further k) (section_faults ss ends)
+section_faults-further : (k ends : ℕ) (ss : List Section) →
+    section_faults (map (section_further k) ss) (k + ends) ≡ map (fault_further k) (section_faults ss ends)
 section_faults-further k ends ss =
-    two-further k _ _ (filter_map as_fault ss ++ second_processes ss ++ ospf_faults ss ++ isis_faults ss ++ flat_map (interface_faults (router_of ss) (first_tag (filter_map as_isis ss))) (interfaces_in ss)) (faults_if (is_none (last_of as_hostname ss)) ends NoHostname)
-    (two-further k _ _ (filter_map as_fault ss ++ second_processes ss ++ ospf_faults ss ++ isis_faults ss) (flat_map (interface_faults (router_of ss) (first_tag (filter_map as_isis ss))) (interfaces_in ss))
+    two-further k _ _ (filter_map as_fault ss ++ second_processes ss ++ ospf_faults ss ++ isis_faults ss ++ flat_map
+    (interface_faults (router_of ss) (first_tag (filter_map as_isis ss))) (interfaces_in ss)) (faults_if (is_none (last_of as_hostname ss)) ends NoHostname)
+    (two-further k _ _ (filter_map as_fault ss ++ second_processes ss ++ ospf_faults ss ++ isis_faults ss)
+    (flat_map (interface_faults (router_of ss) (first_tag (filter_map as_isis ss))) (interfaces_in ss))
     (two-further k _ _ (filter_map as_fault ss ++ second_processes ss ++ ospf_faults ss) (isis_faults ss)
     (two-further k _ _ (filter_map as_fault ss ++ second_processes ss) (ospf_faults ss)
     (two-further k _ _ (filter_map as_fault ss) (second_processes ss) (heads-further k ss) (second_processes-further k ss))
@@ -276,16 +303,19 @@ stub_with stub cost = record { area = stub.area; no_summary = stub.no_summary; d
 
 stub_of-further : (k : ℕ) (ls : List OspfStatement) (stub : StubLine) → stub_of (map (ospf_line_further k) ls) stub ≡ stub_of ls stub
 stub_of-further k ls stub =
-    ap (λ (o : Option ℕ). stub_with stub (unwrap_or o 1)) (last_of-map (λ (s : OspfStatement). default_cost_said stub.area s.says) (ospf_line_further k) (λ x. refl) ls)
+    ap (λ (o : Option ℕ). stub_with stub (unwrap_or o 1))
+    (last_of-map (λ (s : OspfStatement). default_cost_said stub.area s.says) (ospf_line_further k) (λ x. refl) ls)
 
 all_stubs-further : (k : ℕ) (ls : List OspfStatement) (stubs : List StubLine) → map (stub_of (map (ospf_line_further k) ls)) stubs ≡ map (stub_of ls) stubs
 all_stubs-further k ls [] = refl
 all_stubs-further k ls (s ∷ ss) =
-    ap (λ (t : Stub). t ∷ map (stub_of (map (ospf_line_further k) ls)) ss) (stub_of-further k ls s) ∙ ap (λ (ts : List Stub). stub_of ls s ∷ ts) (all_stubs-further k ls ss)
+    ap (λ (t : Stub). t ∷ map (stub_of (map (ospf_line_further k) ls)) ss) (stub_of-further k ls s)
+    ∙ ap (λ (ts : List Stub). stub_of ls s ∷ ts) (all_stubs-further k ls ss)
 
 stubs-further : (k : ℕ) (ls : List OspfStatement) → stubs_in (map (ospf_line_further k) ls) ≡ stubs_in ls
 stubs-further k ls =
-    ap (λ (ss : List StubLine). map (stub_of (map (ospf_line_further k) ls)) (fold (replaced is_same_area) [] ss)) (filter_map-same (λ (s : OspfStatement). stub_said s.says) (ospf_line_further k) (λ x. refl) ls)
+    ap (λ (ss : List StubLine). map (stub_of (map (ospf_line_further k) ls)) (fold (replaced is_same_area) [] ss))
+    (filter_map-same (λ (s : OspfStatement). stub_said s.says) (ospf_line_further k) (λ x. refl) ls)
     ∙ all_stubs-further k ls (stub_lines_in ls)
 
 -- what no sections say
@@ -312,7 +342,8 @@ configuration_with name interfaces process isis tag levels ospf_said isis_said =
   };
 }
 
-ospf_said-further : (k : ℕ) (n : Option Word) (is : List Interface) (p : Option ℕ) (i : Bool) (t : Word) (l : Levels) (os : List OspfStatement) (zs : List IsisStatement) →
+ospf_said-further : (k : ℕ) (n : Option Word) (is : List Interface) (p : Option ℕ) (i : Bool) (t : Word) (l : Levels) (os : List OspfStatement)
+    (zs : List IsisStatement) →
     configuration_with n is p i t l (map (ospf_line_further k) os) zs ≡ configuration_with n is p i t l os zs
 ospf_said-further k n is p i t l os zs =
     rw (
@@ -322,7 +353,8 @@ ospf_said-further k n is p i t l os zs =
       last_of-map (λ (s : OspfStatement). ospf_distance_said s.says) (ospf_line_further k) (λ x. refl) os,
     ) refl
 
-isis_said-further : (k : ℕ) (n : Option Word) (is : List Interface) (p : Option ℕ) (i : Bool) (t : Word) (l : Levels) (os : List OspfStatement) (zs : List IsisStatement) →
+isis_said-further : (k : ℕ) (n : Option Word) (is : List Interface) (p : Option ℕ) (i : Bool) (t : Word) (l : Levels) (os : List OspfStatement)
+    (zs : List IsisStatement) →
     configuration_with n is p i t l os (map (isis_line_further k) zs) ≡ configuration_with n is p i t l os zs
 isis_said-further k n is p i t l os zs =
     rw (
@@ -338,7 +370,8 @@ tag_in-further : (k : ℕ) (zs : List IsisSection) → tag_in (first_isis (map (
 tag_in-further k [] = refl
 tag_in-further k (z ∷ zs) = refl
 
-configuration_with-same : (n m : Option Word) (is js : List Interface) (p q : Option ℕ) (i j : Bool) (t u : Word) (l r : Levels) (os ps : List OspfStatement) (zs ys : List IsisStatement) →
+configuration_with-same : (n m : Option Word) (is js : List Interface) (p q : Option ℕ) (i j : Bool) (t u : Word) (l r : Levels) (os ps : List OspfStatement)
+    (zs ys : List IsisStatement) →
     n ≡ m → is ≡ js → p ≡ q → i ≡ j → t ≡ u → l ≡ r → os ≡ ps → zs ≡ ys → configuration_with n is p i t l os zs ≡ configuration_with m js q j u r ps ys
 configuration_with-same n m is js p q i j t u l r os ps zs ys e1 e2 e3 e4 e5 e6 e7 e8 =
     ap (λ (x : Option Word). configuration_with x is p i t l os zs) e1
@@ -352,7 +385,8 @@ configuration_with-same n m is js p q i j t u l r os ps zs ys e1 e2 e3 e4 e5 e6 
 
 configuration-further : (k : ℕ) (ss : List Section) → configuration_of (map (section_further k) ss) ≡ configuration_of ss
 configuration-further k ss =
-    configuration_with-same _ (last_of as_hostname ss) _ (map (interface_as_read (router_of ss)) (interfaces_in ss)) _ (process_of ss) _ (is_some (first_isis (filter_map as_isis ss))) _ (tag_in (first_isis (filter_map as_isis ss)))
+    configuration_with-same _ (last_of as_hostname ss) _ (map (interface_as_read (router_of ss)) (interfaces_in ss)) _ (process_of ss) _
+    (is_some (first_isis (filter_map as_isis ss))) _ (tag_in (first_isis (filter_map as_isis ss)))
     _ (router_of ss).levels _ (map (ospf_line_further k) (ospf_lines ss)) _ (map (isis_line_further k) (isis_lines ss))
     (name-further k ss)
     (ap (λ (r : Router). map (interface_as_read r) (interfaces_in (map (section_further k) ss))) (router-further k ss)
@@ -364,9 +398,11 @@ configuration-further k ss =
     (ap (λ (r : Router). r.levels) (router-further k ss))
     (ospf_lines-further k ss)
     (isis_lines-further k ss)
-    ∙ ospf_said-further k (last_of as_hostname ss) (map (interface_as_read (router_of ss)) (interfaces_in ss)) (process_of ss) (is_some (first_isis (filter_map as_isis ss))) (tag_in (first_isis (filter_map as_isis ss)))
+    ∙ ospf_said-further k (last_of as_hostname ss) (map (interface_as_read (router_of ss)) (interfaces_in ss)) (process_of ss)
+    (is_some (first_isis (filter_map as_isis ss))) (tag_in (first_isis (filter_map as_isis ss)))
     (router_of ss).levels (ospf_lines ss) (map (isis_line_further k) (isis_lines ss))
-    ∙ isis_said-further k (last_of as_hostname ss) (map (interface_as_read (router_of ss)) (interfaces_in ss)) (process_of ss) (is_some (first_isis (filter_map as_isis ss))) (tag_in (first_isis (filter_map as_isis ss)))
+    ∙ isis_said-further k (last_of as_hostname ss) (map (interface_as_read (router_of ss)) (interfaces_in ss)) (process_of ss)
+    (is_some (first_isis (filter_map as_isis ss))) (tag_in (first_isis (filter_map as_isis ss)))
     (router_of ss).levels (ospf_lines ss) (isis_lines ss)
 
 -- ---- a part ----

@@ -53,15 +53,19 @@ none_if false line e = refl
 
 read_from : (lines : List TextLine) → faults_in lines ≡ [] → AreRead (parts_of lines) (rest_after [] (counted_lines lines))
 read_from lines e =
-    let lacks : lacks_end lines ≡ false = none_if (lacks_end lines) (length lines + 1) (append_right (flat_map part_faults (parts_of lines)) (faults_if (lacks_end lines) (length lines + 1) NoEnd) e) in
-    let two : (is_empty (parts_of lines) ≡ false) × (list_any begins_configuration (rest_after [] (counted_lines lines)) ≡ false) = or_parts (is_empty (parts_of lines)) (list_any begins_configuration (rest_after [] (counted_lines lines))) lacks in
+    let lacks : lacks_end lines ≡ false =
+    none_if (lacks_end lines) (length lines + 1)
+    (append_right (flat_map part_faults (parts_of lines)) (faults_if (lacks_end lines) (length lines + 1) NoEnd) e) in
+    let two : (is_empty (parts_of lines) ≡ false) × (list_any begins_configuration (rest_after [] (counted_lines lines)) ≡ false) =
+    or_parts (is_empty (parts_of lines)) (list_any begins_configuration (rest_after [] (counted_lines lines))) lacks in
     record {
       faultless = append_left (flat_map part_faults (parts_of lines)) (faults_if (lacks_end lines) (length lines + 1) NoEnd) e;
       some = two.0;
       none_open = two.1;
     }
 
-read_to : (lines : List TextLine) (parts : List Part) (rest : List TextLine) → parts_of lines ≡ parts → rest_after [] (counted_lines lines) ≡ rest → AreRead parts rest → faults_in lines ≡ []
+read_to : (lines : List TextLine) (parts : List Part) (rest : List TextLine) → parts_of lines ≡ parts → rest_after [] (counted_lines lines) ≡ rest →
+    AreRead parts rest → faults_in lines ≡ []
 read_to lines parts rest p r read =
     let lacks : lacks_end lines ≡ false =
     ap (λ (ps : List Part). is_empty ps || list_any begins_configuration (rest_after [] (counted_lines lines))) p
@@ -95,7 +99,8 @@ faultless_back k parts e = none_mapped k (flat_map part_faults parts) (sym (faul
 made-further : (k : ℕ) (parts : List Part) → made (map (part_further k) parts) ≡ made parts
 made-further k [] = refl
 made-further k (p ∷ ps) =
-    ap (λ (c : Configuration). c ∷ made (map (part_further k) ps)) (part-further k p) ∙ ap (λ (cs : List Configuration). configuration_of (sections_in p) ∷ cs) (made-further k ps)
+    ap (λ (c : Configuration). c ∷ made (map (part_further k) ps)) (part-further k p)
+    ∙ ap (λ (cs : List Configuration). configuration_of (sections_in p) ∷ cs) (made-further k ps)
 
 none_open-further : (k : ℕ) (ls : List TextLine) → list_any begins_configuration (map (further_on k) ls) ≡ list_any begins_configuration ls
 none_open-further k ls = list_any-map begins_configuration begins_configuration (further_on k) (λ x. refl) ls
@@ -114,27 +119,32 @@ counted_joined text other outside =
     ∙ counted-append (lines_in text) (map (further_on (length (lines_in text))) (lines_in other)) outside.outside
     ∙ ap (λ (ls : List TextLine). counted_lines (lines_in text) ++ ls) (counted-further (length (lines_in text)) (lines_in other))
 
-parts_joined : (text other : List ℕ) → IsClosed text → parts_of (lines_in (text ++ other)) ≡ parts_of (lines_in text) ++ map (part_further (length (lines_in text))) (parts_of (lines_in other))
+parts_joined : (text other : List ℕ) → IsClosed text →
+    parts_of (lines_in (text ++ other)) ≡ parts_of (lines_in text) ++ map (part_further (length (lines_in text))) (parts_of (lines_in other))
 parts_joined text other closed =
     ap (parts_after []) (counted_joined text other closed.outside)
     ∙ parts-append [] (counted_lines (lines_in text)) (map (further_on (length (lines_in text))) (counted_lines (lines_in other)))
-    ∙ ap (λ (ls : List TextLine). parts_of (lines_in text) ++ parts_after ls (map (further_on (length (lines_in text))) (counted_lines (lines_in other)))) closed.none_open
+    ∙ ap (λ (ls : List TextLine). parts_of (lines_in text) ++ parts_after ls (map (further_on (length (lines_in text))) (counted_lines (lines_in other))))
+    closed.none_open
     ∙ ap (λ (ps : List Part). parts_of (lines_in text) ++ ps) (parts-further (length (lines_in text)) [] (counted_lines (lines_in other)))
 
-rest_joined : (text other : List ℕ) → IsClosed text → rest_after [] (counted_lines (lines_in (text ++ other))) ≡ map (further_on (length (lines_in text))) (rest_after [] (counted_lines (lines_in other)))
+rest_joined : (text other : List ℕ) → IsClosed text →
+    rest_after [] (counted_lines (lines_in (text ++ other))) ≡ map (further_on (length (lines_in text))) (rest_after [] (counted_lines (lines_in other)))
 rest_joined text other closed =
     ap (rest_after []) (counted_joined text other closed.outside)
     ∙ rest-append [] (counted_lines (lines_in text)) (map (further_on (length (lines_in text))) (counted_lines (lines_in other)))
     ∙ ap (λ (ls : List TextLine). rest_after ls (map (further_on (length (lines_in text))) (counted_lines (lines_in other)))) closed.none_open
     ∙ rest-further (length (lines_in text)) [] (counted_lines (lines_in other))
 
-faults_joined : (k : ℕ) (ps qs : List Part) → flat_map part_faults ps ≡ [] → flat_map part_faults qs ≡ [] → flat_map part_faults (ps ++ map (part_further k) qs) ≡ []
+faults_joined : (k : ℕ) (ps qs : List Part) → flat_map part_faults ps ≡ [] → flat_map part_faults qs ≡ [] →
+    flat_map part_faults (ps ++ map (part_further k) qs) ≡ []
 faults_joined k ps qs p q =
     flat_map-append part_faults ps (map (part_further k) qs)
     ∙ ap (λ (fs : List Fault). fs ++ flat_map part_faults (map (part_further k) qs)) p
     ∙ faultless_further k qs q
 
-pub joined_texts : (text other : List ℕ) (configurations others : List Configuration) → IsClosed text → ReadsText text configurations → ReadsText other others → ReadsText (text ++ other) (configurations ++ others)
+pub joined_texts : (text other : List ℕ) (configurations others : List Configuration) → IsClosed text → ReadsText text configurations →
+    ReadsText other others → ReadsText (text ++ other) (configurations ++ others)
 joined_texts text other configurations others closed read read_other =
     let one : AreRead (parts_of (lines_in text)) (rest_after [] (counted_lines (lines_in text))) = read_from (lines_in text) read.faultless in
     let two : AreRead (parts_of (lines_in other)) (rest_after [] (counted_lines (lines_in other))) = read_from (lines_in other) read_other.faultless in
@@ -147,8 +157,10 @@ joined_texts text other configurations others closed read read_other =
           });
       made =
           ap (λ (cs : List Configuration). cs ++ others) read.made
-          ∙ ap (λ (cs : List Configuration). made (parts_of (lines_in text)) ++ cs) (read_other.made ∙ sym (made-further (length (lines_in text)) (parts_of (lines_in other))))
-          ∙ sym (map-append (λ (part : Part). configuration_of (sections_in part)) (parts_of (lines_in text)) (map (part_further (length (lines_in text))) (parts_of (lines_in other))))
+          ∙ ap (λ (cs : List Configuration). made (parts_of (lines_in text)) ++ cs)
+          (read_other.made ∙ sym (made-further (length (lines_in text)) (parts_of (lines_in other))))
+          ∙ sym (map-append (λ (part : Part). configuration_of (sections_in part)) (parts_of (lines_in text))
+          (map (part_further (length (lines_in text))) (parts_of (lines_in other))))
           ∙ ap made (sym (parts_joined text other closed));
     }
 
@@ -171,7 +183,8 @@ middle true false c e = absurd cc
 middle false b c e = absurd cc
 
 end_word : (line : TextLine) → is_end line ≡ true → word_at line.words 0 ≡ codes "end"
-end_word line e = (bytes_eq-Decides (word_at line.words 0) (codes "end")).0 (middle (nat_eq line.indent 0) (says line.words 0 (codes "end")) (lacks line.words 1) e)
+end_word line e =
+    (bytes_eq-Decides (word_at line.words 0) (codes "end")).0 (middle (nat_eq line.indent 0) (says line.words 0 (codes "end")) (lacks line.words 1) e)
 
 end_counts : (line : TextLine) → is_end line ≡ true → counts line ≡ true
 end_counts line e = ap (λ (w : Word). not (nat_eq (length w) 0) && not (nat_eq (slice_index w 0) 33)) (end_word line e)
@@ -181,7 +194,8 @@ end_opens_none line e = ap (λ (w : Word). bytes_eq w (codes "banner") && nat_eq
 
 counted_end : (line : TextLine) (ls : List TextLine) → is_end line ≡ true → counted_lines (line ∷ ls) ≡ line ∷ counted_lines ls
 counted_end line ls e =
-    ap (λ (b : Bool). cond b (line ∷ filter counts (outside_banners (opens_banner line) ls)) (filter counts (outside_banners (opens_banner line) ls))) (end_counts line e)
+    ap (λ (b : Bool). cond b (line ∷ filter counts (outside_banners (opens_banner line) ls)) (filter counts (outside_banners (opens_banner line) ls)))
+    (end_counts line e)
     ∙ ap (λ (b : Bool). line ∷ filter counts (outside_banners b ls)) (end_opens_none line e)
 
 -- some lines, of which the first is an `end` line
@@ -215,13 +229,18 @@ abbrev parts_behind : List TextLine → List Part
 parts_behind behind = parts_after [] (counted_lines behind)
 
 parts_at_end : (text after : List ℕ) → IsOutsideBanners text → (first : EndsFirst (lines_in after)) →
-    parts_of (lines_in (text ++ after)) ≡ parts_of (lines_in text) ++ part_with (open_lines text) (count_of text + first.end.number) ∷ map (part_further (count_of text)) (parts_behind first.behind)
+    parts_of (lines_in (text ++ after)) ≡ parts_of (lines_in text) ++ part_with (open_lines text) (count_of text + first.end.number) ∷ map
+    (part_further (count_of text)) (parts_behind first.behind)
 parts_at_end text after outside first =
     ap (parts_after []) (counted_joined text after outside)
     ∙ parts-append [] (counted_lines (lines_in text)) (map (further_on (count_of text)) (counted_lines (lines_in after)))
-    ∙ ap (λ (ls : List TextLine). parts_of (lines_in text) ++ parts_after (open_lines text) (map (further_on (count_of text)) ls)) (counted_first (lines_in after) first)
-    ∙ ap (λ (b : Bool). parts_of (lines_in text) ++ cond b (part_with (open_lines text) (count_of text + first.end.number) ∷ parts_after [] (map (further_on (count_of text)) (counted_lines first.behind))) (parts_after (open_lines text ++ further_on (count_of text) first.end ∷ []) (map (further_on (count_of text)) (counted_lines first.behind)))) first.ends
-    ∙ ap (λ (ps : List Part). parts_of (lines_in text) ++ part_with (open_lines text) (count_of text + first.end.number) ∷ ps) (parts-further (count_of text) [] (counted_lines first.behind))
+    ∙ ap (λ (ls : List TextLine). parts_of (lines_in text) ++ parts_after (open_lines text) (map (further_on (count_of text)) ls))
+    (counted_first (lines_in after) first)
+    ∙ ap (λ (b : Bool). parts_of (lines_in text) ++ cond b
+    (part_with (open_lines text) (count_of text + first.end.number) ∷ parts_after [] (map (further_on (count_of text)) (counted_lines first.behind)))
+    (parts_after (open_lines text ++ further_on (count_of text) first.end ∷ []) (map (further_on (count_of text)) (counted_lines first.behind)))) first.ends
+    ∙ ap (λ (ps : List Part). parts_of (lines_in text) ++ part_with (open_lines text) (count_of text + first.end.number) ∷ ps)
+    (parts-further (count_of text) [] (counted_lines first.behind))
 
 rest_at_end : (text after : List ℕ) → IsOutsideBanners text → (first : EndsFirst (lines_in after)) →
     rest_after [] (counted_lines (lines_in (text ++ after))) ≡ map (further_on (count_of text)) (rest_after [] (counted_lines first.behind))
@@ -229,7 +248,8 @@ rest_at_end text after outside first =
     ap (rest_after []) (counted_joined text after outside)
     ∙ rest-append [] (counted_lines (lines_in text)) (map (further_on (count_of text)) (counted_lines (lines_in after)))
     ∙ ap (λ (ls : List TextLine). rest_after (open_lines text) (map (further_on (count_of text)) ls)) (counted_first (lines_in after) first)
-    ∙ ap (λ (b : Bool). cond b (rest_after [] (map (further_on (count_of text)) (counted_lines first.behind))) (rest_after (open_lines text ++ further_on (count_of text) first.end ∷ []) (map (further_on (count_of text)) (counted_lines first.behind)))) first.ends
+    ∙ ap (λ (b : Bool). cond b (rest_after [] (map (further_on (count_of text)) (counted_lines first.behind)))
+    (rest_after (open_lines text ++ further_on (count_of text) first.end ∷ []) (map (further_on (count_of text)) (counted_lines first.behind)))) first.ends
     ∙ rest-further (count_of text) [] (counted_lines first.behind)
 
 -- ---- a text that ends with its last `end` line ----
@@ -254,7 +274,8 @@ closed_text before line outside last =
         whole = is_of_whole_lines-append before line outside.whole last.whole;
         outside = banner_joined before line outside ∙ ap is_in_banner one ∙ end_opens_none first.end first.ends;
       };
-      none_open = rest_at_end before line outside first ∙ ap (λ (ls : List TextLine). map (further_on (count_of before)) (rest_after [] (counted_lines ls))) none;
+      none_open = rest_at_end before line outside first
+          ∙ ap (λ (ls : List TextLine). map (further_on (count_of before)) (rest_after [] (counted_lines ls))) none;
     }
 
 -- ---- a block put before an `end` line ----
@@ -307,7 +328,8 @@ other_end fs t line other e =
 faultless_at : (ss : List Section) (line other : ℕ) → section_faults ss line ≡ [] → section_faults ss other ≡ []
 faultless_at ss line other e =
     other_end
-    (filter_map as_fault ss ++ second_processes ss ++ ospf_faults ss ++ isis_faults ss ++ flat_map (interface_faults (router_of ss) (first_tag (filter_map as_isis ss))) (interfaces_in ss))
+    (filter_map as_fault ss ++ second_processes ss ++ ospf_faults ss ++ isis_faults ss ++ flat_map
+    (interface_faults (router_of ss) (first_tag (filter_map as_isis ss))) (interfaces_in ss))
     (is_none (last_of as_hostname ss)) line other e
 
 some_at_end : (ps qs : List Part) (p : Part) → is_empty (ps ++ p ∷ qs) ≡ false
@@ -340,17 +362,21 @@ record IsReadAround (before : List ℕ) (behind : List TextLine) (configurations
 read_around : (before after : List ℕ) (configurations : List Configuration) → IsOutsideBanners before → (first : EndsFirst (lines_in after)) →
     ReadsText (before ++ after) configurations → IsReadAround before first.behind configurations
 read_around before after configurations outside first reads =
-    let read : AreRead (parts_of (lines_in (before ++ after))) (rest_after [] (counted_lines (lines_in (before ++ after)))) = read_from (lines_in (before ++ after)) reads.faultless in
-    let faults : flat_map part_faults (parts_of (lines_in before)) ++ (part_faults (part_ended before first.end) ++ flat_map part_faults (map (part_further (count_of before)) (parts_behind first.behind))) ≡ [] =
+    let read : AreRead (parts_of (lines_in (before ++ after))) (rest_after [] (counted_lines (lines_in (before ++ after)))) =
+    read_from (lines_in (before ++ after)) reads.faultless in
+    let faults : flat_map part_faults (parts_of (lines_in before)) ++
+    (part_faults (part_ended before first.end) ++ flat_map part_faults (map (part_further (count_of before)) (parts_behind first.behind))) ≡ [] =
     sym (faults_at_end (parts_of (lines_in before)) (map (part_further (count_of before)) (parts_behind first.behind)) (part_ended before first.end))
     ∙ sym (ap (flat_map part_faults) (parts_at_end before after outside first))
     ∙ read.faultless in
     record {
-      first = append_left (flat_map part_faults (parts_of (lines_in before))) (part_faults (part_ended before first.end) ++ flat_map part_faults (map (part_further (count_of before)) (parts_behind first.behind))) faults;
+      first = append_left (flat_map part_faults (parts_of (lines_in before)))
+          (part_faults (part_ended before first.end) ++ flat_map part_faults (map (part_further (count_of before)) (parts_behind first.behind))) faults;
       last =
           faultless_back (count_of before) (parts_behind first.behind)
           (append_right (part_faults (part_ended before first.end)) (flat_map part_faults (map (part_further (count_of before)) (parts_behind first.behind)))
-          (append_right (flat_map part_faults (parts_of (lines_in before))) (part_faults (part_ended before first.end) ++ flat_map part_faults (map (part_further (count_of before)) (parts_behind first.behind))) faults));
+          (append_right (flat_map part_faults (parts_of (lines_in before)))
+          (part_faults (part_ended before first.end) ++ flat_map part_faults (map (part_further (count_of before)) (parts_behind first.behind))) faults));
       none_open =
           sym (none_open-further (count_of before) (rest_after [] (counted_lines first.behind)))
           ∙ sym (ap (list_any begins_configuration) (rest_at_end before after outside first))
@@ -367,7 +393,8 @@ reads_around text after configurations outside first faultless around = record {
       read_to (lines_in (text ++ after)) _ _ (parts_at_end text after outside first) (rest_at_end text after outside first) (record {
         faultless =
             faults_at_end (parts_of (lines_in text)) (map (part_further (count_of text)) (parts_behind first.behind)) (part_ended text first.end)
-            ∙ no_faults (flat_map part_faults (parts_of (lines_in text))) (part_faults (part_ended text first.end)) (flat_map part_faults (map (part_further (count_of text)) (parts_behind first.behind)))
+            ∙ no_faults (flat_map part_faults (parts_of (lines_in text))) (part_faults (part_ended text first.end))
+            (flat_map part_faults (map (part_further (count_of text)) (parts_behind first.behind)))
             around.first faultless (faultless_further (count_of text) (parts_behind first.behind) around.last);
         some = some_at_end (parts_of (lines_in text)) (map (part_further (count_of text)) (parts_behind first.behind)) (part_ended text first.end);
         none_open = none_open-further (count_of text) (rest_after [] (counted_lines first.behind)) ∙ around.none_open;
@@ -394,12 +421,14 @@ inserted_lines before block after configurations grown outside fits ends reads g
       last = made (parts_behind first.behind);
       was = around.was;
       reads =
-          reads_around (before ++ block) after (configurations_in (lines_in before) ++ grown ∷ made (parts_behind first.behind)) wider first faultless (record {
+          reads_around (before ++ block) after (configurations_in (lines_in before) ++ grown ∷ made (parts_behind first.behind)) wider first faultless
+          (record {
             first = ap (flat_map part_faults) same_parts ∙ around.first;
             last = around.last;
             none_open = around.none_open;
             was =
-                ap (λ (c : Configuration). configurations_in (lines_in before) ++ c ∷ made (parts_behind first.behind)) (grows.made ∙ ap configuration_of (sym same_sections))
+                ap (λ (c : Configuration). configurations_in (lines_in before) ++ c ∷ made (parts_behind first.behind))
+                (grows.made ∙ ap configuration_of (sym same_sections))
                 ∙ ap (λ (ps : List Part). made ps ++ configuration_of (open_sections (before ++ block)) ∷ made (parts_behind first.behind)) (sym same_parts);
           });
     }

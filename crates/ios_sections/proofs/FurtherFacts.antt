@@ -48,14 +48,16 @@ some_choice : {B : Type 0} (o : Option B) (g : B → B) (ys : List B) → cons_o
 some_choice None g ys = refl
 some_choice (Some y) g ys = refl
 
-pub filter_map-map : {A B : Type 0} (h : A → Option B) (f : A → A) (g : B → B) → ((x : A) → h (f x) ≡ option_map g (h x)) → (xs : List A) → filter_map h (map f xs) ≡ map g (filter_map h xs)
+pub filter_map-map : {A B : Type 0} (h : A → Option B) (f : A → A) (g : B → B) → ((x : A) → h (f x) ≡ option_map g (h x)) → (xs : List A) →
+    filter_map h (map f xs) ≡ map g (filter_map h xs)
 filter_map-map h f g same [] = refl
 filter_map-map h f g same (x ∷ xs) =
     ap (λ o. cons_option o (filter_map h (map f xs))) (same x)
     ∙ ap (λ ys. cons_option (option_map g (h x)) ys) (filter_map-map h f g same xs)
     ∙ some_choice (h x) g (filter_map h xs)
 
-pub flat_map-map : {A B : Type 0} (h j : A → List B) (f : A → A) (g : B → B) → ((x : A) → h (f x) ≡ map g (j x)) → (xs : List A) → flat_map h (map f xs) ≡ map g (flat_map j xs)
+pub flat_map-map : {A B : Type 0} (h j : A → List B) (f : A → A) (g : B → B) → ((x : A) → h (f x) ≡ map g (j x)) → (xs : List A) →
+    flat_map h (map f xs) ≡ map g (flat_map j xs)
 flat_map-map h j f g same [] = refl
 flat_map-map h j f g same (x ∷ xs) =
     ap (λ ys. ys ++ flat_map h (map f xs)) (same x)
@@ -68,11 +70,13 @@ last_of-map h f same (x ∷ xs) = ap (λ o. later o (last_of h (map f xs))) (sam
 
 -- ---- the lines that count, and the parts ----
 
-outside_choice : (t : Bool) (k : ℕ) (x : TextLine) (ls : List TextLine) → cond t [] (further_on k x ∷ []) ++ map (further_on k) ls ≡ map (further_on k) (cond t [] (x ∷ []) ++ ls)
+outside_choice : (t : Bool) (k : ℕ) (x : TextLine) (ls : List TextLine) →
+    cond t [] (further_on k x ∷ []) ++ map (further_on k) ls ≡ map (further_on k) (cond t [] (x ∷ []) ++ ls)
 outside_choice true k x ls = refl
 outside_choice false k x ls = refl
 
-outside-further : (k : ℕ) (inside : Bool) (xs : List TextLine) → outside_banners inside (map (further_on k) xs) ≡ map (further_on k) (outside_banners inside xs)
+outside-further : (k : ℕ) (inside : Bool) (xs : List TextLine) →
+    outside_banners inside (map (further_on k) xs) ≡ map (further_on k) (outside_banners inside xs)
 outside-further k inside [] = refl
 outside-further k inside (x ∷ xs) =
     ap (λ (ls : List TextLine). outside_banner inside (further_on k x) ++ ls) (outside-further k (banner_after inside x) xs)
@@ -93,7 +97,8 @@ banner-further k xs = banner-fold k false xs
 abbrev pub part_further : ℕ → Part → Part
 part_further k part = record { lines = map (further_on k) part.lines; ends = k + part.ends }
 
-parts_choice : (t : Bool) (k : ℕ) (p : Part) (ps qs : List Part) → cond t (part_further k p ∷ map (part_further k) ps) (map (part_further k) qs) ≡ map (part_further k) (cond t (p ∷ ps) qs)
+parts_choice : (t : Bool) (k : ℕ) (p : Part) (ps qs : List Part) →
+    cond t (part_further k p ∷ map (part_further k) ps) (map (part_further k) qs) ≡ map (part_further k) (cond t (p ∷ ps) qs)
 parts_choice true k p ps qs = refl
 parts_choice false k p ps qs = refl
 
@@ -101,29 +106,35 @@ cond_two : {A : Type 0} (t : Bool) (a b c d : A) → a ≡ c → b ≡ d → con
 cond_two true a b c d p q = p
 cond_two false a b c d p q = q
 
-pub parts-further : (k : ℕ) (before xs : List TextLine) → parts_after (map (further_on k) before) (map (further_on k) xs) ≡ map (part_further k) (parts_after before xs)
+pub parts-further : (k : ℕ) (before xs : List TextLine) →
+    parts_after (map (further_on k) before) (map (further_on k) xs) ≡ map (part_further k) (parts_after before xs)
 parts-further k before [] = refl
 parts-further k before (x ∷ xs) =
-    cond_two (is_end x) (part_further k (record { lines = before; ends = x.number }) ∷ parts_after [] (map (further_on k) xs)) (parts_after (map (further_on k) before ++ further_on k x ∷ []) (map (further_on k) xs)) _ _
+    cond_two (is_end x) (part_further k (record { lines = before; ends = x.number }) ∷ parts_after [] (map (further_on k) xs))
+    (parts_after (map (further_on k) before ++ further_on k x ∷ []) (map (further_on k) xs)) _ _
     (ap (λ (ps : List Part). part_further k (record { lines = before; ends = x.number }) ∷ ps) (parts-further k [] xs))
-    (ap (λ (ls : List TextLine). parts_after ls (map (further_on k) xs)) (sym (map-append (further_on k) before (x ∷ []))) ∙ parts-further k (before ++ x ∷ []) xs)
+    (ap (λ (ls : List TextLine). parts_after ls (map (further_on k) xs)) (sym (map-append (further_on k) before (x ∷ [])))
+    ∙ parts-further k (before ++ x ∷ []) xs)
     ∙ parts_choice (is_end x) k (record { lines = before; ends = x.number }) (parts_after [] xs) (parts_after (before ++ x ∷ []) xs)
 
 lines_choice : (t : Bool) (k : ℕ) (xs ys : List TextLine) → cond t (map (further_on k) xs) (map (further_on k) ys) ≡ map (further_on k) (cond t xs ys)
 lines_choice true k xs ys = refl
 lines_choice false k xs ys = refl
 
-pub rest-further : (k : ℕ) (before xs : List TextLine) → rest_after (map (further_on k) before) (map (further_on k) xs) ≡ map (further_on k) (rest_after before xs)
+pub rest-further : (k : ℕ) (before xs : List TextLine) →
+    rest_after (map (further_on k) before) (map (further_on k) xs) ≡ map (further_on k) (rest_after before xs)
 rest-further k before [] = refl
 rest-further k before (x ∷ xs) =
     cond_two (is_end x) (rest_after [] (map (further_on k) xs)) (rest_after (map (further_on k) before ++ further_on k x ∷ []) (map (further_on k) xs)) _ _
     (rest-further k [] xs)
-    (ap (λ (ls : List TextLine). rest_after ls (map (further_on k) xs)) (sym (map-append (further_on k) before (x ∷ []))) ∙ rest-further k (before ++ x ∷ []) xs)
+    (ap (λ (ls : List TextLine). rest_after ls (map (further_on k) xs)) (sym (map-append (further_on k) before (x ∷ [])))
+    ∙ rest-further k (before ++ x ∷ []) xs)
     ∙ lines_choice (is_end x) k (rest_after [] xs) (rest_after (before ++ x ∷ []) xs)
 
 -- ---- the sections of lines ----
 
-prefix-further : (k : ℕ) (xs : List TextLine) → prefix_len (λ (x : TextLine). not (opens_section x)) (map (further_on k) xs) ≡ prefix_len (λ (x : TextLine). not (opens_section x)) xs
+prefix-further : (k : ℕ) (xs : List TextLine) →
+    prefix_len (λ (x : TextLine). not (opens_section x)) (map (further_on k) xs) ≡ prefix_len (λ (x : TextLine). not (opens_section x)) xs
 prefix-further k [] = refl
 prefix-further k (x ∷ xs) = ap (λ (n : ℕ). cond (not (opens_section x)) (1 + n) 0) (prefix-further k xs)
 
@@ -147,7 +158,8 @@ section_lines-further : (k : ℕ) (xs : List TextLine) → section_lines (map (f
 section_lines-further k xs =
     ap (λ (ls : List TextLine). at_indent (first_indent ls) ls) (inside-further k xs)
     ∙ ap (λ (n : ℕ). at_indent n (map (further_on k) (before_first opens_section xs))) (first-further k (before_first opens_section xs))
-    ∙ filter-map (λ (line : TextLine). nat_eq line.indent (first_indent (before_first opens_section xs))) (further_on k) (λ x. refl) (before_first opens_section xs)
+    ∙ filter-map (λ (line : TextLine). nat_eq line.indent (first_indent (before_first opens_section xs))) (further_on k) (λ x. refl)
+    (before_first opens_section xs)
 
 abbrev text_section : TextLine → List TextLine → TextSection
 text_section head body = record { head = head; body = body }
@@ -156,15 +168,18 @@ text_section head body = record { head = head; body = body }
 abbrev text_further : ℕ → TextSection → TextSection
 text_further k section = text_section (further_on k section.head) (map (further_on k) section.body)
 
-sections_choice : (t : Bool) (k : ℕ) (s : TextSection) (ss : List TextSection) → cond t (text_further k s ∷ map (text_further k) ss) (map (text_further k) ss) ≡ map (text_further k) (cond t (s ∷ ss) ss)
+sections_choice : (t : Bool) (k : ℕ) (s : TextSection) (ss : List TextSection) →
+    cond t (text_further k s ∷ map (text_further k) ss) (map (text_further k) ss) ≡ map (text_further k) (cond t (s ∷ ss) ss)
 sections_choice true k s ss = refl
 sections_choice false k s ss = refl
 
 sections_of-further : (k : ℕ) (xs : List TextLine) → sections_of (map (further_on k) xs) ≡ map (text_further k) (sections_of xs)
 sections_of-further k [] = refl
 sections_of-further k (x ∷ xs) =
-    ap (λ (ls : List TextLine). cond (opens_section x) (text_section (further_on k x) ls ∷ sections_of (map (further_on k) xs)) (sections_of (map (further_on k) xs))) (section_lines-further k xs)
-    ∙ ap (λ (ss : List TextSection). cond (opens_section x) (text_section (further_on k x) (map (further_on k) (section_lines xs)) ∷ ss) ss) (sections_of-further k xs)
+    ap (λ (ls : List TextLine). cond (opens_section x) (text_section (further_on k x) ls ∷ sections_of (map (further_on k) xs))
+    (sections_of (map (further_on k) xs))) (section_lines-further k xs)
+    ∙ ap (λ (ss : List TextSection). cond (opens_section x) (text_section (further_on k x) (map (further_on k) (section_lines xs)) ∷ ss) ss)
+    (sections_of-further k xs)
     ∙ sections_choice (opens_section x) k (text_section x (section_lines xs)) (sections_of xs)
 
 -- ---- what the sections say ----
@@ -200,9 +215,11 @@ section_further k (Isis s) = Isis (isis_further k s)
 section_further k (Faulty f) = Faulty (fault_further k f)
 section_further k Other = Other
 
-interface_statements-further : (k : ℕ) (xs : List TextLine) → interface_statements (map (further_on k) xs) ≡ map (interface_line_further k) (interface_statements xs)
+interface_statements-further : (k : ℕ) (xs : List TextLine) →
+    interface_statements (map (further_on k) xs) ≡ map (interface_line_further k) (interface_statements xs)
 interface_statements-further k [] = refl
-interface_statements-further k (x ∷ xs) = ap (λ ls. interface_line_further k (record { line = x.number; says = interface_line x.words }) ∷ ls) (interface_statements-further k xs)
+interface_statements-further k (x ∷ xs) =
+    ap (λ ls. interface_line_further k (record { line = x.number; says = interface_line x.words }) ∷ ls) (interface_statements-further k xs)
 
 ospf_statements-further : (k : ℕ) (xs : List TextLine) → ospf_statements (map (further_on k) xs) ≡ map (ospf_line_further k) (ospf_statements xs)
 ospf_statements-further k [] = refl
@@ -212,12 +229,15 @@ isis_statements-further : (k : ℕ) (xs : List TextLine) → isis_statements (ma
 isis_statements-further k [] = refl
 isis_statements-further k (x ∷ xs) = ap (λ ls. isis_line_further k (record { line = x.number; says = isis_line x.words }) ∷ ls) (isis_statements-further k xs)
 
-section_with-further : (head : Head) (k line : ℕ) (body : List TextLine) → section_with head (k + line) (map (further_on k) body) ≡ section_further k (section_with head line body)
+section_with-further : (head : Head) (k line : ℕ) (body : List TextLine) →
+    section_with head (k + line) (map (further_on k) body) ≡ section_further k (section_with head line body)
 section_with-further (NameHead (Ok name)) k line body = refl
 section_with-further (NameHead (Err kind)) k line body = refl
-section_with-further (InterfaceHead (Ok name)) k line body = ap (λ ls. Interface (record { line = k + line; name = name; lines = ls })) (interface_statements-further k body)
+section_with-further (InterfaceHead (Ok name)) k line body =
+    ap (λ ls. Interface (record { line = k + line; name = name; lines = ls })) (interface_statements-further k body)
 section_with-further (InterfaceHead (Err kind)) k line body = refl
-section_with-further (OspfHead (Ok process)) k line body = ap (λ ls. Ospf (record { line = k + line; process = process; lines = ls })) (ospf_statements-further k body)
+section_with-further (OspfHead (Ok process)) k line body =
+    ap (λ ls. Ospf (record { line = k + line; process = process; lines = ls })) (ospf_statements-further k body)
 section_with-further (OspfHead (Err kind)) k line body = refl
 section_with-further (IsisHead tag) k line body = ap (λ ls. Isis (record { line = k + line; tag = tag; lines = ls })) (isis_statements-further k body)
 section_with-further (FaultyHead kind) k line body = refl
@@ -245,17 +265,23 @@ gathering_further k g = record {
 }
 
 with_choice : (t : Bool) (k : ℕ) (s i : InterfaceSection) (rest : List InterfaceSection) →
-    cond t (record { line = k + s.line; name = s.name; lines = map (interface_line_further k) (s.lines ++ i.lines) } ∷ map (interface_further k) rest) (interface_further k s ∷ map (interface_further k) (with_interface rest i))
+    cond t (record { line = k + s.line; name = s.name; lines = map (interface_line_further k) (s.lines ++ i.lines) } ∷ map (interface_further k) rest)
+    (interface_further k s ∷ map (interface_further k) (with_interface rest i))
     ≡ map (interface_further k) (cond t (record { line = s.line; name = s.name; lines = s.lines ++ i.lines } ∷ rest) (s ∷ with_interface rest i))
 with_choice true k s i rest = refl
 with_choice false k s i rest = refl
 
-with_interface-further : (k : ℕ) (ss : List InterfaceSection) (i : InterfaceSection) → with_interface (map (interface_further k) ss) (interface_further k i) ≡ map (interface_further k) (with_interface ss i)
+with_interface-further : (k : ℕ) (ss : List InterfaceSection) (i : InterfaceSection) →
+    with_interface (map (interface_further k) ss) (interface_further k i) ≡ map (interface_further k) (with_interface ss i)
 with_interface-further k [] i = refl
 with_interface-further k (s ∷ ss) i =
-    ap (λ (ls : List InterfaceStatement). cond (bytes_eq i.name s.name) (record { line = k + s.line; name = s.name; lines = ls } ∷ map (interface_further k) ss) (interface_further k s ∷ with_interface (map (interface_further k) ss) (interface_further k i)))
+    ap (λ (ls : List InterfaceStatement). cond (bytes_eq i.name s.name)
+    (record { line = k + s.line; name = s.name; lines = ls } ∷ map (interface_further k) ss)
+    (interface_further k s ∷ with_interface (map (interface_further k) ss) (interface_further k i)))
     (sym (map-append (interface_line_further k) s.lines i.lines))
-    ∙ ap (λ (rest : List InterfaceSection). cond (bytes_eq i.name s.name) (record { line = k + s.line; name = s.name; lines = map (interface_line_further k) (s.lines ++ i.lines) } ∷ map (interface_further k) ss) (interface_further k s ∷ rest))
+    ∙ ap (λ (rest : List InterfaceSection). cond (bytes_eq i.name s.name)
+    (record { line = k + s.line; name = s.name; lines = map (interface_line_further k) (s.lines ++ i.lines) } ∷ map (interface_further k) ss)
+    (interface_further k s ∷ rest))
     (with_interface-further k ss i)
     ∙ with_choice (bytes_eq i.name s.name) k s i ss
 
@@ -265,16 +291,19 @@ before-further k f g = before_at k f.line g.line (nat_lt (rank f.kind) (rank g.k
     before_at : (k l m : ℕ) (t : Bool) → (nat_lt (k + l) (k + m) || (nat_eq (k + l) (k + m) && t)) ≡ (nat_lt l m || (nat_eq l m && t))
     before_at k l m t = grind (arith, nat_tests)
 
-lesser_choice : (t : Bool) (k : ℕ) (f g : Fault) → cond t (Some (fault_further k g)) (Some (fault_further k f)) ≡ option_map (fault_further k) (cond t (Some g) (Some f))
+lesser_choice : (t : Bool) (k : ℕ) (f g : Fault) →
+    cond t (Some (fault_further k g)) (Some (fault_further k f)) ≡ option_map (fault_further k) (cond t (Some g) (Some f))
 lesser_choice true k f g = refl
 lesser_choice false k f g = refl
 
-lesser-further : (k : ℕ) (o : Option Fault) (g : Fault) → lesser_fault (option_map (fault_further k) o) (Some (fault_further k g)) ≡ option_map (fault_further k) (lesser_fault o (Some g))
+lesser-further : (k : ℕ) (o : Option Fault) (g : Fault) →
+    lesser_fault (option_map (fault_further k) o) (Some (fault_further k g)) ≡ option_map (fault_further k) (lesser_fault o (Some g))
 lesser-further k None g = refl
 lesser-further k (Some f) g =
     ap (λ (b : Bool). cond b (Some (fault_further k g)) (Some (fault_further k f))) (before-further k g f) ∙ lesser_choice (is_before g f) k f g
 
-with_section-further : (k : ℕ) (g : Gathering) (s : Section) → with_section (gathering_further k g) (section_further k s) ≡ gathering_further k (with_section g s)
+with_section-further : (k : ℕ) (g : Gathering) (s : Section) →
+    with_section (gathering_further k g) (section_further k s) ≡ gathering_further k (with_section g s)
 with_section-further k g (Hostname name) = refl
 with_section-further k g (Interface i) = ap (λ is. record (gathering_further k g) { interfaces = is }) (with_interface-further k g.interfaces i)
 with_section-further k g (Ospf o) = ap (λ os. record (gathering_further k g) { ospf = os }) (sym (map-append (ospf_further k) g.ospf (o ∷ [])))
@@ -282,7 +311,8 @@ with_section-further k g (Isis i) = ap (λ is. record (gathering_further k g) { 
 with_section-further k g (Faulty f) = ap (λ o. record (gathering_further k g) { fault = o }) (lesser-further k g.fault f)
 with_section-further k g Other = refl
 
-gathered-fold : (k : ℕ) (g : Gathering) (ss : List Section) → fold with_section (gathering_further k g) (map (section_further k) ss) ≡ gathering_further k (fold with_section g ss)
+gathered-fold : (k : ℕ) (g : Gathering) (ss : List Section) →
+    fold with_section (gathering_further k g) (map (section_further k) ss) ≡ gathering_further k (fold with_section g ss)
 gathered-fold k g [] = refl
 gathered-fold k g (s ∷ ss) =
     ap (λ (h : Gathering). fold with_section h (map (section_further k) ss)) (with_section-further k g s) ∙ gathered-fold k (with_section g s) ss

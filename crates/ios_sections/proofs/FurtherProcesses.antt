@@ -52,7 +52,8 @@ heads-further k ss = filter_map-map as_fault (section_further k) (fault_further 
 
 -- ---- the OSPF process ----
 
-counting_choice : (t : Bool) (k : ℕ) (ls : List InterfaceStatement) → cond t [] (map (interface_line_further k) ls) ≡ map (interface_line_further k) (cond t [] ls)
+counting_choice : (t : Bool) (k : ℕ) (ls : List InterfaceStatement) →
+    cond t [] (map (interface_line_further k) ls) ≡ map (interface_line_further k) (cond t [] ls)
 counting_choice true k ls = refl
 counting_choice false k ls = refl
 
@@ -72,16 +73,19 @@ mention_said-further k line _ = refl
 mentions_in-further : (k : ℕ) (s : InterfaceSection) → mentions_in (interface_further k s) ≡ map (mention_further k) (mentions_in s)
 mentions_in-further k s =
     ap (filter_map (λ (t : InterfaceStatement). mention_said t.line t.says)) (counting-further k s.lines)
-    ∙ filter_map-map (λ (t : InterfaceStatement). mention_said t.line t.says) (interface_line_further k) (mention_further k) (λ t. mention_said-further k t.line t.says) (counting s.lines)
+    ∙ filter_map-map (λ (t : InterfaceStatement). mention_said t.line t.says) (interface_line_further k) (mention_further k)
+    (λ t. mention_said-further k t.line t.says) (counting s.lines)
 
 mentions_of-further : (k : ℕ) (os : List OspfSection) → map mention_of (map (ospf_further k) os) ≡ map (mention_further k) (map mention_of os)
 mentions_of-further k [] = refl
 mentions_of-further k (o ∷ os) = ap (λ (ms : List Mention). mention_further k (mention_of o) ∷ ms) (mentions_of-further k os)
 
-mentions_joined : (k : ℕ) (os : List OspfSection) (is : List InterfaceSection) → mentions_of (map (ospf_further k) os) (map (interface_further k) is) ≡ map (mention_further k) (mentions_of os is)
+mentions_joined : (k : ℕ) (os : List OspfSection) (is : List InterfaceSection) →
+    mentions_of (map (ospf_further k) os) (map (interface_further k) is) ≡ map (mention_further k) (mentions_of os is)
 mentions_joined k os is =
     ap (λ (ms : List Mention). ms ++ flat_map mentions_in (map (interface_further k) is)) (mentions_of-further k os)
-    ∙ ap (λ (ms : List Mention). map (mention_further k) (map mention_of os) ++ ms) (flat_map-map mentions_in mentions_in (interface_further k) (mention_further k) (mentions_in-further k) is)
+    ∙ ap (λ (ms : List Mention). map (mention_further k) (map mention_of os) ++ ms)
+    (flat_map-map mentions_in mentions_in (interface_further k) (mention_further k) (mentions_in-further k) is)
     ∙ sym (map-append (mention_further k) (map mention_of os) (flat_map mentions_in is))
 
 mentions-further : (k : ℕ) (ss : List Section) → mentions (map (section_further k) ss) ≡ map (mention_further k) (mentions ss)
@@ -90,23 +94,29 @@ mentions-further k ss =
     ∙ ap (mentions_of (map (ospf_further k) (filter_map as_ospf ss))) (interfaces-further k ss)
     ∙ mentions_joined k (filter_map as_ospf ss) (interfaces_in ss)
 
-first_choice : (t : Bool) (k : ℕ) (m n : Mention) → cond t (Some (mention_further k m)) (Some (mention_further k n)) ≡ option_map (mention_further k) (cond t (Some m) (Some n))
+first_choice : (t : Bool) (k : ℕ) (m n : Mention) →
+    cond t (Some (mention_further k m)) (Some (mention_further k n)) ≡ option_map (mention_further k) (cond t (Some m) (Some n))
 first_choice true k m n = refl
 first_choice false k m n = refl
 
 less_further : (k a b : ℕ) → nat_lt (k + a) (k + b) ≡ nat_lt a b
 less_further k a b = grind (arith, nat_tests)
 
-first-further : (k : ℕ) (o : Option Mention) (m : Mention) → first_mention (option_map (mention_further k) o) (mention_further k m) ≡ option_map (mention_further k) (first_mention o m)
+first-further : (k : ℕ) (o : Option Mention) (m : Mention) →
+    first_mention (option_map (mention_further k) o) (mention_further k m) ≡ option_map (mention_further k) (first_mention o m)
 first-further k None m = refl
 first-further k (Some n) m =
-    ap (λ (b : Bool). cond b (Some (mention_further k m)) (Some (mention_further k n))) (less_further k m.line n.line) ∙ first_choice (nat_lt m.line n.line) k m n
+    ap (λ (b : Bool). cond b (Some (mention_further k m)) (Some (mention_further k n))) (less_further k m.line n.line)
+    ∙ first_choice (nat_lt m.line n.line) k m n
 
-least-fold : (k : ℕ) (o : Option Mention) (ms : List Mention) → fold first_mention (option_map (mention_further k) o) (map (mention_further k) ms) ≡ option_map (mention_further k) (fold first_mention o ms)
+least-fold : (k : ℕ) (o : Option Mention) (ms : List Mention) →
+    fold first_mention (option_map (mention_further k) o) (map (mention_further k) ms) ≡ option_map (mention_further k) (fold first_mention o ms)
 least-fold k o [] = refl
-least-fold k o (m ∷ ms) = ap (λ (a : Option Mention). fold first_mention a (map (mention_further k) ms)) (first-further k o m) ∙ least-fold k (first_mention o m) ms
+least-fold k o (m ∷ ms) =
+    ap (λ (a : Option Mention). fold first_mention a (map (mention_further k) ms)) (first-further k o m) ∙ least-fold k (first_mention o m) ms
 
-process_said : (k : ℕ) (o : Option Mention) → option_map (λ (m : Mention). m.process) (option_map (mention_further k) o) ≡ option_map (λ (m : Mention). m.process) o
+process_said : (k : ℕ) (o : Option Mention) →
+    option_map (λ (m : Mention). m.process) (option_map (mention_further k) o) ≡ option_map (λ (m : Mention). m.process) o
 process_said k None = refl
 process_said k (Some m) = refl
 
@@ -128,7 +138,8 @@ pub ospf_lines-further : (k : ℕ) (ss : List Section) → ospf_lines (map (sect
 ospf_lines-further k ss =
     ap (λ (p : Option ℕ). flat_map (lines_of_process p) (filter_map as_ospf (map (section_further k) ss))) (process-further k ss)
     ∙ ap (flat_map (lines_of_process (process_of ss))) (ospf_sections-further k ss)
-    ∙ flat_map-map (lines_of_process (process_of ss)) (lines_of_process (process_of ss)) (ospf_further k) (ospf_line_further k) (lines_of_process-further k (process_of ss)) (filter_map as_ospf ss)
+    ∙ flat_map-map (lines_of_process (process_of ss)) (lines_of_process (process_of ss)) (ospf_further k) (ospf_line_further k)
+    (lines_of_process-further k (process_of ss)) (filter_map as_ospf ss)
 
 -- ---- the IS-IS process ----
 
@@ -151,7 +162,8 @@ pub isis_lines-further : (k : ℕ) (ss : List Section) → isis_lines (map (sect
 isis_lines-further k ss =
     ap isis_lines_of (isis_sections-further k ss)
     ∙ ap (λ (t : Option Word). flat_map (lines_of_tag t) (map (isis_further k) (filter_map as_isis ss))) (tag-further k (filter_map as_isis ss))
-    ∙ flat_map-map (lines_of_tag (first_tag (filter_map as_isis ss))) (lines_of_tag (first_tag (filter_map as_isis ss))) (isis_further k) (isis_line_further k) (lines_of_tag-further k (first_tag (filter_map as_isis ss))) (filter_map as_isis ss)
+    ∙ flat_map-map (lines_of_tag (first_tag (filter_map as_isis ss))) (lines_of_tag (first_tag (filter_map as_isis ss))) (isis_further k)
+    (isis_line_further k) (lines_of_tag-further k (first_tag (filter_map as_isis ss))) (filter_map as_isis ss)
 
 -- ---- faults ----
 
@@ -164,7 +176,8 @@ faults_at-further None k line = refl
 faults_at-further (Some kind) k line = refl
 
 -- two lists of faults further on, one after the other
-pub two-further : (k : ℕ) (fs gs hs is : List Fault) → fs ≡ map (fault_further k) hs → gs ≡ map (fault_further k) is → fs ++ gs ≡ map (fault_further k) (hs ++ is)
+pub two-further : (k : ℕ) (fs gs hs is : List Fault) → fs ≡ map (fault_further k) hs → gs ≡ map (fault_further k) is →
+    fs ++ gs ≡ map (fault_further k) (hs ++ is)
 two-further k fs gs hs is p q =
     ap (λ (w : List Fault). w ++ gs) p ∙ ap (λ (w : List Fault). map (fault_further k) hs ++ w) q ∙ sym (map-append (fault_further k) hs is)
 
@@ -176,12 +189,14 @@ pub second_processes-further : (k : ℕ) (ss : List Section) → second_processe
 second_processes-further k ss =
     ap (λ (p : Option ℕ). flat_map (process_faults p) (mentions (map (section_further k) ss))) (process-further k ss)
     ∙ ap (flat_map (process_faults (process_of ss))) (mentions-further k ss)
-    ∙ flat_map-map (process_faults (process_of ss)) (process_faults (process_of ss)) (mention_further k) (fault_further k) (process_faults-further k (process_of ss)) (mentions ss)
+    ∙ flat_map-map (process_faults (process_of ss)) (process_faults (process_of ss)) (mention_further k) (fault_further k)
+    (process_faults-further k (process_of ss)) (mentions ss)
 
 pub ospf_faults-further : (k : ℕ) (ss : List Section) → ospf_faults (map (section_further k) ss) ≡ map (fault_further k) (ospf_faults ss)
 ospf_faults-further k ss =
     ap (flat_map ospf_statement_faults) (ospf_lines-further k ss)
-    ∙ flat_map-map ospf_statement_faults ospf_statement_faults (ospf_line_further k) (fault_further k) (λ s. faults_at-further (ospf_line_fault s.says) k s.line) (ospf_lines ss)
+    ∙ flat_map-map ospf_statement_faults ospf_statement_faults (ospf_line_further k) (fault_further k)
+    (λ s. faults_at-further (ospf_line_fault s.says) k s.line) (ospf_lines ss)
 
 tag_faults_of-further : (k : ℕ) (tag : Option Word) (s : IsisSection) → tag_faults_of tag (isis_further k s) ≡ map (fault_further k) (tag_faults_of tag s)
 tag_faults_of-further k tag s =
@@ -193,9 +208,11 @@ tag_faults-further k zs =
     ap (λ (t : Option Word). flat_map (tag_faults_of t) (map (isis_further k) zs)) (tag-further k zs)
     ∙ flat_map-map (tag_faults_of (first_tag zs)) (tag_faults_of (first_tag zs)) (isis_further k) (fault_further k) (tag_faults_of-further k (first_tag zs)) zs
 
-isis_statements-further : (k : ℕ) (ls : List IsisStatement) → flat_map isis_statement_faults (map (isis_line_further k) ls) ≡ map (fault_further k) (flat_map isis_statement_faults ls)
+isis_statements-further : (k : ℕ) (ls : List IsisStatement) →
+    flat_map isis_statement_faults (map (isis_line_further k) ls) ≡ map (fault_further k) (flat_map isis_statement_faults ls)
 isis_statements-further k ls =
-    flat_map-map isis_statement_faults isis_statement_faults (isis_line_further k) (fault_further k) (λ s. faults_at-further (isis_line_fault s.says) k s.line) ls
+    flat_map-map isis_statement_faults isis_statement_faults (isis_line_further k) (fault_further k)
+    (λ s. faults_at-further (isis_line_fault s.says) k s.line) ls
 
 abbrev titled_at : IsisStatement → Fault
 titled_at s = fault_at s.line Unsupported
@@ -218,7 +235,8 @@ first_line-further : (k : ℕ) (zs : List IsisSection) → first_isis_line (map 
 first_line-further k [] = refl
 first_line-further k (z ∷ zs) = refl
 
-lacking-further : (k : ℕ) (o : Option ℕ) (ls : List IsisStatement) → lacking (option_map (λ (n : ℕ). k + n) o) (map (isis_line_further k) ls) ≡ map (fault_further k) (lacking o ls)
+lacking-further : (k : ℕ) (o : Option ℕ) (ls : List IsisStatement) →
+    lacking (option_map (λ (n : ℕ). k + n) o) (map (isis_line_further k) ls) ≡ map (fault_further k) (lacking o ls)
 lacking-further k None ls = refl
 lacking-further k (Some n) ls =
     ap (λ (b : Bool). faults_if (not b) (k + n) BadNet ++ faults_if (not (list_any is_metric_style (map (isis_line_further k) ls))) (k + n) Unsupported)
@@ -232,7 +250,8 @@ lacking-further k (Some n) ls =
 abbrev isis_faults_by : List IsisSection → List IsisStatement → List Fault
 isis_faults_by zs ls = tag_faults zs ++ flat_map isis_statement_faults ls ++ second_titles ls ++ lacking (first_isis_line zs) ls
 
-isis_by-further : (k : ℕ) (zs : List IsisSection) (ls : List IsisStatement) → isis_faults_by (map (isis_further k) zs) (map (isis_line_further k) ls) ≡ map (fault_further k) (isis_faults_by zs ls)
+isis_by-further : (k : ℕ) (zs : List IsisSection) (ls : List IsisStatement) →
+    isis_faults_by (map (isis_further k) zs) (map (isis_line_further k) ls) ≡ map (fault_further k) (isis_faults_by zs ls)
 isis_by-further k zs ls =
     two-further k _ _ (tag_faults zs ++ flat_map isis_statement_faults ls ++ second_titles ls) (lacking (first_isis_line zs) ls)
     (two-further k _ _ (tag_faults zs ++ flat_map isis_statement_faults ls) (second_titles ls)

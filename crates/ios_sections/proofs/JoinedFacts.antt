@@ -31,7 +31,8 @@ bytes-first xs ys line inside =
     ap (take (line.span.stop - line.span.start)) (drop-append-le line.span.start xs ys (omega arith))
     ∙ take-append-le (line.span.stop - line.span.start) (drop line.span.start xs) ys short
 
-first-lines : (xs ys : List ℕ) (lines : List Line) → All (λ (line : Line). LiesIn xs line.span) lines → map (text_line (xs ++ ys)) lines ≡ map (text_line xs) lines
+first-lines : (xs ys : List ℕ) (lines : List Line) → All (λ (line : Line). LiesIn xs line.span) lines →
+    map (text_line (xs ++ ys)) lines ≡ map (text_line xs) lines
 first-lines xs ys [] inside = refl
 first-lines xs ys (line ∷ lines) inside =
     ap (λ (bytes : List ℕ). line_with line.number line.indent bytes ∷ map (text_line (xs ++ ys)) lines)
@@ -45,7 +46,8 @@ bytes-second xs ys count line =
     ∙ ap (take (line.span.stop - line.span.start))
     (sym (drop-drop line.span.start (length xs) (xs ++ ys)) ∙ ap (drop line.span.start) (drop_at xs ys (length xs) refl))
 
-second-lines : (xs ys : List ℕ) (count : ℕ) (lines : List Line) → map (text_line (xs ++ ys)) (map (line_further_on count (length xs)) lines) ≡ map (further_on count) (map (text_line ys) lines)
+second-lines : (xs ys : List ℕ) (count : ℕ) (lines : List Line) →
+    map (text_line (xs ++ ys)) (map (line_further_on count (length xs)) lines) ≡ map (further_on count) (map (text_line ys) lines)
 second-lines xs ys count [] = refl
 second-lines xs ys count (line ∷ lines) =
     ap (λ (bytes : List ℕ). line_with (count + line.number) line.indent bytes ∷ map (text_line (xs ++ ys)) (map (line_further_on count (length xs)) lines))
@@ -53,7 +55,8 @@ second-lines xs ys count (line ∷ lines) =
     ∙ ap (λ (ls : List TextLine). further_on count (text_line ys line) ∷ ls) (second-lines xs ys count lines)
 
 -- the lines of a text of whole lines, and then those of the other, further on
-pub lines_in-append : (xs ys : List ℕ) → is_of_whole_lines xs ≡ true → lines_in (xs ++ ys) ≡ lines_in xs ++ map (further_on (length (lines_in xs))) (lines_in ys)
+pub lines_in-append : (xs ys : List ℕ) → is_of_whole_lines xs ≡ true →
+    lines_in (xs ++ ys) ≡ lines_in xs ++ map (further_on (length (lines_in xs))) (lines_in ys)
 lines_in-append xs ys whole =
     ap (map (text_line (xs ++ ys))) (text_lines-append xs ys whole)
     ∙ map-append (text_line (xs ++ ys)) (text_lines xs) (map (line_further_on (length (text_lines xs)) (length xs)) (text_lines ys))
@@ -68,7 +71,8 @@ cond_append : {A : Type 0} (t : Bool) (x : A) (xs ys : List A) → cond t [] (x 
 cond_append true x xs ys = refl
 cond_append false x xs ys = refl
 
-outside-append : (inside : Bool) (xs ys : List TextLine) → outside_banners inside (xs ++ ys) ≡ outside_banners inside xs ++ outside_banners (fold banner_after inside xs) ys
+outside-append : (inside : Bool) (xs ys : List TextLine) →
+    outside_banners inside (xs ++ ys) ≡ outside_banners inside xs ++ outside_banners (fold banner_after inside xs) ys
 outside-append inside [] ys = refl
 outside-append inside (x ∷ xs) ys =
     ap (λ (ls : List TextLine). outside_banner inside x ++ ls) (outside-append (banner_after inside x) xs ys)
@@ -142,7 +146,8 @@ parts-append before [] ys = refl
 parts-append before (x ∷ xs) ys =
     cond_two (is_end x) (part_with before x.number ∷ parts_after [] (xs ++ ys)) (parts_after (before ++ x ∷ []) (xs ++ ys)) _ _
     (ap (λ (ps : List Part). part_with before x.number ∷ ps) (parts-append [] xs ys)) (parts-append (before ++ x ∷ []) xs ys)
-    ∙ parts_choice (is_end x) (part_with before x.number) (parts_after [] xs) (parts_after (before ++ x ∷ []) xs) (parts_after (rest_after [] xs) ys) (parts_after (rest_after (before ++ x ∷ []) xs) ys)
+    ∙ parts_choice (is_end x) (part_with before x.number) (parts_after [] xs) (parts_after (before ++ x ∷ []) xs) (parts_after (rest_after [] xs) ys)
+    (parts_after (rest_after (before ++ x ∷ []) xs) ys)
     ∙ ap (λ (ps : List Part). parts_after before (x ∷ xs) ++ ps) (rest_choice (is_end x) (rest_after [] xs) (rest_after (before ++ x ∷ []) xs) ys)
 
 open_choice : (t : Bool) (a b : List TextLine) (ys : List TextLine) → cond t (rest_after a ys) (rest_after b ys) ≡ rest_after (cond t a b) ys

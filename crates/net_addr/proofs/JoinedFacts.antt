@@ -23,7 +23,8 @@ last_kept : (t : Bool) (b : ℕ) (piece : List ℕ) → 0 < length (cond t [] (p
 last_kept true b piece some = absurd (omega arith)
 last_kept false b piece some = refl
 
-onto_kept : (b : ℕ) (pieces : List (List ℕ)) → 0 < length (without_empty_last pieces) → without_empty_last (onto_first b pieces) ≡ onto_first b (without_empty_last pieces)
+onto_kept : (b : ℕ) (pieces : List (List ℕ)) → 0 < length (without_empty_last pieces) →
+    without_empty_last (onto_first b pieces) ≡ onto_first b (without_empty_last pieces)
 onto_kept b [] some = absurd (omega arith)
 onto_kept b (piece ∷ []) some = last_stays (b ∷ piece) (omega arith) ∙ last_kept (eqb (length piece) 0) b piece some
 onto_kept b (piece ∷ next ∷ more) some = refl
@@ -35,7 +36,8 @@ onto_append b (piece ∷ more) others some = refl
 some_lines : (b : ℕ) (bs : List ℕ) → 0 < length (line_pieces (b ∷ bs))
 some_lines b bs = omega (arith, ap length (line_pieces-first (b ∷ bs) (position_or_len is_line_feed (b ∷ bs)) refl (omega arith)))
 
-one_byte_more : (t : Bool) (b : ℕ) (pieces whole others : List (List ℕ)) → 0 < length pieces → 0 < length (without_empty_last pieces) → whole ≡ without_empty_last pieces ++ others →
+one_byte_more : (t : Bool) (b : ℕ) (pieces whole others : List (List ℕ)) → 0 < length pieces → 0 < length (without_empty_last pieces) →
+    whole ≡ without_empty_last pieces ++ others →
     cond t ([] ∷ whole) (onto_first b whole) ≡ without_empty_last (cond t ([] ∷ pieces) (onto_first b pieces)) ++ others
 one_byte_more true b pieces whole others some lines e =
     ap (λ (w : List (List ℕ)). [] ∷ w) e ∙ ap (λ (w : List (List ℕ)). w ++ others) (sym (keeps_first [] pieces some))
@@ -84,7 +86,8 @@ onto_longer : (b : ℕ) (pieces : List (List ℕ)) → 0 < length pieces → byt
 onto_longer b [] some = absurd (omega arith)
 onto_longer b (piece ∷ more) some = omega arith
 
-one_longer : (t : Bool) (b : ℕ) (pieces : List (List ℕ)) → 0 < length pieces → bytes_with_ends (cond t ([] ∷ pieces) (onto_first b pieces)) ≡ bytes_with_ends pieces + 1
+one_longer : (t : Bool) (b : ℕ) (pieces : List (List ℕ)) → 0 < length pieces →
+    bytes_with_ends (cond t ([] ∷ pieces) (onto_first b pieces)) ≡ bytes_with_ends pieces + 1
 one_longer true b pieces some = omega arith
 one_longer false b pieces some = onto_longer b pieces some
 
@@ -117,22 +120,26 @@ lines_of-append number start (p ∷ ps) qs =
     ap (λ (w : List Line). line_of number start p ∷ w)
     (lines_of-append (number + 1) (start + length p + 1) ps qs
     ∙ ap (λ (w : List Line). lines_of (number + 1) (start + length p + 1) ps ++ w)
-    (lines_of-at (number + 1 + length ps) (number + length (p ∷ ps)) (start + length p + 1 + bytes_with_ends ps) (start + bytes_with_ends (p ∷ ps)) qs (omega arith) (omega arith)))
+    (lines_of-at (number + 1 + length ps) (number + length (p ∷ ps)) (start + length p + 1 + bytes_with_ends ps) (start + bytes_with_ends (p ∷ ps)) qs
+    (omega arith) (omega arith)))
 
 abbrev line_with : ℕ → ℕ → ℕ → ℕ → Line
 line_with number indent start stop = record { number = number; indent = indent; span = record { start = start; stop = stop } }
 
-line_of-further : (count bytes number start : ℕ) (piece : List ℕ) → line_of (count + number) (bytes + start) piece ≡ line_further_on count bytes (line_of number start piece)
+line_of-further : (count bytes number start : ℕ) (piece : List ℕ) →
+    line_of (count + number) (bytes + start) piece ≡ line_further_on count bytes (line_of number start piece)
 line_of-further count bytes number start piece =
     let stop : bytes + start + length (strip_carriage_return piece) ≡ bytes + (start + length (strip_carriage_return piece)) = omega arith in
     ap (λ (n : ℕ). line_with (count + number) (indent_of (strip_carriage_return piece)) (bytes + start) n) stop
 
-lines_of-further : (count bytes number start : ℕ) (pieces : List (List ℕ)) → lines_of (count + number) (bytes + start) pieces ≡ map (line_further_on count bytes) (lines_of number start pieces)
+lines_of-further : (count bytes number start : ℕ) (pieces : List (List ℕ)) →
+    lines_of (count + number) (bytes + start) pieces ≡ map (line_further_on count bytes) (lines_of number start pieces)
 lines_of-further count bytes number start [] = refl
 lines_of-further count bytes number start (piece ∷ more) =
     ap (λ (l : Line). l ∷ lines_of (count + number + 1) (bytes + start + length piece + 1) more) (line_of-further count bytes number start piece)
     ∙ ap (λ (w : List Line). line_further_on count bytes (line_of number start piece) ∷ w)
-    (lines_of-at (count + number + 1) (count + (number + 1)) (bytes + start + length piece + 1) (bytes + (start + length piece + 1)) more (omega arith) (omega arith)
+    (lines_of-at (count + number + 1) (count + (number + 1)) (bytes + start + length piece + 1) (bytes + (start + length piece + 1)) more (omega arith)
+    (omega arith)
     ∙ lines_of-further count bytes (number + 1) (start + length piece + 1) more)
 
 -- the lines of a text of whole lines, and then those of the other, further on
@@ -143,5 +150,6 @@ text_lines-append xs ys whole =
     ap (lines_of 1 0) (line_pieces-append xs ys whole)
     ∙ lines_of-append 1 0 (line_pieces xs) (line_pieces ys)
     ∙ ap (λ (w : List Line). text_lines xs ++ w)
-    (lines_of-at (1 + length (line_pieces xs)) (length (text_lines xs) + 1) (0 + bytes_with_ends (line_pieces xs)) (length xs + 0) (line_pieces ys) (omega arith) (omega (arith, lines-bytes xs whole))
+    (lines_of-at (1 + length (line_pieces xs)) (length (text_lines xs) + 1) (0 + bytes_with_ends (line_pieces xs)) (length xs + 0) (line_pieces ys)
+    (omega arith) (omega (arith, lines-bytes xs whole))
     ∙ lines_of-further (length (text_lines xs)) (length xs) 1 0 (line_pieces ys))
