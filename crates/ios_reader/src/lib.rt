@@ -17,10 +17,12 @@ mod interface_read;
 
 // Configurations, and the whole text.
 mod configuration;
+mod inserted;
 mod laws;
 mod reader;
 mod refusal;
 
+pub use inserted::inserted_laws;
 pub use kind::ReadKind;
 pub use laws::read_laws;
 pub use reader::read_configs;
