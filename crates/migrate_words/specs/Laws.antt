@@ -1,0 +1,14 @@
+-- The laws of the words of a call.
+use Rattle.std.specs.Prelude.{◌≡◌, List}
+use Rattle.clap.specs.Words.{Text}
+use Rattle.migrate_words.specs.Requests.{Request}
+use Rattle.migrate_words.specs.Asked.{Asks}
+use Rattle.migrate_words.specs.PlainWords.{AsksPlainly}
+
+-- words ask for one request
+abbrev pub OneRequestLaw : Type 0
+OneRequestLaw = (words : List Text) (request other : Request) → Asks words request → Asks words other → request ≡ other
+
+-- plain words are taken, with just their values
+abbrev pub PlainWordsLaw : Type 0
+PlainWordsLaw = (words : List Text) (request : Request) → AsksPlainly words request → Asks words request
