@@ -1,5 +1,5 @@
 -- The command line of `migrate` in the terms of `clap`: seven subcommands, of which one is required.
-use Rattle.std.specs.Prelude.{Some, true, [], ◌∷◌, codes, List}
+use Rattle.std.specs.Prelude.{Some, true, false, [], ◌∷◌, codes, List}
 use Rattle.clap.specs.Lexer.{usize_max}
 use Rattle.clap.specs.Words.{App, Rule, Shape, Text, new_rule}
 use Rattle.clap.specs.Simple.{new_shape}
