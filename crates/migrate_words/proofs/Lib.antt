@@ -1,1 +1,3 @@
 mod RowFacts
+mod LineFacts
+mod AnswerFacts

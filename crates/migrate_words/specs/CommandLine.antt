@@ -1,6 +1,6 @@
 -- The command line of `migrate` in the terms of `clap`: seven subcommands, of which one is required.
 use Rattle.std.specs.Prelude.{Some, true, false, [], ◌∷◌, codes, List}
-use Rattle.clap.specs.Lexer.{usize_max}
+use Rattle.clap.specs.declared.builder.action.ArgAction.TheVariants.{Append}
 use Rattle.clap.specs.Words.{App, Rule, Shape, Text, new_rule}
 use Rattle.clap.specs.Simple.{new_shape}
 
@@ -10,7 +10,7 @@ one_text id = record (new_rule id) { required = true }
 
 -- a required positional of one or more texts: the configuration files
 abbrev pub config_files : Rule
-config_files = record (new_rule (codes "CONFIG")) { required = true; range = Some (record { start_inclusive = 1; end_inclusive = usize_max }) }
+config_files = record (new_rule (codes "CONFIG")) { required = true; action = Some Append }
 
 -- the option `--budget` of one text
 abbrev pub budget_option : Rule

@@ -5,7 +5,7 @@ ghost use Rattle.migrate_words.specs.CommandLine.{one_text, config_files, budget
 ghost use Rattle.migrate_words.specs.LineSteps.{IsLine, IsRule, IsWhole, bare_line, with_argument};
 ghost use Rattle.clap.specs.Words.{Rule, with_subcommand};
 
-use clap::{Arg, Command};
+use clap::{Arg, ArgAction, Command};
 use std::alloc::{AllocError, Global};
 
 /// The command line of `migrate`.
@@ -122,7 +122,7 @@ fn config_files<'a>(alloc: Global) -> Arg<'a>
 {
     Arg::new(alloc, "CONFIG")
         .required(true)
-        .num_args(1..)
+        .action(ArgAction::Append)
         .help("The configurations of the routers, one file or more")
 }
 
