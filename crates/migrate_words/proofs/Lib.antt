@@ -1,3 +1,7 @@
 mod RowFacts
 mod LineFacts
 mod AnswerFacts
+mod PlainWalk
+mod Entering
+mod PlainLines
+mod PlainLaws

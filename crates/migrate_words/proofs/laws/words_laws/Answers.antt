@@ -1,0 +1,5 @@
+use Rattle.migrate_words.proofs.PlainLaws.{plain_words}
+use Rattle.migrate_words.proofs.laws.words_laws.Goals as goal
+
+pub returns : goal.returns
+returns c = record { one = ?; plain = plain_words }
