@@ -5,3 +5,4 @@ mod PlainWalk
 mod Entering
 mod PlainLines
 mod PlainLaws
+mod OneRequest

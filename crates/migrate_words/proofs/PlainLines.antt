@@ -85,3 +85,184 @@ takes_check order configs plain plain_configs = one_text_then_files check_built 
   quiet = λ first others. refl;
   full = λ first others. refl;
 }) plain configs plain_configs
+
+abbrev pub prepare_built : Shape
+prepare_built = built_line (codes "prepare") (one_text (codes "DESIGN") ∷ config_files ∷ [])
+
+pub enters_prepare : Enters (built command_line) (codes "prepare") prepare_built
+unfolding command_line defaults_fault
+enters_prepare = record { met = refl; other = refl; found = refl; quiet = refl }
+
+pub takes_prepare : (design : Text) (configs : List Text) → IsPlainName design → ArePlainNames configs
+    → Takes prepare_built (design ∷ configs) (adds (row (codes "DESIGN") design ∷ []) configs)
+unfolding defaults_fault
+takes_prepare design configs plain plain_configs = one_text_then_files prepare_built (codes "DESIGN") design refl (record {
+  files = record { found = refl; named = refl; one = λ v. refl; more = λ first seen v. refl };
+  taken = refl;
+  held = λ word. refl;
+  quiet = λ first others. refl;
+  full = λ first others. refl;
+}) plain configs plain_configs
+
+abbrev pub refute_built : Shape
+refute_built = built_line (codes "refute") (one_text (codes "TREE") ∷ config_files ∷ [])
+
+pub enters_refute : Enters (built command_line) (codes "refute") refute_built
+unfolding command_line defaults_fault
+enters_refute = record { met = refl; other = refl; found = refl; quiet = refl }
+
+pub takes_refute : (tree : Text) (configs : List Text) → IsPlainName tree → ArePlainNames configs
+    → Takes refute_built (tree ∷ configs) (adds (row (codes "TREE") tree ∷ []) configs)
+unfolding defaults_fault
+takes_refute tree configs plain plain_configs = one_text_then_files refute_built (codes "TREE") tree refl (record {
+  files = record { found = refl; named = refl; one = λ v. refl; more = λ first seen v. refl };
+  taken = refl;
+  held = λ word. refl;
+  quiet = λ first others. refl;
+  full = λ first others. refl;
+}) plain configs plain_configs
+
+abbrev pub scripts_built : Shape
+scripts_built = built_line (codes "scripts") (one_text (codes "ORDER") ∷ config_files ∷ [])
+
+pub enters_scripts : Enters (built command_line) (codes "scripts") scripts_built
+unfolding command_line defaults_fault
+enters_scripts = record { met = refl; other = refl; found = refl; quiet = refl }
+
+pub takes_scripts : (order : Text) (configs : List Text) → IsPlainName order → ArePlainNames configs
+    → Takes scripts_built (order ∷ configs) (adds (row (codes "ORDER") order ∷ []) configs)
+unfolding defaults_fault
+takes_scripts order configs plain plain_configs = one_text_then_files scripts_built (codes "ORDER") order refl (record {
+  files = record { found = refl; named = refl; one = λ v. refl; more = λ first seen v. refl };
+  taken = refl;
+  held = λ word. refl;
+  quiet = λ first others. refl;
+  full = λ first others. refl;
+}) plain configs plain_configs
+
+-- ---- replay
+
+abbrev pub replay_built : Shape
+replay_built = built_line (codes "replay") (one_text (codes "ORDER") ∷ one_text (codes "JOURNAL") ∷ config_files ∷ [])
+
+pub enters_replay : Enters (built command_line) (codes "replay") replay_built
+unfolding command_line defaults_fault
+enters_replay = record { met = refl; other = refl; found = refl; quiet = refl }
+
+abbrev replay_rows : Text → Text → List Row
+replay_rows order journal = row (codes "ORDER") order ∷ row (codes "JOURNAL") journal ∷ []
+
+abbrev held_journal : Text → Text → Held
+held_journal order journal = held_text (row (codes "ORDER") order ∷ []) (codes "JOURNAL") journal
+
+replay_ready : (order journal : Text) → Ready replay_built (held_journal order journal) 3 (replay_rows order journal)
+unfolding defaults_fault
+replay_ready order journal = record {
+  files = record { found = refl; named = refl; one = λ v. refl; more = λ first seen v. refl };
+  taken = refl;
+  held = λ word. refl;
+  quiet = λ first others. refl;
+  full = λ first others. refl;
+}
+
+journal_next : (order journal : Text) (rest : List Text) (rows : List Row) → IsPlainName journal → Ends replay_built (before (held_journal order journal) false 3) rest rows
+    → Ends replay_built (before (held_text [] (codes "ORDER") order) false 2) (journal ∷ rest) rows
+journal_next order [] rest rows plain ends = absurd plain
+journal_next order (x ∷ xs) rest rows plain ends =
+    ends_after_plain replay_built (held_text [] (codes "ORDER") order) false 2 (text_at 2 (codes "JOURNAL")) x xs rest rows (ne_eqb x 45 plain) refl refl refl ends
+
+pub takes_replay : (order journal : Text) (configs : List Text) → IsPlainName order → IsPlainName journal → ArePlainNames configs
+    → Takes replay_built (order ∷ journal ∷ configs) (adds (replay_rows order journal) configs)
+takes_replay order journal configs plain_order plain_journal plain_configs =
+    let ready = replay_ready order journal in
+    let files = files_left replay_built (held_journal order journal) 3 (replay_rows order journal) ready configs plain_configs in
+    takes_all replay_built (held_journal order journal) 3 (replay_rows order journal) ready (order ∷ journal ∷ configs) configs plain_configs
+    (text_first replay_built (codes "ORDER") order (journal ∷ configs) _ refl plain_order (journal_next order journal configs _ plain_journal files))
+
+-- ---- plan
+
+abbrev pub plan_built : Shape
+plan_built = built_line (codes "plan") (budget_option ∷ config_files ∷ [])
+
+pub enters_plan : Enters (built command_line) (codes "plan") plan_built
+unfolding command_line defaults_fault
+enters_plan = record { met = refl; other = refl; found = refl; quiet = refl }
+
+plan_ready : Ready plan_built nothing_held 1 []
+unfolding defaults_fault
+plan_ready = record {
+  files = record { found = refl; named = refl; one = λ v. refl; more = λ first seen v. refl };
+  taken = refl;
+  held = λ word. refl;
+  quiet = λ first others. refl;
+  full = λ first others. refl;
+}
+
+pub takes_plan : (configs : List Text) → ArePlainNames configs → Takes plan_built configs (adds [] configs)
+takes_plan configs plain = takes_all plan_built nothing_held 1 [] plan_ready configs configs plain (files_left plan_built nothing_held 1 [] plan_ready configs plain)
+
+budget_ready : (number : Text) → Ready plan_built (held_text [] (codes "N") number) 1 (row (codes "N") number ∷ [])
+unfolding defaults_fault
+budget_ready number = record {
+  files = record { found = refl; named = refl; one = λ v. refl; more = λ first seen v. refl };
+  taken = refl;
+  held = λ word. refl;
+  quiet = λ first others. refl;
+  full = λ first others. refl;
+}
+
+-- after `--budget`, which waits for its text
+abbrev after_budget : Walk
+after_budget = record {
+  held = record { rows = []; pending = Some (codes "N", []); skip = 0 };
+  waiting = option (codes "N");
+  position = 1;
+  is_trailing = false;
+  stopped = None;
+}
+
+budget_first : (rest : List Text) (rows : List Row) → Ends plan_built after_budget rest rows → Ends plan_built (before nothing_held false 1) (codes "--budget" ∷ rest) rows
+unfolding clap_on_literals
+budget_first rest rows ends = ends_after plan_built (before nothing_held false 1) after_budget (codes "--budget") rest rows refl refl ends
+
+number_next : (number : Text) (rest : List Text) (rows : List Row) → IsPlainName number → Ends plan_built (before (held_text [] (codes "N") number) false 1) rest rows
+    → Ends plan_built after_budget (number ∷ rest) rows
+unfolding walked
+number_next [] rest rows plain ends = absurd plain
+number_next (x ∷ xs) rest rows plain ends =
+    let waits = other_plain plan_built.rules after_budget.waiting 1 x xs after_budget.held (ne_eqb x 45 plain) in
+    ends_after plan_built after_budget (before (held_text [] (codes "N") (x ∷ xs)) false 1) (x ∷ xs) rest rows
+    (ap₂ or_else (no_fault plan_built x xs after_budget.held (ne_eqb x 45 plain)) (ap (λ (p : Held × Step). step_fault plan_built 1 p.0 p.1) waits))
+    (ap (λ (p : Held × Step). after_step plan_built.rules (x ∷ xs) after_budget p.0 p.1) waits) ends
+
+pub takes_budget : (number : Text) (configs : List Text) → IsPlainName number → ArePlainNames configs
+    → Takes plan_built (codes "--budget" ∷ number ∷ configs) (adds (row (codes "N") number ∷ []) configs)
+takes_budget number configs plain plain_configs =
+    let ready = budget_ready number in
+    let files = files_left plan_built (held_text [] (codes "N") number) 1 (row (codes "N") number ∷ []) ready configs plain_configs in
+    takes_all plan_built (held_text [] (codes "N") number) 1 (row (codes "N") number ∷ []) ready (codes "--budget" ∷ number ∷ configs) configs plain_configs
+    (budget_first (number ∷ configs) _ (number_next number configs _ plain files))
+
+-- ---- sample
+
+abbrev pub sample_built : Shape
+sample_built = built_line (codes "sample") (one_text (codes "N") ∷ [])
+
+pub enters_sample : Enters (built command_line) (codes "sample") sample_built
+unfolding command_line defaults_fault
+enters_sample = record { met = refl; other = refl; found = refl; quiet = refl }
+
+pub takes_sample : (number : Text) → IsPlainName number → Takes sample_built (number ∷ []) (row (codes "N") number ∷ [])
+unfolding defaults_fault walk_fault
+takes_sample number plain = record {
+  ends = text_first sample_built (codes "N") number [] _ refl plain (record { walks = refl; settles = refl; rows_are = refl });
+  quiet = refl;
+  full = refl;
+}
+
+-- ---- numbers
+
+-- a numeral begins with a digit
+pub numeral_plain : (word : Text) (n : ℕ) → IsNumeral word n → IsPlainName word
+numeral_plain [] n numeral = absurd (omega (arith, numeral.some))
+numeral_plain (x ∷ xs) n numeral = λ hyphen. let digit = All-head IsAsciiDigit x xs numeral.digits in omega (arith, digit, hyphen)
