@@ -19,7 +19,7 @@ asked line rest rows request enters named takes given = record {
   taken = taken_by (built command_line) (name_of request) line rest enters (takes_words line rest rows takes);
   rows = rows;
   entered = entered_by (built command_line) (name_of request) line rest enters
-  ∙ ap (λ (name : Text). Some (name, rows_after line.rules [] rest)) named ∙ ap (λ (found : List Row). Some (name_of request, found)) (takes_rows line rest rows takes);
+      ∙ ap (λ (name : Text). Some (name, rows_after line.rules [] rest)) named ∙ ap (λ (found : List Row). Some (name_of request, found)) (takes_rows line rest rows takes);
   given = given;
 }
 

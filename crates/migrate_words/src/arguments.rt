@@ -3,9 +3,7 @@ ghost use Rattle.clap.specs.Words.{first_of, found_of, rows_of};
 ghost use Rattle.migrate_words.specs.Asked.{HasConfigs, HasRouters, HasText, IsBudget, IsNumberIn};
 ghost use Rattle.migrate_words.specs.Refusals.{ReadsAs};
 
-use crate::command::{
-    LEAST_BUDGET, LEAST_SAMPLE, MOST_BUDGET, MOST_SAMPLE, USUAL_BUDGET,
-};
+use crate::command::{LEAST_BUDGET, LEAST_SAMPLE, MOST_BUDGET, MOST_SAMPLE, USUAL_BUDGET};
 use crate::{FileNames, WordsRefused};
 use clap::ArgMatches;
 use net_addr::read_number;
@@ -22,7 +20,10 @@ pub(crate) fn text_of<'a>(given: &ArgMatches<'a>, argument: &str) -> Result<&'a 
 }
 
 /// The configuration files.
-pub(crate) fn configs_of<'a>(alloc: Global, given: &ArgMatches<'a>) -> Result<FileNames<'a>, WordsRefused>
+pub(crate) fn configs_of<'a>(
+    alloc: Global,
+    given: &ArgMatches<'a>,
+) -> Result<FileNames<'a>, WordsRefused>
     ensures { ReadsAs (λ names. names) (HasConfigs (rows_of (found_of given.now))) result }
 {
     let Some(names) = given.get_strs("CONFIG") else {

@@ -18,3 +18,5 @@ pub use laws::words_laws;
 pub use reading::read_command;
 pub use refusal::WordsRefused;
 
+#[cfg(test)]
+mod tests;

@@ -41,15 +41,27 @@ fn with_line<'a>(line: Command<'a>, subcommand: Command<'a>) -> Result<Command<'
 fn check_line<'a>(alloc: Global) -> Result<Command<'a>, AllocError>
     ensures { IfOk result (IsLine check_line) }
 {
-    let line = subcommand(alloc, "check", "Judges an order: is the network safe after each change?");
-    let order = one_text(alloc, "ORDER", "The order file: the routers in the order in which they change");
+    let line = subcommand(
+        alloc,
+        "check",
+        "Judges an order: is the network safe after each change?",
+    );
+    let order = one_text(
+        alloc,
+        "ORDER",
+        "The order file: the routers in the order in which they change",
+    );
     with_argument(with_argument(line, order)?, config_files(alloc))
 }
 
 fn prepare_line<'a>(alloc: Global) -> Result<Command<'a>, AllocError>
     ensures { IfOk result (IsLine prepare_line) }
 {
-    let line = subcommand(alloc, "prepare", "Writes the configurations with the IS-IS lines of a design");
+    let line = subcommand(
+        alloc,
+        "prepare",
+        "Writes the configurations with the IS-IS lines of a design",
+    );
     let design = one_text(alloc, "DESIGN", "The design file");
     with_argument(with_argument(line, design)?, config_files(alloc))
 }
@@ -57,14 +69,25 @@ fn prepare_line<'a>(alloc: Global) -> Result<Command<'a>, AllocError>
 fn plan_line<'a>(alloc: Global) -> Result<Command<'a>, AllocError>
     ensures { IfOk result (IsLine plan_line) }
 {
-    let line = subcommand(alloc, "plan", "Finds an order that is safe after each change, or a tree that shows that there is none");
-    with_argument(with_argument(line, budget_option(alloc))?, config_files(alloc))
+    let line = subcommand(
+        alloc,
+        "plan",
+        "Finds an order that is safe after each change, or a tree that shows that there is none",
+    );
+    with_argument(
+        with_argument(line, budget_option(alloc))?,
+        config_files(alloc),
+    )
 }
 
 fn refute_line<'a>(alloc: Global) -> Result<Command<'a>, AllocError>
     ensures { IfOk result (IsLine refute_line) }
 {
-    let line = subcommand(alloc, "refute", "Judges a tree: does it show that no order is safe?");
+    let line = subcommand(
+        alloc,
+        "refute",
+        "Judges a tree: does it show that no order is safe?",
+    );
     let tree = one_text(alloc, "TREE", "The tree file");
     with_argument(with_argument(line, tree)?, config_files(alloc))
 }
@@ -72,7 +95,11 @@ fn refute_line<'a>(alloc: Global) -> Result<Command<'a>, AllocError>
 fn scripts_line<'a>(alloc: Global) -> Result<Command<'a>, AllocError>
     ensures { IfOk result (IsLine scripts_line) }
 {
-    let line = subcommand(alloc, "scripts", "Writes the lines to type for each change of an order");
+    let line = subcommand(
+        alloc,
+        "scripts",
+        "Writes the lines to type for each change of an order",
+    );
     let order = one_text(alloc, "ORDER", "The order file");
     with_argument(with_argument(line, order)?, config_files(alloc))
 }
@@ -80,9 +107,17 @@ fn scripts_line<'a>(alloc: Global) -> Result<Command<'a>, AllocError>
 fn replay_line<'a>(alloc: Global) -> Result<Command<'a>, AllocError>
     ensures { IfOk result (IsLine replay_line) }
 {
-    let line = subcommand(alloc, "replay", "Tells how far a journal of changes has come in an order, and the next change");
+    let line = subcommand(
+        alloc,
+        "replay",
+        "Tells how far a journal of changes has come in an order, and the next change",
+    );
     let order = one_text(alloc, "ORDER", "The order file");
-    let journal = one_text(alloc, "JOURNAL", "The journal file: the changes that are done");
+    let journal = one_text(
+        alloc,
+        "JOURNAL",
+        "The journal file: the changes that are done",
+    );
     let line = with_argument(with_argument(line, order)?, journal)?;
     with_argument(line, config_files(alloc))
 }
@@ -90,7 +125,11 @@ fn replay_line<'a>(alloc: Global) -> Result<Command<'a>, AllocError>
 fn sample_line<'a>(alloc: Global) -> Result<Command<'a>, AllocError>
     ensures { IfOk result (IsLine sample_line) }
 {
-    let line = subcommand(alloc, "sample", "Plans a made network, and tells what was found");
+    let line = subcommand(
+        alloc,
+        "sample",
+        "Plans a made network, and tells what was found",
+    );
     let routers = one_text(alloc, "N", "The number of routers, from 3 to 60");
     with_argument(line, routers)
 }
@@ -130,7 +169,7 @@ fn config_files<'a>(alloc: Global) -> Arg<'a>
 fn budget_option<'a>(alloc: Global) -> Arg<'a>
     ensures { IsRule budget_option result }
 {
-    Arg::new(alloc, "N")
-        .long("budget")
-        .help("The most branches of the search, from 1 to 100000; 10000 unless given")
+    Arg::new(alloc, "N").long("budget").help(
+        "The most branches of the search, from 1 to 100000; 10000 unless given",
+    )
 }
