@@ -50,3 +50,10 @@ pub record Asks (words : List Text) (request : Request) : Type 0 where
   pub rows : List Row
   pub entered : subcommand_of command_line words ≡ Some (name_of request, rows)
   pub given : Gives rows request
+
+-- the number that the words give is no numeral or out of its range
+pub data HasNumberOff (words : List Text) : Type 0 where
+  budget_off : (rows : List Row) (word : Text) → subcommand_of command_line words ≡ Some (codes "plan", rows) → HasText rows (codes "N") word
+      → ((n : ℕ) → IsNumberIn LEAST_BUDGET MOST_BUDGET word n → ⊥) → HasNumberOff words
+  routers_off : (rows : List Row) (word : Text) → subcommand_of command_line words ≡ Some (codes "sample", rows) → HasText rows (codes "N") word
+      → ((n : ℕ) → IsNumberIn LEAST_SAMPLE MOST_SAMPLE word n → ⊥) → HasNumberOff words

@@ -5,7 +5,7 @@ use Rattle.clap.specs.declared.parser.matches.ArgMatches.{ArgMatches}
 use Rattle.clap.specs.declared.error.kind.ErrorKind.{ErrorKind}
 use Rattle.clap.specs.declared.error.kind.ErrorKind.TheVariants as kind
 use Rattle.migrate_words.specs.Requests.{Request, name_of, request_of}
-use Rattle.migrate_words.specs.Asked.{AreTaken, Asks, Gives}
+use Rattle.migrate_words.specs.Asked.{AreTaken, Asks, Gives, HasNumberOff}
 use Rattle.migrate_words.specs.declared.command.Command.{Command}
 use Rattle.migrate_words.specs.declared.refusal.WordsRefused.{WordsRefused}
 use Rattle.migrate_words.specs.declared.refusal.WordsRefused.TheVariants.{Words, Number, OutOfMemory}
@@ -13,7 +13,7 @@ use Rattle.migrate_words.specs.declared.refusal.WordsRefused.TheVariants.{Words,
 -- why there is no command: the command line doesn't take the words; it takes them, and a number is off its range; or memory ran out
 abbrev pub IsRefusal : List Text → WordsRefused → Type 0
 IsRefusal words (Words detail) = AreTaken words → ⊥
-IsRefusal words Number = AreTaken words × ((request : Request) → Asks words request → ⊥)
+IsRefusal words Number = AreTaken words × HasNumberOff words
 IsRefusal words OutOfMemory = Unit {0}
 
 -- the answer to words: the command that they ask for, or why there is none
