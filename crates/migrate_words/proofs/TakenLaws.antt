@@ -194,15 +194,28 @@ pub number_off : (words : List Text) → AreTaken words → AskNothing words →
 unfolding command_line
 number_off words taken nothing =
     let finds = line_of_taken words taken in
-    let follows = found_hit (Follows words finds.rest) (λ s. answers_to finds.name (label_of s)) (built command_line).subs finds.line
-    (λ hit. check_follows words finds.rest taken nothing,
-    (λ hit. prepare_follows words finds.rest taken nothing,
-    (λ hit. plan_follows words finds.rest taken nothing,
-    (λ hit. refute_follows words finds.rest taken nothing,
-    (λ hit. scripts_follows words finds.rest taken nothing,
-    (λ hit. replay_follows words finds.rest taken nothing,
-    (λ hit. sample_follows words finds.rest taken nothing,
-    (λ hit takes entered. absurd (not_help finds.name finds.other hit), tt)))))))) finds.found in
+    let follows = found_hit (Follows words finds.rest) (λ s. answers_to finds.name (label_of s)) (built command_line).subs finds.line (
+      λ hit. check_follows words finds.rest taken nothing,
+      (
+        λ hit. prepare_follows words finds.rest taken nothing,
+        (
+          λ hit. plan_follows words finds.rest taken nothing,
+          (
+            λ hit. refute_follows words finds.rest taken nothing,
+            (
+              λ hit. scripts_follows words finds.rest taken nothing,
+              (
+                λ hit. replay_follows words finds.rest taken nothing,
+                (
+                  λ hit. sample_follows words finds.rest taken nothing,
+                  (λ hit takes entered. absurd (not_help finds.name finds.other hit), tt),
+                ),
+              ),
+            ),
+          ),
+        ),
+      ),
+    ) finds.found in
     follows finds.taken finds.rows
 
 -- ---- and a number that is off asks for nothing

@@ -2,10 +2,10 @@ use crate::{Command, FileNames, WordsRefused, read_command};
 use std::alloc::Global;
 use std::test::Fail;
 
-/// The words of a call.
-fn words_of(alloc: Global, words: &[&str]) -> Result<Vec<String>, Fail> {
+/// The words of a call, which stand in a line with one blank between them.
+fn words_of(alloc: Global, line: &str) -> Result<Vec<String>, Fail> {
     let mut all = Vec::new(alloc);
-    for word in words {
+    for word in line.split(' ') {
         all.push(String::from_str(alloc, word)?)?;
     }
     Ok(all)
@@ -40,9 +40,8 @@ fn told(alloc: Global, command: &Command<'_>) -> Result<String, Fail> {
 }
 
 /// What is made of the words of a call, in one line.
-fn answer(alloc: Global, words: &[&str]) -> Result<String, Fail> {
-    let words = words_of(alloc, words)?;
-    match read_command(alloc, words.as_slice()) {
+fn answer(alloc: Global, words: &[String]) -> Result<String, Fail> {
+    match read_command(alloc, words) {
         Ok(command) => told(alloc, &command),
         Err(WordsRefused::Words(_)) => Ok(String::from_str(alloc, "refused")?),
         Err(WordsRefused::Number) => Ok(String::from_str(alloc, "off its range")?),
@@ -50,80 +49,72 @@ fn answer(alloc: Global, words: &[&str]) -> Result<String, Fail> {
     }
 }
 
+/// Words, and what is made of them. Two blanks have an empty word between them.
+static CASES: [(&str, &str); 35] = [
+    ("check o.txt a.cfg", "check o.txt: a.cfg"),
+    ("check o.txt a.cfg b.cfg", "check o.txt: a.cfg b.cfg"),
+    ("prepare d.toml a.cfg", "prepare d.toml: a.cfg"),
+    ("plan a.cfg b.cfg", "plan 10000: a.cfg b.cfg"),
+    ("plan --budget 7 a.cfg", "plan 7: a.cfg"),
+    ("plan --budget 007 a.cfg", "plan 7: a.cfg"),
+    ("plan --budget 1 a.cfg", "plan 1: a.cfg"),
+    ("plan --budget 100000 a.cfg", "plan 100000: a.cfg"),
+    ("plan a.cfg --budget=5 b.cfg", "plan 5: a.cfg b.cfg"),
+    ("refute t.txt a.cfg", "refute t.txt: a.cfg"),
+    ("scripts o.txt a.cfg", "scripts o.txt: a.cfg"),
+    (
+        "replay o.txt j.txt a.cfg b.cfg",
+        "replay o.txt j.txt: a.cfg b.cfg",
+    ),
+    ("sample 3", "sample 3"),
+    ("sample 60", "sample 60"),
+    ("check -- o.txt a.cfg", "check o.txt: a.cfg"),
+    ("check o.txt -- --help", "check o.txt: --help"),
+    ("check help check", "check help: check"),
+    ("check - a.cfg", "check -: a.cfg"),
+    ("check  a.cfg", "check : a.cfg"),
+    ("plan --budget 0 a.cfg", "off its range"),
+    ("plan --budget 100001 a.cfg", "off its range"),
+    ("plan --budget  a.cfg", "off its range"),
+    ("sample 2", "off its range"),
+    ("sample 61", "off its range"),
+    ("sample x", "off its range"),
+    ("", "refused"),
+    ("explain o.txt a.cfg", "refused"),
+    ("check o.txt", "refused"),
+    ("check --help", "refused"),
+    ("help", "refused"),
+    ("plan", "refused"),
+    ("plan --budget a.cfg", "refused"),
+    ("plan --budget 5 --budget 5 a.cfg", "refused"),
+    ("sample", "refused"),
+    ("sample 3 4", "refused"),
+];
+
 #[test]
 fn words_are_read(rt: HostRuntime) -> Result<(), Fail> {
-    let cases: [(&[&str], &str); 36] = [
-        (&["check", "o.txt", "a.cfg"], "check o.txt: a.cfg"),
-        (
-            &["check", "o.txt", "a.cfg", "b.cfg"],
-            "check o.txt: a.cfg b.cfg",
-        ),
-        (&["prepare", "d.toml", "a.cfg"], "prepare d.toml: a.cfg"),
-        (&["plan", "a.cfg", "b.cfg"], "plan 10000: a.cfg b.cfg"),
-        (&["plan", "--budget", "7", "a.cfg"], "plan 7: a.cfg"),
-        (&["plan", "--budget", "007", "a.cfg"], "plan 7: a.cfg"),
-        (&["plan", "--budget", "1", "a.cfg"], "plan 1: a.cfg"),
-        (
-            &["plan", "--budget", "100000", "a.cfg"],
-            "plan 100000: a.cfg",
-        ),
-        (
-            &["plan", "a.cfg", "--budget=5", "b.cfg"],
-            "plan 5: a.cfg b.cfg",
-        ),
-        (&["refute", "t.txt", "a.cfg"], "refute t.txt: a.cfg"),
-        (&["scripts", "o.txt", "a.cfg"], "scripts o.txt: a.cfg"),
-        (
-            &["replay", "o.txt", "j.txt", "a.cfg", "b.cfg"],
-            "replay o.txt j.txt: a.cfg b.cfg",
-        ),
-        (&["sample", "3"], "sample 3"),
-        (&["sample", "60"], "sample 60"),
-        (&["check", "--", "o.txt", "a.cfg"], "check o.txt: a.cfg"),
-        (&["check", "o.txt", "--", "--help"], "check o.txt: --help"),
-        (&["check", "help", "check"], "check help: check"),
-        (&["check", "-", "a.cfg"], "check -: a.cfg"),
-        (&["check", "", "a.cfg"], "check : a.cfg"),
-        (&["plan", "--budget", "0", "a.cfg"], "off its range"),
-        (&["plan", "--budget", "100001", "a.cfg"], "off its range"),
-        (&["plan", "--budget", "", "a.cfg"], "off its range"),
-        (&["sample", "2"], "off its range"),
-        (&["sample", "61"], "off its range"),
-        (&["sample", "x"], "off its range"),
-        (&[], "refused"),
-        (&[""], "refused"),
-        (&["explain", "o.txt", "a.cfg"], "refused"),
-        (&["check", "o.txt"], "refused"),
-        (&["check", "--help"], "refused"),
-        (&["help"], "refused"),
-        (&["plan"], "refused"),
-        (&["plan", "--budget", "a.cfg"], "refused"),
-        (
-            &["plan", "--budget", "5", "--budget", "5", "a.cfg"],
-            "refused",
-        ),
-        (&["sample"], "refused"),
-        (&["sample", "3", "4"], "refused"),
-    ];
-    for (words, expected) in cases {
-        let line = answer(rt.alloc(), words)?;
-        assert!(rt; line.as_str() == expected);
+    let nothing = answer(rt.alloc(), &[])?;
+    assert!(rt; nothing.as_str() == "refused");
+    for (line, expected) in &CASES {
+        let words = words_of(rt.alloc(), line)?;
+        let read = answer(rt.alloc(), words.as_slice())?;
+        assert!(rt; read.as_str() == *expected);
     }
     Ok(())
 }
 
+static NAMES: [&str; 7] = [
+    "check", "prepare", "plan", "refute", "scripts", "replay", "sample",
+];
+
 #[test]
 fn help_tells_the_commands(rt: HostRuntime) -> Result<(), Fail> {
-    let words = words_of(rt.alloc(), &["--help"])?;
-    match read_command(rt.alloc(), words.as_slice()) {
-        Err(WordsRefused::Words(text)) => {
-            for name in [
-                "check", "prepare", "plan", "refute", "scripts", "replay", "sample",
-            ] {
-                assert!(rt; text.as_str().contains(name));
-            }
-            Ok(())
-        }
-        _ => Err(Fail::from("no help")),
+    let words = words_of(rt.alloc(), "--help")?;
+    let Err(WordsRefused::Words(text)) = read_command(rt.alloc(), words.as_slice()) else {
+        return Err(Fail::from("no help"));
+    };
+    for name in &NAMES {
+        assert!(rt; text.as_str().contains(name));
     }
+    Ok(())
 }
