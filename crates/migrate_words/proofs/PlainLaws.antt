@@ -5,7 +5,7 @@ use Rattle.clap.specs.Walk.{rows_after}
 use Rattle.migrate_words.specs.CommandLine.{command_line}
 use Rattle.migrate_words.specs.Requests.{Request, name_of, check, prepare, plan, refute, scripts, replay, sample}
 use Rattle.migrate_words.specs.Asked.{Asks, Gives}
-use Rattle.migrate_words.specs.PlainWords.{ArePlainNames, AsksPlainly, plain_check, plain_prepare, plain_plan, plain_plan_within, plain_refute, plain_scripts, plain_replay, plain_sample}
+use Rattle.migrate_words.specs.PlainWords.{ArePlainNames, plain_check, plain_prepare, plain_plan, plain_plan_within, plain_refute, plain_scripts, plain_replay, plain_sample}
 use Rattle.migrate_words.specs.Laws.{PlainWordsLaw}
 use Rattle.migrate_words.proofs.PlainWalk.{adds}
 use Rattle.migrate_words.proofs.Entering.{Enters, Takes, entered_by, taken_by, takes_rows, takes_words}

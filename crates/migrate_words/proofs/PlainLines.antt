@@ -1,18 +1,16 @@
 -- Plain words of each subcommand: it takes them, and comes to the rows of their values.
-use Rattle.std.proofs.Common.{◌≡◌, ◌<◌, ◌≤◌, ℕ, Bool, true, false, List, [], ◌∷◌, ◌++◌, Option, Some, None, refl, ap, ap₂, arith, codes, length}
+use Rattle.std.proofs.Common.{◌≡◌, ℕ, true, false, List, [], ◌∷◌, ◌++◌, Some, None, refl, ap, ap₂, arith, codes}
 use Rattle.std.proofs.lemmas.Bool.{ne_eqb}
 use Rattle.std.proofs.lemmas.List.Elements.{All-head}
 use Rattle.std.specs.Char.{IsAsciiDigit}
-use Rattle.std.specs.List.{All, fold}
-use Rattle.std.specs.Prelude.{◌==◌}
-use Rattle.clap.specs.Words.{App, Row, Rule, Shape, Text, built}
+use Rattle.std.specs.List.{fold}
+use Rattle.clap.specs.Words.{Row, Rule, Shape, Text, built}
 use Rattle.clap.specs.Walk.{Held, Step, Walk, after_step, arg_by_index, nothing_held, option, positional_held, walked, with_default}
 use Rattle.clap.specs.Simple.{filled, filled_from, help_rule, new_shape, with_index}
 use Rattle.clap.specs.Kinds.{or_else}
-use Rattle.clap.specs.Faults.{check_fault, defaults_fault, positional_fault, step_fault, turn_fault, walk_fault}
+use Rattle.clap.specs.Faults.{check_fault, defaults_fault, positional_fault, step_fault, walk_fault}
 use Rattle.clap.proofs.OnLiterals.{clap_on_literals}
 use Rattle.net_addr.specs.Numerals.{IsNumeral}
-use Rattle.migrate_words.specs.Asked.{IsNumberIn}
 use Rattle.migrate_words.specs.CommandLine.{budget_option, command_line, config_files, one_text}
 use Rattle.migrate_words.specs.PlainWords.{ArePlainNames, IsPlainName}
 use Rattle.migrate_words.proofs.PlainWalk.{Ends, HasFiles, adds, before, ends_after, ends_after_plain, files_at, files_begin, held_file, held_text, no_fault, other_plain, text_row}

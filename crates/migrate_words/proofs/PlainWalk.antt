@@ -1,10 +1,10 @@
 -- How the parse of a subcommand walks over plain words.
-use Rattle.std.proofs.Common.{◌≡◌, ◌∙◌, ℕ, Bool, cond, true, false, List, [], ◌∷◌, ◌++◌, Option, Some, None, nat_eq, refl, sym, ap, ap₂, subst, append_assoc}
+use Rattle.std.proofs.Common.{◌≡◌, ◌∙◌, ℕ, Bool, cond, true, false, List, [], ◌∷◌, ◌++◌, Option, Some, None, refl, sym, ap, ap₂, subst, append_assoc}
 use Rattle.std.specs.List.{All, fold}
 use Rattle.std.specs.Option.{option_map_or}
 use Rattle.std.proofs.lemmas.Bool.{ne_eqb}
 use Rattle.clap.specs.Words.{Row, Rule, Shape, Text}
-use Rattle.clap.specs.Walk.{Held, Step, Waiting, Walk, after_step, arg_by_id, arg_by_index, idle, is_multiple, long_or_other, next_position, plain_word, positional, positional_held, settled, short_or_plain, subcommand_or_other, to_positional, trailing, used, used_by_id, value, walked, with_default, word_met}
+use Rattle.clap.specs.Walk.{Held, Step, Waiting, Walk, after_step, arg_by_id, arg_by_index, idle, is_multiple, long_or_other, next_position, plain_word, positional, positional_held, settled, short_or_plain, subcommand_or_other, to_positional, trailing, used, used_by_id, value, walked, word_met}
 use Rattle.clap.specs.Kinds.{or_else}
 use Rattle.clap.specs.Lexer.{long_of, long_of_rest, short_of, short_of_rest, strip_byte}
 use Rattle.std.specs.Prelude.{◌==◌, ◌&&◌, if◌then◌else◌, option_and_then}

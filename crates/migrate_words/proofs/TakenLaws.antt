@@ -6,8 +6,8 @@ use Rattle.std.specs.Option.{is_some, option_map_or}
 use Rattle.std.specs.Prelude.{◌&&◌, ◌||◌, not, option_and_then, option_map, slice_get}
 use Rattle.std.specs.Str.{bytes_eq}
 use Rattle.clap.specs.Facts.{explicit_source}
-use Rattle.clap.specs.Words.{Kinds, Row, Rule, Shape, Text, all_of, built, first_of, subcommand_of}
-use Rattle.clap.specs.Walk.{answers_to, finished, nothing_held, rows_after, settled, walk, walk_from}
+use Rattle.clap.specs.Words.{Row, Rule, Shape, Text, built, first_of, subcommand_of}
+use Rattle.clap.specs.Walk.{answers_to, nothing_held, rows_after, settled, walk, walk_from}
 use Rattle.clap.specs.Simple.{label_of}
 use Rattle.clap.specs.Takes.{is_given}
 use Rattle.clap.specs.Faults.{defaults_fault, level_fault, settle_fault, walk_fault}
@@ -17,7 +17,7 @@ use Rattle.migrate_words.specs.Requests.{Request, name_of, check, prepare, plan,
 use Rattle.migrate_words.specs.Asked.{AreTaken, Asks, Gives, HasConfigs, HasNumberOff, HasText, IsBudget, IsNumberIn, budget_off, routers_off}
 use Rattle.migrate_words.specs.declared.command.TheConstants.{LEAST_SAMPLE, MOST_SAMPLE}
 use Rattle.migrate_words.specs.Laws.{NumbersLaw}
-use Rattle.migrate_words.proofs.FullRows.{AllWant, Full, HasSome, cons_not_nil, full_rows, second_none, some_is}
+use Rattle.migrate_words.proofs.FullRows.{Full, HasSome, cons_not_nil, full_rows, second_none, some_is}
 use Rattle.migrate_words.proofs.PlainLines.{built_line, check_built, plan_built, prepare_built, refute_built, replay_built, sample_built, scripts_built}
 use Rattle.migrate_words.proofs.TakenWalk.{line_of_taken}
 

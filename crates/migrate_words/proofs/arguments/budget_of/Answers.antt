@@ -1,4 +1,4 @@
-use Rattle.std.proofs.Common.{◌∙◌, ◌≡◌, List, ℕ, Option, Some, None, refl, sym, subst, codes}
+use Rattle.std.proofs.Common.{◌∙◌, ◌≡◌, ℕ, Option, Some, None, refl, subst, codes}
 use Rattle.clap.specs.Words.{Text, first_of, found_of, rows_of}
 use Rattle.clap.proofs.WalkLemmas.{first_value-rows}
 use Rattle.migrate_words.specs.Asked.{IsBudget}
