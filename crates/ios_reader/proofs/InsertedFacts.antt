@@ -6,6 +6,7 @@ use Rattle.std.proofs.lemmas.Bool.{or_parts}
 use Rattle.std.proofs.lemmas.List.{map-append}
 use Rattle.std.proofs.lemmas.List.Concat.{flat_map-append}
 use Rattle.std.proofs.lemmas.Slice.Eq.{bytes_eq-Decides}
+use Rattle.net_addr.specs.JoinedLines.{is_of_whole_lines}
 use Rattle.net_addr.proofs.JoinedFacts.{is_of_whole_lines-append}
 use Rattle.net_model.specs.Configuration.{Configuration}
 use Rattle.ios_lines.specs.Words.{Word, word_at, says, lacks}
@@ -13,9 +14,9 @@ use Rattle.ios_lines.specs.Lookups.{last_of}
 use Rattle.ios_lines.specs.FaultOrder.{faults_if}
 use Rattle.ios_lines.specs.declared.fault.Fault.{Fault}
 use Rattle.ios_lines.specs.declared.kind.ReadKind.TheVariants.{NoHostname, NoEnd}
-use Rattle.ios_sections.specs.TextLines.{TextLine, Part, lines_in, counted_lines, counts, is_end, parts_after, rest_after, parts_of, begins_configuration, is_empty, lacks_end, outside_banners, opens_banner, carets}
+use Rattle.ios_sections.specs.TextLines.{TextLine, Part, lines_in, counted_lines, counts, is_end, parts_after, rest_after, parts_of, begins_configuration, is_empty, lacks_end, outside_banners, opens_banner, carets, first_indent}
 use Rattle.ios_sections.specs.Sections.{sections_in}
-use Rattle.ios_sections.specs.JoinedLines.{further_on, is_in_banner, begins_with_end, sections_among, open_sections}
+use Rattle.ios_sections.specs.JoinedLines.{further_on, is_in_banner, begins_banner, begins_with_end, sections_among, open_sections, sections_further_on}
 use Rattle.ios_sections.specs.declared.section.Section.{Section}
 use Rattle.ios_sections.proofs.JoinedFacts.{lines_in-append, counted-append, banner-append, banner-none, counted-no_end, parts-append, rest-append, parts-none, rest-none, sections_among-append}
 use Rattle.ios_sections.proofs.FurtherFacts.{list_any-map, first-further, counted-further, banner-further, part_further, parts-further, rest-further, fault_further}
@@ -432,3 +433,62 @@ inserted_lines before block after configurations grown outside fits ends reads g
                 ∙ ap (λ (ps : List Part). made ps ++ configuration_of (open_sections (before ++ block)) ∷ made (parts_behind first.behind)) (sym same_parts);
           });
     }
+
+-- ---- blocks joined end to end ----
+
+first_joined : (xs ys : List TextLine) → first_indent xs ≡ 0 → first_indent ys ≡ 0 → first_indent (xs ++ ys) ≡ 0
+first_joined [] ys one two = two
+first_joined (x ∷ xs) ys one two = one
+
+none_joined : (p : TextLine → Bool) (xs ys : List TextLine) → list_any p xs ≡ false → list_any p ys ≡ false → list_any p (xs ++ ys) ≡ false
+none_joined p [] ys one two = two
+none_joined p (x ∷ xs) ys one two =
+    let parts : (p x ≡ false) × (list_any p xs ≡ false) = or_parts (p x) (list_any p xs) one in
+    ap (λ (b : Bool). b || list_any p (xs ++ ys)) parts.0 ∙ none_joined p xs ys parts.1 two
+
+none_in_joined : (p : TextLine → Bool) (one other : List ℕ) → ((k : ℕ) (line : TextLine) → p (further_on k line) ≡ p line) → is_of_whole_lines one ≡ true →
+    list_any p (lines_in one) ≡ false → list_any p (lines_in other) ≡ false → list_any p (lines_in (one ++ other)) ≡ false
+none_in_joined p one other same whole first second =
+    ap (list_any p) (lines_in-append one other whole)
+    ∙ none_joined p (lines_in one) (map (further_on (count_of one)) (lines_in other)) first
+    (list_any-map p p (further_on (count_of one)) (same (count_of one)) (lines_in other) ∙ second)
+
+block_alone : (block : List ℕ) → IsBlock block → IsOutsideBanners block
+block_alone block fits = record { whole = fits.whole; outside = banner-none (lines_in block) fits.no_banner }
+
+pub joined_blocks : (one other : List ℕ) → IsBlock one → IsBlock other → IsBlock (one ++ other)
+joined_blocks one other first second = record {
+  whole = is_of_whole_lines-append one other first.whole second.whole;
+  opens =
+      ap first_indent (counted_joined one other (block_alone one first))
+      ∙ first_joined (counted_lines (lines_in one)) (block_lines one other) first.opens
+      (first-further (count_of one) (counted_lines (lines_in other)) ∙ second.opens);
+  no_banner = none_in_joined begins_banner one other (λ k line. refl) first.whole first.no_banner second.no_banner;
+  no_end = none_in_joined is_end one other (λ k line. refl) first.whole first.no_end second.no_end;
+}
+
+-- a line with another number
+abbrev line_at : ℕ → TextLine → TextLine
+line_at number line = record { number = number; indent = line.indent; bytes = line.bytes; words = line.words }
+
+twice_further : (k n : ℕ) (ls : List TextLine) → map (further_on k) (map (further_on n) ls) ≡ map (further_on (k + n)) ls
+twice_further k n [] = refl
+twice_further k n (l ∷ ls) =
+    let number : k + (n + l.number) ≡ k + n + l.number = omega arith in
+    ap (λ (m : ℕ). line_at m l ∷ map (further_on k) (map (further_on n) ls)) number
+    ∙ ap (λ (ms : List TextLine). further_on (k + n) l ∷ ms) (twice_further k n ls)
+
+-- the sections of two blocks, one behind the other
+pub block_by_block : (count : ℕ) (one other : List ℕ) → IsBlock one → IsBlock other →
+    sections_further_on count (one ++ other) ≡ sections_further_on count one ++ sections_further_on (count + length (lines_in one)) other
+block_by_block count one other first second =
+    ap sections_among (counted-further count (lines_in (one ++ other)))
+    ∙ ap (λ (ls : List TextLine). sections_among (map (further_on count) ls)) (counted_joined one other (block_alone one first))
+    ∙ ap sections_among (map-append (further_on count) (counted_lines (lines_in one)) (block_lines one other))
+    ∙ ap (λ (ls : List TextLine). sections_among (map (further_on count) (counted_lines (lines_in one)) ++ ls))
+    (twice_further count (count_of one) (counted_lines (lines_in other)))
+    ∙ sections_among-append (map (further_on count) (counted_lines (lines_in one))) (map (further_on (count + count_of one)) (counted_lines (lines_in other)))
+    (first-further (count + count_of one) (counted_lines (lines_in other)) ∙ second.opens)
+    ∙ ap (λ (ls : List TextLine). sections_among ls ++ sections_among (map (further_on (count + count_of one)) (counted_lines (lines_in other))))
+    (sym (counted-further count (lines_in one)))
+    ∙ ap (λ (ls : List TextLine). sections_further_on count one ++ sections_among ls) (sym (counted-further (count + count_of one) (lines_in other)))

@@ -1,5 +1,5 @@
 -- Texts joined end to end, and lines put before an `end` line: what they are read as.
-use Rattle.std.specs.Prelude.{◌≡◌, ℕ, ◌<◌, true, false, List, [], ◌∷◌, ◌++◌, length}
+use Rattle.std.specs.Prelude.{◌≡◌, ℕ, ◌+◌, ◌<◌, true, false, List, [], ◌∷◌, ◌++◌, length}
 use Rattle.std.specs.List.{list_any}
 use Rattle.net_addr.specs.JoinedLines.{is_of_whole_lines}
 use Rattle.net_model.specs.Configuration.{Configuration}
@@ -50,6 +50,16 @@ pub record IsBlock (block : List ℕ) : Type 0 where
   pub opens : first_indent (counted_lines (lines_in block)) ≡ 0
   pub no_banner : list_any begins_banner (lines_in block) ≡ false
   pub no_end : list_any is_end (lines_in block) ≡ false
+
+-- two blocks are one, end to end
+abbrev pub JoinedBlocksLaw : Type 0
+JoinedBlocksLaw = (block other : List ℕ) → IsBlock block → IsBlock other → IsBlock (block ++ other)
+
+-- the sections of two blocks behind so many lines are those of the one and then those of the other
+abbrev pub BlockSectionsLaw : Type 0
+BlockSectionsLaw =
+    (count : ℕ) (block other : List ℕ) → IsBlock block → IsBlock other →
+    sections_further_on count (block ++ other) ≡ sections_further_on count block ++ sections_further_on (count + length (lines_in block)) other
 
 -- what the sections say that stand open behind a text, and behind them those of a block
 abbrev pub grown_sections : List ℕ → List ℕ → List Section
