@@ -1,3 +1,4 @@
+ghost use Rattle.std.specs.Prelude.{◌≢◌};
 ghost use Rattle.migration_report.specs.Texts.{IsPrinted};
 
 use super::*;
