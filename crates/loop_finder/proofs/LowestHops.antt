@@ -1,7 +1,6 @@
 -- The lowest-numbered marked hop, found in two lists.
 use Rattle.std.proofs.Common.{◌≡◌, ℕ, ◌≤◌, ◌↔◌, ◌⊎◌, Bool, List, Option, Some, None, Contains, min, arith, inl, inr, subst}
 use Rattle.std.proofs.lemmas.Bool.{cases_lt}
-use Rattle.order_core.specs.Marks.{IsMarked}
 use Rattle.loop_finder.specs.Live.{LowestMarked, lower_of}
 use Rattle.loop_finder.specs.Walks.{IsMarkedHop, LowestMarkedHop}
 

@@ -1,5 +1,5 @@
 -- What is told of a state twice holds of the state.
-use Rattle.std.proofs.Common.{◌≡◌, ℕ, ◌^◌, ◌<◌, Bool, List, [], ◌∷◌, length, Option, Some, None, IfSome, IfNone, inl, inr, arith, sym, subst}
+use Rattle.std.proofs.Common.{ℕ, ◌^◌, ◌<◌, Bool, List, [], ◌∷◌, length, Option, Some, None, IfSome, IfNone, inl, inr, arith, sym, subst}
 use Rattle.route_core.specs.Tables.{HasEntry}
 use Rattle.igp_theory.specs.Forwarding.{MustForward, HasStep}
 use Rattle.igp_theory.specs.Loops.{missing_step, loop_arises}
@@ -10,7 +10,7 @@ use Rattle.order_core.specs.declared.turn.Turn.{Turn}
 use Rattle.rib_mix.specs.Mixture.{Mixture}
 use Rattle.loop_finder.specs.Faults.{state_in}
 use Rattle.loop_finder.specs.Steps.{Listing, ClassState, sample_of, ClassStep, IsStuckIn, MovesIn}
-use Rattle.loop_finder.specs.Verdicts.{Verdict, IsTold, AreClear, Told, ClassesOf, SoundAt, SoundBelow, Sound, Faulty}
+use Rattle.loop_finder.specs.Verdicts.{Verdict, IsTold, Told, ClassesOf, SoundAt, SoundBelow, Sound, Faulty}
 use Rattle.loop_finder.specs.declared.fault.Fault.{Fault}
 use Rattle.loop_finder.specs.declared.fault.Fault.TheVariants.{Loop, Missing}
 use Rattle.loop_finder.proofs.ClassVerdicts.{sample_in}

@@ -1,12 +1,12 @@
 -- What is told of the first and the last state of a wave holds of all its states.
-use Rattle.std.proofs.Common.{◌≡◌, ℕ, ◌+◌, ◌^◌, ◌<◌, ◌⊎◌, Bool, List, [], ◌∷◌, length, Option, Some, None, IfSome, IfNone, inl, inr, arith, sym, ◌∙◌, subst}
+use Rattle.std.proofs.Common.{◌≡◌, ℕ, ◌+◌, ◌^◌, ◌<◌, ◌⊎◌, List, [], ◌∷◌, length, Option, Some, None, IfSome, IfNone, inl, inr, arith, sym, ◌∙◌, subst}
 use Rattle.std.proofs.lemmas.Bool.{cases_order}
 use Rattle.order_core.specs.Rankings.{rank_of}
 use Rattle.order_core.specs.declared.turn.Turn.{Turn}
 use Rattle.route_core.specs.Tables.{HasEntry}
 use Rattle.igp_theory.specs.Forwarding.{MustForward, Steps, HasStep}
 use Rattle.igp_theory.specs.States.{State, StepsIn}
-use Rattle.igp_theory.specs.WaveFaults.{StepsInSome, IsUnsoundInSome, LacksStep, HasStepsInAll, IsLeastUnsound, missing_in_one, loop_over_all}
+use Rattle.igp_theory.specs.WaveFaults.{StepsInSome, LacksStep, HasStepsInAll, IsLeastUnsound, missing_in_one, loop_over_all}
 use Rattle.igp_theory.specs.Waves.{IsStateOfWave}
 use Rattle.igp_theory.specs.declared.phase.Phase.{Phase}
 use Rattle.igp_theory.specs.declared.phase.Phase.TheVariants.{Old, New}
@@ -17,8 +17,8 @@ use Rattle.igp_theory.proofs.LoopWaves.{return_is_unsound}
 use Rattle.igp_theory.proofs.SameTables.{SameHops, follows_over, found_ring_over}
 use Rattle.rib_mix.specs.Mixture.{Mixture}
 use Rattle.loop_finder.specs.Faults.{state_in}
-use Rattle.loop_finder.specs.Steps.{Listing, ClassState, sample_of, ClassStep, IsStuck, IsStuckIn, Moves}
-use Rattle.loop_finder.specs.Verdicts.{Verdict, IsTold, Told, ClassesOf, SoundAt, Sound, SoundWave, FaultyWave}
+use Rattle.loop_finder.specs.Steps.{Listing, ClassState, sample_of, ClassStep, IsStuck, Moves}
+use Rattle.loop_finder.specs.Verdicts.{Verdict, IsTold, Told, ClassesOf, SoundAt, SoundWave, FaultyWave}
 use Rattle.loop_finder.specs.WaveLists.{AreSwitchedBefore}
 use Rattle.loop_finder.specs.declared.fault.Fault.{Fault}
 use Rattle.loop_finder.specs.declared.fault.Fault.TheVariants.{Loop, Missing}

@@ -4,7 +4,7 @@ use Rattle.std.specs.List.{All, AllPairs}
 use Rattle.std.proofs.lemmas.List.{take-append-drop, drop_more, length_push, get_or_default, take_at, length-drop, length-append}
 use Rattle.std.proofs.lemmas.List.Elements.{All-append, All-drop, All-take, All-push, All-weaker}
 use Rattle.std.proofs.lemmas.List.Quantifiers.{all_pairs_push}
-use Rattle.igp_theory.specs.Loops.{EachToNext, AroundRing, IsLive, IsLowestLiveHop, IsFoundRing}
+use Rattle.igp_theory.specs.Loops.{EachToNext, IsLive, IsLowestLiveHop, IsFoundRing}
 use Rattle.igp_theory.proofs.SameTables.{each_to_next_over}
 use Rattle.order_core.specs.Marks.{IsMarked}
 use Rattle.order_core.specs.Rings.{IsTurned}

@@ -1,5 +1,5 @@
 -- A wave list is looked at wave by wave.
-use Rattle.std.proofs.Common.{ℕ, ◌<◌, ◌≤◌, ◌↔◌, List, length, Contains, Option, Some, None, IfSome, IfNone, IsNone, inl, inr, refl, sym, arith}
+use Rattle.std.proofs.Common.{ℕ, ◌≤◌, ◌↔◌, List, length, Contains, Option, Some, None, IfSome, IfNone, IsNone, inl, inr, refl, sym, arith}
 use Rattle.std.proofs.lemmas.Bool.{false≢true, cases_lt}
 use Rattle.net_model.specs.Network.{Network}
 use Rattle.order_core.specs.Rankings.{IsRanking}

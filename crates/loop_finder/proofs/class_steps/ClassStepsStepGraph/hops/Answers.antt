@@ -1,4 +1,4 @@
-use Rattle.std.proofs.Common.{ℕ, ◌↔◌, Contains, subst, inl, inr}
+use Rattle.std.proofs.Common.{◌↔◌, Contains, subst, inl, inr}
 use Rattle.igp_theory.specs.declared.phase.Phase.{Phase}
 use Rattle.loop_finder.specs.Faults.{state_in}
 use Rattle.loop_finder.specs.Steps.{StepsBy}
