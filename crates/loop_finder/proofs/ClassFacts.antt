@@ -10,7 +10,7 @@ use Rattle.prefix_atoms.specs.Classes.{IsInClass}
 use Rattle.rib_mix.specs.Answers.{IsNext, NextLeadsTo}
 use Rattle.rib_mix.specs.declared.next.Next.{Next}
 use Rattle.rib_mix.proofs.NextLaws.{steps_to_hops}
-use Rattle.loop_finder.specs.Steps.{Listing, ClassState, IsClassState, sample_of, StepsBy, ClassStep, IsStuck, Moves}
+use Rattle.loop_finder.specs.Steps.{Listing, ClassState, IsClassState, sample_of, StepsBy, IsStuckIn, MovesIn}
 
 -- the least address of a class is in it
 pub sample_inside : {O N : Type 0} (c : ClassState O N) → IsClassState c → IsInClass c.mixture.classes c.atom (sample_of c.mixture c.atom)
@@ -35,17 +35,17 @@ pub no_hops : {O N : Type 0} (old : Listing O) (new : Listing N) (c : ClassState
 no_hops old new c u phase hops none away h = (λ among. absurd (omega (arith, among.1, none)), λ steps. absurd (away steps.must))
 
 -- a router that has to pass packets on is stuck where it has no hops
-pub stuck_from : {O N : Type 0} (old : Listing O) (new : Listing N) (c : ClassState O N) (u : ℕ) (b : Bool) (hops : List ℕ) → b ≡ (length hops == 0)
-    → MustForward c.mixture.net (sample_of c.mixture c.atom) u → ((h : ℕ) → Contains hops h ↔ ClassStep old new c u h) → OnTrue b (IsStuck old new c u)
-stuck_from old new c u true hops e must exact =
+pub stuck_from : {O N : Type 0} (old : Listing O) (new : Listing N) (c : ClassState O N) (u : ℕ) (phase : Phase) (b : Bool) (hops : List ℕ) → b ≡ (length hops == 0)
+    → MustForward c.mixture.net (sample_of c.mixture c.atom) u → ((h : ℕ) → Contains hops h ↔ StepsBy old new c u phase h) → OnTrue b (IsStuckIn old new c u phase)
+stuck_from old new c u phase true hops e must exact =
     let none : length hops ≡ 0 = eqb-true (length hops) 0 (sym e) in
     record { must = must; lacks = λ h steps. let among : Contains hops h = (exact h).1 steps in omega (arith, among.1, none) }
-stuck_from old new c u false hops e must exact = tt
+stuck_from old new c u phase false hops e must exact = tt
 
-pub moves_from : {O N : Type 0} (old : Listing O) (new : Listing N) (c : ClassState O N) (u : ℕ) (b : Bool) (hops : List ℕ) → b ≡ (length hops == 0)
-    → ((h : ℕ) → Contains hops h ↔ ClassStep old new c u h) → OnFalse b (Moves old new c u)
-moves_from old new c u true hops e exact = tt
-moves_from old new c u false hops e exact = λ must.
+pub moves_from : {O N : Type 0} (old : Listing O) (new : Listing N) (c : ClassState O N) (u : ℕ) (phase : Phase) (b : Bool) (hops : List ℕ) → b ≡ (length hops == 0)
+    → ((h : ℕ) → Contains hops h ↔ StepsBy old new c u phase h) → OnFalse b (MovesIn old new c u phase)
+moves_from old new c u phase true hops e exact = tt
+moves_from old new c u phase false hops e exact = λ must.
     let apart : (length hops ≡ 0) → ⊥ = λ none. false≢true (e ∙ eq-eqb (length hops) 0 none) in
     let some : 0 < length hops = omega (arith, apart) in
     (get_or hops 0 0, (exact (get_or hops 0 0)).0 (Contains-get_or hops 0 0 some))

@@ -1,5 +1,6 @@
 mod Peeling
 mod LowestSteps
+mod LowestHops
 mod RingLaws
 mod LiveLaws
 mod WalkSteps
@@ -7,5 +8,8 @@ mod ClassFacts
 mod TagSteps
 mod ClassVerdicts
 mod StateVerdicts
+mod ToldOfStates
+mod ToldOfWaves
+mod WaveListFacts
 mod OrderStates
 mod FaultLaws

@@ -11,13 +11,13 @@ use Rattle.route_core.specs.declared.entry.Entry.{Entry}
 use Rattle.igp_theory.specs.Laws.{HaveSameTables}
 use Rattle.igp_theory.specs.States.{State}
 use Rattle.igp_theory.proofs.SameTables.{sound_at_over, same_tables_sym}
-use Rattle.prefix_atoms.specs.Classes.{AreSamples, Classes, AreClasses, IsInClass, SourceEntry}
+use Rattle.prefix_atoms.specs.Classes.{AreSamples, Classes, IsInClass, SourceEntry}
 use Rattle.prefix_atoms.specs.Laws.{ActAlike}
 use Rattle.prefix_atoms.proofs.ClassLaws.{one_class_acts_alike}
 use Rattle.order_core.proofs.DistinctLists.{length-le_from_distinct}
 use Rattle.rib_mix.specs.Mixture.{Mixture}
 use Rattle.loop_finder.specs.Steps.{Listing, sample_of}
-use Rattle.loop_finder.specs.Verdicts.{SoundAt, SoundBelow, Sound}
+use Rattle.loop_finder.specs.Verdicts.{ClassesOf, SoundAt, SoundBelow, Sound}
 use Rattle.loop_finder.proofs.ClassVerdicts.{sample_in}
 
 -- the samples ascend
@@ -29,10 +29,6 @@ pub classes_few : (prefixes : List Block) (samples : List ℕ) → AreSamples pr
 classes_few prefixes samples are =
     let apart : AllPairs (λ u v. u ≢ v) samples = λ i j d before within same. let less : get_or samples i d < get_or samples j d = AllPairs-from_increasing samples are.ascending i j d before within in omega (arith, less, same) in
     length-le_from_distinct samples (2 ^ 32) apart are.addresses
-
--- the classes of what is mixed
-abbrev pub ClassesOf : {O N : Type 0} → Listing O → Listing N → Mixture O N → Type 0
-ClassesOf old new m = AreClasses m.net (SourceEntry (length m.net) (old m.old)) (SourceEntry (length m.net) (new m.new)) m.classes
 
 -- at the routers of the network a source has the entries of its tables
 same_entries : (net : Network) (old new : ℕ → List (Block × Entry)) → HaveSameTables net (HasEntry old) (HasEntry new) (SourceEntry (length net) old) (SourceEntry (length net) new)

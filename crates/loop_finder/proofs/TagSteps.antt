@@ -2,24 +2,25 @@
 use Rattle.std.proofs.Common.{◌≡◌, ℕ, suc, ◌+◌, ◌<◌, ◌≤◌, ◌⊎◌, inl, inr, List, [], ◌∷◌, ◌++◌, length, get_or, take, arith, refl, sym, ap, ◌∙◌, subst}
 use Rattle.std.proofs.lemmas.List.{take_more, take_all, map_push, length-map, length-take-le, get_or_default, get_or_past}
 use Rattle.igp_theory.specs.Loops.{EachToNext, AroundRing}
-use Rattle.igp_theory.specs.declared.phase.Phase.{Phase}
-use Rattle.igp_theory.specs.declared.phase.Phase.TheVariants.{Old, Middle, New}
-use Rattle.igp_theory.proofs.ForwardingLaws.{middle_is_old_or_new}
+use Rattle.igp_theory.specs.declared.phase.Phase.TheVariants.{Old, New}
+use Rattle.igp_theory.proofs.LoopLaws.{old_or_new_step}
 use Rattle.order_core.specs.Turns.{routers_of}
 use Rattle.order_core.specs.declared.turn.Tag.TheVariants as tag
 use Rattle.order_core.specs.declared.turn.Turn.{Turn}
 use Rattle.loop_finder.specs.Rings.{next_in}
-use Rattle.loop_finder.specs.Steps.{Listing, ClassState, StepsBy, IsTagged}
+use Rattle.loop_finder.specs.Faults.{state_in}
+use Rattle.loop_finder.specs.Steps.{Listing, ClassState, StepsBy, ClassStep, IsTagged}
 use Rattle.loop_finder.proofs.RingLaws.{each_at, each_to_next_push}
 
--- a step of a phase is a step of Old or of New
-pub old_or_new : {O N : Type 0} (old : Listing O) (new : Listing N) (c : ClassState O N) (u : ℕ) (phase : Phase) (h : ℕ) → StepsBy old new c u phase h → StepsBy old new c u Old h ⊎ StepsBy old new c u New h
-old_or_new old new c u Old h steps = inl steps
-old_or_new old new c u New h steps = inr steps
-old_or_new old new c u Middle h steps = elim (middle_is_old_or_new steps.uses) [
-  | inl uses ↦ inl (record { must = steps.must; used = steps.used; uses = uses; leads = steps.leads })
-  | inr uses ↦ inr (record { must = steps.must; used = steps.used; uses = uses; leads = steps.leads })
-]
+-- a step of one of the states is a step of Old or of New
+pub old_or_new : {O N : Type 0} (old : Listing O) (new : Listing N) (c : ClassState O N) (u h : ℕ) → ClassStep old new c u h → StepsBy old new c u Old h ⊎ StepsBy old new c u New h
+old_or_new old new c u h (inl steps) = old_or_new_step (state_in c.first u) steps
+old_or_new old new c u h (inr steps) = old_or_new_step (state_in c.last u) steps
+
+-- only a router of the network steps
+pub steps_inside : {O N : Type 0} (old : Listing O) (new : Listing N) (c : ClassState O N) (u h : ℕ) → ClassStep old new c u h → u < length c.mixture.net
+steps_inside old new c u h (inl steps) = steps.must.router
+steps_inside old new c u h (inr steps) = steps.must.router
 
 -- a router that doesn't step in Old steps in New alone
 pub tagged_new : {O N : Type 0} (old : Listing O) (new : Listing N) (c : ClassState O N) (u h : ℕ) → (StepsBy old new c u Old h → ⊥) → StepsBy old new c u Old h ⊎ StepsBy old new c u New h

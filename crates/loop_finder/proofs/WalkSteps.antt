@@ -4,7 +4,7 @@ use Rattle.std.specs.List.{All, AllPairs}
 use Rattle.std.proofs.lemmas.List.{take-append-drop, drop_more, length_push, get_or_default, take_at, length-drop, length-append}
 use Rattle.std.proofs.lemmas.List.Elements.{All-append, All-drop, All-take, All-push, All-weaker}
 use Rattle.std.proofs.lemmas.List.Quantifiers.{all_pairs_push}
-use Rattle.igp_theory.specs.Loops.{EachToNext, AroundRing, IsLive, IsLowestLiveHop, IsFoundRing}
+use Rattle.igp_theory.specs.Loops.{EachToNext, IsLive, IsLowestLiveHop, IsFoundRing}
 use Rattle.igp_theory.proofs.SameTables.{each_to_next_over}
 use Rattle.order_core.specs.Marks.{IsMarked}
 use Rattle.order_core.specs.Rings.{IsTurned}
@@ -12,7 +12,7 @@ use Rattle.order_core.proofs.DistinctLists.{length-le_from_distinct}
 use Rattle.loop_finder.specs.Live.{ArePeeled}
 use Rattle.loop_finder.specs.Walks.{IsMarkedHop, IsWalk}
 use Rattle.loop_finder.proofs.LiveLaws.{marked_below, live_from_marked, marked_from_live}
-use Rattle.loop_finder.proofs.RingLaws.{each_to_next_push, each_to_next_drop, around_turned, all_from_each}
+use Rattle.loop_finder.proofs.RingLaws.{each_to_next_push, all_from_each}
 
 -- what a walk keeps, as far as it has come
 pub record IsOnWay (step : ℕ → ℕ → Type 0) (marks : List Bool) (start : ℕ) (path : List ℕ) (last : ℕ) : Type 0 where
@@ -116,16 +116,6 @@ found_from_walk step marks n start place path ring many peeled some lowest walk 
   first = turned.first;
   least = turned.least;
 }
-
--- each router of the ring steps to the next one
-pub found_steps : (step : ℕ → ℕ → Type 0) (n : ℕ) (ring : List ℕ) → IsFoundRing step n ring → AroundRing step ring
-found_steps step n ring found =
-    let all : EachToNext step found.again (found.lead ++ found.again ∷ found.rest) =
-    subst (λ (xs : List ℕ). EachToNext step found.again xs) found.in_order
-    (each_to_next_over (λ (u h : ℕ) (hop : IsLowestLiveHop step n u h). hop.steps) found.again (found.start ∷ found.visited) found.goes) in
-    let ring : AroundRing step (found.front ++ found.back) =
-    subst (AroundRing step) found.found (each_to_next_drop step found.again found.again found.lead found.rest all) in
-    subst (AroundRing step) (sym found.turned) (around_turned step found.front found.back ring)
 
 -- what is left when the routers before a place are cut off, turned
 pub turned_to : (path moved kept seen ring : List ℕ) (place low : ℕ) → moved ≡ drop place path ++ take place path → kept ≡ take (length path - place) moved → seen ≡ kept

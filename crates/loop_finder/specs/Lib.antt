@@ -8,5 +8,6 @@ pub mod Walks
 pub mod Steps
 pub mod Rooms
 pub mod Rings
+pub mod WaveLists
 pub mod Verdicts
 pub mod Orders

@@ -34,6 +34,12 @@ abbrev pub LowestMarked : List ℕ → List Bool → Option ℕ → Type 0
 LowestMarked routers marks None = (q : ℕ) → Contains routers q → ¬ IsMarked marks q
 LowestMarked routers marks (Some h) = IsLowestMarked routers marks h
 
+-- the lower of two routers that may be known
+abbrev pub lower_of : Option ℕ → Option ℕ → Option ℕ
+lower_of None other = other
+lower_of (Some u) None = Some u
+lower_of (Some u) (Some v) = Some (min u v)
+
 -- the lowest-numbered marked router of all, none where none is marked
 abbrev pub FirstMarked : List Bool → Option ℕ → Type 0
 FirstMarked marks None = (q : ℕ) → ¬ IsMarked marks q

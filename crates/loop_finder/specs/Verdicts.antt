@@ -1,14 +1,20 @@
 -- What is told of a class, of a state and of an order, over what is mixed.
-use Rattle.std.specs.Prelude.{◌≡◌, ℕ, ◌<◌, List, length, Option, Some, None}
+use Rattle.std.specs.Prelude.{◌≡◌, ℕ, ◌<◌, Bool, List, [], length, Option, Some, None}
 use Rattle.route_core.specs.Tables.{HasEntry}
 use Rattle.igp_theory.specs.Loops.{AroundRing, IsFoundRing, IsFault, IsFirstFault}
 use Rattle.igp_theory.specs.States.{State, IsSoundAt, IsSound}
+use Rattle.igp_theory.specs.WaveFaults.{IsFaultOver}
+use Rattle.igp_theory.specs.WaveLaws.{IsStateOfSomeWave}
+use Rattle.igp_theory.specs.Waves.{IsStateOfWave}
+use Rattle.igp_theory.specs.declared.phase.Phase.{Phase}
+use Rattle.prefix_atoms.specs.Classes.{AreClasses, SourceEntry}
 use Rattle.order_core.specs.Turns.{routers_of}
 use Rattle.order_core.specs.declared.turn.Turn.{Turn}
 use Rattle.rib_mix.specs.Mixture.{Mixture}
 use Rattle.loop_finder.specs.Faults.{told_fault}
 use Rattle.loop_finder.specs.Steps.{Listing, ClassState, sample_of, ClassStep, IsTagged, Moves, FirstStuck}
 use Rattle.loop_finder.specs.Walks.{ReturnsNever}
+use Rattle.loop_finder.specs.WaveLists.{IsNumberedWavesFault}
 use Rattle.loop_finder.specs.declared.fault.Fault.{Fault}
 use Rattle.loop_finder.specs.declared.fault.Fault.TheVariants.{Loop, Missing}
 
@@ -19,11 +25,36 @@ pub record IsClassLoop {O N : Type 0} (old : Listing O) (new : Listing N) (c : C
   pub found : IsFoundRing (ClassStep old new c) (length c.mixture.net) (routers_of turns)
   pub tags : AroundRing (λ (s t : Turn). IsTagged old new c s t.router) turns
 
--- what is told of a state and a class
+-- what is told of two states and a class
 abbrev pub Verdict : {O N : Type 0} → Listing O → Listing N → ClassState O N → Option Fault → List Turn → Type 0
 Verdict old new c None turns = ((u : ℕ) → Moves old new c u) × ReturnsNever (ClassStep old new c)
 Verdict old new c (Some (Loop a)) turns = IsClassLoop old new c a turns
 Verdict old new c (Some (Missing a u)) turns = (a ≡ sample_of c.mixture c.atom) × FirstStuck old new c (Some u)
+
+-- what is told of the class with this number, whichever routers have to pass packets on
+pub record IsTold {O N : Type 0} (old : Listing O) (new : Listing N) (m : Mixture O N) (first last : List Phase) (atom : ℕ) (result : Option Fault) (turns : List Turn) : Type 0 where
+  pub forwards : List Bool
+  pub verdict : Verdict old new (record { mixture = m; first = first; last = last; forwards = forwards; atom = atom }) result turns
+
+-- of the first n classes it is that they have no fault
+abbrev pub AreClear : {O N : Type 0} → Listing O → Listing N → Mixture O N → List Phase → List Phase → ℕ → Type 0
+AreClear old new m first last n = (k : ℕ) → k < n → IsTold old new m first last k None []
+
+-- the fault of the first class that has one
+pub record IsFirstTold {O N : Type 0} (old : Listing O) (new : Listing N) (m : Mixture O N) (first last : List Phase) (fault : Fault) (turns : List Turn) : Type 0 where
+  pub atom : ℕ
+  pub within : atom < length m.classes.samples
+  pub before : AreClear old new m first last atom
+  pub here : IsTold old new m first last atom (Some fault) turns
+
+-- what is told of all classes
+abbrev pub Told : {O N : Type 0} → Listing O → Listing N → Mixture O N → List Phase → List Phase → Option Fault → List Turn → Type 0
+Told old new m first last None turns = AreClear old new m first last (length m.classes.samples)
+Told old new m first last (Some fault) turns = IsFirstTold old new m first last fault turns
+
+-- the classes of what is mixed
+abbrev pub ClassesOf : {O N : Type 0} → Listing O → Listing N → Mixture O N → Type 0
+ClassesOf old new m = AreClasses m.net (SourceEntry (length m.net) (old m.old)) (SourceEntry (length m.net) (new m.new)) m.classes
 
 -- a state is sound for an address, for all lower ones, for all
 abbrev pub SoundAt : {O N : Type 0} → Listing O → Listing N → Mixture O N → State → ℕ → Type 0
@@ -42,3 +73,25 @@ Faulty old new m state fault turns = IsFault m.net (HasEntry (old m.old)) (HasEn
 -- the first fault of an order, as an answer with the turns beside it
 abbrev pub FirstFaulty : {O N : Type 0} → Listing O → Listing N → Mixture O N → List ℕ → ℕ → Fault → List Turn → Type 0
 FirstFaulty old new m order k fault turns = IsFirstFault m.net (HasEntry (old m.old)) (HasEntry (new m.new)) order k (told_fault fault turns)
+
+-- every state of a wave is sound
+abbrev pub SoundWave : {O N : Type 0} → Listing O → Listing N → Mixture O N → List ℕ → ℕ → Type 0
+SoundWave old new m ranks w = (state : State) → IsStateOfWave (length m.net) ranks w state → Sound old new m state
+
+-- every state of the waves before one is sound
+abbrev pub SoundWavesBefore : {O N : Type 0} → Listing O → Listing N → Mixture O N → List ℕ → ℕ → Type 0
+SoundWavesBefore old new m ranks w = (v : ℕ) → v < w → SoundWave old new m ranks v
+
+-- every state of a wave list is sound
+abbrev pub SoundWaves : {O N : Type 0} → Listing O → Listing N → Mixture O N → List ℕ → Type 0
+SoundWaves old new m ranks = (state : State) → IsStateOfSomeWave (length m.net) ranks state → Sound old new m state
+
+-- the fault of the states of a wave, as an answer with the turns beside it
+abbrev pub FaultyWave : {O N : Type 0} → Listing O → Listing N → Mixture O N → List ℕ → ℕ → Fault → List Turn → Type 0
+FaultyWave old new m ranks w fault turns =
+    IsFaultOver m.net (HasEntry (old m.old)) (HasEntry (new m.new)) (IsStateOfWave (length m.net) ranks w) (told_fault fault turns)
+
+-- the fault of a wave list, as an answer with the number of the wave and the turns beside it
+abbrev pub FaultyWaves : {O N : Type 0} → Listing O → Listing N → Mixture O N → List ℕ → ℕ → Fault → List Turn → Type 0
+FaultyWaves old new m ranks number fault turns =
+    IsNumberedWavesFault m.net (HasEntry (old m.old)) (HasEntry (new m.new)) ranks number (told_fault fault turns)

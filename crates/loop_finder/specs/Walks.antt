@@ -14,6 +14,11 @@ pub record IsMarkedHop (step : ℕ → ℕ → Type 0) (marks : List Bool) (u h 
   pub marked : IsMarked marks h
   pub lowest : (v : ℕ) → step u v → IsMarked marks v → h ≤ v
 
+-- that hop, none where no hop of u is marked
+abbrev pub LowestMarkedHop : (ℕ → ℕ → Type 0) → List Bool → ℕ → Option ℕ → Type 0
+LowestMarkedHop step marks u None = (h : ℕ) → step u h → ¬ IsMarked marks h
+LowestMarkedHop step marks u (Some h) = IsMarkedHop step marks u h
+
 -- a walk from a router, each time to the lowest-numbered marked hop, over distinct routers; the hop of the
 -- last one is the router at this place
 pub record IsWalk (step : ℕ → ℕ → Type 0) (marks : List Bool) (start : ℕ) (path : List ℕ) (place : ℕ) : Type 0 where

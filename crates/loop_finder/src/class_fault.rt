@@ -1,12 +1,12 @@
-ghost use Rattle.std.specs.Prelude.{◌≡◌, ◌<◌, ◌≤◌, ◌↔◌, ℕ, IfNone, IfSome, length};
+ghost use Rattle.std.specs.Prelude.{◌≡◌, ◌<◌, ◌≤◌, ◌↔◌, ℕ, length};
 ghost use Rattle.std.specs.Vec.{vec_capacity};
 ghost use Rattle.net_model.specs.Network.{Connected};
 ghost use Rattle.net_model.specs.Refusals.{IsNetwork};
 ghost use Rattle.order_core.specs.Marks.{IsMarked};
-ghost use Rattle.loop_finder.specs.Faults.{KeepsRing, state_in};
+ghost use Rattle.loop_finder.specs.Faults.{KeepsRing};
 ghost use Rattle.loop_finder.specs.Rooms.{HasRoom};
 ghost use Rattle.loop_finder.specs.Steps.{sample_of};
-ghost use Rattle.loop_finder.specs.Verdicts.{Faulty, SoundAt, SoundBelow, Verdict};
+ghost use Rattle.loop_finder.specs.Verdicts.{IsTold, Verdict};
 
 use crate::class_steps::ClassSteps;
 use crate::fault::Fault;
@@ -19,20 +19,20 @@ use order_core::Turn;
 use rib_mix::{Mixed, Phase};
 use route_core::RouteSource;
 
-/// The fault of a state for a class, where it's sound for all lower addresses.
+/// The fault of the steps of two states for a class, at the class's least address.
 pub fn class_fault<O: RouteSource, N: RouteSource>(
     mixed: &Mixed<'_, O, N>,
-    phases: &[Phase],
+    first: &[Phase],
+    last: &[Phase],
     atom: u32,
     room: &mut Room,
 ) -> Option<Fault>
     requires atom { atom < length mixed.now.classes.samples }
-    requires phases { length phases.now ≡ length mixed.now.net }
+    requires first { length first.now ≡ length mixed.now.net }
+    requires last { length last.now ≡ length mixed.now.net }
     requires room { HasRoom (length mixed.now.net) room.old }
-    requires below { SoundBelow O.table N.table mixed.now (state_in phases.now) (sample_of mixed.now atom) }
     ensures room { HasRoom (length mixed.now.net) room.new }
-    ensures sound { IfNone result (SoundAt O.table N.table mixed.now (state_in phases.now) (sample_of mixed.now atom)) }
-    ensures fault { IfSome result (λ fault. Faulty O.table N.table mixed.now (state_in phases.now) fault room.new.ring.items) }
+    ensures told { IsTold O.table N.table mixed.now first.now last.now atom result room.new.ring.items }
     ensures ring { KeepsRing result room.old.ring.items room.new.ring.items }
 {
     let atoms = mixed.atoms();
@@ -42,7 +42,7 @@ pub fn class_fault<O: RouteSource, N: RouteSource>(
     };
     let address = atoms.sample(atom);
     mark_forwarders(mixed.net(), target, &mut room.forwards);
-    let steps = ClassSteps::new(mixed, phases, room.forwards.as_slice(), atom);
+    let steps = ClassSteps::new(mixed, first, last, room.forwards.as_slice(), atom);
     steps_fault(
         &steps,
         address,
@@ -63,7 +63,7 @@ fn mark_forwarders(net: &Net, target: Prefix, forwards: &mut [bool])
     }
 }
 
-/// The fault of the steps of a state and a class, at the class's least address.
+/// The fault of some steps, at the least address of their class.
 fn steps_fault<O: RouteSource, N: RouteSource>(
     steps: &ClassSteps<'_, '_, O, N>,
     address: u32,

@@ -3,18 +3,19 @@ ghost use Rattle.std.specs.Bool.{OnFalse, OnTrue};
 ghost use Rattle.igp_theory.specs.Forwarding.{MustForward};
 ghost use Rattle.rib_mix.specs.Answers.{NextLeadsTo};
 ghost use Rattle.loop_finder.specs.Faults.{state_in};
-ghost use Rattle.loop_finder.specs.Steps.{AreForwarders, FirstStuck, IsStuck, Moves, StepsBy, sample_of};
+ghost use Rattle.loop_finder.specs.Steps.{AreForwarders, FirstStuck, IsStuck, IsStuckIn, Moves, MovesIn, StepsBy, sample_of};
 
 use crate::graph::StepGraph;
 use rib_mix::{Mixed, Next, Phase};
 use route_core::RouteSource;
 use std::marker::Model;
 
-/// The steps of a state, for the addresses of one class.
+/// The steps of two states, for the addresses of one class: each router has the hops of both.
 #[derive(Drop)]
 pub struct ClassSteps<'s, 'm, O: RouteSource, N: RouteSource> {
     mixed: &'s Mixed<'m, O, N>,
-    phases: &'s [Phase],
+    first: &'s [Phase],
+    last: &'s [Phase],
     forwards: &'s [bool],
     atom: u32,
 }
@@ -24,29 +25,32 @@ impl<'s, 'm, O: RouteSource, N: RouteSource> Model for ClassSteps<'s, 'm, O, N> 
 
     ghost Value = { ClassState O N };
 
-    ghost view = { λ x. record { mixture = x.mixed.now; phases = x.phases.now; forwards = x.forwards.now; atom = x.atom } };
+    ghost view = { λ x. record { mixture = x.mixed.now; first = x.first.now; last = x.last.now; forwards = x.forwards.now; atom = x.atom } };
 
-    ghost invariant = { λ x. IsClassState {O = O} {N = N} (record { mixture = x.mixed.now; phases = x.phases.now; forwards = x.forwards.now; atom = x.atom }) };
+    ghost invariant = { λ x. IsClassState {O = O} {N = N} (record { mixture = x.mixed.now; first = x.first.now; last = x.last.now; forwards = x.forwards.now; atom = x.atom }) };
 }
 
 impl<'s, 'm, O: RouteSource, N: RouteSource> ClassSteps<'s, 'm, O, N> {
-    /// The steps in a state for a class, where it's known which routers have to pass its packets on.
+    /// The steps of two states for a class, where it's known which routers have to pass its packets on.
     pub fn new(
         mixed: &'s Mixed<'m, O, N>,
-        phases: &'s [Phase],
+        first: &'s [Phase],
+        last: &'s [Phase],
         forwards: &'s [bool],
         atom: u32,
     ) -> ClassSteps<'s, 'm, O, N>
         requires atom { atom < length mixed.now.classes.samples }
         requires address { sample_of mixed.now atom < 2 ^ 32 }
-        requires phases { length phases.now ≡ length mixed.now.net }
+        requires first { length first.now ≡ length mixed.now.net }
+        requires last { length last.now ≡ length mixed.now.net }
         requires many { length forwards.now ≡ length mixed.now.net }
         requires forwards { AreForwarders mixed.now.net (sample_of mixed.now atom) forwards.now }
-        ensures { result ≡ record { mixture = mixed.now; phases = phases.now; forwards = forwards.now; atom = atom } }
+        ensures { result ≡ record { mixture = mixed.now; first = first.now; last = last.now; forwards = forwards.now; atom = atom } }
     {
         ClassSteps {
             mixed,
-            phases,
+            first,
+            last,
             forwards,
             atom,
         }
@@ -71,7 +75,7 @@ impl<'s, 'm, O: RouteSource, N: RouteSource> ClassSteps<'s, 'm, O, N> {
         is_among(self.hops_in(router, phase), hop)
     }
 
-    /// The lowest-numbered router that has to pass packets on and has no step.
+    /// The lowest-numbered router that has to pass packets on and has no step in one of the states.
     pub fn first_stuck(&self) -> Option<u32>
         ensures { FirstStuck O.table N.table self.now result }
     {
@@ -83,16 +87,26 @@ impl<'s, 'm, O: RouteSource, N: RouteSource> ClassSteps<'s, 'm, O, N> {
         None
     }
 
-    /// Whether a router has to pass packets on and has no step.
+    /// Whether a router has to pass packets on and has no step in one of the states.
     fn is_stuck(&self, router: u32) -> bool
         requires { router < length self.now.mixture.net }
         ensures stuck { OnTrue result (IsStuck O.table N.table self.now router) }
         ensures moves { OnFalse result (Moves O.table N.table self.now router) }
     {
+        self.is_stuck_in(router, self.first_phase(router))
+            || self.is_stuck_in(router, self.last_phase(router))
+    }
+
+    /// Whether a router has to pass packets on and has no step in a phase.
+    fn is_stuck_in(&self, router: u32, phase: Phase) -> bool
+        requires { router < length self.now.mixture.net }
+        ensures stuck { OnTrue result (IsStuckIn O.table N.table self.now router phase) }
+        ensures moves { OnFalse result (MovesIn O.table N.table self.now router phase) }
+    {
         if !self.must_forward(router) {
             return false;
         }
-        self.hops(router).is_empty()
+        self.hops_in(router, phase).is_empty()
     }
 
     /// Whether a router has to pass packets on.
@@ -103,12 +117,20 @@ impl<'s, 'm, O: RouteSource, N: RouteSource> ClassSteps<'s, 'm, O, N> {
         self.forwards[router as usize]
     }
 
-    /// The phase of a router.
-    fn phase_of(&self, router: u32) -> Phase
+    /// The phase of a router in the first state.
+    fn first_phase(&self, router: u32) -> Phase
         requires { router < length self.now.mixture.net }
-        ensures { result ≡ state_in self.now.phases router }
+        ensures { result ≡ state_in self.now.first router }
     {
-        self.phases[router as usize]
+        self.first[router as usize]
+    }
+
+    /// The phase of a router in the last state.
+    fn last_phase(&self, router: u32) -> Phase
+        requires { router < length self.now.mixture.net }
+        ensures { result ≡ state_in self.now.last router }
+    {
+        self.last[router as usize]
     }
 }
 
@@ -124,8 +146,10 @@ impl<'s, 'm, O: RouteSource, N: RouteSource> StepGraph for ClassSteps<'s, 'm, O,
         self.mixed.net().routers()
     }
 
-    fn hops(&self, router: u32) -> &[u32] {
-        self.hops_in(router, self.phase_of(router))
+    fn hops(&self, router: u32) -> (&[u32], &[u32]) {
+        let first = self.hops_in(router, self.first_phase(router));
+        let last = self.hops_in(router, self.last_phase(router));
+        (first, last)
     }
 }
 

@@ -2,26 +2,31 @@ ghost use Rattle.std.specs.Prelude.{◌≡◌, ◌↔◌, ◌*◌, ◌≤◌, []
 ghost use Rattle.route_core.specs.Tables.{HasEntry};
 ghost use Rattle.igp_theory.specs.Loops.{IsFault, IsFirstFault};
 ghost use Rattle.order_core.specs.Orders.{IsOrder};
+ghost use Rattle.order_core.specs.Rankings.{IsRanking};
 ghost use Rattle.igp_theory.specs.States.{IsSeamless, IsSound};
+ghost use Rattle.igp_theory.specs.Waves.{AreSeamlessWaves};
 ghost use Rattle.loop_finder.specs.Faults.{KeepsRing, state_in, told, told_fault};
+ghost use Rattle.loop_finder.specs.WaveLists.{IsNumberedWavesFault};
 
 use crate::fault::Fault;
 use crate::order_fault::{order_fault, state_fault};
 use crate::room::Room;
+use crate::waves_fault::waves_fault;
 use order_core::Turn;
 use rib_mix::{Mixed, OutOfMemory, Phase};
 use route_core::RouteSource;
 use std::alloc::Global;
 use std::marker::Model;
 
-/// Finds the faults of states and orders over mixed forwarding.
+/// Finds the faults of states, orders and wave lists over mixed forwarding.
 ///
-/// All room that its calls need is made by `new`, so that a finder that was made once decides every state and
-/// every order.
+/// All room that its calls need is made by `new`, so that a finder that was made once decides every state,
+/// every order and every wave list.
 #[derive(Drop)]
 pub struct Finder<'a, O: RouteSource, N: RouteSource> {
     mixed: &'a Mixed<'a, O, N>,
     phases: Vec<Phase>,
+    later: Vec<Phase>,
     room: Room,
 }
 
@@ -34,7 +39,7 @@ impl<'a, O: RouteSource, N: RouteSource> Model for Finder<'a, O, N> {
 
     ghost view = { λ x. record { mixture = x.mixed.now; ring = x.room.ring.items } };
 
-    ghost invariant = { λ x. (vec_len x.phases ≡ length x.mixed.now.net) × HasRoom (length x.mixed.now.net) x.room };
+    ghost invariant = { λ x. (vec_len x.phases ≡ length x.mixed.now.net) × (vec_len x.later ≡ length x.mixed.now.net) × HasRoom (length x.mixed.now.net) x.room };
 }
 
 impl<'a, O: RouteSource, N: RouteSource> Finder<'a, O, N> {
@@ -45,10 +50,12 @@ impl<'a, O: RouteSource, N: RouteSource> Finder<'a, O, N> {
     {
         let routers = mixed.net().routers();
         let phases = vec![in alloc; Phase::Old; routers as usize]?;
+        let later = vec![in alloc; Phase::Old; routers as usize]?;
         let room = Room::new(alloc, routers)?;
         Ok(Finder {
             mixed,
             phases,
+            later,
             room,
         })
     }
@@ -79,6 +86,26 @@ impl<'a, O: RouteSource, N: RouteSource> Finder<'a, O, N> {
         ensures mixture { self.new.mixture ≡ self.old.mixture }
     {
         order_fault(self.mixed, order, &mut self.phases, &mut self.room)
+    }
+
+    /// The number, from 1, of the first wave with an unsound state of the wave list that gives each router the rank at
+    /// its place, with that wave's fault; none where the wave list is seamless.
+    pub fn waves_fault(&mut self, ranks: &[u32]) -> Option<(u32, Fault)>
+        requires { IsRanking (length self.old.mixture.net) ranks.now }
+        ensures seamless { IsNone result
+            ↔ AreSeamlessWaves self.old.mixture.net (HasEntry (O.table self.old.mixture.old)) (HasEntry (N.table self.old.mixture.new)) ranks.now }
+        ensures fault { IfSome result (λ found.
+            IsNumberedWavesFault self.old.mixture.net (HasEntry (O.table self.old.mixture.old)) (HasEntry (N.table self.old.mixture.new)) ranks.now found.0 (told_fault found.1 self.new.ring)) }
+        ensures ring { KeepsRing (told result) self.old.ring self.new.ring }
+        ensures mixture { self.new.mixture ≡ self.old.mixture }
+    {
+        waves_fault(
+            self.mixed,
+            ranks,
+            &mut self.phases,
+            &mut self.later,
+            &mut self.room,
+        )
     }
 
     /// The ring of the latest loop, with its tags; empty before the first.

@@ -1,4 +1,4 @@
-ghost use Rattle.std.specs.Prelude.{◌≡◌, ◌<◌, ◌↔◌, ℕ, Contains};
+ghost use Rattle.std.specs.Prelude.{◌≡◌, ◌<◌, ◌↔◌, ◌⊎◌, ℕ, Contains};
 
 /// Routers, numbered from 0, and their steps for one address.
 pub trait StepGraph {
@@ -13,8 +13,8 @@ pub trait StepGraph {
         ensures count { result ≡ size self.now }
         ensures inside { (u h : ℕ) → step self.now u h → u < size self.now };
 
-    /// The routers that a router steps to.
-    fn hops(&self, router: u32) -> &[u32]
+    /// The routers that a router steps to, in two lists.
+    fn hops(&self, router: u32) -> (&[u32], &[u32])
         requires { router < size self.now }
-        ensures { (h : ℕ) → Contains result.now h ↔ step self.now router h };
+        ensures { (h : ℕ) → (Contains result.0.now h ⊎ Contains result.1.now h) ↔ step self.now router h };
 }

@@ -1,8 +1,9 @@
-//! The faults of states and of orders: routers without a step, and loops with their rings.
+//! The faults of states, of orders and of wave lists: routers without a step, and loops with their rings.
 #![tactic(auto)]
 
 mod class_fault;
 mod class_steps;
+mod classes_fault;
 mod fault;
 mod finder;
 mod graph;
@@ -11,6 +12,7 @@ mod order_fault;
 mod ring;
 mod room;
 mod tags;
+mod waves_fault;
 
 pub use fault::Fault;
 pub use finder::Finder;

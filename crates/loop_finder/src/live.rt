@@ -1,7 +1,8 @@
 ghost use Rattle.std.specs.Prelude.{◌≡◌, ◌<◌, ◌^◌, ◌↔◌, ℕ, false, length, slice_set, IsTrue};
 ghost use Rattle.std.specs.Bool.{OnFalse, OnTrue};
 ghost use Rattle.order_core.specs.Marks.{IsMarked};
-ghost use Rattle.loop_finder.specs.Live.{AreBounded, ArePeeled, FirstMarked, HasMarkedHop, IsLowerMarked, LowestMarked, marked_count};
+ghost use Rattle.loop_finder.specs.Live.{AreBounded, ArePeeled, FirstMarked, HasMarkedHop, IsLowerMarked, LowestMarked, lower_of, marked_count};
+ghost use Rattle.loop_finder.specs.Walks.{LowestMarkedHop};
 
 use crate::graph::StepGraph;
 
@@ -57,7 +58,7 @@ fn peel_one<G: StepGraph>(graph: &G, live: &mut [bool], u: u32) -> bool
     if !live[u as usize] {
         return false;
     }
-    match lowest_marked(graph.hops(u), live) {
+    match lowest_marked_hop(graph, live, u) {
         Some(_) => false,
         None => {
             live[u as usize] = false;
@@ -66,8 +67,28 @@ fn peel_one<G: StepGraph>(graph: &G, live: &mut [bool], u: u32) -> bool
     }
 }
 
+/// The lowest-numbered marked hop of a router.
+pub fn lowest_marked_hop<G: StepGraph>(graph: &G, marks: &[bool], router: u32) -> Option<u32>
+    requires { router < G.size graph.now }
+    ensures { LowestMarkedHop (G.step graph.now) marks.now router result }
+{
+    let (hops, others) = graph.hops(router);
+    lower_of(lowest_marked(hops, marks), lowest_marked(others, marks))
+}
+
+/// The lower of two routers that may be known.
+fn lower_of(one: Option<u32>, other: Option<u32>) -> Option<u32>
+    ensures { result ≡ lower_of one other }
+{
+    match (one, other) {
+        (Some(u), Some(v)) => Some(u.min(v)),
+        (None, _) => other,
+        (Some(_), None) => one,
+    }
+}
+
 /// The lowest-numbered of some routers that is marked.
-pub fn lowest_marked(routers: &[u32], marks: &[bool]) -> Option<u32>
+fn lowest_marked(routers: &[u32], marks: &[bool]) -> Option<u32>
     ensures { LowestMarked routers.now marks.now result }
 {
     let mut lowest = None;

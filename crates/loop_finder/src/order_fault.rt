@@ -5,7 +5,7 @@ ghost use Rattle.loop_finder.specs.Orders.{AreFirstStates, IsAdvanced, IsStateOf
 ghost use Rattle.loop_finder.specs.Rooms.{HasRoom};
 ghost use Rattle.loop_finder.specs.Verdicts.{Faulty, FirstFaulty, Sound};
 
-use crate::class_fault::class_fault;
+use crate::classes_fault::classes_fault;
 use crate::fault::Fault;
 use crate::room::Room;
 use rib_mix::{Mixed, Phase};
@@ -24,12 +24,7 @@ pub fn state_fault<O: RouteSource, N: RouteSource>(
     ensures fault { IfSome result (λ fault. Faulty O.table N.table mixed.now (state_in phases.now) fault room.new.ring.items) }
     ensures ring { KeepsRing result room.old.ring.items room.new.ring.items }
 {
-    for atom in 0..mixed.atoms().count() {
-        if let Some(fault) = class_fault(mixed, phases, atom as u32, room) {
-            return Some(fault);
-        }
-    }
-    None
+    classes_fault(mixed, phases, phases, room)
 }
 
 /// The first unsound state of an order, with its fault.

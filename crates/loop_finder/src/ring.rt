@@ -8,7 +8,7 @@ ghost use Rattle.loop_finder.specs.Live.{ArePeeled};
 ghost use Rattle.loop_finder.specs.Walks.{IsMarkedHop, IsWalk, PlaceOf, ReturnsNever};
 
 use crate::graph::StepGraph;
-use crate::live::{first_marked, lowest_marked, mark_live};
+use crate::live::{first_marked, lowest_marked_hop, mark_live};
 
 /// Finds the ring of steps that is told where there is one, and leaves it in `path`; whether there is one.
 pub fn find_ring<G: StepGraph>(graph: &G, live: &mut [bool], path: &mut Vec<u32>) -> bool
@@ -68,7 +68,7 @@ fn lowest_hop<G: StepGraph>(graph: &G, live: &[bool], router: u32) -> u32
     requires router { IsMarked live.now router }
     ensures { IsMarkedHop (G.step graph.now) live.now router result }
 {
-    match lowest_marked(graph.hops(router), live) {
+    match lowest_marked_hop(graph, live, router) {
         Some(hop) => hop,
         None => unreachable!(),
     }

@@ -4,15 +4,14 @@ use Rattle.net_model.specs.Network.{Network, Connected}
 use Rattle.net_model.specs.Refusals.{IsNetwork}
 use Rattle.igp_theory.specs.Forwarding.{IsTarget}
 use Rattle.order_core.specs.Marks.{IsMarked}
-use Rattle.loop_finder.specs.Faults.{state_in}
 use Rattle.loop_finder.specs.Steps.{ClassState, sample_of, AreForwarders}
 use Rattle.loop_finder.specs.Verdicts.{Verdict}
-use Rattle.loop_finder.proofs.ClassVerdicts.{forwarders_from, sound_without, sound_cases, fault_cases, sample_in, target_at}
+use Rattle.loop_finder.proofs.ClassVerdicts.{forwarders_from, told_without, target_at}
 use Rattle.loop_finder.proofs.class_fault.class_fault.Goals as goal
 
-pub returns-in-None-clause-sound : goal.returns-in-None-clause-sound
-returns-in-None-clause-sound g c =
-    sound_without g.O.RouteSource.table g.N.RouteSource.table c.args.mixed.now (state_in c.args.phases.now) (sample_of c.args.mixed.now c.args.atom)
+pub returns-in-None-clause-told : goal.returns-in-None-clause-told
+returns-in-None-clause-told g c =
+    told_without g.O.RouteSource.table g.N.RouteSource.table c.args.mixed.now c.args.first.now c.args.last.now c.args.atom _
     (target_at c.args.mixed.now.classes c.atoms-atoms.result.now c.args.atom None c.atoms-atoms.ensures.classes c.requires.atom c.atoms-atoms.ensures.atoms c.in-None.ensures)
 
 pub new-steps-requires-clause-forwards : goal.new-steps-requires-clause-forwards
@@ -28,15 +27,8 @@ new-steps-requires-clause-forwards g c =
     subst (λ (fs : List Bool). AreForwarders c.args.mixed.now.net (sample_of c.args.mixed.now c.args.atom) fs) (sym same)
     (forwarders_from c.args.mixed.now.net (sample_of c.args.mixed.now c.args.atom) c.in-Some.target c.mark_forwarders.new.forwards network target marks)
 
-pub returns-clause-sound : goal.returns-clause-sound
-returns-clause-sound g c =
-    let made : ClassState g.row.O.Denot g.row.N.Denot = record { mixture = c.args.mixed.now; phases = c.args.phases.now; forwards = c.as_slice.result.now; atom = c.args.atom } in
-    sound_cases g.O.RouteSource.table g.N.RouteSource.table made c.steps_fault.result c.steps_fault.new.ring.items
-    (subst (λ (x : ClassState g.row.O.Denot g.row.N.Denot). Verdict g.O.RouteSource.table g.N.RouteSource.table x c.steps_fault.result c.steps_fault.new.ring.items) c.new-steps.ensures c.steps_fault.ensures.verdict)
-
-pub returns-clause-fault : goal.returns-clause-fault
-returns-clause-fault g c =
-    let made : ClassState g.row.O.Denot g.row.N.Denot = record { mixture = c.args.mixed.now; phases = c.args.phases.now; forwards = c.as_slice.result.now; atom = c.args.atom } in
-    fault_cases g.O.RouteSource.table g.N.RouteSource.table made c.steps_fault.result c.steps_fault.new.ring.items
-    (sample_in c.args.mixed.now.classes c.args.atom c.atoms-atoms.ensures.classes c.requires.atom).address c.requires.below
-    (subst (λ (x : ClassState g.row.O.Denot g.row.N.Denot). Verdict g.O.RouteSource.table g.N.RouteSource.table x c.steps_fault.result c.steps_fault.new.ring.items) c.new-steps.ensures c.steps_fault.ensures.verdict)
+pub returns-clause-told : goal.returns-clause-told
+returns-clause-told g c = record {
+  forwards = c.as_slice.result.now;
+  verdict = subst (λ (x : ClassState g.row.O.Denot g.row.N.Denot). Verdict g.O.RouteSource.table g.N.RouteSource.table x c.steps_fault.result c.steps_fault.new.ring.items) c.new-steps.ensures c.steps_fault.ensures.verdict;
+}

@@ -1,17 +1,16 @@
 use Rattle.std.proofs.Common.{ℕ, ◌≡◌, ◌+◌, ◌⊎◌, List, length, get_or, refl, subst, sym, arith}
 use Rattle.igp_theory.specs.declared.phase.Phase.TheVariants.{Old, New}
 use Rattle.order_core.specs.declared.turn.Turn.{Turn}
-use Rattle.loop_finder.specs.Faults.{state_in}
 use Rattle.loop_finder.specs.Rings.{next_in}
 use Rattle.loop_finder.specs.Steps.{StepsBy, ClassStep, IsTagged}
-use Rattle.loop_finder.proofs.TagSteps.{old_or_new, ring_step, IsPartRing, IsPartRing-more, part_length, ring_whole}
+use Rattle.loop_finder.proofs.TagSteps.{old_or_new, steps_inside, ring_step, IsPartRing, IsPartRing-more, part_length, ring_whole}
 use Rattle.loop_finder.proofs.tags.write_ring.Goals as goal
 
 pub tag_of-tag-requires-clause-router : goal.tag_of-tag-requires-clause-router
 tag_of-tag-requires-clause-router g c =
     let step : ClassStep g.O.RouteSource.table g.N.RouteSource.table c.args.steps.now (get_or c.args.routers.now c.loop-place.place 0) (next_in c.args.routers.now c.loop-place.place) =
     ring_step (ClassStep g.O.RouteSource.table g.N.RouteSource.table c.args.steps.now) c.args.routers.now c.loop-place.place c.requires.around c.loop-place-test.true in
-    step.must.router
+    steps_inside g.O.RouteSource.table g.N.RouteSource.table c.args.steps.now (get_or c.args.routers.now c.loop-place.place 0) (next_in c.args.routers.now c.loop-place.place) step
 
 pub tag_of-tag-requires-clause-some : goal.tag_of-tag-requires-clause-some
 tag_of-tag-requires-clause-some g c =
@@ -19,7 +18,7 @@ tag_of-tag-requires-clause-some g c =
     let step : ClassStep g.O.RouteSource.table g.N.RouteSource.table c.args.steps.now router (next_in c.args.routers.now c.loop-place.place) =
     ring_step (ClassStep g.O.RouteSource.table g.N.RouteSource.table c.args.steps.now) c.args.routers.now c.loop-place.place c.requires.around c.loop-place-test.true in
     subst (λ (n : ℕ). StepsBy g.O.RouteSource.table g.N.RouteSource.table c.args.steps.now router Old n ⊎ StepsBy g.O.RouteSource.table g.N.RouteSource.table c.args.steps.now router New n) (sym c.next_router-next.ensures)
-    (old_or_new g.O.RouteSource.table g.N.RouteSource.table c.args.steps.now router (state_in c.args.steps.now.phases router) (next_in c.args.routers.now c.loop-place.place) step)
+    (old_or_new g.O.RouteSource.table g.N.RouteSource.table c.args.steps.now router (next_in c.args.routers.now c.loop-place.place) step)
 
 pub loop-place-preserved : goal.loop-place-preserved
 loop-place-preserved g c =

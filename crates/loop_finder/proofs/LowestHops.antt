@@ -1,0 +1,55 @@
+-- The lowest-numbered marked hop, found in two lists.
+use Rattle.std.proofs.Common.{◌≡◌, ℕ, ◌≤◌, ◌↔◌, ◌⊎◌, Bool, List, Option, Some, None, Contains, min, arith, inl, inr, subst}
+use Rattle.std.proofs.lemmas.Bool.{cases_lt}
+use Rattle.loop_finder.specs.Live.{LowestMarked, lower_of}
+use Rattle.loop_finder.specs.Walks.{IsMarkedHop, LowestMarkedHop}
+
+-- each of the hops is in one of two lists
+abbrev pub AreHops : (ℕ → ℕ → Type 0) → ℕ → List ℕ → List ℕ → Type 0
+AreHops step u hops others = (h : ℕ) → (Contains hops h ⊎ Contains others h) ↔ step u h
+
+-- the lower of the lowest-numbered marked ones of both lists
+pub lowest_hop_of : (step : ℕ → ℕ → Type 0) (marks : List Bool) (u : ℕ) (hops others : List ℕ) (one other : Option ℕ) → AreHops step u hops others
+    → LowestMarked hops marks one → LowestMarked others marks other → LowestMarkedHop step marks u (lower_of one other)
+lowest_hop_of step marks u hops others None None are none empty = λ h steps. elim ((are h).1 steps) [
+  | inl among ↦ none h among
+  | inr among ↦ empty h among
+]
+lowest_hop_of step marks u hops others None (Some v) are none last = record {
+  steps = (are v).0 (inr last.among);
+  marked = last.marked;
+  lowest = λ q steps marked. elim ((are q).1 steps) [
+    | inl among ↦ absurd (none q among marked)
+    | inr among ↦ last.lowest q among marked
+  ];
+}
+lowest_hop_of step marks u hops others (Some w) None are first empty = record {
+  steps = (are w).0 (inl first.among);
+  marked = first.marked;
+  lowest = λ q steps marked. elim ((are q).1 steps) [
+    | inl among ↦ first.lowest q among marked
+    | inr among ↦ absurd (empty q among marked)
+  ];
+}
+lowest_hop_of step marks u hops others (Some w) (Some v) are first last = elim (cases_lt w v) [
+  | inl below ↦
+      let e : w ≡ min w v = omega arith in
+      subst (λ (m : ℕ). IsMarkedHop step marks u m) e (record {
+        steps = (are w).0 (inl first.among);
+        marked = first.marked;
+        lowest = λ q steps marked. elim ((are q).1 steps) [
+          | inl among ↦ first.lowest q among marked
+          | inr among ↦ let k : v ≤ q = last.lowest q among marked in omega arith
+        ];
+      })
+  | inr above ↦
+      let e : v ≡ min w v = omega arith in
+      subst (λ (m : ℕ). IsMarkedHop step marks u m) e (record {
+        steps = (are v).0 (inr last.among);
+        marked = last.marked;
+        lowest = λ q steps marked. elim ((are q).1 steps) [
+          | inl among ↦ let k : w ≤ q = first.lowest q among marked in omega arith
+          | inr among ↦ last.lowest q among marked
+        ];
+      })
+]

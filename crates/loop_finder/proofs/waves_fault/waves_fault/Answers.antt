@@ -1,0 +1,29 @@
+use Rattle.std.proofs.Common.{length, ap, ◌∙◌, refl, arith, below_more}
+use Rattle.std.proofs.lemmas.Bool.{false≢true}
+use Rattle.net_model.specs.Network.{Network}
+use Rattle.loop_finder.specs.Verdicts.{SoundWave}
+use Rattle.loop_finder.proofs.WaveListFacts.{sound_to_last, sound_to_all}
+use Rattle.loop_finder.proofs.waves_fault.waves_fault.Goals as goal
+
+pub returns-then-not-is_wave-clause-sound : goal.returns-then-not-is_wave-clause-sound
+returns-then-not-is_wave-clause-sound g c =
+    sound_to_last g.O.RouteSource.table g.N.RouteSource.table c.args.mixed.now c.args.ranks.now c.loop-wave.wave c.requires.ranks (λ among. false≢true (c.if-not-is_wave.ensures.1 among)) c.loop-wave.invariant.sound
+
+pub returns-in-Some-clause-fault : goal.returns-in-Some-clause-fault
+returns-in-Some-clause-fault g c = record {
+  wave = c.loop-wave.wave;
+  number_is = refl;
+  is_fault = record { is_wave = c.if-not-is_wave.ensures.0 refl; before = c.loop-wave.invariant.sound; here = c.in-Some.ensures.fault };
+}
+
+pub loop-wave-preserved : goal.loop-wave-preserved
+loop-wave-preserved g c = record {
+  sound = below_more (SoundWave g.O.RouteSource.table g.N.RouteSource.table c.args.mixed.now c.args.ranks.now) c.loop-wave.wave c.loop-wave.invariant.sound c.in_default.ensures.sound;
+  room = c.in_default.ensures.room;
+  ring = c.in_default.ensures.ring ∙ c.loop-wave.invariant.ring;
+}
+
+pub returns-clause-sound : goal.returns-clause-sound
+returns-clause-sound g c =
+    sound_to_all g.O.RouteSource.table g.N.RouteSource.table c.args.mixed.now c.args.ranks.now c.loop-wave.wave c.requires.ranks
+    (omega (arith, c.loop-wave-test.false, c.routers-wave-end.ensures.count, ap (λ (n : Network). length n) c.net.ensures)) c.loop-wave.invariant.sound
