@@ -5,3 +5,8 @@ mod MarkFacts
 mod WaitFacts
 mod StageFacts
 mod TraceFacts
+pub mod LayerFacts
+mod SortFacts
+mod ListFacts
+mod RaiseFacts
+mod ChainFacts

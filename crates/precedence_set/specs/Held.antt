@@ -36,5 +36,8 @@ pub record IsSettled (a : Inside) : Type 0 where
   pub cycle_counted : a.cycle_count ≤ a.routers
   pub waits_length : vec_len a.waits ≡ a.routers
   pub marks_length : vec_len a.marks ≡ a.routers
+  pub counts_length : vec_len a.counts ≡ a.routers
+  pub order_length : vec_len a.order ≡ a.routers
+  pub layers_length : vec_len a.layers ≡ a.routers
   pub below : AreBelow a.routers (take a.count a.room.items)
   pub acyclic : HasNoCycle (take a.count a.room.items)

@@ -7,4 +7,6 @@ pub mod Marks
 pub mod Waits
 pub mod Successors
 pub mod Stages
+pub mod Layers
+pub mod Sorting
 pub mod Held

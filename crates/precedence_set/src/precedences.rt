@@ -2,7 +2,11 @@ ghost use Rattle.std.specs.Prelude.{◌≡◌, ◌≢◌, ◌+◌, ◌-◌, ◌<
 ghost use Rattle.order_core.specs.Pairs.{AreBelow, HasNoCycle, Leads};
 ghost use Rattle.precedence_set.specs.LeastExtension.{IsLeastExtension};
 ghost use Rattle.precedence_set.specs.LeastCycle.{IsLeastCycle};
+ghost use Rattle.precedence_set.specs.Layers.{AreLayers, IsLayeredChain};
+ghost use Rattle.order_core.specs.Rankings.{wave_count};
 
+use crate::chaining::write_chain;
+use crate::layering::write_layers;
 use crate::placing::place_all;
 use crate::tracing::closed_cycle;
 use link_trail::Links;
@@ -38,6 +42,10 @@ pub struct Precedences {
     waits: Vec<u32>,
     marks: Vec<bool>,
     listed: Vec<bool>,
+    /// Room for the layers: three numbers for each router.
+    counts: Vec<u32>,
+    order: Vec<u32>,
+    layers: Vec<u32>,
 }
 
 impl Model for Precedences {
@@ -75,6 +83,9 @@ impl Precedences {
             waits: vec![in alloc; 0; each]?,
             marks: vec![in alloc; false; each]?,
             listed: vec![in alloc; false; each]?,
+            counts: vec![in alloc; 0; each]?,
+            order: vec![in alloc; 0; each]?,
+            layers: vec![in alloc; 0; each]?,
         })
     }
 
@@ -152,6 +163,43 @@ impl Precedences {
     {
         self.successors.undo_to(mark);
         self.count = mark as usize;
+    }
+
+    /// Writes the layer of each router: 0 without a predecessor, else one more than the greatest layer of its
+    /// predecessors. How many layers there are. Takes time of the pairs and routers.
+    pub fn layers(&mut self, out: &mut [u32]) -> u32
+        requires { length out.old ≡ self.old.routers }
+        ensures layers { AreLayers self.old.routers self.old.pairs out.new }
+        ensures count { result ≡ wave_count out.new }
+        ensures same { self.new ≡ self.old }
+        ensures acyclic { HasNoCycle self.old.pairs }
+        ensures below { AreBelow self.old.routers self.old.pairs }
+    {
+        write_layers(
+            &self.successors,
+            &self.room[..self.count],
+            &mut self.counts,
+            &mut self.order,
+            out,
+        )
+    }
+
+    /// Writes the chain of the layers into the first places: the lowest-numbered router of the last layer, and
+    /// before each router its lowest-numbered predecessor in the layer before. How long the chain is.
+    pub fn chain(&mut self, out: &mut [u32]) -> u32
+        requires { length out.old ≡ self.old.routers }
+        ensures chain { IsLayeredChain self.old.routers self.old.pairs (take result out.new) }
+        ensures within { result ≤ length out.new }
+        ensures same { self.new ≡ self.old }
+    {
+        write_chain(
+            &self.successors,
+            &self.room[..self.count],
+            &mut self.counts,
+            &mut self.order,
+            &mut self.layers,
+            out,
+        )
     }
 
     /// Writes the order that places each time the lowest-numbered router whose predecessors are placed.

@@ -46,6 +46,39 @@ fn check_row(
     Ok(())
 }
 
+/// Checks the layers of some pairs of five routers, and the chain that shows their number.
+fn check_layers(
+    rt: &(impl AllocGlobal + Abort),
+    pairs: &[(u32, u32)],
+    layers: [u32; 5],
+    chain: &[u32],
+) -> Result<(), AllocError> {
+    let mut answers = Vec::new(rt.alloc());
+    let mut held = assumed(rt.alloc(), 5, pairs, &mut answers)?;
+    let mut out = [9; 5];
+    let count = held.layers(&mut out);
+    assert_eq!(rt; out, layers, "at {pairs:?}");
+    let length = held.chain(&mut out);
+    assert_eq!(rt; length, count, "at {pairs:?}");
+    assert_eq!(rt; &out[..length as usize], chain, "at {pairs:?}");
+    Ok(())
+}
+
+#[test]
+fn layers_and_chains(rt: HostRuntime) -> Result<(), AllocError> {
+    check_layers(&rt, &[], [0, 0, 0, 0, 0], &[0])?;
+    check_layers(&rt, &[(4, 0)], [1, 0, 0, 0, 0], &[4, 0])?;
+    check_layers(&rt, &[(2, 0), (4, 2)], [2, 0, 1, 0, 0], &[4, 2, 0])?;
+    // a short way beside a long one; two routers of a layer before the last
+    let ways = [(0, 1), (1, 2), (2, 3), (0, 3)];
+    check_layers(&rt, &ways, [0, 1, 2, 3, 0], &[0, 1, 2, 3])?;
+    let fork = [(0, 1), (0, 4), (0, 2), (2, 3), (4, 3)];
+    check_layers(&rt, &fork, [0, 1, 1, 2, 1], &[0, 2, 3])?;
+    // a lower predecessor that isn't of the layer before is passed by; a pair that is assumed twice
+    let low = [(4, 3), (3, 2), (1, 2), (4, 3)];
+    check_layers(&rt, &low, [0, 0, 2, 1, 0], &[4, 3, 2])
+}
+
 #[test]
 fn pairs_cycles_and_least_extensions(rt: HostRuntime) -> Result<(), AllocError> {
     // no pair; one that holds back the lowest; one that frees a router which is lower than the others
@@ -103,5 +136,7 @@ fn pairs_are_taken_back(rt: HostRuntime) -> Result<(), AllocError> {
     let mut out = [9; 5];
     held.least_extension(&mut out);
     assert_eq!(&rt; out, [2, 3, 0, 1, 4]);
+    assert_eq!(&rt; held.layers(&mut out), 3);
+    assert_eq!(&rt; out, [1, 2, 0, 0, 0]);
     Ok(())
 }

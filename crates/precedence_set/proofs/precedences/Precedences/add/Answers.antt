@@ -42,6 +42,9 @@ invariant_of-self-in-None c =
       cycle_counted = old.cycle_counted;
       waits_length = old.waits_length;
       marks_length = old.marks_length;
+      counts_length = old.counts_length;
+      order_length = old.order_length;
+      layers_length = old.layers_length;
       below = subst (λ (xs : List Pair). AreBelow a.routers xs) (sym e) (All-push (λ (p : Pair). (p.0 < a.routers) × (p.1 < a.routers)) (take a.count a.room.items) pair old.below (omega (arith, c.requires.u_in, routers), omega (arith, c.requires.v_in, routers)));
       acyclic = subst (λ (xs : List Pair). HasNoCycle xs) (sym e) (HasNoCycle-push (take a.count a.room.items) c.args.u c.args.v old.acyclic apart);
     }

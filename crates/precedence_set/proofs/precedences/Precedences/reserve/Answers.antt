@@ -32,6 +32,9 @@ invariant_of-self c =
       cycle_counted = old.cycle_counted;
       waits_length = old.waits_length;
       marks_length = old.marks_length;
+      counts_length = old.counts_length;
+      order_length = old.order_length;
+      layers_length = old.layers_length;
       below = subst (λ (xs : List Pair). AreBelow a.routers xs) e old.below;
       acyclic = subst (λ (xs : List Pair). HasNoCycle xs) e old.acyclic;
     }

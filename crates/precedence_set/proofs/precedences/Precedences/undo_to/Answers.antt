@@ -33,6 +33,9 @@ invariant_of-self c =
       cycle_counted = old.cycle_counted;
       waits_length = old.waits_length;
       marks_length = old.marks_length;
+      counts_length = old.counts_length;
+      order_length = old.order_length;
+      layers_length = old.layers_length;
       below = subst (λ (xs : List Pair). AreBelow a.routers xs) e (All-take (λ (p : Pair). (p.0 < a.routers) × (p.1 < a.routers)) c.args.mark (take a.count a.room.items) old.below);
       acyclic = subst (λ (xs : List Pair). HasNoCycle xs) e (HasNoCycle-take (take a.count a.room.items) c.args.mark old.acyclic);
     }

@@ -1,0 +1,5 @@
+use Rattle.precedence_set.proofs.ListFacts.{AreFree}
+use Rattle.precedence_set.proofs.sorting.list_free.Given as goal
+
+abbrev pub invariant-loop-router : goal.invariant-loop-router
+invariant-loop-router l = AreFree l.counts l.order l.count l.router

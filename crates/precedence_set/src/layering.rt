@@ -1,0 +1,83 @@
+ghost use Rattle.std.specs.Prelude.{◌≡◌, ℕ, ◌+◌, ◌^◌, ◌<◌, ◌≤◌, ◌⊎◌, length, Contains};
+ghost use Rattle.order_core.specs.Pairs.{AreBelow, HasNoCycle};
+ghost use Rattle.order_core.specs.Rankings.{IsRanking, rank_of, wave_count};
+ghost use Rattle.precedence_set.specs.Layers.{AreLayers};
+ghost use Rattle.precedence_set.specs.Sorting.{IsTopological};
+ghost use Rattle.precedence_set.specs.Successors.{AreSuccessors};
+
+use crate::sorting::{clear_numbers, sort_all};
+use link_trail::Links;
+
+/// Writes the layer of each router, in time of the pairs and routers; how many layers there are. The counts
+/// and the order are room to work in.
+pub fn write_layers(
+    successors: &Links,
+    pairs: &[(u32, u32)],
+    counts: &mut [u32],
+    order: &mut [u32],
+    layers: &mut [u32],
+) -> u32
+    requires small { length layers.old < 2 ^ 31 }
+    requires pairs_small { length pairs.now < 2 ^ 31 }
+    requires below { AreBelow (length layers.old) pairs.now }
+    requires acyclic { HasNoCycle pairs.now }
+    requires successors { AreSuccessors (length layers.old) pairs.now successors.now.lists }
+    requires nodes { length pairs.now ≤ successors.now.nodes }
+    requires counts_length { length counts.old ≡ length layers.old }
+    requires order_length { length order.old ≡ length layers.old }
+    ensures layers { AreLayers (length layers.new) pairs.now layers.new }
+    ensures count { result ≡ wave_count layers.new }
+{
+    sort_all(successors, pairs, counts, order);
+    raise_all(successors, pairs, order, layers);
+    count_layers(layers)
+}
+
+/// Raises each router above its predecessors, in an order in which it stands after them.
+fn raise_all(successors: &Links, pairs: &[(u32, u32)], order: &[u32], layers: &mut [u32])
+    requires small { length layers.old < 2 ^ 31 }
+    requires below { AreBelow (length layers.old) pairs.now }
+    requires successors { AreSuccessors (length layers.old) pairs.now successors.now.lists }
+    requires nodes { length pairs.now ≤ successors.now.nodes }
+    requires order { IsTopological (length layers.old) pairs.now order.now }
+    ensures layers { AreLayers (length layers.new) pairs.now layers.new }
+    ensures ranking { IsRanking (length layers.new) layers.new }
+{
+    clear_numbers(layers);
+    for k in 0..order.len() {
+        raise_after(successors, pairs, layers, order[k]);
+    }
+}
+
+/// Raises each router that is assumed after u above it.
+fn raise_after(successors: &Links, pairs: &[(u32, u32)], layers: &mut [u32], u: u32)
+    requires u_in { u < length layers.old }
+    requires few { rank_of layers.old u + 1 < 2 ^ 32 }
+    requires below { AreBelow (length layers.old) pairs.now }
+    requires successors { AreSuccessors (length layers.old) pairs.now successors.now.lists }
+    requires nodes { length pairs.now ≤ successors.now.nodes }
+    ensures no_lower { (v : ℕ) → rank_of layers.old v ≤ rank_of layers.new v }
+    ensures above { (v : ℕ) → Contains pairs.now (u, v) → rank_of layers.old u + 1 ≤ rank_of layers.new v }
+    ensures from { (v : ℕ) → (rank_of layers.new v ≡ rank_of layers.old v) ⊎ (Contains pairs.now (u, v) × (rank_of layers.new v ≡ rank_of layers.old u + 1)) }
+{
+    let above = layers[u as usize] + 1;
+    let mut at = successors.first(u);
+    while let Some(number) = at {
+        let (_, v) = pairs[number as usize];
+        layers[v as usize] = layers[v as usize].max(above);
+        at = successors.next(number);
+    }
+}
+
+/// How many layers there are.
+fn count_layers(layers: &[u32]) -> u32
+    requires small { length layers.now < 2 ^ 31 }
+    requires ranking { IsRanking (length layers.now) layers.now }
+    ensures { result ≡ wave_count layers.now }
+{
+    let mut count: u32 = 0;
+    for layer in layers {
+        count = count.max(*layer + 1);
+    }
+    count
+}
