@@ -132,52 +132,62 @@ fn name(alloc: Global, bytes: &[u8]) -> Result<Name, AllocError> {
 }
 
 #[test]
-fn clashes_are_refused(rt: HostRuntime) -> Result<(), Fail> {
+fn names_and_addresses_clash(rt: HostRuntime) -> Result<(), Fail> {
     let alloc = rt.alloc();
-    let address = 0x0aff_0001;
-    let dest = Prefix::around(address, 30).ok_or("no prefix")?;
     let names = NetRefusal::TwoNames {
         name: name(alloc, b"R1")?,
     };
+    prints_network(&rt, alloc, names, b"refused network TwoNames R1\n")?;
     let addresses = NetRefusal::AddressTwice {
         one: name(alloc, b"R1")?,
         two: name(alloc, b"R2")?,
-        address,
+        address: 0x0aff_0001,
     };
-    let areas = NetRefusal::PrefixInTwoAreas {
-        one: name(alloc, b"R1")?,
-        two: name(alloc, b"R2")?,
-        dest,
-    };
-    let systems = NetRefusal::SystemIdTwice {
-        one: name(alloc, b"R1")?,
-        two: name(alloc, b"R2")?,
-    };
-    let stubs = NetRefusal::StubMismatch {
-        one: name(alloc, b"R1")?,
-        two: name(alloc, b"R2")?,
-        area: 1,
-    };
-    prints_network(&rt, alloc, names, b"refused network TwoNames R1\n")?;
     prints_network(
         &rt,
         alloc,
         addresses,
         b"refused network AddressTwice R1 R2 10.255.0.1\n",
     )?;
+    Ok(())
+}
+
+#[test]
+fn areas_clash(rt: HostRuntime) -> Result<(), Fail> {
+    let alloc = rt.alloc();
+    let areas = NetRefusal::PrefixInTwoAreas {
+        one: name(alloc, b"R1")?,
+        two: name(alloc, b"R2")?,
+        dest: Prefix::around(0x0aff_0001, 30).ok_or("no prefix")?,
+    };
     prints_network(
         &rt,
         alloc,
         areas,
         b"refused network PrefixInTwoAreas R1 R2 10.255.0.0/30\n",
     )?;
+    let stubs = NetRefusal::StubMismatch {
+        one: name(alloc, b"R1")?,
+        two: name(alloc, b"R2")?,
+        area: 1,
+    };
+    prints_network(&rt, alloc, stubs, b"refused network StubMismatch R1 R2 1\n")?;
+    Ok(())
+}
+
+#[test]
+fn systems_clash(rt: HostRuntime) -> Result<(), Fail> {
+    let alloc = rt.alloc();
+    let systems = NetRefusal::SystemIdTwice {
+        one: name(alloc, b"R1")?,
+        two: name(alloc, b"R2")?,
+    };
     prints_network(
         &rt,
         alloc,
         systems,
         b"refused network SystemIdTwice R1 R2\n",
     )?;
-    prints_network(&rt, alloc, stubs, b"refused network StubMismatch R1 R2 1\n")?;
     Ok(())
 }
 
