@@ -1,0 +1,11 @@
+mod RowFacts
+mod LineFacts
+mod PlainWalk
+mod Entering
+mod PlainLines
+mod PlainLaws
+mod FullRows
+mod TakenWalk
+mod TakenLaws
+mod OneRequest
+mod AnswerFacts

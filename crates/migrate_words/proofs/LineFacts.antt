@@ -1,0 +1,12 @@
+-- The command line is one of those whose matches and refusals `clap` states exactly.
+use Rattle.std.proofs.Common.{◌≡◌, true, refl}
+use Rattle.clap.specs.Words.{is_simple, is_simple_and_free}
+use Rattle.migrate_words.specs.CommandLine.{command_line}
+
+pub line_is_simple : is_simple command_line ≡ true
+unfolding command_line
+line_is_simple = refl
+
+pub line_is_simple_and_free : is_simple_and_free command_line ≡ true
+unfolding command_line
+line_is_simple_and_free = refl

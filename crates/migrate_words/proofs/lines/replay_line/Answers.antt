@@ -1,0 +1,16 @@
+use Rattle.std.proofs.Common.{codes}
+use Rattle.std.proofs.lemmas.Result.{IfOk-weaker}
+use Rattle.clap.specs.Words.{Rule, Shape}
+use Rattle.clap.specs.Simple.{new_shape}
+use Rattle.migrate_words.specs.CommandLine.{config_files, one_text}
+use Rattle.migrate_words.specs.LineSteps.{with_argument}
+use Rattle.migrate_words.proofs.lines.replay_line.Goals as goal
+
+pub returns : goal.returns
+returns c =
+    let bare : Shape = new_shape (codes "replay") in
+    let order : Rule = one_text (codes "ORDER") in
+    let journal : Rule = one_text (codes "JOURNAL") in
+    let first = c.in_ok-with_argument.ensures bare order c.subcommand-line.ensures c.one_text-order.ensures in
+    let line = c.in_ok-line.ensures (with_argument bare order) journal first c.one_text-journal.ensures in
+    IfOk-weaker c.with_argument-3.result _ _ (λ r more. more (with_argument (with_argument bare order) journal) config_files line c.config_files.ensures) c.with_argument-3.ensures

@@ -1,0 +1,9 @@
+ghost use Rattle.migrate_words.specs.Laws.{NumbersLaw, OneRequestLaw, PlainWordsLaw};
+
+/// The laws of the words of a call: they ask for one request, plain words are taken with just their values, and words that the
+/// command line takes ask for something unless their number is off its range.
+pub fn words_laws()
+    ensures one { OneRequestLaw }
+    ensures plain { PlainWordsLaw }
+    ensures numbers { NumbersLaw }
+{}
