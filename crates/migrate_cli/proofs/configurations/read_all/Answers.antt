@@ -7,13 +7,12 @@ use Rattle.migrate_cli.proofs.configurations.read_all.Goals as goal
 pub returns-in-Err-clause-err : goal.returns-in-Err-clause-err
 returns-in-Err-clause-err c =
     let words = c.args.names.now in
-    let names = map string_bytes words in
+    let names = map bytes_of words in
     let i = c.loop-i.i in
-    let name = c.as_str.result.now in
-    let lengths : length names ≡ length c.args.texts.now = length-map words string_bytes ∙ c.requires.lengths in
-    let value = c.as_str.ensures.value in
+    let name = c.index-names-i.result.now in
+    let lengths : length names ≡ length c.args.texts.now = length-map words bytes_of ∙ c.requires.lengths in
     let named : name ≡ get_or names i name =
-    value ∙ ap string_bytes c.index-names-i.is ∙ sym (get_or-map string_bytes words i c.index-names-i.result name (omega (arith, c.requires.lengths))) in
+    ap bytes_of c.index-names-i.is ∙ sym (get_or-map bytes_of words i c.index-names-i.result name (omega (arith, c.requires.lengths))) in
     unread_first names c.args.texts.now i name c.index-texts-i.result c.loop-i.all.items c.in-Err.unread lengths c.loop-i-test.true named c.index-texts-i.is
     c.loop-i.invariant c.in-Err.ensures.err
 

@@ -10,22 +10,46 @@ ghost use Rattle.migration_report.specs.Texts.{safe_text, unsafe_text};
 ghost use Rattle.net_model.specs.RouterNames.{names_of};
 ghost use Rattle.route_core.specs.Tables.{HasEntry};
 ghost use Rattle.migrate_cli.specs.Faults.{NamesRouters};
-ghost use Rattle.migrate_cli.specs.Verdicts.{IsOrderVerdict};
+ghost use Rattle.migrate_cli.specs.CheckVerdict.{IsCheckVerdict, IsOrderVerdict};
 
-use crate::answer::Answer;
+use crate::answer::{Answer, refuse};
+use crate::files::FILE_MOST;
 use crate::{OutOfMemory, Status};
 use isis_routes::IsisRoutes;
 use loop_finder::{Fault, Finder};
-use migration_report::{Report, report_text};
+use migration_report::{Refusal, Report, report_text};
+use net_addr::Bytes;
 use net_model::Net;
 use order_core::Turn;
 use ospf_routes::OspfRoutes;
 use rib_mix::Mixed;
 use route_core::RouteSource;
-use std::alloc::Global;
+use std::alloc::{AllocError, Global};
+use step_scripts::{OrderRefusal, read_order};
+
+/// The answer to the text of an order file and a network.
+pub fn judge_check(
+    alloc: Global,
+    file: &str,
+    text: &Bytes,
+    net: &Net,
+) -> Result<Answer, OutOfMemory>
+    requires { length text.now ≤ FILE_MOST }
+    ensures { IfOk result (λ answer. IsCheckVerdict file.now text.now net.now answer.status answer.text) }
+{
+    let order = match read_order(alloc, net, text.as_slice()) {
+        Ok(order) => order,
+        Err(OrderRefusal::OutOfMemory) => return Err(AllocError),
+        Err(OrderRefusal::Bad { line, kind }) => {
+            let refusal = Refusal::Order { file, line, kind };
+            return refuse(alloc, Status::Refused, &refusal);
+        }
+    };
+    judge_order(alloc, net, order.as_slice())
+}
 
 /// The answer to an order of the routers of a network, by the routes of OSPF and of IS-IS.
-pub fn judge_order(alloc: Global, net: &Net, order: &[u32]) -> Result<Answer, OutOfMemory>
+fn judge_order(alloc: Global, net: &Net, order: &[u32]) -> Result<Answer, OutOfMemory>
     requires { IsOrder (length net.now) order.now }
     ensures { IfOk result (λ answer. IsOrderVerdict net.now (OspfEntry net.now) (IsisEntry net.now) order.now answer.status answer.text) }
 {

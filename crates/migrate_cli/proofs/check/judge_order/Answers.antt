@@ -4,9 +4,9 @@ use Rattle.igp_theory.specs.Ospf.{OspfEntry}
 use Rattle.isis_routes.specs.RouteTables as isis
 use Rattle.ospf_routes.specs.RouteTables as ospf
 use Rattle.route_core.specs.Tables.{HasEntry}
-use Rattle.migrate_cli.specs.Verdicts.{IsOrderVerdict}
+use Rattle.migrate_cli.specs.CheckVerdict.{IsOrderVerdict}
 use Rattle.migrate_cli.proofs.OrderFacts.{verdict_over}
-use Rattle.migrate_cli.proofs.verdict.judge_order.Goals as goal
+use Rattle.migrate_cli.proofs.check.judge_order.Goals as goal
 
 pub returns : goal.returns
 returns c =

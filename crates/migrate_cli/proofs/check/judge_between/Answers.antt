@@ -7,14 +7,14 @@ use Rattle.net_model.specs.RouterNames.{names_of}
 use Rattle.route_core.specs.Tables.{HasEntry}
 use Rattle.migration_report.specs.Texts.{safe_text, unsafe_text}
 use Rattle.migrate_cli.specs.Faults.{NamesRouters}
-use Rattle.migrate_cli.specs.Verdicts.{IsOrderVerdict}
-use Rattle.migrate_cli.specs.Verdicts.IsOrderVerdict.{safe, unsafe}
+use Rattle.migrate_cli.specs.CheckVerdict.{IsOrderVerdict}
+use Rattle.migrate_cli.specs.CheckVerdict.IsOrderVerdict.{safe, unsafe}
 use Rattle.migrate_cli.specs.declared.status.Status.{Status}
 use Rattle.migrate_cli.specs.declared.status.Status.TheVariants.{Done, Negative}
 use Rattle.migrate_cli.proofs.AnswerFacts.{from_refusal}
 use Rattle.migrate_cli.proofs.FaultFacts.{names_routers}
 use Rattle.migrate_cli.proofs.OrderFacts.{moved}
-use Rattle.migrate_cli.proofs.verdict.judge_between.Goals as goal
+use Rattle.migrate_cli.proofs.check.judge_between.Goals as goal
 
 pub returns-in-None : goal.returns-in-None
 returns-in-None g c =
