@@ -2,13 +2,11 @@
 use Rattle.std.proofs.Common.{◌≡◌, ◌≢◌, ◌⊎◌, inl, inr, ℕ, ◌≤◌, List, [], ◌∷◌, ◌++◌, length, Result, Ok, Err, IfOk, Some, refl, ◌∙◌, sym, subst, append-nil}
 use Rattle.std.proofs.lemmas.Option.{same_Some}
 use Rattle.std.specs.declared.alloc.AllocError.{AllocError}
-use Rattle.igp_theory.specs.Routes.{Tables}
-use Rattle.net_model.specs.Network.{Network}
 use Rattle.net_model.specs.declared.refusal.NetRefusal.{NetRefusal}
 use Rattle.net_model.specs.declared.refusal.NetRefusal.TheVariants.{Limit as NetLimit, OutOfMemory as NoMemory}
 use Rattle.migrate_words.specs.Asked.{Asks}
 use Rattle.migrate_words.specs.Refusals.{IsRefusal}
-use Rattle.migrate_words.specs.Requests.{Request, check}
+use Rattle.migrate_words.specs.Requests.{Request}
 use Rattle.migrate_words.specs.declared.refusal.WordsRefused.{WordsRefused}
 use Rattle.migrate_words.specs.declared.refusal.WordsRefused.TheVariants.{Words as NotTaken, Number, OutOfMemory as NoMemoryForWords}
 use Rattle.migration_report.specs.Texts.{long_file_text, read_fault_text}
@@ -18,11 +16,7 @@ use Rattle.migrate_cli.specs.Answers.IsAnswer.{refused_words, many_files, read_f
 use Rattle.migrate_cli.specs.Answers.MayAsk.{asks_none, asks_some}
 use Rattle.migrate_cli.specs.Calls.{Call}
 use Rattle.migrate_cli.specs.CallWords.AreRefused.{not_taken, number_off}
-use Rattle.migrate_cli.specs.CheckVerdict.{IsCheckVerdict, IsOrderVerdict}
-use Rattle.migrate_cli.specs.CheckVerdict.IsCheckVerdict.{faulty_order, of_order}
-use Rattle.migrate_cli.specs.CheckVerdict.IsOrderVerdict.{safe, unsafe}
 use Rattle.migrate_cli.specs.CommandFiles.{config_texts, files_of, own_texts}
-use Rattle.migrate_cli.specs.CommandVerdicts.{Input, IsCommandVerdict}
 use Rattle.migrate_cli.specs.Reading.{AreRead, AreWithin, names_of}
 use Rattle.migrate_cli.specs.Stops.{Kept, StopFaults, MayRead, HasRead}
 use Rattle.migrate_cli.specs.Stops.MayRead.{none_yet, so_far}
@@ -33,6 +27,8 @@ use Rattle.migrate_cli.specs.declared.reading.Stop.{Stop}
 use Rattle.migrate_cli.specs.declared.reading.Stop.TheVariants.{Fault, Long, Total, OutOfMemory}
 use Rattle.migrate_cli.specs.declared.status.Status.{Status}
 use Rattle.migrate_cli.specs.declared.status.Status.TheVariants.{Words, ReadFault, WriteFault, Limit, Refused}
+use Rattle.migrate_cli.proofs.CommandLaws.{command_no_fault}
+use Rattle.migrate_cli.proofs.SameAnswers.{NoFault}
 use Rattle.migrate_cli.proofs.StopFacts.{read_so_far}
 
 -- what is said of a status and a text holds of the answer that has them
@@ -132,27 +128,10 @@ stop_answer call before after request (Total number) (Err e) ask read answer =
 stop_answer call before after request OutOfMemory (Err e) ask read answer =
     record { asked = read.asked; asked_is = read.asked_is; answers = may_ask request ask read.reads }
 
--- a fault of reading or of writing is no verdict
-abbrev NoFault : Status → Type 0
-NoFault status = (status ≢ ReadFault) × (status ≢ WriteFault)
-
-order_verdict_no_fault : {net : Network} {old new : Tables} {order : List ℕ} {status : Status} {text : List ℕ}
-    → IsOrderVerdict net old new order status text → NoFault status
-order_verdict_no_fault (safe _) = (λ e. Prim.cc e, λ e. Prim.cc e)
-order_verdict_no_fault (unsafe _ _ _ _) = (λ e. Prim.cc e, λ e. Prim.cc e)
-
 refusal_no_fault : (refusal : NetRefusal) (status : Status) → refusal_status refusal ≡ Some status → NoFault status
 refusal_no_fault (NetLimit _ _) status e = subst NoFault (same_Some Limit status e) ((λ f. Prim.cc f), (λ f. Prim.cc f))
 refusal_no_fault NoMemory status e = absurd (Prim.cc e)
 refusal_no_fault _ status e = subst NoFault (same_Some Refused status e) ((λ f. Prim.cc f), (λ f. Prim.cc f))
-
-check_no_fault : {file text : List ℕ} {net : Network} {status : Status} {answer : List ℕ} → IsCheckVerdict file text net status answer → NoFault status
-check_no_fault (faulty_order _ _ _) = (λ e. Prim.cc e, λ e. Prim.cc e)
-check_no_fault (of_order _ _ _ _ verdict) = order_verdict_no_fault verdict
-
-command_no_fault : (request : Request) (input : Input) {status : Status} {text : List ℕ} → IsCommandVerdict request input status text → NoFault status
-command_no_fault (check _ _) input verdict = check_no_fault verdict.2
-command_no_fault _ input verdict = absurd verdict
 
 pub verdict_no_fault : {request : Request} {own texts : List (List ℕ)} {status : Status} {text : List ℕ} → IsVerdict request own texts status text → NoFault status
 verdict_no_fault (faulty_configuration _ _ _ _) = (λ e. Prim.cc e, λ e. Prim.cc e)

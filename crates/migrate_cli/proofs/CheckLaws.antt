@@ -14,7 +14,7 @@ use Rattle.migrate_cli.specs.CheckVerdict.IsOrderVerdict.{safe, unsafe}
 use Rattle.migrate_cli.specs.CheckVerdict.IsCheckVerdict.{faulty_order, of_order}
 use Rattle.migrate_cli.specs.declared.status.Status.{Status}
 use Rattle.migrate_cli.proofs.OrderFileLaws.{one_named, no_faulty_line, one_faulty_line}
-use Rattle.migrate_cli.proofs.SameAnswers.{AreSame}
+use Rattle.migrate_cli.proofs.SameAnswers.{AreSame, NoFault}
 
 -- an order has one verdict
 one_order_verdict : {net : Network} {old new : Tables} {order : List ℕ} {s z : Status} {t w : List ℕ} → IsOrderVerdict net old new order s t
@@ -37,3 +37,13 @@ one_check_verdict file text net ascending (of_order order _ _ names _) (faulty_o
 one_check_verdict file text net {z = z} {w = w} ascending (of_order one _ _ names verdict) (of_order other _ _ again judged) =
     let same : one ≡ other = one_named net ascending text one other names again in
     one_order_verdict verdict (subst (λ order. IsOrderVerdict net (OspfEntry net) (IsisEntry net) order z w) (sym same) judged)
+
+-- no verdict is a fault of reading or of writing
+order_verdict_no_fault : {net : Network} {old new : Tables} {order : List ℕ} {status : Status} {text : List ℕ}
+    → IsOrderVerdict net old new order status text → NoFault status
+order_verdict_no_fault (safe _) = (λ e. Prim.cc e, λ e. Prim.cc e)
+order_verdict_no_fault (unsafe _ _ _ _) = (λ e. Prim.cc e, λ e. Prim.cc e)
+
+pub check_no_fault : {file text : List ℕ} {net : Network} {status : Status} {answer : List ℕ} → IsCheckVerdict file text net status answer → NoFault status
+check_no_fault (faulty_order _ _ _) = (λ e. Prim.cc e, λ e. Prim.cc e)
+check_no_fault (of_order _ _ _ _ verdict) = order_verdict_no_fault verdict

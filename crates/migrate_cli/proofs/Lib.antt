@@ -3,13 +3,13 @@ mod SendingFacts
 mod StopFacts
 mod FileFacts
 mod ConfigurationFacts
-mod AnswerFacts
+mod SameAnswers
 mod FaultFacts
 mod OrderFacts
 mod OrderFileLaws
-mod SameAnswers
 mod CheckLaws
 mod CommandLaws
+mod AnswerFacts
 mod TextLaws
 mod VerdictLaws
 mod StopLaws

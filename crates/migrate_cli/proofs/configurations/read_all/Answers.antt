@@ -1,4 +1,5 @@
-use Rattle.std.proofs.Common.{◌≡◌, ◌+◌, ◌++◌, length, map, take, string_bytes, get_or, sym, ap, ◌∙◌, subst, arith}
+use Rattle.std.proofs.Common.{◌≡◌, ◌+◌, ◌++◌, length, List, ℕ, map, take, get_or, sym, ap, ◌∙◌, subst, arith}
+use Rattle.std.specs.Borrow.{Bor}
 use Rattle.std.proofs.lemmas.List.{length-map, get_or-map}
 use Rattle.migrate_cli.specs.Configurations.{ReadsTexts}
 use Rattle.migrate_cli.proofs.ConfigurationFacts.{unread_first, ReadsTexts-next}
@@ -7,6 +8,7 @@ use Rattle.migrate_cli.proofs.configurations.read_all.Goals as goal
 pub returns-in-Err-clause-err : goal.returns-in-Err-clause-err
 returns-in-Err-clause-err c =
     let words = c.args.names.now in
+    let bytes_of : Bor (List ℕ) → List ℕ = λ name. name.now in
     let names = map bytes_of words in
     let i = c.loop-i.i in
     let name = c.index-names-i.result.now in
