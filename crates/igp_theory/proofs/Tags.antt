@@ -32,7 +32,8 @@ tags_over Both first second is = (first.0 is.0, second.0 is.1)
 same_turn : {net : Network} {old new : Tables} {a : ℕ} (r s : Turn) (next other : ℕ) → r.router ≡ s.router → next ≡ other →
     IsTag net old new a r next → IsTag net old new a s other → r ≡ s
 same_turn {net} {old} {new} {a} r s next other router follows one two =
-    let here = subst (λ (h : ℕ). IsTagOf s.tag (Steps net old new s.router phase.Old a h) (Steps net old new s.router phase.New a h)) (sym follows) two.steps in
+    let here = subst (λ (h : ℕ). IsTagOf s.tag (Steps net old new s.router phase.Old a h) (Steps net old new s.router phase.New a h))
+    (sym follows) two.steps in
     let tags = subst (λ (u : ℕ). IsTagOf s.tag (Steps net old new u phase.Old a next) (Steps net old new u phase.New a next)) (sym router) here in
     let tag : r.tag ≡ s.tag = same_tag r.tag s.tag _ _ one.steps tags in
     λ i. record { router = router i; tag = tag i }

@@ -9,3 +9,5 @@ pub mod TextLaws
 pub mod ConfigurationFacts
 pub mod PassiveFacts
 pub mod KeyedFacts
+pub mod FurtherReading
+pub mod InsertedFacts

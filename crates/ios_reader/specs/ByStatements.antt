@@ -1,5 +1,5 @@
 -- The configuration that statements make, and their least fault.
-use Rattle.std.specs.Prelude.{ℕ, true, List, [], Option, map, flat_map, unwrap_or, is_some, is_none}
+use Rattle.std.specs.Prelude.{ℕ, false, true, List, [], Option, map, flat_map, unwrap_or, is_some, is_none}
 use Rattle.net_model.specs.Configuration.{Configuration}
 use Rattle.net_model.specs.declared.bounds.TheConstants.{ISIS_DISTANCE, OSPF_DISTANCE}
 use Rattle.ios_lines.specs.Lookups.{last_of, value_or}

@@ -1,6 +1,6 @@
 -- The configurations of a text, or its least faulty line.
 pub use Rattle.ios_lines.specs.FaultOrder.{rank}
-use Rattle.std.specs.Prelude.{◌≡◌, ℕ, ◌<◌, ◌≤◌, true, List, [], Option, Some, None, map, filter_map, unwrap_or, is_some, All, Contains, ◌⊎◌}
+use Rattle.std.specs.Prelude.{◌≡◌, ℕ, ◌<◌, ◌≤◌, false, true, List, [], Option, Some, None, map, filter_map, unwrap_or, is_some, All, Contains, ◌⊎◌}
 use Rattle.net_model.specs.Configuration.{Configuration}
 use Rattle.net_model.specs.declared.bounds.TheConstants.{ISIS_DISTANCE, OSPF_DISTANCE}
 use Rattle.ios_lines.specs.Words.{Word}

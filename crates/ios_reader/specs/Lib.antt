@@ -11,3 +11,4 @@ pub mod Texts
 pub mod Passives
 pub mod Tables
 pub mod ReadLaws
+pub mod InsertedLines

@@ -21,9 +21,7 @@ use ios_sections::read_section::read_sections;
 use ios_sections::statements::{Statements, statements_of, tag_bytes};
 use ios_sections::text_line::TextLine;
 use net_addr::Name;
-use net_model::{
-    Config, Distances, ISIS_DISTANCE, Interfaces, OSPF_DISTANCE, Ranges, Stubs,
-};
+use net_model::{Config, Distances, ISIS_DISTANCE, Interfaces, OSPF_DISTANCE, Ranges, Stubs};
 use std::alloc::Global;
 
 /// The least fault of the OSPF process, and of the lines at indent 0 by themselves.

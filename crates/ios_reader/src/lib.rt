@@ -17,15 +17,14 @@ mod interface_read;
 
 // Configurations, and the whole text.
 mod configuration;
+mod inserted;
 mod laws;
 mod reader;
 mod refusal;
 
+pub use inserted::inserted_laws;
 pub use kind::ReadKind;
 pub use laws::read_laws;
 pub use reader::read_configs;
 pub use refusal::ReadRefusal;
 pub use std::alloc::AllocError as OutOfMemory;
-
-#[cfg(test)]
-mod tests;

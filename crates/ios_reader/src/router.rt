@@ -3,10 +3,10 @@ ghost use Rattle.ios_lines.specs.Lookups.{first_of, value_or};
 ghost use Rattle.ios_reader.specs.Routers.{area_taken, router_with};
 ghost use Rattle.ios_reader.specs.ProcessFacts.{ospf_noted, ospf_facts_of, isis_noted, isis_facts_of};
 
-use ios_lines::{DEFAULT_METRIC, DEFAULT_REFERENCE};
 use ios_lines::isis_line::{IsisLine, IsisStatement};
 use ios_lines::kind::ReadKind;
 use ios_lines::ospf_line::{OspfLine, OspfStatement};
+use ios_lines::{DEFAULT_METRIC, DEFAULT_REFERENCE};
 use net_model::Levels;
 use std::marker::Model;
 

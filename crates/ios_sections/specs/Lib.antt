@@ -4,3 +4,4 @@ pub mod Processes
 pub mod ProcessFaults
 pub mod Gathering
 pub mod Statements
+pub mod JoinedLines

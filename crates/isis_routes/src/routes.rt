@@ -59,6 +59,3 @@ impl RouteSource for IsisRoutes {
         self.all.linked(router, other)
     }
 }
-
-#[cfg(test)]
-mod tests;

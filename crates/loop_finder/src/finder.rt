@@ -88,6 +88,3 @@ impl<'a, O: RouteSource, N: RouteSource> Finder<'a, O, N> {
         self.room.ring.as_slice()
     }
 }
-
-#[cfg(test)]
-mod tests;

@@ -1,5 +1,6 @@
 -- Each row that the parse of a subcommand comes to has a value.
-use Rattle.std.proofs.Common.{◌≡◌, ◌∙◌, ℕ, zero, suc, Bool, cond, true, false, List, [], ◌∷◌, ◌++◌, Option, Some, None, length, refl, sym, ap, subst, arith, true≢false}
+use Rattle.std.proofs.Common.{◌≡◌, ℕ, zero, suc, Bool, cond, true, false, List, [], ◌∷◌, ◌++◌, Option, Some, None, length, refl, sym, ap, subst}
+use Rattle.std.proofs.Common.{arith, true≢false}
 use Rattle.std.specs.List.{find, fold}
 use Rattle.std.specs.Option.{is_some, option_map_or, unwrap_or}
 use Rattle.std.specs.Prelude.{◌&&◌, drop, encode_utf8, slice_get}
@@ -7,9 +8,15 @@ use Rattle.std.specs.Str.{bytes_eq, chars}
 use Rattle.clap.specs.Words.{Kinds, Row, Rule, Shape, Text}
 use Rattle.clap.specs.Kinds.{or_else}
 use Rattle.clap.specs.Lexer.{long_of, short_of}
-use Rattle.clap.specs.Matches.{count_text}
-use Rattle.clap.specs.Walk.{Held, Outcome, Step, Waiting, Walk, action_of, after_flag, after_step, arg_by_id, arg_by_index, arg_by_long, arg_by_short, at_row, attached_value, bundle, bundle_met, bundle_step, default_rows, done, flag_met, has_row, idle, is_pending, long_met, long_or_other, more_values, next, nothing_held, option, option_met, option_word, plain, plain_word, positional, reacted, reading_by, refused, rows_after, settled, settled_rows, short_met, short_or_plain, subcommand, subcommand_or_other, takes_several, takes_values, to_positional, trailing, used, used_as, used_by_id, value, waits, walk, walk_from, walked, walked_from, with_count, with_default, with_values, word_met}
-use Rattle.clap.specs.Faults.{bundle_fault, bundle_step_fault, flag_word_fault, flags_fault, level_fault, long_fault, option_fault, other_fault, positional_fault, react_fault, settle_fault, short_fault, step_fault, stray_fault, turn_fault, use_fault, walk_fault, word_fault}
+use Rattle.clap.specs.Walk.{Held, Outcome, Step, Waiting, Walk, action_of, after_flag, after_step, arg_by_id, arg_by_index, arg_by_long, arg_by_short}
+use Rattle.clap.specs.Walk.{at_row, attached_value, bundle, bundle_met, bundle_step, default_rows, done, flag_met, has_row, idle, is_pending}
+use Rattle.clap.specs.Walk.{long_met, long_or_other, more_values, next, nothing_held, option, option_met, option_word, plain, plain_word, positional}
+use Rattle.clap.specs.Walk.{reacted, reading_by, refused, rows_after, settled, settled_rows, short_met, short_or_plain, subcommand}
+use Rattle.clap.specs.Walk.{subcommand_or_other, takes_several, takes_values, to_positional, trailing, used, used_as, used_by_id, value, waits, walk}
+use Rattle.clap.specs.Walk.{walk_from, walked, walked_from, with_default, with_values, word_met}
+use Rattle.clap.specs.Faults.{bundle_fault, bundle_step_fault, flag_word_fault, flags_fault, level_fault, long_fault, option_fault, other_fault}
+use Rattle.clap.specs.Faults.{positional_fault, react_fault, settle_fault, short_fault, step_fault, stray_fault, turn_fault, use_fault, walk_fault}
+use Rattle.clap.specs.Faults.{word_fault}
 use Rattle.clap.specs.declared.builder.action.ArgAction.{ArgAction}
 use Rattle.clap.specs.declared.builder.action.ArgAction.TheVariants.{Set, Append, SetTrue, SetFalse, Count}
 use Rattle.clap.specs.declared.builder.value_parser.Reading.{Reading}
@@ -61,7 +68,8 @@ full_at_row id change missing (r ∷ rs) changes made full = go (bytes_eq r.id i
     go true rest = full_append (change r) rs (changes r full.0) full.1
     go false rest = (full.0, rest)
 
-full_with_values : (id : Text) (how : Reading) (source : ValueSource) (v : Text) (vs : List Text) (rows : List Row) → Full rows → Full (with_values id how source (v ∷ vs) rows)
+full_with_values : (id : Text) (how : Reading) (source : ValueSource) (v : Text) (vs : List Text) (rows : List Row) → Full rows
+    → Full (with_values id how source (v ∷ vs) rows)
 full_with_values id how source v vs rows full =
     full_at_row id (more_values source (v ∷ vs)) (record { id = id; values = v ∷ vs; count = None; source = Some source; reading = how } ∷ []) rows
     (λ r has. (some_after r.values v vs, tt)) (tt, tt) full
@@ -69,7 +77,8 @@ full_with_values id how source v vs rows full =
 full_without : (id : Text) (rows : List Row) → Full rows → Full (at_row id (λ _. []) [] rows)
 full_without id rows full = full_at_row id (λ _. []) [] rows (λ r has. tt) tt full
 
-full_used_as : (action : ArgAction) (id : Text) (how : Reading) (v : Text) (vs : List Text) (rows : List Row) → Full rows → Full (used_as action id how (v ∷ vs) rows)
+full_used_as : (action : ArgAction) (id : Text) (how : Reading) (v : Text) (vs : List Text) (rows : List Row) → Full rows
+    → Full (used_as action id how (v ∷ vs) rows)
 full_used_as Set id how v vs rows full = full_with_values id how CommandLine v vs _ (full_without id rows full)
 full_used_as SetTrue id how v vs rows full = full_with_values id how CommandLine v vs _ (full_without id rows full)
 full_used_as SetFalse id how v vs rows full = full_with_values id how CommandLine v vs _ (full_without id rows full)
@@ -106,7 +115,8 @@ found_wants test (r ∷ rest) a all found = go (found_wants test rest a all.1) (
     go later true e = subst WantsValue (some_is r a e) all.0
     go later false e = later e
 
-full_used : (again : Bool) (a : Rule) (values : List Text) (rows : List Row) → WantsValue a → use_fault again a values rows ≡ [] → Full rows → Full (used a values rows)
+full_used : (again : Bool) (a : Rule) (values : List Text) (rows : List Row) → WantsValue a → use_fault again a values rows ≡ [] → Full rows
+    → Full (used a values rows)
 full_used again a [] rows wants taken full = absurd (wants again rows taken)
 full_used again a (v ∷ vs) rows wants taken full = full_used_as (action_of a) a.id (reading_by a) v vs rows full
 
@@ -125,7 +135,8 @@ full_settled c again h all taken full = go h.pending taken
     go None e = full
     go (Some p) e = used_or_not p (arg_by_id c p.0) (λ a found. found_wants _ c a all found) e
 
-full_reacted : (c : List Rule) (again : Bool) (a : Rule) (values : List Text) (h : Held) → AllWant c → WantsValue a → react_fault c again a values h ≡ [] → Full h.rows
+full_reacted : (c : List Rule) (again : Bool) (a : Rule) (values : List Text) (h : Held) → AllWant c → WantsValue a
+    → react_fault c again a values h ≡ [] → Full h.rows
     → Full (reacted c a values h).rows
 full_reacted c again a values h all wants taken full =
     full_used again a values (settled c h).rows wants (second_none (settle_fault c again h) _ taken)
@@ -160,14 +171,17 @@ full_short c again (Some a) rest h met fault all wants others taken full = go (t
         others (reacted c a [] h) (second_none (react_fault c again a [] h) _ e)
         (full_reacted c again a [] h all (wants a refl) (first_none (react_fault c again a [] h) _ e) full)
 
-full_bundle : (c : List Rule) (again : Bool) → AllWant c → (k : ℕ) (flags : Text) (skip : ℕ) (so_far : Outcome) (h : Held) → flags_fault c again k flags skip h ≡ []
+full_bundle : (c : List Rule) (again : Bool) → AllWant c → (k : ℕ) (flags : Text) (skip : ℕ) (so_far : Outcome) (h : Held)
+    → flags_fault c again k flags skip h ≡ []
     → Full h.rows → Full (bundle_met c k flags skip so_far h).0.rows
 unfolding bundle_met flags_fault
 full_bundle c again all zero flags skip so_far h taken full = full
 full_bundle c again all (suc k) flags skip so_far h taken full = go (full_bundle c again all k) (slice_get (chars flags) 0) skip taken
   where
-    go : ((flags : Text) (skip : ℕ) (so_far : Outcome) (h : Held) → flags_fault c again k flags skip h ≡ [] → Full h.rows → Full (bundle_met c k flags skip so_far h).0.rows)
-        → (x : Option ℕ) (skip : ℕ) → bundle_step_fault c again x flags skip h (flags_fault c again k) ≡ [] → Full (bundle_step c x flags skip so_far h (bundle_met c k)).0.rows
+    go : ((flags : Text) (skip : ℕ) (so_far : Outcome) (h : Held) → flags_fault c again k flags skip h ≡ [] → Full h.rows
+        → Full (bundle_met c k flags skip so_far h).0.rows)
+        → (x : Option ℕ) (skip : ℕ) → bundle_step_fault c again x flags skip h (flags_fault c again k) ≡ []
+        → Full (bundle_step c x flags skip so_far h (bundle_met c k)).0.rows
     go rec None skip e = full
     go rec (Some x) zero e =
         let rest = drop (length (encode_utf8 x)) flags in
@@ -184,7 +198,8 @@ full_plain_word c (option id) word h full = go (arg_by_id c id)
     go None = full
     go (Some a) = full
 
-full_after_flag : (c : List Rule) (waiting : Waiting) (word : Text) (h : Held) (outcome : Outcome) → Full h.rows → Full (after_flag c waiting word h outcome).0.rows
+full_after_flag : (c : List Rule) (waiting : Waiting) (word : Text) (h : Held) (outcome : Outcome) → Full h.rows
+    → Full (after_flag c waiting word h outcome).0.rows
 full_after_flag c waiting word h done full = full
 full_after_flag c waiting word h (waits id) full = full
 full_after_flag c waiting word h plain full = full_plain_word c waiting word h full
@@ -194,13 +209,15 @@ full_other : (s : Shape) (waiting : Waiting) (place : ℕ) (word : Text) (h : He
     → Full (subcommand_or_other s.rules None waiting place word h).0.rows
 full_other s waiting place word h all taken full = dashes (bytes_eq word (45 ∷ 45 ∷ [])) taken
   where
-    short : (flags : Option Text) → option_map_or (λ fs. bundle_fault s.rules s.args_override_self fs h) flags [] ≡ [] → Full (short_or_plain s.rules waiting word flags h).0.rows
+    short : (flags : Option Text) → option_map_or (λ fs. bundle_fault s.rules s.args_override_self fs h) flags [] ≡ []
+        → Full (short_or_plain s.rules waiting word flags h).0.rows
     short None e = full_plain_word s.rules waiting word h full
     short (Some flags) e =
         full_after_flag s.rules waiting word _ (bundle s.rules flags h).1
         (full_bundle s.rules s.args_override_self all (length flags) flags h.skip plain (record h { skip = 0 }) e full)
 
-    long : (p : Option (Text × Option Text)) → flag_word_fault s.rules s.args_override_self p word h ≡ [] → Full (long_or_other s.rules waiting word p h).0.rows
+    long : (p : Option (Text × Option Text)) → flag_word_fault s.rules s.args_override_self p word h ≡ []
+        → Full (long_or_other s.rules waiting word p h).0.rows
     long None e = short (short_of word) e
     long (Some p) e =
         full_after_flag s.rules waiting word _ (long_met s.rules (arg_by_long s.rules p.0) p.1 h).1
@@ -234,7 +251,8 @@ full_step s word w h value all taken full = go (arg_by_index s.rules w.position)
     go None e = full
     go (Some a) e = kept (is_pending a h.pending && takes_several a) e
 
-full_walked : (s : Shape) (w : Walk) (word : Text) → AllWant s.rules → turn_fault s [] w word ≡ [] → Full w.held.rows → Full (walked s.rules [] w word).held.rows
+full_walked : (s : Shape) (w : Walk) (word : Text) → AllWant s.rules → turn_fault s [] w word ≡ [] → Full w.held.rows
+    → Full (walked s.rules [] w word).held.rows
 unfolding walked
 full_walked s w word all taken full = go w.stopped taken
   where
@@ -249,7 +267,8 @@ full_walked s w word all taken full = go w.stopped taken
         full_step s word w met.0 met.1 all (second_none (word_fault s [] w.is_trailing w.waiting word w.held) _ e)
         (full_word s w.is_trailing w.waiting w.position word w.held all (first_none (word_fault s [] w.is_trailing w.waiting word w.held) _ e) full)
 
-full_walk : (s : Shape) (words : List Text) (w : Walk) → AllWant s.rules → walk_fault s [] w words ≡ [] → Full w.held.rows → Full (fold (walked s.rules []) w words).held.rows
+full_walk : (s : Shape) (words : List Text) (w : Walk) → AllWant s.rules → walk_fault s [] w words ≡ [] → Full w.held.rows
+    → Full (fold (walked s.rules []) w words).held.rows
 unfolding walk_fault
 full_walk s [] w all taken full = full
 full_walk s (word ∷ rest) w all taken full =
@@ -263,4 +282,5 @@ full_rows s words all taken =
     let ends = second_none (walk_fault s [] (walk_from nothing_held) words) _ taken in
     let end = (walk s.rules [] nothing_held words).held in
     full_defaults s.rules (settled s.rules end).rows
-    (full_settled s.rules s.args_override_self end all (first_none (settle_fault s.rules s.args_override_self end) _ ends) (full_walk s words (walk_from nothing_held) all walks tt))
+    (full_settled s.rules s.args_override_self end all (first_none (settle_fault s.rules s.args_override_self end) _ ends)
+    (full_walk s words (walk_from nothing_held) all walks tt))

@@ -4,7 +4,7 @@ use Rattle.std.specs.Option.{unwrap_or}
 use Rattle.clap.specs.Words.{Row, Text}
 use Rattle.net_addr.specs.Numerals.{decimal_value}
 use Rattle.migrate_words.specs.Requests.{Request, name_of, check, prepare, plan, refute, scripts, replay, sample}
-use Rattle.migrate_words.specs.Asked.{Asks, Gives, IsBudget, IsNumberIn}
+use Rattle.migrate_words.specs.Asked.{Gives, IsBudget, IsNumberIn}
 use Rattle.migrate_words.specs.Laws.{OneRequestLaw}
 
 some_is : {X : Type 0} (x y : X) → Some x ≡ Some y → x ≡ y

@@ -1,21 +1,20 @@
 -- Plain words of each subcommand: it takes them, and comes to the rows of their values.
-use Rattle.std.proofs.Common.{◌≡◌, ◌<◌, ◌≤◌, ℕ, Bool, true, false, List, [], ◌∷◌, ◌++◌, Option, Some, None, refl, ap, ap₂, arith, codes, length}
+use Rattle.std.proofs.Common.{◌≡◌, ℕ, true, false, List, [], ◌∷◌, ◌++◌, Some, None, refl, ap, ap₂, arith, codes}
 use Rattle.std.proofs.lemmas.Bool.{ne_eqb}
 use Rattle.std.proofs.lemmas.List.Elements.{All-head}
 use Rattle.std.specs.Char.{IsAsciiDigit}
-use Rattle.std.specs.List.{All, fold}
-use Rattle.std.specs.Prelude.{◌==◌}
-use Rattle.clap.specs.Words.{App, Row, Rule, Shape, Text, built}
+use Rattle.std.specs.List.{fold}
+use Rattle.clap.specs.Words.{Row, Rule, Shape, Text, built}
 use Rattle.clap.specs.Walk.{Held, Step, Walk, after_step, arg_by_index, nothing_held, option, positional_held, walked, with_default}
 use Rattle.clap.specs.Simple.{filled, filled_from, help_rule, new_shape, with_index}
 use Rattle.clap.specs.Kinds.{or_else}
-use Rattle.clap.specs.Faults.{check_fault, defaults_fault, positional_fault, step_fault, turn_fault, walk_fault}
+use Rattle.clap.specs.Faults.{check_fault, defaults_fault, positional_fault, step_fault, walk_fault}
 use Rattle.clap.proofs.OnLiterals.{clap_on_literals}
 use Rattle.net_addr.specs.Numerals.{IsNumeral}
-use Rattle.migrate_words.specs.Asked.{IsNumberIn}
 use Rattle.migrate_words.specs.CommandLine.{budget_option, command_line, config_files, one_text}
 use Rattle.migrate_words.specs.PlainWords.{ArePlainNames, IsPlainName}
-use Rattle.migrate_words.proofs.PlainWalk.{Ends, HasFiles, adds, before, ends_after, ends_after_plain, files_at, files_begin, held_file, held_text, no_fault, other_plain, text_row}
+use Rattle.migrate_words.proofs.PlainWalk.{Ends, HasFiles, adds, before, ends_after, ends_after_plain, files_at, files_begin, held_file, held_text}
+use Rattle.migrate_words.proofs.PlainWalk.{no_fault, other_plain, text_row}
 use Rattle.migrate_words.proofs.Entering.{Enters, Takes}
 
 -- a subcommand as `clap` builds it
@@ -60,7 +59,8 @@ text_first line id [] rest rows found plain ends = absurd plain
 text_first line id (x ∷ xs) rest rows found plain ends =
     ends_after_plain line nothing_held false 1 (text_at 1 id) x xs rest rows (ne_eqb x 45 plain) found refl refl ends
 
-one_text_then_files : (line : Shape) (id text : Text) → arg_by_index line.rules 1 ≡ Some (text_at 1 id) → Ready line (held_text [] id text) 2 (row id text ∷ []) → IsPlainName text
+one_text_then_files : (line : Shape) (id text : Text) → arg_by_index line.rules 1 ≡ Some (text_at 1 id)
+    → Ready line (held_text [] id text) 2 (row id text ∷ []) → IsPlainName text
     → (configs : List Text) → ArePlainNames configs → Takes line (text ∷ configs) (adds (row id text ∷ []) configs)
 one_text_then_files line id text found ready plain configs plain_configs =
     takes_all line _ 2 (row id text ∷ []) ready (text ∷ configs) configs plain_configs
@@ -165,11 +165,13 @@ replay_ready order journal = record {
   full = λ first others. refl;
 }
 
-journal_next : (order journal : Text) (rest : List Text) (rows : List Row) → IsPlainName journal → Ends replay_built (before (held_journal order journal) false 3) rest rows
+journal_next : (order journal : Text) (rest : List Text) (rows : List Row) → IsPlainName journal
+    → Ends replay_built (before (held_journal order journal) false 3) rest rows
     → Ends replay_built (before (held_text [] (codes "ORDER") order) false 2) (journal ∷ rest) rows
 journal_next order [] rest rows plain ends = absurd plain
 journal_next order (x ∷ xs) rest rows plain ends =
-    ends_after_plain replay_built (held_text [] (codes "ORDER") order) false 2 (text_at 2 (codes "JOURNAL")) x xs rest rows (ne_eqb x 45 plain) refl refl refl ends
+    ends_after_plain replay_built (held_text [] (codes "ORDER") order) false 2 (text_at 2 (codes "JOURNAL")) x xs rest rows
+    (ne_eqb x 45 plain) refl refl refl ends
 
 pub takes_replay : (order journal : Text) (configs : List Text) → IsPlainName order → IsPlainName journal → ArePlainNames configs
     → Takes replay_built (order ∷ journal ∷ configs) (adds (replay_rows order journal) configs)
@@ -199,7 +201,8 @@ plan_ready = record {
 }
 
 pub takes_plan : (configs : List Text) → ArePlainNames configs → Takes plan_built configs (adds [] configs)
-takes_plan configs plain = takes_all plan_built nothing_held 1 [] plan_ready configs configs plain (files_left plan_built nothing_held 1 [] plan_ready configs plain)
+takes_plan configs plain = takes_all plan_built nothing_held 1 [] plan_ready configs configs plain
+    (files_left plan_built nothing_held 1 [] plan_ready configs plain)
 
 budget_ready : (number : Text) → Ready plan_built (held_text [] (codes "N") number) 1 (row (codes "N") number ∷ [])
 unfolding defaults_fault
@@ -221,11 +224,13 @@ after_budget = record {
   stopped = None;
 }
 
-budget_first : (rest : List Text) (rows : List Row) → Ends plan_built after_budget rest rows → Ends plan_built (before nothing_held false 1) (codes "--budget" ∷ rest) rows
+budget_first : (rest : List Text) (rows : List Row) → Ends plan_built after_budget rest rows
+    → Ends plan_built (before nothing_held false 1) (codes "--budget" ∷ rest) rows
 unfolding clap_on_literals
 budget_first rest rows ends = ends_after plan_built (before nothing_held false 1) after_budget (codes "--budget") rest rows refl refl ends
 
-number_next : (number : Text) (rest : List Text) (rows : List Row) → IsPlainName number → Ends plan_built (before (held_text [] (codes "N") number) false 1) rest rows
+number_next : (number : Text) (rest : List Text) (rows : List Row) → IsPlainName number
+    → Ends plan_built (before (held_text [] (codes "N") number) false 1) rest rows
     → Ends plan_built after_budget (number ∷ rest) rows
 unfolding walked
 number_next [] rest rows plain ends = absurd plain

@@ -1,16 +1,19 @@
 -- How the parse of a subcommand walks over plain words.
-use Rattle.std.proofs.Common.{◌≡◌, ◌∙◌, ℕ, Bool, cond, true, false, List, [], ◌∷◌, ◌++◌, Option, Some, None, nat_eq, refl, sym, ap, ap₂, subst, append_assoc}
+use Rattle.std.proofs.Common.{◌≡◌, ◌∙◌, ℕ, Bool, cond, true, false, List, [], ◌∷◌, ◌++◌, Option, Some, None, refl, sym, ap, ap₂, subst, append_assoc}
 use Rattle.std.specs.List.{All, fold}
 use Rattle.std.specs.Option.{option_map_or}
 use Rattle.std.proofs.lemmas.Bool.{ne_eqb}
 use Rattle.clap.specs.Words.{Row, Rule, Shape, Text}
-use Rattle.clap.specs.Walk.{Held, Step, Waiting, Walk, after_step, arg_by_id, arg_by_index, idle, is_multiple, long_or_other, next_position, plain_word, positional, positional_held, settled, short_or_plain, subcommand_or_other, to_positional, trailing, used, used_by_id, value, walked, with_default, word_met}
+use Rattle.clap.specs.Walk.{Held, Step, Waiting, Walk, after_step, arg_by_id, arg_by_index, idle, is_multiple, long_or_other, next_position}
+use Rattle.clap.specs.Walk.{plain_word, positional, positional_held, settled, short_or_plain, subcommand_or_other, to_positional, trailing, used}
+use Rattle.clap.specs.Walk.{used_by_id, value, walked, word_met}
 use Rattle.clap.specs.Kinds.{or_else}
 use Rattle.clap.specs.Lexer.{long_of, long_of_rest, short_of, short_of_rest, strip_byte}
 use Rattle.std.specs.Prelude.{◌==◌, ◌&&◌, if◌then◌else◌, option_and_then}
 use Rattle.std.specs.Str.{bytes_eq}
 use Rattle.std.proofs.lemmas.List.Elements.{All-head, All-tail}
-use Rattle.clap.specs.Faults.{bundle_fault, flag_word_fault, other_fault, positional_fault, settle_fault, step_fault, stray_fault, turn_fault, use_fault, walk_fault, word_fault}
+use Rattle.clap.specs.Faults.{bundle_fault, flag_word_fault, other_fault, positional_fault, settle_fault, step_fault, stray_fault, turn_fault}
+use Rattle.clap.specs.Faults.{use_fault, walk_fault, word_fault}
 use Rattle.clap.specs.Simple.{filled, with_index}
 use Rattle.clap.specs.declared.builder.value_parser.Reading.TheVariants.{AsWritten}
 use Rattle.clap.specs.declared.parser.matches.ValueSource.TheVariants.{CommandLine}
@@ -45,7 +48,8 @@ other_plain c waiting place x xs h plain =
     ∙ ap (λ (o : Option (Text × Option Text)). long_or_other c waiting (x ∷ xs) o h) (no_long x xs plain)
     ∙ ap (λ (o : Option Text). short_or_plain c waiting (x ∷ xs) o h) (no_short x xs plain)
 
-met_plain : (c : List Rule) (several : Bool) (place x : ℕ) (xs : Text) (h : Held) → (x == 45) ≡ false → word_met c [] false (waits several) place (x ∷ xs) h ≡ (h, value)
+met_plain : (c : List Rule) (several : Bool) (place x : ℕ) (xs : Text) (h : Held) → (x == 45) ≡ false
+    → word_met c [] false (waits several) place (x ∷ xs) h ≡ (h, value)
 met_plain c true place x xs h plain = other_plain c positional place x xs h plain
 met_plain c false place x xs h plain = other_plain c idle place x xs h plain
 
@@ -62,7 +66,8 @@ word_plain s false x xs h plain = no_fault s x xs h plain
 walked_plain : (c : List Rule) (several : Bool) (place x : ℕ) (xs : Text) (h : Held) → (x == 45) ≡ false
     → walked c [] (before h several place) (x ∷ xs) ≡ to_positional c (arg_by_index c place) (x ∷ xs) (before h several place) h
 unfolding walked
-walked_plain c several place x xs h plain = ap (λ (p : Held × Step). after_step c (x ∷ xs) (before h several place) p.0 p.1) (met_plain c several place x xs h plain)
+walked_plain c several place x xs h plain = ap (λ (p : Held × Step). after_step c (x ∷ xs) (before h several place) p.0 p.1)
+    (met_plain c several place x xs h plain)
 
 turn_plain : (s : Shape) (several : Bool) (place x : ℕ) (xs : Text) (h : Held) → (x == 45) ≡ false
     → turn_fault s [] (before h several place) (x ∷ xs) ≡ step_fault s place h value
@@ -76,7 +81,8 @@ pub record Ends (s : Shape) (w : Walk) (words : List Text) (rows : List Row) : T
   pub rows_are : (settled s.rules (fold (walked s.rules []) w words).held).rows ≡ rows
 
 -- one more word
-pub ends_after : (s : Shape) (w after : Walk) (word : Text) (rest : List Text) (rows : List Row) → turn_fault s [] w word ≡ [] → walked s.rules [] w word ≡ after
+pub ends_after : (s : Shape) (w after : Walk) (word : Text) (rest : List Text) (rows : List Row) → turn_fault s [] w word ≡ []
+    → walked s.rules [] w word ≡ after
     → Ends s after rest rows → Ends s w (word ∷ rest) rows
 unfolding walk_fault
 ends_after s w after word rest rows turn is ends = record {
@@ -88,13 +94,15 @@ ends_after s w after word rest rows turn is ends = record {
 -- a plain word goes to the positional of its place
 pub ends_after_plain : (s : Shape) (h : Held) (several : Bool) (place : ℕ) (a : Rule) (x : ℕ) (xs : Text) (rest : List Text) (rows : List Row)
     → (x == 45) ≡ false → arg_by_index s.rules place ≡ Some a → a.trailing_var_arg ≡ false → positional_fault s.rules s.args_override_self a h ≡ []
-    → Ends s (before (positional_held s.rules a (x ∷ xs) h) (is_multiple a) (next_position a place)) rest rows → Ends s (before h several place) ((x ∷ xs) ∷ rest) rows
+    → Ends s (before (positional_held s.rules a (x ∷ xs) h) (is_multiple a) (next_position a place)) rest rows
+    → Ends s (before h several place) ((x ∷ xs) ∷ rest) rows
 ends_after_plain s h several place a x xs rest rows plain found stays taken ends =
     let w : Walk = before h several place in
     let after : Walk = before (positional_held s.rules a (x ∷ xs) h) (is_multiple a) (next_position a place) in
     let goes : to_positional s.rules (Some a) (x ∷ xs) w h ≡ after = ap (λ (t : Bool). record after { is_trailing = t }) stays in
     ends_after s w after (x ∷ xs) rest rows
-    (turn_plain s several place x xs h plain ∙ ap (λ (o : Option Rule). option_map_or (λ b. positional_fault s.rules s.args_override_self b h) o (stray_fault s)) found ∙ taken)
+    (turn_plain s several place x xs h plain ∙ ap (λ (o : Option Rule). option_map_or (λ b. positional_fault s.rules s.args_override_self b h) o
+    (stray_fault s)) found ∙ taken)
     (walked_plain s.rules several place x xs h plain ∙ ap (λ (o : Option Rule). to_positional s.rules o (x ∷ xs) w h) found ∙ goes) ends
 
 -- ---- the configuration files
@@ -143,7 +151,11 @@ file_settled s place rows has seen last = ap (λ (o : Option Rule). used_by_id o
 files_end : (s : Shape) (place : ℕ) (rows : List Row) → HasFiles s place rows → (seen : List Text) (last : Text) (rest : List Text) → All IsPlainName rest
     → Ends s (before (held_file (adds rows seen) last) true place) rest (adds rows (seen ++ last ∷ rest))
 unfolding walk_fault
-files_end s place rows has seen last [] plain = record { walks = refl; settles = file_settles s place rows has seen last; rows_are = file_settled s place rows has seen last }
+files_end s place rows has seen last [] plain = record {
+  walks = refl;
+  settles = file_settles s place rows has seen last;
+  rows_are = file_settled s place rows has seen last;
+}
 files_end s place rows has seen last ([] ∷ rest) plain = absurd (All-head IsPlainName [] rest plain)
 files_end s place rows has seen last ((x ∷ xs) ∷ rest) plain =
     let more = files_end s place rows has (seen ++ last ∷ []) (x ∷ xs) rest (All-tail IsPlainName (x ∷ xs) rest plain) in
@@ -151,11 +163,13 @@ files_end s place rows has seen last ((x ∷ xs) ∷ rest) plain =
     (ap (adds rows) (append_assoc seen (last ∷ []) ((x ∷ xs) ∷ rest))) more in
     let goes = subst (λ (found : List Row). Ends s (before (held_file found (x ∷ xs)) true place) rest (adds rows (seen ++ last ∷ (x ∷ xs) ∷ rest)))
     (sym (file_settled s place rows has seen last)) all in
-    ends_after_plain s (held_file (adds rows seen) last) true place (files_at place) x xs rest _ (ne_eqb x 45 (All-head IsPlainName (x ∷ xs) rest plain)) has.found refl
+    ends_after_plain s (held_file (adds rows seen) last) true place (files_at place) x xs rest _
+    (ne_eqb x 45 (All-head IsPlainName (x ∷ xs) rest plain)) has.found refl
     (file_settles s place rows has seen last) goes
 
 -- the first file, after what goes before it
-pub files_begin : (s : Shape) (h : Held) (several : Bool) (place : ℕ) (rows : List Row) → HasFiles s place rows → positional_fault s.rules s.args_override_self (files_at place) h ≡ []
+pub files_begin : (s : Shape) (h : Held) (several : Bool) (place : ℕ) (rows : List Row) → HasFiles s place rows
+    → positional_fault s.rules s.args_override_self (files_at place) h ≡ []
     → ((word : Text) → positional_held s.rules (files_at place) word h ≡ held_file rows word) → (names : List Text) → ArePlainNames names
     → Ends s (before h several place) names (adds rows names)
 files_begin s h several place rows has taken held [] plain = absurd (plain.some refl)

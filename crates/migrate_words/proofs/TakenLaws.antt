@@ -6,8 +6,8 @@ use Rattle.std.specs.Option.{is_some, option_map_or}
 use Rattle.std.specs.Prelude.{◌&&◌, ◌||◌, not, option_and_then, option_map, slice_get}
 use Rattle.std.specs.Str.{bytes_eq}
 use Rattle.clap.specs.Facts.{explicit_source}
-use Rattle.clap.specs.Words.{Kinds, Row, Rule, Shape, Text, all_of, built, first_of, subcommand_of}
-use Rattle.clap.specs.Walk.{answers_to, finished, nothing_held, rows_after, settled, walk, walk_from}
+use Rattle.clap.specs.Words.{Row, Rule, Shape, Text, built, first_of, subcommand_of}
+use Rattle.clap.specs.Walk.{answers_to, nothing_held, rows_after, settled, walk, walk_from}
 use Rattle.clap.specs.Simple.{label_of}
 use Rattle.clap.specs.Takes.{is_given}
 use Rattle.clap.specs.Faults.{defaults_fault, level_fault, settle_fault, walk_fault}
@@ -17,7 +17,7 @@ use Rattle.migrate_words.specs.Requests.{Request, name_of, check, prepare, plan,
 use Rattle.migrate_words.specs.Asked.{AreTaken, Asks, Gives, HasConfigs, HasNumberOff, HasText, IsBudget, IsNumberIn, budget_off, routers_off}
 use Rattle.migrate_words.specs.declared.command.TheConstants.{LEAST_SAMPLE, MOST_SAMPLE}
 use Rattle.migrate_words.specs.Laws.{NumbersLaw}
-use Rattle.migrate_words.proofs.FullRows.{AllWant, Full, HasSome, cons_not_nil, full_rows, second_none, some_is}
+use Rattle.migrate_words.proofs.FullRows.{Full, HasSome, cons_not_nil, full_rows, second_none, some_is}
 use Rattle.migrate_words.proofs.PlainLines.{built_line, check_built, plan_built, prepare_built, refute_built, replay_built, sample_built, scripts_built}
 use Rattle.migrate_words.proofs.TakenWalk.{line_of_taken}
 
@@ -40,7 +40,8 @@ cond_none true k e = absurd (cons_not_nil k [] e)
 cond_none false k e = refl
 
 -- no required argument is missing where the subcommand takes the words
-none_missing : (name : Text) (arguments : List Rule) (words : List Text) → let line = built_line name arguments in level_fault line [] nothing_held words false [] ≡ []
+none_missing : (name : Text) (arguments : List Rule) (words : List Text)
+    → let line = built_line name arguments in level_fault line [] nothing_held words false [] ≡ []
     → list_any (λ a. a.required && not (is_given a.id (rows_after line.rules [] words))) line.rules ≡ false
 none_missing name arguments words taken =
     let line : Shape = built_line name arguments in
@@ -90,13 +91,17 @@ AskNothing words = (request : Request) → Asks words request → ⊥
 
 -- what follows where the words enter the subcommand `line`
 abbrev Follows : List Text → List Text → Shape → Type 0
-Follows words rest line = level_fault line [] nothing_held rest false [] ≡ [] → subcommand_of command_line words ≡ Some (line.name, rows_after line.rules [] rest) → HasNumberOff words
+Follows words rest line = level_fault line [] nothing_held rest false [] ≡ [] → subcommand_of command_line words ≡ Some
+    (line.name, rows_after line.rules [] rest) → HasNumberOff words
 
 check_follows : (words rest : List Text) → AreTaken words → AskNothing words → Follows words rest check_built
 check_follows words rest taken nothing takes entered =
     let rows = rows_after check_built.rules [] rest in
     let missing = none_missing check_built.name (one_text (codes "ORDER") ∷ config_files ∷ []) rest takes in
-    let full = full_rows check_built rest (λ again rows e. cons_not_nil _ _ e, (λ again rows e. cons_not_nil _ _ e, (λ again rows e. cons_not_nil _ _ e, tt))) takes in
+    let full = full_rows check_built rest (
+      λ again rows e. cons_not_nil _ _ e,
+      (λ again rows e. cons_not_nil _ _ e, (λ again rows e. cons_not_nil _ _ e, tt)),
+    ) takes in
     let file = has_text (codes "ORDER") rows full (not_false _ (or_left _ _ missing)) in
     let configs = has_configs rows (not_false _ (or_left _ _ (or_right (not (is_given (codes "ORDER") rows)) _ missing))) in
     absurd (nothing (check file.0 configs.0) (record { taken = taken; rows = rows; entered = entered; given = (file.1, configs.1) }))
@@ -105,7 +110,10 @@ prepare_follows : (words rest : List Text) → AreTaken words → AskNothing wor
 prepare_follows words rest taken nothing takes entered =
     let rows = rows_after prepare_built.rules [] rest in
     let missing = none_missing prepare_built.name (one_text (codes "DESIGN") ∷ config_files ∷ []) rest takes in
-    let full = full_rows prepare_built rest (λ again rows e. cons_not_nil _ _ e, (λ again rows e. cons_not_nil _ _ e, (λ again rows e. cons_not_nil _ _ e, tt))) takes in
+    let full = full_rows prepare_built rest (
+      λ again rows e. cons_not_nil _ _ e,
+      (λ again rows e. cons_not_nil _ _ e, (λ again rows e. cons_not_nil _ _ e, tt)),
+    ) takes in
     let file = has_text (codes "DESIGN") rows full (not_false _ (or_left _ _ missing)) in
     let configs = has_configs rows (not_false _ (or_left _ _ (or_right (not (is_given (codes "DESIGN") rows)) _ missing))) in
     absurd (nothing (prepare file.0 configs.0) (record { taken = taken; rows = rows; entered = entered; given = (file.1, configs.1) }))
@@ -114,7 +122,10 @@ refute_follows : (words rest : List Text) → AreTaken words → AskNothing word
 refute_follows words rest taken nothing takes entered =
     let rows = rows_after refute_built.rules [] rest in
     let missing = none_missing refute_built.name (one_text (codes "TREE") ∷ config_files ∷ []) rest takes in
-    let full = full_rows refute_built rest (λ again rows e. cons_not_nil _ _ e, (λ again rows e. cons_not_nil _ _ e, (λ again rows e. cons_not_nil _ _ e, tt))) takes in
+    let full = full_rows refute_built rest (
+      λ again rows e. cons_not_nil _ _ e,
+      (λ again rows e. cons_not_nil _ _ e, (λ again rows e. cons_not_nil _ _ e, tt)),
+    ) takes in
     let file = has_text (codes "TREE") rows full (not_false _ (or_left _ _ missing)) in
     let configs = has_configs rows (not_false _ (or_left _ _ (or_right (not (is_given (codes "TREE") rows)) _ missing))) in
     absurd (nothing (refute file.0 configs.0) (record { taken = taken; rows = rows; entered = entered; given = (file.1, configs.1) }))
@@ -123,7 +134,10 @@ scripts_follows : (words rest : List Text) → AreTaken words → AskNothing wor
 scripts_follows words rest taken nothing takes entered =
     let rows = rows_after scripts_built.rules [] rest in
     let missing = none_missing scripts_built.name (one_text (codes "ORDER") ∷ config_files ∷ []) rest takes in
-    let full = full_rows scripts_built rest (λ again rows e. cons_not_nil _ _ e, (λ again rows e. cons_not_nil _ _ e, (λ again rows e. cons_not_nil _ _ e, tt))) takes in
+    let full = full_rows scripts_built rest (
+      λ again rows e. cons_not_nil _ _ e,
+      (λ again rows e. cons_not_nil _ _ e, (λ again rows e. cons_not_nil _ _ e, tt)),
+    ) takes in
     let file = has_text (codes "ORDER") rows full (not_false _ (or_left _ _ missing)) in
     let configs = has_configs rows (not_false _ (or_left _ _ (or_right (not (is_given (codes "ORDER") rows)) _ missing))) in
     absurd (nothing (scripts file.0 configs.0) (record { taken = taken; rows = rows; entered = entered; given = (file.1, configs.1) }))
@@ -132,8 +146,13 @@ replay_follows : (words rest : List Text) → AreTaken words → AskNothing word
 replay_follows words rest taken nothing takes entered =
     let rows = rows_after replay_built.rules [] rest in
     let missing = none_missing replay_built.name (one_text (codes "ORDER") ∷ one_text (codes "JOURNAL") ∷ config_files ∷ []) rest takes in
-    let full = full_rows replay_built rest
-    (λ again rows e. cons_not_nil _ _ e, (λ again rows e. cons_not_nil _ _ e, (λ again rows e. cons_not_nil _ _ e, (λ again rows e. cons_not_nil _ _ e, tt)))) takes in
+    let full = full_rows replay_built rest (
+      λ again rows e. cons_not_nil _ _ e,
+      (
+        λ again rows e. cons_not_nil _ _ e,
+        (λ again rows e. cons_not_nil _ _ e, (λ again rows e. cons_not_nil _ _ e, tt)),
+      ),
+    ) takes in
     let others = or_right (not (is_given (codes "ORDER") rows)) _ missing in
     let order = has_text (codes "ORDER") rows full (not_false _ (or_left _ _ missing)) in
     let journal = has_text (codes "JOURNAL") rows full (not_false _ (or_left _ _ others)) in
@@ -147,7 +166,8 @@ plan_follows words rest taken nothing takes entered = go (first_of (codes "N") r
     rows = rows_after plan_built.rules [] rest
 
     configs : (all : List Text) × HasConfigs rows all
-    configs = has_configs rows (not_false (is_given (codes "CONFIG") rows) (or_left (not (is_given (codes "CONFIG") rows)) false (none_missing plan_built.name (budget_option ∷ config_files ∷ []) rest takes)))
+    configs = has_configs rows (not_false (is_given (codes "CONFIG") rows)
+        (or_left (not (is_given (codes "CONFIG") rows)) false (none_missing plan_built.name (budget_option ∷ config_files ∷ []) rest takes)))
 
     asks : (n : ℕ) → IsBudget (first_of (codes "N") rows) n → Asks words (plan n configs.0)
     asks n is = record { taken = taken; rows = rows; entered = entered; given = (is, configs.1) }

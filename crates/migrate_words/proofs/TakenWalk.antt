@@ -1,15 +1,19 @@
 -- Where the command line takes the words, it enters a subcommand other than `help`, which takes the words that are left.
-use Rattle.std.proofs.Common.{◌≡◌, ◌∙◌, ℕ, Bool, cond, true, false, List, [], ◌∷◌, ◌++◌, Option, Some, None, refl, sym, ap, true≢false, codes}
+use Rattle.std.proofs.Common.{◌≡◌, ℕ, Bool, cond, true, false, List, [], ◌∷◌, Option, Some, None, refl, sym, true≢false, codes}
 use Rattle.std.specs.List.{fold}
 use Rattle.std.specs.Option.{is_some, option_map_or}
 use Rattle.std.specs.Prelude.{◌&&◌, find, not, option_map}
 use Rattle.std.specs.Str.{bytes_eq}
-use Rattle.clap.specs.Words.{App, Row, Rule, Shape, Text, built, fault_of, subcommand_of}
-use Rattle.clap.specs.Kinds.{Kinds, or_else}
+use Rattle.clap.specs.Words.{App, Row, Rule, Shape, Text, built, subcommand_of}
+use Rattle.clap.specs.Kinds.{or_else}
 use Rattle.clap.specs.Lexer.{long_of, short_of}
-use Rattle.clap.specs.Walk.{Held, Names, Outcome, Step, Waiting, Walk, after_flag, after_step, answers_to, arg_by_index, arg_by_long, bundle, done, finished, idle, long_met, long_or_other, next, nothing_held, option, plain, plain_word, positional, refused, rows_after, settled, short_or_plain, subcommand, subcommand_met, subcommand_or_other, to_positional, trailing, value, waits, walk, walk_from, walked, walked_from, word_met}
+use Rattle.clap.specs.Walk.{Held, Names, Outcome, Step, Waiting, Walk, after_flag, after_step, answers_to, arg_by_index, arg_by_long, bundle, done}
+use Rattle.clap.specs.Walk.{finished, idle, long_met, long_or_other, next, nothing_held, option, plain, plain_word, positional, refused, rows_after}
+use Rattle.clap.specs.Walk.{settled, short_or_plain, subcommand, subcommand_met, subcommand_or_other, to_positional, trailing, value, waits, walk}
+use Rattle.clap.specs.Walk.{walk_from, walked, walked_from, word_met}
 use Rattle.clap.specs.Simple.{entered, label_of, names_of, rows_at}
-use Rattle.clap.specs.Faults.{check_fault, defaults_fault, entered_fault, flag_word_fault, level_fault, other_fault, settle_fault, step_fault, turn_fault, walk_fault, word_fault}
+use Rattle.clap.specs.Faults.{check_fault, defaults_fault, entered_fault, level_fault, other_fault, settle_fault, step_fault, turn_fault, walk_fault}
+use Rattle.clap.specs.Faults.{word_fault}
 use Rattle.clap.specs.declared.error.kind.ErrorKind.TheVariants as kind
 use Rattle.migrate_words.specs.Asked.{AreTaken}
 use Rattle.migrate_words.specs.CommandLine.{command_line}
@@ -56,7 +60,8 @@ word_other s names false waiting place word h enabled taken = go (subcommand_met
     dashes true = tt
     dashes false = long_other s.rules waiting word (long_of word) h
 
-    helps : (is_help disabled : Bool) → disabled ≡ false → cond (is_help && not disabled) (kind.DisplayHelp ∷ kind.InvalidSubcommand ∷ []) [] ≡ [] → is_help ≡ false
+    helps : (is_help disabled : Bool) → disabled ≡ false → cond (is_help && not disabled) (kind.DisplayHelp ∷ kind.InvalidSubcommand ∷ []) [] ≡ []
+        → is_help ≡ false
     helps false disabled enabled e = refl
     helps true false enabled e = absurd (cons_not_nil _ _ e)
     helps true true enabled e = absurd (true≢false enabled)
@@ -65,7 +70,8 @@ word_other s names false waiting place word h enabled taken = go (subcommand_met
     go None e = dashes (bytes_eq word (45 ∷ 45 ∷ []))
     go (Some name) e = helps (bytes_eq name (codes "help")) s.disable_help_subcommand enabled e
 
-step_other : (c : List Rule) (word : Text) (w : Walk) (h : Held) (step : Step) → StepsToOther step → StopsAtOther w.stopped → StopsAtOther (after_step c word w h step).stopped
+step_other : (c : List Rule) (word : Text) (w : Walk) (h : Held) (step : Step) → StepsToOther step → StopsAtOther w.stopped
+    → StopsAtOther (after_step c word w h step).stopped
 step_other c word w h (next waiting) steps stops = stops
 step_other c word w h (trailing place) steps stops = stops
 step_other c word w h (subcommand name) steps stops = steps
@@ -75,7 +81,8 @@ step_other c word w h value steps stops = go (arg_by_index c w.position)
     go None = stops
     go (Some a) = tt
 
-walked_other : (s : Shape) (names : Names) (w : Walk) (word : Text) → s.disable_help_subcommand ≡ false → turn_fault s names w word ≡ [] → StopsAtOther w.stopped
+walked_other : (s : Shape) (names : Names) (w : Walk) (word : Text) → s.disable_help_subcommand ≡ false → turn_fault s names w word ≡ []
+    → StopsAtOther w.stopped
     → StopsAtOther (walked s.rules names w word).stopped
 unfolding walked
 walked_other s names w word enabled taken stops = go w.stopped taken stops
@@ -89,9 +96,11 @@ walked_other s names w word enabled taken stops = go w.stopped taken stops
     go (Some p) e other = other
     go None e other =
         step_other s.rules word w met.0 met.1
-        (word_other s names w.is_trailing w.waiting w.position word w.held enabled (first_none (word_fault s names w.is_trailing w.waiting word w.held) _ e)) stops
+        (word_other s names w.is_trailing w.waiting w.position word w.held enabled
+        (first_none (word_fault s names w.is_trailing w.waiting word w.held) _ e)) stops
 
-walk_other : (s : Shape) (names : Names) (words : List Text) (w : Walk) → s.disable_help_subcommand ≡ false → walk_fault s names w words ≡ [] → StopsAtOther w.stopped
+walk_other : (s : Shape) (names : Names) (words : List Text) (w : Walk) → s.disable_help_subcommand ≡ false → walk_fault s names w words ≡ []
+    → StopsAtOther w.stopped
     → StopsAtOther (fold (walked s.rules names) w words).stopped
 unfolding walk_fault
 walk_other s names [] w enabled taken stops = stops
@@ -111,7 +120,8 @@ pub record FindsLine (a : App) (met : Option (Text × List Row)) : Type 0 where
   pub taken : level_fault line [] nothing_held rest false [] ≡ []
   pub rows : met ≡ Some (line.name, rows_after line.rules [] rest)
 
-finds_line : (a : App) (stop : Option (Text × List Text)) → StopsAtOther stop → is_some (entered a stop) ≡ true → entered_fault a stop ≡ [] → FindsLine a (entered a stop)
+finds_line : (a : App) (stop : Option (Text × List Text)) → StopsAtOther stop → is_some (entered a stop) ≡ true → entered_fault a stop ≡ []
+    → FindsLine a (entered a stop)
 finds_line a None stops has taken = absurd (true≢false (sym has))
 finds_line a (Some p) stops has taken = go (find (λ s. answers_to p.0 (label_of s)) a.subs) refl has taken
   where

@@ -12,7 +12,7 @@ mod lines;
 mod reading;
 mod refusal;
 
-pub use command::Command;
+pub use command::{Command, LEAST_BUDGET, LEAST_SAMPLE, MOST_BUDGET, MOST_SAMPLE, USUAL_BUDGET};
 pub use file_names::FileNames;
 pub use laws::words_laws;
 pub use reading::read_command;

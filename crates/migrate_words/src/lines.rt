@@ -1,7 +1,9 @@
 ghost use Rattle.std.specs.Prelude.{◌≡◌, IfOk, codes, false};
 ghost use Rattle.clap.specs.Words.{App, Shape, rule_of};
 ghost use Rattle.clap.specs.Simple.{new_shape};
-ghost use Rattle.migrate_words.specs.CommandLine.{one_text, config_files, budget_option, check_line, prepare_line, plan_line, refute_line, scripts_line, replay_line, sample_line, command_line};
+ghost use Rattle.migrate_words.specs.CommandLine.{budget_option, command_line, config_files, one_text};
+ghost use Rattle.migrate_words.specs.CommandLine.{check_line, plan_line, prepare_line, refute_line};
+ghost use Rattle.migrate_words.specs.CommandLine.{replay_line, sample_line, scripts_line};
 ghost use Rattle.migrate_words.specs.LineSteps.{IsLine, IsRule, IsWhole, bare_line, with_argument};
 ghost use Rattle.clap.specs.Words.{Rule, with_subcommand};
 

@@ -5,5 +5,6 @@ pub mod AddressWordFacts
 pub mod MaskFacts
 pub mod PieceFacts
 pub mod PlacedPieces
+pub mod JoinedFacts
 pub mod WordFacts
 pub mod LongestMatchLaws

@@ -15,11 +15,11 @@ no_separator p xs none = slice_split_none p xs (λ k d below. fails_before_first
 pub some_pieces : (p : ℕ → Bool) (xs : List ℕ) → 0 < length (slice_split p xs)
 some_pieces p xs = omega (arith, length-slice_split p xs)
 
-keeps_first : (piece : List ℕ) (pieces : List (List ℕ)) → 0 < length pieces → without_empty_last (piece ∷ pieces) ≡ piece ∷ without_empty_last pieces
+pub keeps_first : (piece : List ℕ) (pieces : List (List ℕ)) → 0 < length pieces → without_empty_last (piece ∷ pieces) ≡ piece ∷ without_empty_last pieces
 keeps_first piece [] some = absurd (omega arith)
 keeps_first piece (next ∷ more) some = refl
 
-last_stays : (piece : List ℕ) → 0 < length piece → without_empty_last (piece ∷ []) ≡ piece ∷ []
+pub last_stays : (piece : List ℕ) → 0 < length piece → without_empty_last (piece ∷ []) ≡ piece ∷ []
 last_stays piece some = grind (arith, nat_tests)
 
 -- the first line of a text that isn't empty, and the others

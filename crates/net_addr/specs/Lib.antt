@@ -7,3 +7,4 @@ pub mod Spans
 pub mod Blanks
 pub mod Lines
 pub mod LongestMatches
+pub mod JoinedLines

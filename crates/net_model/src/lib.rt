@@ -20,8 +20,6 @@ mod stubs;
 mod subnets;
 mod sums;
 mod systems;
-#[cfg(test)]
-mod tests;
 mod zone;
 
 pub use area::{Range, Ranges, Stub, Stubs};

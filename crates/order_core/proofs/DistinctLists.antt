@@ -1,5 +1,6 @@
 -- Lists of distinct numbers: where a number stands in one, how long they may be, and what they contain.
-use Rattle.std.proofs.Common.{◌≡◌, ◌≢◌, ℕ, zero, suc, ◌<◌, ◌≤◌, Bool, List, [], ◌∷◌, ◌++◌, Contains, length, get_or, take, true, false, eqb, arith, subst, sym, refl, ap, ◌∙◌, inl, inr}
+use Rattle.std.proofs.Common.{◌≡◌, ◌≢◌, ℕ, zero, suc, ◌<◌, ◌≤◌, Bool, List, [], ◌∷◌, ◌++◌, Contains, length}
+use Rattle.std.proofs.Common.{get_or, take, true, false, eqb, arith, subst, sym, refl, ap, ◌∙◌, inl, inr}
 use Rattle.std.specs.List.{list_any, All, AllPairs}
 use Rattle.std.specs.Cmp.{nat_eq_equiv}
 use Rattle.std.proofs.lemmas.Map.Steps.{length-le_from_distinct_below}
@@ -66,7 +67,8 @@ same_place xs once i j i_in j_in same = elim (cases_lt i j) [
 -- What a list of distinct numbers contains
 
 -- one more element in front that differs from all the others
-pub AllPairs-cons : {X : Type 0} (R : X → X → Type 0) (x : X) (xs : List X) → ((k : ℕ) (d : X) → k < length xs → R x (get_or xs k d)) → AllPairs R xs → AllPairs R (x ∷ xs)
+pub AllPairs-cons : {X : Type 0} (R : X → X → Type 0) (x : X) (xs : List X) → ((k : ℕ) (d : X) → k < length xs → R x (get_or xs k d)) →
+    AllPairs R xs → AllPairs R (x ∷ xs)
 AllPairs-cons R x xs first rest zero zero d lt in' = absurd (omega (arith, lt))
 AllPairs-cons R x xs first rest zero (suc j) d lt in' = first j d (omega (arith, in'))
 AllPairs-cons R x xs first rest (suc i) zero d lt in' = absurd (omega (arith, lt))
@@ -99,4 +101,9 @@ Contains-from_distinct xs n distinct below whole u lt = by_test (list_any (eqb u
     by_test : (b : Bool) → list_any (eqb u) xs ≡ b → Contains xs u
     by_test true found = Contains-from_any eqb-true u xs found
     by_test false missing =
-        absurd (omega (arith, whole, length-le_from_distinct (u ∷ xs) n (AllPairs-cons (λ a b. a ≢ b) u xs (apart missing) distinct) (All-cons (λ a. a < n) u xs lt below)))
+        absurd (omega (
+          arith,
+          whole,
+          length-le_from_distinct (u ∷ xs) n (AllPairs-cons (λ a b. a ≢ b) u xs (apart missing) distinct) (All-cons
+              (λ a. a < n) u xs lt below),
+        ))

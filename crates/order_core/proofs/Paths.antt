@@ -23,7 +23,10 @@ pub Reaches-step : (pairs : List Pair) (u v w : ℕ) → Contains pairs (u, v) �
 Reaches-step pairs u v w step rest = record { path = v ∷ rest.path; onward = (step, rest.onward) }
 
 pub Reaches-trans : (pairs : List Pair) (u v w : ℕ) → Reaches pairs u v → Reaches pairs v w → Reaches pairs u w
-Reaches-trans pairs u v w first second = record { path = first.path ++ second.path; onward = IsPath-append pairs u v w first.path second.path first.onward second.onward }
+Reaches-trans pairs u v w first second = record {
+  path = first.path ++ second.path;
+  onward = IsPath-append pairs u v w first.path second.path first.onward second.onward;
+}
 
 pub Leads-step : (pairs : List Pair) (u v w : ℕ) → Contains pairs (u, v) → Reaches pairs v w → Leads pairs u w
 Leads-step pairs u v w step rest = record { next = v; path = rest.path; first = step; onward = rest.onward }
@@ -45,7 +48,8 @@ Leads-trans pairs u v w leads rest =
     Leads-step pairs u leads.next w leads.first (Reaches-trans pairs leads.next v w (record { path = leads.path; onward = leads.onward }) rest)
 
 -- under one more pair (u, v) a path goes by the old pairs alone, or to u and on from v by them
-pub Reaches-push : (pairs : List Pair) (u v : ℕ) (x y : ℕ) (path : List ℕ) → IsPath (pairs ++ (u, v) ∷ []) x path y → Reaches pairs x y ⊎ (Reaches pairs x u × Reaches pairs v y)
+pub Reaches-push : (pairs : List Pair) (u v : ℕ) (x y : ℕ) (path : List ℕ) → IsPath (pairs ++ (u, v) ∷ []) x path y →
+    Reaches pairs x y ⊎ (Reaches pairs x u × Reaches pairs v y)
 Reaches-push pairs u v x y [] onward = inl (record { path = []; onward = onward })
 Reaches-push pairs u v x y (w ∷ path) onward =
     elim (Contains-push_cases pairs (u, v) (x, w) onward.0) [
@@ -81,7 +85,8 @@ HasNoCycle-push pairs u v acyclic apart x leads =
     ]
 
 -- every router of a path is reached from its first one
-pub Reaches-at : (pairs : List Pair) (x y : ℕ) (path : List ℕ) → IsPath pairs x path y → (k d : ℕ) → k < length (x ∷ path) → Reaches pairs x (get_or (x ∷ path) k d)
+pub Reaches-at : (pairs : List Pair) (x y : ℕ) (path : List ℕ) → IsPath pairs x path y → (k d : ℕ) → k < length (x ∷ path) →
+    Reaches pairs x (get_or (x ∷ path) k d)
 Reaches-at pairs x y path onward zero d in' = Reaches-itself pairs x
 Reaches-at pairs x y [] onward (suc k) d in' = absurd (omega (arith, in'))
 Reaches-at pairs x y (w ∷ path) onward (suc k) d in' =
@@ -92,7 +97,8 @@ pub distinct_path : (pairs : List Pair) → HasNoCycle pairs → (x y : ℕ) (pa
 distinct_path pairs acyclic x y [] onward = AllPairs-cons (λ u v. u ≢ v) x [] (λ k d in' same. omega (arith, in')) (λ i j d lt in' same. omega (arith, in'))
 distinct_path pairs acyclic x y (w ∷ path) onward =
     AllPairs-cons (λ u v. u ≢ v) x (w ∷ path)
-    (λ k d in' same. acyclic x (Leads-step pairs x w x onward.0 (subst (λ (z : ℕ). Reaches pairs w z) (sym same) (Reaches-at pairs w y path onward.1 k d in'))))
+    (λ k d in' same. acyclic x (Leads-step pairs x w x onward.0 (subst (λ (z : ℕ). Reaches pairs w z) (sym same)
+    (Reaches-at pairs w y path onward.1 k d in'))))
     (distinct_path pairs acyclic w y path onward.1)
 
 -- the routers of a path are below n where its first one and the pairs are
@@ -103,14 +109,21 @@ path_below n pairs below x y (w ∷ path) lt onward =
     All-cons (λ u. u < n) x (w ∷ path) lt (path_below n pairs below w y path step.1 onward.1)
 
 -- a path of pairs of n routers without a cycle has fewer than n steps
-pub length-path : (n : ℕ) (pairs : List Pair) → AreBelow n pairs → HasNoCycle pairs → (x y : ℕ) (path : List ℕ) → x < n → IsPath pairs x path y → length path < n
+pub length-path : (n : ℕ) (pairs : List Pair) → AreBelow n pairs → HasNoCycle pairs → (x y : ℕ) (path : List ℕ) → x < n → IsPath pairs x path y →
+    length path < n
 length-path n pairs below acyclic x y path lt onward =
     omega (arith, length-le_from_distinct (x ∷ path) n (distinct_path pairs acyclic x y path onward) (path_below n pairs below x y path lt onward))
 
 -- fewer pairs have no cycle either
 pub HasNoCycle-front : (pairs more : List Pair) → HasNoCycle (pairs ++ more) → HasNoCycle pairs
 HasNoCycle-front pairs more acyclic u leads =
-    acyclic u (record { next = leads.next; path = leads.path; first = Contains-append_left pairs more (u, leads.next) leads.first; onward = IsPath-more pairs more leads.next u leads.path leads.onward })
+    acyclic u (record {
+      next = leads.next;
+      path = leads.path;
+      first = Contains-append_left pairs more (u, leads.next) leads.first;
+      onward = IsPath-more pairs more leads.next u leads.path leads.onward;
+    })
 
 pub HasNoCycle-take : (pairs : List Pair) (m : ℕ) → HasNoCycle pairs → HasNoCycle (take m pairs)
-HasNoCycle-take pairs m acyclic = HasNoCycle-front (take m pairs) (drop m pairs) (subst (λ (xs : List Pair). HasNoCycle xs) (sym (take-append-drop m pairs)) acyclic)
+HasNoCycle-take pairs m acyclic = HasNoCycle-front (take m pairs) (drop m pairs) (subst (λ (xs : List Pair). HasNoCycle xs) (sym
+    (take-append-drop m pairs)) acyclic)

@@ -1,11 +1,13 @@
 -- What the waves of a ranking hold, one by one and one after another.
-use Rattle.std.proofs.Common.{◌≡◌, ◌≢◌, ℕ, zero, suc, ◌+◌, ◌<◌, ◌≤◌, ◌↔◌, ◌⊎◌, inl, inr, Bool, true, false, cond, max, List, [], ◌∷◌, ◌++◌, Contains, length, get_or, eqb, arith, refl, sym, ap, ◌∙◌, subst, eq-eqb, zero-add}
+use Rattle.std.proofs.Common.{◌≡◌, ◌≢◌, ℕ, zero, suc, ◌+◌, ◌<◌, ◌≤◌, ◌↔◌, ◌⊎◌, inl, inr, Bool, true, false, cond, max}
+use Rattle.std.proofs.Common.{List, [], ◌∷◌, ◌++◌, Contains, length, get_or, eqb, arith, refl, sym, ap, ◌∙◌, subst, eq-eqb, zero-add}
 use Rattle.std.specs.List.{All, AllPairs, filter, flat_map, range_with_len}
 use Rattle.std.specs.List.Sorted.{IsStrictlyIncreasing}
 use Rattle.std.specs.Cmp.{nat_eq_equiv}
 use Rattle.std.proofs.lemmas.Bool.{eqb-true, cases_lt}
 use Rattle.std.proofs.lemmas.List.{append-nil, append_assoc, get_or_default}
-use Rattle.std.proofs.lemmas.List.Elements.{All-contains, All-contains_itself, All-filter, All-weaker, Contains-append_cases, Contains-append_left, Contains-append_right, Contains-get_or, filter_passes}
+use Rattle.std.proofs.lemmas.List.Elements.{All-contains, All-contains_itself, All-filter, All-weaker, Contains-append_cases}
+use Rattle.std.proofs.lemmas.List.Elements.{Contains-append_left, Contains-append_right, Contains-get_or, filter_passes}
 use Rattle.std.proofs.lemmas.List.FromFn.{length-range_with_len, get_or-range_with_len}
 use Rattle.std.proofs.lemmas.List.Kept.{AllPairs-cons, AllPairs-from_increasing, IsStrictlyIncreasing-filter}
 use Rattle.std.proofs.lemmas.Grind.{flat_map-append}
@@ -65,7 +67,8 @@ All-from_contains P xs holds = All-weaker (Contains xs) P (λ x has. holds x has
 pub wave_routers : (ranks : List ℕ) (w u : ℕ) → Contains (wave_of ranks w) u ↔ ((u < length ranks) × (rank_of ranks u ≡ w))
 wave_routers ranks w u = (
   λ has. (
-    (numbers_are_below (length ranks) u).0 (All-contains (Contains numbers) (wave_of ranks w) u (All-filter in_wave (Contains numbers) numbers (All-contains_itself numbers)) has),
+    (numbers_are_below (length ranks) u).0 (All-contains (Contains numbers) (wave_of ranks w) u (All-filter in_wave (Contains numbers) numbers
+        (All-contains_itself numbers)) has),
     eqb-true (rank_of ranks u) w (All-contains (λ (v : ℕ). in_wave v ≡ true) (wave_of ranks w) u (filter_passes in_wave numbers) has),
   ),
   λ both. Contains-filter in_wave numbers u ((numbers_are_below (length ranks) u).1 both.0) (eq-eqb (rank_of ranks u) w both.1),
@@ -176,7 +179,8 @@ waves_split ranks w (suc c) le = elim (cases_lt w (suc c)) [
       let split = waves_split ranks w c (omega arith) in
       let e : suc c ≡ c + 1 = omega arith in (
         split.0 ++ wave_of ranks c,
-        ap (waves_before ranks) e ∙ waves_more ranks c ∙ ap (λ (xs : List ℕ). xs ++ wave_of ranks c) split.1 ∙ append_assoc (waves_before ranks w) split.0 (wave_of ranks c),
+        ap (waves_before ranks) e ∙ waves_more ranks c ∙ ap (λ (xs : List ℕ). xs ++ wave_of ranks c) split.1 ∙ append_assoc
+            (waves_before ranks w) split.0 (wave_of ranks c),
       )
   | inr ge ↦ let e : suc c ≡ w = omega arith in ([], ap (waves_before ranks) e ∙ sym (append-nil (waves_before ranks w)))
 ]
@@ -243,7 +247,14 @@ lower_before ranks u v u_in v_in before =
     let order = flat_is_order ranks in
     let at_u = place_from_Contains (flat_of ranks) u ((order.all u).1 u_in) in
     let at_v = place_from_Contains (flat_of ranks) v ((order.all v).1 v_in) in
-    record { place = at_u.0; later = at_v.0; earlier = earlier at_u.0 at_v.0 at_u.1 at_u.2 at_v.2 (cases_lt at_u.0 at_v.0); within = at_v.1; first = at_u.2; second = at_v.2 }
+    record {
+      place = at_u.0;
+      later = at_v.0;
+      earlier = earlier at_u.0 at_v.0 at_u.1 at_u.2 at_v.2 (cases_lt at_u.0 at_v.0);
+      within = at_v.1;
+      first = at_u.2;
+      second = at_v.2;
+    }
   where
     never : ComesBefore ranks v u ⊎ (v ≡ u) → ⊥
     never after = cross before after

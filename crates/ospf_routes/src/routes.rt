@@ -61,6 +61,3 @@ impl RouteSource for OspfRoutes {
         self.all.linked(router, other)
     }
 }
-
-#[cfg(test)]
-mod tests;

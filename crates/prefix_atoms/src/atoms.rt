@@ -201,6 +201,3 @@ fn interval_of(starts: &[u32], a: u32) -> usize
         Err(place) => place - 1,
     }
 }
-
-#[cfg(test)]
-mod tests;

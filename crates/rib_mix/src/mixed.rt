@@ -146,6 +146,3 @@ fn shown(entry: &Entry) -> Next<'_>
         Entry::Discard => Next::Discard,
     }
 }
-
-#[cfg(test)]
-mod tests;

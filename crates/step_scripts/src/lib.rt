@@ -11,6 +11,3 @@ pub use kind::{OrderKind, OrderRefusal};
 pub use laws::order_laws;
 pub use order_file::read_order;
 pub use order_list::OrderList;
-
-#[cfg(test)]
-mod tests;

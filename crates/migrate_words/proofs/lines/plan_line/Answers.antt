@@ -10,4 +10,5 @@ pub returns : goal.returns
 returns c =
     let bare : Shape = new_shape (codes "plan") in
     let line = c.in_ok-with_argument.ensures bare budget_option c.subcommand-line.ensures c.budget_option.ensures in
-    IfOk-weaker c.with_argument-2.result _ _ (λ r more. more (with_argument bare budget_option) config_files line c.config_files.ensures) c.with_argument-2.ensures
+    let all : Shape = with_argument bare budget_option in
+    IfOk-weaker c.with_argument-2.result _ _ (λ r more. more all config_files line c.config_files.ensures) c.with_argument-2.ensures

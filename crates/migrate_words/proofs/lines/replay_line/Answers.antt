@@ -13,4 +13,5 @@ returns c =
     let journal : Rule = one_text (codes "JOURNAL") in
     let first = c.in_ok-with_argument.ensures bare order c.subcommand-line.ensures c.one_text-order.ensures in
     let line = c.in_ok-line.ensures (with_argument bare order) journal first c.one_text-journal.ensures in
-    IfOk-weaker c.with_argument-3.result _ _ (λ r more. more (with_argument (with_argument bare order) journal) config_files line c.config_files.ensures) c.with_argument-3.ensures
+    IfOk-weaker c.with_argument-3.result _ _ (λ r more. more (with_argument
+    (with_argument bare order) journal) config_files line c.config_files.ensures) c.with_argument-3.ensures

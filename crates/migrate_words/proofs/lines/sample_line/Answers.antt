@@ -6,4 +6,5 @@ use Rattle.migrate_words.proofs.lines.sample_line.Goals as goal
 
 pub returns : goal.returns
 returns c =
-    IfOk-weaker c.with_argument.result _ _ (λ r more. more (new_shape (codes "sample")) (one_text (codes "N")) c.subcommand-line.ensures c.one_text-routers.ensures) c.with_argument.ensures
+    IfOk-weaker c.with_argument.result _ _ (λ r more. more (new_shape (codes "sample"))
+    (one_text (codes "N")) c.subcommand-line.ensures c.one_text-routers.ensures) c.with_argument.ensures

@@ -1,5 +1,5 @@
-use Rattle.std.proofs.Common.{◌≡◌, ◌∙◌, ap, map, string_bytes, sym, subst}
-use Rattle.clap.specs.Words.{App, HasKind, app_of, fault_of, is_simple, is_simple_and_free, kind_of, subcommand_of}
+use Rattle.std.proofs.Common.{◌∙◌, ap, map, string_bytes, sym, subst}
+use Rattle.clap.specs.Words.{App, HasKind, fault_of, is_simple, is_simple_and_free, kind_of, subcommand_of}
 use Rattle.migrate_words.proofs.LineFacts.{line_is_simple, line_is_simple_and_free}
 use Rattle.migrate_words.proofs.AnswerFacts.{answer_of_matches, refusal_of_error}
 use Rattle.migrate_words.proofs.reading.read_command.Goals as goal

@@ -8,7 +8,8 @@ use Rattle.order_core.proofs.waves.count_waves.Goals as goal
 pub overflow_add-rank : goal.overflow_add-rank
 overflow_add-rank c =
     let rank : ℕ = get_or c.args.ranks.now c.loop-rank.rank-index 0 in
-    let below : rank < wave_count c.args.ranks.now = rank_below_count c.args.ranks.now rank (Contains-get_or c.args.ranks.now c.loop-rank.rank-index 0 c.loop-rank-test.true) in
+    let below : rank < wave_count c.args.ranks.now = rank_below_count c.args.ranks.now rank
+    (Contains-get_or c.args.ranks.now c.loop-rank.rank-index 0 c.loop-rank-test.true) in
     omega (arith, below, count_le_length (length c.args.ranks.now) c.args.ranks.now c.requires.ranking, c.requires.few)
 
 pub loop-rank-preserved : goal.loop-rank-preserved

@@ -17,7 +17,12 @@ overflow_cast-len c =
 pub loop-wave-preserved : goal.loop-wave-preserved
 loop-wave-preserved c =
     let flat = flat_more c.args.ranks.now c.loop-wave.flat.items c.push_wave.new.flat.items c.loop-wave.wave c.loop-wave.invariant.flat c.in_ok-push_wave.ensures in
-    let many : c.len.result ≡ length (waves_before c.args.ranks.now (c.loop-wave.wave + 1)) = omega (arith, c.len.ensures, c.push_wave.new.flat.ok.0, ap length flat) in
+    let many : c.len.result ≡ length (waves_before c.args.ranks.now (c.loop-wave.wave + 1)) = omega (
+      arith,
+      c.len.ensures,
+      c.push_wave.new.flat.ok.0,
+      ap length flat,
+    ) in
     record {
       flat = flat;
       starts =

@@ -1,0 +1,417 @@
+-- A configuration whose lines stand further on: it is read as the same, and its faults are further on.
+use Rattle.std.proofs.Common.{◌≡◌, ℕ, ◌+◌, Bool, true, false, not, ◌&&◌, List, [], ◌∷◌, ◌++◌, refl, ap, ◌∙◌, cond, map, nat_eq, Option, Some, None, Result, Ok, Err}
+use Rattle.std.specs.Prelude.{filter_map, flat_map, option_map, is_none, is_some, unwrap_or, fold}
+use Rattle.std.specs.List.{cons_option}
+use Rattle.net_model.specs.Configuration.{Configuration}
+use Rattle.net_model.specs.LevelSets.{has_one, has_two}
+use Rattle.net_model.specs.declared.area.Stub.{Stub}
+use Rattle.net_model.specs.declared.config.Levels.{Levels}
+use Rattle.net_model.specs.declared.interface.Interface.{Interface}
+use Rattle.ios_lines.specs.Words.{Word}
+use Rattle.ios_lines.specs.Lookups.{later, last_of, earlier, first_of, replaced, value_or}
+use Rattle.ios_lines.specs.FaultOrder.{faults_at, faults_if}
+use Rattle.ios_lines.specs.InterfaceLines.{interface_line_fault, counting}
+use Rattle.ios_lines.specs.declared.address.InterfaceAddress.{InterfaceAddress}
+use Rattle.ios_lines.specs.declared.fault.Fault.{Fault}
+use Rattle.ios_lines.specs.declared.kind.ReadKind.{ReadKind}
+use Rattle.ios_lines.specs.declared.kind.ReadKind.TheVariants.{NoHostname, LoopbackMask, NoBandwidth}
+use Rattle.ios_lines.specs.declared.interface_line.InterfaceLine.{InterfaceLine}
+use Rattle.ios_lines.specs.declared.interface_line.InterfaceLine.TheVariants.{Address, NoAddress}
+use Rattle.ios_lines.specs.declared.interface_line.InterfaceStatement.{InterfaceStatement}
+use Rattle.ios_lines.specs.declared.ospf_line.OspfStatement.{OspfStatement}
+use Rattle.ios_lines.specs.declared.ospf_line.StubLine.{StubLine}
+use Rattle.ios_lines.specs.declared.isis_line.IsisStatement.{IsisStatement}
+use Rattle.ios_sections.specs.TextLines.{Part}
+use Rattle.ios_sections.specs.Sections.{sections_in}
+use Rattle.ios_sections.specs.Processes.{as_hostname, as_isis, as_fault, interfaces_in, process_of, first_isis, first_tag, ospf_lines, isis_lines}
+use Rattle.ios_sections.specs.ProcessFaults.{second_processes, ospf_faults, isis_faults}
+use Rattle.ios_sections.specs.declared.section.InterfaceSection.{InterfaceSection}
+use Rattle.ios_sections.specs.declared.section.IsisSection.{IsisSection}
+use Rattle.ios_sections.specs.declared.section.Section.{Section}
+use Rattle.ios_sections.proofs.FurtherFacts.{last_of-map, flat_map-map, interface_line_further, ospf_line_further, isis_line_further, fault_further, interface_further, isis_further, section_further, part_further, sections_among-further}
+use Rattle.ios_sections.proofs.FurtherProcesses.{name-further, interfaces-further, isis_sections-further, heads-further, counting-further, process-further, ospf_lines-further, tag-further, isis_lines-further, faults_if-further, faults_at-further, two-further, second_processes-further, ospf_faults-further, isis_faults-further}
+use Rattle.ios_reader.specs.declared.facts.PlacedAddress.{PlacedAddress}
+use Rattle.ios_reader.specs.declared.facts.InterfaceFacts.{InterfaceFacts}
+use Rattle.ios_reader.specs.InterfaceFacts.{address_at, address_in, shut_said, bandwidth_said, cost_said, area_said, point_to_point_said, isis_said, circuit_said, metric_said, metric1_said, metric2_said, facts_of}
+use Rattle.ios_reader.specs.Routers.{Router, router_with, router_of, area_taken, ospf_passive_said, isis_passive_said, passive_default_said, reference_said, levels_said, router_metric_said, title_said, ospf_distance_said, isis_distance_said, rfc1583_said, range_said, stub_said, default_cost_said, ranges_in, stub_lines_in, stub_of, stubs_in, is_same_range, is_same_area}
+use Rattle.ios_reader.specs.InterfacesAsRead.{address_given, is_loopback, is_up, area_by, area_with, interface_area, ospf_cost, is_isis_passive, is_ospf_passive, interface_with, interface_as_read, runs_level, level_metric, address_field, subnet_field, cost_field}
+use Rattle.ios_reader.specs.Faults.{membership_fault, statement_faults, interface_line_faults, long_mask, address_mask_faults, is_point_to_point, loopback_faults, bandwidth_faults, interface_faults, section_faults, part_faults}
+use Rattle.ios_reader.specs.Configurations.{configuration_of, title_given, area_in, system_in, tag_in}
+
+-- ---- what the lines of an interface say ----
+
+abbrev placed_further : ℕ → PlacedAddress → PlacedAddress
+placed_further k p = record { line = k + p.line; address = p.address }
+
+abbrev given_further : ℕ → Option (Option PlacedAddress) → Option (Option PlacedAddress)
+given_further k o = option_map (λ (p : Option PlacedAddress). option_map (placed_further k) p) o
+
+abbrev facts_further : ℕ → InterfaceFacts → InterfaceFacts
+facts_further k facts = record {
+  address = given_further k facts.address;
+  shut = facts.shut;
+  bandwidth = facts.bandwidth;
+  cost = facts.cost;
+  area = facts.area;
+  point_to_point = facts.point_to_point;
+  isis = facts.isis;
+  circuit = facts.circuit;
+  metric = facts.metric;
+  metric1 = facts.metric1;
+  metric2 = facts.metric2;
+}
+
+address_at-further : (k line : ℕ) (says : InterfaceLine) → address_at (k + line) says ≡ given_further k (address_at line says)
+address_at-further k line (Address r) = refl
+address_at-further k line NoAddress = refl
+address_at-further k line _ = refl
+
+later-further : (k : ℕ) (a b : Option (Option PlacedAddress)) → later (given_further k a) (given_further k b) ≡ given_further k (later a b)
+later-further k a None = refl
+later-further k a (Some p) = refl
+
+address-further : (k : ℕ) (ls : List InterfaceStatement) → last_of address_in (map (interface_line_further k) ls) ≡ given_further k (last_of address_in ls)
+address-further k [] = refl
+address-further k (l ∷ ls) =
+    ap (λ (o : Option (Option PlacedAddress)). later o (last_of address_in (map (interface_line_further k) ls))) (address_at-further k l.line l.says)
+    ∙ ap (later (given_further k (address_in l))) (address-further k ls)
+    ∙ later-further k (address_in l) (last_of address_in ls)
+
+facts-further : (k : ℕ) (ls : List InterfaceStatement) → facts_of (map (interface_line_further k) ls) ≡ facts_further k (facts_of ls)
+facts-further k ls =
+    rw (
+      address-further k ls,
+      last_of-map (λ (s : InterfaceStatement). shut_said s.says) (interface_line_further k) (λ x. refl) ls,
+      last_of-map (λ (s : InterfaceStatement). bandwidth_said s.says) (interface_line_further k) (λ x. refl) ls,
+      last_of-map (λ (s : InterfaceStatement). cost_said s.says) (interface_line_further k) (λ x. refl) ls,
+      last_of-map (λ (s : InterfaceStatement). area_said s.says) (interface_line_further k) (λ x. refl) ls,
+      last_of-map (λ (s : InterfaceStatement). point_to_point_said s.says) (interface_line_further k) (λ x. refl) ls,
+      last_of-map (λ (s : InterfaceStatement). isis_said s.says) (interface_line_further k) (λ x. refl) ls,
+      last_of-map (λ (s : InterfaceStatement). circuit_said s.says) (interface_line_further k) (λ x. refl) ls,
+      last_of-map (λ (s : InterfaceStatement). metric_said s.says) (interface_line_further k) (λ x. refl) ls,
+      last_of-map (λ (s : InterfaceStatement). metric1_said s.says) (interface_line_further k) (λ x. refl) ls,
+      last_of-map (λ (s : InterfaceStatement). metric2_said s.says) (interface_line_further k) (λ x. refl) ls,
+    ) refl
+
+-- ---- the router ----
+
+abbrev router_further : ℕ → Router → Router
+router_further k r = record {
+  process = r.process;
+  ospf = map (ospf_line_further k) r.ospf;
+  isis = map (isis_line_further k) r.isis;
+  passive_default = r.passive_default;
+  reference = r.reference;
+  levels = r.levels;
+  metric = r.metric;
+}
+
+router_with-further : (k : ℕ) (p : Option ℕ) (os : List OspfStatement) (is : List IsisStatement) →
+    router_with p (map (ospf_line_further k) os) (map (isis_line_further k) is) ≡ router_further k (router_with p os is)
+router_with-further k p os is =
+    rw (
+      last_of-map (λ (s : OspfStatement). passive_default_said s.says) (ospf_line_further k) (λ x. refl) os,
+      last_of-map (λ (s : OspfStatement). reference_said s.says) (ospf_line_further k) (λ x. refl) os,
+      last_of-map (λ (s : IsisStatement). levels_said s.says) (isis_line_further k) (λ x. refl) is,
+      last_of-map (λ (s : IsisStatement). router_metric_said s.says) (isis_line_further k) (λ x. refl) is,
+    ) refl
+
+router-further : (k : ℕ) (ss : List Section) → router_of (map (section_further k) ss) ≡ router_further k (router_of ss)
+router-further k ss =
+    ap (λ (p : Option ℕ). router_with p (ospf_lines (map (section_further k) ss)) (isis_lines (map (section_further k) ss))) (process-further k ss)
+    ∙ ap (λ (os : List OspfStatement). router_with (process_of ss) os (isis_lines (map (section_further k) ss))) (ospf_lines-further k ss)
+    ∙ ap (router_with (process_of ss) (map (ospf_line_further k) (ospf_lines ss))) (isis_lines-further k ss)
+    ∙ router_with-further k (process_of ss) (ospf_lines ss) (isis_lines ss)
+
+-- ---- an interface ----
+
+given-further : (k : ℕ) (o : Option (Option PlacedAddress)) → address_given (given_further k o) ≡ address_given o
+given-further k None = refl
+given-further k (Some None) = refl
+given-further k (Some (Some p)) = refl
+
+first_of-map : {A B : Type 0} (h : A → Option B) (f : A → A) → ((x : A) → h (f x) ≡ h x) → (xs : List A) → first_of h (map f xs) ≡ first_of h xs
+first_of-map h f same [] = refl
+first_of-map h f same (x ∷ xs) = ap (λ o. earlier o (first_of h (map f xs))) (same x) ∙ ap (earlier (h x)) (first_of-map h f same xs)
+
+area-further : (k : ℕ) (r : Router) (facts : InterfaceFacts) (given : Option InterfaceAddress) →
+    area_with (router_further k r) (facts_further k facts) given ≡ area_with r facts given
+area-further k r facts None = refl
+area-further k r facts (Some given) =
+    ap (area_by r.process facts.area) (first_of-map (λ (s : OspfStatement). area_taken given.address s.says) (ospf_line_further k) (λ x. refl) r.ospf)
+
+interface_area-further : (k : ℕ) (r : Router) (facts : InterfaceFacts) → interface_area (router_further k r) (facts_further k facts) ≡ interface_area r facts
+interface_area-further k r facts =
+    ap (area_with (router_further k r) (facts_further k facts)) (given-further k facts.address) ∙ area-further k r facts (address_given facts.address)
+
+ospf_passive-further : (k : ℕ) (r : Router) (name : Word) → is_ospf_passive (router_further k r) name ≡ is_ospf_passive r name
+ospf_passive-further k r name =
+    ap (λ (o : Option Bool). unwrap_or o r.passive_default)
+    (last_of-map (λ (s : OspfStatement). ospf_passive_said name s.says) (ospf_line_further k) (λ x. refl) r.ospf)
+
+isis_passive-further : (k : ℕ) (r : Router) (name : Word) → is_isis_passive (router_further k r) name ≡ is_isis_passive r name
+isis_passive-further k r name =
+    ap (λ (o : Option Bool). unwrap_or o false) (last_of-map (λ (s : IsisStatement). isis_passive_said name s.says) (isis_line_further k) (λ x. refl) r.isis)
+
+-- an interface by what is looked up among lines
+abbrev interface_by : Router → Word → InterfaceFacts → Option InterfaceAddress → Option ℕ → Bool → Bool → Interface
+interface_by router name facts given area ospf_passive isis_passive = record {
+  name = name;
+  address = address_field given;
+  subnet = subnet_field given;
+  up = is_some given && not (unwrap_or facts.shut false);
+  loopback = is_loopback name;
+  area = area;
+  cost = cost_field area (ospf_cost router name facts);
+  ospf_passive = ospf_passive;
+  level1 = runs_level has_one router.levels isis_passive facts;
+  level2 = runs_level has_two router.levels isis_passive facts;
+  metric1 = level_metric router.metric isis_passive facts facts.metric1;
+  metric2 = level_metric router.metric isis_passive facts facts.metric2;
+  isis_passive = isis_passive;
+}
+
+interface_by-further : (k : ℕ) (r : Router) (name : Word) (facts : InterfaceFacts) →
+    interface_with (router_further k r) name (facts_further k facts) ≡ interface_with r name facts
+interface_by-further k r name facts =
+    ap (λ (g : Option InterfaceAddress). interface_by r name facts g (interface_area (router_further k r) (facts_further k facts))
+    (is_ospf_passive (router_further k r) name) (is_isis_passive (router_further k r) name)) (given-further k facts.address)
+    ∙ ap (λ (a : Option ℕ). interface_by r name facts (address_given facts.address) a (is_ospf_passive (router_further k r) name)
+    (is_isis_passive (router_further k r) name)) (interface_area-further k r facts)
+    ∙ ap (λ (b : Bool). interface_by r name facts (address_given facts.address) (interface_area r facts) b (is_isis_passive (router_further k r) name))
+    (ospf_passive-further k r name)
+    ∙ ap (interface_by r name facts (address_given facts.address) (interface_area r facts) (is_ospf_passive r name)) (isis_passive-further k r name)
+
+counted_facts : (k : ℕ) (s : InterfaceSection) → facts_of (counting (map (interface_line_further k) s.lines)) ≡ facts_further k (facts_of (counting s.lines))
+counted_facts k s = ap facts_of (counting-further k s.lines) ∙ facts-further k (counting s.lines)
+
+as_read-further : (k : ℕ) (r : Router) (s : InterfaceSection) → interface_as_read (router_further k r) (interface_further k s) ≡ interface_as_read r s
+as_read-further k r s = ap (interface_with (router_further k r) s.name) (counted_facts k s) ∙ interface_by-further k r s.name (facts_of (counting s.lines))
+
+all_read-further : (k : ℕ) (r : Router) (ss : List InterfaceSection) →
+    map (interface_as_read (router_further k r)) (map (interface_further k) ss) ≡ map (interface_as_read r) ss
+all_read-further k r [] = refl
+all_read-further k r (s ∷ ss) =
+    ap (λ (i : Interface). i ∷ map (interface_as_read (router_further k r)) (map (interface_further k) ss)) (as_read-further k r s)
+    ∙ ap (λ (is : List Interface). interface_as_read r s ∷ is) (all_read-further k r ss)
+
+-- ---- the faults of an interface ----
+
+statement-further : (k : ℕ) (tag : Option Word) (s : InterfaceStatement) →
+    statement_faults tag (interface_line_further k s) ≡ map (fault_further k) (statement_faults tag s)
+statement-further k tag s =
+    two-further k _ _ (faults_at s.line (interface_line_fault s.says)) (faults_at s.line (membership_fault tag s.says))
+    (faults_at-further (interface_line_fault s.says) k s.line) (faults_at-further (membership_fault tag s.says) k s.line)
+
+long_mask-further : (k line : ℕ) (r : Result InterfaceAddress ReadKind) → long_mask (k + line) r ≡ map (fault_further k) (long_mask line r)
+long_mask-further k line (Ok given) = faults_if-further (not (nat_eq given.len 32)) k line LoopbackMask
+long_mask-further k line (Err kind) = refl
+
+mask-further : (k : ℕ) (o : Option (Option PlacedAddress)) → address_mask_faults (given_further k o) ≡ map (fault_further k) (address_mask_faults o)
+mask-further k None = refl
+mask-further k (Some None) = refl
+mask-further k (Some (Some p)) = long_mask-further k p.line p.address
+
+loopback_choice : (t : Bool) (k : ℕ) (fs : List Fault) → cond t (map (fault_further k) fs) [] ≡ map (fault_further k) (cond t fs [])
+loopback_choice true k fs = refl
+loopback_choice false k fs = refl
+
+loopback-further : (k : ℕ) (name : Word) (facts : InterfaceFacts) →
+    loopback_faults name (facts_further k facts) ≡ map (fault_further k) (loopback_faults name facts)
+loopback-further k name facts =
+    ap (λ (g : Option InterfaceAddress). cond
+    (is_loopback name && (is_some g && not (unwrap_or facts.shut false)) && not (is_point_to_point facts.point_to_point))
+    (address_mask_faults (given_further k facts.address)) []) (given-further k facts.address)
+    ∙ ap (λ (fs : List Fault). cond (is_loopback name && is_up facts && not (is_point_to_point facts.point_to_point)) fs []) (mask-further k facts.address)
+    ∙ loopback_choice (is_loopback name && is_up facts && not (is_point_to_point facts.point_to_point)) k (address_mask_faults facts.address)
+
+bandwidth-further : (k : ℕ) (r : Router) (s : InterfaceSection) (facts : InterfaceFacts) →
+    bandwidth_faults (router_further k r) (interface_further k s) (facts_further k facts) ≡ map (fault_further k) (bandwidth_faults r s facts)
+bandwidth-further k r s facts =
+    ap (λ (g : Option InterfaceAddress). faults_if
+    ((is_some g && not (unwrap_or facts.shut false)) && is_some (interface_area (router_further k r) (facts_further k facts)) && is_none
+    (ospf_cost r s.name facts)) (k + s.line) NoBandwidth) (given-further k facts.address)
+    ∙ ap (λ (a : Option ℕ). faults_if (is_up facts && is_some a && is_none (ospf_cost r s.name facts)) (k + s.line) NoBandwidth)
+    (interface_area-further k r facts)
+    ∙ faults_if-further (is_up facts && is_some (interface_area r facts) && is_none (ospf_cost r s.name facts)) k s.line NoBandwidth
+
+abbrev faults_by : Router → Option Word → InterfaceSection → List InterfaceStatement → InterfaceFacts → List Fault
+faults_by router tag section lines facts =
+    interface_line_faults tag lines ++ loopback_faults section.name facts ++ bandwidth_faults router section facts
+
+interface_faults-further : (k : ℕ) (r : Router) (tag : Option Word) (s : InterfaceSection) →
+    interface_faults (router_further k r) tag (interface_further k s) ≡ map (fault_further k) (interface_faults r tag s)
+interface_faults-further k r tag s =
+    ap (λ (ls : List InterfaceStatement). faults_by (router_further k r) tag (interface_further k s) ls (facts_of ls)) (counting-further k s.lines)
+    ∙ ap (faults_by (router_further k r) tag (interface_further k s) (map (interface_line_further k) (counting s.lines))) (facts-further k (counting s.lines))
+    ∙ two-further k _ _ (interface_line_faults tag (counting s.lines) ++ loopback_faults s.name (facts_of (counting s.lines)))
+    (bandwidth_faults r s (facts_of (counting s.lines)))
+    (two-further k _ _ (interface_line_faults tag (counting s.lines)) (loopback_faults s.name (facts_of (counting s.lines)))
+    (flat_map-map (statement_faults tag) (statement_faults tag) (interface_line_further k) (fault_further k) (statement-further k tag) (counting s.lines))
+    (loopback-further k s.name (facts_of (counting s.lines))))
+    (bandwidth-further k r s (facts_of (counting s.lines)))
+
+-- ---- the faults of a configuration ----
+
+interfaces_faults-further : (k : ℕ) (ss : List Section) →
+    flat_map (interface_faults (router_of (map (section_further k) ss)) (first_tag (filter_map as_isis (map (section_further k) ss))))
+    (interfaces_in (map (section_further k) ss))
+    ≡ map (fault_further k) (flat_map (interface_faults (router_of ss) (first_tag (filter_map as_isis ss))) (interfaces_in ss))
+interfaces_faults-further k ss =
+    ap (λ (r : Router). flat_map (interface_faults r (first_tag (filter_map as_isis (map (section_further k) ss))))
+    (interfaces_in (map (section_further k) ss))) (router-further k ss)
+    ∙ ap (λ (t : Option Word). flat_map (interface_faults (router_further k (router_of ss)) t) (interfaces_in (map (section_further k) ss)))
+    (ap first_tag (isis_sections-further k ss) ∙ tag-further k (filter_map as_isis ss))
+    ∙ ap (flat_map (interface_faults (router_further k (router_of ss)) (first_tag (filter_map as_isis ss)))) (interfaces-further k ss)
+    ∙ flat_map-map (interface_faults (router_further k (router_of ss)) (first_tag (filter_map as_isis ss)))
+    (interface_faults (router_of ss) (first_tag (filter_map as_isis ss)))
+    (interface_further k) (fault_further k) (interface_faults-further k (router_of ss) (first_tag (filter_map as_isis ss))) (interfaces_in ss)
+
+nameless-further : (k ends : ℕ) (ss : List Section) →
+    faults_if (is_none (last_of as_hostname (map (section_further k) ss))) (k + ends) NoHostname ≡ map (fault_further k)
+    (faults_if (is_none (last_of as_hostname ss)) ends NoHostname)
+nameless-further k ends ss =
+    ap (λ (o : Option Word). faults_if (is_none o) (k + ends) NoHostname) (name-further k ss)
+    ∙ faults_if-further (is_none (last_of as_hostname ss)) k ends NoHostname
+
+section_faults-further : (k ends : ℕ) (ss : List Section) →
+    section_faults (map (section_further k) ss) (k + ends) ≡ map (fault_further k) (section_faults ss ends)
+section_faults-further k ends ss =
+    two-further k _ _ (filter_map as_fault ss ++ second_processes ss ++ ospf_faults ss ++ isis_faults ss ++ flat_map
+    (interface_faults (router_of ss) (first_tag (filter_map as_isis ss))) (interfaces_in ss)) (faults_if (is_none (last_of as_hostname ss)) ends NoHostname)
+    (two-further k _ _ (filter_map as_fault ss ++ second_processes ss ++ ospf_faults ss ++ isis_faults ss)
+    (flat_map (interface_faults (router_of ss) (first_tag (filter_map as_isis ss))) (interfaces_in ss))
+    (two-further k _ _ (filter_map as_fault ss ++ second_processes ss ++ ospf_faults ss) (isis_faults ss)
+    (two-further k _ _ (filter_map as_fault ss ++ second_processes ss) (ospf_faults ss)
+    (two-further k _ _ (filter_map as_fault ss) (second_processes ss) (heads-further k ss) (second_processes-further k ss))
+    (ospf_faults-further k ss))
+    (isis_faults-further k ss))
+    (interfaces_faults-further k ss))
+    (nameless-further k ends ss)
+
+-- ---- a configuration ----
+
+filter_map-same : {A B : Type 0} (h : A → Option B) (f : A → A) → ((x : A) → h (f x) ≡ h x) → (xs : List A) → filter_map h (map f xs) ≡ filter_map h xs
+filter_map-same h f same [] = refl
+filter_map-same h f same (x ∷ xs) = ap (λ o. cons_option o (filter_map h (map f xs))) (same x) ∙ ap (cons_option (h x)) (filter_map-same h f same xs)
+
+ranges-further : (k : ℕ) (ls : List OspfStatement) → ranges_in (map (ospf_line_further k) ls) ≡ ranges_in ls
+ranges-further k ls = ap (fold (replaced is_same_range) []) (filter_map-same (λ (s : OspfStatement). range_said s.says) (ospf_line_further k) (λ x. refl) ls)
+
+abbrev stub_with : StubLine → ℕ → Stub
+stub_with stub cost = record { area = stub.area; no_summary = stub.no_summary; default_cost = cost }
+
+stub_of-further : (k : ℕ) (ls : List OspfStatement) (stub : StubLine) → stub_of (map (ospf_line_further k) ls) stub ≡ stub_of ls stub
+stub_of-further k ls stub =
+    ap (λ (o : Option ℕ). stub_with stub (unwrap_or o 1))
+    (last_of-map (λ (s : OspfStatement). default_cost_said stub.area s.says) (ospf_line_further k) (λ x. refl) ls)
+
+all_stubs-further : (k : ℕ) (ls : List OspfStatement) (stubs : List StubLine) → map (stub_of (map (ospf_line_further k) ls)) stubs ≡ map (stub_of ls) stubs
+all_stubs-further k ls [] = refl
+all_stubs-further k ls (s ∷ ss) =
+    ap (λ (t : Stub). t ∷ map (stub_of (map (ospf_line_further k) ls)) ss) (stub_of-further k ls s)
+    ∙ ap (λ (ts : List Stub). stub_of ls s ∷ ts) (all_stubs-further k ls ss)
+
+stubs-further : (k : ℕ) (ls : List OspfStatement) → stubs_in (map (ospf_line_further k) ls) ≡ stubs_in ls
+stubs-further k ls =
+    ap (λ (ss : List StubLine). map (stub_of (map (ospf_line_further k) ls)) (fold (replaced is_same_area) [] ss))
+    (filter_map-same (λ (s : OspfStatement). stub_said s.says) (ospf_line_further k) (λ x. refl) ls)
+    ∙ all_stubs-further k ls (stub_lines_in ls)
+
+-- what no sections say
+abbrev nothing_said : Configuration
+nothing_said = configuration_of []
+
+-- a configuration by what is looked up among sections; all else is as without sections
+abbrev configuration_with : Option Word → List Interface → Option ℕ → Bool → Word → Levels → List OspfStatement → List IsisStatement → Configuration
+configuration_with name interfaces process isis tag levels ospf_said isis_said = record nothing_said {
+  name = unwrap_or name [];
+  interfaces = interfaces;
+  process = process;
+  isis = isis;
+  tag = tag;
+  isis_area = area_in (title_given (last_of (λ (s : IsisStatement). title_said s.says) isis_said));
+  system = system_in (title_given (last_of (λ (s : IsisStatement). title_said s.says) isis_said));
+  levels = levels;
+  ranges = ranges_in ospf_said;
+  stubs = stubs_in ospf_said;
+  rfc1583 = unwrap_or (last_of (λ (s : OspfStatement). rfc1583_said s.says) ospf_said) true;
+  distances = record {
+    ospf = value_or (last_of (λ (s : OspfStatement). ospf_distance_said s.says) ospf_said) nothing_said.distances.ospf;
+    isis = value_or (last_of (λ (s : IsisStatement). isis_distance_said s.says) isis_said) nothing_said.distances.isis;
+  };
+}
+
+ospf_said-further : (k : ℕ) (n : Option Word) (is : List Interface) (p : Option ℕ) (i : Bool) (t : Word) (l : Levels) (os : List OspfStatement)
+    (zs : List IsisStatement) →
+    configuration_with n is p i t l (map (ospf_line_further k) os) zs ≡ configuration_with n is p i t l os zs
+ospf_said-further k n is p i t l os zs =
+    rw (
+      ranges-further k os,
+      stubs-further k os,
+      last_of-map (λ (s : OspfStatement). rfc1583_said s.says) (ospf_line_further k) (λ x. refl) os,
+      last_of-map (λ (s : OspfStatement). ospf_distance_said s.says) (ospf_line_further k) (λ x. refl) os,
+    ) refl
+
+isis_said-further : (k : ℕ) (n : Option Word) (is : List Interface) (p : Option ℕ) (i : Bool) (t : Word) (l : Levels) (os : List OspfStatement)
+    (zs : List IsisStatement) →
+    configuration_with n is p i t l os (map (isis_line_further k) zs) ≡ configuration_with n is p i t l os zs
+isis_said-further k n is p i t l os zs =
+    rw (
+      last_of-map (λ (s : IsisStatement). title_said s.says) (isis_line_further k) (λ x. refl) zs,
+      last_of-map (λ (s : IsisStatement). isis_distance_said s.says) (isis_line_further k) (λ x. refl) zs,
+    ) refl
+
+there-further : (k : ℕ) (zs : List IsisSection) → is_some (first_isis (map (isis_further k) zs)) ≡ is_some (first_isis zs)
+there-further k [] = refl
+there-further k (z ∷ zs) = refl
+
+tag_in-further : (k : ℕ) (zs : List IsisSection) → tag_in (first_isis (map (isis_further k) zs)) ≡ tag_in (first_isis zs)
+tag_in-further k [] = refl
+tag_in-further k (z ∷ zs) = refl
+
+configuration_with-same : (n m : Option Word) (is js : List Interface) (p q : Option ℕ) (i j : Bool) (t u : Word) (l r : Levels) (os ps : List OspfStatement)
+    (zs ys : List IsisStatement) →
+    n ≡ m → is ≡ js → p ≡ q → i ≡ j → t ≡ u → l ≡ r → os ≡ ps → zs ≡ ys → configuration_with n is p i t l os zs ≡ configuration_with m js q j u r ps ys
+configuration_with-same n m is js p q i j t u l r os ps zs ys e1 e2 e3 e4 e5 e6 e7 e8 =
+    ap (λ (x : Option Word). configuration_with x is p i t l os zs) e1
+    ∙ ap (λ (x : List Interface). configuration_with m x p i t l os zs) e2
+    ∙ ap (λ (x : Option ℕ). configuration_with m js x i t l os zs) e3
+    ∙ ap (λ (x : Bool). configuration_with m js q x t l os zs) e4
+    ∙ ap (λ (x : Word). configuration_with m js q j x l os zs) e5
+    ∙ ap (λ (x : Levels). configuration_with m js q j u x os zs) e6
+    ∙ ap (λ (x : List OspfStatement). configuration_with m js q j u r x zs) e7
+    ∙ ap (configuration_with m js q j u r ps) e8
+
+configuration-further : (k : ℕ) (ss : List Section) → configuration_of (map (section_further k) ss) ≡ configuration_of ss
+configuration-further k ss =
+    configuration_with-same _ (last_of as_hostname ss) _ (map (interface_as_read (router_of ss)) (interfaces_in ss)) _ (process_of ss) _
+    (is_some (first_isis (filter_map as_isis ss))) _ (tag_in (first_isis (filter_map as_isis ss)))
+    _ (router_of ss).levels _ (map (ospf_line_further k) (ospf_lines ss)) _ (map (isis_line_further k) (isis_lines ss))
+    (name-further k ss)
+    (ap (λ (r : Router). map (interface_as_read r) (interfaces_in (map (section_further k) ss))) (router-further k ss)
+    ∙ ap (map (interface_as_read (router_further k (router_of ss)))) (interfaces-further k ss)
+    ∙ all_read-further k (router_of ss) (interfaces_in ss))
+    (process-further k ss)
+    (ap (λ (zs : List IsisSection). is_some (first_isis zs)) (isis_sections-further k ss) ∙ there-further k (filter_map as_isis ss))
+    (ap (λ (zs : List IsisSection). tag_in (first_isis zs)) (isis_sections-further k ss) ∙ tag_in-further k (filter_map as_isis ss))
+    (ap (λ (r : Router). r.levels) (router-further k ss))
+    (ospf_lines-further k ss)
+    (isis_lines-further k ss)
+    ∙ ospf_said-further k (last_of as_hostname ss) (map (interface_as_read (router_of ss)) (interfaces_in ss)) (process_of ss)
+    (is_some (first_isis (filter_map as_isis ss))) (tag_in (first_isis (filter_map as_isis ss)))
+    (router_of ss).levels (ospf_lines ss) (map (isis_line_further k) (isis_lines ss))
+    ∙ isis_said-further k (last_of as_hostname ss) (map (interface_as_read (router_of ss)) (interfaces_in ss)) (process_of ss)
+    (is_some (first_isis (filter_map as_isis ss))) (tag_in (first_isis (filter_map as_isis ss)))
+    (router_of ss).levels (ospf_lines ss) (isis_lines ss)
+
+-- ---- a part ----
+
+-- a part further on is read as the same configuration
+pub part-further : (k : ℕ) (part : Part) → configuration_of (sections_in (part_further k part)) ≡ configuration_of (sections_in part)
+part-further k part = ap configuration_of (sections_among-further k part.lines) ∙ configuration-further k (sections_in part)
+
+-- its faults are further on
+pub part_faults-further : (k : ℕ) (part : Part) → part_faults (part_further k part) ≡ map (fault_further k) (part_faults part)
+part_faults-further k part =
+    ap (λ (ss : List Section). section_faults ss (k + part.ends)) (sections_among-further k part.lines) ∙ section_faults-further k part.ends (sections_in part)

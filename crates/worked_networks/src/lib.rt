@@ -1,0 +1,22 @@
+//! The public calls of the crates that speak of networks, each once, on networks and values that were worked out by hand:
+//! what no clause says. They stand in a crate of their own, since a crate with tests is proved twice.
+#![tactic(auto)]
+
+#[cfg(test)]
+mod classes;
+#[cfg(test)]
+mod configurations;
+#[cfg(test)]
+mod faults;
+#[cfg(test)]
+mod isis_tables;
+#[cfg(test)]
+mod mixtures;
+#[cfg(test)]
+mod networks;
+#[cfg(test)]
+mod orders;
+#[cfg(test)]
+mod ospf_tables;
+#[cfg(test)]
+mod zones;
