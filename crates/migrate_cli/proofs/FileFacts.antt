@@ -1,5 +1,5 @@
 -- The files of a command, and their texts.
-use Rattle.std.proofs.Common.{◌≡◌, ℕ, ◌+◌, ◌<◌, ◌≤◌, List, [], ◌∷◌, ◌++◌, length, map, take, drop, All, get_or, lit≤, refl, sym, subst, arith}
+use Rattle.std.proofs.Common.{◌≡◌, ℕ, ◌+◌, ◌<◌, ◌≤◌, List, [], ◌∷◌, ◌++◌, length, map, take, drop, All, get_or, lit≤, refl, sym, ap, subst, arith}
 use Rattle.std.proofs.lemmas.List.{length-map, get_or-map}
 use Rattle.std.proofs.lemmas.List.Elements.{All-cons, All-append}
 use Rattle.migrate_words.specs.Requests.{Request, check, prepare, plan, refute, scripts, replay, sample}
@@ -68,3 +68,21 @@ short_configs (n ∷ names) (t ∷ texts) short = All-cons (λ (text : List ℕ)
 pub files_length : (own : List File) (names : List (List ℕ)) → length (own ++ map config_file names) ≡ length own + length names
 files_length [] names = length-map names config_file
 files_length (f ∷ own) names = let e = files_length own names in omega (arith, e)
+
+-- the texts before those of the configurations are those of the own files
+pub own_count : (request : Request) (texts : List (List ℕ)) (n : ℕ) → n ≡ length (config_names request) → AreShort (files_of request) texts
+    → length texts ≡ length (own_files request) + n
+own_count request texts n is short =
+    let all = short_length (files_of request) texts short in
+    let parts = files_length (own_files request) (config_names request) in
+    omega (arith, is, all, parts)
+
+-- the text of the one own file
+pub record IsOneText (file : File) (own : List (List ℕ)) (text : List ℕ) : Type 0 where
+  pub alone : own ≡ text ∷ []
+  pub short : length text ≤ file.most
+
+pub one_own : (file : File) (own : List (List ℕ)) (text : List ℕ) → AreShort (file ∷ []) own → text ≡ get_or own 0 text → IsOneText file own text
+one_own file [] text short at = absurd short
+one_own file (t ∷ []) text short at = record { alone = ap (λ x. x ∷ []) (sym at); short = subst (λ x. length x ≤ file.most) (sym at) short.0 }
+one_own file (t ∷ u ∷ more) text short at = absurd short.1

@@ -26,8 +26,8 @@ pub fn judge(alloc: Global, command: &Command<'_>, texts: &[Bytes]) -> Result<An
     ensures { IfOk result (λ answer. let request = request_of command.now in IsVerdict request (own_texts request texts.now) (config_texts request texts.now) answer.status answer.text) }
 {
     let names = config_names(command);
-    let (own, texts) = texts.split_at(texts.len() - names.len());
-    let configs = match read_all(alloc, names, texts) {
+    let (own, rest) = texts.split_at(texts.len() - names.len());
+    let configs = match read_all(alloc, names, rest) {
         Ok(configs) => configs,
         Err(Unread::OutOfMemory) => return Err(AllocError),
         Err(Unread::Bad { file, line, kind }) => {
