@@ -137,7 +137,8 @@ pub verdict_no_fault : {request : Request} {own texts : List (List ℕ)} {status
 verdict_no_fault (faulty_configuration _ _ _ _) = (λ e. Prim.cc e, λ e. Prim.cc e)
 verdict_no_fault (no_network _ refusal status _ _ given) = refusal_no_fault refusal status given
 verdict_no_fault (off_start _ _ _ _ _ _ _) = (λ e. Prim.cc e, λ e. Prim.cc e)
-verdict_no_fault {request} (of_command _ _ _ _ _ verdict) = command_no_fault request _ verdict
+verdict_no_fault {request} {own} {texts} (of_command net status text _ _ verdict) =
+    command_no_fault request (record { own = own; configs = texts; net = net }) status text verdict
 
 -- that a write failed is no answer
 pub answer_writes : {call : Call} {asked : List (List ℕ)} {status : Status} {text : List ℕ} → IsAnswer call asked status text → status ≢ WriteFault

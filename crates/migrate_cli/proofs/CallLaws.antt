@@ -7,7 +7,7 @@ use Rattle.migrate_words.proofs.OneRequest.{one_request}
 use Rattle.migrate_words.proofs.TakenLaws.{numbers}
 use Rattle.migration_report.specs.Texts.{many_files_text, words_refused_text}
 use Rattle.migrate_cli.specs.AnswerLaws.{IsTold, MayEnd, TellTheSame}
-use Rattle.migrate_cli.specs.AnswerLaws.TellTheSame.{same, words}
+use Rattle.migrate_cli.specs.AnswerLaws.TellTheSame.{same_text, words_refused}
 use Rattle.migrate_cli.specs.AnswerLaws.MayEnd.{as_answered, by_read_fault}
 use Rattle.migrate_cli.specs.Answers.{AsksForFew, IsAnswer}
 use Rattle.migrate_cli.specs.Answers.IsAnswer.{refused_words, many_files, read_fault, long_file, long_files, judged}
@@ -31,7 +31,7 @@ SameAnswer asked s t also z w = (asked ≡ also) × (s ≡ z) × TellTheSame s t
 
 -- answers with the same text tell the same
 tell_same : (s z : Status) (t w : List ℕ) → AreSame s t z w → TellTheSame s t w
-tell_same s z t w both = subst (TellTheSame s t) both.1 same
+tell_same s z t w both = subst (TellTheSame s t) both.1 same_text
 
 -- ---- the files of a command ----
 
@@ -74,7 +74,7 @@ module _ (content : Contents) (request : Request) where
 
   one_of_files : {p q : List (List ℕ)} {s z : Status} {t w : List ℕ} → All (IsTold content) p → OfFiles content request p s t → OfFiles content request q z w
       → SameAnswer p s t q z w
-  one_of_files tell (above _) (above _) = (refl, refl, same)
+  one_of_files tell (above _) (above _) = (refl, refl, same_text)
   one_of_files tell (above many) (stopped _ _ _ _ few _ _ _) = absurd (few_or_many many few)
   one_of_files tell (above many) (all_read _ few _ _ _) = absurd (few_or_many many few)
   one_of_files tell (stopped _ _ _ _ few _ _ _) (above many) = absurd (few_or_many many few)
@@ -140,7 +140,7 @@ tells words text (not_landed _ _ _) = record { detail = []; text_is = sym (appen
 
 one_of_words : (call : Call) {p q : List (List ℕ)} {s z : Status} {t w : List ℕ} → All (IsTold call.content) p → OfWords call p s t
     → OfWords call q z w → SameAnswer p s t q z w
-one_of_words call tell (refused t one) (refused w other) = (refl, refl, words (tells call.words t one) (tells call.words w other))
+one_of_words call tell (refused t one) (refused w other) = (refl, refl, words_refused (tells call.words t one) (tells call.words w other))
 one_of_words call tell (refused t one) (asks request ask _) = absurd (refused_or_asks call.words t request one ask)
 one_of_words call tell (asks request ask _) (refused w other) = absurd (refused_or_asks call.words w request other ask)
 one_of_words call {q = q} {z = z} {w = w} tell (asks one ask files) (asks other again also) =

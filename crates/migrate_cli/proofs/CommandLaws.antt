@@ -17,6 +17,6 @@ one_command_verdict (check file _) input {z = z} {w = w} ascending one other =
 one_command_verdict _ input ascending one other = absurd one
 
 -- and it is no fault of reading or of writing
-pub command_no_fault : (request : Request) (input : Input) {status : Status} {text : List ℕ} → IsCommandVerdict request input status text → NoFault status
-command_no_fault (check _ _) input verdict = check_no_fault verdict.2
-command_no_fault _ input verdict = absurd verdict
+pub command_no_fault : (request : Request) (input : Input) (status : Status) (text : List ℕ) → IsCommandVerdict request input status text → NoFault status
+command_no_fault (check _ _) input status text verdict = check_no_fault verdict.2
+command_no_fault _ input status text verdict = absurd verdict

@@ -4,7 +4,7 @@ use Rattle.std.proofs.lemmas.List.{length-map, get_or-map}
 use Rattle.std.proofs.lemmas.List.Elements.{All-cons, All-append}
 use Rattle.migrate_words.specs.Requests.{Request, check, prepare, plan, refute, scripts, replay, sample}
 use Rattle.migrate_cli.specs.Reading.{File, AreShort}
-use Rattle.migrate_cli.specs.CommandFiles.{config_file, config_names, files_of, own_files}
+use Rattle.migrate_cli.specs.CommandFiles.{config_file, config_names, design_file, files_of, own_files, text_file}
 
 -- the file is none that may be longer than 16 MiB
 abbrev IsSmall : File → Type 0
@@ -21,12 +21,12 @@ one_small : (file : File) → IsSmall file → All IsSmall (file ∷ [])
 one_small file small = All-cons IsSmall file [] small no_files
 
 small_own : (request : Request) → All IsSmall (own_files request)
-small_own (check order configs) = one_small _ (lit≤ tt)
-small_own (prepare design configs) = one_small _ (lit≤ tt)
+small_own (check order configs) = one_small (text_file order) (lit≤ tt)
+small_own (prepare design configs) = one_small (design_file design) (lit≤ tt)
 small_own (plan budget configs) = no_files
-small_own (refute tree configs) = one_small _ (lit≤ tt)
-small_own (scripts order configs) = one_small _ (lit≤ tt)
-small_own (replay order journal configs) = All-cons IsSmall _ _ (lit≤ tt) (one_small _ (lit≤ tt))
+small_own (refute tree configs) = one_small (text_file tree) (lit≤ tt)
+small_own (scripts order configs) = one_small (text_file order) (lit≤ tt)
+small_own (replay order journal configs) = All-cons IsSmall (text_file order) (text_file journal ∷ []) (lit≤ tt) (one_small (text_file journal) (lit≤ tt))
 small_own (sample routers) = no_files
 
 -- no file of a command may be longer than 16 MiB
@@ -66,7 +66,7 @@ short_configs (n ∷ names) (t ∷ texts) short = All-cons (λ (text : List ℕ)
 
 -- a command's files are its own and the configurations
 pub files_length : (own : List File) (names : List (List ℕ)) → length (own ++ map config_file names) ≡ length own + length names
-files_length [] names = length-map names config_file
+files_length [] names = let e = length-map names config_file in omega (arith, e)
 files_length (f ∷ own) names = let e = files_length own names in omega (arith, e)
 
 -- the texts before those of the configurations are those of the own files

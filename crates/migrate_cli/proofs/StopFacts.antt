@@ -136,6 +136,12 @@ stops_among content files before after texts file old now new OutOfMemory files_
   reads = may_read content files before after texts file asks.asked files_are read within asks.asks_for;
 }
 
+-- an element is the same whatever would stand for none
+pub element : {A : Type 0} (xs : List A) (i : ℕ) (d e : A) → i < length xs → get_or xs i d ≡ get_or xs i e
+element [] i d e within = absurd (omega arith)
+element (x ∷ xs) zero d e within = refl
+element (x ∷ xs) (suc i) d e within = element xs i d e (omega arith)
+
 -- a mapped list round one of its elements
 around : {A B : Type 0} (f : A → B) (xs : List A) (i : ℕ) (x : A) → i < length xs → x ≡ get_or xs i x
     → map f xs ≡ map f (take i xs) ++ f x ∷ map f (drop (suc i) xs)

@@ -22,8 +22,8 @@ IsTold content name = IsSome (content name)
 
 -- two answers tell the same: the text is the same, or they say that the words are refused, and the first line is the same
 pub data TellTheSame : Status → List ℕ → List ℕ → Type 0 where
-  same : {status : Status} {text : List ℕ} → TellTheSame status text text
-  words : {text other : List ℕ} → TellsWordsRefused text → TellsWordsRefused other → TellTheSame Words text other
+  same_text : {status : Status} {text : List ℕ} → TellTheSame status text text
+  words_refused : {text other : List ℕ} → TellsWordsRefused text → TellsWordsRefused other → TellTheSame Words text other
 
 -- where the files that an answer asks for are told, it is the one answer of the call besides a read fault, which may come
 -- at any file: the same names are asked for, the status is the same, and so is the text, but for what stands after the

@@ -12,7 +12,7 @@ use Rattle.migrate_cli.specs.CallWords.{AreRefused, AskFor, TellsWordsRefused}
 use Rattle.migrate_cli.specs.CommandFiles.{config_names, config_texts, files_of, own_texts}
 use Rattle.migrate_cli.specs.Reading.{File, AreRead, AreWithin, IsTooLong, PassesTotal, ReadUpTo, names_of, total_of}
 use Rattle.migrate_cli.specs.Verdicts.{IsVerdict}
-use Rattle.migrate_cli.specs.declared.run.TheConstants.{FILES_MOST}
+use Rattle.migrate_cli.specs.declared.run_call.TheConstants.{FILES_MOST}
 use Rattle.migrate_cli.specs.declared.answer.Answer.{Answer}
 use Rattle.migrate_cli.specs.declared.reading.Stop.{Stop}
 use Rattle.migrate_cli.specs.declared.reading.Stop.TheVariants.{Fault, Long, Total, OutOfMemory}

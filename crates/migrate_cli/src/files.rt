@@ -27,7 +27,7 @@ pub struct Wanted<'a> {
 impl<'a> Wanted<'a> {
     /// An order, a tree or a journal.
     fn text(name: &'a str) -> Wanted<'a>
-        ensures { file_of result.entry ≡ text_file name.now }
+        ensures { file_of result ≡ text_file name.now }
     {
         Wanted {
             name,
@@ -38,7 +38,7 @@ impl<'a> Wanted<'a> {
 
     /// A design.
     fn design(name: &'a str) -> Wanted<'a>
-        ensures { file_of result.entry ≡ design_file name.now }
+        ensures { file_of result ≡ design_file name.now }
     {
         Wanted {
             name,
@@ -49,7 +49,7 @@ impl<'a> Wanted<'a> {
 
     /// A file of configurations.
     fn config(name: &'a str) -> Wanted<'a>
-        ensures { file_of result.entry ≡ config_file name.now }
+        ensures { file_of result ≡ config_file name.now }
     {
         Wanted {
             name,
@@ -79,7 +79,7 @@ pub fn files_of<'a>(
     alloc: Global,
     command: &Command<'a>,
 ) -> Result<Vec<Wanted<'a>>, OutOfMemory>
-    ensures { IfOk result (λ files. map file_of files.entry.items ≡ files_of (request_of command.now)) }
+    ensures { IfOk result (λ files. map file_of files.items ≡ files_of (request_of command.now)) }
 {
     let mut files = own_files(alloc, command)?;
     for name in config_names(command) {
@@ -93,7 +93,7 @@ fn own_files<'a>(
     alloc: Global,
     command: &Command<'a>,
 ) -> Result<Vec<Wanted<'a>>, OutOfMemory>
-    ensures { IfOk result (λ files. map file_of files.entry.items ≡ own_files (request_of command.now)) }
+    ensures { IfOk result (λ files. map file_of files.items ≡ own_files (request_of command.now)) }
 {
     let mut files = Vec::new(alloc);
     match command {

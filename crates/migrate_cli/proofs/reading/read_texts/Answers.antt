@@ -1,8 +1,9 @@
-use Rattle.std.proofs.Common.{◌≡◌, ◌+◌, ◌++◌, ◌∷◌, [], take, drop, map, sym, ◌∙◌, ap, subst, arith}
+use Rattle.std.proofs.Common.{◌≡◌, ◌+◌, ◌++◌, ◌∷◌, [], take, drop, map, get_or, false, sym, ◌∙◌, ap, subst, arith}
 use Rattle.migrate_cli.specs.FilesRead.{file_of}
+use Rattle.migrate_cli.specs.declared.files.Wanted.{Wanted}
 use Rattle.migrate_cli.specs.Reading.{AreRead, AreWithin, names_of, total_of}
 use Rattle.migrate_cli.specs.Stops.{StopsAt, StopFaults}
-use Rattle.migrate_cli.proofs.StopFacts.{stops_among, StopsAt-same, read_more, within_more, counted_more, asked_more, map_around, map_take_more}
+use Rattle.migrate_cli.proofs.StopFacts.{stops_among, StopsAt-same, read_more, within_more, counted_more, asked_more, element, map_around, map_take_more}
 use Rattle.migrate_cli.proofs.reading.read_texts.Goals as goal
 
 pub returns-in-Err-clause-read : goal.returns-in-Err-clause-read
@@ -10,9 +11,12 @@ returns-in-Err-clause-read g c =
     let content = g.F.Files.content c.args.files.now in
     let all = c.args.wanted.now in
     let i = c.loop-file.file-index in
-    let file = file_of c.file-item.result in
+    let nothing : Wanted = record { name = record { ref_ptr = (0, 0); now = [] }; most = 0; counts = false } in
+    let item = get_or all i nothing in
+    let at : item ≡ get_or all i item = element all i nothing item (omega arith) in
+    let file = file_of item in
     let held = c.loop-file.invariant in
-    let around = map_around file_of all i c.file-item.result (omega arith) c.file-item.is in
+    let around = map_around file_of all i item (omega arith) at in
     let stops = StopsAt-same (g.F.Files.content c.loop-file.files) content file c.loop-file.texts.counted c.in-Err.stop (held.contents_stay file.name) c.in-Err.ensures.stop in
     stops_among content (map file_of all) (map file_of (take i all)) (map file_of (drop (i + 1) all)) c.loop-file.texts.all file
     (g.F.Files.asked c.args.files.now) (g.F.Files.asked c.loop-file.files) (g.F.Files.asked c.read_next.new.files) c.in-Err.stop around held.read held.within held.asked
@@ -28,13 +32,16 @@ loop-file-preserved g c =
     let other = g.F.Files.content c.loop-file.files in
     let all = c.args.wanted.now in
     let i = c.loop-file.file-index in
-    let file = file_of c.file-item.result in
+    let nothing : Wanted = record { name = record { ref_ptr = (0, 0); now = [] }; most = 0; counts = false } in
+    let item = get_or all i nothing in
+    let at : item ≡ get_or all i item = element all i nothing item (omega arith) in
+    let file = file_of item in
     let before = map file_of (take i all) in
     let held = c.loop-file.invariant in
     let next = c.in_default.ensures.ok in
     let old = c.loop-file.texts in
     let new = c.read_next.new.self in
-    let files : map file_of (take (i + 1) all) ≡ before ++ file ∷ [] = map_take_more file_of all i c.file-item.result (omega arith) c.file-item.is in
+    let files : map file_of (take (i + 1) all) ≡ before ++ file ∷ [] = map_take_more file_of all i item (omega arith) at in
     record {
       read = subst (λ some. AreRead content some new.all) (sym files) (read_more content other before file old new (held.contents_stay file.name) held.read next);
       within = subst (λ some. AreWithin some new.all) (sym files) (within_more other before file old new held.counted held.within next);

@@ -6,7 +6,7 @@ use Rattle.migrate_cli.specs.Completeness.Decides.{memory}
 use Rattle.migrate_cli.proofs.AnswerFacts.{answer_writes, reads_or_not}
 use Rattle.migrate_cli.proofs.CallLaws.{ends_so}
 use Rattle.migrate_cli.proofs.CompletenessLaws.{check_decides}
-use Rattle.migrate_cli.proofs.run.run.Goals as goal
+use Rattle.migrate_cli.proofs.run_call.run.Goals as goal
 
 pub returns-in_default-clause-answers : goal.returns-in_default-clause-answers
 returns-in_default-clause-answers g c =
