@@ -9,18 +9,22 @@ use Rattle.migrate_words.specs.Refusals.{IsRefusal}
 use Rattle.migrate_words.specs.Requests.{Request}
 use Rattle.migrate_words.specs.declared.refusal.WordsRefused.{WordsRefused}
 use Rattle.migrate_words.specs.declared.refusal.WordsRefused.TheVariants.{Words as NotTaken, Number, OutOfMemory as NoMemoryForWords}
-use Rattle.migration_report.specs.Texts.{long_file_text, read_fault_text}
+use Rattle.migration_report.specs.Kinds.{read_kind_name}
+use Rattle.migration_report.specs.Texts.{faulty_text, long_file_text, read_fault_text}
 use Rattle.migrate_cli.specs.RefusalStatus.{refusal_status}
 use Rattle.migrate_cli.specs.Answers.{AsksForFew, IsAnswer, MayAsk, FaultsAgree, RefusalAnswer, StopAnswer, HasAnswer}
 use Rattle.migrate_cli.specs.Answers.IsAnswer.{refused_words, many_files, read_fault, long_file, long_files, judged}
 use Rattle.migrate_cli.specs.Answers.MayAsk.{asks_none, asks_some}
 use Rattle.migrate_cli.specs.Calls.{Call}
 use Rattle.migrate_cli.specs.CallWords.AreRefused.{not_taken, number_off}
-use Rattle.migrate_cli.specs.CommandFiles.{config_texts, files_of, own_texts}
+use Rattle.migrate_cli.specs.CommandFiles.{config_names, files_of}
 use Rattle.migrate_cli.specs.Reading.{AreRead, AreWithin, names_of}
 use Rattle.migrate_cli.specs.Stops.{Kept, StopFaults, MayRead, HasRead}
 use Rattle.migrate_cli.specs.Stops.MayRead.{none_yet, so_far}
+use Rattle.migrate_cli.specs.Unread.{IsUnread, UnreadAnswer}
 use Rattle.migrate_cli.specs.Verdicts.{IsVerdict}
+use Rattle.migrate_cli.specs.declared.configurations.Unread.{Unread}
+use Rattle.migrate_cli.specs.declared.configurations.Unread.TheVariants.{Bad, OutOfMemory as NoMemoryToRead}
 use Rattle.migrate_cli.specs.Verdicts.IsVerdict.{faulty_configuration, no_network, off_start, of_command}
 use Rattle.migrate_cli.specs.declared.answer.Answer.{Answer}
 use Rattle.migrate_cli.specs.declared.reading.Stop.{Stop}
@@ -189,3 +193,12 @@ words_agree Number count (Ok a) answer =
     faults_agree a.status count count (λ e. let clash : Words ≡ ReadFault = sym answer.0 ∙ e in Prim.cc clash) refl
 words_agree NoMemoryForWords count (Ok a) answer = absurd answer
 words_agree refused count (Err e) answer = tt
+
+-- why configurations aren't read is the verdict
+pub unread_verdict : (request : Request) (own texts : List (List ℕ)) (unread : Unread) (r : Result Answer AllocError) → IsUnread (config_names request) texts unread
+    → IfOk r (λ (a : Answer). UnreadAnswer unread a.status a.text) → IfOk r (λ (a : Answer). IsVerdict request own texts a.status a.text)
+unread_verdict request own texts (Bad file line kind) (Ok a) is answer =
+    subst (λ s. IsVerdict request own texts s a.text) (sym answer.0)
+    (subst (IsVerdict request own texts Refused) (sym answer.1) (faulty_configuration file.now line kind is))
+unread_verdict request own texts NoMemoryToRead (Ok a) is answer = absurd answer
+unread_verdict request own texts unread (Err e) is answer = tt

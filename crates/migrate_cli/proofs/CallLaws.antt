@@ -129,12 +129,12 @@ steps_of read (judged request texts status text ask reads within verdict) =
 pub refused_or_asks : (words : List (List ℕ)) (line : List ℕ) (request : Request) → AreRefused words line → AskFor words request → ⊥
 refused_or_asks words line request (not_taken _ none _) ask = none ask.asks.taken
 refused_or_asks words line request (number_off off) ask = (numbers words).none off request ask.asks
-refused_or_asks words line request (not_landed other asks none) ask =
-    none (subst HasLanded (one_request words request other ask.asks asks) ask.landed)
+refused_or_asks words line request (not_landed other given none) ask =
+    none (subst HasLanded (one_request words request other ask.asks given) ask.landed)
 
 -- and say so first
 tells : (words : List (List ℕ)) (text : List ℕ) → AreRefused words text → TellsWordsRefused text
-tells words text (not_taken _ _ tells) = tells
+tells words text (not_taken _ _ told) = told
 tells words text (number_off _) = record { detail = []; text_is = sym (append-nil words_refused_text) }
 tells words text (not_landed _ _ _) = record { detail = []; text_is = sym (append-nil words_refused_text) }
 

@@ -6,6 +6,7 @@ ghost use Rattle.migrate_cli.specs.CommandFiles.{HasLanded, NeedsStart, config_t
 ghost use Rattle.migrate_cli.specs.Configurations.{GiveNetwork, IsAtStart};
 ghost use Rattle.migrate_cli.specs.Reading.{AreShort};
 ghost use Rattle.migrate_cli.specs.RefusalStatus.{refusal_status};
+ghost use Rattle.migrate_cli.specs.Unread.{UnreadAnswer};
 ghost use Rattle.migrate_cli.specs.Verdicts.{IsVerdict};
 
 use crate::answer::{Answer, refuse};
@@ -29,11 +30,7 @@ pub fn judge(alloc: Global, command: &Command<'_>, texts: &[Bytes]) -> Result<An
     let (own, rest) = texts.split_at(texts.len() - names.len());
     let configs = match read_all(alloc, names, rest) {
         Ok(configs) => configs,
-        Err(Unread::OutOfMemory) => return Err(AllocError),
-        Err(Unread::Bad { file, line, kind }) => {
-            let refusal = Refusal::Config { file, line, kind };
-            return refuse(alloc, Status::Refused, &refusal);
-        }
+        Err(unread) => return refuse_unread(alloc, unread),
     };
     let refusal = match Net::build(alloc, configs) {
         Ok(net) => return judge_network(alloc, command, own, &net),
@@ -43,6 +40,19 @@ pub fn judge(alloc: Global, command: &Command<'_>, texts: &[Bytes]) -> Result<An
         return Err(AllocError);
     };
     refuse(alloc, status, &Refusal::Network { refusal: &refusal })
+}
+
+/// The answer that the configurations of some files aren't read.
+fn refuse_unread(alloc: Global, unread: Unread<'_>) -> Result<Answer, OutOfMemory>
+    ensures { IfOk result (λ answer. UnreadAnswer unread.entry answer.status answer.text) }
+{
+    match unread {
+        Unread::Bad { file, line, kind } => {
+            let refusal = Refusal::Config { file, line, kind };
+            refuse(alloc, Status::Refused, &refusal)
+        }
+        Unread::OutOfMemory => Err(AllocError),
+    }
 }
 
 /// How a call ends that a network refuses, None where there was no memory.

@@ -2,6 +2,7 @@ ghost use Rattle.std.specs.Prelude.{◌≡◌, ◌≢◌, ℕ, List, IfOk, map, 
 ghost use Rattle.store_edge.specs.Faults.{Rose};
 ghost use Rattle.migrate_words.specs.Asked.{Asks};
 ghost use Rattle.migrate_words.specs.Requests.{request_of};
+ghost use Rattle.migration_report.specs.Texts.{words_refused_text};
 ghost use Rattle.migrate_cli.specs.AnswerLaws.{EndsByAnswer};
 ghost use Rattle.migrate_cli.specs.Answers.{Answers, FaultsAgree, HasAnswer, RefusalAnswer, StopAnswer};
 ghost use Rattle.migrate_cli.specs.Calls.{Call, Outside};
@@ -73,9 +74,17 @@ fn refuse_words(alloc: Global, refused: &WordsRefused) -> Result<Answer, OutOfMe
             let detail = detail.as_bytes();
             refuse(alloc, Status::Words, &Refusal::Words { detail })
         }
-        WordsRefused::Number => refuse(alloc, Status::Words, &Refusal::Words { detail: b"" }),
+        WordsRefused::Number => refuse_alone(alloc),
         WordsRefused::OutOfMemory => Err(AllocError),
     }
+}
+
+/// The answer that words are refused, of which nothing more is said.
+fn refuse_alone(alloc: Global) -> Result<Answer, OutOfMemory>
+    ensures status { IfOk result (λ answer. answer.status ≡ Status.Words) }
+    ensures text { IfOk result (λ answer. answer.text ≡ words_refused_text) }
+{
+    refuse(alloc, Status::Words, &Refusal::Words { detail: b"" })
 }
 
 /// The answer to a command.
@@ -88,14 +97,16 @@ fn answer_command<F: Files>(
     ensures faults { IfOk result (λ answer. FaultsAgree answer.status (F.faults files.old) (F.faults files.new)) }
 {
     if !has_landed(command) {
-        return refuse(alloc, Status::Words, &Refusal::Words { detail: b"" });
+        return refuse_alone(alloc);
     }
     let number = config_names(command).len();
     if number > FILES_MOST {
         let number = number as u64;
         return refuse(alloc, Status::Limit, &Refusal::Files { number });
     }
-    let wanted = files_of(alloc, command)?;
+    let Ok(wanted) = files_of(alloc, command) else {
+        return Err(AllocError);
+    };
     match read_texts(alloc, wanted.as_slice(), files) {
         Ok(texts) => judge(alloc, command, texts.as_slice()),
         Err(stop) => refuse_stop(alloc, stop),

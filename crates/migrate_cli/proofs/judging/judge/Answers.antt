@@ -3,17 +3,15 @@ use Rattle.std.specs.Borrow.{Bor}
 use Rattle.std.proofs.lemmas.List.{length-map}
 use Rattle.std.proofs.lemmas.Result.{IfOk-weaker}
 use Rattle.migrate_words.specs.Requests.{request_of}
-use Rattle.migration_report.specs.Kinds.{read_kind_name}
-use Rattle.migration_report.specs.Texts.{faulty_text, network_text}
+use Rattle.migration_report.specs.Texts.{network_text}
 use Rattle.migrate_cli.specs.CommandFiles.{config_file, config_names, config_texts, own_files, own_texts}
-use Rattle.migrate_cli.specs.Configurations.{GiveNetwork, IsFirstRefused, ReadsTexts}
+use Rattle.migrate_cli.specs.Configurations.{GiveNetwork, ReadsTexts}
 use Rattle.migrate_cli.specs.Reading.{AreShort}
 use Rattle.migrate_cli.specs.RefusalStatus.{refusal_status}
 use Rattle.migrate_cli.specs.Unread.{IsUnread}
 use Rattle.migrate_cli.specs.Verdicts.{IsVerdict}
-use Rattle.migrate_cli.specs.Verdicts.IsVerdict.{faulty_configuration, no_network}
-use Rattle.migrate_cli.specs.declared.status.Status.TheVariants.{Refused}
-use Rattle.migrate_cli.proofs.AnswerFacts.{from_refusal}
+use Rattle.migrate_cli.specs.Verdicts.IsVerdict.{no_network}
+use Rattle.migrate_cli.proofs.AnswerFacts.{from_refusal, unread_verdict}
 use Rattle.migrate_cli.proofs.FileFacts.{own_count, short_configs, short_front, short_rest}
 use Rattle.migrate_cli.proofs.judging.judge.Goals as goal
 
@@ -47,8 +45,8 @@ read_all-requires-clause-short c =
     subst (All (λ (text : List ℕ). length text ≤ 16777216)) (sym rest)
     (short_configs (config_names request) (config_texts request texts) (short_rest (own_files request) (map config_file (config_names request)) texts c.requires.short))
 
-pub returns-in-Err-Bad : goal.returns-in-Err-Bad
-returns-in-Err-Bad c =
+pub returns-in-Err : goal.returns-in-Err
+returns-in-Err c =
     let request = request_of c.args.command.now in
     let texts = c.args.texts.now in
     let names = c.config_names-names.result.now in
@@ -57,16 +55,9 @@ returns-in-Err-Bad c =
     let all = own_count request texts (length names) count c.requires.short in
     let place : length texts - length names ≡ length (own_files request) = omega (arith, all) in
     let rest : c.split_at.result.1.now ≡ config_texts request texts = c.split_at.ensures.back ∙ ap (λ n. drop n texts) place in
-    let file = c.in-Err-Bad.file.now in
-    let line = c.in-Err-Bad.line in
-    let kind = c.in-Err-Bad.kind in
-    let refused : IsFirstRefused (map bytes names) c.split_at.result.1.now file line kind =
-    subst (IsUnread (map bytes names) c.split_at.result.1.now) c.in-Err-Bad.field-0-is c.in-Err-Bad.ensures.err in
-    from_refusal c.refuse.result Refused (faulty_text file line (read_kind_name kind))
-    (λ s t. IsVerdict request (own_texts request texts) (config_texts request texts) s t) c.refuse.ensures.status c.refuse.ensures.text
-    (faulty_configuration file line kind
-    (subst (λ some. IsFirstRefused some (config_texts request texts) file line kind) c.config_names-names.ensures
-    (subst (λ some. IsFirstRefused (map bytes names) some file line kind) rest refused)))
+    unread_verdict request (own_texts request texts) (config_texts request texts) c.in-Err.unread c.refuse_unread.result
+    (subst (λ some. IsUnread some (config_texts request texts) c.in-Err.unread) c.config_names-names.ensures
+    (subst (λ some. IsUnread (map bytes names) some c.in-Err.unread) rest c.in-Err.ensures.err)) c.refuse_unread.ensures
 
 pub judge_network-requires-clause-own : goal.judge_network-requires-clause-own
 judge_network-requires-clause-own c =
@@ -99,8 +90,8 @@ returns-in-Ok-build c =
     (λ a verdict. subst (λ own. IsVerdict request own (config_texts request texts) a.status a.text) front (verdict (config_texts request texts) gives))
     c.judge_network.ensures
 
-pub refuse-requires-2 : goal.refuse-requires-2
-refuse-requires-2 c memory = let none : None ≡ Some c.in-Some.status = ap refusal_status (sym memory) ∙ sym c.status_of.ensures ∙ c.in-Some.is in cc
+pub refuse-requires : goal.refuse-requires
+refuse-requires c memory = let none : None ≡ Some c.in-Some.status = ap refusal_status (sym memory) ∙ sym c.status_of.ensures ∙ c.in-Some.is in cc
 
 pub returns : goal.returns
 returns c =
@@ -113,7 +104,7 @@ returns c =
     let place : length texts - length names ≡ length (own_files request) = omega (arith, all) in
     let rest : c.split_at.result.1.now ≡ config_texts request texts = c.split_at.ensures.back ∙ ap (λ n. drop n texts) place in
     let read = subst (λ some. ReadsTexts some c.in-Ok.configs) rest c.in-Ok.ensures.ok in
-    let refusal = c.in-Err.refusal in
-    from_refusal c.refuse-2.result c.in-Some.status (network_text refusal)
-    (λ s t. IsVerdict request (own_texts request texts) (config_texts request texts) s t) c.refuse-2.ensures.status c.refuse-2.ensures.text
-    (no_network c.in-Ok.configs refusal c.in-Some.status read c.in-Err.ensures.err (sym c.status_of.ensures ∙ c.in-Some.is))
+    let refusal = c.in-Err-build.refusal in
+    from_refusal c.refuse.result c.in-Some.status (network_text refusal)
+    (λ s t. IsVerdict request (own_texts request texts) (config_texts request texts) s t) c.refuse.ensures.status c.refuse.ensures.text
+    (no_network c.in-Ok.configs refusal c.in-Some.status read c.in-Err-build.ensures.err (sym c.status_of.ensures ∙ c.in-Some.is))
