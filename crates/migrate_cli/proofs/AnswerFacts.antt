@@ -1,16 +1,14 @@
 -- Which answer each step of a call gives.
-use Rattle.std.proofs.Common.{◌≡◌, ◌≢◌, ◌⊎◌, inl, inr, ℕ, ◌≤◌, List, [], ◌∷◌, ◌++◌, length, Result, Ok, Err, IfOk, Some, refl, ◌∙◌, sym, subst, append-nil}
+use Rattle.std.proofs.Common.{◌≡◌, ◌≢◌, ◌⊎◌, inl, inr, ℕ, List, [], ◌++◌, Result, Ok, Err, IfOk, Some, refl, ◌∙◌, sym, subst, append-nil}
 use Rattle.std.proofs.lemmas.Option.{same_Some}
 use Rattle.std.specs.declared.alloc.AllocError.{AllocError}
 use Rattle.net_model.specs.declared.refusal.NetRefusal.{NetRefusal}
 use Rattle.net_model.specs.declared.refusal.NetRefusal.TheVariants.{Limit as NetLimit, OutOfMemory as NoMemory}
-use Rattle.migrate_words.specs.Asked.{Asks}
 use Rattle.migrate_words.specs.Refusals.{IsRefusal}
 use Rattle.migrate_words.specs.Requests.{Request}
 use Rattle.migrate_words.specs.declared.refusal.WordsRefused.{WordsRefused}
 use Rattle.migrate_words.specs.declared.refusal.WordsRefused.TheVariants.{Words as NotTaken, Number, OutOfMemory as NoMemoryForWords}
-use Rattle.migration_report.specs.Kinds.{read_kind_name}
-use Rattle.migration_report.specs.Texts.{faulty_text, long_file_text, read_fault_text}
+use Rattle.migration_report.specs.Texts.{long_file_text, read_fault_text}
 use Rattle.migrate_cli.specs.RefusalStatus.{refusal_status}
 use Rattle.migrate_cli.specs.Answers.{AsksForFew, IsAnswer, MayAsk, FaultsAgree, RefusalAnswer, StopAnswer, HasAnswer}
 use Rattle.migrate_cli.specs.Answers.IsAnswer.{refused_words, many_files, read_fault, long_file, long_files, judged}
@@ -19,7 +17,7 @@ use Rattle.migrate_cli.specs.Calls.{Call}
 use Rattle.migrate_cli.specs.CallWords.AreRefused.{not_taken, number_off}
 use Rattle.migrate_cli.specs.CommandFiles.{config_names, files_of}
 use Rattle.migrate_cli.specs.Reading.{AreRead, AreWithin, names_of}
-use Rattle.migrate_cli.specs.Stops.{Kept, StopFaults, MayRead, HasRead}
+use Rattle.migrate_cli.specs.Stops.{StopFaults, MayRead, HasRead}
 use Rattle.migrate_cli.specs.Stops.MayRead.{none_yet, so_far}
 use Rattle.migrate_cli.specs.Unread.{IsUnread, UnreadAnswer}
 use Rattle.migrate_cli.specs.Verdicts.{IsVerdict}

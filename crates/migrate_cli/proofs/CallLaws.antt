@@ -1,7 +1,5 @@
 -- Where the files that an answer asks for are told, it is the one answer of the call besides a read fault.
-use Rattle.std.proofs.Common.{◌≡◌, ◌≢◌, ◌⊎◌, inl, inr, ℕ, ◌<◌, ◌≤◌, List, [], ◌∷◌, ◌++◌, length, All, refl, sym, subst, ap, ◌∙◌, append-nil, arith}
-use Rattle.std.proofs.lemmas.List.{map-append}
-use Rattle.migrate_words.specs.Asked.{Asks}
+use Rattle.std.proofs.Common.{◌≡◌, ◌≢◌, ◌⊎◌, inl, inr, ℕ, ◌<◌, ◌≤◌, List, [], ◌∷◌, ◌++◌, length, All, refl, sym, subst, ◌∙◌, append-nil, arith}
 use Rattle.migrate_words.specs.Requests.{Request}
 use Rattle.migrate_words.proofs.OneRequest.{one_request}
 use Rattle.migrate_words.proofs.TakenLaws.{numbers}
@@ -9,7 +7,7 @@ use Rattle.migration_report.specs.Texts.{many_files_text, words_refused_text}
 use Rattle.migrate_cli.specs.AnswerLaws.{IsTold, MayEnd, TellTheSame}
 use Rattle.migrate_cli.specs.AnswerLaws.TellTheSame.{same_text, words_refused}
 use Rattle.migrate_cli.specs.AnswerLaws.MayEnd.{as_answered, by_read_fault}
-use Rattle.migrate_cli.specs.Answers.{AsksForFew, IsAnswer}
+use Rattle.migrate_cli.specs.Answers.{IsAnswer}
 use Rattle.migrate_cli.specs.Answers.IsAnswer.{refused_words, many_files, read_fault, long_file, long_files, judged}
 use Rattle.migrate_cli.specs.Calls.{Call}
 use Rattle.migrate_cli.specs.CallWords.{AreRefused, AskFor, TellsWordsRefused}

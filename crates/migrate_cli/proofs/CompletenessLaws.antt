@@ -5,7 +5,7 @@ use Rattle.net_model.proofs.RefusalLaws.{IsNetworkOf-unique, MakeNetwork-refused
 use Rattle.net_model.specs.Network.{Network}
 use Rattle.net_model.specs.Refusals.{MakeNetwork, NamesAscend}
 use Rattle.migrate_words.proofs.OneRequest.{one_request}
-use Rattle.migrate_words.specs.Requests.{Request, check}
+use Rattle.migrate_words.specs.Requests.{check}
 use Rattle.step_scripts.specs.Orders.{NamesOrder}
 use Rattle.migrate_cli.specs.Answers.{IsAnswer}
 use Rattle.migrate_cli.specs.Calls.{Call}

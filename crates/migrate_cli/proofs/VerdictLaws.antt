@@ -1,5 +1,5 @@
 -- The texts that a command reads have one verdict: each step towards it goes one way.
-use Rattle.std.proofs.Common.{◌≡◌, ◌≢◌, ℕ, List, [], Some, None, refl, sym, ap, subst, ◌∙◌, arith}
+use Rattle.std.proofs.Common.{◌≡◌, ◌≢◌, ℕ, List, Some, None, refl, sym, ap, subst, ◌∙◌, arith}
 use Rattle.std.proofs.lemmas.Option.{same_Some}
 use Rattle.ios_reader.specs.declared.kind.ReadKind.{ReadKind}
 use Rattle.net_model.specs.Configuration.{Configuration}

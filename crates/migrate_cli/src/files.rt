@@ -75,10 +75,7 @@ pub fn config_names<'a, 'b>(command: &'b Command<'a>) -> &'b [&'a str]
 }
 
 /// The files that a command reads, in the order in which it reads them.
-pub fn files_of<'a>(
-    alloc: Global,
-    command: &Command<'a>,
-) -> Result<Vec<Wanted<'a>>, OutOfMemory>
+pub fn files_of<'a>(alloc: Global, command: &Command<'a>) -> Result<Vec<Wanted<'a>>, OutOfMemory>
     ensures { IfOk result (λ files. map file_of files.items ≡ files_of (request_of command.now)) }
 {
     let mut files = own_files(alloc, command)?;
@@ -89,10 +86,7 @@ pub fn files_of<'a>(
 }
 
 /// The files that a command reads before its configurations.
-fn own_files<'a>(
-    alloc: Global,
-    command: &Command<'a>,
-) -> Result<Vec<Wanted<'a>>, OutOfMemory>
+fn own_files<'a>(alloc: Global, command: &Command<'a>) -> Result<Vec<Wanted<'a>>, OutOfMemory>
     ensures { IfOk result (λ files. map file_of files.items ≡ own_files (request_of command.now)) }
 {
     let mut files = Vec::new(alloc);

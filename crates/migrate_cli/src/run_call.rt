@@ -28,16 +28,13 @@ const FILES_MOST: usize = 200;
 /// The words are those after the program's name, of one of the commands. The answer is built whole before its first
 /// byte is written.
 pub fn run<F: Files, S: Sink>(alloc: Global, words: &[String], files: &mut F, out: &mut S) -> Status
-    ensures answers {
-        let call : Call = record { words = map string_bytes words.now; content = F.content files.old } in
+    ensures answers { let call : Call = record { words = map string_bytes words.now; content = F.content files.old } in
         let before : Outside = record { asked = F.asked files.old; file_faults = F.faults files.old; written = S.written out.old; sink_faults = S.faults out.old } in
         let after : Outside = record { asked = F.asked files.new; file_faults = F.faults files.new; written = S.written out.new; sink_faults = S.faults out.new } in
         Answers call before after result }
-    ensures exact {
-        let call : Call = record { words = map string_bytes words.now; content = F.content files.old } in
+    ensures exact { let call : Call = record { words = map string_bytes words.now; content = F.content files.old } in
         EndsByAnswer call result }
-    ensures check_decides {
-        let call : Call = record { words = map string_bytes words.now; content = F.content files.old } in
+    ensures check_decides { let call : Call = record { words = map string_bytes words.now; content = F.content files.old } in
         let before : Outside = record { asked = F.asked files.old; file_faults = F.faults files.old; written = S.written out.old; sink_faults = S.faults out.old } in
         let after : Outside = record { asked = F.asked files.new; file_faults = F.faults files.new; written = S.written out.new; sink_faults = S.faults out.new } in
         CheckDecides call before after result }
