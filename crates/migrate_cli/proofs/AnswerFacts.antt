@@ -1,28 +1,36 @@
 -- Which answer each step of a call gives.
-use Rattle.std.proofs.Common.{◌≡◌, ◌≢◌, ◌⊎◌, inl, inr, ℕ, ◌≤◌, List, [], ◌∷◌, ◌++◌, length, Result, Ok, Err, IfOk, Some, codes, refl, arith, ◌∙◌, sym, subst, append-nil}
+use Rattle.std.proofs.Common.{◌≡◌, ◌≢◌, ◌⊎◌, inl, inr, ℕ, List, [], ◌++◌, Result, Ok, Err, IfOk, Some, refl, ◌∙◌, sym, subst, append-nil}
 use Rattle.std.proofs.lemmas.Option.{same_Some}
 use Rattle.std.specs.declared.alloc.AllocError.{AllocError}
-use Rattle.igp_theory.specs.Routes.{Tables}
-use Rattle.net_model.specs.Network.{Network}
 use Rattle.net_model.specs.declared.refusal.NetRefusal.{NetRefusal}
 use Rattle.net_model.specs.declared.refusal.NetRefusal.TheVariants.{Limit as NetLimit, OutOfMemory as NoMemory}
+use Rattle.migrate_words.specs.Refusals.{IsRefusal}
+use Rattle.migrate_words.specs.Requests.{Request}
+use Rattle.migrate_words.specs.declared.refusal.WordsRefused.{WordsRefused}
+use Rattle.migrate_words.specs.declared.refusal.WordsRefused.TheVariants.{Words as NotTaken, Number, OutOfMemory as NoMemoryForWords}
 use Rattle.migration_report.specs.Texts.{long_file_text, read_fault_text}
 use Rattle.migrate_cli.specs.RefusalStatus.{refusal_status}
-use Rattle.migrate_cli.specs.Answers.{IsAnswer, MayAsk, FaultsAgree, StopAnswer, HasAnswer}
-use Rattle.migrate_cli.specs.Answers.IsAnswer.{other_words, many_files, read_fault, long_file, long_files, judged}
+use Rattle.migrate_cli.specs.Answers.{AsksForFew, IsAnswer, MayAsk, FaultsAgree, RefusalAnswer, StopAnswer, HasAnswer}
+use Rattle.migrate_cli.specs.Answers.IsAnswer.{refused_words, many_files, read_fault, long_file, long_files, judged}
 use Rattle.migrate_cli.specs.Answers.MayAsk.{asks_none, asks_some}
-use Rattle.migrate_cli.specs.CommandWords.{IsCheck}
-use Rattle.migrate_cli.specs.Reading.{Contents, AreRead, AreWithin}
+use Rattle.migrate_cli.specs.Calls.{Call}
+use Rattle.migrate_cli.specs.CallWords.AreRefused.{not_taken, number_off}
+use Rattle.migrate_cli.specs.CommandFiles.{config_names, files_of}
+use Rattle.migrate_cli.specs.Reading.{AreRead, AreWithin, names_of}
 use Rattle.migrate_cli.specs.Stops.{StopFaults, MayRead, HasRead}
 use Rattle.migrate_cli.specs.Stops.MayRead.{none_yet, so_far}
-use Rattle.migrate_cli.specs.Verdicts.{IsVerdict, IsOrderVerdict}
-use Rattle.migrate_cli.specs.Verdicts.IsOrderVerdict.{safe, unsafe}
-use Rattle.migrate_cli.specs.Verdicts.IsVerdict.{faulty_configuration, no_network, off_start, faulty_order, of_order}
+use Rattle.migrate_cli.specs.Unread.{IsUnread, UnreadAnswer}
+use Rattle.migrate_cli.specs.Verdicts.{IsVerdict}
+use Rattle.migrate_cli.specs.declared.configurations.Unread.{Unread}
+use Rattle.migrate_cli.specs.declared.configurations.Unread.TheVariants.{Bad, OutOfMemory as NoMemoryToRead}
+use Rattle.migrate_cli.specs.Verdicts.IsVerdict.{faulty_configuration, no_network, off_start, of_command}
 use Rattle.migrate_cli.specs.declared.answer.Answer.{Answer}
 use Rattle.migrate_cli.specs.declared.reading.Stop.{Stop}
 use Rattle.migrate_cli.specs.declared.reading.Stop.TheVariants.{Fault, Long, Total, OutOfMemory}
 use Rattle.migrate_cli.specs.declared.status.Status.{Status}
-use Rattle.migrate_cli.specs.declared.status.Status.TheVariants.{ReadFault, WriteFault, Limit, Refused}
+use Rattle.migrate_cli.specs.declared.status.Status.TheVariants.{Words, ReadFault, WriteFault, Limit, Refused}
+use Rattle.migrate_cli.proofs.CommandLaws.{command_no_fault}
+use Rattle.migrate_cli.proofs.SameAnswers.{NoFault}
 use Rattle.migrate_cli.proofs.StopFacts.{read_so_far}
 
 -- what is said of a status and a text holds of the answer that has them
@@ -32,143 +40,126 @@ from_refusal (Ok a) status text Q same_status same_text holds = subst (λ s. Q s
 from_refusal (Err e) status text Q same_status same_text holds = tt
 
 -- an answer after these names were asked for
-pub answered : (content : Contents) (words before after asked : List (List ℕ)) (r : Result Answer AllocError) → after ≡ before ++ asked
-    → IfOk r (λ (a : Answer). IsAnswer content words asked a.status a.text) → MayAsk content words asked → HasAnswer content words before after r
-answered content words before after asked (Ok a) asked_is answer may_ask = record { asked = asked; asked_is = asked_is; answers = answer }
-answered content words before after asked (Err e) asked_is answer may_ask = record { asked = asked; asked_is = asked_is; answers = may_ask }
+pub answered : (call : Call) (before after asked : List (List ℕ)) (r : Result Answer AllocError) → after ≡ before ++ asked
+    → IfOk r (λ (a : Answer). IsAnswer call asked a.status a.text) → MayAsk call asked → HasAnswer call before after r
+answered call before after asked (Ok a) asked_is answer may_ask = record { asked = asked; asked_is = asked_is; answers = answer }
+answered call before after asked (Err e) asked_is answer may_ask = record { asked = asked; asked_is = asked_is; answers = may_ask }
 
--- as many texts are read as there are names
-pub AreRead-length : (content : Contents) (names texts : List (List ℕ)) → AreRead content names texts → length texts ≡ length names
-AreRead-length content [] [] read = refl
-AreRead-length content [] (t ∷ texts) read = absurd read
-AreRead-length content (n ∷ names) [] read = absurd read
-AreRead-length content (n ∷ names) (t ∷ texts) read = let e = AreRead-length content names texts read.1 in omega (arith, e)
+-- an answer for which no name was asked for
+pub answered_at_once : (call : Call) (before : List (List ℕ)) (r : Result Answer AllocError) → IfOk r (λ (a : Answer). IsAnswer call [] a.status a.text)
+    → HasAnswer call before before r
+answered_at_once call before r answer = answered call before before [] r (sym (append-nil before)) answer asks_none
 
--- the verdict on all texts is the answer
-pub judged_answer : (content : Contents) (words : List (List ℕ)) (order : List ℕ) (files texts : List (List ℕ)) (status : Status) (text : List ℕ)
-    → IsCheck words order files → length files ≤ 200 → AreRead content (order ∷ files) texts → AreWithin texts
-    → ((order_text : List ℕ) (rest : List (List ℕ)) → texts ≡ order_text ∷ rest → IsVerdict order files order_text rest status text)
-    → IsAnswer content words (order ∷ files) status text
-judged_answer content words order files [] status text check few read within verdict = absurd read
-judged_answer content words order files (order_text ∷ rest) status text check few read within verdict =
-    judged order files order_text rest status text check few read within (verdict order_text rest refl)
+-- the answer to words that are refused
+words_refused_so : (call : Call) (refused : WordsRefused) (status : Status) (text : List ℕ) → IsRefusal call.words refused → RefusalAnswer refused status text
+    → IsAnswer call [] status text
+words_refused_so call (NotTaken detail) status text is answer =
+    subst (λ s. IsAnswer call [] s text) (sym answer.0) (refused_words text (not_taken text is answer.1))
+words_refused_so call Number status text is answer =
+    subst (λ s. IsAnswer call [] s text) (sym answer.0) (subst (IsAnswer call [] Words) (sym answer.1) (refused_words _ (number_off is.1)))
+words_refused_so call NoMemoryForWords status text is answer = absurd answer
+
+pub refusal_answer : (call : Call) (before : List (List ℕ)) (refused : WordsRefused) (r : Result Answer AllocError) → IsRefusal call.words refused
+    → IfOk r (λ (a : Answer). RefusalAnswer refused a.status a.text) → HasAnswer call before before r
+refusal_answer call before refused (Ok a) is answer = answered_at_once call before (Ok a) (words_refused_so call refused a.status a.text is answer)
+refusal_answer call before refused (Err e) is answer = answered_at_once call before (Err e) tt
 
 -- where memory may run out in reading, the call may have asked for those names
-may_ask : {content : Contents} {words asked : List (List ℕ)} (order : List ℕ) (files : List (List ℕ)) → IsCheck words order files → length files ≤ 200
-    → MayRead content (order ∷ files) asked → MayAsk content words asked
-may_ask order files check few none_yet = asks_none
-may_ask order files check few (so_far asked texts name up) = asks_some order files asked texts name check few up
+may_ask : {call : Call} {asked : List (List ℕ)} (request : Request) → AsksForFew call.words request → MayRead call.content (files_of request) asked → MayAsk call asked
+may_ask request ask none_yet = asks_none
+may_ask request ask (so_far asked texts file up) = asks_some request asked texts file ask up
 
 -- and for all names where all were read
-pub may_ask_all : (content : Contents) (words : List (List ℕ)) (order : List ℕ) (files texts : List (List ℕ)) → IsCheck words order files → length files ≤ 200
-    → AreRead content (order ∷ files) texts → AreWithin texts → MayAsk content words (order ∷ files)
-may_ask_all content words order files texts check few read within =
-    may_ask order files check few (read_so_far content (order ∷ files) (order ∷ files) [] texts (sym (append-nil (order ∷ files))) read within)
+pub may_ask_all : (call : Call) (request : Request) (texts : List (List ℕ)) → AsksForFew call.words request
+    → AreRead call.content (files_of request) texts → AreWithin (files_of request) texts → MayAsk call (names_of (files_of request))
+may_ask_all call request texts ask read within =
+    may_ask request ask (read_so_far call.content (files_of request) (files_of request) [] texts (sym (append-nil (files_of request))) read within)
 
 -- why reading stopped is the answer
-pub stop_answer : (content : Contents) (words before after : List (List ℕ)) (order : List ℕ) (files : List (List ℕ)) (stop : Stop) (r : Result Answer AllocError)
-    → IsCheck words order files → length files ≤ 200 → HasRead content (order ∷ files) before after (Err stop)
-    → IfOk r (λ (a : Answer). StopAnswer stop a.status a.text) → HasAnswer content words before after r
-stop_answer content words before after order files (Fault file) (Ok a) check few read answer =
-    let Q : Status → List ℕ → Type 0 = λ s t. IsAnswer content words read.asked s t in
-    let named = read.reads.stops in
+pub stop_answer : (call : Call) (before after : List (List ℕ)) (request : Request) (stop : Stop) (r : Result Answer AllocError)
+    → AsksForFew call.words request → HasRead call.content (files_of request) before after (Err stop)
+    → IfOk r (λ (a : Answer). StopAnswer stop a.status a.text) → HasAnswer call before after r
+stop_answer call before after request (Fault name) (Ok a) ask read answer =
+    let Q : Status → List ℕ → Type 0 = λ s t. IsAnswer call read.asked s t in
     record {
       asked = read.asked;
       asked_is = read.asked_is;
       answers =
           subst (λ s. Q s a.text) (sym answer.0) (subst (Q ReadFault) (sym answer.1)
-          (subst (λ n. Q ReadFault (read_fault_text n)) (sym named)
-          (read_fault order files read.asked read.reads.texts read.reads.name check few read.reads.up_to)));
+          (subst (λ n. Q ReadFault (read_fault_text n)) (sym read.reads.stops)
+          (read_fault request read.asked read.reads.texts read.reads.file ask read.reads.up_to)));
     }
-stop_answer content words before after order files (Long file) (Ok a) check few read answer =
-    let Q : Status → List ℕ → Type 0 = λ s t. IsAnswer content words read.asked s t in
-    let named = read.reads.stops.0 in
+stop_answer call before after request (Long name) (Ok a) ask read answer =
+    let Q : Status → List ℕ → Type 0 = λ s t. IsAnswer call read.asked s t in
     record {
       asked = read.asked;
       asked_is = read.asked_is;
       answers =
           subst (λ s. Q s a.text) (sym answer.0) (subst (Q Limit) (sym answer.1)
-          (subst (λ n. Q Limit (long_file_text n)) (sym named)
-          (long_file order files read.asked read.reads.texts read.reads.name check few read.reads.up_to read.reads.stops.1)));
+          (subst (λ n. Q Limit (long_file_text n)) (sym read.reads.stops.0)
+          (long_file request read.asked read.reads.texts read.reads.file ask read.reads.up_to read.reads.stops.1)));
     }
-stop_answer content words before after order files (Total number) (Ok a) check few read answer =
-    let Q : Status → List ℕ → Type 0 = λ s t. IsAnswer content words read.asked s t in
+stop_answer call before after request (Total number) (Ok a) ask read answer =
+    let Q : Status → List ℕ → Type 0 = λ s t. IsAnswer call read.asked s t in
     record {
       asked = read.asked;
       asked_is = read.asked_is;
       answers =
           subst (λ s. Q s a.text) (sym answer.0) (subst (Q Limit) (sym answer.1)
-          (long_files order files read.asked read.reads.texts read.reads.name number check few read.reads.up_to read.reads.stops));
+          (long_files request read.asked read.reads.texts read.reads.file number ask read.reads.up_to read.reads.stops));
     }
-stop_answer content words before after order files OutOfMemory (Ok a) check few read answer = absurd answer
-stop_answer content words before after order files (Fault file) (Err e) check few read answer =
+stop_answer call before after request OutOfMemory (Ok a) ask read answer = absurd answer
+stop_answer call before after request (Fault name) (Err e) ask read answer =
     record {
       asked = read.asked;
       asked_is = read.asked_is;
-      answers = asks_some order files read.asked read.reads.texts read.reads.name check few read.reads.up_to;
+      answers = asks_some request read.asked read.reads.texts read.reads.file ask read.reads.up_to;
     }
-stop_answer content words before after order files (Long file) (Err e) check few read answer =
+stop_answer call before after request (Long name) (Err e) ask read answer =
     record {
       asked = read.asked;
       asked_is = read.asked_is;
-      answers = asks_some order files read.asked read.reads.texts read.reads.name check few read.reads.up_to;
+      answers = asks_some request read.asked read.reads.texts read.reads.file ask read.reads.up_to;
     }
-stop_answer content words before after order files (Total number) (Err e) check few read answer =
+stop_answer call before after request (Total number) (Err e) ask read answer =
     record {
       asked = read.asked;
       asked_is = read.asked_is;
-      answers = asks_some order files read.asked read.reads.texts read.reads.name check few read.reads.up_to;
+      answers = asks_some request read.asked read.reads.texts read.reads.file ask read.reads.up_to;
     }
-stop_answer content words before after order files OutOfMemory (Err e) check few read answer =
-    record { asked = read.asked; asked_is = read.asked_is; answers = may_ask order files check few read.reads }
-
--- a fault of reading or of writing is no verdict
-abbrev NoFault : Status → Type 0
-NoFault status = (status ≢ ReadFault) × (status ≢ WriteFault)
-
-order_verdict_no_fault : {net : Network} {old new : Tables} {order : List ℕ} {status : Status} {text : List ℕ}
-    → IsOrderVerdict net old new order status text → NoFault status
-order_verdict_no_fault (safe _) = (λ e. Prim.cc e, λ e. Prim.cc e)
-order_verdict_no_fault (unsafe _ _ _ _) = (λ e. Prim.cc e, λ e. Prim.cc e)
+stop_answer call before after request OutOfMemory (Err e) ask read answer =
+    record { asked = read.asked; asked_is = read.asked_is; answers = may_ask request ask read.reads }
 
 refusal_no_fault : (refusal : NetRefusal) (status : Status) → refusal_status refusal ≡ Some status → NoFault status
 refusal_no_fault (NetLimit _ _) status e = subst NoFault (same_Some Limit status e) ((λ f. Prim.cc f), (λ f. Prim.cc f))
 refusal_no_fault NoMemory status e = absurd (Prim.cc e)
 refusal_no_fault _ status e = subst NoFault (same_Some Refused status e) ((λ f. Prim.cc f), (λ f. Prim.cc f))
 
-pub verdict_no_fault : {order : List ℕ} {files : List (List ℕ)} {order_text : List ℕ} {texts : List (List ℕ)} {status : Status} {text : List ℕ}
-    → IsVerdict order files order_text texts status text → NoFault status
+pub verdict_no_fault : {request : Request} {own texts : List (List ℕ)} {status : Status} {text : List ℕ} → IsVerdict request own texts status text → NoFault status
 verdict_no_fault (faulty_configuration _ _ _ _) = (λ e. Prim.cc e, λ e. Prim.cc e)
 verdict_no_fault (no_network _ refusal status _ _ given) = refusal_no_fault refusal status given
-verdict_no_fault (off_start _ _ _ _ _ _) = (λ e. Prim.cc e, λ e. Prim.cc e)
-verdict_no_fault (faulty_order _ _ _ _ _) = (λ e. Prim.cc e, λ e. Prim.cc e)
-verdict_no_fault (of_order _ _ _ _ _ _ verdict) = order_verdict_no_fault verdict
+verdict_no_fault (off_start _ _ _ _ _ _ _) = (λ e. Prim.cc e, λ e. Prim.cc e)
+verdict_no_fault {request} {own} {texts} (of_command net status text _ _ verdict) =
+    command_no_fault request (record { own = own; configs = texts; net = net }) status text verdict
 
 -- that a write failed is no answer
-pub answer_writes : {content : Contents} {words asked : List (List ℕ)} {status : Status} {text : List ℕ}
-    → IsAnswer content words asked status text → status ≢ WriteFault
-answer_writes (other_words _) = λ e. Prim.cc e
-answer_writes (many_files _ _ _ _) = λ e. Prim.cc e
-answer_writes (read_fault _ _ _ _ _ _ _ _) = λ e. Prim.cc e
-answer_writes (long_file _ _ _ _ _ _ _ _ _) = λ e. Prim.cc e
-answer_writes (long_files _ _ _ _ _ _ _ _ _ _) = λ e. Prim.cc e
-answer_writes (judged _ _ _ _ _ _ _ _ _ _ verdict) = (verdict_no_fault verdict).1
-
--- the verdict on all texts is no fault of reading
-pub judged_no_fault : (content : Contents) (order : List ℕ) (files texts : List (List ℕ)) (status : Status) (text : List ℕ) → AreRead content (order ∷ files) texts
-    → ((order_text : List ℕ) (rest : List (List ℕ)) → texts ≡ order_text ∷ rest → IsVerdict order files order_text rest status text) → status ≢ ReadFault
-judged_no_fault content order files [] status text read verdict = absurd read
-judged_no_fault content order files (order_text ∷ rest) status text read verdict = (verdict_no_fault (verdict order_text rest refl)).0
+pub answer_writes : {call : Call} {asked : List (List ℕ)} {status : Status} {text : List ℕ} → IsAnswer call asked status text → status ≢ WriteFault
+answer_writes (refused_words _ _) = λ e. Prim.cc e
+answer_writes (many_files _ _ _) = λ e. Prim.cc e
+answer_writes (read_fault _ _ _ _ _ _) = λ e. Prim.cc e
+answer_writes (long_file _ _ _ _ _ _ _) = λ e. Prim.cc e
+answer_writes (long_files _ _ _ _ _ _ _ _) = λ e. Prim.cc e
+answer_writes (judged _ _ _ _ _ _ _ verdict) = (verdict_no_fault verdict).1
 
 -- an answer is a read fault, or it isn't
-pub reads_or_not : {content : Contents} {words asked : List (List ℕ)} {status : Status} {text : List ℕ}
-    → IsAnswer content words asked status text → (status ≡ ReadFault) ⊎ (status ≢ ReadFault)
-reads_or_not (other_words _) = inr (λ e. Prim.cc e)
-reads_or_not (many_files _ _ _ _) = inr (λ e. Prim.cc e)
-reads_or_not (read_fault _ _ _ _ _ _ _ _) = inl refl
-reads_or_not (long_file _ _ _ _ _ _ _ _ _) = inr (λ e. Prim.cc e)
-reads_or_not (long_files _ _ _ _ _ _ _ _ _ _) = inr (λ e. Prim.cc e)
-reads_or_not (judged _ _ _ _ _ _ _ _ _ _ verdict) = inr (verdict_no_fault verdict).0
+pub reads_or_not : {call : Call} {asked : List (List ℕ)} {status : Status} {text : List ℕ} → IsAnswer call asked status text
+    → (status ≡ ReadFault) ⊎ (status ≢ ReadFault)
+reads_or_not (refused_words _ _) = inr (λ e. Prim.cc e)
+reads_or_not (many_files _ _ _) = inr (λ e. Prim.cc e)
+reads_or_not (read_fault _ _ _ _ _ _) = inl refl
+reads_or_not (long_file _ _ _ _ _ _ _) = inr (λ e. Prim.cc e)
+reads_or_not (long_files _ _ _ _ _ _ _ _) = inr (λ e. Prim.cc e)
+reads_or_not (judged _ _ _ _ _ _ _ verdict) = inr (verdict_no_fault verdict).0
 
 -- where the count of faults stands it agrees with an answer that is no read fault
 pub faults_agree : (status : Status) (before after : ℕ) → status ≢ ReadFault → after ≡ before → FaultsAgree status before after
@@ -190,3 +181,22 @@ stop_agrees (Total number) before after (Ok a) faults answer =
     faults_agree a.status before after (λ e. let clash : Limit ≡ ReadFault = sym answer.0 ∙ e in Prim.cc clash) faults
 stop_agrees OutOfMemory before after (Ok a) faults answer = absurd answer
 stop_agrees stop before after (Err e) faults answer = tt
+
+-- with the answer that words are refused
+pub words_agree : (refused : WordsRefused) (count : ℕ) (r : Result Answer AllocError) → IfOk r (λ (a : Answer). RefusalAnswer refused a.status a.text)
+    → IfOk r (λ (a : Answer). FaultsAgree a.status count count)
+words_agree (NotTaken detail) count (Ok a) answer =
+    faults_agree a.status count count (λ e. let clash : Words ≡ ReadFault = sym answer.0 ∙ e in Prim.cc clash) refl
+words_agree Number count (Ok a) answer =
+    faults_agree a.status count count (λ e. let clash : Words ≡ ReadFault = sym answer.0 ∙ e in Prim.cc clash) refl
+words_agree NoMemoryForWords count (Ok a) answer = absurd answer
+words_agree refused count (Err e) answer = tt
+
+-- why configurations aren't read is the verdict
+pub unread_verdict : (request : Request) (own texts : List (List ℕ)) (unread : Unread) (r : Result Answer AllocError) → IsUnread (config_names request) texts unread
+    → IfOk r (λ (a : Answer). UnreadAnswer unread a.status a.text) → IfOk r (λ (a : Answer). IsVerdict request own texts a.status a.text)
+unread_verdict request own texts (Bad file line kind) (Ok a) is answer =
+    subst (λ s. IsVerdict request own texts s a.text) (sym answer.0)
+    (subst (IsVerdict request own texts Refused) (sym answer.1) (faulty_configuration file.now line kind is))
+unread_verdict request own texts NoMemoryToRead (Ok a) is answer = absurd answer
+unread_verdict request own texts unread (Err e) is answer = tt

@@ -1,141 +1,159 @@
 -- Where the files that an answer asks for are told, it is the one answer of the call besides a read fault.
-use Rattle.std.proofs.Common.{◌≡◌, ◌≢◌, ◌⊎◌, inl, inr, ℕ, ◌<◌, ◌≤◌, List, [], ◌∷◌, ◌++◌, length, All, refl, sym, subst, ◌∙◌, arith}
-use Rattle.std.specs.Prelude.{codes}
+use Rattle.std.proofs.Common.{◌≡◌, ◌≢◌, ◌⊎◌, inl, inr, ℕ, ◌<◌, ◌≤◌, List, [], ◌∷◌, ◌++◌, length, All, refl, sym, subst, ◌∙◌, append-nil, arith}
+use Rattle.migrate_words.specs.Requests.{Request}
+use Rattle.migrate_words.proofs.OneRequest.{one_request}
+use Rattle.migrate_words.proofs.TakenLaws.{numbers}
 use Rattle.migration_report.specs.Texts.{many_files_text, words_refused_text}
-use Rattle.migrate_cli.specs.AnswerLaws.{IsTold, MayEnd}
+use Rattle.migrate_cli.specs.AnswerLaws.{IsTold, MayEnd, TellTheSame}
+use Rattle.migrate_cli.specs.AnswerLaws.TellTheSame.{same_text, words_refused}
 use Rattle.migrate_cli.specs.AnswerLaws.MayEnd.{as_answered, by_read_fault}
 use Rattle.migrate_cli.specs.Answers.{IsAnswer}
-use Rattle.migrate_cli.specs.Answers.IsAnswer.{other_words, many_files, read_fault, long_file, long_files, judged}
-use Rattle.migrate_cli.specs.CommandWords.{IsCheck}
-use Rattle.migrate_cli.specs.Reading.{Contents, AreRead, AreWithin}
+use Rattle.migrate_cli.specs.Answers.IsAnswer.{refused_words, many_files, read_fault, long_file, long_files, judged}
+use Rattle.migrate_cli.specs.Calls.{Call}
+use Rattle.migrate_cli.specs.CallWords.{AreRefused, AskFor, TellsWordsRefused}
+use Rattle.migrate_cli.specs.CallWords.AreRefused.{not_taken, number_off, not_landed}
+use Rattle.migrate_cli.specs.CommandFiles.{HasLanded, config_names, config_texts, files_of, own_texts}
+use Rattle.migrate_cli.specs.Reading.{Contents, File, AreRead, AreWithin, names_of}
 use Rattle.migrate_cli.specs.Verdicts.{IsVerdict}
 use Rattle.migrate_cli.specs.declared.status.Status.{Status}
 use Rattle.migrate_cli.specs.declared.status.Status.TheVariants.{Words, ReadFault, Limit}
-use Rattle.migrate_cli.proofs.StopLaws.{StopsAfter, IsBrokenSo, long_breaks, total_breaks, told_with, one_list, none_past, same_place, same_limit}
+use Rattle.migrate_cli.proofs.ReadingFacts.{AreRead-length}
+use Rattle.migrate_cli.proofs.StopLaws.{StopsAfter, IsBrokenSo, IsToldOf, long_breaks, total_breaks, told_with, told_files, told_up_to, one_list, none_past, same_place, same_limit}
 use Rattle.migrate_cli.proofs.StopLaws.IsBrokenSo.{too_long, too_many}
-use Rattle.migrate_cli.proofs.VerdictLaws.{AreSame, one_verdict}
+use Rattle.migrate_cli.proofs.SameAnswers.{AreSame}
+use Rattle.migrate_cli.proofs.VerdictLaws.{one_verdict}
 
 -- two answers to the same question: names asked for, status and text
 abbrev SameAnswer : List (List ℕ) → Status → List ℕ → List (List ℕ) → Status → List ℕ → Type 0
-SameAnswer asked s t also z w = (asked ≡ also) × (s ≡ z) × (t ≡ w)
+SameAnswer asked s t also z w = (asked ≡ also) × (s ≡ z) × TellTheSame s t w
 
--- ---- the files of a call ----
+-- answers with the same text tell the same
+tell_same : (s z : Status) (t w : List ℕ) → AreSame s t z w → TellTheSame s t w
+tell_same s z t w both = subst (TellTheSame s t) both.1 same_text
 
-data OfFiles (content : Contents) (order : List ℕ) (files : List (List ℕ)) : List (List ℕ) → Status → List ℕ → Type 0 where
-  above : 200 < length files → OfFiles content order files [] Limit (many_files_text (length files))
-  stopped : {asked : List (List ℕ)} {status : Status} {answer : List ℕ} (before : List (List ℕ)) (name : List ℕ) (texts : List (List ℕ)) (text : List ℕ)
-      → length files ≤ 200 → asked ≡ before ++ name ∷ [] → StopsAfter content (order ∷ files) before name texts text
-      → IsBrokenSo name texts text status answer → OfFiles content order files asked status answer
-  all_read : {status : Status} {answer : List ℕ} (order_text : List ℕ) (texts : List (List ℕ)) → length files ≤ 200
-      → AreRead content (order ∷ files) (order_text ∷ texts) → AreWithin (order_text ∷ texts) → IsVerdict order files order_text texts status answer
-      → OfFiles content order files (order ∷ files) status answer
+-- ---- the files of a command ----
 
-few_or_many : (files : List (List ℕ)) → 200 < length files → length files ≤ 200 → ⊥
-few_or_many files many few = omega (arith, many, few)
+pub data OfFiles (content : Contents) (request : Request) : List (List ℕ) → Status → List ℕ → Type 0 where
+  above : 200 < length (config_names request) → OfFiles content request [] Limit (many_files_text (length (config_names request)))
+  stopped : {asked : List (List ℕ)} {status : Status} {answer : List ℕ} (before : List File) (file : File) (texts : List (List ℕ)) (text : List ℕ)
+      → length (config_names request) ≤ 200 → asked ≡ names_of before ++ file.name ∷ [] → StopsAfter content (files_of request) before file texts text
+      → IsBrokenSo before file texts text status answer → OfFiles content request asked status answer
+  all_read : {status : Status} {answer : List ℕ} (texts : List (List ℕ)) → length (config_names request) ≤ 200
+      → AreRead content (files_of request) texts → AreWithin (files_of request) texts
+      → IsVerdict request (own_texts request texts) (config_texts request texts) status answer
+      → OfFiles content request (names_of (files_of request)) status answer
 
-module _ (content : Contents) (order : List ℕ) (files : List (List ℕ)) where
-  same_stop : {p q : List (List ℕ)} {s z : Status} {t w : List ℕ} (b c : List (List ℕ)) (n m : List ℕ) (ts ss : List (List ℕ)) (x y : List ℕ)
-      → All (IsTold content) p → p ≡ b ++ n ∷ [] → q ≡ c ++ m ∷ [] → StopsAfter content (order ∷ files) b n ts x → StopsAfter content (order ∷ files) c m ss y
-      → IsBrokenSo n ts x s t → IsBrokenSo m ss y z w → SameAnswer p s t q z w
-  same_stop b c n m ts ss x y tell asked also one other here there =
-      let tells = subst (All (IsTold content)) asked tell in
-      let place = same_place content (order ∷ files) b c n m tells ts ss x y one other in
-      let answer = same_limit content (order ∷ files) b c n m tells ts ss x y one other here there in
-      let names : b ++ n ∷ [] ≡ c ++ m ∷ [] = λ i. place.0 i ++ place.1 i ∷ [] in
-      (asked ∙ names ∙ sym also, answer.0, answer.1)
+module _ (content : Contents) (request : Request) where
+  pub few_or_many : 200 < length (config_names request) → length (config_names request) ≤ 200 → ⊥
+  few_or_many many few = omega (arith, many, few)
 
-  stop_or_all : (before : List (List ℕ)) (name : List ℕ) (texts : List (List ℕ)) (text : List ℕ) (all : List (List ℕ))
-      → All (IsTold content) (before ++ name ∷ []) → StopsAfter content (order ∷ files) before name texts text → AreRead content (order ∷ files) all → AreWithin all → ⊥
-  stop_or_all before name texts text all tell stop read within =
-      none_past content (order ∷ files) before name texts text stop.after all stop tell
-      (subst (λ names. AreRead content names all) stop.names_are read) within
+  same_stop : {p q : List (List ℕ)} {s z : Status} {t w : List ℕ} (b c : List File) (n m : File) (ts ss : List (List ℕ)) (x y : List ℕ)
+      → All (IsTold content) p → p ≡ names_of b ++ n.name ∷ [] → q ≡ names_of c ++ m.name ∷ [] → StopsAfter content (files_of request) b n ts x
+      → StopsAfter content (files_of request) c m ss y → IsBrokenSo b n ts x s t → IsBrokenSo c m ss y z w → SameAnswer p s t q z w
+  same_stop {p} {q} {s} {z} {t} {w} b c n m ts ss x y tell asked also one other here there =
+      let tells = told_up_to content b n p asked tell in
+      let place = same_place content (files_of request) b c n m tells ts ss x y one other in
+      let answer = same_limit content (files_of request) b c n m tells ts ss x y one other here there in
+      let names : names_of b ++ n.name ∷ [] ≡ names_of c ++ m.name ∷ [] = λ i. names_of (place.0 i) ++ (place.1 i).name ∷ [] in
+      (asked ∙ names ∙ sym also, answer.0, tell_same s z t w answer)
 
-  same_verdict : {s z : Status} {t w : List ℕ} (x y : List ℕ) (ts ss : List (List ℕ)) → x ∷ ts ≡ y ∷ ss → IsVerdict order files x ts s t → IsVerdict order files y ss z w
-      → AreSame s t z w
-  same_verdict {s} {z} {t} {w} x y ts ss is one other =
-      let head : x ≡ y = cc is in
-      let rest : ts ≡ ss = cc is in
-      one_verdict order files x ts s z t w one
-      (subst (λ some. IsVerdict order files some ts z w) (sym head) (subst (λ some. IsVerdict order files y some z w) (sym rest) other))
+  pub stop_or_all : (before : List File) (file : File) (texts : List (List ℕ)) (text : List ℕ) (all : List (List ℕ))
+      → All (IsToldOf content) (before ++ file ∷ []) → StopsAfter content (files_of request) before file texts text → AreRead content (files_of request) all
+      → AreWithin (files_of request) all → ⊥
+  stop_or_all before file texts text all tell stop read within =
+      none_past content (files_of request) before file texts text stop.after all stop tell
+      (subst (λ files. AreRead content files all) stop.files_are read) (subst (λ files. AreWithin files all) stop.files_are within)
 
-  one_of_files : {p q : List (List ℕ)} {s z : Status} {t w : List ℕ} → All (IsTold content) p → OfFiles content order files p s t → OfFiles content order files q z w
+  same_verdict : {s z : Status} {t w : List ℕ} (ts ss : List (List ℕ)) → ts ≡ ss → IsVerdict request (own_texts request ts) (config_texts request ts) s t
+      → IsVerdict request (own_texts request ss) (config_texts request ss) z w → AreSame s t z w
+  same_verdict {s} {z} {t} {w} ts ss is one other =
+      one_verdict request (own_texts request ts) (config_texts request ts) s z t w one
+      (subst (λ some. IsVerdict request (own_texts request some) (config_texts request some) z w) (sym is) other)
+
+  one_of_files : {p q : List (List ℕ)} {s z : Status} {t w : List ℕ} → All (IsTold content) p → OfFiles content request p s t → OfFiles content request q z w
       → SameAnswer p s t q z w
-  one_of_files tell (above _) (above _) = (refl, refl, refl)
-  one_of_files tell (above many) (stopped _ _ _ _ few _ _ _) = absurd (few_or_many files many few)
-  one_of_files tell (above many) (all_read _ _ few _ _ _) = absurd (few_or_many files many few)
-  one_of_files tell (stopped _ _ _ _ few _ _ _) (above many) = absurd (few_or_many files many few)
+  one_of_files tell (above _) (above _) = (refl, refl, same_text)
+  one_of_files tell (above many) (stopped _ _ _ _ few _ _ _) = absurd (few_or_many many few)
+  one_of_files tell (above many) (all_read _ few _ _ _) = absurd (few_or_many many few)
+  one_of_files tell (stopped _ _ _ _ few _ _ _) (above many) = absurd (few_or_many many few)
   one_of_files tell (stopped b n ts x _ asked one here) (stopped c m ss y _ also other there) =
       same_stop b c n m ts ss x y tell asked also one other here there
-  one_of_files tell (stopped b n ts x _ asked stop _) (all_read y ss _ read within _) =
-      absurd (stop_or_all b n ts x (y ∷ ss) (subst (All (IsTold content)) asked tell) stop read within)
-  one_of_files tell (all_read _ _ few _ _ _) (above many) = absurd (few_or_many files many few)
-  one_of_files tell (all_read y ss _ read within _) (stopped b n ts x _ _ stop _) =
-      absurd (stop_or_all b n ts x (y ∷ ss) (told_with content b n stop.after (subst (All (IsTold content)) stop.names_are tell)) stop read within)
-  one_of_files tell (all_read x ts _ one _ verdict) (all_read y ss _ other _ judgement) =
-      let texts : x ∷ ts ≡ y ∷ ss = one_list content (order ∷ files) (x ∷ ts) (y ∷ ss) tell one other in
-      let answer = same_verdict x y ts ss texts verdict judgement in
-      (refl, answer.0, answer.1)
+  one_of_files {p} tell (stopped b n ts x _ asked stop _) (all_read ss _ read within _) =
+      absurd (stop_or_all b n ts x ss (told_up_to content b n p asked tell) stop read within)
+  one_of_files tell (all_read _ few _ _ _) (above many) = absurd (few_or_many many few)
+  one_of_files tell (all_read ss _ read within _) (stopped b n ts x _ _ stop _) =
+      absurd (stop_or_all b n ts x ss
+      (told_with content b n stop.after (subst (All (IsToldOf content)) stop.files_are (told_files content (files_of request) tell))) stop read within)
+  one_of_files {s = s} {z = z} {t = t} {w = w} tell (all_read ts _ one _ verdict) (all_read ss _ other _ judgement) =
+      let texts = one_list content (files_of request) ts ss (told_files content (files_of request) tell) one other in
+      let answer = same_verdict ts ss texts verdict judgement in
+      (refl, answer.0, tell_same s z t w answer)
 
 -- ---- the words of a call ----
 
-data OfWords (content : Contents) (words : List (List ℕ)) : List (List ℕ) → Status → List ℕ → Type 0 where
-  no_check : ((order : List ℕ) (files : List (List ℕ)) → IsCheck words order files → ⊥) → OfWords content words [] Words words_refused_text
-  a_check : {asked : List (List ℕ)} {status : Status} {answer : List ℕ} (order : List ℕ) (files : List (List ℕ)) → IsCheck words order files
-      → OfFiles content order files asked status answer → OfWords content words asked status answer
+pub data OfWords (call : Call) : List (List ℕ) → Status → List ℕ → Type 0 where
+  refused : (text : List ℕ) → AreRefused call.words text → OfWords call [] Words text
+  asks : {asked : List (List ℕ)} {status : Status} {answer : List ℕ} (request : Request) → AskFor call.words request
+      → OfFiles call.content request asked status answer → OfWords call asked status answer
 
 -- each answer, step by step
-steps_of : {content : Contents} {words asked : List (List ℕ)} {status : Status} {text : List ℕ} → status ≢ ReadFault → IsAnswer content words asked status text
-    → OfWords content words asked status text
-steps_of read (other_words none) = no_check none
-steps_of read (many_files order files check many) = a_check order files check (above many)
-steps_of read (read_fault _ _ _ _ _ _ _ _) = absurd (read refl)
-steps_of read (long_file order files asked texts file check few up long) =
-    a_check order files check (stopped up.before file texts long.text few up.asked_are (record {
+pub steps_of : {call : Call} {asked : List (List ℕ)} {status : Status} {text : List ℕ} → status ≢ ReadFault → IsAnswer call asked status text
+    → OfWords call asked status text
+steps_of read (refused_words text are) = refused text are
+steps_of read (many_files request ask many) = asks request ask (above many)
+steps_of read (read_fault _ _ _ _ _ _) = absurd (read refl)
+steps_of {call} read (long_file request asked texts file ask up long) =
+    asks request ask.asked (stopped up.before file texts long.text ask.few up.asked_are (record {
       after = up.after;
-      names_are = up.names_are;
+      files_are = up.files_are;
       read = up.read;
       next = long.read;
       within = up.within;
-      broken = long_breaks texts long.text long.long;
+      broken = long_breaks up.before texts file long.text (AreRead-length call.content up.before texts up.read) long.long;
     }) (too_long long.long))
-steps_of read (long_files order files asked texts file number check few up passes) =
-    a_check order files check (stopped up.before file texts passes.text few up.asked_are (record {
+steps_of read (long_files request asked texts file number ask up passes) =
+    asks request ask.asked (stopped up.before file texts passes.text ask.few up.asked_are (record {
       after = up.after;
-      names_are = up.names_are;
+      files_are = up.files_are;
       read = up.read;
       next = passes.read;
       within = up.within;
-      broken = total_breaks texts passes.text number passes.number_is passes.passed;
+      broken = total_breaks up.before texts file passes.text number up.within.each passes.number_is passes.passed;
     }) (too_many number passes.short passes.number_is))
-steps_of read (judged order files order_text texts status text check few reads within verdict) =
-    a_check order files check (all_read order_text texts few reads within verdict)
+steps_of read (judged request texts status text ask reads within verdict) =
+    asks request ask.asked (all_read texts ask.few reads within verdict)
 
--- words are those of one order file and one list of files
-one_check : (words : List (List ℕ)) (o p : List ℕ) (fs gs : List (List ℕ)) → IsCheck words o fs → IsCheck words p gs → (o ≡ p) × (fs ≡ gs)
-one_check words o p fs gs a b =
-    let same : codes "check" ∷ o ∷ fs ≡ codes "check" ∷ p ∷ gs = sym a.words_are ∙ b.words_are in
-    let rest : o ∷ fs ≡ p ∷ gs = cc same in
-    (cc rest, cc rest)
+-- words that are refused ask for nothing
+pub refused_or_asks : (words : List (List ℕ)) (line : List ℕ) (request : Request) → AreRefused words line → AskFor words request → ⊥
+refused_or_asks words line request (not_taken _ none _) ask = none ask.asks.taken
+refused_or_asks words line request (number_off off) ask = (numbers words).none off request ask.asks
+refused_or_asks words line request (not_landed other given none) ask =
+    none (subst HasLanded (one_request words request other ask.asks given) ask.landed)
 
-one_of_words : (content : Contents) (words : List (List ℕ)) {p q : List (List ℕ)} {s z : Status} {t w : List ℕ} → All (IsTold content) p → OfWords content words p s t
-    → OfWords content words q z w → SameAnswer p s t q z w
-one_of_words content words tell (no_check _) (no_check _) = (refl, refl, refl)
-one_of_words content words tell (no_check none) (a_check order files check _) = absurd (none order files check)
-one_of_words content words tell (a_check order files check _) (no_check none) = absurd (none order files check)
-one_of_words content words {q = q} {z = z} {w = w} tell (a_check o fs check one) (a_check p gs again other) =
-    let same = one_check words o p fs gs check again in
-    one_of_files content o fs tell one
-    (subst (λ order. OfFiles content order fs q z w) (sym same.0) (subst (λ files. OfFiles content p files q z w) (sym same.1) other))
+-- and say so first
+tells : (words : List (List ℕ)) (text : List ℕ) → AreRefused words text → TellsWordsRefused text
+tells words text (not_taken _ _ told) = told
+tells words text (number_off _) = record { detail = []; text_is = sym (append-nil words_refused_text) }
+tells words text (not_landed _ _ _) = record { detail = []; text_is = sym (append-nil words_refused_text) }
+
+one_of_words : (call : Call) {p q : List (List ℕ)} {s z : Status} {t w : List ℕ} → All (IsTold call.content) p → OfWords call p s t
+    → OfWords call q z w → SameAnswer p s t q z w
+one_of_words call tell (refused t one) (refused w other) = (refl, refl, words_refused (tells call.words t one) (tells call.words w other))
+one_of_words call tell (refused t one) (asks request ask _) = absurd (refused_or_asks call.words t request one ask)
+one_of_words call tell (asks request ask _) (refused w other) = absurd (refused_or_asks call.words w request other ask)
+one_of_words call {q = q} {z = z} {w = w} tell (asks one ask files) (asks other again also) =
+    let one_thing = one_request call.words one other ask.asks again.asks in
+    one_of_files call.content one tell files (subst (λ request. OfFiles call.content request q z w) (sym one_thing) also)
 
 -- a call has one answer
-pub one_answer : (content : Contents) (words p q : List (List ℕ)) (s z : Status) (t w : List ℕ) → All (IsTold content) p → s ≢ ReadFault → z ≢ ReadFault
-    → IsAnswer content words p s t → IsAnswer content words q z w → SameAnswer p s t q z w
-one_answer content words p q s z t w tell no_fault no_other one other = one_of_words content words tell (steps_of no_fault one) (steps_of no_other other)
+pub one_answer : (call : Call) (p q : List (List ℕ)) (s z : Status) (t w : List ℕ) → All (IsTold call.content) p → s ≢ ReadFault → z ≢ ReadFault
+    → IsAnswer call p s t → IsAnswer call q z w → SameAnswer p s t q z w
+one_answer call p q s z t w tell no_fault no_other one other = one_of_words call tell (steps_of no_fault one) (steps_of no_other other)
 
 -- and ends with it, or by a read fault
-pub ends_so : (content : Contents) (words p q : List (List ℕ)) (s z : Status) (t w : List ℕ) → All (IsTold content) p → s ≢ ReadFault
-    → IsAnswer content words p s t → IsAnswer content words q z w → (z ≡ ReadFault) ⊎ (z ≢ ReadFault) → MayEnd s z
-ends_so content words p q s z t w tell no_fault one other (inl fault) = subst (MayEnd s) (sym fault) by_read_fault
-ends_so content words p q s z t w tell no_fault one other (inr no_other) =
-    let same = one_answer content words p q s z t w tell no_fault no_other one other in
+pub ends_so : (call : Call) (p q : List (List ℕ)) (s z : Status) (t w : List ℕ) → All (IsTold call.content) p → s ≢ ReadFault
+    → IsAnswer call p s t → IsAnswer call q z w → (z ≡ ReadFault) ⊎ (z ≢ ReadFault) → MayEnd s z
+ends_so call p q s z t w tell no_fault one other (inl fault) = subst (MayEnd s) (sym fault) by_read_fault
+ends_so call p q s z t w tell no_fault one other (inr no_other) =
+    let same = one_answer call p q s z t w tell no_fault no_other one other in
     subst (MayEnd s) same.1 as_answered

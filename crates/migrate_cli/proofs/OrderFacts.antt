@@ -4,8 +4,8 @@ use Rattle.net_model.specs.Network.{Network}
 use Rattle.igp_theory.specs.Laws.{HaveSameTables}
 use Rattle.igp_theory.specs.Routes.{Tables}
 use Rattle.igp_theory.proofs.SameTables.{seamless_over, first_fault_over}
-use Rattle.migrate_cli.specs.Verdicts.{IsOrderVerdict}
-use Rattle.migrate_cli.specs.Verdicts.IsOrderVerdict.{safe, unsafe}
+use Rattle.migrate_cli.specs.CheckVerdict.{IsOrderVerdict}
+use Rattle.migrate_cli.specs.CheckVerdict.IsOrderVerdict.{safe, unsafe}
 use Rattle.migrate_cli.specs.declared.status.Status.{Status}
 
 -- what holds of three things holds of what equals them

@@ -1,64 +1,70 @@
 -- Files read one after another.
-use Rattle.std.proofs.Common.{◌≡◌, ℕ, zero, suc, ◌+◌, ◌<◌, ◌≤◌, List, [], ◌∷◌, ◌++◌, length, All, refl, lit≤, arith}
-use Rattle.std.proofs.lemmas.List.Elements.{All-head, All-tail, All-cons, All-append}
-use Rattle.migrate_cli.specs.Reading.{Contents, IsReadOf, AreRead, total_of, total_of_configs, IsShort, AreWithin}
+use Rattle.std.proofs.Common.{◌≡◌, ℕ, ◌+◌, ◌≤◌, List, [], ◌∷◌, ◌++◌, length, refl, lit≤, arith}
+use Rattle.migrate_cli.specs.Reading.{Contents, File, IsReadOf, AreRead, counted, total_of, IsShort, AreShort, AreWithin}
+
+-- as many texts are read as there are files
+pub AreRead-length : (content : Contents) (files : List File) (texts : List (List ℕ)) → AreRead content files texts → length texts ≡ length files
+AreRead-length content [] [] read = omega arith
+AreRead-length content [] (t ∷ texts) read = absurd read
+AreRead-length content (f ∷ files) [] read = absurd read
+AreRead-length content (f ∷ files) (t ∷ texts) read = let e = AreRead-length content files texts read.1 in omega (arith, e)
 
 -- one more file was read
-pub AreRead-more : (content : Contents) (names texts : List (List ℕ)) (name text : List ℕ) → AreRead content names texts → IsReadOf content name text
-    → AreRead content (names ++ name ∷ []) (texts ++ text ∷ [])
-AreRead-more content [] [] name text read next = (next, tt)
-AreRead-more content [] (t ∷ texts) name text read next = absurd read
-AreRead-more content (n ∷ names) [] name text read next = absurd read
-AreRead-more content (n ∷ names) (t ∷ texts) name text read next = (read.0, AreRead-more content names texts name text read.1 next)
+pub AreRead-more : (content : Contents) (files : List File) (texts : List (List ℕ)) (file : File) (text : List ℕ) → AreRead content files texts
+    → IsReadOf content file text → AreRead content (files ++ file ∷ []) (texts ++ text ∷ [])
+AreRead-more content [] [] file text read next = (next, tt)
+AreRead-more content [] (t ∷ texts) file text read next = absurd read
+AreRead-more content (f ∷ files) [] file text read next = absurd read
+AreRead-more content (f ∷ files) (t ∷ texts) file text read next = (read.0, AreRead-more content files texts file text read.1 next)
 
--- the total with one more text
-pub total_of-more : (texts : List (List ℕ)) (text : List ℕ) → total_of (texts ++ text ∷ []) ≡ total_of texts + length text
-total_of-more [] text = omega arith
-total_of-more (t ∷ texts) text = let e = total_of-more texts text in omega (arith, e)
+-- one more file is short enough
+AreShort-more : (files : List File) (texts : List (List ℕ)) (file : File) (text : List ℕ) → AreShort files texts → IsShort file text
+    → AreShort (files ++ file ∷ []) (texts ++ text ∷ [])
+AreShort-more [] [] file text short next = (next, tt)
+AreShort-more [] (t ∷ texts) file text short next = absurd short
+AreShort-more (f ∷ files) [] file text short next = absurd short
+AreShort-more (f ∷ files) (t ∷ texts) file text short next = (short.0, AreShort-more files texts file text short.1 next)
 
--- the total of the configurations with one more of them
-pub total_of_configs-more : (texts : List (List ℕ)) (text : List ℕ) → 0 < length texts → total_of_configs (texts ++ text ∷ []) ≡ total_of_configs texts + length text
-total_of_configs-more [] text some = absurd (omega arith)
-total_of_configs-more (order ∷ configs) text some = total_of-more configs text
-
--- the first text counts for nothing
-pub total_of_configs-first : (texts : List (List ℕ)) (text : List ℕ) → length texts ≡ 0 → total_of_configs (texts ++ text ∷ []) ≡ 0
-total_of_configs-first [] text none = refl
-total_of_configs-first (t ∷ texts) text none = absurd (omega arith)
-
--- what holds of one element holds of each of a list of it alone
-pub All-one : {X : Type 0} (P : X → Type 0) (x : X) → P x → All P (x ∷ [])
-All-one P x holds zero d within = holds
-All-one P x holds (suc k) d within = absurd (omega arith)
+-- the bytes that count with one more text
+pub total_of-more : (files : List File) (texts : List (List ℕ)) (file : File) (text : List ℕ) → AreShort files texts
+    → total_of (files ++ file ∷ []) (texts ++ text ∷ []) ≡ total_of files texts + counted file text
+total_of-more [] [] file text short = let e : total_of (file ∷ []) (text ∷ []) ≡ counted file text + 0 = refl in omega (arith, e)
+total_of-more [] (t ∷ texts) file text short = absurd short
+total_of-more (f ∷ files) [] file text short = absurd short
+total_of-more (f ∷ files) (t ∷ texts) file text short = let e = total_of-more files texts file text short.1 in omega (arith, e)
 
 -- one more text within the limits
-pub AreWithin-more : (texts : List (List ℕ)) (text : List ℕ) → AreWithin texts → IsShort text → total_of_configs (texts ++ text ∷ []) ≤ 67108864
-    → AreWithin (texts ++ text ∷ [])
-AreWithin-more texts text within short together = record {
-  each = All-append IsShort texts (text ∷ []) within.each (All-one IsShort text short);
-  together = together;
+pub AreWithin-more : (files : List File) (texts : List (List ℕ)) (file : File) (text : List ℕ) → AreWithin files texts → IsShort file text
+    → total_of files texts + counted file text ≤ 67108864 → AreWithin (files ++ file ∷ []) (texts ++ text ∷ [])
+AreWithin-more files texts file text within short together = record {
+  each = AreShort-more files texts file text within.each short;
+  together = let e = total_of-more files texts file text within.each in omega (arith, e, together);
 }
 
 -- no files are within the limits
-pub AreWithin-none : AreWithin []
-AreWithin-none = record { each = λ k d within. absurd (omega arith); together = lit≤ tt }
+pub AreWithin-none : AreWithin [] []
+AreWithin-none = record { each = tt; together = lit≤ tt }
 
--- what holds of each element holds of each of the first ones
-pub All-front : {X : Type 0} (P : X → Type 0) (xs ys : List X) → All P (xs ++ ys) → All P xs
-All-front P [] ys all = λ k d within. absurd (omega (arith, within))
-All-front P (x ∷ xs) ys all = All-cons P x xs (All-head P x (xs ++ ys) all) (All-front P xs ys (All-tail P x (xs ++ ys) all))
+-- the first of some texts that are short enough are
+front_short : (content : Contents) (files more : List File) (texts others : List (List ℕ)) → AreRead content files texts → AreShort (files ++ more) (texts ++ others)
+    → AreShort files texts
+front_short content [] more [] others read short = tt
+front_short content [] more (t ∷ texts) others read short = absurd read
+front_short content (f ∷ files) more [] others read short = absurd read
+front_short content (f ∷ files) more (t ∷ texts) others read short = (short.0, front_short content files more texts others read.1 short.1)
 
--- the first texts have no more bytes
-total_of_front : (xs ys : List (List ℕ)) → total_of xs ≤ total_of (xs ++ ys)
-total_of_front [] ys = omega arith
-total_of_front (x ∷ xs) ys = let rest : total_of xs ≤ total_of (xs ++ ys) = total_of_front xs ys in omega (arith, rest)
-
-total_of_configs_front : (xs ys : List (List ℕ)) → total_of_configs xs ≤ total_of_configs (xs ++ ys)
-total_of_configs_front [] ys = omega arith
-total_of_configs_front (x ∷ xs) ys = total_of_front xs ys
+-- and have no more bytes that count
+front_total : (content : Contents) (files more : List File) (texts others : List (List ℕ)) → AreRead content files texts
+    → total_of files texts ≤ total_of (files ++ more) (texts ++ others)
+front_total content [] more [] others read = omega arith
+front_total content [] more (t ∷ texts) others read = absurd read
+front_total content (f ∷ files) more [] others read = absurd read
+front_total content (f ∷ files) more (t ∷ texts) others read =
+    let rest : total_of files texts ≤ total_of (files ++ more) (texts ++ others) = front_total content files more texts others read.1 in omega (arith, rest)
 
 -- the first of some texts within the limits are within them
-pub within_front : (xs ys : List (List ℕ)) → AreWithin (xs ++ ys) → AreWithin xs
-within_front xs ys h =
-    let less : total_of_configs xs ≤ total_of_configs (xs ++ ys) = total_of_configs_front xs ys in
-    record { each = All-front IsShort xs ys h.each; together = omega (arith, less, h.together) }
+pub within_front : (content : Contents) (files more : List File) (texts others : List (List ℕ)) → AreRead content files texts → AreWithin (files ++ more) (texts ++ others)
+    → AreWithin files texts
+within_front content files more texts others read h =
+    let less : total_of files texts ≤ total_of (files ++ more) (texts ++ others) = front_total content files more texts others read in
+    record { each = front_short content files more texts others read h.each; together = omega (arith, less, h.together) }

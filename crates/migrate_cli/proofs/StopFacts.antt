@@ -1,121 +1,146 @@
 -- Where the reading of several files stands after one more.
 use Rattle.std.proofs.Common.{◌≡◌, ℕ, zero, suc, ◌+◌, ◌<◌, List, [], ◌∷◌, ◌++◌, length, take, drop, map, get_or, Option, Ok, Err, IfSome, arith, ap, ◌∙◌, refl, sym, subst, append-nil, append_assoc}
 use Rattle.std.proofs.lemmas.List.{take_more, map-append}
-use Rattle.migrate_cli.specs.Reading.{Contents, IsReadOf, AreRead, AreWithin, ReadUpTo}
-use Rattle.migrate_cli.proofs.ReadingFacts.{AreRead-more, within_front}
-use Rattle.migrate_cli.specs.Stops.{StopsAt, IsFrontOf, HasAsked, IsNextText, MayRead, HasRead}
+use Rattle.migrate_cli.specs.Reading.{Contents, File, names_of, IsReadOf, AreRead, AreWithin, ReadUpTo, total_of}
+use Rattle.migrate_cli.proofs.ReadingFacts.{AreRead-more, AreWithin-more, total_of-more, within_front}
+use Rattle.migrate_cli.specs.Stops.{Kept, StopsAt, IsFrontOf, HasAsked, IsNextText, MayRead, HasRead}
 use Rattle.migrate_cli.specs.Stops.MayRead.{none_yet, so_far}
 use Rattle.migrate_cli.specs.declared.reading.Stop.{Stop}
 use Rattle.migrate_cli.specs.declared.reading.Stop.TheVariants.{Fault, Long, Total, OutOfMemory}
 
 -- what is read of a file goes by what it holds
-pub IsReadOf-same : (content other : Contents) (name text : List ℕ) → content name ≡ other name → IsReadOf content name text → IsReadOf other name text
-IsReadOf-same content other name text same read = record {
-  told = subst (λ (held : Option (List ℕ)). IfSome held (λ whole. text ≡ take 16777217 whole)) same read.told;
+pub IsReadOf-same : (content other : Contents) (file : File) (text : List ℕ) → content file.name ≡ other file.name → IsReadOf content file text → IsReadOf other file text
+IsReadOf-same content other file text same read = record {
+  told = subst (λ (held : Option (List ℕ)). IfSome held (λ whole. text ≡ take (file.most + 1) whole)) same read.told;
   at_most = read.at_most;
 }
 
 -- so does why reading stops at it
-pub StopsAt-same : (content other : Contents) (name : List ℕ) (texts : List (List ℕ)) (stop : Stop) → content name ≡ other name
-    → StopsAt content name texts stop → StopsAt other name texts stop
-StopsAt-same content other name texts (Fault file) same stops = stops
-StopsAt-same content other name texts (Long file) same stops = (
+pub StopsAt-same : (content other : Contents) (file : File) (before : ℕ) (stop : Stop) → content file.name ≡ other file.name
+    → StopsAt content file before stop → StopsAt other file before stop
+StopsAt-same content other file before (Fault name) same stops = stops
+StopsAt-same content other file before (Long name) same stops = (
   stops.0,
   record {
     text = stops.1.text;
-    read = IsReadOf-same content other name stops.1.text same stops.1.read;
+    read = IsReadOf-same content other file stops.1.text same stops.1.read;
     long = stops.1.long;
   },
 )
-StopsAt-same content other name texts (Total number) same stops = record {
+StopsAt-same content other file before (Total number) same stops = record {
   text = stops.text;
-  read = IsReadOf-same content other name stops.text same stops.read;
+  read = IsReadOf-same content other file stops.text same stops.read;
   short = stops.short;
   number_is = stops.number_is;
   passed = stops.passed;
 }
-StopsAt-same content other name texts OutOfMemory same stops = tt
+StopsAt-same content other file before OutOfMemory same stops = tt
 
 -- the names asked for up to a file
-up_to : (content : Contents) (names before after texts : List (List ℕ)) (name : List ℕ) (asked : List (List ℕ)) → names ≡ before ++ name ∷ after
-    → AreRead content before texts → AreWithin texts → asked ≡ name ∷ [] → ReadUpTo content names (before ++ asked) texts name
-up_to content names before after texts name asked names_are read within alone = record {
+abbrev up_to : (content : Contents) (files before after : List File) (texts : List (List ℕ)) (file : File) (asked : List (List ℕ)) → files ≡ before ++ file ∷ after
+    → AreRead content before texts → AreWithin before texts → asked ≡ file.name ∷ [] → ReadUpTo content files (names_of before ++ asked) texts file
+up_to content files before after texts file asked files_are read within alone = record {
   before = before;
   after = after;
-  names_are = names_are;
-  asked_are = ap (λ more. before ++ more) alone;
+  files_are = files_are;
+  asked_are = ap (λ more. names_of before ++ more) alone;
   read = read;
   within = within;
 }
 
 -- what is read of several files is nothing, or ends with what is read of the last one
-data EndsRead (content : Contents) : List (List ℕ) → List (List ℕ) → Type 0 where
+data EndsRead (content : Contents) : List File → List (List ℕ) → Type 0 where
   nothing : EndsRead content [] []
-  last : (names texts : List (List ℕ)) (name text : List ℕ) → AreRead content names texts → EndsRead content (names ++ name ∷ []) (texts ++ text ∷ [])
+  last : (files : List File) (texts : List (List ℕ)) (file : File) (text : List ℕ) → AreRead content files texts → EndsRead content (files ++ file ∷ []) (texts ++ text ∷ [])
 
-one_before : {content : Contents} {names texts : List (List ℕ)} (name text : List ℕ) → IsReadOf content name text → EndsRead content names texts
-    → EndsRead content (name ∷ names) (text ∷ texts)
-one_before name text read nothing = last [] [] name text tt
-one_before name text read (last names texts end end_text rest) = last (name ∷ names) (text ∷ texts) end end_text (read, rest)
+one_before : {content : Contents} {files : List File} {texts : List (List ℕ)} (file : File) (text : List ℕ) → IsReadOf content file text → EndsRead content files texts
+    → EndsRead content (file ∷ files) (text ∷ texts)
+one_before file text read nothing = last [] [] file text tt
+one_before file text read (last files texts end end_text rest) = last (file ∷ files) (text ∷ texts) end end_text (read, rest)
 
-ends_read : (content : Contents) (names texts : List (List ℕ)) → AreRead content names texts → EndsRead content names texts
+ends_read : (content : Contents) (files : List File) (texts : List (List ℕ)) → AreRead content files texts → EndsRead content files texts
 ends_read content [] [] read = nothing
 ends_read content [] (t ∷ texts) read = absurd read
-ends_read content (n ∷ names) [] read = absurd read
-ends_read content (n ∷ names) (t ∷ texts) read = one_before n t read.0 (ends_read content names texts read.1)
+ends_read content (f ∷ files) [] read = absurd read
+ends_read content (f ∷ files) (t ∷ texts) read = one_before f t read.0 (ends_read content files texts read.1)
+
+-- the name of the last file
+names_of-more : (files : List File) (file : File) → names_of (files ++ file ∷ []) ≡ names_of files ++ file.name ∷ []
+names_of-more files file = map-append (λ (f : File). f.name) files (file ∷ [])
 
 -- where the first files were read within the limits memory may run out
-from_end : {content : Contents} {before texts : List (List ℕ)} (names after : List (List ℕ)) → names ≡ before ++ after → AreWithin texts
-    → EndsRead content before texts → MayRead content names before
-from_end names after names_are within nothing = none_yet
-from_end names after names_are within (last before texts name text read) =
-    so_far (before ++ name ∷ []) texts name (record {
+from_end : {content : Contents} {before : List File} {texts : List (List ℕ)} (files after : List File) → files ≡ before ++ after → AreWithin before texts
+    → EndsRead content before texts → MayRead content files (names_of before)
+from_end files after files_are within nothing = none_yet
+from_end {content} files after files_are within (last before texts file text read) =
+    so_far (names_of (before ++ file ∷ [])) texts file (record {
       before = before;
       after = after;
-      names_are = names_are ∙ append_assoc before (name ∷ []) after;
-      asked_are = refl;
+      files_are = files_are ∙ append_assoc before (file ∷ []) after;
+      asked_are = names_of-more before file;
       read = read;
-      within = within_front texts (text ∷ []) within;
+      within = within_front content before (file ∷ []) texts (text ∷ []) read within;
     })
 
-pub read_so_far : (content : Contents) (names before after texts : List (List ℕ)) → names ≡ before ++ after → AreRead content before texts → AreWithin texts
-    → MayRead content names before
-read_so_far content names before after texts names_are read within = from_end names after names_are within (ends_read content before texts read)
+pub read_so_far : (content : Contents) (files before after : List File) (texts : List (List ℕ)) → files ≡ before ++ after → AreRead content before texts → AreWithin before texts
+    → MayRead content files (names_of before)
+read_so_far content files before after texts files_are read within = from_end files after files_are within (ends_read content before texts read)
 
 -- and so it may in the next read, before or after its name counts as asked for
-may_read : (content : Contents) (names before after texts : List (List ℕ)) (name : List ℕ) (asked : List (List ℕ)) → names ≡ before ++ name ∷ after
-    → AreRead content before texts → AreWithin texts → IsFrontOf (name ∷ []) asked → MayRead content names (before ++ asked)
-may_read content names before after texts name [] names_are read within front =
-    subst (MayRead content names) (sym (append-nil before)) (read_so_far content names before (name ∷ after) texts names_are read within)
-may_read content names before after texts name (n ∷ []) names_are read within front =
-    let same : name ≡ n = cc front.names_are in
-    so_far (before ++ n ∷ []) texts name (up_to content names before after texts name (n ∷ []) names_are read within (ap (λ x. x ∷ []) (sym same)))
-may_read content names before after texts name (n ∷ m ∷ more) names_are read within front = absurd (cc front.names_are)
+may_read : (content : Contents) (files before after : List File) (texts : List (List ℕ)) (file : File) (asked : List (List ℕ)) → files ≡ before ++ file ∷ after
+    → AreRead content before texts → AreWithin before texts → IsFrontOf (file.name ∷ []) asked → MayRead content files (names_of before ++ asked)
+may_read content files before after texts file [] files_are read within front =
+    subst (MayRead content files) (sym (append-nil (names_of before))) (read_so_far content files before (file ∷ after) texts files_are read within)
+may_read content files before after texts file (n ∷ []) files_are read within front =
+    let same : file.name ≡ n = cc front.all_are in
+    so_far (names_of before ++ n ∷ []) texts file (up_to content files before after texts file (n ∷ []) files_are read within (ap (λ x. x ∷ []) (sym same)))
+may_read content files before after texts file (n ∷ m ∷ more) files_are read within front = absurd (cc front.all_are)
 
 -- the reading of several files stops where that of one of them does
-pub stops_among : (content : Contents) (names before after texts : List (List ℕ)) (name : List ℕ) (old now new : List (List ℕ)) (stop : Stop)
-    → names ≡ before ++ name ∷ after → AreRead content before texts → AreWithin texts → now ≡ old ++ before
-    → StopsAt content name texts stop → HasAsked {A = Unit {0}} name now new (Err stop) → HasRead content names old new (Err stop)
-stops_among content names before after texts name old now new (Fault file) names_are read within now_is stops asks = record {
-  asked = before ++ asks.asked;
-  asked_is = asks.asked_is ∙ ap (λ some. some ++ asks.asked) now_is ∙ append_assoc old before asks.asked;
-  reads = record { texts = texts; name = name; up_to = up_to content names before after texts name asks.asked names_are read within asks.asks_for; stops = stops };
+pub stops_among : (content : Contents) (files before after : List File) (texts : List (List ℕ)) (file : File) (old now new : List (List ℕ)) (stop : Stop)
+    → files ≡ before ++ file ∷ after → AreRead content before texts → AreWithin before texts → now ≡ old ++ names_of before
+    → StopsAt content file (total_of before texts) stop → HasAsked {A = Unit {0}} file.name now new (Err stop) → HasRead content files old new (Err stop)
+stops_among content files before after texts file old now new (Fault name) files_are read within now_is stops asks = record {
+  asked = names_of before ++ asks.asked;
+  asked_is = asks.asked_is ∙ ap (λ some. some ++ asks.asked) now_is ∙ append_assoc old (names_of before) asks.asked;
+  reads = record {
+    texts = texts;
+    file = file;
+    up_to = up_to content files before after texts file asks.asked files_are read within asks.asks_for;
+    stops = stops;
+  };
 }
-stops_among content names before after texts name old now new (Long file) names_are read within now_is stops asks = record {
-  asked = before ++ asks.asked;
-  asked_is = asks.asked_is ∙ ap (λ some. some ++ asks.asked) now_is ∙ append_assoc old before asks.asked;
-  reads = record { texts = texts; name = name; up_to = up_to content names before after texts name asks.asked names_are read within asks.asks_for; stops = stops };
+stops_among content files before after texts file old now new (Long name) files_are read within now_is stops asks = record {
+  asked = names_of before ++ asks.asked;
+  asked_is = asks.asked_is ∙ ap (λ some. some ++ asks.asked) now_is ∙ append_assoc old (names_of before) asks.asked;
+  reads = record {
+    texts = texts;
+    file = file;
+    up_to = up_to content files before after texts file asks.asked files_are read within asks.asks_for;
+    stops = stops;
+  };
 }
-stops_among content names before after texts name old now new (Total number) names_are read within now_is stops asks = record {
-  asked = before ++ asks.asked;
-  asked_is = asks.asked_is ∙ ap (λ some. some ++ asks.asked) now_is ∙ append_assoc old before asks.asked;
-  reads = record { texts = texts; name = name; up_to = up_to content names before after texts name asks.asked names_are read within asks.asks_for; stops = stops };
+stops_among content files before after texts file old now new (Total number) files_are read within now_is stops asks = record {
+  asked = names_of before ++ asks.asked;
+  asked_is = asks.asked_is ∙ ap (λ some. some ++ asks.asked) now_is ∙ append_assoc old (names_of before) asks.asked;
+  reads = record {
+    texts = texts;
+    file = file;
+    up_to = up_to content files before after texts file asks.asked files_are read within asks.asks_for;
+    stops = stops;
+  };
 }
-stops_among content names before after texts name old now new OutOfMemory names_are read within now_is stops asks = record {
-  asked = before ++ asks.asked;
-  asked_is = asks.asked_is ∙ ap (λ some. some ++ asks.asked) now_is ∙ append_assoc old before asks.asked;
-  reads = may_read content names before after texts name asks.asked names_are read within asks.asks_for;
+stops_among content files before after texts file old now new OutOfMemory files_are read within now_is stops asks = record {
+  asked = names_of before ++ asks.asked;
+  asked_is = asks.asked_is ∙ ap (λ some. some ++ asks.asked) now_is ∙ append_assoc old (names_of before) asks.asked;
+  reads = may_read content files before after texts file asks.asked files_are read within asks.asks_for;
 }
+
+-- an element is the same whatever would stand for none
+pub element : {A : Type 0} (xs : List A) (i : ℕ) (d e : A) → i < length xs → get_or xs i d ≡ get_or xs i e
+element [] i d e within = absurd (omega arith)
+element (x ∷ xs) zero d e within = refl
+element (x ∷ xs) (suc i) d e within = element xs i d e (omega arith)
 
 -- a mapped list round one of its elements
 around : {A B : Type 0} (f : A → B) (xs : List A) (i : ℕ) (x : A) → i < length xs → x ≡ get_or xs i x
@@ -137,14 +162,30 @@ map_take_more f xs i x within at =
     ap (map f) (take_more xs i x within) ∙ map-append f (take i xs) (get_or xs i x ∷ []) ∙ ap (λ z. map f (take i xs) ++ f z ∷ []) (sym at)
 
 -- one more file among several was read
-pub read_more : (content other : Contents) (names texts after : List (List ℕ)) (name : List ℕ) → other name ≡ content name → AreRead content names texts
-    → IsNextText other name texts after → AreRead content (names ++ name ∷ []) after
-read_more content other names texts after name same read next =
-    subst (AreRead content (names ++ name ∷ [])) (sym next.last)
-    (AreRead-more content names texts name next.text read (IsReadOf-same other content name next.text same next.read))
+pub read_more : (content other : Contents) (files : List File) (file : File) (before after : Kept) → other file.name ≡ content file.name → AreRead content files before.all
+    → IsNextText other file before after → AreRead content (files ++ file ∷ []) after.all
+read_more content other files file before after same read next =
+    subst (AreRead content (files ++ file ∷ [])) (sym next.last)
+    (AreRead-more content files before.all file next.text read (IsReadOf-same other content file next.text same next.read))
+
+-- within the limits
+pub within_more : (other : Contents) (files : List File) (file : File) (before after : Kept) → before.counted ≡ total_of files before.all → AreWithin files before.all
+    → IsNextText other file before after → AreWithin (files ++ file ∷ []) after.all
+within_more other files file before after is within next =
+    subst (AreWithin (files ++ file ∷ [])) (sym next.last)
+    (AreWithin-more files before.all file next.text within next.short (omega (arith, is, next.more, next.together)))
+
+-- with its bytes that count
+pub counted_more : (other : Contents) (files : List File) (file : File) (before after : Kept) → before.counted ≡ total_of files before.all → AreWithin files before.all
+    → IsNextText other file before after → after.counted ≡ total_of (files ++ file ∷ []) after.all
+counted_more other files file before after is within next =
+    let more = total_of-more files before.all file next.text within.each in
+    let sum : after.counted ≡ total_of (files ++ file ∷ []) (before.all ++ next.text ∷ []) = omega (arith, is, next.more, more) in
+    sum ∙ ap (total_of (files ++ file ∷ [])) (sym next.last)
 
 -- and its name was asked for
-pub asked_more : (names : List (List ℕ)) (name : List ℕ) (old now new : List (List ℕ)) → now ≡ old ++ names → HasAsked {A = Unit {0}} name now new (Ok tt)
-    → new ≡ old ++ (names ++ name ∷ [])
-asked_more names name old now new now_is asks =
-    asks.asked_is ∙ ap (λ some. some ++ asks.asked) now_is ∙ append_assoc old names asks.asked ∙ ap (λ more. old ++ (names ++ more)) asks.asks_for
+pub asked_more : (files : List File) (file : File) (old now new : List (List ℕ)) → now ≡ old ++ names_of files
+    → HasAsked {A = Unit {0}} file.name now new (Ok tt) → new ≡ old ++ names_of (files ++ file ∷ [])
+asked_more files file old now new now_is asks =
+    asks.asked_is ∙ ap (λ some. some ++ asks.asked) now_is ∙ append_assoc old (names_of files) asks.asked
+    ∙ ap (λ more. old ++ (names_of files ++ more)) asks.asks_for ∙ ap (λ more. old ++ more) (sym (names_of-more files file))

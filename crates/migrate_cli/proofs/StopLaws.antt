@@ -1,47 +1,80 @@
 -- Where the files up to one are told, reading stops at it or it doesn't.
-use Rattle.std.proofs.Common.{◌≡◌, ℕ, ◌<◌, ◌≤◌, List, [], ◌∷◌, ◌++◌, Option, Some, None, IsSome, IfSome, length, take, All, refl, sym, ap, subst, ◌∙◌, append_assoc, arith}
-use Rattle.std.proofs.lemmas.List.Elements.{All-head, All-tail, All-contains, Contains-append_right}
+use Rattle.std.proofs.Common.{◌≡◌, ℕ, ◌+◌, ◌<◌, ◌≤◌, List, [], ◌∷◌, ◌++◌, Option, Some, None, IsSome, IfSome, length, take, All, refl, sym, ap, subst, ◌∙◌, append_assoc, arith}
+use Rattle.std.proofs.lemmas.List.{map-append}
+use Rattle.std.proofs.lemmas.List.Elements.{All-head, All-tail, All-cons, All-contains, Contains-append_right}
 use Rattle.net_model.proofs.Members.{Contains-first}
 use Rattle.migration_report.specs.Texts.{long_file_text, long_files_text}
 use Rattle.migrate_cli.specs.AnswerLaws.{IsTold}
-use Rattle.migrate_cli.specs.Reading.{Contents, IsReadOf, AreRead, total_of_configs, IsShort, AreWithin}
+use Rattle.migrate_cli.specs.Reading.{Contents, File, names_of, IsReadOf, AreRead, counted, total_of, IsShort, AreShort, AreWithin}
 use Rattle.migrate_cli.specs.Stops.{IsFrontOf}
 use Rattle.migrate_cli.specs.declared.status.Status.{Status}
 use Rattle.migrate_cli.specs.declared.status.Status.TheVariants.{Limit}
-use Rattle.migrate_cli.proofs.ReadingFacts.{All-front, within_front}
-use Rattle.migrate_cli.proofs.VerdictLaws.{AreSame}
+use Rattle.migrate_cli.proofs.ReadingFacts.{AreRead-more, total_of-more, within_front}
+use Rattle.migrate_cli.proofs.FileFacts.{All-mapped}
+use Rattle.migrate_cli.proofs.SameAnswers.{AreSame}
+
+-- what holds of each element holds of each of the first ones
+All-front : {X : Type 0} (P : X → Type 0) (xs ys : List X) → All P (xs ++ ys) → All P xs
+All-front P [] ys all = λ k d within. absurd (omega (arith, within))
+All-front P (x ∷ xs) ys all = All-cons P x xs (All-head P x (xs ++ ys) all) (All-front P xs ys (All-tail P x (xs ++ ys) all))
+
+-- what the file holds is told
+abbrev pub IsToldOf : Contents → File → Type 0
+IsToldOf content file = IsTold content file.name
+
+-- the files whose names are told are told
+pub told_files : (content : Contents) (files : List File) → All (IsTold content) (names_of files) → All (IsToldOf content) files
+told_files content files tell = All-mapped (IsTold content) (λ (file : File). file.name) files tell
+
+-- also up to one of them
+pub told_up_to : (content : Contents) (before : List File) (file : File) (asked : List (List ℕ)) → asked ≡ names_of before ++ file.name ∷ []
+    → All (IsTold content) asked → All (IsToldOf content) (before ++ file ∷ [])
+told_up_to content before file asked asked_are tell =
+    told_files content (before ++ file ∷ [])
+    (subst (All (IsTold content)) (asked_are ∙ sym (map-append (λ (f : File). f.name) before (file ∷ []))) tell)
 
 -- ---- limits ----
 
+-- the last of texts that are short enough is
+last_short : (files : List File) (texts : List (List ℕ)) (file : File) (text : List ℕ) → length texts ≡ length files → AreShort (files ++ file ∷ []) (texts ++ text ∷ [])
+    → IsShort file text
+last_short [] [] file text same short = short.0
+last_short [] (t ∷ texts) file text same short = absurd (omega (arith, same))
+last_short (f ∷ files) [] file text same short = absurd (omega (arith, same))
+last_short (f ∷ files) (t ∷ texts) file text same short = last_short files texts file text (omega (arith, same)) short.1
+
 -- a longer file breaks the limit of each
-pub long_breaks : (texts : List (List ℕ)) (text : List ℕ) → 16777216 < length text → AreWithin (texts ++ text ∷ []) → ⊥
-long_breaks texts text above h =
-    let short : length text ≤ 16777216 = All-contains IsShort (texts ++ text ∷ []) text h.each (Contains-append_right texts (text ∷ []) text (Contains-first text [])) in
+pub long_breaks : (files : List File) (texts : List (List ℕ)) (file : File) (text : List ℕ) → length texts ≡ length files → file.most < length text
+    → AreWithin (files ++ file ∷ []) (texts ++ text ∷ []) → ⊥
+long_breaks files texts file text same above h =
+    let short : length text ≤ file.most = last_short files texts file text same h.each in
     omega (arith, above, short)
 
 -- more bytes break the limit of all
-pub total_breaks : (texts : List (List ℕ)) (text : List ℕ) (number : ℕ) → number ≡ total_of_configs (texts ++ text ∷ []) → 67108864 < number
-    → AreWithin (texts ++ text ∷ []) → ⊥
-total_breaks texts text number is above h = omega (arith, is, above, h.together)
+pub total_breaks : (files : List File) (texts : List (List ℕ)) (file : File) (text : List ℕ) (number : ℕ) → AreShort files texts → number ≡ total_of files texts + counted file text
+    → 67108864 < number → AreWithin (files ++ file ∷ []) (texts ++ text ∷ []) → ⊥
+total_breaks files texts file text number short is above h =
+    let more = total_of-more files texts file text short in
+    omega (arith, is, more, above, h.together)
 
 -- ---- what is read ----
 
-told : (o : Option (List ℕ)) (t s : List ℕ) → IsSome o → IfSome o (λ whole. t ≡ take 16777217 whole) → IfSome o (λ whole. s ≡ take 16777217 whole) → t ≡ s
-told None t s some a b = absurd (cc some)
-told (Some whole) t s some a b = a ∙ sym b
+told : (o : Option (List ℕ)) (n : ℕ) (t s : List ℕ) → IsSome o → IfSome o (λ whole. t ≡ take n whole) → IfSome o (λ whole. s ≡ take n whole) → t ≡ s
+told None n t s some a b = absurd (cc some)
+told (Some whole) n t s some a b = a ∙ sym b
 
--- names whose first ones are these, with the next one
-data AreFronts (b c : List (List ℕ)) (n m : List ℕ) : Type 0 where
+-- files whose first ones are these, with the next one
+data AreFronts (b c : List File) (n m : File) : Type 0 where
   same : b ≡ c → n ≡ m → AreFronts b c n m
-  first : (rest : List (List ℕ)) → c ≡ b ++ n ∷ rest → AreFronts b c n m
-  second : (rest : List (List ℕ)) → b ≡ c ++ m ∷ rest → AreFronts b c n m
+  first : (rest : List File) → c ≡ b ++ n ∷ rest → AreFronts b c n m
+  second : (rest : List File) → b ≡ c ++ m ∷ rest → AreFronts b c n m
 
-longer_fronts : (x y : List ℕ) (b c : List (List ℕ)) (n m : List ℕ) → x ≡ y → AreFronts b c n m → AreFronts (x ∷ b) (y ∷ c) n m
+longer_fronts : (x y : File) (b c : List File) (n m : File) → x ≡ y → AreFronts b c n m → AreFronts (x ∷ b) (y ∷ c) n m
 longer_fronts x y b c n m e (same s t) = same (λ i. e i ∷ s i) t
 longer_fronts x y b c n m e (first rest s) = first rest (λ i. sym e i ∷ s i)
 longer_fronts x y b c n m e (second rest s) = second rest (λ i. e i ∷ s i)
 
-fronts : (b c : List (List ℕ)) (n m : List ℕ) (d e : List (List ℕ)) → b ++ n ∷ d ≡ c ++ m ∷ e → AreFronts b c n m
+fronts : (b c : List File) (n m : File) (d e : List File) → b ++ n ∷ d ≡ c ++ m ∷ e → AreFronts b c n m
 fronts [] [] n m d e is = same refl (cc is)
 fronts [] (x ∷ c) n m d e is = let head : x ≡ n = cc is in first c (ap (λ y. y ∷ c) head)
 fronts (x ∷ b) [] n m d e is = let head : x ≡ m = cc is in second b (ap (λ y. y ∷ b) head)
@@ -51,93 +84,103 @@ fronts (x ∷ b) (y ∷ c) n m d e is =
     longer_fronts x y b c n m head (fronts b c n m d e rest)
 
 -- the files before one were read and are within the limits, and with it they aren't
-pub record StopsAfter (content : Contents) (names before : List (List ℕ)) (name : List ℕ) (texts : List (List ℕ)) (text : List ℕ) : Type 0 where
-  pub after : List (List ℕ)
-  pub names_are : names ≡ before ++ name ∷ after
+pub record StopsAfter (content : Contents) (files before : List File) (file : File) (texts : List (List ℕ)) (text : List ℕ) : Type 0 where
+  pub after : List File
+  pub files_are : files ≡ before ++ file ∷ after
   pub read : AreRead content before texts
-  pub next : IsReadOf content name text
-  pub within : AreWithin texts
-  pub broken : AreWithin (texts ++ text ∷ []) → ⊥
+  pub next : IsReadOf content file text
+  pub within : AreWithin before texts
+  pub broken : AreWithin (before ++ file ∷ []) (texts ++ text ∷ []) → ⊥
 
 -- which limit that file breaks, and the answer
-pub data IsBrokenSo (name : List ℕ) (texts : List (List ℕ)) (text : List ℕ) : Status → List ℕ → Type 0 where
-  too_long : 16777216 < length text → IsBrokenSo name texts text Limit (long_file_text name)
-  too_many : (number : ℕ) → IsShort text → number ≡ total_of_configs (texts ++ text ∷ []) →
-      IsBrokenSo name texts text Limit (long_files_text number)
+pub data IsBrokenSo (before : List File) (file : File) (texts : List (List ℕ)) (text : List ℕ) : Status → List ℕ → Type 0 where
+  too_long : file.most < length text → IsBrokenSo before file texts text Limit (long_file_text file.name)
+  too_many : (number : ℕ) → IsShort file text → number ≡ total_of before texts + counted file text →
+      IsBrokenSo before file texts text Limit (long_files_text number)
 
-short_not_long : (text : List ℕ) → 16777216 < length text → IsShort text → ⊥
-short_not_long text above short = let most : length text ≤ 16777216 = short in omega (arith, above, most)
+short_not_long : (file : File) (text : List ℕ) → file.most < length text → IsShort file text → ⊥
+short_not_long file text above short = let most : length text ≤ file.most = short in omega (arith, above, most)
 
-one_limit : (name : List ℕ) (texts : List (List ℕ)) (text : List ℕ) {s z : Status} {t w : List ℕ} → IsBrokenSo name texts text s t → IsBrokenSo name texts text z w
-    → AreSame s t z w
-one_limit name texts text (too_long _) (too_long _) = (refl, refl)
-one_limit name texts text (too_long above) (too_many _ short _) = absurd (short_not_long text above short)
-one_limit name texts text (too_many _ short _) (too_long above) = absurd (short_not_long text above short)
-one_limit name texts text (too_many n _ is) (too_many m _ also) =
+one_limit : (before : List File) (file : File) (texts : List (List ℕ)) (text : List ℕ) {s z : Status} {t w : List ℕ} → IsBrokenSo before file texts text s t
+    → IsBrokenSo before file texts text z w → AreSame s t z w
+one_limit before file texts text (too_long _) (too_long _) = (refl, refl)
+one_limit before file texts text (too_long above) (too_many _ short _) = absurd (short_not_long file text above short)
+one_limit before file texts text (too_many _ short _) (too_long above) = absurd (short_not_long file text above short)
+one_limit before file texts text (too_many n _ is) (too_many m _ also) =
     (refl, ap (λ number. long_files_text number) (is ∙ sym also))
 
 module _ (content : Contents) where
   -- one text is read of a file that is told
-  one_text : (name t s : List ℕ) → IsTold content name → IsReadOf content name t → IsReadOf content name s → t ≡ s
-  one_text name t s tells a b = told (content name) t s tells a.told b.told
+  one_text : (file : File) (t s : List ℕ) → IsToldOf content file → IsReadOf content file t → IsReadOf content file s → t ≡ s
+  one_text file t s tells a b = told (content file.name) (file.most + 1) t s tells a.told b.told
 
   -- and of several files one list of texts
-  pub one_list : (names ts ss : List (List ℕ)) → All (IsTold content) names → AreRead content names ts → AreRead content names ss → ts ≡ ss
+  pub one_list : (files : List File) (ts ss : List (List ℕ)) → All (IsToldOf content) files → AreRead content files ts → AreRead content files ss → ts ≡ ss
   one_list [] [] [] tell a b = refl
   one_list [] [] (s ∷ ss) tell a b = absurd b
   one_list [] (t ∷ ts) ss tell a b = absurd a
-  one_list (n ∷ names) [] ss tell a b = absurd a
-  one_list (n ∷ names) (t ∷ ts) [] tell a b = absurd b
-  one_list (n ∷ names) (t ∷ ts) (s ∷ ss) tell a b =
-      let first : t ≡ s = one_text n t s (All-head (IsTold content) n names tell) a.0 b.0 in
-      let rest : ts ≡ ss = one_list names ts ss (All-tail (IsTold content) n names tell) a.1 b.1 in
+  one_list (n ∷ files) [] ss tell a b = absurd a
+  one_list (n ∷ files) (t ∷ ts) [] tell a b = absurd b
+  one_list (n ∷ files) (t ∷ ts) (s ∷ ss) tell a b =
+      let first : t ≡ s = one_text n t s (All-head (IsToldOf content) n files tell) a.0 b.0 in
+      let rest : ts ≡ ss = one_list files ts ss (All-tail (IsToldOf content) n files tell) a.1 b.1 in
       λ i. first i ∷ rest i
 
   -- the first of files that are told are told
-  pub told_with : (before : List (List ℕ)) (name : List ℕ) (rest : List (List ℕ)) → All (IsTold content) (before ++ name ∷ rest)
-      → All (IsTold content) (before ++ name ∷ [])
-  told_with before name rest tell =
-      All-front (IsTold content) (before ++ name ∷ []) rest (subst (All (IsTold content)) (sym (append_assoc before (name ∷ []) rest)) tell)
+  pub told_with : (before : List File) (file : File) (rest : List File) → All (IsToldOf content) (before ++ file ∷ rest)
+      → All (IsToldOf content) (before ++ file ∷ [])
+  told_with before file rest tell =
+      All-front (IsToldOf content) (before ++ file ∷ []) rest (subst (All (IsToldOf content)) (sym (append_assoc before (file ∷ []) rest)) tell)
 
   -- what is read of the first files stands first in what is read of all
-  front_read : (before : List (List ℕ)) (name : List ℕ) (rest texts : List (List ℕ)) (text : List ℕ) (all : List (List ℕ))
-      → All (IsTold content) (before ++ name ∷ []) → AreRead content before texts → IsReadOf content name text → AreRead content (before ++ name ∷ rest) all
+  front_read : (before : List File) (file : File) (rest : List File) (texts : List (List ℕ)) (text : List ℕ) (all : List (List ℕ))
+      → All (IsToldOf content) (before ++ file ∷ []) → AreRead content before texts → IsReadOf content file text → AreRead content (before ++ file ∷ rest) all
       → IsFrontOf all (texts ++ text ∷ [])
-  front_read [] name rest [] text [] tell a next b = absurd b
-  front_read [] name rest [] text (t ∷ all) tell a next b =
-      let first : t ≡ text = one_text name t text (All-head (IsTold content) name [] tell) b.0 next in
-      record { rest = all; names_are = ap (λ some. some ∷ all) first }
-  front_read [] name rest (t ∷ texts) text all tell a next b = absurd a
-  front_read (n ∷ before) name rest [] text all tell a next b = absurd a
-  front_read (n ∷ before) name rest (s ∷ texts) text [] tell a next b = absurd b
-  front_read (n ∷ before) name rest (s ∷ texts) text (t ∷ all) tell a next b =
-      let front = front_read before name rest texts text all (All-tail (IsTold content) n (before ++ name ∷ []) tell) a.1 next b.1 in
-      let first : t ≡ s = one_text n t s (All-head (IsTold content) n (before ++ name ∷ []) tell) b.0 a.0 in
-      let names_are = front.names_are in
-      record { rest = front.rest; names_are = λ i. first i ∷ names_are i }
+  front_read [] file rest [] text [] tell a next b = absurd b
+  front_read [] file rest [] text (t ∷ all) tell a next b =
+      let first : t ≡ text = one_text file t text (All-head (IsToldOf content) file [] tell) b.0 next in
+      record { rest = all; all_are = ap (λ some. some ∷ all) first }
+  front_read [] file rest (t ∷ texts) text all tell a next b = absurd a
+  front_read (n ∷ before) file rest [] text all tell a next b = absurd a
+  front_read (n ∷ before) file rest (s ∷ texts) text [] tell a next b = absurd b
+  front_read (n ∷ before) file rest (s ∷ texts) text (t ∷ all) tell a next b =
+      let front = front_read before file rest texts text all (All-tail (IsToldOf content) n (before ++ file ∷ []) tell) a.1 next b.1 in
+      let first : t ≡ s = one_text n t s (All-head (IsToldOf content) n (before ++ file ∷ []) tell) b.0 a.0 in
+      let all_are = front.all_are in
+      record { rest = front.rest; all_are = λ i. first i ∷ all_are i }
+
+  -- one more file was read
+  read_with : (before : List File) (file : File) (texts : List (List ℕ)) (text : List ℕ) → AreRead content before texts → IsReadOf content file text
+      → AreRead content (before ++ file ∷ []) (texts ++ text ∷ [])
+  read_with before file texts text read next = AreRead-more content before texts file text read next
 
   -- nothing is read within the limits past the file that breaks one
-  pub none_past : (names before : List (List ℕ)) (name : List ℕ) (texts : List (List ℕ)) (text : List ℕ) (rest all : List (List ℕ))
-      → StopsAfter content names before name texts text → All (IsTold content) (before ++ name ∷ []) → AreRead content (before ++ name ∷ rest) all → AreWithin all → ⊥
-  none_past names before name texts text rest all stop tell read within =
-      let front = front_read before name rest texts text all tell stop.read stop.next read in
-      stop.broken (within_front (texts ++ text ∷ []) front.rest (subst AreWithin front.names_are within))
+  pub none_past : (files before : List File) (file : File) (texts : List (List ℕ)) (text : List ℕ) (rest : List File) (all : List (List ℕ))
+      → StopsAfter content files before file texts text → All (IsToldOf content) (before ++ file ∷ []) → AreRead content (before ++ file ∷ rest) all
+      → AreWithin (before ++ file ∷ rest) all → ⊥
+  none_past files before file texts text rest all stop tell read within =
+      let front = front_read before file rest texts text all tell stop.read stop.next read in
+      let with_it = read_with before file texts text stop.read stop.next in
+      let whole = subst (AreWithin (before ++ file ∷ rest)) front.all_are within in
+      let parted = subst (λ some. AreWithin some ((texts ++ text ∷ []) ++ front.rest)) (sym (append_assoc before (file ∷ []) rest)) whole in
+      stop.broken (within_front content (before ++ file ∷ []) rest (texts ++ text ∷ []) front.rest with_it parted)
 
-  module _ (names b c : List (List ℕ)) (n m : List ℕ) (tell : All (IsTold content) (b ++ n ∷ [])) (ts ss : List (List ℕ)) (t s : List ℕ) (one : StopsAfter content names b n ts t) (other : StopsAfter content names c m ss s) where
-    told_before : All (IsTold content) b
-    told_before = All-front (IsTold content) b (n ∷ []) tell
+  module _ (files b c : List File) (n m : File) (tell : All (IsToldOf content) (b ++ n ∷ [])) (ts ss : List (List ℕ)) (t s : List ℕ) (one : StopsAfter content files b n ts t) (other : StopsAfter content files c m ss s) where
+    told_before : All (IsToldOf content) b
+    told_before = All-front (IsToldOf content) b (n ∷ []) tell
 
-    told_there : IsTold content n
-    told_there = All-contains (IsTold content) (b ++ n ∷ []) n tell (Contains-append_right b (n ∷ []) n (Contains-first n []))
+    told_there : IsToldOf content n
+    told_there = All-contains (IsToldOf content) (b ++ n ∷ []) n tell (Contains-append_right b (n ∷ []) n (Contains-first n []))
 
     -- reading stops at one file
     pub same_place : (b ≡ c) × (n ≡ m)
     same_place =
-        elim (fronts b c n m one.after other.after (sym one.names_are ∙ other.names_are)) [
+        elim (fronts b c n m one.after other.after (sym one.files_are ∙ other.files_are)) [
           | same d e ↦ (d, e)
-          | first rest d ↦ absurd (none_past names b n ts t rest ss one tell (subst (λ some. AreRead content some ss) d other.read) other.within)
-          | second rest d ↦ absurd (none_past names c m ss s rest ts other (told_with c m rest (subst (All (IsTold content)) d told_before))
-              (subst (λ some. AreRead content some ts) d one.read) one.within)
+          | first rest d ↦ absurd (none_past files b n ts t rest ss one tell (subst (λ some. AreRead content some ss) d other.read)
+              (subst (λ some. AreWithin some ss) d other.within))
+          | second rest d ↦ absurd (none_past files c m ss s rest ts other (told_with c m rest (subst (All (IsToldOf content)) d told_before))
+              (subst (λ some. AreRead content some ts) d one.read) (subst (λ some. AreWithin some ts) d one.within))
         ]
 
     same_texts : ts ≡ ss
@@ -147,9 +190,10 @@ module _ (content : Contents) where
     same_next = one_text n t s told_there one.next (subst (λ some. IsReadOf content some s) (sym same_place.1) other.next)
 
     -- and for one reason
-    pub same_limit : {status z : Status} {answer w : List ℕ} → IsBrokenSo n ts t status answer → IsBrokenSo m ss s z w → AreSame status answer z w
+    pub same_limit : {status z : Status} {answer w : List ℕ} → IsBrokenSo b n ts t status answer → IsBrokenSo c m ss s z w → AreSame status answer z w
     same_limit {z = z} {w = w} here there =
-        one_limit n ts t here
-        (subst (λ some. IsBrokenSo some ts t z w) (sym same_place.1)
-        (subst (λ some. IsBrokenSo m some t z w) (sym same_texts)
-        (subst (λ some. IsBrokenSo m ss some z w) (sym same_next) there)))
+        one_limit b n ts t here
+        (subst (λ some. IsBrokenSo some n ts t z w) (sym same_place.0)
+        (subst (λ some. IsBrokenSo c some ts t z w) (sym same_place.1)
+        (subst (λ some. IsBrokenSo c m some t z w) (sym same_texts)
+        (subst (λ some. IsBrokenSo c m ss some z w) (sym same_next) there))))

@@ -1,62 +1,71 @@
--- What `check` answers to its words and its files.
-use Rattle.std.specs.Prelude.{◌≡◌, ◌≢◌, ℕ, ◌<◌, ◌≤◌, List, [], ◌∷◌, ◌++◌, Option, Result, Ok, Err, length}
+-- What is answered to a call, and how the call ends.
+use Rattle.std.specs.Prelude.{◌≡◌, ◌≢◌, ℕ, ◌<◌, ◌≤◌, List, [], ◌++◌, Result, Ok, Err, length}
 use Rattle.std.specs.declared.alloc.AllocError.{AllocError}
 use Rattle.store_edge.specs.Faults.{Rose}
 use Rattle.store_edge.specs.Sink.{Adds, AddsFront}
+use Rattle.migrate_words.specs.Requests.{Request}
+use Rattle.migrate_words.specs.declared.refusal.WordsRefused.{WordsRefused}
+use Rattle.migrate_words.specs.declared.refusal.WordsRefused.TheVariants.{Words as NotTaken, Number, OutOfMemory as NoMemory}
 use Rattle.migration_report.specs.Texts.{long_file_text, long_files_text, many_files_text, read_fault_text, words_refused_text}
-use Rattle.migrate_cli.specs.CommandWords.{IsCheck}
-use Rattle.migrate_cli.specs.Reading.{Contents, AreRead, AreWithin, IsTooLong, PassesTotal, ReadUpTo}
+use Rattle.migrate_cli.specs.Calls.{Call, Outside}
+use Rattle.migrate_cli.specs.CallWords.{AreRefused, AskFor, TellsWordsRefused}
+use Rattle.migrate_cli.specs.CommandFiles.{config_names, config_texts, files_of, own_texts}
+use Rattle.migrate_cli.specs.Reading.{File, AreRead, AreWithin, IsTooLong, PassesTotal, ReadUpTo, names_of, total_of}
 use Rattle.migrate_cli.specs.Verdicts.{IsVerdict}
-use Rattle.migrate_cli.specs.declared.calls.TheConstants.{FILES_MOST}
+use Rattle.migrate_cli.specs.declared.run_call.TheConstants.{FILES_MOST}
 use Rattle.migrate_cli.specs.declared.answer.Answer.{Answer}
 use Rattle.migrate_cli.specs.declared.reading.Stop.{Stop}
 use Rattle.migrate_cli.specs.declared.reading.Stop.TheVariants.{Fault, Long, Total, OutOfMemory}
 use Rattle.migrate_cli.specs.declared.status.Status.{Status}
 use Rattle.migrate_cli.specs.declared.status.Status.TheVariants.{Words, ReadFault, WriteFault, Limit, Memory}
 
--- each case, with the names that were asked for and the status and the text that answer it
-pub data IsAnswer (content : Contents) (words : List (List ℕ)) : List (List ℕ) → Status → List ℕ → Type 0 where
-  other_words : ((order : List ℕ) (files : List (List ℕ)) → IsCheck words order files → ⊥) →
-      IsAnswer content words [] Words words_refused_text
-  many_files : (order : List ℕ) (files : List (List ℕ)) → IsCheck words order files → FILES_MOST < length files →
-      IsAnswer content words [] Limit (many_files_text (length files))
-  read_fault : (order : List ℕ) (files asked texts : List (List ℕ)) (file : List ℕ) → IsCheck words order files → length files ≤ FILES_MOST →
-      ReadUpTo content (order ∷ files) asked texts file →
-      IsAnswer content words asked ReadFault (read_fault_text file)
-  long_file : (order : List ℕ) (files asked texts : List (List ℕ)) (file : List ℕ) → IsCheck words order files → length files ≤ FILES_MOST →
-      ReadUpTo content (order ∷ files) asked texts file → IsTooLong content file →
-      IsAnswer content words asked Limit (long_file_text file)
-  long_files : (order : List ℕ) (files asked texts : List (List ℕ)) (file : List ℕ) (number : ℕ) → IsCheck words order files → length files ≤ FILES_MOST →
-      ReadUpTo content (order ∷ files) asked texts file → PassesTotal content file texts number →
-      IsAnswer content words asked Limit (long_files_text number)
-  judged : (order : List ℕ) (files : List (List ℕ)) (order_text : List ℕ) (texts : List (List ℕ)) (status : Status) (text : List ℕ) →
-      IsCheck words order files → length files ≤ FILES_MOST → AreRead content (order ∷ files) (order_text ∷ texts) → AreWithin (order_text ∷ texts) →
-      IsVerdict order files order_text texts status text → IsAnswer content words (order ∷ files) status text
+-- the words ask for this, and the configurations are no more files than there may be
+pub record AsksForFew (words : List (List ℕ)) (request : Request) : Type 0 where
+  pub asked : AskFor words request
+  pub few : length (config_names request) ≤ FILES_MOST
+
+-- each case, with the names that are asked for, and the status and the text that answer it
+pub data IsAnswer (call : Call) : List (List ℕ) → Status → List ℕ → Type 0 where
+  refused_words : (text : List ℕ) → AreRefused call.words text → IsAnswer call [] Words text
+  many_files : (request : Request) → AskFor call.words request → FILES_MOST < length (config_names request) →
+      IsAnswer call [] Limit (many_files_text (length (config_names request)))
+  read_fault : (request : Request) (asked texts : List (List ℕ)) (file : File) → AsksForFew call.words request →
+      ReadUpTo call.content (files_of request) asked texts file →
+      IsAnswer call asked ReadFault (read_fault_text file.name)
+  long_file : (request : Request) (asked texts : List (List ℕ)) (file : File) → AsksForFew call.words request →
+      ReadUpTo call.content (files_of request) asked texts file → IsTooLong call.content file →
+      IsAnswer call asked Limit (long_file_text file.name)
+  long_files : (request : Request) (asked texts : List (List ℕ)) (file : File) (number : ℕ) → AsksForFew call.words request →
+      (up : ReadUpTo call.content (files_of request) asked texts file) → PassesTotal call.content file (total_of up.before texts) number →
+      IsAnswer call asked Limit (long_files_text number)
+  judged : (request : Request) (texts : List (List ℕ)) (status : Status) (text : List ℕ) → AsksForFew call.words request →
+      AreRead call.content (files_of request) texts → AreWithin (files_of request) texts →
+      IsVerdict request (own_texts request texts) (config_texts request texts) status text → IsAnswer call (names_of (files_of request)) status text
 
 -- the names that were asked for when memory ran out: none, or those up to a file before which all were read within the limits
-pub data MayAsk (content : Contents) (words : List (List ℕ)) : List (List ℕ) → Type 0 where
-  asks_none : MayAsk content words []
-  asks_some : (order : List ℕ) (files asked texts : List (List ℕ)) (file : List ℕ) → IsCheck words order files → length files ≤ FILES_MOST →
-      ReadUpTo content (order ∷ files) asked texts file → MayAsk content words asked
+pub data MayAsk (call : Call) : List (List ℕ) → Type 0 where
+  asks_none : MayAsk call []
+  asks_some : (request : Request) (asked texts : List (List ℕ)) (file : File) → AsksForFew call.words request →
+      ReadUpTo call.content (files_of request) asked texts file → MayAsk call asked
 
 -- the count of the files' faults agrees with an answer: it rose where that is a read fault, and else it stands
 pub record FaultsAgree (status : Status) (before after : ℕ) : Type 0 where
   pub read_fault : status ≡ ReadFault → Rose before after
   pub unless_read_fault : status ≢ ReadFault → after ≡ before
 
--- how a call ends: its answer is written whole, or its front, or there was no memory and nothing is written
-pub data Ends (content : Contents) (words asked : List (List ℕ)) (faults_before faults_after : ℕ) (before after : Option (List ℕ)) : Status → Type 0 where
-  whole : (status : Status) (text : List ℕ) → IsAnswer content words asked status text → FaultsAgree status faults_before faults_after → Adds before after text →
-      Ends content words asked faults_before faults_after before after status
-  cut : (status : Status) (text : List ℕ) → IsAnswer content words asked status text → FaultsAgree status faults_before faults_after → AddsFront before after text →
-      Ends content words asked faults_before faults_after before after WriteFault
-  no_memory : MayAsk content words asked → after ≡ before → Ends content words asked faults_before faults_after before after Memory
+-- how a call ends that asked for these names: its answer is written whole, or its front, or there was no memory and nothing is written
+pub data Ends (call : Call) (asked : List (List ℕ)) (before after : Outside) : Status → Type 0 where
+  whole : (status : Status) (text : List ℕ) → IsAnswer call asked status text → FaultsAgree status before.file_faults after.file_faults →
+      Adds before.written after.written text → Ends call asked before after status
+  cut : (status : Status) (text : List ℕ) → IsAnswer call asked status text → FaultsAgree status before.file_faults after.file_faults →
+      AddsFront before.written after.written text → Ends call asked before after WriteFault
+  no_memory : MayAsk call asked → after.written ≡ before.written → Ends call asked before after Memory
 
--- a call asked for these names besides those before, and ended so
-pub record Ran (content : Contents) (words asked_before asked_after : List (List ℕ)) (faults_before faults_after : ℕ) (before after : Option (List ℕ)) (status : Status) : Type 0 where
+-- a call asked for some names besides those before, and ended with an answer to its words and its files
+pub record Answers (call : Call) (before after : Outside) (status : Status) : Type 0 where
   pub asked : List (List ℕ)
-  pub asked_is : asked_after ≡ asked_before ++ asked
-  pub ends : Ends content words asked faults_before faults_after before after status
+  pub asked_is : after.asked ≡ before.asked ++ asked
+  pub ends : Ends call asked before after status
 
 -- the answer that reading stopped
 abbrev pub StopAnswer : Stop → Status → List ℕ → Type 0
@@ -66,12 +75,18 @@ StopAnswer (Total number) status text = (status ≡ Limit) × (text ≡ long_fil
 StopAnswer OutOfMemory status text = ⊥
 
 -- an answer, or want of memory
-abbrev pub AnswersWith : Contents → List (List ℕ) → List (List ℕ) → Result Answer AllocError → Type 0
-AnswersWith content words asked (Ok answer) = IsAnswer content words asked answer.status answer.text
-AnswersWith content words asked (Err _) = MayAsk content words asked
+abbrev pub AnswersWith : Call → List (List ℕ) → Result Answer AllocError → Type 0
+AnswersWith call asked (Ok answer) = IsAnswer call asked answer.status answer.text
+AnswersWith call asked (Err _) = MayAsk call asked
 
 -- some names were asked for besides those before, and this is the answer
-pub record HasAnswer (content : Contents) (words asked_before asked_after : List (List ℕ)) (answer : Result Answer AllocError) : Type 0 where
+pub record HasAnswer (call : Call) (asked_before asked_after : List (List ℕ)) (answer : Result Answer AllocError) : Type 0 where
   pub asked : List (List ℕ)
   pub asked_is : asked_after ≡ asked_before ++ asked
-  pub answers : AnswersWith content words asked answer
+  pub answers : AnswersWith call asked answer
+
+-- the answer that words are refused: the first line, and more after it only where the command line doesn't take them
+abbrev pub RefusalAnswer : WordsRefused → Status → List ℕ → Type 0
+RefusalAnswer (NotTaken detail) status text = (status ≡ Words) × TellsWordsRefused text
+RefusalAnswer Number status text = (status ≡ Words) × (text ≡ words_refused_text)
+RefusalAnswer NoMemory status text = ⊥

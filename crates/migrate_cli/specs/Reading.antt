@@ -1,61 +1,78 @@
 -- What is read of the files of a call, and where reading stops.
-use Rattle.std.specs.Prelude.{◌≡◌, ℕ, ◌+◌, ◌<◌, ◌≤◌, List, [], ◌∷◌, ◌++◌, Option, length, take, All, IfSome}
-use Rattle.migrate_cli.specs.declared.reading.TheConstants.{CONFIGS_MOST, FILE_MOST}
+use Rattle.std.specs.Prelude.{◌≡◌, ℕ, ◌+◌, ◌<◌, ◌≤◌, List, [], ◌∷◌, ◌++◌, Bool, Option, length, map, take, IfSome, if◌then◌else◌}
+use Rattle.migrate_cli.specs.declared.reading.TheConstants.{CONFIGS_MOST}
 
 -- what a name's file holds, where the files tell it
 abbrev pub Contents : Type 0
 Contents = List ℕ → Option (List ℕ)
 
--- what is read of a file: one byte more than a file may have, and all of it where it is shorter
-pub record IsReadOf (content : Contents) (name text : List ℕ) : Type 0 where
-  pub told : IfSome (content name) (λ whole. text ≡ take (FILE_MOST + 1) whole)
-  pub at_most : length text ≤ FILE_MOST + 1
+-- a file that a command reads: its name, the most bytes that it may have, and whether it counts to the bytes of all configurations
+pub record File : Type 0 where
+  pub name : List ℕ
+  pub most : ℕ
+  pub counts : Bool
+
+-- the names of some files
+abbrev pub names_of : List File → List (List ℕ)
+names_of files = map (λ file. file.name) files
+
+-- what is read of a file: one byte more than it may have, and all of it where it is shorter
+pub record IsReadOf (content : Contents) (file : File) (text : List ℕ) : Type 0 where
+  pub told : IfSome (content file.name) (λ whole. text ≡ take (file.most + 1) whole)
+  pub at_most : length text ≤ file.most + 1
 
 -- what is read of several files, in order
-abbrev pub AreRead : Contents → List (List ℕ) → List (List ℕ) → Type 0
+abbrev pub AreRead : Contents → List File → List (List ℕ) → Type 0
 AreRead content [] [] = Unit {0}
 AreRead content [] (text ∷ texts) = ⊥
-AreRead content (name ∷ names) [] = ⊥
-AreRead content (name ∷ names) (text ∷ texts) = IsReadOf content name text × AreRead content names texts
+AreRead content (file ∷ files) [] = ⊥
+AreRead content (file ∷ files) (text ∷ texts) = IsReadOf content file text × AreRead content files texts
 
--- the bytes of some texts together
-abbrev pub total_of : List (List ℕ) → ℕ
-total_of [] = 0
-total_of (text ∷ texts) = length text + total_of texts
+-- the bytes of a text that count to those of all configurations
+abbrev pub counted : File → List ℕ → ℕ
+counted file text = if file.counts then length text else 0
 
--- the bytes of the configurations together: of the texts after the first
-abbrev pub total_of_configs : List (List ℕ) → ℕ
-total_of_configs [] = 0
-total_of_configs (order ∷ configs) = total_of configs
+-- the bytes that count, of all texts together
+abbrev pub total_of : List File → List (List ℕ) → ℕ
+total_of [] texts = 0
+total_of (file ∷ files) [] = 0
+total_of (file ∷ files) (text ∷ texts) = counted file text + total_of files texts
 
--- a file has at most 16 MiB
-abbrev pub IsShort : List ℕ → Type 0
-IsShort text = length text ≤ FILE_MOST
+-- a file has no more bytes than it may have
+abbrev pub IsShort : File → List ℕ → Type 0
+IsShort file text = length text ≤ file.most
 
--- files are within the limits: each has at most 16 MiB, and the configurations have at most 64 MiB together
-pub record AreWithin (texts : List (List ℕ)) : Type 0 where
-  pub each : All IsShort texts
-  pub together : total_of_configs texts ≤ CONFIGS_MOST
+-- each file has no more bytes than it may have
+abbrev pub AreShort : List File → List (List ℕ) → Type 0
+AreShort [] [] = Unit {0}
+AreShort [] (text ∷ texts) = ⊥
+AreShort (file ∷ files) [] = ⊥
+AreShort (file ∷ files) (text ∷ texts) = IsShort file text × AreShort files texts
 
--- a file that is longer than a file may be
-pub record IsTooLong (content : Contents) (name : List ℕ) : Type 0 where
+-- files are within the limits: each has no more bytes than it may have, and the configurations have at most 64 MiB together
+pub record AreWithin (files : List File) (texts : List (List ℕ)) : Type 0 where
+  pub each : AreShort files texts
+  pub together : total_of files texts ≤ CONFIGS_MOST
+
+-- a file that is longer than it may be
+pub record IsTooLong (content : Contents) (file : File) : Type 0 where
   pub text : List ℕ
-  pub read : IsReadOf content name text
-  pub long : FILE_MOST < length text
+  pub read : IsReadOf content file text
+  pub long : file.most < length text
 
--- with this file the configurations pass what they may have together, and the number is that of their bytes so far
-pub record PassesTotal (content : Contents) (name : List ℕ) (texts : List (List ℕ)) (number : ℕ) : Type 0 where
+-- so many bytes were counted, and with this file the configurations pass what they may have together; the number is that of their bytes so far
+pub record PassesTotal (content : Contents) (file : File) (before number : ℕ) : Type 0 where
   pub text : List ℕ
-  pub read : IsReadOf content name text
-  pub short : IsShort text
-  pub number_is : number ≡ total_of_configs (texts ++ text ∷ [])
+  pub read : IsReadOf content file text
+  pub short : IsShort file text
+  pub number_is : number ≡ before + counted file text
   pub passed : CONFIGS_MOST < number
 
--- of these files those before one were read, and are within the limits; with it the names are those asked for
-pub record ReadUpTo (content : Contents) (names asked : List (List ℕ)) (texts : List (List ℕ)) (name : List ℕ) : Type 0 where
-  pub before : List (List ℕ)
-  pub after : List (List ℕ)
-  pub names_are : names ≡ before ++ name ∷ after
-  pub asked_are : asked ≡ before ++ name ∷ []
+-- of these files those before one were read, and are within the limits; with it their names are those asked for
+pub record ReadUpTo (content : Contents) (files : List File) (asked : List (List ℕ)) (texts : List (List ℕ)) (file : File) : Type 0 where
+  pub before : List File
+  pub after : List File
+  pub files_are : files ≡ before ++ file ∷ after
+  pub asked_are : asked ≡ names_of before ++ file.name ∷ []
   pub read : AreRead content before texts
-  pub within : AreWithin texts
+  pub within : AreWithin before texts

@@ -1,9 +1,9 @@
-ghost use Rattle.std.specs.Prelude.{◌≡◌, All, IfErr, IfOk, length, map, string_bytes};
+ghost use Rattle.std.specs.Prelude.{◌≡◌, ◌≤◌, All, IfErr, IfOk, length, map};
 ghost use Rattle.ios_reader.specs.Texts.{ReadsText};
 ghost use Rattle.migrate_cli.specs.Configurations.{ReadsTexts};
-ghost use Rattle.migrate_cli.specs.Reading.{IsShort};
 ghost use Rattle.migrate_cli.specs.Unread.{IsUnread, IsUnreadText};
 
+use crate::files::FILE_MOST;
 use ios_reader::{ReadKind, ReadRefusal, read_configs};
 use net_addr::Bytes;
 use net_model::{Config, Configs};
@@ -27,17 +27,17 @@ pub enum Unread<'a> {
 /// The configurations of the texts of some files, in their order.
 pub fn read_all<'a>(
     alloc: Global,
-    names: &'a [String],
+    names: &[&'a str],
     texts: &[Bytes],
 ) -> Result<Configs, Unread<'a>>
     requires lengths { length names.now ≡ length texts.now }
-    requires short { All IsShort texts.now }
+    requires short { All (λ text. length text ≤ FILE_MOST) texts.now }
     ensures ok { IfOk result (ReadsTexts texts.now) }
-    ensures err { IfErr result (IsUnread (map string_bytes names.now) texts.now) }
+    ensures err { IfErr result (IsUnread (map (λ name. name.now) names.now) texts.now) }
 {
     let mut all = Vec::new(alloc);
     for (i, text) in texts.iter().enumerate() {
-        let mut more = match read_one(alloc, names[i].as_str(), text) {
+        let mut more = match read_one(alloc, names[i], text) {
             Ok(more) => more,
             Err(unread) => return Err(unread),
         };
@@ -50,7 +50,7 @@ pub fn read_all<'a>(
 
 /// The configurations of the text of one file.
 fn read_one<'a>(alloc: Global, file: &'a str, text: &Bytes) -> Result<Vec<Config>, Unread<'a>>
-    requires { IsShort text.now }
+    requires { length text.now ≤ FILE_MOST }
     ensures ok { IfOk result (λ configs. ReadsText text.now configs.items) }
     ensures err { IfErr result (IsUnreadText file.now text.now) }
 {

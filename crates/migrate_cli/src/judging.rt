@@ -1,49 +1,58 @@
-ghost use Rattle.std.specs.Prelude.{◌≡◌, ℕ, List, All, IfOk, length, map, string_bytes};
+ghost use Rattle.std.specs.Prelude.{◌≡◌, ℕ, List, IfOk, MatchOption, length};
+ghost use Rattle.net_model.specs.OffStarts.{IsLowestOffStart};
 ghost use Rattle.net_model.specs.declared.refusal.NetRefusal.{NetRefusal};
+ghost use Rattle.migrate_words.specs.Requests.{request_of};
+ghost use Rattle.migrate_cli.specs.CommandFiles.{HasLanded, NeedsStart, config_texts, files_of, own_files, own_texts};
+ghost use Rattle.migrate_cli.specs.Configurations.{GiveNetwork, IsAtStart};
+ghost use Rattle.migrate_cli.specs.Reading.{AreShort};
 ghost use Rattle.migrate_cli.specs.RefusalStatus.{refusal_status};
-ghost use Rattle.migrate_cli.specs.Configurations.{GiveNetwork};
-ghost use Rattle.migrate_cli.specs.Reading.{IsShort};
+ghost use Rattle.migrate_cli.specs.Unread.{UnreadAnswer};
 ghost use Rattle.migrate_cli.specs.Verdicts.{IsVerdict};
 
 use crate::answer::{Answer, refuse};
-use crate::command::Check;
+use crate::commands::{judge_command, needs_start};
 use crate::configurations::{Unread, read_all};
-use crate::verdict::judge_order;
+use crate::files::config_names;
 use crate::{OutOfMemory, Status};
+use migrate_words::Command;
 use migration_report::Refusal;
 use net_addr::Bytes;
 use net_model::{Net, NetRefusal};
 use std::alloc::{AllocError, Global};
-use step_scripts::{OrderRefusal, read_order};
 
-/// The answer to the texts of the files.
-pub fn judge(
-    alloc: Global,
-    check: &Check<'_>,
-    order: &Bytes,
-    texts: &[Bytes],
-) -> Result<Answer, OutOfMemory>
-    requires lengths { length check.now.configs.now ≡ length texts.now }
-    requires order { IsShort order.now }
-    requires short { All IsShort texts.now }
-    ensures { IfOk result (λ answer. IsVerdict check.now.order.now (map string_bytes check.now.configs.now) order.now texts.now answer.status answer.text) }
+/// The answer of a command to the texts of its files.
+pub fn judge(alloc: Global, command: &Command<'_>, texts: &[Bytes]) -> Result<Answer, OutOfMemory>
+    requires landed { HasLanded (request_of command.now) }
+    requires short { AreShort (files_of (request_of command.now)) texts.now }
+    ensures { IfOk result (λ answer. let request = request_of command.now in IsVerdict request (own_texts request texts.now) (config_texts request texts.now) answer.status answer.text) }
 {
-    let configs = match read_all(alloc, check.configs, texts) {
+    let names = config_names(command);
+    let (own, rest) = texts.split_at(texts.len() - names.len());
+    let configs = match read_all(alloc, names, rest) {
         Ok(configs) => configs,
-        Err(Unread::OutOfMemory) => return Err(AllocError),
-        Err(Unread::Bad { file, line, kind }) => {
-            let refusal = Refusal::Config { file, line, kind };
-            return refuse(alloc, Status::Refused, &refusal);
-        }
+        Err(unread) => return refuse_unread(alloc, unread),
     };
     let refusal = match Net::build(alloc, configs) {
-        Ok(net) => return judge_network(alloc, check.order, order, &net),
+        Ok(net) => return judge_network(alloc, command, own, &net),
         Err(refusal) => refusal,
     };
     let Some(status) = status_of(&refusal) else {
         return Err(AllocError);
     };
     refuse(alloc, status, &Refusal::Network { refusal: &refusal })
+}
+
+/// The answer that the configurations of some files aren't read.
+fn refuse_unread(alloc: Global, unread: Unread<'_>) -> Result<Answer, OutOfMemory>
+    ensures { IfOk result (λ answer. UnreadAnswer unread.entry answer.status answer.text) }
+{
+    match unread {
+        Unread::Bad { file, line, kind } => {
+            let refusal = Refusal::Config { file, line, kind };
+            refuse(alloc, Status::Refused, &refusal)
+        }
+        Unread::OutOfMemory => Err(AllocError),
+    }
 }
 
 /// How a call ends that a network refuses, None where there was no memory.
@@ -57,22 +66,35 @@ fn status_of(refusal: &NetRefusal) -> Option<Status>
     }
 }
 
-/// The answer to a network and the text of an order file.
-fn judge_network(alloc: Global, file: &str, text: &Bytes, net: &Net) -> Result<Answer, OutOfMemory>
-    requires { IsShort text.now }
-    ensures { IfOk result (λ answer. (files texts : List (List ℕ)) → GiveNetwork texts net.now → IsVerdict file.now files text.now texts answer.status answer.text) }
+/// The answer of a command to the texts of its own files and the network of its configurations.
+fn judge_network(
+    alloc: Global,
+    command: &Command<'_>,
+    own: &[Bytes],
+    net: &Net,
+) -> Result<Answer, OutOfMemory>
+    requires landed { HasLanded (request_of command.now) }
+    requires own { AreShort (own_files (request_of command.now)) own.now }
+    ensures { IfOk result (λ answer. (configs : List (List ℕ)) → GiveNetwork configs net.now → IsVerdict (request_of command.now) own.now configs answer.status answer.text) }
 {
-    if let Some(router) = net.off_start() {
-        let name = &net.config(router).name;
-        return refuse(alloc, Status::Refused, &Refusal::OffStart { name });
-    }
-    let order = match read_order(alloc, net, text.as_slice()) {
-        Ok(order) => order,
-        Err(OrderRefusal::OutOfMemory) => return Err(AllocError),
-        Err(OrderRefusal::Bad { line, kind }) => {
-            let refusal = Refusal::Order { file, line, kind };
-            return refuse(alloc, Status::Refused, &refusal);
+    match off_start(command, net) {
+        Some(router) => {
+            let name = &net.config(router).name;
+            refuse(alloc, Status::Refused, &Refusal::OffStart { name })
         }
-    };
-    judge_order(alloc, net, order.as_slice())
+        None => judge_command(alloc, command, own, net),
+    }
+}
+
+/// The lowest router that isn't where a migration starts, where the command asks for it.
+fn off_start(command: &Command<'_>, net: &Net) -> Option<u32>
+    ensures { MatchOption result
+        (NeedsStart (request_of command.now) → IsAtStart net.now)
+        (λ router. NeedsStart (request_of command.now) × IsLowestOffStart net.now router) }
+{
+    if needs_start(command) {
+        net.off_start()
+    } else {
+        None
+    }
 }

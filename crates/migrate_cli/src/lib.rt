@@ -1,19 +1,23 @@
 //! The program `migrate` as one call: what it answers to its words and its files.
+//!
+//! `run` is the claim. What every command shares is in `run_call`, `reading`, `configurations` and `judging`; `commands` is the
+//! list of the commands that there are, and each has a file of its own, as `check`.
 #![tactic(auto)]
 
 mod answer;
-mod calls;
-mod command;
+mod check;
+mod commands;
 mod configurations;
+mod files;
 mod judging;
 mod laws;
 mod reading;
+mod run_call;
 mod sending;
 mod status;
-mod verdict;
 
-pub use calls::run;
 pub use laws::one_answer;
+pub use run_call::run;
 pub use status::Status;
 pub use std::alloc::AllocError as OutOfMemory;
 

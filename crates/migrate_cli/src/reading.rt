@@ -1,15 +1,13 @@
-ghost use Rattle.std.specs.Prelude.{◌≡◌, ◌≤◌, ℕ, List, [], ◌∷◌, ◌++◌, length, map, string_bytes, IfOk, IfErr, OnOk};
-ghost use Rattle.migrate_cli.specs.Reading.{AreWithin, IsReadOf, IsShort, total_of_configs};
+ghost use Rattle.std.specs.Prelude.{◌≡◌, ◌+◌, ◌≤◌, ℕ, All, List, [], length, map, IfOk, IfErr, OnOk};
+ghost use Rattle.migrate_cli.specs.FilesRead.{file_of};
+ghost use Rattle.migrate_cli.specs.Reading.{IsReadOf, IsShort, counted};
 ghost use Rattle.migrate_cli.specs.Stops.{CountsFaults, HasAsked, HasRead, IsNextText, StopsAlone, StopsAt};
 
-use crate::command::Check;
+use crate::files::{FILE_MOST, Wanted};
 use net_addr::Bytes;
 use std::alloc::{AllocError, Global};
 use std::marker::Model;
 use store_edge::{FileAnswer, Files};
-
-/// How many bytes a file has at most, 16 MiB.
-const FILE_MOST: u64 = 16_777_216;
 
 /// How many bytes the configuration files have together at most, 64 MiB.
 const CONFIGS_MOST: u64 = 67_108_864;
@@ -18,7 +16,7 @@ const CONFIGS_MOST: u64 = 67_108_864;
 pub enum Stop<'a> {
     /// The file could not be read.
     Fault(&'a str),
-    /// The file has more bytes than a file may have.
+    /// The file has more bytes than it may have.
     Long(&'a str),
     /// The configuration files have more bytes together than they may have, so many at the file at which it was seen.
     Total(u64),
@@ -26,52 +24,37 @@ pub enum Stop<'a> {
     OutOfMemory,
 }
 
-/// The texts of an order file and of configuration files, within their limits.
+/// The texts of files, and how many of their bytes count to those of all configurations.
 #[derive(Drop)]
 pub struct Texts {
     all: Vec<Bytes>,
-    configs_len: u64,
+    counted: u64,
 }
 
 impl Model for Texts {
-    ghost use Rattle.std.specs.Prelude.{◌≡◌, List, ℕ};
-    ghost use Rattle.migrate_cli.specs.Reading.{total_of_configs};
+    ghost use Rattle.migrate_cli.specs.Stops.{Kept};
 
-    ghost Value = { List (List ℕ) };
+    ghost Value = { Kept };
 
-    ghost view = { λ x. x.all.items };
-
-    ghost invariant = { λ x. x.configs_len ≡ total_of_configs x.all.items };
+    ghost view = { λ x. record { all = x.all.items; counted = x.counted } };
 }
 
 impl Texts {
     /// No texts.
     fn new(alloc: Global) -> Texts
-        ensures { result ≡ [] }
+        ensures { result ≡ record { all = []; counted = 0 } }
     {
         Texts {
             all: Vec::new(alloc),
-            configs_len: 0,
+            counted: 0,
         }
     }
 
-    /// The texts, the order's first.
+    /// The texts, in the order in which they were read.
     pub fn as_slice(&self) -> &[Bytes]
-        ensures { result.now ≡ self.now }
+        ensures { result.now ≡ self.now.all }
     {
         self.all.as_slice()
-    }
-
-    /// How many bytes the configurations have together, with this text too.
-    fn len_with(&self, text: &Bytes) -> u64
-        requires most { total_of_configs self.now ≤ CONFIGS_MOST }
-        requires short { length text.now ≤ FILE_MOST }
-        ensures { result ≡ total_of_configs (self.now ++ text.now ∷ []) }
-    {
-        if self.all.is_empty() {
-            return 0;
-        }
-        self.configs_len + text.as_slice().len() as u64
     }
 
     /// Reads the next file.
@@ -79,60 +62,76 @@ impl Texts {
         &mut self,
         alloc: Global,
         files: &mut F,
-        name: &'a str,
+        wanted: &Wanted<'a>,
     ) -> Result<(), Stop<'a>>
-        requires { AreWithin self.old }
-        ensures ok { OnOk result (IsNextText (F.content files.old) name.now self.old self.new) }
-        ensures stop { IfErr result (StopsAt (F.content files.old) name.now self.old) }
-        ensures asked { HasAsked name.now (F.asked files.old) (F.asked files.new) result }
+        requires most { wanted.now.most ≤ FILE_MOST }
+        requires counted { self.old.counted ≤ CONFIGS_MOST }
+        ensures ok { OnOk result (IsNextText (F.content files.old) (file_of wanted.now) self.old self.new) }
+        ensures stop { IfErr result (StopsAt (F.content files.old) (file_of wanted.now) self.old.counted) }
+        ensures asked { HasAsked wanted.now.name.now (F.asked files.old) (F.asked files.new) result }
         ensures contents_stay { (other : List ℕ) → F.content files.new other ≡ F.content files.old other }
         ensures faults { CountsFaults result (F.faults files.old) (F.faults files.new) }
     {
-        let text = read_whole(alloc, files, name)?;
-        let configs_len = self.len_with(&text);
-        if configs_len > CONFIGS_MOST {
-            return Err(Stop::Total(configs_len));
+        let text = read_whole(alloc, files, wanted)?;
+        let total = self.counted + counted_in(wanted, &text);
+        if total > CONFIGS_MOST {
+            return Err(Stop::Total(total));
         }
         if self.all.push(text).is_err() {
             return Err(Stop::OutOfMemory);
         }
-        self.configs_len = configs_len;
+        self.counted = total;
         Ok(())
     }
 }
 
-/// Reads a file that is no longer than a file may be.
-fn read_whole<'a, F: Files>(alloc: Global, files: &mut F, name: &'a str) -> Result<Bytes, Stop<'a>>
-    ensures read { IfOk result (IsReadOf (F.content files.old) name.now) }
-    ensures short { IfOk result IsShort }
-    ensures stop { IfErr result (StopsAlone (F.content files.old) name.now) }
-    ensures asked { HasAsked name.now (F.asked files.old) (F.asked files.new) result }
+/// How many bytes of a text count to those of all configurations.
+fn counted_in(wanted: &Wanted<'_>, text: &Bytes) -> u64
+    ensures { result ≡ counted (file_of wanted.now) text.now }
+{
+    if wanted.counts {
+        text.as_slice().len() as u64
+    } else {
+        0
+    }
+}
+
+/// Reads a file that is no longer than it may be.
+fn read_whole<'a, F: Files>(
+    alloc: Global,
+    files: &mut F,
+    wanted: &Wanted<'a>,
+) -> Result<Bytes, Stop<'a>>
+    requires { wanted.now.most ≤ FILE_MOST }
+    ensures read { IfOk result (IsReadOf (F.content files.old) (file_of wanted.now)) }
+    ensures short { IfOk result (IsShort (file_of wanted.now)) }
+    ensures stop { IfErr result (StopsAlone (F.content files.old) (file_of wanted.now)) }
+    ensures asked { HasAsked wanted.now.name.now (F.asked files.old) (F.asked files.new) result }
     ensures contents_stay { (other : List ℕ) → F.content files.new other ≡ F.content files.old other }
     ensures faults { CountsFaults result (F.faults files.old) (F.faults files.new) }
 {
-    match files.read(alloc, name, FILE_MOST + 1) {
-        Ok(text) if text.as_slice().len() as u64 > FILE_MOST => Err(Stop::Long(name)),
+    let name = wanted.name;
+    match files.read(alloc, name, wanted.most + 1) {
+        Ok(text) if text.as_slice().len() as u64 > wanted.most => Err(Stop::Long(name)),
         Ok(text) => Ok(text),
         Err(FileAnswer::Failed) => Err(Stop::Fault(name)),
         Err(FileAnswer::OutOfMemory) => Err(Stop::OutOfMemory),
     }
 }
 
-/// Reads the files that the words name, in their order.
+/// Reads files, in their order.
 pub fn read_texts<'a, F: Files>(
     alloc: Global,
-    check: &Check<'a>,
+    wanted: &[Wanted<'a>],
     files: &mut F,
 ) -> Result<Texts, Stop<'a>>
-    ensures read { HasRead (F.content files.old) (check.now.order.now ∷ map string_bytes check.now.configs.now) (F.asked files.old) (F.asked files.new) result }
+    requires { All (λ file. file.most ≤ FILE_MOST) wanted.now }
+    ensures read { HasRead (F.content files.old) (map file_of wanted.now) (F.asked files.old) (F.asked files.new) result }
     ensures faults { CountsFaults result (F.faults files.old) (F.faults files.new) }
 {
     let mut texts = Texts::new(alloc);
-    if let Err(stop) = texts.read_next(alloc, files, check.order) {
-        return Err(stop);
-    }
-    for name in check.configs {
-        if let Err(stop) = texts.read_next(alloc, files, name.as_str()) {
+    for file in wanted {
+        if let Err(stop) = texts.read_next(alloc, files, file) {
             return Err(stop);
         }
     }

@@ -1,10 +1,13 @@
-//! Answers the calls of the file `calls.txt`, one a line, on the files that lie beside it, held in memory. What is
+//! Answers the calls of the file `calls.txt`, one a line, on the files that lie beside it or that are made, held in memory. What is
 //! printed reads as a session at a terminal: each call, the line that it writes, and its code. A line that begins with
 //! `#` is a remark, and is printed as it stands.
 #![tactic(auto)]
 
+mod made;
+
 ghost use Rattle.std.specs.Prelude.{◌≡◌, [], IfOk};
 
+use crate::made::made;
 use anyhow::Result;
 use migrate_cli::{Status, run};
 use net_addr::{Bytes, Name};
@@ -45,7 +48,11 @@ fn held(rt: &(impl AllocGlobal + Files), words: &[String]) -> Result<MemoryFiles
     let alloc = rt.alloc();
     let mut all = Vec::new(alloc);
     for word in words {
-        if let Ok(bytes) = fs::read(rt, word.as_str()) {
+        let bytes = match made(alloc, word.as_str())? {
+            Some(bytes) => Some(bytes),
+            None => fs::read(rt, word.as_str()).ok(),
+        };
+        if let Some(bytes) = bytes {
             let name = Vec::from_slice(alloc, word.as_bytes())?;
             all.push((Name::from_vec(name), Bytes::from_vec(bytes)))?;
         }

@@ -6,6 +6,6 @@ mod PlainLines
 mod PlainLaws
 mod FullRows
 mod TakenWalk
-mod TakenLaws
-mod OneRequest
+pub mod TakenLaws
+pub mod OneRequest
 mod AnswerFacts

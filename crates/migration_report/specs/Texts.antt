@@ -1,5 +1,5 @@
 -- The texts that are printed, each one line.
-use Rattle.std.specs.Prelude.{◌≢◌, ℕ, ◌<◌, List, [], ◌∷◌, map, All, codes, decimal}
+use Rattle.std.specs.Prelude.{◌≢◌, ℕ, ◌<◌, List, [], ◌∷◌, ◌++◌, map, All, codes, decimal}
 use Rattle.net_model.specs.declared.refusal.NetRefusal.{NetRefusal}
 use Rattle.net_model.specs.declared.refusal.NetRefusal.TheVariants.{Limit, TwoNames, AddressTwice, PrefixInTwoAreas, BorderWithoutBackbone, OspfCostSum, IsisMetricSum, SystemIdTwice, StubMismatch, OutOfMemory}
 use Rattle.igp_theory.specs.Loops.{Fault as WholeFault, missing, loop}
@@ -82,7 +82,7 @@ long_files_text number = line (codes "limit") (codes "total" ∷ decimal number 
 
 -- why the input was refused
 abbrev pub refusal_text : Refusal → List ℕ
-refusal_text Words = words_refused_text
+refusal_text (Words detail) = words_refused_text ++ detail.now
 refusal_text (Read file) = read_fault_text file.now
 refusal_text (Config file number kind) = faulty_text file.now number (read_kind_name kind)
 refusal_text (Order file number kind) = faulty_text file.now number (order_kind_name kind)

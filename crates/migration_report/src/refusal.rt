@@ -1,5 +1,5 @@
-ghost use Rattle.std.specs.Prelude.{◌≡◌, IfOk};
-ghost use Rattle.migration_report.specs.Texts.{IsPrinted, faulty_text, refusal_text};
+ghost use Rattle.std.specs.Prelude.{◌≡◌, ◌++◌, IfOk};
+ghost use Rattle.migration_report.specs.Texts.{IsPrinted, faulty_text, refusal_text, words_refused_text};
 
 use crate::kinds::{order_kind_name, read_kind_name};
 use crate::network::{limit_text, network_text, refused};
@@ -14,7 +14,10 @@ use step_scripts::OrderKind;
 #[derive(Clone, Copy, Debug)]
 pub enum Refusal<'a> {
     /// The words of the command.
-    Words,
+    Words {
+        /// What more is said of them, after the line.
+        detail: &'a [u8],
+    },
     /// A file that can't be read.
     Read {
         file: &'a str,
@@ -54,15 +57,13 @@ pub enum Refusal<'a> {
     },
 }
 
-/// The line that tells why the input is refused. The only error is want of memory.
+/// The line that tells why the input is refused, and after that of words what more is said of them. The only error is want of memory.
 pub fn refusal_text(alloc: Global, refusal: &Refusal<'_>) -> Result<Bytes, AllocError>
     requires { IsPrinted refusal.now }
     ensures { IfOk result (λ text. text ≡ refusal_text refusal.now) }
 {
     match refusal {
-        Refusal::Words => LineBuilder::start(alloc, b"words")?
-            .word(b"refused")?
-            .finish(),
+        Refusal::Words { detail } => words_text(alloc, detail),
         Refusal::Read { file } => {
             let line = LineBuilder::start(alloc, b"read")?.word(b"fault")?;
             line.word(file.as_bytes())?.finish()
@@ -90,6 +91,16 @@ pub fn refusal_text(alloc: Global, refusal: &Refusal<'_>) -> Result<Bytes, Alloc
         }
         Refusal::Total { number } => limit_text(alloc, b"total", *number),
     }
+}
+
+/// The line for words that are refused, and what more is said of them.
+fn words_text(alloc: Global, detail: &[u8]) -> Result<Bytes, AllocError>
+    ensures { IfOk result (λ text. text ≡ words_refused_text ++ detail.now) }
+{
+    let line = LineBuilder::start(alloc, b"words")?.word(b"refused")?;
+    let mut text = line.finish()?.into_vec();
+    text.extend_from_slice(detail)?;
+    Ok(Bytes::from_vec(text))
 }
 
 /// The line for a faulty line of a file.

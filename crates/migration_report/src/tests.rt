@@ -87,7 +87,20 @@ fn input_is_refused(rt: HostRuntime) -> Result<(), Fail> {
         kind: OrderKind::Twice,
     };
     let start = Refusal::OffStart { name: &name };
-    prints(&rt, alloc, Refusal::Words, b"words refused\n")?;
+    prints(
+        &rt,
+        alloc,
+        Refusal::Words { detail: b"" },
+        b"words refused\n",
+    )?;
+    prints(
+        &rt,
+        alloc,
+        Refusal::Words {
+            detail: b"error: ..\n",
+        },
+        b"words refused\nerror: ..\n",
+    )?;
     prints(&rt, alloc, Refusal::Read { file }, b"read fault r1.cfg\n")?;
     prints(&rt, alloc, config, b"refused r1.cfg 6 NoEnd\n")?;
     prints(&rt, alloc, order, b"refused r1.cfg 4 Twice\n")?;

@@ -1,56 +1,53 @@
-use Rattle.std.proofs.Common.{◌≡◌, ◌+◌, ◌++◌, ◌∷◌, [], take, drop, map, string_bytes, sym, ◌∙◌, ap, subst, append-nil, arith, refl}
-use Rattle.migrate_cli.specs.Reading.{AreRead}
+use Rattle.std.proofs.Common.{◌≡◌, ◌+◌, ◌++◌, ◌∷◌, [], take, drop, map, get_or, false, sym, ◌∙◌, ap, subst, arith}
+use Rattle.migrate_cli.specs.FilesRead.{file_of}
+use Rattle.migrate_cli.specs.declared.files.Wanted.{Wanted}
+use Rattle.migrate_cli.specs.Reading.{AreRead, AreWithin, names_of, total_of}
 use Rattle.migrate_cli.specs.Stops.{StopsAt, StopFaults}
-use Rattle.migrate_cli.proofs.ReadingFacts.{AreWithin-none}
-use Rattle.migrate_cli.proofs.StopFacts.{stops_among, StopsAt-same, read_more, asked_more, map_around, map_take_more}
+use Rattle.migrate_cli.proofs.StopFacts.{stops_among, StopsAt-same, read_more, within_more, counted_more, asked_more, element, map_around, map_take_more}
 use Rattle.migrate_cli.proofs.reading.read_texts.Goals as goal
 
 pub returns-in-Err-clause-read : goal.returns-in-Err-clause-read
 returns-in-Err-clause-read g c =
-    let order = c.args.check.now.order.now in
-    let configs = map string_bytes c.args.check.now.configs.now in
-    let asked = g.F.Files.asked c.args.files.now in
-    stops_among (g.F.Files.content c.args.files.now) (order ∷ configs) [] configs [] order asked asked (g.F.Files.asked c.read_next.new.files) c.in-Err.stop
-    refl tt AreWithin-none (sym (append-nil asked))
-    (subst (λ texts. StopsAt (g.F.Files.content c.args.files.now) order texts c.in-Err.stop) c.new-texts.ensures c.in-Err.ensures.stop) c.in-Err.ensures.asked
-
-pub returns-in-Err-read_next-clause-read : goal.returns-in-Err-read_next-clause-read
-returns-in-Err-read_next-clause-read g c =
     let content = g.F.Files.content c.args.files.now in
-    let order = c.args.check.now.order.now in
-    let all = c.args.check.now.configs.now in
-    let i = c.loop-name.name-index in
-    let name = c.as_str.result.now in
-    let around = map_around string_bytes all i c.name-item.result (omega arith) c.name-item.is in
-    let named = around ∙ ap (λ w. map string_bytes (take i all) ++ w ∷ map string_bytes (drop (i + 1) all)) (sym c.as_str.ensures.value) in
-    stops_among content (order ∷ map string_bytes all) (order ∷ map string_bytes (take i all)) (map string_bytes (drop (i + 1) all)) c.loop-name.texts name
-    (g.F.Files.asked c.args.files.now) (g.F.Files.asked c.loop-name.files) (g.F.Files.asked c.read_next-in-loop-name.new.files) c.in-Err-read_next.stop
-    (ap (λ ws. order ∷ ws) named) c.loop-name.invariant.read c.loop-name.invariant.within c.loop-name.invariant.asked
-    (StopsAt-same (g.F.Files.content c.loop-name.files) content name c.loop-name.texts c.in-Err-read_next.stop (c.loop-name.invariant.contents_stay name) c.in-Err-read_next.ensures.stop)
-    c.in-Err-read_next.ensures.asked
+    let all = c.args.wanted.now in
+    let i = c.loop-file.file-index in
+    let nothing : Wanted = record { name = record { ref_ptr = (0, 0); now = [] }; most = 0; counts = false } in
+    let item = get_or all i nothing in
+    let at : item ≡ get_or all i item = element all i nothing item (omega arith) in
+    let file = file_of item in
+    let held = c.loop-file.invariant in
+    let around = map_around file_of all i item (omega arith) at in
+    let stops = StopsAt-same (g.F.Files.content c.loop-file.files) content file c.loop-file.texts.counted c.in-Err.stop (held.contents_stay file.name) c.in-Err.ensures.stop in
+    stops_among content (map file_of all) (map file_of (take i all)) (map file_of (drop (i + 1) all)) c.loop-file.texts.all file
+    (g.F.Files.asked c.args.files.now) (g.F.Files.asked c.loop-file.files) (g.F.Files.asked c.read_next.new.files) c.in-Err.stop around held.read held.within held.asked
+    (subst (λ n. StopsAt content file n c.in-Err.stop) held.counted stops) c.in-Err.ensures.asked
 
-pub returns-in-Err-read_next-clause-faults : goal.returns-in-Err-read_next-clause-faults
-returns-in-Err-read_next-clause-faults g c =
-    subst (λ count. StopFaults c.in-Err-read_next.stop count (g.F.Files.faults c.read_next-in-loop-name.new.files)) c.loop-name.invariant.faults_stand
-    c.in-Err-read_next.ensures.faults
+pub returns-in-Err-clause-faults : goal.returns-in-Err-clause-faults
+returns-in-Err-clause-faults g c =
+    subst (λ count. StopFaults c.in-Err.stop count (g.F.Files.faults c.read_next.new.files)) c.loop-file.invariant.faults_stand c.in-Err.ensures.faults
 
-pub loop-name-preserved : goal.loop-name-preserved
-loop-name-preserved g c =
+pub loop-file-preserved : goal.loop-file-preserved
+loop-file-preserved g c =
     let content = g.F.Files.content c.args.files.now in
-    let order = c.args.check.now.order.now in
-    let all = c.args.check.now.configs.now in
-    let i = c.loop-name.name-index in
-    let name = c.as_str.result.now in
-    let more = map_take_more string_bytes all i c.name-item.result (omega arith) c.name-item.is in
-    let names : order ∷ map string_bytes (take (i + 1) all) ≡ (order ∷ map string_bytes (take i all)) ++ name ∷ [] =
-    ap (λ ws. order ∷ ws) (more ∙ ap (λ w. map string_bytes (take i all) ++ w ∷ []) (sym c.as_str.ensures.value)) in
+    let other = g.F.Files.content c.loop-file.files in
+    let all = c.args.wanted.now in
+    let i = c.loop-file.file-index in
+    let nothing : Wanted = record { name = record { ref_ptr = (0, 0); now = [] }; most = 0; counts = false } in
+    let item = get_or all i nothing in
+    let at : item ≡ get_or all i item = element all i nothing item (omega arith) in
+    let file = file_of item in
+    let before = map file_of (take i all) in
+    let held = c.loop-file.invariant in
+    let next = c.in_default.ensures.ok in
+    let old = c.loop-file.texts in
+    let new = c.read_next.new.self in
+    let files : map file_of (take (i + 1) all) ≡ before ++ file ∷ [] = map_take_more file_of all i item (omega arith) at in
     record {
-      read = subst (λ ws. AreRead content ws c.read_next-in-loop-name.new.self) (sym names)
-          (read_more content (g.F.Files.content c.loop-name.files) (order ∷ map string_bytes (take i all)) c.loop-name.texts c.read_next-in-loop-name.new.self name
-          (c.loop-name.invariant.contents_stay name) c.loop-name.invariant.read c.in_default-read_next.ensures.ok);
-      within = c.in_default-read_next.ensures.ok.within;
-      asked = asked_more (order ∷ map string_bytes (take i all)) name (g.F.Files.asked c.args.files.now) (g.F.Files.asked c.loop-name.files)
-          (g.F.Files.asked c.read_next-in-loop-name.new.files) c.loop-name.invariant.asked c.in_default-read_next.ensures.asked ∙ ap (λ ws. g.F.Files.asked c.args.files.now ++ ws) (sym names);
-      contents_stay = λ other. c.in_default-read_next.ensures.contents_stay other ∙ c.loop-name.invariant.contents_stay other;
-      faults_stand = c.in_default-read_next.ensures.faults ∙ c.loop-name.invariant.faults_stand;
+      read = subst (λ some. AreRead content some new.all) (sym files) (read_more content other before file old new (held.contents_stay file.name) held.read next);
+      within = subst (λ some. AreWithin some new.all) (sym files) (within_more other before file old new held.counted held.within next);
+      counted = counted_more other before file old new held.counted held.within next ∙ ap (λ some. total_of some new.all) (sym files);
+      asked = asked_more before file (g.F.Files.asked c.args.files.now) (g.F.Files.asked c.loop-file.files) (g.F.Files.asked c.read_next.new.files) held.asked c.in_default.ensures.asked
+          ∙ ap (λ some. g.F.Files.asked c.args.files.now ++ names_of some) (sym files);
+      contents_stay = λ name. c.in_default.ensures.contents_stay name ∙ held.contents_stay name;
+      faults_stand = c.in_default.ensures.faults ∙ held.faults_stand;
     }

@@ -1,0 +1,88 @@
+-- The files of a command, and their texts.
+use Rattle.std.proofs.Common.{◌≡◌, ℕ, ◌+◌, ◌<◌, ◌≤◌, List, [], ◌∷◌, ◌++◌, length, map, take, drop, All, get_or, lit≤, refl, sym, ap, subst, arith}
+use Rattle.std.proofs.lemmas.List.{length-map, get_or-map}
+use Rattle.std.proofs.lemmas.List.Elements.{All-cons, All-append}
+use Rattle.migrate_words.specs.Requests.{Request, check, prepare, plan, refute, scripts, replay, sample}
+use Rattle.migrate_cli.specs.Reading.{File, AreShort}
+use Rattle.migrate_cli.specs.CommandFiles.{config_file, config_names, design_file, files_of, own_files, text_file}
+
+-- the file is none that may be longer than 16 MiB
+abbrev IsSmall : File → Type 0
+IsSmall file = file.most ≤ 16777216
+
+no_files : All IsSmall []
+no_files = λ k d within. absurd (omega arith)
+
+small_configs : (names : List (List ℕ)) → All IsSmall (map config_file names)
+small_configs [] = no_files
+small_configs (n ∷ names) = All-cons IsSmall (config_file n) (map config_file names) (lit≤ tt) (small_configs names)
+
+one_small : (file : File) → IsSmall file → All IsSmall (file ∷ [])
+one_small file small = All-cons IsSmall file [] small no_files
+
+small_own : (request : Request) → All IsSmall (own_files request)
+small_own (check order configs) = one_small (text_file order) (lit≤ tt)
+small_own (prepare design configs) = one_small (design_file design) (lit≤ tt)
+small_own (plan budget configs) = no_files
+small_own (refute tree configs) = one_small (text_file tree) (lit≤ tt)
+small_own (scripts order configs) = one_small (text_file order) (lit≤ tt)
+small_own (replay order journal configs) = All-cons IsSmall (text_file order) (text_file journal ∷ []) (lit≤ tt) (one_small (text_file journal) (lit≤ tt))
+small_own (sample routers) = no_files
+
+-- no file of a command may be longer than 16 MiB
+pub small_files : (request : Request) → All (λ (file : File). file.most ≤ 16777216) (files_of request)
+small_files request = All-append IsSmall (own_files request) (map config_file (config_names request)) (small_own request) (small_configs (config_names request))
+
+-- what holds of each image holds of each element that it comes from
+pub All-mapped : {X Y : Type 0} (P : Y → Type 0) (f : X → Y) (xs : List X) → All P (map f xs) → All (λ x. P (f x)) xs
+All-mapped P f xs all k d within =
+    subst P (get_or-map f xs k d (f d) within) (all k (f d) (subst (λ n. k < n) (sym (length-map xs f)) within))
+
+-- as many texts as files
+pub short_length : (files : List File) (texts : List (List ℕ)) → AreShort files texts → length texts ≡ length files
+short_length [] [] short = refl
+short_length [] (t ∷ texts) short = absurd short
+short_length (f ∷ files) [] short = absurd short
+short_length (f ∷ files) (t ∷ texts) short = let e = short_length files texts short.1 in omega (arith, e)
+
+-- the first texts are those of the first files
+pub short_front : (own more : List File) (texts : List (List ℕ)) → AreShort (own ++ more) texts → AreShort own (take (length own) texts)
+short_front [] more texts short = tt
+short_front (f ∷ own) more [] short = absurd short
+short_front (f ∷ own) more (t ∷ texts) short = (short.0, short_front own more texts short.1)
+
+-- and the others those of the others
+pub short_rest : (own more : List File) (texts : List (List ℕ)) → AreShort (own ++ more) texts → AreShort more (drop (length own) texts)
+short_rest [] more texts short = short
+short_rest (f ∷ own) more [] short = absurd short
+short_rest (f ∷ own) more (t ∷ texts) short = short_rest own more texts short.1
+
+-- texts of configurations have at most 16 MiB each
+pub short_configs : (names : List (List ℕ)) (texts : List (List ℕ)) → AreShort (map config_file names) texts → All (λ (text : List ℕ). length text ≤ 16777216) texts
+short_configs [] [] short = λ k d within. absurd (omega arith)
+short_configs [] (t ∷ texts) short = absurd short
+short_configs (n ∷ names) [] short = absurd short
+short_configs (n ∷ names) (t ∷ texts) short = All-cons (λ (text : List ℕ). length text ≤ 16777216) t texts short.0 (short_configs names texts short.1)
+
+-- a command's files are its own and the configurations
+pub files_length : (own : List File) (names : List (List ℕ)) → length (own ++ map config_file names) ≡ length own + length names
+files_length [] names = let e = length-map names config_file in omega (arith, e)
+files_length (f ∷ own) names = let e = files_length own names in omega (arith, e)
+
+-- the texts before those of the configurations are those of the own files
+pub own_count : (request : Request) (texts : List (List ℕ)) (n : ℕ) → n ≡ length (config_names request) → AreShort (files_of request) texts
+    → length texts ≡ length (own_files request) + n
+own_count request texts n is short =
+    let all = short_length (files_of request) texts short in
+    let parts = files_length (own_files request) (config_names request) in
+    omega (arith, is, all, parts)
+
+-- the text of the one own file
+pub record IsOneText (file : File) (own : List (List ℕ)) (text : List ℕ) : Type 0 where
+  pub alone : own ≡ text ∷ []
+  pub short : length text ≤ file.most
+
+pub one_own : (file : File) (own : List (List ℕ)) (text : List ℕ) → AreShort (file ∷ []) own → text ≡ get_or own 0 text → IsOneText file own text
+one_own file [] text short at = absurd short
+one_own file (t ∷ []) text short at = record { alone = ap (λ x. x ∷ []) (sym at); short = subst (λ x. length x ≤ file.most) (sym at) short.0 }
+one_own file (t ∷ u ∷ more) text short at = absurd short.1

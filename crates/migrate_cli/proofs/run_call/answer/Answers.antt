@@ -1,0 +1,9 @@
+use Rattle.std.proofs.Common.{map, string_bytes}
+use Rattle.migrate_cli.specs.Calls.{Call}
+use Rattle.migrate_cli.proofs.AnswerFacts.{refusal_answer}
+use Rattle.migrate_cli.proofs.run_call.answer.Goals as goal
+
+pub returns-in-Err-clause-answer : goal.returns-in-Err-clause-answer
+returns-in-Err-clause-answer g c =
+    let call : Call = record { words = map string_bytes c.args.words.now; content = g.F.Files.content c.args.files.now } in
+    refusal_answer call (g.F.Files.asked c.args.files.now) c.in-Err.refused c.refuse_words.result c.in-Err.ensures c.refuse_words.ensures

@@ -1,0 +1,112 @@
+use Rattle.std.proofs.Common.{◌≡◌, ◌<◌, ◌≤◌, ◌∙◌, ℕ, List, [], All, Err, IfOk, Ok, ap, arith, length, map, subst, sym}
+use Rattle.std.specs.Borrow.{Bor}
+use Rattle.std.proofs.lemmas.List.{length-map}
+use Rattle.std.proofs.lemmas.Result.{IfOk-weaker}
+use Rattle.migrate_words.specs.Requests.{request_of}
+use Rattle.migration_report.specs.Texts.{many_files_text, words_refused_text}
+use Rattle.migrate_cli.specs.Answers.{AsksForFew, FaultsAgree, IsAnswer, MayAsk}
+use Rattle.migrate_cli.specs.Answers.IsAnswer.{judged, many_files, refused_words}
+use Rattle.migrate_cli.specs.Calls.{Call}
+use Rattle.migrate_cli.specs.CallWords.AreRefused.{not_landed}
+use Rattle.migrate_cli.specs.CommandFiles.{HasLanded, config_names, config_texts, files_of, own_texts}
+use Rattle.migrate_cli.specs.FilesRead.{file_of}
+use Rattle.migrate_cli.specs.Reading.{AreRead, AreWithin, File, names_of}
+use Rattle.migrate_cli.specs.Stops.{HasRead}
+use Rattle.migrate_cli.specs.Verdicts.{IsVerdict}
+use Rattle.migrate_cli.specs.declared.status.Status.TheVariants.{Limit, Words}
+use Rattle.migrate_cli.proofs.AnswerFacts.{answered, answered_at_once, faults_agree, from_refusal, may_ask_all, stop_answer, verdict_no_fault}
+use Rattle.migrate_cli.proofs.FileFacts.{All-mapped, small_files}
+use Rattle.migrate_cli.proofs.run_call.answer_command.Goals as goal
+
+pub returns-then-not-has_landed-clause-answer : goal.returns-then-not-has_landed-clause-answer
+returns-then-not-has_landed-clause-answer g c = λ words asks.
+    let request = request_of c.args.command.now in
+    let call : Call = record { words = words; content = g.F.Files.content c.args.files.now } in
+    let none : HasLanded request → ⊥ = λ landed. let holds = c.has_landed.ensures.1 landed in grind (arith, holds) in
+    let r = c.refuse_alone.result in
+    answered_at_once call (g.F.Files.asked c.args.files.now) r
+    (from_refusal r Words words_refused_text (λ s t. IsAnswer call [] s t) c.refuse_alone.ensures.status c.refuse_alone.ensures.text
+    (refused_words words_refused_text (not_landed request asks none)))
+
+pub returns-then-number-gt-FILES_MOST-clause-answer : goal.returns-then-number-gt-FILES_MOST-clause-answer
+returns-then-number-gt-FILES_MOST-clause-answer g c = λ words asks.
+    let request = request_of c.args.command.now in
+    let call : Call = record { words = words; content = g.F.Files.content c.args.files.now } in
+    let landed : HasLanded request = c.has_landed.ensures.0 (grind arith) in
+    let names = c.config_names-number.result.now in
+    let bytes : Bor (List ℕ) → List ℕ = λ name. name.now in
+    let count : length names ≡ length (config_names request) = sym (length-map names bytes) ∙ ap length c.config_names-number.ensures in
+    let many : 200 < length (config_names request) = grind (arith, count) in
+    let r = c.refuse.result in
+    answered_at_once call (g.F.Files.asked c.args.files.now) r
+    (from_refusal r Limit (many_files_text (length names)) (λ s t. IsAnswer call [] s t) c.refuse.ensures.status c.refuse.ensures.text
+    (subst (λ n. IsAnswer call [] Limit (many_files_text n)) (sym count) (many_files request (record { asks = asks; landed = landed }) many)))
+
+pub returns-in_default-clause-answer : goal.returns-in_default-clause-answer
+returns-in_default-clause-answer g c = λ words asks.
+    answered_at_once (record { words = words; content = g.F.Files.content c.args.files.now }) (g.F.Files.asked c.args.files.now) (Err _) tt
+
+pub read_texts-requires : goal.read_texts-requires
+read_texts-requires g c =
+    let request = request_of c.args.command.now in
+    let files : map file_of c.as_slice.result.now ≡ files_of request = ap (map file_of) c.as_slice.ensures.value ∙ c.in-Ok.ensures in
+    All-mapped (λ (file : File). file.most ≤ 16777216) file_of c.as_slice.result.now
+    (subst (All (λ (file : File). file.most ≤ 16777216)) (sym files) (small_files request))
+
+pub returns-in-Ok-read_texts-clause-answer : goal.returns-in-Ok-read_texts-clause-answer
+returns-in-Ok-read_texts-clause-answer g c = λ words asks.
+    let request = request_of c.args.command.now in
+    let content = g.F.Files.content c.args.files.now in
+    let call : Call = record { words = words; content = content } in
+    let before = g.F.Files.asked c.args.files.now in
+    let after = g.F.Files.asked c.read_texts.new.files in
+    let landed : HasLanded request = c.has_landed.ensures.0 (grind arith) in
+    let names = c.config_names-number.result.now in
+    let bytes : Bor (List ℕ) → List ℕ = λ name. name.now in
+    let count : length names ≡ length (config_names request) = sym (length-map names bytes) ∙ ap length c.config_names-number.ensures in
+    let few : length (config_names request) ≤ 200 = grind (arith, count) in
+    let ask : AsksForFew words request = record { asked = record { asks = asks; landed = landed }; few = few } in
+    let files : map file_of c.as_slice.result.now ≡ files_of request = ap (map file_of) c.as_slice.ensures.value ∙ c.in-Ok.ensures in
+    let has : HasRead content (files_of request) before after (Ok c.in-Ok-read_texts.texts) =
+    subst (λ some. HasRead content some before after (Ok c.in-Ok-read_texts.texts)) files c.in-Ok-read_texts.ensures.read in
+    let texts = c.as_slice-in-Ok-read_texts.result.now in
+    let same : texts ≡ c.in-Ok-read_texts.texts.all = c.as_slice-in-Ok-read_texts.ensures in
+    let read : AreRead content (files_of request) texts = subst (AreRead content (files_of request)) (sym same) has.reads.1 in
+    let within : AreWithin (files_of request) texts = subst (AreWithin (files_of request)) (sym same) has.reads.2 in
+    let r = c.judge.result in
+    answered call before after has.asked r has.asked_is
+    (subst (λ asked. IfOk r (λ a. IsAnswer call asked a.status a.text)) (sym has.reads.0)
+    (IfOk-weaker r (λ a. IsVerdict request (own_texts request texts) (config_texts request texts) a.status a.text)
+    (λ a. IsAnswer call (names_of (files_of request)) a.status a.text)
+    (λ a verdict. judged request texts a.status a.text ask read within verdict) c.judge.ensures))
+    (subst (MayAsk call) (sym has.reads.0) (may_ask_all call request texts ask read within))
+
+pub returns-in-Ok-read_texts-clause-faults : goal.returns-in-Ok-read_texts-clause-faults
+returns-in-Ok-read_texts-clause-faults g c =
+    let request = request_of c.args.command.now in
+    let texts = c.as_slice-in-Ok-read_texts.result.now in
+    let before = g.F.Files.faults c.args.files.now in
+    let after = g.F.Files.faults c.read_texts.new.files in
+    IfOk-weaker c.judge.result (λ a. IsVerdict request (own_texts request texts) (config_texts request texts) a.status a.text)
+    (λ a. FaultsAgree a.status before after)
+    (λ a verdict. faults_agree a.status before after (verdict_no_fault verdict).0 c.in-Ok-read_texts.ensures.faults)
+    c.judge.ensures
+
+pub returns-clause-answer : goal.returns-clause-answer
+returns-clause-answer g c = λ words asks.
+    let request = request_of c.args.command.now in
+    let content = g.F.Files.content c.args.files.now in
+    let call : Call = record { words = words; content = content } in
+    let before = g.F.Files.asked c.args.files.now in
+    let after = g.F.Files.asked c.read_texts.new.files in
+    let landed : HasLanded request = c.has_landed.ensures.0 (grind arith) in
+    let names = c.config_names-number.result.now in
+    let bytes : Bor (List ℕ) → List ℕ = λ name. name.now in
+    let count : length names ≡ length (config_names request) = sym (length-map names bytes) ∙ ap length c.config_names-number.ensures in
+    let few : length (config_names request) ≤ 200 = grind (arith, count) in
+    let ask : AsksForFew words request = record { asked = record { asks = asks; landed = landed }; few = few } in
+    let files : map file_of c.as_slice.result.now ≡ files_of request = ap (map file_of) c.as_slice.ensures.value ∙ c.in-Ok.ensures in
+    let stop = c.in-Err.stop in
+    let has : HasRead content (files_of request) before after (Err stop) =
+    subst (λ some. HasRead content some before after (Err stop)) files c.in-Err.ensures.read in
+    stop_answer call before after request stop c.refuse_stop.result ask has c.refuse_stop.ensures

@@ -1,0 +1,51 @@
+use Rattle.std.proofs.Common.{refl, subst}
+use Rattle.store_edge.specs.Sink.{Adds, AddsFront}
+use Rattle.migrate_cli.specs.AnswerLaws.MayEnd.{by_write_fault, by_memory}
+use Rattle.migrate_cli.specs.Answers.Ends.{whole, cut, no_memory}
+use Rattle.migrate_cli.specs.Completeness.Decides.{memory}
+use Rattle.migrate_cli.proofs.AnswerFacts.{answer_writes, reads_or_not}
+use Rattle.migrate_cli.proofs.CallLaws.{ends_so}
+use Rattle.migrate_cli.proofs.CompletenessLaws.{check_decides}
+use Rattle.migrate_cli.proofs.run_call.run.Goals as goal
+
+pub returns-in_default-clause-answers : goal.returns-in_default-clause-answers
+returns-in_default-clause-answers g c =
+    let h = c.in_default.ensures.answer in
+    record { asked = h.asked; asked_is = h.asked_is; ends = no_memory h.answers refl }
+
+pub returns-in_default-clause-exact : goal.returns-in_default-clause-exact
+returns-in_default-clause-exact g c = λ _ _ _ _ _ _. by_memory
+
+pub returns-in_default-clause-check_decides : goal.returns-in_default-clause-check_decides
+returns-in_default-clause-check_decides g c = λ _ _. memory
+
+pub returns-in-Ok-send-clause-answers : goal.returns-in-Ok-send-clause-answers
+returns-in-Ok-send-clause-answers g c =
+    let h = c.in-Ok.ensures.answer in
+    let adds = subst (Adds (g.S.Sink.written c.args.out.now) (g.S.Sink.written c.send.new.out)) c.as_slice.ensures c.in-Ok-send.ensures.ok in
+    record { asked = h.asked; asked_is = h.asked_is; ends = whole c.in-Ok.answer.status c.in-Ok.answer.text h.answers c.in-Ok.ensures.faults adds }
+
+pub returns-in-Ok-send-clause-exact : goal.returns-in-Ok-send-clause-exact
+returns-in-Ok-send-clause-exact g c = λ p s t tell no_fault one.
+    let h = c.in-Ok.ensures.answer in
+    ends_so _ p h.asked s c.in-Ok.answer.status t c.in-Ok.answer.text tell no_fault one h.answers (reads_or_not h.answers)
+
+pub returns-in-Ok-send-clause-check_decides : goal.returns-in-Ok-send-clause-check_decides
+returns-in-Ok-send-clause-check_decides g c = λ accepts calm.
+    let h = c.in-Ok.ensures.answer in
+    check_decides _ accepts h.asked c.in-Ok.answer.status c.in-Ok.answer.text (λ fault. calm.files (c.in-Ok.ensures.faults.read_fault fault)) h.answers
+
+pub returns-in-Ok-send-clause-write_fault : goal.returns-in-Ok-send-clause-write_fault
+returns-in-Ok-send-clause-write_fault g c = λ e. absurd (answer_writes c.in-Ok.ensures.answer.answers e)
+
+pub returns-clause-answers : goal.returns-clause-answers
+returns-clause-answers g c =
+    let h = c.in-Ok.ensures.answer in
+    let front = subst (AddsFront (g.S.Sink.written c.args.out.now) (g.S.Sink.written c.send.new.out)) c.as_slice.ensures c.in-Err.ensures.cut in
+    record { asked = h.asked; asked_is = h.asked_is; ends = cut c.in-Ok.answer.status c.in-Ok.answer.text h.answers c.in-Ok.ensures.faults front }
+
+pub returns-clause-exact : goal.returns-clause-exact
+returns-clause-exact g c = λ _ _ _ _ _ _. by_write_fault
+
+pub returns-clause-check_decides : goal.returns-clause-check_decides
+returns-clause-check_decides g c = λ accepts calm. absurd (calm.sink c.in-Err.ensures.failed)

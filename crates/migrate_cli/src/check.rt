@@ -1,0 +1,113 @@
+ghost use Rattle.std.specs.Prelude.{◌≡◌, ◌≤◌, ◌*◌, ℕ, IfOk, length};
+ghost use Rattle.igp_theory.specs.Isis.{IsisEntry};
+ghost use Rattle.igp_theory.specs.Loops.{IsFault};
+ghost use Rattle.igp_theory.specs.Ospf.{OspfEntry};
+ghost use Rattle.igp_theory.specs.Routes.{Tables};
+ghost use Rattle.order_core.specs.Orders.{IsOrder};
+ghost use Rattle.igp_theory.specs.States.{State};
+ghost use Rattle.loop_finder.specs.Faults.{told_fault};
+ghost use Rattle.migration_report.specs.Texts.{safe_text, unsafe_text};
+ghost use Rattle.net_model.specs.RouterNames.{names_of};
+ghost use Rattle.route_core.specs.Tables.{HasEntry};
+ghost use Rattle.migrate_cli.specs.Faults.{NamesRouters};
+ghost use Rattle.migrate_cli.specs.CheckVerdict.{IsCheckVerdict, IsOrderVerdict};
+
+use crate::answer::{Answer, refuse};
+use crate::files::FILE_MOST;
+use crate::{OutOfMemory, Status};
+use isis_routes::IsisRoutes;
+use loop_finder::{Fault, Finder};
+use migration_report::{Refusal, Report, report_text};
+use net_addr::Bytes;
+use net_model::Net;
+use order_core::Turn;
+use ospf_routes::OspfRoutes;
+use rib_mix::Mixed;
+use route_core::RouteSource;
+use std::alloc::{AllocError, Global};
+use step_scripts::{OrderRefusal, read_order};
+
+/// The answer to the text of an order file and a network.
+pub fn judge_check(
+    alloc: Global,
+    file: &str,
+    text: &Bytes,
+    net: &Net,
+) -> Result<Answer, OutOfMemory>
+    requires { length text.now ≤ FILE_MOST }
+    ensures { IfOk result (λ answer. IsCheckVerdict file.now text.now net.now answer.status answer.text) }
+{
+    let order = match read_order(alloc, net, text.as_slice()) {
+        Ok(order) => order,
+        Err(OrderRefusal::OutOfMemory) => return Err(AllocError),
+        Err(OrderRefusal::Bad { line, kind }) => {
+            let refusal = Refusal::Order { file, line, kind };
+            return refuse(alloc, Status::Refused, &refusal);
+        }
+    };
+    judge_order(alloc, net, order.as_slice())
+}
+
+/// The answer to an order of the routers of a network, by the routes of OSPF and of IS-IS.
+fn judge_order(alloc: Global, net: &Net, order: &[u32]) -> Result<Answer, OutOfMemory>
+    requires { IsOrder (length net.now) order.now }
+    ensures { IfOk result (λ answer. IsOrderVerdict net.now (OspfEntry net.now) (IsisEntry net.now) order.now answer.status answer.text) }
+{
+    let old = OspfRoutes::build(alloc, net)?;
+    let new = IsisRoutes::build(alloc, net)?;
+    judge_between(alloc, net, &old, &new, order)
+}
+
+/// The answer to an order, by the tables of two sources.
+fn judge_between<O: RouteSource, N: RouteSource>(
+    alloc: Global,
+    net: &Net,
+    old: &O,
+    new: &N,
+    order: &[u32],
+) -> Result<Answer, OutOfMemory>
+    requires old_routers { O.routers old.now ≡ length net.now }
+    requires new_routers { N.routers new.now ≡ length net.now }
+    requires order { IsOrder (length net.now) order.now }
+    ensures { IfOk result (λ answer. IsOrderVerdict net.now (HasEntry (O.table old.now)) (HasEntry (N.table new.now)) order.now answer.status answer.text) }
+{
+    let mixed = Mixed::build(alloc, net, old, new)?;
+    let mut finder = Finder::new(alloc, &mixed)?;
+    match finder.order_fault(order) {
+        None => safe(alloc, net),
+        Some((state, fault)) => unsafe_in(alloc, net, state, fault, finder.ring()),
+    }
+}
+
+/// The answer that an order of the routers is safe.
+fn safe(alloc: Global, net: &Net) -> Result<Answer, OutOfMemory>
+    ensures status { IfOk result (λ answer. answer.status ≡ Status.Done) }
+    ensures text { IfOk result (λ answer. answer.text ≡ safe_text (2 * length net.now)) }
+{
+    let changes = 2 * net.routers();
+    let text = report_text(alloc, net, &Report::Safe { changes })?;
+    Ok(Answer {
+        status: Status::Done,
+        text,
+    })
+}
+
+/// The answer that a state of an order, the first, has a fault.
+fn unsafe_in(
+    alloc: Global,
+    net: &Net,
+    state: u32,
+    fault: Fault,
+    ring: &[Turn],
+) -> Result<Answer, OutOfMemory>
+    requires { NamesRouters (length net.now) fault ring.now }
+    ensures status { IfOk result (λ answer. answer.status ≡ Status.Negative) }
+    ensures text { IfOk result (λ answer. answer.text ≡ unsafe_text (names_of net.now) state (told_fault fault ring.now)) }
+{
+    let report = Report::Unsafe { state, fault, ring };
+    let text = report_text(alloc, net, &report)?;
+    Ok(Answer {
+        status: Status::Negative,
+        text,
+    })
+}

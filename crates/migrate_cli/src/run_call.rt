@@ -1,0 +1,123 @@
+ghost use Rattle.std.specs.Prelude.{◌≡◌, ◌≢◌, ℕ, List, IfOk, map, string_bytes};
+ghost use Rattle.store_edge.specs.Faults.{Rose};
+ghost use Rattle.migrate_words.specs.Asked.{Asks};
+ghost use Rattle.migrate_words.specs.Requests.{request_of};
+ghost use Rattle.migration_report.specs.Texts.{words_refused_text};
+ghost use Rattle.migrate_cli.specs.AnswerLaws.{EndsByAnswer};
+ghost use Rattle.migrate_cli.specs.Answers.{Answers, FaultsAgree, HasAnswer, RefusalAnswer, StopAnswer};
+ghost use Rattle.migrate_cli.specs.Calls.{Call, Outside};
+ghost use Rattle.migrate_cli.specs.Completeness.{CheckDecides};
+
+use crate::answer::{Answer, refuse};
+use crate::commands::has_landed;
+use crate::files::{config_names, files_of};
+use crate::judging::judge;
+use crate::reading::{Stop, read_texts};
+use crate::sending::send;
+use crate::{OutOfMemory, Status};
+use migrate_words::{Command, WordsRefused, read_command};
+use migration_report::Refusal;
+use std::alloc::{AllocError, Global};
+use store_edge::{Files, Sink};
+
+/// How many configuration files a call takes at most.
+const FILES_MOST: usize = 200;
+
+/// Answers the words of a call, by its files, and writes the answer.
+///
+/// The words are those after the program's name, of one of the commands. The answer is built whole before its first
+/// byte is written.
+pub fn run<F: Files, S: Sink>(alloc: Global, words: &[String], files: &mut F, out: &mut S) -> Status
+    ensures answers { let call : Call = record { words = map string_bytes words.now; content = F.content files.old } in
+        let before : Outside = record { asked = F.asked files.old; file_faults = F.faults files.old; written = S.written out.old; sink_faults = S.faults out.old } in
+        let after : Outside = record { asked = F.asked files.new; file_faults = F.faults files.new; written = S.written out.new; sink_faults = S.faults out.new } in
+        Answers call before after result }
+    ensures exact { let call : Call = record { words = map string_bytes words.now; content = F.content files.old } in
+        EndsByAnswer call result }
+    ensures check_decides { let call : Call = record { words = map string_bytes words.now; content = F.content files.old } in
+        let before : Outside = record { asked = F.asked files.old; file_faults = F.faults files.old; written = S.written out.old; sink_faults = S.faults out.old } in
+        let after : Outside = record { asked = F.asked files.new; file_faults = F.faults files.new; written = S.written out.new; sink_faults = S.faults out.new } in
+        CheckDecides call before after result }
+    ensures read_fault { result ≡ Status.ReadFault → Rose (F.faults files.old) (F.faults files.new) }
+    ensures write_fault { result ≡ Status.WriteFault → Rose (S.faults out.old) (S.faults out.new) }
+    ensures unless_write_fault { result ≢ Status.WriteFault → S.faults out.new ≡ S.faults out.old }
+{
+    let Ok(answer) = answer(alloc, words, files) else {
+        return Status::Memory;
+    };
+    match send(out, answer.text.as_slice()) {
+        Ok(()) => answer.status,
+        Err(_) => Status::WriteFault,
+    }
+}
+
+/// The answer to the words of a call.
+fn answer<F: Files>(alloc: Global, words: &[String], files: &mut F) -> Result<Answer, OutOfMemory>
+    ensures answer { HasAnswer (record { words = map string_bytes words.now; content = F.content files.old }) (F.asked files.old) (F.asked files.new) result }
+    ensures faults { IfOk result (λ answer. FaultsAgree answer.status (F.faults files.old) (F.faults files.new)) }
+{
+    match read_command(alloc, words) {
+        Ok(command) => answer_command(alloc, &command, files),
+        Err(refused) => refuse_words(alloc, &refused),
+    }
+}
+
+/// The answer to words that are refused.
+fn refuse_words(alloc: Global, refused: &WordsRefused) -> Result<Answer, OutOfMemory>
+    ensures { IfOk result (λ answer. RefusalAnswer refused.now answer.status answer.text) }
+{
+    match refused {
+        WordsRefused::Words(detail) => {
+            let detail = detail.as_bytes();
+            refuse(alloc, Status::Words, &Refusal::Words { detail })
+        }
+        WordsRefused::Number => refuse_alone(alloc),
+        WordsRefused::OutOfMemory => Err(AllocError),
+    }
+}
+
+/// The answer that words are refused, of which nothing more is said.
+fn refuse_alone(alloc: Global) -> Result<Answer, OutOfMemory>
+    ensures status { IfOk result (λ answer. answer.status ≡ Status.Words) }
+    ensures text { IfOk result (λ answer. answer.text ≡ words_refused_text) }
+{
+    refuse(alloc, Status::Words, &Refusal::Words { detail: b"" })
+}
+
+/// The answer to a command.
+fn answer_command<F: Files>(
+    alloc: Global,
+    command: &Command<'_>,
+    files: &mut F,
+) -> Result<Answer, OutOfMemory>
+    ensures answer { (words : List (List ℕ)) → Asks words (request_of command.now) → HasAnswer (record { words = words; content = F.content files.old }) (F.asked files.old) (F.asked files.new) result }
+    ensures faults { IfOk result (λ answer. FaultsAgree answer.status (F.faults files.old) (F.faults files.new)) }
+{
+    if !has_landed(command) {
+        return refuse_alone(alloc);
+    }
+    let number = config_names(command).len();
+    if number > FILES_MOST {
+        let number = number as u64;
+        return refuse(alloc, Status::Limit, &Refusal::Files { number });
+    }
+    let Ok(wanted) = files_of(alloc, command) else {
+        return Err(AllocError);
+    };
+    match read_texts(alloc, wanted.as_slice(), files) {
+        Ok(texts) => judge(alloc, command, texts.as_slice()),
+        Err(stop) => refuse_stop(alloc, stop),
+    }
+}
+
+/// The answer that reading stopped.
+fn refuse_stop(alloc: Global, stop: Stop<'_>) -> Result<Answer, OutOfMemory>
+    ensures { IfOk result (λ answer. StopAnswer stop.entry answer.status answer.text) }
+{
+    match stop {
+        Stop::Fault(file) => refuse(alloc, Status::ReadFault, &Refusal::Read { file }),
+        Stop::Long(file) => refuse(alloc, Status::Limit, &Refusal::Length { file }),
+        Stop::Total(number) => refuse(alloc, Status::Limit, &Refusal::Total { number }),
+        Stop::OutOfMemory => Err(AllocError),
+    }
+}
