@@ -1,5 +1,5 @@
 -- The chain of the layers, traced from its last router back by the parents.
-use Rattle.std.proofs.Common.{◌≡◌, ◌≢◌, ℕ, zero, suc, ◌+◌, ◌-◌, ◌<◌, ◌≤◌, ◌^◌, ◌⊎◌, inl, inr, List, length, length-set, get_or, set, min, take, arith, subst, sym, refl, ap, ◌∙◌}
+use Rattle.std.proofs.Common.{◌≡◌, ◌≢◌, ℕ, zero, suc, ◌+◌, ◌-◌, ◌<◌, ◌≤◌, ◌⊎◌, inl, inr, List, length, get_or, set, min, take, arith, subst, sym, ap, ◌∙◌}
 use Rattle.std.specs.List.{Contains}
 use Rattle.std.proofs.lemmas.Bool.{cases_lt}
 use Rattle.std.proofs.lemmas.Bool.Decides.{eqb_tells}
@@ -7,7 +7,7 @@ use Rattle.std.proofs.lemmas.List.{get_or-set_same, get_or-set_other, get_or_def
 use Rattle.std.proofs.lemmas.List.Elements.{Contains-get_or}
 use Rattle.order_core.specs.Least.{IsLowest}
 use Rattle.order_core.specs.Pairs.{Pair, AreBelow}
-use Rattle.order_core.specs.Rankings.{IsRanking, rank_of, wave_count}
+use Rattle.order_core.specs.Rankings.{rank_of, wave_count}
 use Rattle.order_core.proofs.WaveLists.{rank_below_count, rank_stands, count_le_length}
 use Rattle.precedence_set.specs.Waits.{pair_at}
 use Rattle.precedence_set.specs.Layers.{AreLayers, IsChain, IsInLayer, IsBeforeInLayer}

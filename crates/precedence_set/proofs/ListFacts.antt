@@ -1,5 +1,5 @@
 -- Routers listed one after another: each new one, and that all are listed in the end.
-use Rattle.std.proofs.Common.{◌≡◌, ◌≢◌, ℕ, zero, suc, ◌+◌, ◌-◌, ◌<◌, ◌≤◌, ◌↔◌, ◌⊎◌, inl, inr, Bool, true, false, List, [], ◌∷◌, length, length-set, get_or, set, take, Option, Some, None, below_more, arith, subst, sym, refl, ap, ◌∙◌}
+use Rattle.std.proofs.Common.{◌≡◌, ◌≢◌, ℕ, zero, suc, ◌+◌, ◌-◌, ◌<◌, ◌≤◌, ◌↔◌, ◌⊎◌, inl, inr, List, [], ◌∷◌, length, length-set, get_or, set, take, Option, Some, None, below_more, arith, subst, sym, refl, ap, ◌∙◌}
 use Rattle.std.specs.List.{AllPairs, All, Contains}
 use Rattle.std.specs.Cmp.{nat_eq_equiv}
 use Rattle.std.proofs.lemmas.Bool.{false≢true, cases_lt}
@@ -13,7 +13,7 @@ use Rattle.order_core.proofs.DistinctLists.{AllPairs-cons, length-le_from_distin
 use Rattle.order_core.proofs.Paths.{length-path}
 use Rattle.precedence_set.specs.Waits.{pair_at}
 use Rattle.precedence_set.specs.Successors.{IsFirstFrom}
-use Rattle.precedence_set.specs.Sorting.{StandsBelow, left_into, AreCounted, IsGone, IsGoneBy, IsListing, IsTopological}
+use Rattle.precedence_set.specs.Sorting.{StandsBelow, AreCounted, IsGone, IsGoneBy, IsListing, IsTopological}
 use Rattle.precedence_set.proofs.LayerFacts.{pair_below}
 use Rattle.precedence_set.proofs.SortFacts.{AreCounted-same, AreCounted-gone, left_none, left_some}
 

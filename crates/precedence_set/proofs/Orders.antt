@@ -1,9 +1,8 @@
 -- The least extension lists every router once, keeps every pair, and is the only one.
-use Rattle.std.proofs.Common.{◌≡◌, ◌≢◌, ℕ, zero, suc, ◌<◌, ◌≤◌, inl, inr, List, [], ◌∷◌, ◌++◌, length, get_or, take, arith, subst, sym, refl, ap, ◌∙◌, add-one}
+use Rattle.std.proofs.Common.{◌≡◌, ◌≢◌, ℕ, zero, suc, ◌<◌, ◌≤◌, List, [], ◌∷◌, ◌++◌, get_or, take, arith, subst, sym, refl, ap, ◌∙◌, add-one}
 use Rattle.std.specs.List.{All, AllPairs, Contains}
 use Rattle.std.proofs.lemmas.List.{get_or-take, get_or_default, length-take-le, take_all, take_more}
 use Rattle.std.proofs.lemmas.List.Elements.{All-contains, All-from_get_or}
-use Rattle.std.proofs.lemmas.Bool.{cases_lt}
 use Rattle.order_core.specs.Orders.{IsOrder, IsBefore}
 use Rattle.order_core.specs.Pairs.{Pair, IsPath, Leads, AreBelow}
 use Rattle.precedence_set.specs.LeastExtension.{IsReady, IsLeastExtension}

@@ -1,20 +1,11 @@
 -- Counts of the pairs that are left, one pair less, and routers listed one after another.
-use Rattle.std.proofs.Common.{◌≡◌, ◌≢◌, ℕ, zero, suc, ◌+◌, ◌-◌, ◌<◌, ◌≤◌, ◌↔◌, ◌⊎◌, inl, inr, Bool, true, false, eqb, cond, List, [], ◌∷◌, length, length-set, get_or, set, take, below_more, arith, subst, sym, refl, ap, ◌∙◌}
-use Rattle.std.specs.List.{AllPairs, All, Contains}
-use Rattle.std.specs.Cmp.{nat_eq_equiv}
-use Rattle.std.proofs.lemmas.Bool.{false≢true, cases_lt, eq-eqb, ne_eqb}
+use Rattle.std.proofs.Common.{◌≡◌, ◌≢◌, ℕ, zero, suc, ◌+◌, ◌-◌, ◌<◌, ◌≤◌, ◌↔◌, ◌⊎◌, inl, inr, Bool, true, false, eqb, cond, List, length, length-set, get_or, set, arith, sym, refl, ap, ◌∙◌}
+use Rattle.std.proofs.lemmas.Bool.{eq-eqb, ne_eqb}
 use Rattle.std.proofs.lemmas.Bool.Decides.{eqb_tells}
-use Rattle.std.proofs.lemmas.List.{get_or-set_same, get_or-set_other, get_or_default, get_or-take, length-take-le}
-use Rattle.std.proofs.lemmas.List.Elements.{All-cons, All-from_get_or, Contains-get_or}
-use Rattle.std.proofs.lemmas.Map.Steps.{le-length_from_below}
-use Rattle.std.proofs.lemmas.Map.Views.{list_any-from_Contains}
-use Rattle.order_core.specs.Pairs.{Pair, IsPath, AreBelow, HasNoCycle}
-use Rattle.order_core.proofs.DistinctLists.{AllPairs-cons, length-le_from_distinct, Contains-from_distinct, place_from_Contains}
-use Rattle.order_core.proofs.Paths.{length-path}
+use Rattle.std.proofs.lemmas.List.{get_or-set_same, get_or-set_other}
+use Rattle.order_core.specs.Pairs.{Pair}
 use Rattle.precedence_set.specs.Waits.{pair_at}
-use Rattle.precedence_set.specs.Successors.{IsFirstFrom}
-use Rattle.precedence_set.specs.Sorting.{StandsBelow, left_into, AreCounted, IsGone, IsGoneBy, IsListing, IsTopological}
-use Rattle.precedence_set.proofs.LayerFacts.{pair_below}
+use Rattle.precedence_set.specs.Sorting.{left_into, AreCounted}
 
 -- Counts
 

@@ -1,5 +1,4 @@
-use Rattle.std.proofs.Common.{◌≡◌, ◌+◌, ◌<◌, ℕ, List, length, arith, subst, sym, refl}
-use Rattle.precedence_set.specs.Waits.{pair_at}
+use Rattle.std.proofs.Common.{◌+◌, ℕ, List, length, arith, subst, sym}
 use Rattle.precedence_set.proofs.LayerFacts.{pair_at_below}
 use Rattle.precedence_set.proofs.ChainFacts.{AreParents, AreParents-begin, AreParents-passed, AreParents-more, parents_lowest}
 use Rattle.precedence_set.proofs.chaining.find_parents.Goals.{then-layers-u, else-layers-u}

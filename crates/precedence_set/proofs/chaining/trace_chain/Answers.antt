@@ -1,7 +1,5 @@
 -- Each step goes back to the parent of the router after it.
-use Rattle.std.proofs.Common.{◌≡◌, ◌+◌, ◌-◌, ◌<◌, ◌≤◌, ℕ, zero, suc, List, length, length-set, arith, subst, sym, refl, set, ◌∙◌}
-use Rattle.order_core.specs.Least.{IsLowest}
-use Rattle.precedence_set.specs.Layers.{IsInLayer}
+use Rattle.std.proofs.Common.{◌≡◌, ◌-◌, ◌<◌, ℕ, zero, suc, length, length-set, arith, subst, refl, set, ◌∙◌}
 use Rattle.precedence_set.proofs.ChainFacts.{IsTraced, IsTraced-begin, IsTraced-down, IsChain-traced, IsChain-none, some_in_last, count_few, rank_few}
 use Rattle.precedence_set.proofs.chaining.trace_chain.Goals as goal
 

@@ -1,6 +1,6 @@
-use Rattle.std.proofs.Common.{◌≡◌, ◌≤◌, ℕ, List, take, length, arith, subst, sym, ◌∙◌}
+use Rattle.std.proofs.Common.{◌≡◌, ℕ, length, arith, subst}
 use Rattle.order_core.specs.Pairs.{AreBelow}
-use Rattle.precedence_set.specs.Layers.{AreLayers, IsLayeredChain}
+use Rattle.precedence_set.specs.Layers.{AreLayers}
 use Rattle.precedence_set.proofs.ChainFacts.{count_few}
 use Rattle.precedence_set.proofs.chaining.write_chain.Goals as goal
 

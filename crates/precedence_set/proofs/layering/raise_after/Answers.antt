@@ -1,6 +1,5 @@
 -- Each step of the walk raises the router where the next pair leads.
-use Rattle.std.proofs.Common.{ℕ, ◌+◌, ◌<◌, ◌≡◌, Option, Some, arith, subst, sym, refl, ap, get_or, length}
-use Rattle.precedence_set.specs.Waits.{pair_at}
+use Rattle.std.proofs.Common.{ℕ, ◌+◌, ◌<◌, Option, arith, subst, sym, get_or, length}
 use Rattle.precedence_set.proofs.LayerFacts.{pair_at_below}
 use Rattle.precedence_set.proofs.SuccessorFacts.{IsFirstFrom-first, IsFirstFrom-next, left_after, left_after-smaller}
 use Rattle.precedence_set.proofs.RaiseFacts.{IsRaising, IsRaising-begin, IsRaising-step, IsRaising-end}

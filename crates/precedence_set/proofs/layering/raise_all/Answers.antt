@@ -1,9 +1,6 @@
-use Rattle.std.proofs.Common.{ℕ, ◌<◌, ◌≡◌, arith, subst, sym, length, get_or}
-use Rattle.order_core.specs.Pairs.{AreBelow}
+use Rattle.std.proofs.Common.{ℕ, ◌≡◌, arith, subst, sym, length}
 use Rattle.order_core.specs.Rankings.{IsRanking}
 use Rattle.precedence_set.specs.Layers.{AreLayers}
-use Rattle.precedence_set.specs.Sorting.{IsTopological}
-use Rattle.precedence_set.specs.Successors.{AreSuccessors}
 use Rattle.precedence_set.proofs.LayerFacts.{layers_rank}
 use Rattle.precedence_set.proofs.RaiseFacts.{AreRaised, AreRaised-begin, AreRaised-step, AreLayers-raised}
 use Rattle.precedence_set.proofs.layering.raise_all.Goals as goal

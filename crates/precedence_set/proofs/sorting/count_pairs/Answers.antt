@@ -1,7 +1,6 @@
 -- No pair is gone at first.
-use Rattle.std.proofs.Common.{◌≡◌, ℕ, Bool, true, false, length, arith, sym, ap, ◌∙◌}
+use Rattle.std.proofs.Common.{◌≡◌, ℕ, false, length, arith, ap, ◌∙◌}
 use Rattle.std.proofs.lemmas.Bool.{false≢true}
-use Rattle.order_core.specs.Pairs.{Pair}
 use Rattle.precedence_set.specs.Sorting.{left_into}
 use Rattle.precedence_set.specs.Waits.{pair_at}
 use Rattle.precedence_set.proofs.LayerFacts.{pair_at_below}

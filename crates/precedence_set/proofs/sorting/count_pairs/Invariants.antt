@@ -1,4 +1,4 @@
-use Rattle.std.proofs.Common.{◌≡◌, ℕ, ◌<◌, Bool, false, length, get_or}
+use Rattle.std.proofs.Common.{◌≡◌, ℕ, ◌<◌, false, length, get_or}
 use Rattle.precedence_set.specs.Sorting.{left_into}
 use Rattle.precedence_set.proofs.sorting.count_pairs.Given as goal
 

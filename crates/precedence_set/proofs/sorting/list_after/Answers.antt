@@ -1,7 +1,5 @@
 -- Each step of the walk frees the router where the next pair leads.
-use Rattle.std.proofs.Common.{ℕ, ◌<◌, ◌≡◌, Option, Some, arith, subst, sym, refl, ap, get_or, length}
-use Rattle.order_core.specs.Pairs.{AreBelow}
-use Rattle.precedence_set.specs.Successors.{AreSuccessors}
+use Rattle.std.proofs.Common.{ℕ, ◌<◌, ◌≡◌, Option, arith, subst, sym, refl, get_or, length}
 use Rattle.precedence_set.specs.Sorting.{IsGone, IsGoneBy}
 use Rattle.precedence_set.specs.Waits.{pair_at}
 use Rattle.precedence_set.proofs.LayerFacts.{pair_at_below}

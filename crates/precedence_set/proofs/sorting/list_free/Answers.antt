@@ -1,5 +1,4 @@
-use Rattle.std.proofs.Common.{◌≡◌, arith, subst, sym, length, ◌∙◌, ℕ}
-use Rattle.precedence_set.specs.Sorting.{IsListing}
+use Rattle.std.proofs.Common.{◌≡◌, arith, subst, length, ℕ}
 use Rattle.precedence_set.proofs.ListFacts.{AreFree, IsListing-free}
 use Rattle.precedence_set.proofs.sorting.list_free.Goals as goal
 

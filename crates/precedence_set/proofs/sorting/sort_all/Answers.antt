@@ -1,7 +1,7 @@
-use Rattle.std.proofs.Common.{◌≡◌, ◌<◌, ℕ, arith, length, inl, inr, subst, sym, ◌∙◌}
+use Rattle.std.proofs.Common.{◌≡◌, ℕ, arith, length, inl, inr, subst}
 use Rattle.std.proofs.lemmas.Bool.{cases_lt}
 use Rattle.order_core.specs.Pairs.{AreBelow}
-use Rattle.precedence_set.specs.Sorting.{IsListing, IsGone, AreCounted, IsTopological}
+use Rattle.precedence_set.specs.Sorting.{IsListing, IsGone}
 use Rattle.precedence_set.proofs.SortFacts.{AreCounted-same}
 use Rattle.precedence_set.proofs.ListFacts.{all_listed, IsTopological-whole, IsGone-none}
 use Rattle.precedence_set.proofs.sorting.sort_all.Goals as goal
