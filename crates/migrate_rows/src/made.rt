@@ -29,7 +29,9 @@ fn loopbacks(alloc: Global, count: u32) -> Result<String> {
     let mut text = String::from_str(alloc, "hostname R1\n")?;
     for i in 0..count {
         let (high, low) = (i / 256, i % 256);
-        let lines = format!(in alloc; "interface Loopback{i}\n ip address 10.0.{high}.{low} 255.255.255.255\n")?;
+        let lines = format!(in alloc;
+            "interface Loopback{i}\n ip address 10.0.{high}.{low} 255.255.255.255\n"
+        )?;
         text.push_str(lines.as_str())?;
     }
     text.push_str("end\n")?;
@@ -55,7 +57,9 @@ fn ring(alloc: Global, count: u32) -> Result<String> {
         let before = if i == 1 { count } else { i - 1 };
         let first = end_of_link(alloc, count, 0, i, 1)?;
         let second = end_of_link(alloc, count, 1, before, 2)?;
-        let router = format!(in alloc; "hostname S{i:02}\ninterface Loopback0\n ip address 10.0.0.{i} 255.255.255.255\n ip router isis\n{first}{second}router ospf 1\n network 10.0.0.0 0.255.255.255 area 0\nrouter isis\n net 49.0001.0000.0000.00{i:02}.00\n is-type level-2-only\n metric-style wide\n distance 255\nend\n")?;
+        let router = format!(in alloc;
+            "hostname S{i:02}\ninterface Loopback0\n ip address 10.0.0.{i} 255.255.255.255\n ip router isis\n{first}{second}router ospf 1\n network 10.0.0.0 0.255.255.255 area 0\nrouter isis\n net 49.0001.0000.0000.00{i:02}.00\n is-type level-2-only\n metric-style wide\n distance 255\nend\n"
+        )?;
         text.push_str(router.as_str())?;
     }
     Ok(text)
@@ -65,7 +69,9 @@ fn ring(alloc: Global, count: u32) -> Result<String> {
 fn end_of_link(alloc: Global, count: u32, number: u32, link: u32, address: u32) -> Result<String> {
     let cost = if link == count { 1000 } else { 1 };
     let metric = if link == count / 2 { 10_000 } else { 10 };
-    Ok(format!(in alloc; "interface GigabitEthernet0/{number}\n ip address 10.1.{link}.{address} 255.255.255.252\n ip ospf cost {cost}\n ip router isis\n isis metric {metric}\n")?)
+    Ok(format!(in alloc;
+        "interface GigabitEthernet0/{number}\n ip address 10.1.{link}.{address} 255.255.255.252\n ip ospf cost {cost}\n ip router isis\n isis metric {metric}\n"
+    )?)
 }
 
 /// An order of the routers of a ring: those before the dear link of IS-IS ascending, then the others descending.
