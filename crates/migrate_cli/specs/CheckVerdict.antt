@@ -14,8 +14,9 @@ use Rattle.net_model.specs.RouterNames.{names_of}
 use Rattle.migrate_cli.specs.declared.status.Status.{Status}
 use Rattle.migrate_cli.specs.declared.status.Status.TheVariants.{Done, Negative, Refused}
 
--- what is answered of an order, by the tables of the two protocols: it is safe where every packet to an originated
--- address, along every equal-cost choice, is delivered in every state of it; it has two distance changes for each router
+-- what is answered of an order, by the tables of the two protocols: it is safe where in every state of it each packet
+-- for an address with a target reaches an originator from every router, along every equal-cost choice; it has two
+-- distance changes for each router
 pub data IsOrderVerdict (net : Network) (old new : Tables) (order : List ℕ) : Status → List ℕ → Type 0 where
   safe : IsSeamless net old new order → IsOrderVerdict net old new order Done (safe_text (2 * length net))
   unsafe : (state : ℕ) (fault : Fault) → (IsSeamless net old new order → ⊥) → IsFirstFault net old new order state fault →
