@@ -1,3 +1,5 @@
+ghost use Rattle.std.specs.Prelude.{◌<◌};
+
 use anyhow::Result;
 use std::alloc::Global;
 
@@ -51,7 +53,9 @@ fn ranges(alloc: Global, count: u32) -> Result<String> {
 }
 
 /// A ring of so many routers, from 3 to 99, whose last link is dear for OSPF and whose middle one is dear for IS-IS.
-fn ring(alloc: Global, count: u32) -> Result<String> {
+fn ring(alloc: Global, count: u32) -> Result<String>
+    requires { count < 100 }
+{
     let mut text = String::new(alloc);
     for i in 1..count + 1 {
         let before = if i == 1 { count } else { i - 1 };
@@ -74,8 +78,10 @@ fn end_of_link(alloc: Global, count: u32, number: u32, link: u32, address: u32) 
     )?)
 }
 
-/// An order of the routers of a ring: those before the dear link of IS-IS ascending, then the others descending.
-fn halves(alloc: Global, count: u32) -> Result<String> {
+/// An order of the routers of a ring of at most 99: those before the dear link of IS-IS ascending, then the others descending.
+fn halves(alloc: Global, count: u32) -> Result<String>
+    requires { count < 100 }
+{
     let mut text = String::from_str(alloc, "order 1\n")?;
     let half = count / 2;
     for i in 1..count + 1 {
