@@ -13,7 +13,7 @@ use Rattle.walk_core.proofs.WalkLaws.{SameOffers, same_offers_sym, best_cost_ove
 use Rattle.route_core.specs.Hops.{AreHops}
 use Rattle.route_core.specs.declared.entry.Entry.{Entry}
 use Rattle.route_core.specs.declared.entry.Entry.TheVariants.{Via, Discard}
-use Rattle.igp_theory.specs.Isis.{RunsTwo, OffersOne, OneHop, TwoHop, DefaultCost, DefaultHop, IsOne, IsTwo, IsisEntry, level_one, level_two, default_route}
+use Rattle.igp_theory.specs.Isis.{RunsTwo, OffersOne, OneHop, TwoHop, DownHop, DefaultCost, DefaultHop, IsOne, IsTwo, IsDown, IsisEntry, level_one, level_two, down, default_route}
 use Rattle.igp_theory.specs.Laws.{KeepsOneArea, IsOspfNeighbor, IsIsisNeighbor, Forwards}
 use Rattle.igp_theory.specs.Ospf.{OffersSubnet, OfOthers, BackboneSummary, BorderCost, Summary, into_backbone, into_area, IntraAreaCost, IntraAreaHop, IsIntraArea, ListensTo, backbone, one_area, InterAreaCost, InterAreaHop, OspfEntry, intra_area, discard, inter_area}
 use Rattle.igp_theory.specs.Routes.{ForwardsTo, EntryLeadsTo}
@@ -198,14 +198,22 @@ pub isis_entry_unique : {net : Network} {u : ℕ} {p : Block} {e f : Entry} → 
 isis_entry_unique {net} {u} {p} {e} {f} (level_one _ is one) (level_one _ again other) =
     forwarding_entry_unique (OneHop net p u) e f one other
 isis_entry_unique (level_one _ is one) (level_two _ none two other) = absurd (none is)
-isis_entry_unique (level_one _ is one) (default_route _ none no_two all cost route other) = absurd (none is)
+isis_entry_unique (level_one _ is one) (down _ none no_two route other) = absurd (none is)
+isis_entry_unique (level_one _ is one) (default_route _ none no_two no_down all cost route other) = absurd (none is)
 isis_entry_unique (level_two _ none two one) (level_one _ is other) = absurd (none is)
 isis_entry_unique {net} {u} {p} {e} {f} (level_two _ none two one) (level_two _ again still other) =
     forwarding_entry_unique (TwoHop net p u) e f one other
-isis_entry_unique (level_two _ none two one) (default_route _ no_one no_two all cost route other) = absurd (no_two two)
-isis_entry_unique (default_route _ no_one no_two all cost route one) (level_one _ is other) = absurd (no_one is)
-isis_entry_unique (default_route _ no_one no_two all cost route one) (level_two _ none two other) = absurd (no_two two)
-isis_entry_unique {net} {u} {p} {e} {f} (default_route _ no_one no_two all cost route one) (default_route _ no_1 no_2 same c again other) =
+isis_entry_unique (level_two _ none two one) (down _ no_one no_two route other) = absurd (no_two two)
+isis_entry_unique (level_two _ none two one) (default_route _ no_one no_two no_down all cost route other) = absurd (no_two two)
+isis_entry_unique (down _ no_one no_two route one) (level_one _ is other) = absurd (no_one is)
+isis_entry_unique (down _ no_one no_two route one) (level_two _ none two other) = absurd (no_two two)
+isis_entry_unique {net} {u} {p} {e} {f} (down _ no_one no_two route one) (down _ no_1 no_2 again other) =
+    forwarding_entry_unique (DownHop net p u) e f one other
+isis_entry_unique (down _ no_one no_two route one) (default_route _ no_1 no_2 no_down all cost far other) = absurd (no_down route)
+isis_entry_unique (default_route _ no_one no_two no_down all cost route one) (level_one _ is other) = absurd (no_one is)
+isis_entry_unique (default_route _ no_one no_two no_down all cost route one) (level_two _ none two other) = absurd (no_two two)
+isis_entry_unique (default_route _ no_one no_two no_down all cost route one) (down _ no_1 no_2 again other) = absurd (no_down again)
+isis_entry_unique {net} {u} {p} {e} {f} (default_route _ no_one no_two no_down all cost route one) (default_route _ no_1 no_2 no_3 same c again other) =
     forwarding_entry_unique (DefaultHop net u) e f one other
 
 -- Hops are neighbors
@@ -233,7 +241,11 @@ isis_hop_is_neighbor {net} {u} {h} {p} {e} (level_two _ none two forwards) leads
     let hop : TwoHop net p u h = entry_leads_to_hop (TwoHop net p u) e h forwards leads in
     let arc = best_hop_is_arc hop.best in
     record { cost = arc.0; adjacent = inr arc.1 }
-isis_hop_is_neighbor {net} {u} {h} {p} {e} (default_route _ none no_two all cost route forwards) leads =
+isis_hop_is_neighbor {net} {u} {h} {p} {e} (down _ none no_two route forwards) leads =
+    let hop : DownHop net p u h = entry_leads_to_hop (DownHop net p u) e h forwards leads in
+    let arc = best_hop_is_arc hop.best in
+    record { cost = arc.0; adjacent = inl arc.1 }
+isis_hop_is_neighbor {net} {u} {h} {p} {e} (default_route _ none no_two no_down all cost route forwards) leads =
     let hop : DefaultHop net u h = entry_leads_to_hop (DefaultHop net u) e h forwards leads in
     let arc = best_hop_is_arc hop.best in
     record { cost = arc.0; adjacent = inl arc.1 }
@@ -298,6 +310,12 @@ two_has_hop {net} {p} {u} is =
     let hop = best_hop_of_cost best (λ same. best.attained.offered.other (sym same)) in
     (hop.0, record { runs = is.costs.runs; best = hop.1 })
 
+down_has_hop : {net : Network} {p : Block} {u : ℕ} → IsDown net p u → (h : ℕ) × DownHop net p u h
+down_has_hop {net} {p} {u} is =
+    let best = is.costs.best in
+    let hop = best_hop_of_cost best (λ same. best.attained.offered.other (sym same)) in
+    (hop.0, record { runs = is.costs.runs; best = hop.1 })
+
 -- a router that runs level 1 alone isn't attached
 default_has_hop : {net : Network} {u c : ℕ} → DefaultCost net u c → (h : ℕ) × DefaultHop net u h
 default_has_hop {net} {u} {c} costs =
@@ -320,5 +338,7 @@ isis_entry_forwards {net} {u} {p} {e} (level_one away is forwards) =
     let hop = one_has_hop away is in forwards_by_hop (OneHop net p u) e hop.0 forwards hop.1
 isis_entry_forwards {net} {u} {p} {e} (level_two _ none two forwards) =
     let hop = two_has_hop two in forwards_by_hop (TwoHop net p u) e hop.0 forwards hop.1
-isis_entry_forwards {net} {u} {p} {e} (default_route _ none no_two all cost route forwards) =
+isis_entry_forwards {net} {u} {p} {e} (down _ none no_two route forwards) =
+    let hop = down_has_hop route in forwards_by_hop (DownHop net p u) e hop.0 forwards hop.1
+isis_entry_forwards {net} {u} {p} {e} (default_route _ none no_two no_down all cost route forwards) =
     let hop = default_has_hop route in forwards_by_hop (DefaultHop net u) e hop.0 forwards hop.1

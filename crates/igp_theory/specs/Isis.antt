@@ -1,4 +1,4 @@
--- IS-IS: level 1, level 2, attached routers, the table (RFC 1195; wide metrics by RFC 5305).
+-- IS-IS: level 1, level 2, leaking, attached routers, the table (RFC 1195; wide metrics by RFC 5305; leaking by RFC 5302).
 use Rattle.std.specs.Prelude.{◌≡◌, ◌≢◌, ℕ, Some, IsTrue, List}
 use Rattle.net_addr.specs.Addresses.{Block}
 use Rattle.net_model.specs.Configuration.{Configuration}
@@ -74,6 +74,48 @@ pub record TwoHop (net : Network) (p : Block) (u h : ℕ) : Type 0 where
   pub runs : RunsTwo net u
   pub best : BestHop (Adjacent net LevelTwo) (OfOthers (LevelTwoAnnouncement net p) u) u h
 
+-- p has a level 1 route, a level 2 route at u
+pub record IsOne (net : Network) (p : Block) (u : ℕ) : Type 0 where
+  pub cost : ℕ
+  pub costs : OneCost net p u cost
+
+pub record IsTwo (net : Network) (p : Block) (u : ℕ) : Type 0 where
+  pub cost : ℕ
+  pub costs : TwoCost net p u cost
+
+-- Leaking from level 2 into level 1 (RFC 5302); that one line asks for all prefixes is this project's profile
+
+-- a router of both levels leaks where its configuration says so
+pub record Leaks (net : Network) (u : ℕ) : Type 0 where
+  pub runs_one : RunsOne net u
+  pub runs_two : RunsTwo net u
+  pub config : Configuration
+  pub router : HasConfiguration net u config
+  pub leak : IsTrue config.leak
+
+-- what a router that leaks announces into level 1, marked down: each prefix that isn't connected at it, has no
+-- level 1 route and has a level 2 route there, at that route's cost
+pub record DownAnnouncement (net : Network) (p : Block) (b cost : ℕ) : Type 0 where
+  pub leaks : Leaks net b
+  pub away : Connected net b p → ⊥
+  pub no_one : IsOne net p b → ⊥
+  pub costs : TwoCost net p b cost
+
+-- the down cost of p at u, over announcements of other routers
+pub record DownCost (net : Network) (p : Block) (u cost : ℕ) : Type 0 where
+  pub runs : RunsOne net u
+  pub best : BestCost (Adjacent net LevelOne) (OfOthers (DownAnnouncement net p) u) u cost
+
+-- a first hop of a down route
+pub record DownHop (net : Network) (p : Block) (u h : ℕ) : Type 0 where
+  pub runs : RunsOne net u
+  pub best : BestHop (Adjacent net LevelOne) (OfOthers (DownAnnouncement net p) u) u h
+
+-- p has a down route at u
+pub record IsDown (net : Network) (p : Block) (u : ℕ) : Type 0 where
+  pub cost : ℕ
+  pub costs : DownCost net p u cost
+
 -- Attached routers and the default of level 1 (RFC 1195, section 3.2); that a router of both levels
 -- takes no such default is this project's profile
 
@@ -105,18 +147,12 @@ pub record DefaultHop (net : Network) (u h : ℕ) : Type 0 where
   pub alone : RunsTwo net u → ⊥
   pub best : BestHop (Adjacent net LevelOne) (OffersDefault net) u h
 
--- p has a level 1 route, a level 2 route at u
-pub record IsOne (net : Network) (p : Block) (u : ℕ) : Type 0 where
-  pub cost : ℕ
-  pub costs : OneCost net p u cost
-
-pub record IsTwo (net : Network) (p : Block) (u : ℕ) : Type 0 where
-  pub cost : ℕ
-  pub costs : TwoCost net p u cost
-
--- The IS-IS table: for a prefix that isn't connected the level 1 route, else the level 2 route, else
+-- The IS-IS table: for a prefix that isn't connected the level 1 route, else the level 2 route, else the down route, else
 -- for all addresses the default of a router that runs level 1 alone
 pub data IsisEntry (net : Network) (u : ℕ) (p : Block) (e : Entry) : Type 0 where
   level_one : (Connected net u p → ⊥) → IsOne net p u → ForwardsTo (OneHop net p u) e → IsisEntry net u p e
   level_two : (Connected net u p → ⊥) → (IsOne net p u → ⊥) → IsTwo net p u → ForwardsTo (TwoHop net p u) e → IsisEntry net u p e
-  default_route : (Connected net u p → ⊥) → (IsOne net p u → ⊥) → (IsTwo net p u → ⊥) → p ≡ default_prefix → (cost : ℕ) → DefaultCost net u cost → ForwardsTo (DefaultHop net u) e → IsisEntry net u p e
+  down : (Connected net u p → ⊥) → (IsOne net p u → ⊥) → (IsTwo net p u → ⊥) → IsDown net p u → ForwardsTo (DownHop net p u) e →
+      IsisEntry net u p e
+  default_route : (Connected net u p → ⊥) → (IsOne net p u → ⊥) → (IsTwo net p u → ⊥) → (IsDown net p u → ⊥) → p ≡ default_prefix → (cost : ℕ) →
+      DefaultCost net u cost → ForwardsTo (DefaultHop net u) e → IsisEntry net u p e

@@ -12,7 +12,7 @@ use Rattle.net_model.specs.Configuration.{IsRange}
 use Rattle.ios_lines.specs.Words.{Word, word_at, says, begins_with_two, begins_with_three, lacks, number_of, at_least, number_from, address_of, mask_of, area_of}
 use Rattle.ios_lines.specs.InterfaceLines.{masked_address, address_line, process_area, ospf_of_interface, ip_of_interface, metric_line, isis_of_interface, bandwidth_line, plain_of_interface, interface_line}
 use Rattle.ios_lines.specs.OspfLines.{stub_values, default_cost_values, prefix_of, cost_place, optional_cost, range_cost, range_ends, range_values, range_line, is_unsupported_area, area_line as ospf_area_line, apart_distance, ospf_distance, ospf_passive, is_unsupported_ospf, plain_of_ospf, ospf_line}
-use Rattle.ios_lines.specs.IsisLines.{hex_value, group_value, system_value, system_part, is_title, title_of, isis_distance, isis_passive, is_unsupported_isis, plain_of_isis, isis_line}
+use Rattle.ios_lines.specs.IsisLines.{hex_value, group_value, system_value, system_part, is_title, title_of, isis_distance, isis_passive, is_leak, is_unsupported_isis, plain_of_isis, isis_line}
 use Rattle.ios_lines.specs.MaskedAddress.{MaskedAddress}
 use Rattle.ios_lines.specs.declared.kind.ReadKind.{ReadKind}
 use Rattle.ios_lines.specs.declared.kind.ReadKind.TheVariants.{BadCost, BadArea, SecondProcess, Unsupported, BadMetric, BadDistance, DistanceClash}
@@ -295,7 +295,8 @@ plain_isis_good words =
     (by_if IsGoodIsisLine (says words 0 (codes "distance")) _ _ (isis_distance_good (number_from 1 255 BadDistance (word_at words 1)))
     (by_if IsGoodIsisLine (says words 0 (codes "passive-interface")) _ _ (isis_passive_good words 1 true)
     (by_if IsGoodIsisLine (begins_with_two words (codes "no") (codes "passive-interface")) _ _ (isis_passive_good words 2 false)
-    (by_if IsGoodIsisLine (is_unsupported_isis (word_at words 0)) _ _ tt tt))))
+    (by_if IsGoodIsisLine (is_leak words) _ _ tt
+    (by_if IsGoodIsisLine (is_unsupported_isis (word_at words 0)) _ _ tt tt)))))
 
 pub isis_line_good : (words : List Word) → IsGoodIsisLine (isis_line words)
 isis_line_good words =

@@ -1,14 +1,14 @@
 -- The lines of `router isis` that have a meaning, what they say, and why they are faulty.
 use Rattle.std.specs.Prelude.{ℕ, ◌+◌, ◌-◌, ◌*◌, ◌%◌, ◌^◌, Bool, true, false, ◌&&◌, ◌||◌, List, [], ◌∷◌, Option, Some, None, Result, Ok, Err, length, take, drop, codes, if◌then◌else◌, nat_eq, nat_le, bytes_eq, slice_index}
 use Rattle.std.specs.Char.{is_ascii_digit}
-use Rattle.ios_lines.specs.Words.{Word, word_at, says, begins_with_two, lacks, number_from, levels_of, is_dot}
+use Rattle.ios_lines.specs.Words.{Word, word_at, says, begins_with_two, begins_with_three, lacks, number_from, levels_of, is_dot}
 use Rattle.ios_lines.specs.InterfaceLines.{fault_in}
 use Rattle.net_model.specs.declared.bounds.TheConstants.{ISIS_DISTANCE, MOST_DISTANCE, MOST_METRIC}
 use Rattle.ios_lines.specs.declared.kind.ReadKind.{ReadKind}
 use Rattle.ios_lines.specs.declared.kind.ReadKind.TheVariants.{Unsupported, BadNet, BadMetric, BadDistance}
 use Rattle.ios_lines.specs.declared.title.Title.{Title}
 use Rattle.ios_lines.specs.declared.isis_line.IsisLine.{IsisLine}
-use Rattle.ios_lines.specs.declared.isis_line.IsisLine.TheVariants.{Net, Levels as LevelsLine, MetricStyle, Metric, Distance, Passive, Faulty, Skipped}
+use Rattle.ios_lines.specs.declared.isis_line.IsisLine.TheVariants.{Net, Levels as LevelsLine, MetricStyle, Metric, Distance, Passive, Leak, Faulty, Skipped}
 
 -- a hexadecimal digit, a letter of it small or capital
 abbrev pub is_hex : ℕ → Bool
@@ -87,7 +87,13 @@ isis_passive words k passive =
     if says words k (codes "default") then Faulty Unsupported else
     Passive (record { name = word_at words k; passive = passive })
 
--- what isn't supported in `router isis`
+-- `redistribute isis ip level-2 into level-1`, and nothing else
+abbrev pub is_leak : List Word → Bool
+is_leak words =
+    begins_with_three words (codes "redistribute") (codes "isis") (codes "ip")
+    && says words 3 (codes "level-2") && says words 4 (codes "into") && says words 5 (codes "level-1") && lacks words 6
+
+-- what isn't supported in `router isis`, where it isn't the line that leaks
 abbrev pub is_unsupported_isis : Word → Bool
 is_unsupported_isis word =
     bytes_eq word (codes "redistribute") || bytes_eq word (codes "default-information") || bytes_eq word (codes "summary-address")
@@ -101,6 +107,7 @@ plain_of_isis words =
     if says words 0 (codes "distance") then Distance (isis_distance (number_from 1 MOST_DISTANCE BadDistance (word_at words 1))) else
     if says words 0 (codes "passive-interface") then isis_passive words 1 true else
     if begins_with_two words (codes "no") (codes "passive-interface") then isis_passive words 2 false else
+    if is_leak words then Leak else
     if is_unsupported_isis (word_at words 0) then Faulty Unsupported else
     Skipped
 

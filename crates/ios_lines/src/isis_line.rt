@@ -1,6 +1,6 @@
 ghost use Rattle.std.specs.Prelude.{◌≡◌, IfOk};
 ghost use Rattle.ios_lines.specs.Words.{word_at, number_from};
-ghost use Rattle.ios_lines.specs.IsisLines.{is_wide, isis_distance, isis_passive, is_unsupported_isis, plain_of_isis, isis_line, isis_line_fault};
+ghost use Rattle.ios_lines.specs.IsisLines.{is_wide, isis_distance, isis_passive, is_leak, is_unsupported_isis, plain_of_isis, isis_line, isis_line_fault};
 
 use crate::OutOfMemory;
 use crate::kind::ReadKind;
@@ -25,6 +25,8 @@ pub enum IsisLine {
     Distance(Result<u8, ReadKind>),
     /// `passive-interface NAME`, or with `no`
     Passive(PassiveLine),
+    /// `redistribute isis ip level-2 into level-1`, and nothing else
+    Leak,
     /// a line that is faulty and says nothing
     Faulty(ReadKind),
     /// a line without meaning here
@@ -82,7 +84,18 @@ fn isis_passive(
     Ok(IsisLine::Passive(PassiveLine { name, passive }))
 }
 
-/// Whether a line that begins so isn't supported in `router isis`.
+/// Whether the line is `redistribute isis ip level-2 into level-1`, and nothing else.
+fn is_leak(words: &Words) -> bool
+    ensures { result ≡ is_leak words.now }
+{
+    words.begins_with_three(b"redistribute", b"isis", b"ip")
+        && words.says(3, b"level-2")
+        && words.says(4, b"into")
+        && words.says(5, b"level-1")
+        && words.lacks(6)
+}
+
+/// Whether a line that begins so isn't supported in `router isis`, where it isn't the line that leaks.
 fn is_unsupported_isis(word: &[u8]) -> bool
     ensures { result ≡ is_unsupported_isis word.now }
 {
@@ -110,6 +123,9 @@ fn plain_of_isis(alloc: Global, words: &Words) -> Result<IsisLine, OutOfMemory>
     }
     if words.begins_with_two(b"no", b"passive-interface") {
         return isis_passive(alloc, words, 2, false);
+    }
+    if is_leak(words) {
+        return Ok(IsisLine::Leak);
     }
     if is_unsupported_isis(words.at(0)) {
         return Ok(IsisLine::Faulty(ReadKind::Unsupported));

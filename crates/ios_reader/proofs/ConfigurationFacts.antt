@@ -40,8 +40,8 @@ fault_joined s ends o i p x n a r router tag sections missing eo ei ep ex er et 
     ∙ ap (lesser_fault (lesser_fault (lesser_fault (ospf_fault_by s) (isis_fault_by s)) (least_fault (flat_map (interface_faults (router_with s.process s.ospf s.isis) s.tag) s.interfaces)))) name
 
 -- a configuration by its fields
-abbrev pub configured : Word → List Interface → Option ℕ → Bool → Word → Word → ℕ → Levels → List Range → List Stub → Bool → ℕ → ℕ → Configuration
-configured name interfaces process isis tag area system levels ranges stubs rfc1583 ospf_distance isis_distance = record {
+abbrev pub configured : Word → List Interface → Option ℕ → Bool → Word → Word → ℕ → Levels → Bool → List Range → List Stub → Bool → ℕ → ℕ → Configuration
+configured name interfaces process isis tag area system levels leak ranges stubs rfc1583 ospf_distance isis_distance = record {
   name = name;
   interfaces = interfaces;
   process = process;
@@ -50,7 +50,7 @@ configured name interfaces process isis tag area system levels ranges stubs rfc1
   isis_area = area;
   system = system;
   levels = levels;
-  leak = false;
+  leak = leak;
   ranges = ranges;
   stubs = stubs;
   rfc1583 = rfc1583;
@@ -58,7 +58,7 @@ configured name interfaces process isis tag area system levels ranges stubs rfc1
 }
 
 -- configurations with the same fields are the same
-pub same_fields : (n1 n2 : Word) (i1 i2 : List Interface) (p1 p2 : Option ℕ) (r1 r2 : Bool) (t1 t2 a1 a2 : Word) (s1 s2 : ℕ) (l1 l2 : Levels) (g1 g2 : List Range) (u1 u2 : List Stub) (c1 c2 : Bool) (d1 d2 e1 e2 : ℕ) →
-    n1 ≡ n2 → i1 ≡ i2 → p1 ≡ p2 → r1 ≡ r2 → t1 ≡ t2 → a1 ≡ a2 → s1 ≡ s2 → l1 ≡ l2 → g1 ≡ g2 → u1 ≡ u2 → c1 ≡ c2 → d1 ≡ d2 → e1 ≡ e2 →
-    configured n1 i1 p1 r1 t1 a1 s1 l1 g1 u1 c1 d1 e1 ≡ configured n2 i2 p2 r2 t2 a2 s2 l2 g2 u2 c2 d2 e2
-same_fields n1 n2 i1 i2 p1 p2 r1 r2 t1 t2 a1 a2 s1 s2 l1 l2 g1 g2 u1 u2 c1 c2 d1 d2 e1 e2 hn hi hp hr ht ha hs hl hg hu hc hd he = cc
+pub same_fields : (n1 n2 : Word) (i1 i2 : List Interface) (p1 p2 : Option ℕ) (r1 r2 : Bool) (t1 t2 a1 a2 : Word) (s1 s2 : ℕ) (l1 l2 : Levels) (k1 k2 : Bool) (g1 g2 : List Range) (u1 u2 : List Stub) (c1 c2 : Bool) (d1 d2 e1 e2 : ℕ) →
+    n1 ≡ n2 → i1 ≡ i2 → p1 ≡ p2 → r1 ≡ r2 → t1 ≡ t2 → a1 ≡ a2 → s1 ≡ s2 → l1 ≡ l2 → k1 ≡ k2 → g1 ≡ g2 → u1 ≡ u2 → c1 ≡ c2 → d1 ≡ d2 → e1 ≡ e2 →
+    configured n1 i1 p1 r1 t1 a1 s1 l1 k1 g1 u1 c1 d1 e1 ≡ configured n2 i2 p2 r2 t2 a2 s2 l2 k2 g2 u2 c2 d2 e2
+same_fields n1 n2 i1 i2 p1 p2 r1 r2 t1 t2 a1 a2 s1 s2 l1 l2 k1 k2 g1 g2 u1 u2 c1 c2 d1 d2 e1 e2 hn hi hp hr ht ha hs hl hk hg hu hc hd he = cc

@@ -33,7 +33,7 @@ use Rattle.ios_sections.proofs.FurtherProcesses.{name-further, interfaces-furthe
 use Rattle.ios_reader.specs.declared.facts.PlacedAddress.{PlacedAddress}
 use Rattle.ios_reader.specs.declared.facts.InterfaceFacts.{InterfaceFacts}
 use Rattle.ios_reader.specs.InterfaceFacts.{address_at, address_in, shut_said, bandwidth_said, cost_said, area_said, point_to_point_said, isis_said, circuit_said, metric_said, metric1_said, metric2_said, facts_of}
-use Rattle.ios_reader.specs.Routers.{Router, router_with, router_of, area_taken, ospf_passive_said, isis_passive_said, passive_default_said, reference_said, levels_said, router_metric_said, title_said, ospf_distance_said, isis_distance_said, rfc1583_said, range_said, stub_said, default_cost_said, ranges_in, stub_lines_in, stub_of, stubs_in, is_same_range, is_same_area}
+use Rattle.ios_reader.specs.Routers.{Router, router_with, router_of, area_taken, ospf_passive_said, isis_passive_said, passive_default_said, reference_said, levels_said, router_metric_said, title_said, ospf_distance_said, isis_distance_said, leak_said, rfc1583_said, range_said, stub_said, default_cost_said, ranges_in, stub_lines_in, stub_of, stubs_in, is_same_range, is_same_area}
 use Rattle.ios_reader.specs.InterfacesAsRead.{address_given, is_loopback, is_up, area_by, area_with, interface_area, ospf_cost, is_isis_passive, is_ospf_passive, interface_with, interface_as_read, runs_level, level_metric, address_field, subnet_field, cost_field}
 use Rattle.ios_reader.specs.Faults.{membership_fault, statement_faults, interface_line_faults, long_mask, address_mask_faults, is_point_to_point, loopback_faults, bandwidth_faults, interface_faults, section_faults, part_faults}
 use Rattle.ios_reader.specs.Configurations.{configuration_of, title_given, area_in, system_in, tag_in}
@@ -333,6 +333,7 @@ configuration_with name interfaces process isis tag levels ospf_said isis_said =
   isis_area = area_in (title_given (last_of (λ (s : IsisStatement). title_said s.says) isis_said));
   system = system_in (title_given (last_of (λ (s : IsisStatement). title_said s.says) isis_said));
   levels = levels;
+  leak = unwrap_or (last_of (λ (s : IsisStatement). leak_said s.says) isis_said) false;
   ranges = ranges_in ospf_said;
   stubs = stubs_in ospf_said;
   rfc1583 = unwrap_or (last_of (λ (s : OspfStatement). rfc1583_said s.says) ospf_said) true;
@@ -360,6 +361,7 @@ isis_said-further k n is p i t l os zs =
     rw (
       last_of-map (λ (s : IsisStatement). title_said s.says) (isis_line_further k) (λ x. refl) zs,
       last_of-map (λ (s : IsisStatement). isis_distance_said s.says) (isis_line_further k) (λ x. refl) zs,
+      last_of-map (λ (s : IsisStatement). leak_said s.says) (isis_line_further k) (λ x. refl) zs,
     ) refl
 
 there-further : (k : ℕ) (zs : List IsisSection) → is_some (first_isis (map (isis_further k) zs)) ≡ is_some (first_isis zs)

@@ -34,7 +34,7 @@ use Rattle.ios_lines.specs.declared.ospf_line.OspfLine.TheVariants.{Network, Pas
 use Rattle.ios_lines.specs.declared.ospf_line.OspfStatement.{OspfStatement}
 use Rattle.ios_lines.specs.declared.title.Title.{Title}
 use Rattle.ios_lines.specs.declared.isis_line.IsisLine.{IsisLine}
-use Rattle.ios_lines.specs.declared.isis_line.IsisLine.TheVariants.{Net, Levels, MetricStyle, Metric as IsisMetric, Distance as IsisDistance, Passive as IsisPassive, Faulty as IsisFaulty, Skipped as IsisSkipped}
+use Rattle.ios_lines.specs.declared.isis_line.IsisLine.TheVariants.{Net, Levels, MetricStyle, Metric as IsisMetric, Distance as IsisDistance, Passive as IsisPassive, Leak as IsisLeak, Faulty as IsisFaulty, Skipped as IsisSkipped}
 use Rattle.ios_lines.specs.declared.isis_line.IsisStatement.{IsisStatement}
 use Rattle.ios_sections.specs.declared.section.InterfaceSection.{InterfaceSection}
 use Rattle.ios_sections.specs.declared.section.Section.{Section}
@@ -433,6 +433,7 @@ title_in (MetricStyle r) h = tt
 title_in (IsisMetric r) h = tt
 title_in (IsisDistance r) h = tt
 title_in (IsisPassive r) h = tt
+title_in IsisLeak h = tt
 title_in (IsisFaulty r) h = tt
 title_in IsisSkipped h = tt
 
@@ -443,6 +444,7 @@ router_metric_in (Levels r) h = tt
 router_metric_in (MetricStyle r) h = tt
 router_metric_in (IsisDistance r) h = tt
 router_metric_in (IsisPassive r) h = tt
+router_metric_in IsisLeak h = tt
 router_metric_in (IsisFaulty r) h = tt
 router_metric_in IsisSkipped h = tt
 
@@ -453,6 +455,7 @@ isis_distance_in (Net r) h = tt
 isis_distance_in (Levels r) h = tt
 isis_distance_in (MetricStyle r) h = tt
 isis_distance_in (IsisPassive r) h = tt
+isis_distance_in IsisLeak h = tt
 isis_distance_in (IsisFaulty r) h = tt
 isis_distance_in IsisSkipped h = tt
 

@@ -7,7 +7,7 @@ use Rattle.ios_reader.specs.Configurations.{title_given}
 use Rattle.ios_reader.specs.ByStatements.{title_after, title_by}
 use Rattle.ios_lines.specs.declared.title.Title.{Title}
 use Rattle.ios_lines.specs.declared.isis_line.IsisLine.{IsisLine}
-use Rattle.ios_lines.specs.declared.isis_line.IsisLine.TheVariants.{Net, Levels, MetricStyle, Metric, Distance, Passive, Faulty, Skipped}
+use Rattle.ios_lines.specs.declared.isis_line.IsisLine.TheVariants.{Net, Levels, MetricStyle, Metric, Distance, Passive, Leak, Faulty, Skipped}
 use Rattle.ios_lines.proofs.LineLookups.{last_of-push}
 
 title_cases : (before : Option (Option Title)) (says : IsisLine) → title_given (later before (title_said says)) ≡ title_after (title_given before) says
@@ -17,6 +17,7 @@ title_cases before (MetricStyle wide) = refl
 title_cases before (Metric r) = refl
 title_cases before (Distance r) = refl
 title_cases before (Passive said) = refl
+title_cases before Leak = refl
 title_cases before (Faulty kind) = refl
 title_cases before Skipped = refl
 

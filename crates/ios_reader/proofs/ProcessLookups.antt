@@ -1,7 +1,7 @@
 -- What the lines of a process say, in a loop over them.
 use Rattle.std.proofs.Common.{sym, ◌≡◌, ℕ, ◌+◌, ◌<◌, List, [], ◌∷◌, ◌++◌, length, take, get_or, refl, ap, ◌∙◌}
 use Rattle.std.proofs.lemmas.List.{take_more}
-use Rattle.ios_reader.specs.Routers.{passive_default_said, reference_said, ospf_distance_said, rfc1583_said, levels_said, router_metric_said, isis_distance_said}
+use Rattle.ios_reader.specs.Routers.{passive_default_said, reference_said, ospf_distance_said, rfc1583_said, levels_said, router_metric_said, isis_distance_said, leak_said}
 use Rattle.ios_reader.specs.ProcessFacts.{ospf_facts_of, ospf_noted, isis_facts_of, isis_noted}
 use Rattle.ios_lines.specs.declared.ospf_line.OspfStatement.{OspfStatement}
 use Rattle.ios_lines.specs.declared.isis_line.IsisStatement.{IsisStatement}
@@ -27,6 +27,7 @@ isis_facts-push xs x =
       last_of-push (λ s. levels_said s.says) xs x,
       last_of-push (λ s. router_metric_said s.says) xs x,
       last_of-push (λ s. isis_distance_said s.says) xs x,
+      last_of-push (λ s. leak_said s.says) xs x,
     ) refl
 
 pub isis_facts_more : (xs : List IsisStatement) (i : ℕ) (x : IsisStatement) → i < length xs → x ≡ get_or xs i x →

@@ -15,7 +15,7 @@ use Rattle.ios_sections.specs.ProcessFaults.{second_processes, ospf_faults, isis
 use Rattle.ios_reader.specs.Faults.{interface_faults, section_faults, part_faults, faults_in}
 use Rattle.ios_sections.specs.Sections.{sections_in}
 use Rattle.ios_sections.specs.Processes.{as_hostname, as_isis, as_fault, interfaces_in, first_isis, first_tag, isis_lines}
-use Rattle.ios_reader.specs.Routers.{router_of, router_with, rfc1583_said, ospf_distance_said, isis_distance_said, ranges_in, stubs_in}
+use Rattle.ios_reader.specs.Routers.{router_of, router_with, rfc1583_said, ospf_distance_said, isis_distance_said, leak_said, ranges_in, stubs_in}
 use Rattle.ios_reader.specs.InterfacesAsRead.{interface_as_read}
 use Rattle.ios_lines.specs.Lookups.{last_of, value_or}
 use Rattle.ios_reader.specs.Configurations.{IsNotAfter, IsLeastFault, configuration_of, tag_in, area_in, system_in}
@@ -91,7 +91,7 @@ whole isis tag s = record {
   isis_area = area_in (title_by s.isis);
   system = system_in (title_by s.isis);
   levels = (router_with s.process s.ospf s.isis).levels;
-  leak = false;
+  leak = unwrap_or (last_of (λ (t : IsisStatement). leak_said t.says) s.isis) false;
   ranges = ranges_in s.ospf;
   stubs = stubs_in s.ospf;
   rfc1583 = unwrap_or (last_of (λ (t : OspfStatement). rfc1583_said t.says) s.ospf) true;

@@ -3,7 +3,7 @@ use Rattle.std.specs.Prelude.{ℕ, false, true, List, [], Option, map, flat_map,
 use Rattle.net_model.specs.Configuration.{Configuration}
 use Rattle.net_model.specs.declared.bounds.TheConstants.{ISIS_DISTANCE, OSPF_DISTANCE}
 use Rattle.ios_lines.specs.Lookups.{last_of, value_or}
-use Rattle.ios_reader.specs.Routers.{router_with, title_said, ospf_distance_said, isis_distance_said, rfc1583_said, ranges_in, stubs_in}
+use Rattle.ios_reader.specs.Routers.{router_with, title_said, ospf_distance_said, isis_distance_said, leak_said, rfc1583_said, ranges_in, stubs_in}
 use Rattle.ios_reader.specs.InterfacesAsRead.{interface_as_read}
 use Rattle.ios_lines.specs.FaultOrder.{faults_if, lesser_fault, least_fault}
 use Rattle.ios_sections.specs.ProcessFaults.{ospf_statement_faults, isis_statement_faults, second_titles, lacking}
@@ -54,7 +54,7 @@ configuration_by s = record {
   isis_area = area_in (title_by s.isis);
   system = system_in (title_by s.isis);
   levels = (router_with s.process s.ospf s.isis).levels;
-  leak = false;
+  leak = unwrap_or (last_of (λ (t : IsisStatement). leak_said t.says) s.isis) false;
   ranges = ranges_in s.ospf;
   stubs = stubs_in s.ospf;
   rfc1583 = unwrap_or (last_of (λ (t : OspfStatement). rfc1583_said t.says) s.ospf) true;

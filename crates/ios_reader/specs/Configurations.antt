@@ -7,7 +7,7 @@ use Rattle.ios_lines.specs.Words.{Word}
 use Rattle.ios_lines.specs.Lookups.{last_of, value_or}
 use Rattle.ios_sections.specs.TextLines.{TextLine, parts_of}
 use Rattle.ios_sections.specs.Processes.{as_hostname, as_isis, interfaces_in, process_of, ospf_lines, isis_lines, first_isis}
-use Rattle.ios_reader.specs.Routers.{router_of, title_said, ospf_distance_said, isis_distance_said, rfc1583_said, ranges_in, stubs_in}
+use Rattle.ios_reader.specs.Routers.{router_of, title_said, ospf_distance_said, isis_distance_said, leak_said, rfc1583_said, ranges_in, stubs_in}
 use Rattle.ios_reader.specs.InterfacesAsRead.{interface_as_read}
 use Rattle.ios_reader.specs.Faults.{faults_in}
 use Rattle.ios_sections.specs.Sections.{sections_in}
@@ -54,7 +54,7 @@ configuration_of sections =
       isis_area = area_in title;
       system = system_in title;
       levels = (router_of sections).levels;
-      leak = false;
+      leak = unwrap_or (last_of (λ (s : IsisStatement). leak_said s.says) isis) false;
       ranges = ranges_in ospf;
       stubs = stubs_in ospf;
       rfc1583 = unwrap_or (last_of (λ (s : OspfStatement). rfc1583_said s.says) ospf) true;

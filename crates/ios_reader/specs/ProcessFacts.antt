@@ -1,7 +1,7 @@
 -- What the lines of the two processes say in the end: of each form the last one.
 use Rattle.std.specs.Prelude.{List}
 use Rattle.ios_lines.specs.Lookups.{later, last_of}
-use Rattle.ios_reader.specs.Routers.{passive_default_said, reference_said, ospf_distance_said, rfc1583_said, levels_said, router_metric_said, isis_distance_said}
+use Rattle.ios_reader.specs.Routers.{passive_default_said, reference_said, ospf_distance_said, rfc1583_said, levels_said, router_metric_said, isis_distance_said, leak_said}
 use Rattle.ios_lines.specs.declared.ospf_line.OspfStatement.{OspfStatement}
 use Rattle.ios_lines.specs.declared.isis_line.IsisStatement.{IsisStatement}
 use Rattle.ios_reader.specs.declared.router.OspfFacts.{OspfFacts}
@@ -31,6 +31,7 @@ isis_facts_of lines = record {
   levels = last_of (λ (s : IsisStatement). levels_said s.says) lines;
   metric = last_of (λ (s : IsisStatement). router_metric_said s.says) lines;
   distance = last_of (λ (s : IsisStatement). isis_distance_said s.says) lines;
+  leak = last_of (λ (s : IsisStatement). leak_said s.says) lines;
 }
 
 -- the same, with one more line
@@ -39,4 +40,5 @@ isis_noted facts s = record {
   levels = later facts.levels (levels_said s.says);
   metric = later facts.metric (router_metric_said s.says);
   distance = later facts.distance (isis_distance_said s.says);
+  leak = later facts.leak (leak_said s.says);
 }

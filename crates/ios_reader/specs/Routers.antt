@@ -15,7 +15,7 @@ use Rattle.ios_lines.specs.declared.ospf_line.OspfLine.TheVariants.{Network, Pas
 use Rattle.ios_lines.specs.declared.ospf_line.OspfStatement.{OspfStatement}
 use Rattle.ios_lines.specs.declared.title.Title.{Title}
 use Rattle.ios_lines.specs.declared.isis_line.IsisLine.{IsisLine}
-use Rattle.ios_lines.specs.declared.isis_line.IsisLine.TheVariants.{Net, Levels as LevelsSaid, Metric as IsisMetric, Distance as IsisDistance, Passive as IsisPassive}
+use Rattle.ios_lines.specs.declared.isis_line.IsisLine.TheVariants.{Net, Levels as LevelsSaid, Metric as IsisMetric, Distance as IsisDistance, Passive as IsisPassive, Leak}
 use Rattle.ios_lines.specs.declared.isis_line.IsisStatement.{IsisStatement}
 use Rattle.ios_sections.specs.declared.section.Section.{Section}
 use Rattle.ios_sections.specs.Processes.{process_of, ospf_lines, isis_lines}
@@ -131,6 +131,11 @@ isis_distance_said _ = None
 abbrev pub isis_passive_said : Word → IsisLine → Option Bool
 isis_passive_said name (IsisPassive said) = passive_if_named name said
 isis_passive_said name _ = None
+
+-- `redistribute isis ip level-2 into level-1`
+abbrev pub leak_said : IsisLine → Option Bool
+leak_said Leak = Some true
+leak_said _ = None
 
 -- ---- what the interfaces are read by ----
 

@@ -147,7 +147,7 @@ fn config_of(alloc: Global, statements: Statements) -> Result<Config, OutOfMemor
         isis_area,
         system,
         levels,
-        leak: false,
+        leak: isis_facts.leak.unwrap_or(false),
         ranges: Ranges::from_vec(ranges),
         stubs: Stubs::from_vec(stubs),
         rfc1583: ospf_facts.rfc1583.unwrap_or(true),

@@ -32,6 +32,8 @@ pub struct IsisFacts {
     pub metric: Option<Result<u32, ReadKind>>,
     /// `distance N`.
     pub distance: Option<Result<u8, ReadKind>>,
+    /// `redistribute isis ip level-2 into level-1`.
+    pub leak: Option<bool>,
 }
 
 /// What the lines of an OSPF process say in the end, with one more line.
@@ -74,6 +76,7 @@ fn isis_noted(facts: IsisFacts, statement: &IsisStatement) -> IsisFacts
         IsisLine::Levels(levels) => facts.levels = Some(*levels),
         IsisLine::Metric(metric) => facts.metric = Some(*metric),
         IsisLine::Distance(distance) => facts.distance = Some(*distance),
+        IsisLine::Leak => facts.leak = Some(true),
         _ => {}
     }
     facts
@@ -87,6 +90,7 @@ pub fn isis_facts_of(lines: &[IsisStatement]) -> IsisFacts
         levels: None,
         metric: None,
         distance: None,
+        leak: None,
     };
     for statement in lines {
         facts = isis_noted(facts, statement);

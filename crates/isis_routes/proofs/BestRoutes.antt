@@ -5,17 +5,17 @@ use Rattle.net_addr.specs.Addresses.{Block}
 use Rattle.net_model.proofs.NetworkFacts.{Adjacent-to_within}
 use Rattle.net_model.specs.Network.{Network, Adjacent}
 use Rattle.net_model.specs.declared.zone.Zone.TheVariants.{One as ZoneOne, Two as ZoneTwo}
-use Rattle.walk_core.specs.Offers.{BestHop}
+use Rattle.walk_core.specs.Offers.{Offers, BestHop}
 use Rattle.walk_core.specs.Reach.{Reach, AreLeastWalks}
 use Rattle.walk_core.specs.BestOffers.{NoneTotals, IsBestTotal}
 use Rattle.walk_core.specs.declared.offers.Offer.{Offer}
 use Rattle.walk_core.proofs.OfferLaws.{best_total_is_best_cost, none_totals_no_best}
 use Rattle.igp_theory.specs.Ospf.{OfOthers, default_prefix}
-use Rattle.igp_theory.specs.Isis.{RunsOne, RunsTwo, OffersOne, OneCost, OneHop, IsOne, LevelTwoAnnouncement, IsTwo, TwoHop, OffersDefault, DefaultHop}
+use Rattle.igp_theory.specs.Isis.{RunsOne, RunsTwo, OffersOne, OneCost, OneHop, IsOne, LevelTwoAnnouncement, TwoCost, IsTwo, TwoHop, DownAnnouncement, IsDown, DownHop, OffersDefault, DefaultHop}
 use Rattle.isis_routes.specs.Offered.{AreOffers}
 use Rattle.route_tables.proofs.BestRoutes.{best_cost_is, best_hops_are, hops_same}
 use Rattle.route_tables.specs.BestRoutes.{AreBestHops}
-use Rattle.isis_routes.specs.Routing.{IsLevelOneRoute, IsLevelTwoRoute, IsDefaultRoute, NoDefaultRoute}
+use Rattle.isis_routes.specs.Routing.{IsLevelOneRoute, IsLevelTwoRoute, IsDownRoute, IsDefaultRoute, NoDefaultRoute}
 
 -- Level 1
 
@@ -47,6 +47,16 @@ one_route_is net p u reach offers given runs walks are same n count (Some hops) 
 
 -- Level 2
 
+pub no_two_cost : (net : Network) (p : Block) (u : ℕ) → (RunsTwo net u → ⊥) → (cost : ℕ) → (◌≡◌ {A = Option ℕ} None (Some cost)) ↔ TwoCost net p u cost
+no_two_cost net p u idle cost = (λ is. absurd (none-some cost is), λ costs. absurd (idle costs.runs))
+
+pub two_cost_is : (net : Network) (p : Block) (u : ℕ) (reach : Reach) (given : List Offer) → RunsTwo net u → AreLeastWalks (Adjacent net ZoneTwo) u reach →
+    AreOffers (OfOthers (LevelTwoAnnouncement net p) u) given → (found : Option ℕ) → MatchOption found (NoneTotals reach given) (IsBestTotal reach given) →
+    (cost : ℕ) → (found ≡ Some cost) ↔ TwoCost net p u cost
+two_cost_is net p u reach given runs walks listed found best cost =
+    let is = best_cost_is (Adjacent net ZoneTwo) u reach (OfOthers (LevelTwoAnnouncement net p) u) given walks listed found best cost in
+    (λ e. record { runs = runs; best = is.0 e }, λ costs. is.1 costs.best)
+
 pub two_route_is : (net : Network) (p : Block) (u : ℕ) (reach : Reach) (given : List Offer) → RunsTwo net u → AreLeastWalks (Adjacent net ZoneTwo) u reach → AreOffers (OfOthers (LevelTwoAnnouncement net p) u) given →
     (n : ℕ) → n ≡ length net → (found : Option (List ℕ)) → MatchOption found (NoneTotals reach given) (AreBestHops reach given n) → MatchOption found (IsTwo net p u → ⊥) (IsLevelTwoRoute net p u)
 two_route_is net p u reach given runs walks listed n count None none = λ is.
@@ -61,6 +71,26 @@ two_route_is net p u reach given runs walks listed n count (Some hops) best =
           (λ h. (λ hop. record { runs = runs; best = hop }, λ hop. hop.best))
           (best_hops_are (Adjacent net ZoneTwo) u reach (OfOthers (LevelTwoAnnouncement net p) u) given n hops walks listed
           (λ h c over. subst (λ (m : ℕ). h < m) (sym count) (Adjacent-to_within net ZoneTwo u h c over)) best);
+    }
+
+-- Down
+
+pub down_route_is : (net : Network) (p : Block) (u : ℕ) (reach : Reach) (given : List Offer) → RunsOne net u → AreLeastWalks (Adjacent net ZoneOne) u reach →
+    AreOffers (OfOthers (DownAnnouncement net p) u) given → (n : ℕ) → n ≡ length net → (found : Option (List ℕ)) →
+    MatchOption found (NoneTotals reach given) (AreBestHops reach given n) → MatchOption found (IsDown net p u → ⊥) (IsDownRoute net p u)
+down_route_is net p u reach given runs walks listed n count None none = λ is.
+    none_totals_no_best (Adjacent net ZoneOne) u reach (OfOthers (DownAnnouncement net p) u) given walks listed none is.cost is.costs.best
+down_route_is net p u reach given runs walks listed n count (Some hops) best =
+    let down : Offers = OfOthers (DownAnnouncement net p) u in
+    record {
+      is = record {
+        cost = best.cost;
+        costs = record { runs = runs; best = (best_total_is_best_cost (Adjacent net ZoneOne) u reach down given best.cost walks listed).0 best.best };
+      };
+      hops_are = hops_same (BestHop (Adjacent net ZoneOne) down u) (DownHop net p u) hops
+          (λ h. (λ hop. record { runs = runs; best = hop }, λ hop. hop.best))
+          (best_hops_are (Adjacent net ZoneOne) u reach down given n hops walks listed
+          (λ h c over. subst (λ (m : ℕ). h < m) (sym count) (Adjacent-to_within net ZoneOne u h c over)) best);
     }
 
 -- The default

@@ -4,15 +4,16 @@ use Rattle.net_addr.specs.Addresses.{Block}
 use Rattle.net_model.specs.Network.{Network, Connected}
 use Rattle.route_core.specs.declared.entry.Entry.{Entry}
 use Rattle.route_core.specs.declared.entry.Entry.TheVariants.{Via}
-use Rattle.igp_theory.specs.Isis.{RunsOne, RunsTwo, OffersOne, OneCost, IsOne, LevelTwoAnnouncement, own, of_level_one, IsTwo, IsisEntry, level_one, level_two, default_route}
+use Rattle.igp_theory.specs.Isis.{RunsOne, RunsTwo, OffersOne, OneCost, IsOne, LevelTwoAnnouncement, own, of_level_one, TwoCost, IsTwo, IsDown, IsisEntry, level_one, level_two, down, default_route}
 use Rattle.isis_routes.specs.Candidates.{IsCandidate}
-use Rattle.isis_routes.specs.Routing.{IsLevelOneRoute, IsLevelTwoRoute, IsDefaultRoute, NoDefaultRoute}
+use Rattle.isis_routes.specs.Routing.{IsLevelOneRoute, IsLevelTwoRoute, IsDownRoute, IsDefaultRoute, NoDefaultRoute}
 
 -- a connected prefix has no entry
 pub connected_has_none : (net : Network) (u : ℕ) (p : Block) → Connected net u p → (e : Entry) → IsisEntry net u p e → ⊥
 connected_has_none net u p is e (level_one away _ _) = away is
 connected_has_none net u p is e (level_two away _ _ _) = away is
-connected_has_none net u p is e (default_route away _ _ _ _ _ _) = away is
+connected_has_none net u p is e (down away _ _ _ _) = away is
+connected_has_none net u p is e (default_route away _ _ _ _ _ _ _) = away is
 
 pub entry_by_one : (net : Network) (u : ℕ) (p : Block) (hops : List ℕ) → (Connected net u p → ⊥) → IsLevelOneRoute net p u hops → IsisEntry net u p (Via hops)
 entry_by_one net u p hops away route = level_one away route.is route.hops_are
@@ -20,14 +21,22 @@ entry_by_one net u p hops away route = level_one away route.is route.hops_are
 pub entry_by_two : (net : Network) (u : ℕ) (p : Block) (hops : List ℕ) → (Connected net u p → ⊥) → (IsOne net p u → ⊥) → IsLevelTwoRoute net p u hops → IsisEntry net u p (Via hops)
 entry_by_two net u p hops away no_one route = level_two away no_one route.is route.hops_are
 
-pub entry_by_default : (net : Network) (u : ℕ) (p : Block) (hops : List ℕ) → (Connected net u p → ⊥) → (IsOne net p u → ⊥) → (IsTwo net p u → ⊥) → IsDefaultRoute net p u hops → IsisEntry net u p (Via hops)
-entry_by_default net u p hops away no_one no_two route = default_route away no_one no_two route.all route.cost route.costs route.hops_are
+pub entry_by_down : (net : Network) (u : ℕ) (p : Block) (hops : List ℕ) → (Connected net u p → ⊥) → (IsOne net p u → ⊥) → (IsTwo net p u → ⊥) →
+    IsDownRoute net p u hops → IsisEntry net u p (Via hops)
+entry_by_down net u p hops away no_one no_two route = down away no_one no_two route.is route.hops_are
+
+pub entry_by_default : (net : Network) (u : ℕ) (p : Block) (hops : List ℕ) → (Connected net u p → ⊥) → (IsOne net p u → ⊥) → (IsTwo net p u → ⊥) →
+    (IsDown net p u → ⊥) → IsDefaultRoute net p u hops → IsisEntry net u p (Via hops)
+entry_by_default net u p hops away no_one no_two no_down route =
+    default_route away no_one no_two no_down route.all route.cost route.costs route.hops_are
 
 -- without a route there is no entry
-pub no_route_no_entry : (net : Network) (u : ℕ) (p : Block) → (IsOne net p u → ⊥) → (IsTwo net p u → ⊥) → NoDefaultRoute net p u → (e : Entry) → IsisEntry net u p e → ⊥
-no_route_no_entry net u p no_one no_two no_default e (level_one _ is _) = no_one is
-no_route_no_entry net u p no_one no_two no_default e (level_two _ _ is _) = no_two is
-no_route_no_entry net u p no_one no_two no_default e (default_route _ _ _ all cost costs _) = no_default cost all costs
+pub no_route_no_entry : (net : Network) (u : ℕ) (p : Block) → (IsOne net p u → ⊥) → (IsTwo net p u → ⊥) → (IsDown net p u → ⊥) → NoDefaultRoute net p u →
+    (e : Entry) → IsisEntry net u p e → ⊥
+no_route_no_entry net u p no_one no_two no_down no_default e (level_one _ is _) = no_one is
+no_route_no_entry net u p no_one no_two no_down no_default e (level_two _ _ is _) = no_two is
+no_route_no_entry net u p no_one no_two no_down no_default e (down _ _ _ is _) = no_down is
+no_route_no_entry net u p no_one no_two no_down no_default e (default_route _ _ _ _ all cost costs _) = no_default cost all costs
 
 -- a router that doesn't run the level has no route of it
 pub no_level_one : (net : Network) (p : Block) (u : ℕ) → (RunsOne net u → ⊥) → IsOne net p u → ⊥
@@ -35,6 +44,9 @@ no_level_one net p u idle is = idle is.costs.runs
 
 pub no_level_two : (net : Network) (p : Block) (u : ℕ) → (RunsTwo net u → ⊥) → IsTwo net p u → ⊥
 no_level_two net p u idle is = idle is.costs.runs
+
+pub no_down : (net : Network) (p : Block) (u : ℕ) → (RunsOne net u → ⊥) → IsDown net p u → ⊥
+no_down net p u idle is = idle is.costs.runs
 
 -- Every prefix with an entry is a candidate
 
@@ -48,8 +60,13 @@ announced_is_candidate net p b cost (own runs offers) =
     inr (record { router = b; interface = offers.interface; up = offers.up; has = record { up = offers.up.up; runs = inr offers.level; subnet = offers.subnet } })
 announced_is_candidate net p b cost (of_level_one runs costs) = one_is_candidate net p b cost costs
 
+two_is_candidate : (net : Network) (p : Block) (u cost : ℕ) → TwoCost net p u cost → IsCandidate net p
+two_is_candidate net p u cost costs =
+    announced_is_candidate net p costs.best.at costs.best.attained.asks costs.best.attained.offered.offered
+
 pub entry_is_candidate : (net : Network) (u : ℕ) (p : Block) (e : Entry) → IsisEntry net u p e → IsCandidate net p
 entry_is_candidate net u p e (level_one _ is _) = one_is_candidate net p u is.cost is.costs
-entry_is_candidate net u p e (level_two _ _ is _) =
-    announced_is_candidate net p is.costs.best.at is.costs.best.attained.asks is.costs.best.attained.offered.offered
-entry_is_candidate net u p e (default_route _ _ _ all _ _ _) = inl all
+entry_is_candidate net u p e (level_two _ _ is _) = two_is_candidate net p u is.cost is.costs
+entry_is_candidate net u p e (down _ _ _ is _) =
+    two_is_candidate net p is.costs.best.at is.costs.best.attained.asks is.costs.best.attained.offered.offered.costs
+entry_is_candidate net u p e (default_route _ _ _ _ all _ _ _) = inl all

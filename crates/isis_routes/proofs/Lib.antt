@@ -5,5 +5,6 @@ mod Announced
 mod AreaFacts
 mod CandidateLists
 mod EntryFacts
+mod LeakedOffers
 mod DestinationFacts
 mod ProtocolFacts

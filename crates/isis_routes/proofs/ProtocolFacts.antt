@@ -12,7 +12,7 @@ use Rattle.net_model.specs.Lookups.{LeastArc}
 use Rattle.net_model.specs.declared.zone.Zone.TheVariants.{One as ZoneOne, Two as ZoneTwo}
 use Rattle.route_core.specs.Tables.{AreLinkedHops}
 use Rattle.route_core.specs.declared.entry.Entry.TheVariants.{Via}
-use Rattle.igp_theory.specs.Isis.{IsisEntry, level_one, level_two, default_route}
+use Rattle.igp_theory.specs.Isis.{IsisEntry, level_one, level_two, down, default_route}
 use Rattle.igp_theory.specs.Laws.{IsIsisNeighbor}
 use Rattle.igp_theory.proofs.TableLaws.{isis_entry_unique, isis_entry_forwards, isis_hop_is_neighbor}
 use Rattle.route_tables.specs.Entries.{IsLawful}
@@ -46,7 +46,8 @@ neighbor_by_two net u v None (Some c) no_one _ least = (λ _. record { cost = c;
 hops_ascend : (net : Network) (u : ℕ) (p : Block) (hops : List ℕ) → IsisEntry net u p (Via hops) → IsStrictlyIncreasing hops
 hops_ascend net u p hops (level_one _ _ forwards) = forwards.ascending
 hops_ascend net u p hops (level_two _ _ _ forwards) = forwards.ascending
-hops_ascend net u p hops (default_route _ _ _ _ _ _ forwards) = forwards.ascending
+hops_ascend net u p hops (down _ _ _ _ forwards) = forwards.ascending
+hops_ascend net u p hops (default_route _ _ _ _ _ _ _ forwards) = forwards.ascending
 
 -- an entry's hops are neighbors of its router
 linked_hops : (net : Network) (u : ℕ) (p : Block) (hops : List ℕ) → IsisEntry net u p (Via hops) → AreLinkedHops (length net) (IsIsisNeighbor net u) hops

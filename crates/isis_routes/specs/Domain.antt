@@ -2,19 +2,19 @@
 use Rattle.std.specs.Prelude.{List, map, All, Contains}
 use Rattle.net_addr.specs.Addresses.{Block}
 use Rattle.net_model.specs.Network.{Network}
-use Rattle.net_model.specs.declared.zone.Zone.TheVariants.{One, Two}
-use Rattle.igp_theory.specs.Isis.{OffersOne, LevelTwoAnnouncement, OffersDefault}
-use Rattle.zone_graph.specs.Walks.{AreZoneWalks}
+use Rattle.igp_theory.specs.Isis.{OffersOne, LevelTwoAnnouncement, DownAnnouncement, OffersDefault}
 use Rattle.route_tables.specs.Prefixes.{AreDistinct}
 use Rattle.isis_routes.specs.Candidates.{IsCandidate}
 use Rattle.isis_routes.specs.Offered.{AreOffers}
+use Rattle.isis_routes.specs.Routing.{AreLevelWalks}
 use Rattle.isis_routes.specs.declared.domain.Destination.{Destination}
 use Rattle.isis_routes.specs.declared.domain.Domain.{Domain}
 
--- a destination has what level 1 offers of its prefix, and what is announced of it into level 2
+-- a destination has what level 1 offers of its prefix, and what is announced of it into level 2 and, marked down, into level 1
 pub record AreAnnounced (net : Network) (d : Destination) : Type 0 where
   pub one : AreOffers (OffersOne net d.one.dest) d.one.offers.items
   pub two : AreOffers (LevelTwoAnnouncement net d.one.dest) d.two.items
+  pub down : AreOffers (DownAnnouncement net d.one.dest) d.down.items
 
 -- the prefixes of destinations
 abbrev pub dests_of : List Destination → List Block
@@ -28,8 +28,7 @@ pub record AreDestinations (net : Network) (destinations : List Destination) : T
 
 -- what is known is that of the network
 pub record IsDomain (net : Network) (domain : Domain) : Type 0 where
-  pub one : AreZoneWalks net One domain.one
-  pub two : AreZoneWalks net Two domain.two
+  pub walks : AreLevelWalks net domain.walks
   pub destinations : AreDestinations net domain.destinations.items
   pub attached : AreOffers (OffersDefault net) domain.attached.items
 

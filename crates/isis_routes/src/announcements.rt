@@ -1,4 +1,4 @@
-ghost use Rattle.std.specs.Prelude.{◌≡◌, ◌<◌, ℕ, length, Some, IfOk, OnOk};
+ghost use Rattle.std.specs.Prelude.{◌<◌, length, IfOk, OnOk};
 ghost use Rattle.net_model.specs.declared.zone.Zone.TheVariants.{One as ZoneOne};
 ghost use Rattle.igp_theory.specs.Isis.{OffersOne, LevelTwoAnnouncement};
 ghost use Rattle.zone_graph.specs.Walks.{AreZoneWalks};
@@ -7,7 +7,7 @@ ghost use Rattle.isis_routes.specs.Offered.{AddsOffers, AreOffers};
 use crate::OutOfMemory;
 use crate::level::Level;
 use crate::level_one::LevelOne;
-use crate::offers::push_router_offers;
+use crate::offers::{push_cost, push_router_offers};
 use crate::runs::runs_two;
 use net_model::Net;
 use std::alloc::Global;
@@ -50,14 +50,4 @@ fn push_announcements(
     }
     push_router_offers(offers, net, Level::Two, one.dest, router)?;
     push_cost(offers, router, one.cost(net, walks, router))
-}
-
-/// Adds an offer at this cost, if there is one.
-fn push_cost(offers: &mut Vec<Offer>, at: u32, cost: Option<u64>) -> Result<(), OutOfMemory>
-    ensures { OnOk result (AddsOffers offers.old.items offers.new.items at (λ asks. cost ≡ Some asks)) }
-{
-    match cost {
-        Some(asks) => Ok(offers.push(Offer { at, asks })?),
-        None => Ok(()),
-    }
 }

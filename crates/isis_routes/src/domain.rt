@@ -1,18 +1,18 @@
 ghost use Rattle.std.specs.Prelude.{◌≡◌, All, IfOk};
-ghost use Rattle.net_model.specs.declared.zone.Zone.TheVariants.{One as ZoneOne};
-ghost use Rattle.zone_graph.specs.Walks.{AreZoneWalks};
 ghost use Rattle.isis_routes.specs.Domain.{AreAnnounced, AreDestinations, IsDomain, dests_of};
+ghost use Rattle.isis_routes.specs.Routing.{AreLevelWalks};
 
 use crate::OutOfMemory;
 use crate::announcements::announcements;
 use crate::attached::attached_routers;
 use crate::candidates::candidates_of;
+use crate::leaked::down_announcements;
 use crate::level_one::LevelOne;
+use crate::level_walks::LevelWalks;
 use net_addr::Prefix;
-use net_model::{Net, Zone};
+use net_model::Net;
 use std::alloc::Global;
 use walk_core::Offer;
-use zone_graph::ZoneWalks;
 
 /// What both levels know of a prefix.
 #[derive(Debug, Drop)]
@@ -21,6 +21,8 @@ pub struct Destination {
     pub one: LevelOne,
     /// What is announced of it into level 2.
     pub two: Vec<Offer>,
+    /// What is announced of it into level 1, marked down.
+    pub down: Vec<Offer>,
 }
 
 impl Destination {
@@ -28,16 +30,17 @@ impl Destination {
     pub fn build(
         alloc: Global,
         net: &Net,
-        walks: &ZoneWalks,
+        walks: &LevelWalks,
         dest: Prefix,
     ) -> Result<Destination, OutOfMemory>
-        requires { AreZoneWalks net.now ZoneOne walks.now }
+        requires { AreLevelWalks net.now walks.now }
         ensures dest { IfOk result (λ d. d.one.dest ≡ dest) }
         ensures announced { IfOk result (λ d. AreAnnounced net.now d) }
     {
         let one = LevelOne::collect(alloc, net, dest)?;
-        let two = announcements(alloc, net, walks, &one)?;
-        Ok(Destination { one, two })
+        let two = announcements(alloc, net, &walks.one, &one)?;
+        let down = down_announcements(alloc, net, walks, &one, two.as_slice())?;
+        Ok(Destination { one, two, down })
     }
 }
 
@@ -45,10 +48,8 @@ impl Destination {
 /// announced of each prefix, and the attached routers.
 #[derive(Debug, Drop)]
 pub struct Domain {
-    /// The least walks of level 1.
-    pub one: ZoneWalks,
-    /// The least walks of level 2.
-    pub two: ZoneWalks,
+    /// The least walks of both levels.
+    pub walks: LevelWalks,
     /// The prefixes that may have entries.
     pub destinations: Vec<Destination>,
     /// The attached routers.
@@ -60,13 +61,11 @@ impl Domain {
     pub fn build(alloc: Global, net: &Net) -> Result<Domain, OutOfMemory>
         ensures { IfOk result (λ domain. IsDomain net.now domain) }
     {
-        let one = ZoneWalks::build(alloc, net, Zone::One)?;
-        let two = ZoneWalks::build(alloc, net, Zone::Two)?;
-        let destinations = destinations(alloc, net, &one)?;
-        let attached = attached_routers(alloc, net, &two)?;
+        let walks = LevelWalks::build(alloc, net)?;
+        let destinations = destinations(alloc, net, &walks)?;
+        let attached = attached_routers(alloc, net, &walks.two)?;
         Ok(Domain {
-            one,
-            two,
+            walks,
             destinations,
             attached,
         })
@@ -77,9 +76,9 @@ impl Domain {
 fn destinations(
     alloc: Global,
     net: &Net,
-    walks: &ZoneWalks,
+    walks: &LevelWalks,
 ) -> Result<Vec<Destination>, OutOfMemory>
-    requires { AreZoneWalks net.now ZoneOne walks.now }
+    requires { AreLevelWalks net.now walks.now }
     ensures { IfOk result (λ all. AreDestinations net.now all.items) }
 {
     let dests = candidates_of(alloc, net)?;
@@ -90,10 +89,10 @@ fn destinations(
 fn each_destination(
     alloc: Global,
     net: &Net,
-    walks: &ZoneWalks,
+    walks: &LevelWalks,
     dests: &[Prefix],
 ) -> Result<Vec<Destination>, OutOfMemory>
-    requires { AreZoneWalks net.now ZoneOne walks.now }
+    requires { AreLevelWalks net.now walks.now }
     ensures dests { IfOk result (λ all. dests_of all.items ≡ dests.now) }
     ensures announced { IfOk result (λ all. All (AreAnnounced net.now) all.items) }
 {

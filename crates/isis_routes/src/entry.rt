@@ -1,8 +1,8 @@
 ghost use Rattle.std.specs.Prelude.{◌<◌, length, IfOk, MatchOption};
-ghost use Rattle.igp_theory.specs.Isis.{IsOne, IsTwo, IsisEntry};
+ghost use Rattle.igp_theory.specs.Isis.{IsOne, IsTwo, IsDown, IsisEntry};
 ghost use Rattle.route_core.specs.declared.entry.Entry.{Entry};
 ghost use Rattle.isis_routes.specs.Domain.{AreAnnounced, IsDomain};
-ghost use Rattle.isis_routes.specs.Routing.{IsLevelOneRoute, IsLevelTwoRoute, IsDefaultRoute, NoDefaultRoute};
+ghost use Rattle.isis_routes.specs.Routing.{IsLevelOneRoute, IsLevelTwoRoute, IsDownRoute, IsDefaultRoute, NoDefaultRoute};
 
 use crate::OutOfMemory;
 use crate::domain::{Destination, Domain};
@@ -14,8 +14,8 @@ use route_core::{Entry, Hops};
 use route_tables::{best_hops, is_all_addresses};
 use std::alloc::Global;
 
-/// The entry of a router for a prefix: by level 1, else by level 2, else the default. There is none
-/// for a connected prefix.
+/// The entry of a router for a prefix: by level 1, else by level 2, else by what is leaked, else the
+/// default. There is none for a connected prefix.
 pub fn entry_of(
     alloc: Global,
     net: &Net,
@@ -38,6 +38,9 @@ pub fn entry_of(
         return Ok(Some(Entry::Via(hops)));
     }
     if let Some(hops) = level_two_hops(alloc, net, domain, destination, router)? {
+        return Ok(Some(Entry::Via(hops)));
+    }
+    if let Some(hops) = down_hops(alloc, net, domain, destination, router)? {
         return Ok(Some(Entry::Via(hops)));
     }
     if let Some(hops) = default_hops(alloc, net, domain, dest, router)? {
@@ -65,7 +68,12 @@ fn level_one_hops(
         return Ok(None);
     }
     let offers = destination.one.offers.as_slice();
-    best_hops(alloc, domain.one.from_router(router), offers, net.routers())
+    best_hops(
+        alloc,
+        domain.walks.one.from_router(router),
+        offers,
+        net.routers(),
+    )
 }
 
 /// The hops of the level 2 route, which other routers' announcements give.
@@ -89,7 +97,34 @@ fn level_two_hops(
     let others = of_others(alloc, destination.two.as_slice(), router)?;
     best_hops(
         alloc,
-        domain.two.from_router(router),
+        domain.walks.two.from_router(router),
+        others.as_slice(),
+        net.routers(),
+    )
+}
+
+/// The hops of the down route, which other routers' announcements into level 1 give.
+fn down_hops(
+    alloc: Global,
+    net: &Net,
+    domain: &Domain,
+    destination: &Destination,
+    router: u32,
+) -> Result<Option<Hops>, OutOfMemory>
+    requires router { router < length net.now }
+    requires domain { IsDomain net.now domain.now }
+    requires announced { AreAnnounced net.now destination.now }
+    ensures { IfOk result (λ found. MatchOption found
+        (IsDown net.now destination.now.one.dest router → ⊥)
+        (IsDownRoute net.now destination.now.one.dest router)) }
+{
+    if !runs_one(net, router) {
+        return Ok(None);
+    }
+    let others = of_others(alloc, destination.down.as_slice(), router)?;
+    best_hops(
+        alloc,
+        domain.walks.one.from_router(router),
         others.as_slice(),
         net.routers(),
     )
@@ -116,7 +151,7 @@ fn default_hops(
     let attached = domain.attached.as_slice();
     best_hops(
         alloc,
-        domain.one.from_router(router),
+        domain.walks.one.from_router(router),
         attached,
         net.routers(),
     )

@@ -1,4 +1,5 @@
-//! The route tables of IS-IS: level 1, level 2, and the default towards attached routers (RFC 1195).
+//! The route tables of IS-IS: level 1, level 2 (RFC 1195), what is leaked into level 1 (RFC 5302), and the default
+//! towards attached routers (RFC 1195).
 #![tactic(auto)]
 
 mod announcements;
@@ -6,8 +7,10 @@ mod attached;
 mod candidates;
 mod domain;
 mod entry;
+mod leaked;
 mod level;
 mod level_one;
+mod level_walks;
 mod offers;
 mod protocol;
 mod routes;

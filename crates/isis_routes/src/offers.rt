@@ -80,6 +80,16 @@ fn asked(level: Level, dest: Prefix, interface: &Interface) -> Option<u32>
     }
 }
 
+/// Adds an offer at this cost, if there is one.
+pub fn push_cost(offers: &mut Vec<Offer>, at: u32, cost: Option<u64>) -> Result<(), OutOfMemory>
+    ensures { OnOk result (AddsOffers offers.old.items offers.new.items at (λ asks. cost ≡ Some asks)) }
+{
+    match cost {
+        Some(asks) => Ok(offers.push(Offer { at, asks })?),
+        None => Ok(()),
+    }
+}
+
 /// The offers that other routers than this one make.
 pub fn of_others(alloc: Global, offers: &[Offer], router: u32) -> Result<Vec<Offer>, OutOfMemory>
     ensures { IfOk result (λ others. others.items ≡ filter (λ o. not (o.at == router)) offers.now) }

@@ -13,8 +13,8 @@ loop-dest-preserved c =
     let dests : List Block = c.args.dests.now in
     let all : List Destination = c.loop-dest.all.items in
     record {
-      dests = subst (λ (l : List Destination). dests_of l ≡ take (k + 1) dests) (sym c.in_ok-push.ensures.items)
+      dests = subst (λ (l : List Destination). dests_of l ≡ take (k + 1) dests) (sym {A = List Destination} c.in_ok-push.ensures.items)
           (one_more_prefix (λ (x : Destination). x.one.dest) dests k all d c.dest-item.result c.loop-dest-test.true c.dest-item.is c.loop-dest.invariant.dests c.in_ok-build.ensures.dest);
-      announced = subst (λ (l : List Destination). All (AreAnnounced c.args.net.now) l) (sym c.in_ok-push.ensures.items)
+      announced = subst (λ (l : List Destination). All (AreAnnounced c.args.net.now) l) (sym {A = List Destination} c.in_ok-push.ensures.items)
           (All-push (AreAnnounced c.args.net.now) all d c.loop-dest.invariant.announced c.in_ok-build.ensures.announced);
     }

@@ -13,7 +13,7 @@ pub best_hops-requires : goal.best_hops-requires
 best_hops-requires c =
     let net : Network = c.args.net.now in
     in_range c.from_router.result.now (OffersDefault net) c.args.domain.now.attached.items c.as_slice-attached.result.now
-    (c.requires.domain.one.near c.args.router c.from_router.result.now c.from_router.ensures) c.requires.domain.attached c.as_slice-attached.ensures.value
+    (c.requires.domain.walks.one.near c.args.router c.from_router.result.now c.from_router.ensures) c.requires.domain.attached c.as_slice-attached.ensures.value
     (default_is_small net)
 
 pub returns : goal.returns
@@ -27,5 +27,5 @@ returns c =
     (λ (found : Option (List ℕ)). MatchOption found (NoneTotals reach given) (AreBestHops reach given c.routers.result))
     (λ (found : Option (List ℕ)). MatchOption found (NoDefaultRoute net c.args.dest u) (IsDefaultRoute net c.args.dest u))
     (λ found best. default_route_is net c.args.dest u reach c.args.domain.now.attached.items given (c.if-not-is_all_addresses.ensures.0 refl) alone.runs alone.alone
-    (c.requires.domain.one.least u reach c.from_router.ensures) c.requires.domain.attached c.as_slice-attached.ensures.value c.routers.result c.routers.ensures.count found best)
+    (c.requires.domain.walks.one.least u reach c.from_router.ensures) c.requires.domain.attached c.as_slice-attached.ensures.value c.routers.result c.routers.ensures.count found best)
     c.best_hops.ensures

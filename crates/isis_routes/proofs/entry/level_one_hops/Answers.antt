@@ -14,7 +14,7 @@ best_hops-requires c =
     let net : Network = c.args.net.now in
     let one = c.args.destination.now.one in
     in_range c.from_router.result.now (OffersOne net one.dest) one.offers.items c.as_slice-offers.result.now
-    (c.requires.domain.one.near c.args.router c.from_router.result.now c.from_router.ensures) c.requires.announced.one c.as_slice-offers.ensures.value
+    (c.requires.domain.walks.one.near c.args.router c.from_router.result.now c.from_router.ensures) c.requires.announced.one c.as_slice-offers.ensures.value
     (λ at asks offers. let small : asks < 2 ^ 24 = one_is_small net one.dest at asks c.if-not-runs_one.ensures.network offers in omega arith)
 
 pub returns : goal.returns
@@ -27,5 +27,5 @@ returns c =
     (λ (found : Option (List ℕ)). MatchOption found (NoneTotals reach given) (AreBestHops reach given c.routers.result))
     (λ (found : Option (List ℕ)). MatchOption found (IsOne net one.dest c.args.router → ⊥) (IsLevelOneRoute net one.dest c.args.router))
     (λ found best. one_route_is net one.dest c.args.router reach one.offers.items given (c.if-not-runs_one.ensures.runs.0 refl)
-    (c.requires.domain.one.least c.args.router reach c.from_router.ensures) c.requires.announced.one c.as_slice-offers.ensures.value c.routers.result c.routers.ensures.count found best)
+    (c.requires.domain.walks.one.least c.args.router reach c.from_router.ensures) c.requires.announced.one c.as_slice-offers.ensures.value c.routers.result c.routers.ensures.count found best)
     c.best_hops.ensures

@@ -1,4 +1,4 @@
-use Rattle.std.proofs.Common.{ℕ, List, Option, MatchOption, refl, subst, sym}
+use Rattle.std.proofs.Common.{ℕ, ◌^◌, ◌<◌, List, Option, MatchOption, refl, subst, sym, arith}
 use Rattle.std.proofs.lemmas.Result.{IfOk-weaker}
 use Rattle.walk_core.specs.BestOffers.{NoneTotals}
 use Rattle.walk_core.specs.declared.offers.Offer.{Offer}
@@ -19,10 +19,12 @@ best_hops-requires c =
     let d = c.args.destination.now in
     let others = c.in_ok-others.others.items in
     in_range c.from_router.result.now (OfOthers (LevelTwoAnnouncement net d.one.dest) u) others c.as_slice-2.result.now
-    (c.requires.domain.two.near u c.from_router.result.now c.from_router.ensures)
+    (c.requires.domain.walks.two.near u c.from_router.result.now c.from_router.ensures)
     (others_of_are (LevelTwoAnnouncement net d.one.dest) d.two.items c.as_slice.result.now others u c.requires.announced.two c.as_slice.ensures.value c.in_ok-others.ensures)
     c.as_slice-2.ensures.value
-    (λ at asks o. announcement_is_small net d.one.dest at asks c.args.domain.now.one c.routers.ensures.network c.requires.domain.one o.offered)
+    (λ at asks o.
+    let small : asks < 2 ^ 41 = announcement_is_small net d.one.dest at asks c.args.domain.now.walks.one c.routers.ensures.network c.requires.domain.walks.one o.offered in
+    omega arith)
 
 pub returns : goal.returns
 returns c =
@@ -39,6 +41,6 @@ returns c =
     IfOk-weaker c.best_hops.result
     (λ (found : Option (List ℕ)). MatchOption found (NoneTotals reach given) (AreBestHops reach given c.routers.result))
     (λ (found : Option (List ℕ)). MatchOption found (IsTwo net p u → ⊥) (IsLevelTwoRoute net p u))
-    (λ found best. two_route_is net p u reach given (c.if-not-runs_two.ensures.0 refl)
-    (c.requires.domain.two.least u reach c.from_router.ensures) listed c.routers.result c.routers.ensures.count found best)
+    (λ found best. two_route_is net p u reach given (c.if-not-runs_two.ensures.runs.0 refl)
+    (c.requires.domain.walks.two.least u reach c.from_router.ensures) listed c.routers.result c.routers.ensures.count found best)
     c.best_hops.ensures
