@@ -12,7 +12,7 @@ use Rattle.order_search.specs.Waiting.{place_of, places_of, AreChildren}
 use Rattle.order_search.specs.Leaves.{IsLeaf, GrowsLeaves}
 use Rattle.order_search.specs.declared.tree.Node.{Node}
 use Rattle.order_search.specs.declared.tree.Node.TheVariants.{Leaf}
-use Rattle.order_search.specs.declared.children.Child.{Child}
+use Rattle.order_search.specs.declared.child.Child.{Child}
 use Rattle.order_search.proofs.Fills.{Fill-append, Fill-frame}
 
 -- the way back is a path to u
@@ -33,7 +33,8 @@ distinct_turned u xs distinct =
     distinct i j d lt j_in (get_or_append_left xs (u ∷ []) d i i_in ∙ same ∙ sym (get_or_append_left xs (u ∷ []) d j in')))
 
 -- the cycle that a pair closes is one of the pairs with it
-pub IsCycle-from_least : (pairs : List Pair) (u v : ℕ) (cycle : List ℕ) → HasNoCycle pairs → IsLeastCycle pairs u v cycle → IsCycle (pairs ++ (u, v) ∷ []) cycle
+pub IsCycle-from_least : (pairs : List Pair) (u v : ℕ) (cycle : List ℕ) → HasNoCycle pairs → IsLeastCycle pairs u v cycle →
+    IsCycle (pairs ++ (u, v) ∷ []) cycle
 IsCycle-from_least pairs u v cycle acyclic least =
     let back = IsPath-from_GoesBack pairs u v least.rest least.goes in
     let distinct : AllPairs (λ a b. a ≢ b) (v ∷ least.rest ++ u ∷ []) = distinct_path pairs acyclic v u (least.rest ++ u ∷ []) back in
@@ -47,11 +48,24 @@ IsCycle-from_least pairs u v cycle acyclic least =
     }
 
 -- a leaf under the pairs above it
-pub GrowsLeaves-leaf : (old new : List Node) (pairs : List Pair) (c : Child) (cycle : List ℕ) → new ≡ old ++ Leaf cycle ∷ [] → HasNoCycle (take c.above pairs) → IsLeastCycle (take c.above pairs) c.before c.after cycle → GrowsLeaves old new (place_of pairs c ∷ []) []
+pub GrowsLeaves-leaf : (old new : List Node) (pairs : List Pair) (c : Child) (cycle : List ℕ) → new ≡ old ++ Leaf cycle ∷ [] →
+    HasNoCycle (take c.above pairs) → IsLeastCycle (take c.above pairs) c.before c.after cycle → GrowsLeaves old new (place_of pairs c ∷ []) []
 GrowsLeaves-leaf old new pairs c cycle grown acyclic least = record {
   leaves = Leaf cycle ∷ [];
   grown = grown;
-  fills = ((IsCycle-from_least (take c.above pairs) c.before c.after cycle acyclic least, record { above = take c.above pairs; before = c.before; after = c.after; last = refl; least = least }), refl);
+  fills = (
+    (
+      IsCycle-from_least (take c.above pairs) c.before c.after cycle acyclic least,
+      record {
+        above = take c.above pairs;
+        before = c.before;
+        after = c.after;
+        last = refl;
+        least = least;
+      },
+    ),
+    refl,
+  );
 }
 
 -- no leaf yet
@@ -59,7 +73,8 @@ pub GrowsLeaves-none : (nodes : List Node) (places : List Place) → GrowsLeaves
 GrowsLeaves-none nodes places = record { leaves = []; grown = sym (append-nil nodes); fills = refl }
 
 -- one leaf more
-pub GrowsLeaves-more : (old mid new : List Node) (a : List Place) (place : Place) (left : List Place) → GrowsLeaves old mid a (place ∷ left) → GrowsLeaves mid new (place ∷ []) [] → GrowsLeaves old new a left
+pub GrowsLeaves-more : (old mid new : List Node) (a : List Place) (place : Place) (left : List Place) → GrowsLeaves old mid a (place ∷ left) →
+    GrowsLeaves mid new (place ∷ []) [] → GrowsLeaves old new a left
 GrowsLeaves-more old mid new a place left first second = record {
   leaves = first.leaves ++ second.leaves;
   grown = second.grown ∙ ap (λ (xs : List Node). xs ++ second.leaves) first.grown ∙ append_assoc old first.leaves second.leaves;
@@ -70,50 +85,63 @@ GrowsLeaves-more old mid new a place left first second = record {
 take_above : (pairs : List Pair) (more : List Pair) (above : ℕ) → above ≤ length pairs → take above (pairs ++ more) ≡ take above pairs
 take_above pairs more above le = take-append-le above pairs more le
 
-pub AreChildren-more : (n : ℕ) (pairs more : List Pair) (children : List Child) → AreChildren n pairs children → AreChildren n (pairs ++ more) children
-AreChildren-more n pairs more [] all = tt
-AreChildren-more n pairs more (c ∷ children) all =
+pub AreChildren-more : (n : ℕ) (base pairs more : List Pair) (children : List Child) → AreChildren n base pairs children →
+    AreChildren n base (pairs ++ more) children
+AreChildren-more n base pairs more [] all = tt
+AreChildren-more n base pairs more (c ∷ children) all =
     let e = take_above pairs more c.above all.0.within in (
       record {
+        base_in = all.0.base_in;
         within = omega (arith, all.0.within, length-append pairs more);
         before_in = all.0.before_in;
         after_in = all.0.after_in;
         differ = all.0.differ;
         fresh = subst (λ (xs : List Pair). ¬ Leads xs c.before c.after) (sym e) all.0.fresh;
       },
-      subst (λ (xs : List Pair). AreChildren n xs children) (sym e) all.1,
+      subst (λ (xs : List Pair). AreChildren n base xs children) (sym e) all.1,
     )
 
-pub places_of-more : (n : ℕ) (pairs more : List Pair) (children : List Child) → AreChildren n pairs children → places_of (pairs ++ more) children ≡ places_of pairs children
-places_of-more n pairs more [] all = refl
-places_of-more n pairs more (c ∷ children) all =
+pub places_of-more : (n : ℕ) (base pairs more : List Pair) (children : List Child) → AreChildren n base pairs children →
+    places_of (pairs ++ more) children ≡ places_of pairs children
+places_of-more n base pairs more [] all = refl
+places_of-more n base pairs more (c ∷ children) all =
     let e = take_above pairs more c.above all.0.within in
     ap (λ (xs : List Pair). (xs ++ (c.before, c.after) ∷ []) ∷ places_of xs children) e
 
 -- when the first child has become the place, the others wait under its pairs
-pub AreChildren-left : (n : ℕ) (pairs after : List Pair) (all rest : List Child) (c : Child) → AreChildren n pairs all → all ≡ c ∷ rest → after ≡ place_of pairs c → AreChildren n after rest
-AreChildren-left n pairs after all rest c are top is =
-    let each : AreChildren n pairs (c ∷ rest) = subst (λ (xs : List Child). AreChildren n pairs xs) top are in
-    subst (λ (xs : List Pair). AreChildren n xs rest) (sym is) (AreChildren-more n (take c.above pairs) ((c.before, c.after) ∷ []) rest each.1)
+pub AreChildren-left : (n : ℕ) (base pairs after : List Pair) (all rest : List Child) (c : Child) → AreChildren n base pairs all → all ≡ c ∷ rest →
+    after ≡ place_of pairs c →
+    AreChildren n base after rest
+AreChildren-left n base pairs after all rest c are top is =
+    let each : AreChildren n base pairs (c ∷ rest) = subst (λ (xs : List Child). AreChildren n base pairs xs) top are in
+    subst (λ (xs : List Pair). AreChildren n base xs rest) (sym is) (AreChildren-more n base (take c.above pairs) ((c.before, c.after) ∷ []) rest each.1)
 
-pub GrowsLeaves-place : (n : ℕ) (old mid new : List Node) (a : List Place) (pairs after : List Pair) (all rest : List Child) (c : Child) → AreChildren n pairs all → all ≡ c ∷ rest → GrowsLeaves old mid a (places_of pairs all) → after ≡ place_of pairs c → new ≡ mid → GrowsLeaves old new a (after ∷ places_of after rest)
-GrowsLeaves-place n old mid new a pairs after all rest c are top grown is same =
-    let each : AreChildren n pairs (c ∷ rest) = subst (λ (xs : List Child). AreChildren n pairs xs) top are in
+pub GrowsLeaves-place : (n : ℕ) (base : List Pair) (old mid new : List Node) (a : List Place) (pairs after : List Pair) (all rest : List Child) (c : Child) →
+    AreChildren n base pairs all → all ≡ c ∷ rest → GrowsLeaves old mid a (places_of pairs all) → after ≡ place_of pairs c → new ≡ mid →
+    GrowsLeaves old new a (after ∷ places_of after rest)
+GrowsLeaves-place n base old mid new a pairs after all rest c are top grown is same =
+    let each : AreChildren n base pairs (c ∷ rest) = subst (λ (xs : List Child). AreChildren n base pairs xs) top are in
     let rest_is : places_of after rest ≡ places_of (take c.above pairs) rest =
-    ap (λ (xs : List Pair). places_of xs rest) is ∙ places_of-more n (take c.above pairs) ((c.before, c.after) ∷ []) rest each.1 in
-    let before : GrowsLeaves old mid a (place_of pairs c ∷ places_of (take c.above pairs) rest) = subst (λ (xs : List Child). GrowsLeaves old mid a (places_of pairs xs)) top grown in
+    ap (λ (xs : List Pair). places_of xs rest) is ∙ places_of-more n base (take c.above pairs) ((c.before, c.after) ∷ []) rest each.1 in
+    let before : GrowsLeaves old mid a (place_of pairs c ∷ places_of (take c.above pairs) rest) = subst
+    (λ (xs : List Child). GrowsLeaves old mid a (places_of pairs xs)) top grown in
     subst (λ (xs : List Node). GrowsLeaves old xs a (after ∷ places_of after rest)) (sym same)
     (subst (λ (p : Place). GrowsLeaves old mid a (p ∷ places_of after rest)) (sym is)
     (subst (λ (ps : List Place). GrowsLeaves old mid a (place_of pairs c ∷ ps)) (sym rest_is) before))
 
 -- when it has become a leaf, they wait under the pairs above it
-pub AreChildren-back : (n : ℕ) (pairs after : List Pair) (all rest : List Child) (c : Child) → AreChildren n pairs all → all ≡ c ∷ rest → after ≡ take c.above pairs → AreChildren n after rest
-AreChildren-back n pairs after all rest c are top is =
-    let each : AreChildren n pairs (c ∷ rest) = subst (λ (xs : List Child). AreChildren n pairs xs) top are in
-    subst (λ (xs : List Pair). AreChildren n xs rest) (sym is) each.1
+pub AreChildren-back : (n : ℕ) (base pairs after : List Pair) (all rest : List Child) (c : Child) → AreChildren n base pairs all → all ≡ c ∷ rest →
+    after ≡ take c.above pairs →
+    AreChildren n base after rest
+AreChildren-back n base pairs after all rest c are top is =
+    let each : AreChildren n base pairs (c ∷ rest) = subst (λ (xs : List Child). AreChildren n base pairs xs) top are in
+    subst (λ (xs : List Pair). AreChildren n base xs rest) (sym is) each.1
 
-pub GrowsLeaves-back : (old mid new : List Node) (a : List Place) (pairs after : List Pair) (all rest : List Child) (c : Child) → all ≡ c ∷ rest → GrowsLeaves old mid a (places_of pairs all) → after ≡ take c.above pairs → GrowsLeaves mid new (place_of pairs c ∷ []) [] → GrowsLeaves old new a (places_of after rest)
+pub GrowsLeaves-back : (old mid new : List Node) (a : List Place) (pairs after : List Pair) (all rest : List Child) (c : Child) → all ≡ c ∷ rest →
+    GrowsLeaves old mid a (places_of pairs all) → after ≡ take c.above pairs → GrowsLeaves mid new (place_of pairs c ∷ []) [] →
+    GrowsLeaves old new a (places_of after rest)
 GrowsLeaves-back old mid new a pairs after all rest c top grown is leaf =
-    let before : GrowsLeaves old mid a (place_of pairs c ∷ places_of (take c.above pairs) rest) = subst (λ (xs : List Child). GrowsLeaves old mid a (places_of pairs xs)) top grown in
+    let before : GrowsLeaves old mid a (place_of pairs c ∷ places_of (take c.above pairs) rest) = subst
+    (λ (xs : List Child). GrowsLeaves old mid a (places_of pairs xs)) top grown in
     subst (λ (xs : List Pair). GrowsLeaves old new a (places_of xs rest)) (sym is)
     (GrowsLeaves-more old mid new a (place_of pairs c) (places_of (take c.above pairs) rest) before leaf)

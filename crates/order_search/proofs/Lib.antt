@@ -1,7 +1,10 @@
 pub mod Fills
 pub mod FreshPairs
-pub mod Refuting
-mod ChildLists
+pub mod Turned
+pub mod TwoTurns
 mod LeafFacts
+mod CursorFacts
+mod RankFacts
 mod SearchSteps
-mod SampleFacts
+pub mod TreeRefutes
+pub mod OneAnswer

@@ -1,6 +1,7 @@
 -- Leaves in a row: the children that close a cycle, up to the next one that doesn't.
 use Rattle.std.specs.Prelude.{◌≡◌, List, ◌++◌}
-use Rattle.order_search.specs.Trees.{Place, Fill, IsCycle, IsClosedByLast}
+use Rattle.order_search.specs.Trees.{Place, Fill, IsCycle}
+use Rattle.order_search.specs.Places.{IsClosedByLast}
 use Rattle.order_search.specs.declared.tree.Node.{Node}
 use Rattle.order_search.specs.declared.tree.Node.TheVariants.{Branch, Leaf, Unvisited}
 

@@ -1,14 +1,13 @@
--- Trees of places, seen as the list of their nodes, each followed by its children.
-use Rattle.std.specs.Prelude.{◌≡◌, ◌≢◌, ℕ, ◌+◌, ◌≤◌, List, [], ◌∷◌, ◌++◌, length, map, AllPairs}
-use Rattle.order_core.specs.Pairs.{Pair, IsPath, HasNoCycle}
-use Rattle.precedence_set.specs.LeastExtension.{IsLeastExtension}
-use Rattle.precedence_set.specs.LeastCycle.{IsLeastCycle}
-use Rattle.order_core.specs.Turns.{HasBothTags, child_pairs}
+-- Trees of places, seen as the list of their nodes, each followed by its children. Nothing here speaks of a search.
+use Rattle.std.specs.Prelude.{◌≡◌, ◌≢◌, ℕ, ◌+◌, ◌≤◌, List, [], ◌∷◌, ◌++◌, length, map, All, AllPairs, Contains}
+use Rattle.order_core.specs.Pairs.{Pair, IsPath}
+use Rattle.order_core.specs.Turns.{HasBothTags, old_routers, new_routers, child_pairs}
 use Rattle.order_core.specs.declared.turn.Turn.{Turn}
 use Rattle.order_search.specs.declared.tree.Node.{Node}
 use Rattle.order_search.specs.declared.tree.Node.TheVariants.{Branch, Leaf, Unvisited}
 
--- a place is told by the pairs that are assumed there, in the order in which they were assumed
+-- a place is told by the pairs that are assumed there, in the order in which they were assumed: first those of a
+-- base, which are assumed everywhere, and then one for each branch above
 abbrev pub Place : Type 0
 Place = List Pair
 
@@ -16,9 +15,9 @@ Place = List Pair
 abbrev pub Real : Type 1
 Real = ℕ → List Turn → Type 0
 
--- which address and turns are the ones to branch on where an order was asked
-abbrev pub Picked : Type 1
-Picked = List ℕ → ℕ → List Turn → Type 0
+-- what is said of each node at its place
+abbrev pub NodeFact : Type 1
+NodeFact = Place → Node → Type 0
 
 -- the places of a node's children: each assumes one pair besides
 abbrev pub places_below : Place → Node → List Place
@@ -28,13 +27,13 @@ places_below pairs Unvisited = []
 
 -- the nodes fill these places from the first on, each followed by its children; what P says holds of
 -- each node at its place; the places that are open at the end are the last argument
-abbrev pub Fill : (Place → Node → Type 0) → List Place → List Node → List Place → Type 0
+abbrev pub Fill : NodeFact → List Place → List Node → List Place → Type 0
 Fill P places [] left = places ≡ left
 Fill P [] (node ∷ nodes) left = ⊥
 Fill P (place ∷ places) (node ∷ nodes) left = P place node × Fill P (places_below place node ++ places) nodes left
 
--- a cycle of at least two distinct routers: each of them is assumed before the next, and the last before the first
-pub record IsCycle (pairs : List Pair) (cycle : List ℕ) : Type 0 where
+-- a cycle of at least two distinct numbers: each of them is assumed before the next, and the last before the first
+pub record IsCycle (pairs : Place) (cycle : List ℕ) : Type 0 where
   pub first : ℕ
   pub others : List ℕ
   pub begins : cycle ≡ first ∷ others
@@ -49,38 +48,20 @@ IsTreeNode real pairs (Branch address turns) = real address turns × HasBothTags
 IsTreeNode real pairs (Leaf cycle) = IsCycle pairs cycle
 IsTreeNode real pairs Unvisited = Unit {0}
 
--- the pairs have no cycle, and the address and turns are picked for their least extension
-pub record IsPickedAt (picked : Picked) (n : ℕ) (pairs : List Pair) (address : ℕ) (turns : List Turn) : Type 0 where
-  pub acyclic : HasNoCycle pairs
-  pub order : List ℕ
-  pub least : IsLeastExtension n pairs order
-  pub pick : picked order address turns
-
--- a branch is earned where its address and turns are picked for the least extension of its pairs
-abbrev pub IsEarned : Picked → ℕ → Place → Node → Type 0
-IsEarned picked n pairs (Branch address turns) = IsPickedAt picked n pairs address turns
-IsEarned picked n pairs (Leaf cycle) = Unit {0}
-IsEarned picked n pairs Unvisited = Unit {0}
-
--- the cycle is the one that the last of the pairs closes
-pub record IsClosedByLast (pairs : List Pair) (cycle : List ℕ) : Type 0 where
-  pub above : List Pair
-  pub before : ℕ
-  pub after : ℕ
-  pub last : pairs ≡ above ++ (before, after) ∷ []
-  pub least : IsLeastCycle above before after cycle
-
--- a leaf names the cycle that its last pair closes
-abbrev pub NamesLeastCycle : Place → Node → Type 0
-NamesLeastCycle pairs (Branch address turns) = Unit {0}
-NamesLeastCycle pairs (Leaf cycle) = IsClosedByLast pairs cycle
-NamesLeastCycle pairs Unvisited = Unit {0}
-
 -- a node is visited
 abbrev pub IsVisited : Node → Type 0
 IsVisited (Branch address turns) = Unit {0}
 IsVisited (Leaf cycle) = Unit {0}
 IsVisited Unvisited = ⊥
+
+-- the nodes are a tree: they fill the place that assumes the base alone, and no place is open
+abbrev pub IsTree : NodeFact → List Pair → List Node → Type 0
+IsTree P base nodes = Fill P (base ∷ []) nodes []
+
+-- a tree is closed where it has no unvisited place
+pub record IsClosed (P : NodeFact) (base : List Pair) (nodes : List Node) : Type 0 where
+  pub tree : IsTree P base nodes
+  pub visited : All IsVisited nodes
 
 -- a node is a branch with one child, or no branch
 abbrev pub HasOneChild : Node → Type 0
@@ -98,3 +79,11 @@ branches_at Unvisited = 0
 abbrev pub branch_count : List Node → ℕ
 branch_count [] = 0
 branch_count (node ∷ nodes) = branches_at node + branch_count nodes
+
+-- a branch of the nodes has an Old turn of the pair's first number and a New turn of its second
+pub record IsTurned (nodes : List Node) (pair : Pair) : Type 0 where
+  pub address : ℕ
+  pub turns : List Turn
+  pub branch : Contains nodes (Branch address turns)
+  pub old : Contains (old_routers turns) pair.0
+  pub new : Contains (new_routers turns) pair.1

@@ -1,50 +1,58 @@
-ghost use Rattle.std.specs.Prelude.{◌≡◌, ℕ, List, ◌+◌, ◌≤◌, ◌∷◌, [], ◌++◌, ◌↔◌, IfOk, OnOk, length, map, replicate, reverse};
+ghost use Rattle.std.specs.Prelude.{◌≡◌, ℕ, List, ◌+◌, ◌<◌, ◌≤◌, ◌∷◌, [], ◌++◌, ◌↔◌, IfOk, OnOk, length, map, replicate, vec_len, Contains};
 ghost use Rattle.std.specs.Bool.{OnTrue, OnFalse};
-ghost use Rattle.precedence_set.specs.LeastExtension.{IsLeastExtension};
-ghost use Rattle.order_core.specs.Pairs.{AreBelow, HasNoCycle};
-ghost use Rattle.order_core.specs.Turns.{child_pairs};
-ghost use Rattle.order_search.specs.Oracles.{Break};
-ghost use Rattle.order_search.specs.Answers.{IsFound, RefutesAll};
-ghost use Rattle.order_search.specs.Waiting.{child_of, places_of, children_below, AreChildren, AreFresh};
-ghost use Rattle.order_search.specs.Leaves.{GrowsLeaves};
+ghost use Rattle.order_core.specs.Pairs.{Pair};
+ghost use Rattle.order_core.specs.Rankings.{IsRanking};
+ghost use Rattle.order_core.specs.Turns.{child_pairs, new_routers};
 ghost use Rattle.order_core.specs.declared.turn.Turn.{Turn};
+ghost use Rattle.order_search.specs.Meanings.{Break};
+ghost use Rattle.order_search.specs.Places.{IsLayered};
+ghost use Rattle.order_search.specs.Answers.{IsFound};
+ghost use Rattle.order_search.specs.Waiting.{child_of, places_of, children_below, IsUnder};
+ghost use Rattle.order_search.specs.Leaves.{GrowsLeaves};
+ghost use Rattle.order_search.specs.Steps.{AreWavesOf};
 
-use crate::children::{Child, push_children};
-use crate::found::{Found, Sequence};
+use crate::assumptions::Assumptions;
+use crate::found::Found;
 use crate::oracle::{Answer, Oracle};
 use crate::places::next_place;
 use crate::tree::{Node, Tree};
-use order_core::{Turn, Turns};
-use precedence_set::Precedences;
+use crate::waiting::Waiting;
+use order_core::{Turn, Turns, Waves};
 use std::alloc::{AllocError, Global};
 
-/// Searches for an order that is good, place by place: at a place it asks the oracle for the least extension
-/// of the assumed pairs, and branches on what breaks it, until the budget of branches is spent. After want of
-/// memory only the oracle may have changed.
+/// Searches for a ranking that is good, place by place: at a place it asks the oracle for the layered list of the
+/// assumed pairs, and branches on what breaks it, until the budget of branches is spent. After want of memory only
+/// the oracle may have changed.
 pub fn search<Q: Oracle>(alloc: Global, oracle: &mut Q, budget: u32) -> Result<Found, AllocError>
     requires budget_some { 1 ≤ budget }
     requires size_some { 1 ≤ Q.size oracle.old }
     requires size_few { Q.size oracle.old ≤ 1000 }
-    ensures found { IfOk result (IsFound (Q.good oracle.old) (Q.real oracle.old) (Q.picked oracle.old) (Q.size oracle.old) budget) }
-    ensures refuted { IfOk result (RefutesAll (Q.good oracle.old) (Q.size oracle.old)) }
+    ensures found { IfOk result (IsFound (record {
+      good = Q.good oracle.old;
+      real = Q.real oracle.old;
+      picked = Q.picked oracle.old;
+      size = Q.size oracle.old;
+      base = Q.base oracle.old;
+    }) budget) }
     ensures size_stays { Q.size oracle.new ≡ Q.size oracle.old }
-    ensures good_stays { (o : List ℕ) → Q.good oracle.new o ↔ Q.good oracle.old o }
+    ensures base_stays { Q.base oracle.new ≡ Q.base oracle.old }
+    ensures good_stays { (ranks : List ℕ) → Q.good oracle.new ranks ↔ Q.good oracle.old ranks }
     ensures real_stays { (a : ℕ) (t : List Turn) → Q.real oracle.new a t ↔ Q.real oracle.old a t }
-    ensures picked_stays { (o : List ℕ) (a : ℕ) (t : List Turn) → Q.picked oracle.new o a t ↔ Q.picked oracle.old o a t }
+    ensures picked_stays { (ranks : List ℕ) (a : ℕ) (t : List Turn) → Q.picked oracle.new ranks a t ↔ Q.picked oracle.old ranks a t }
 {
     let size = oracle.size();
-    let mut order = vec![in alloc; 0; size as usize]?;
-    let mut held = Precedences::new(alloc, size)?;
+    let mut held = Assumptions::new(alloc, size, oracle.base())?;
+    let mut ranks = vec![in alloc; 0; size as usize]?;
     let mut tree = Tree::new(alloc)?;
-    let mut waiting = Vec::new(alloc);
+    let mut waiting = Waiting::new(alloc);
     let mut branches = 0;
     loop {
-        let address = match visit(oracle, &mut held, &mut order) {
-            Answer::Fine => return found_order(tree, order),
+        let address = match visit(oracle, &mut held, &mut ranks) {
+            Answer::Fine => return found_waves(alloc, tree, held, ranks),
             Answer::Breaks { address } => address,
         };
         if branches == budget {
-            return stopped(tree, &waiting);
+            return stopped(tree, waiting);
         }
         branches += 1;
         let turns = oracle.turns();
@@ -54,39 +62,55 @@ pub fn search<Q: Oracle>(alloc: Global, oracle: &mut Q, budget: u32) -> Result<F
     }
 }
 
-/// Asks the oracle for the least extension of the assumed pairs.
-fn visit<Q: Oracle>(oracle: &mut Q, held: &mut Precedences, order: &mut [u32]) -> Answer
-    requires order_length { length order.old ≡ held.old.routers }
+/// Asks the oracle for the layered list of the assumed pairs.
+fn visit<Q: Oracle>(oracle: &mut Q, held: &mut Assumptions, ranks: &mut [u32]) -> Answer
+    requires ranks_length { length ranks.old ≡ held.old.routers }
     requires size { Q.size oracle.old ≡ held.old.routers }
+    requires base { (pair : Pair) → Contains (Q.base oracle.old) pair → Contains held.old.pairs pair }
     ensures same { held.new ≡ held.old }
-    ensures least { IsLeastExtension held.old.routers held.old.pairs order.new }
-    ensures acyclic { HasNoCycle held.old.pairs }
-    ensures fine { result ≡ Answer.Fine → Q.good oracle.old order.new }
+    ensures layered { IsLayered held.old.routers held.old.pairs ranks.new }
+    ensures fine { result ≡ Answer.Fine → Q.good oracle.old ranks.new }
     ensures breaks { (address : ℕ) → result ≡ Answer.Breaks address
-        → Break (Q.real oracle.old) (Q.picked oracle.old) (Q.size oracle.old) order.new address (Q.shown oracle.new) }
+        → Break (Q.real oracle.old) (Q.picked oracle.old) (Q.size oracle.old) ranks.new address (Q.shown oracle.new) }
     ensures size_stays { Q.size oracle.new ≡ Q.size oracle.old }
-    ensures good_stays { (o : List ℕ) → Q.good oracle.new o ↔ Q.good oracle.old o }
+    ensures base_stays { Q.base oracle.new ≡ Q.base oracle.old }
+    ensures good_stays { (ranks : List ℕ) → Q.good oracle.new ranks ↔ Q.good oracle.old ranks }
     ensures real_stays { (a : ℕ) (t : List Turn) → Q.real oracle.new a t ↔ Q.real oracle.old a t }
-    ensures picked_stays { (o : List ℕ) (a : ℕ) (t : List Turn) → Q.picked oracle.new o a t ↔ Q.picked oracle.old o a t }
+    ensures picked_stays { (ranks : List ℕ) (a : ℕ) (t : List Turn) → Q.picked oracle.new ranks a t ↔ Q.picked oracle.old ranks a t }
 {
-    held.least_extension(order);
-    oracle.ask(order)
+    held.layers(ranks);
+    oracle.ask(ranks)
 }
 
-/// The order that was found, with the nodes up to its place.
-fn found_order(mut tree: Tree, order: Vec<u32>) -> Result<Found, AllocError>
-    ensures { IfOk result (λ found. found ≡ Found.Order order.items (tree ++ Node.Unvisited ∷ [])) }
+/// The waves that were found, with their pairs, the chain, and the nodes up to their place.
+fn found_waves(
+    alloc: Global,
+    mut tree: Tree,
+    mut held: Assumptions,
+    ranks: Vec<u32>,
+) -> Result<Found, AllocError>
+    requires some { 0 < held.routers }
+    requires few { held.routers ≤ 1000 }
+    requires layered { IsLayered held.routers held.pairs ranks.items }
+    ensures { IfOk result (AreWavesOf held.routers held.pairs ranks.items (tree ++ Node.Unvisited ∷ [])) }
 {
+    let waves = Waves::from_ranks(alloc, &ranks)?;
     tree.push(Node::Unvisited)?;
-    let order = Sequence::from_vec(order);
-    Ok(Found::Order { order, trail: tree })
+    let chain = held.chain(ranks);
+    Ok(Found::Waves {
+        waves,
+        pairs: held.into_pairs(),
+        chain,
+        trail: tree,
+    })
 }
 
 /// The tree where the budget is spent: the place that was asked stays unvisited, and so do those that wait.
-fn stopped(mut tree: Tree, waiting: &[Child]) -> Result<Found, AllocError>
-    ensures { IfOk result (λ found. found ≡ Found.Spent (tree ++ replicate (length waiting.now + 1) Node.Unvisited)) }
+fn stopped(mut tree: Tree, mut waiting: Waiting) -> Result<Found, AllocError>
+    ensures { IfOk result (λ found. found ≡ Found.Spent (tree ++ replicate (length waiting + 1) Node.Unvisited)) }
 {
-    leave_unvisited(&mut tree, waiting.len() + 1)?;
+    tree.push(Node::Unvisited)?;
+    leave_unvisited(&mut tree, &mut waiting)?;
     Ok(Found::Spent { tree })
 }
 
@@ -94,25 +118,25 @@ fn stopped(mut tree: Tree, waiting: &[Child]) -> Result<Found, AllocError>
 fn go_below(
     alloc: Global,
     tree: &mut Tree,
-    held: &mut Precedences,
-    waiting: &mut Vec<Child>,
+    held: &mut Assumptions,
+    waiting: &mut Waiting,
     address: u32,
     turns: &[Turn],
 ) -> Result<bool, AllocError>
     requires few { held.old.routers ≤ 1000 }
-    requires fresh { AreFresh held.old.routers held.old.pairs }
-    requires children { AreChildren held.old.routers held.old.pairs
-        (children_below held.old.pairs turns.now (reverse waiting.old.items)) }
+    requires some { 0 < length (new_routers turns.now) }
+    requires stands { (base : List Pair) × IsUnder held.old.routers base held.old.pairs
+        (children_below held.old.pairs turns.now waiting.old) }
     ensures routers { held.new.routers ≡ held.old.routers }
-    ensures fresh { OnOk result (AreFresh held.new.routers held.new.pairs) }
-    ensures children { OnOk result (AreChildren held.new.routers held.new.pairs (reverse waiting.new.items)) }
+    ensures stands { OnOk result ((base : List Pair) → IsUnder held.old.routers base held.old.pairs
+        (children_below held.old.pairs turns.now waiting.old) → IsUnder held.new.routers base held.new.pairs waiting.new) }
     ensures found { IfOk result (λ found. OnTrue found (GrowsLeaves (tree.old ++ Node.Branch address turns.now ∷ []) tree.new
-        (places_of held.old.pairs (children_below held.old.pairs turns.now (reverse waiting.old.items)))
-        (held.new.pairs ∷ places_of held.new.pairs (reverse waiting.new.items)))) }
+        (places_of held.old.pairs (children_below held.old.pairs turns.now waiting.old))
+        (held.new.pairs ∷ places_of held.new.pairs waiting.new))) }
     ensures none { IfOk result (λ found. OnFalse found (GrowsLeaves (tree.old ++ Node.Branch address turns.now ∷ []) tree.new
-        (places_of held.old.pairs (children_below held.old.pairs turns.now (reverse waiting.old.items))) [])) }
+        (places_of held.old.pairs (children_below held.old.pairs turns.now waiting.old)) [])) }
 {
-    branch_on(alloc, tree, waiting, address, turns, held.mark())?;
+    branch_on(alloc, tree, waiting, address, turns, held.count())?;
     next_place(alloc, tree, held, waiting)
 }
 
@@ -120,25 +144,25 @@ fn go_below(
 fn branch_on(
     alloc: Global,
     tree: &mut Tree,
-    waiting: &mut Vec<Child>,
+    waiting: &mut Waiting,
     address: u32,
     turns: &[Turn],
     above: u32,
 ) -> Result<(), AllocError>
+    requires some { 0 < length (new_routers turns.now) }
     ensures node { OnOk result (tree.new ≡ tree.old ++ Node.Branch address turns.now ∷ []) }
-    ensures children { OnOk result (reverse waiting.new.items
-        ≡ map (child_of above) (child_pairs turns.now) ++ reverse waiting.old.items) }
+    ensures children { OnOk result (waiting.new ≡ map (child_of above) (child_pairs turns.now) ++ waiting.old) }
 {
-    push_children(waiting, turns, above)?;
+    waiting.push(alloc, turns, above)?;
     let turns = Turns::from_vec(Vec::from_slice(alloc, turns)?);
     tree.push(Node::Branch { address, turns })
 }
 
-/// Adds so many unvisited places.
-fn leave_unvisited(tree: &mut Tree, count: usize) -> Result<(), AllocError>
-    ensures { OnOk result (tree.new ≡ tree.old ++ replicate count Node.Unvisited) }
+/// Adds an unvisited place for each child that waits.
+fn leave_unvisited(tree: &mut Tree, waiting: &mut Waiting) -> Result<(), AllocError>
+    ensures { OnOk result (tree.new ≡ tree.old ++ replicate (length waiting.old) Node.Unvisited) }
 {
-    for _ in 0..count {
+    while let Some(_child) = waiting.next() {
         tree.push(Node::Unvisited)?;
     }
     Ok(())

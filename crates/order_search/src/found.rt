@@ -1,56 +1,55 @@
 ghost use Rattle.std.specs.Prelude.{◌≡◌};
 
-use crate::tree::Tree;
+use crate::tree::{Cycle, Tree};
+use order_core::Waves;
 use std::marker::Model;
 
-/// Routers in a row.
+/// Pairs of numbers, each assumed with its first number before its second.
 #[derive(Debug, Drop)]
-pub struct Sequence {
-    all: Vec<u32>,
+pub struct Pairs {
+    all: Vec<(u32, u32)>,
 }
 
-impl Model for Sequence {
-    ghost use Rattle.std.specs.Prelude.{List, ℕ};
+impl Model for Pairs {
+    ghost use Rattle.std.specs.Prelude.{List};
+    ghost use Rattle.order_core.specs.Pairs.{Pair};
 
-    ghost Value = { List ℕ };
+    ghost Value = { List Pair };
 
     ghost view = { λ x. x.all.items };
 }
 
-impl Sequence {
-    /// These routers.
-    pub fn from_vec(all: Vec<u32>) -> Sequence
+impl Pairs {
+    /// These pairs.
+    pub fn from_vec(all: Vec<(u32, u32)>) -> Pairs
         ensures { result ≡ all.items }
     {
-        Sequence { all }
+        Pairs { all }
     }
 
-    /// The routers in order.
-    pub fn as_slice(&self) -> &[u32]
+    /// The pairs in the order in which they were assumed.
+    pub fn as_slice(&self) -> &[(u32, u32)]
         ensures { result.now ≡ self.now }
     {
         self.all.as_slice()
-    }
-
-    /// The vector of the routers.
-    pub fn into_vec(self) -> Vec<u32>
-        ensures { result.items ≡ self }
-    {
-        self.all
     }
 }
 
 /// What the search found.
 #[derive(Debug, Drop)]
 pub enum Found {
-    /// A good order.
-    Order {
-        /// The order.
-        order: Sequence,
-        /// The nodes of a tree up to the place whose least extension it is.
+    /// A good ranking.
+    Waves {
+        /// The ranking: the layers of the pairs.
+        waves: Waves,
+        /// The pairs that are assumed at its place: those of the base, and one for each branch above.
+        pairs: Pairs,
+        /// A number of each wave, each assumed before the next.
+        chain: Cycle,
+        /// The nodes of a tree up to the place.
         trail: Tree,
     },
-    /// No order is good.
+    /// No ranking is good.
     Refuted {
         /// A closed tree.
         tree: Tree,

@@ -1,11 +1,13 @@
-ghost use Rattle.std.specs.Prelude.{◌≡◌, ◌≤◌, ◌∷◌, [], ◌++◌, IfOk, OnOk, reverse, take};
+ghost use Rattle.std.specs.Prelude.{◌≡◌, List, ◌≤◌, ◌∷◌, [], IfOk, OnOk, take};
 ghost use Rattle.std.specs.Bool.{OnTrue, OnFalse};
-ghost use Rattle.order_search.specs.Waiting.{place_of, places_of, IsChild, AreChildren, AreFresh};
+ghost use Rattle.order_core.specs.Pairs.{Pair};
+ghost use Rattle.order_search.specs.Waiting.{place_of, places_of, AreFresh, IsUnder};
 ghost use Rattle.order_search.specs.Leaves.{GrowsLeaves};
 
-use crate::children::Child;
-use crate::tree::{Cycle, Node, Tree};
-use precedence_set::{Added, Precedences};
+use crate::assumptions::Assumptions;
+use crate::child::Child;
+use crate::tree::{Node, Tree};
+use crate::waiting::Waiting;
 use std::alloc::{AllocError, Global};
 
 /// Goes on to the next child whose pair closes no cycle, and assumes its pair; those before it are leaves.
@@ -13,22 +15,20 @@ use std::alloc::{AllocError, Global};
 pub fn next_place(
     alloc: Global,
     tree: &mut Tree,
-    held: &mut Precedences,
-    waiting: &mut Vec<Child>,
+    held: &mut Assumptions,
+    waiting: &mut Waiting,
 ) -> Result<bool, AllocError>
     requires few { held.old.routers ≤ 1000 }
-    requires fresh { AreFresh held.old.routers held.old.pairs }
-    requires children { AreChildren held.old.routers held.old.pairs (reverse waiting.old.items) }
+    requires stands { (base : List Pair) × IsUnder held.old.routers base held.old.pairs waiting.old }
     ensures routers { held.new.routers ≡ held.old.routers }
-    ensures fresh { OnOk result (AreFresh held.new.routers held.new.pairs) }
-    ensures children { OnOk result (AreChildren held.new.routers held.new.pairs (reverse waiting.new.items)) }
+    ensures stands { OnOk result ((base : List Pair) → IsUnder held.old.routers base held.old.pairs waiting.old
+        → IsUnder held.new.routers base held.new.pairs waiting.new) }
     ensures found { IfOk result (λ found. OnTrue found (GrowsLeaves tree.old tree.new
-        (places_of held.old.pairs (reverse waiting.old.items))
-        (held.new.pairs ∷ places_of held.new.pairs (reverse waiting.new.items)))) }
+        (places_of held.old.pairs waiting.old) (held.new.pairs ∷ places_of held.new.pairs waiting.new))) }
     ensures none { IfOk result (λ found. OnFalse found (GrowsLeaves tree.old tree.new
-        (places_of held.old.pairs (reverse waiting.old.items)) [])) }
+        (places_of held.old.pairs waiting.old) [])) }
 {
-    while let Some(child) = waiting.pop() {
+    while let Some(child) = waiting.next() {
         if enter(alloc, tree, held, child)? {
             return Ok(true);
         }
@@ -41,26 +41,23 @@ pub fn next_place(
 fn enter(
     alloc: Global,
     tree: &mut Tree,
-    held: &mut Precedences,
+    held: &mut Assumptions,
     child: Child,
 ) -> Result<bool, AllocError>
     requires few { held.old.routers ≤ 1000 }
-    requires fresh { AreFresh held.old.routers held.old.pairs }
-    requires child { IsChild held.old.routers held.old.pairs child }
+    requires stands { (base : List Pair) × IsUnder held.old.routers base held.old.pairs (child ∷ []) }
     ensures routers { held.new.routers ≡ held.old.routers }
-    ensures fresh { OnOk result (AreFresh held.new.routers held.new.pairs) }
+    ensures fresh { OnOk result ((base : List Pair) → IsUnder held.old.routers base held.old.pairs (child ∷ [])
+        → AreFresh held.new.routers base held.new.pairs) }
     ensures place { IfOk result (λ found. OnTrue found (held.new.pairs ≡ place_of held.old.pairs child)) }
     ensures same { IfOk result (λ found. OnTrue found (tree.new ≡ tree.old)) }
     ensures back { IfOk result (λ found. OnFalse found (held.new.pairs ≡ take child.above held.old.pairs)) }
     ensures leaf { IfOk result (λ found. OnFalse found
         (GrowsLeaves tree.old tree.new (place_of held.old.pairs child ∷ []) [])) }
 {
-    held.undo_to(child.above);
-    held.reserve(1)?;
-    match held.add(child.before, child.after) {
-        Added::Kept => Ok(true),
-        Added::Closes => {
-            let cycle = Cycle::from_vec(Vec::from_slice(alloc, held.cycle())?);
+    match held.assume(alloc, child)? {
+        None => Ok(true),
+        Some(cycle) => {
             tree.push(Node::Leaf { cycle })?;
             Ok(false)
         }

@@ -4,7 +4,8 @@ use order_core::Turns;
 use std::alloc::{AllocError, Global};
 use std::marker::Model;
 
-/// Routers each of which is assumed before the next, and the last before the first.
+/// Numbers each of which is assumed before the next: round a cycle, in which the last is assumed before the first, or
+/// along a chain.
 #[derive(Debug, Drop)]
 pub struct Cycle {
     all: Vec<u32>,
@@ -19,21 +20,21 @@ impl Model for Cycle {
 }
 
 impl Cycle {
-    /// The cycle of these routers.
+    /// These numbers.
     pub fn from_vec(all: Vec<u32>) -> Cycle
         ensures { result ≡ all.items }
     {
         Cycle { all }
     }
 
-    /// The routers in order.
+    /// The numbers in order.
     pub fn as_slice(&self) -> &[u32]
         ensures { result.now ≡ self.now }
     {
         self.all.as_slice()
     }
 
-    /// The vector of the routers.
+    /// The vector of the numbers.
     pub fn into_vec(self) -> Vec<u32>
         ensures { result.items ≡ self }
     {
@@ -44,7 +45,7 @@ impl Cycle {
 /// A node of a tree of places.
 #[derive(Debug, Drop)]
 pub enum Node {
-    /// A place where an address and the turns of its ring break the least extension.
+    /// A place where an address and the turns of its ring break the layered list.
     Branch {
         /// The address that the ring loops for.
         address: u32,

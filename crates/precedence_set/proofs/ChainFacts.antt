@@ -9,7 +9,7 @@ use Rattle.order_core.specs.Least.{IsLowest}
 use Rattle.order_core.specs.Pairs.{Pair, AreBelow}
 use Rattle.order_core.specs.Rankings.{rank_of, wave_count}
 use Rattle.order_core.proofs.WaveLists.{rank_below_count, rank_stands, count_le_length}
-use Rattle.precedence_set.specs.Waits.{pair_at}
+use Rattle.precedence_set.specs.Successors.{pair_at}
 use Rattle.precedence_set.specs.Layers.{AreLayers, IsChain, IsInLayer, IsBeforeInLayer}
 use Rattle.precedence_set.proofs.LayerFacts.{pair_below, layers_rank}
 

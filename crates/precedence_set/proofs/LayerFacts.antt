@@ -7,7 +7,7 @@ use Rattle.std.proofs.lemmas.List.Elements.{All-contains, Contains-get_or}
 use Rattle.order_core.specs.Pairs.{Pair, AreBelow}
 use Rattle.order_core.specs.Rankings.{IsRanking, KeepsPairs, rank_of, wave_count}
 use Rattle.precedence_set.specs.Layers.{AreLayers, IsChain}
-use Rattle.precedence_set.specs.Waits.{pair_at}
+use Rattle.precedence_set.specs.Successors.{pair_at}
 
 -- the routers of a pair are below n
 pub pair_below : (n : ℕ) (pairs : List Pair) → AreBelow n pairs → (u v : ℕ) → Contains pairs (u, v) → (u < n) × (v < n)

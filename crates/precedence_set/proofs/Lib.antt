@@ -1,12 +1,10 @@
-pub mod Orders
 mod SuccessorFacts
 mod MarkedLinks
-mod MarkFacts
-mod WaitFacts
-mod StageFacts
+mod ReachFacts
 mod TraceFacts
 pub mod LayerFacts
 mod SortFacts
 mod ListFacts
 mod RaiseFacts
+mod LayerSteps
 mod ChainFacts

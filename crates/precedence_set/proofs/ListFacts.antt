@@ -11,8 +11,7 @@ use Rattle.std.proofs.lemmas.Map.Views.{list_any-from_Contains}
 use Rattle.order_core.specs.Pairs.{Pair, IsPath, AreBelow, HasNoCycle}
 use Rattle.order_core.proofs.DistinctLists.{AllPairs-cons, length-le_from_distinct, Contains-from_distinct, place_from_Contains}
 use Rattle.order_core.proofs.Paths.{length-path}
-use Rattle.precedence_set.specs.Waits.{pair_at}
-use Rattle.precedence_set.specs.Successors.{IsFirstFrom}
+use Rattle.precedence_set.specs.Successors.{pair_at, IsFirstFrom}
 use Rattle.precedence_set.specs.Sorting.{StandsBelow, AreCounted, IsGone, IsGoneBy, IsListing, IsTopological}
 use Rattle.precedence_set.proofs.LayerFacts.{pair_below}
 use Rattle.precedence_set.proofs.SortFacts.{AreCounted-same, AreCounted-gone, left_none, left_some}

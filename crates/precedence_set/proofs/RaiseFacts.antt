@@ -7,8 +7,7 @@ use Rattle.std.proofs.lemmas.List.{get_or-set_same, get_or-set_other, get_or_def
 use Rattle.std.proofs.lemmas.List.Elements.{Contains-get_or}
 use Rattle.order_core.specs.Pairs.{Pair, AreBelow}
 use Rattle.order_core.specs.Rankings.{rank_of}
-use Rattle.precedence_set.specs.Waits.{pair_at}
-use Rattle.precedence_set.specs.Successors.{IsFirstFrom}
+use Rattle.precedence_set.specs.Successors.{pair_at, IsFirstFrom}
 use Rattle.precedence_set.specs.Layers.{AreLayers}
 use Rattle.precedence_set.specs.Sorting.{IsTopological}
 use Rattle.precedence_set.proofs.LayerFacts.{pair_below}

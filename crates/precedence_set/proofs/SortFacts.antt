@@ -4,7 +4,7 @@ use Rattle.std.proofs.lemmas.Bool.{eq-eqb, ne_eqb}
 use Rattle.std.proofs.lemmas.Bool.Decides.{eqb_tells}
 use Rattle.std.proofs.lemmas.List.{get_or-set_same, get_or-set_other}
 use Rattle.order_core.specs.Pairs.{Pair}
-use Rattle.precedence_set.specs.Waits.{pair_at}
+use Rattle.precedence_set.specs.Successors.{pair_at}
 use Rattle.precedence_set.specs.Sorting.{left_into, AreCounted}
 
 -- Counts

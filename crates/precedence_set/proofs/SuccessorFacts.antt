@@ -8,8 +8,7 @@ use Rattle.std.proofs.lemmas.Bool.{cases_lt, eq-eqb, eqb-true, eqb-false}
 use Rattle.link_trail.specs.Lists.{IsNext, first_of, list_at}
 use Rattle.order_core.specs.Pairs.{Pair}
 use Rattle.order_core.specs.Marks.{IsMarked}
-use Rattle.precedence_set.specs.Waits.{pair_at}
-use Rattle.precedence_set.specs.Successors.{numbers_from, AreSuccessors, IsFirstFrom, IsAtMost}
+use Rattle.precedence_set.specs.Successors.{pair_at, numbers_from, AreSuccessors, IsFirstFrom, IsAtMost}
 
 pub numbers_from-append : (u s : ℕ) (xs ys : List Pair) → numbers_from u s (xs ++ ys) ≡ numbers_from u s xs ++ numbers_from u (s + length xs) ys
 numbers_from-append u s [] ys = let e : s + 0 ≡ s = omega arith in ap (λ (k : ℕ). numbers_from u k ys) (sym e)

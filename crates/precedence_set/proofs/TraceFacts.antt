@@ -1,65 +1,171 @@
--- The way back from v to u, router by router.
-use Rattle.std.proofs.Common.{◌≡◌, ◌≢◌, ℕ, ◌<◌, ◌≤◌, List, [], ◌∷◌, ◌++◌, length, length-append, take, set, Bool, arith, subst, sym, refl, ap, ◌∙◌}
+-- The walk from v that looks for u: the path on which it stands, and the routers from which it hasn't come back.
+use Rattle.std.proofs.Common.{◌≡◌, ◌≢◌, ℕ, zero, suc, ◌+◌, ◌-◌, ◌*◌, ◌<◌, ◌≤◌, inl, inr, List, [], ◌∷◌, length, length-set, get_or, set, take, Bool, true, false, Option, Some, None}
+use Rattle.std.proofs.Common.{arith, subst, sym, refl, ap, ◌∙◌, below_more}
 use Rattle.std.specs.List.{Contains}
-use Rattle.std.proofs.lemmas.List.Elements.{All-contains}
+use Rattle.std.specs.Option.{IfSome, IfNone, OnSome}
+use Rattle.std.proofs.lemmas.List.{get_or-set_same, get_or-set_other, get_or-take, get_or_default, length-take-le}
+use Rattle.std.proofs.lemmas.List.Elements.{All-contains, All-cons}
+use Rattle.std.proofs.lemmas.Bool.{cases_lt, cases_eq, false≢true}
 use Rattle.order_core.specs.Pairs.{Pair, Reaches, IsPath, AreBelow, HasNoCycle}
-use Rattle.precedence_set.specs.LeastCycle.{IsLowestBack, GoesBack, IsLeastCycle}
 use Rattle.order_core.specs.Marks.{IsMarked}
-use Rattle.order_core.proofs.Paths.{IsPath-append, length-path}
+use Rattle.order_core.proofs.DistinctLists.{AllPairs-cons, length-le_from_distinct}
+use Rattle.order_core.proofs.Paths.{Reaches-itself, Reaches-step, Reaches-trans, Leads-step}
+use Rattle.precedence_set.specs.LeastCycle.{GoesBack, IsLeastCycle}
+use Rattle.precedence_set.specs.Marks.{marked_count}
 
--- the way back as far as it has come: from x over these routers, the last of them `last`
-abbrev pub WentBack : List Pair → ℕ → ℕ → List ℕ → ℕ → Type 0
-WentBack pairs u x [] last = x ≡ last
-WentBack pairs u x (w ∷ rest) last = (w ≢ u) × IsLowestBack pairs u x w × WentBack pairs u w rest last
+-- w is assumed after x, and no marked router of a lower number is
+pub record IsLowestAhead (pairs : List Pair) (marks : List Bool) (x w : ℕ) : Type 0 where
+  pub follows : Contains pairs (x, w)
+  pub lowest : (q : ℕ) → Contains pairs (x, q) → IsMarked marks q → w ≤ q
 
--- the cycle as far as it is written
-pub record IsTraced (pairs : List Pair) (u v last : ℕ) (cycle : List ℕ) : Type 0 where
-  pub rest : List ℕ
-  pub begins : cycle ≡ u ∷ v ∷ rest
-  pub went : WentBack pairs u v rest last
+-- the walk stands on a path of distinct routers that begins with u and v, and from v on each of them is the lowest
+-- marked one after the router before it; what reaches u is marked, and v isn't where only u is left of the path
+pub record IsWalking (n : ℕ) (pairs : List Pair) (u v : ℕ) (marks : List Bool) (path : List ℕ) (count : ℕ) : Type 0 where
+  pub first : get_or path 0 0 ≡ u
+  pub second : get_or path 1 0 ≡ v
+  pub some : 1 ≤ count
+  pub within : count ≤ length path
+  pub below : (k : ℕ) → k < count → get_or path k 0 < n
+  pub distinct : (i j : ℕ) → i < j → j < count → get_or path i 0 ≢ get_or path j 0
+  pub standing : (k : ℕ) → 1 ≤ k → k < count → IsMarked marks (get_or path k 0)
+  pub steps : (k : ℕ) → 1 ≤ k → k + 1 < count → IsLowestAhead pairs marks (get_or path k 0) (get_or path (k + 1) 0)
+  pub complete : (r : ℕ) → Reaches pairs r u → IsMarked marks r
+  pub done : count ≡ 1 → ¬ IsMarked marks v
 
-WentBack-push : (pairs : List Pair) (u x w last : ℕ) (rest : List ℕ) → WentBack pairs u x rest last → w ≢ u → IsLowestBack pairs u last w → WentBack pairs u x (rest ++ w ∷ []) w
-WentBack-push pairs u x w last [] went differ next = (differ, subst (λ (y : ℕ). IsLowestBack pairs u y w) (sym went) next, refl)
-WentBack-push pairs u x w last (y ∷ rest) went differ next = (went.0, went.1, WentBack-push pairs u y w last rest went.2 differ next)
+-- what reaches a router below n is below n
+pub Reaches-below : (n : ℕ) (pairs : List Pair) → AreBelow n pairs → (r u : ℕ) → u < n → Reaches pairs r u → r < n
+Reaches-below n pairs below r u u_in reaches = by_path reaches.path reaches.onward
+  where
+    by_path : (path : List ℕ) → IsPath pairs r path u → r < n
+    by_path [] onward = subst (λ (x : ℕ). x < n) (sym onward) u_in
+    by_path (w ∷ path) onward = (All-contains (λ (p : Pair). (p.0 < n) × (p.1 < n)) pairs (r, w) below onward.0).0
 
-pub IsTraced-push : (pairs : List Pair) (u v w last : ℕ) (cycle : List ℕ) → IsTraced pairs u v last cycle → w ≢ u → IsLowestBack pairs u last w → IsTraced pairs u v w (cycle ++ w ∷ [])
-IsTraced-push pairs u v w last cycle traced differ next = record {
-  rest = traced.rest ++ w ∷ [];
-  begins = ap (λ (xs : List ℕ). xs ++ w ∷ []) traced.begins;
-  went = WentBack-push pairs u v w last traced.rest traced.went differ next;
+-- it begins with u and v, where v and what reaches u are marked
+pub IsWalking-begin : (n : ℕ) (pairs : List Pair) (u v : ℕ) (marks : List Bool) (path : List ℕ) → 2 ≤ length path → u < n → v < n → u ≢ v →
+    IsMarked marks v → ((r : ℕ) → Reaches pairs r u → IsMarked marks r) → IsWalking n pairs u v marks (set (set path 0 u) 1 v) 2
+IsWalking-begin n pairs u v marks [] long u_in v_in differ begun complete = absurd (omega (arith, long))
+IsWalking-begin n pairs u v marks (x ∷ []) long u_in v_in differ begun complete = absurd (omega (arith, long))
+IsWalking-begin n pairs u v marks (x ∷ y ∷ path) long u_in v_in differ begun complete = record {
+  first = refl;
+  second = refl;
+  some = omega arith;
+  within = omega arith;
+  below = in_range;
+  distinct = apart;
+  standing = marked;
+  steps = λ k some lt. absurd (omega (arith, some, lt));
+  complete = complete;
+  done = λ e. absurd (omega (arith, e));
 }
+  where
+    in_range : (k : ℕ) → k < 2 → get_or (u ∷ v ∷ path) k 0 < n
+    in_range zero lt = u_in
+    in_range (suc zero) lt = v_in
+    in_range (suc (suc k)) lt = absurd (omega (arith, lt))
 
-GoesBack-end : (pairs : List Pair) (u x last : ℕ) (rest : List ℕ) → WentBack pairs u x rest last → IsLowestBack pairs u last u → GoesBack pairs u x rest
-GoesBack-end pairs u x last [] went next = subst (λ (y : ℕ). IsLowestBack pairs u y u) (sym went) next
-GoesBack-end pairs u x last (w ∷ rest) went next = (went.0, went.1, GoesBack-end pairs u w last rest went.2 next)
+    apart : (i j : ℕ) → i < j → j < 2 → get_or (u ∷ v ∷ path) i 0 ≢ get_or (u ∷ v ∷ path) j 0
+    apart zero zero lt j_in same = omega (arith, lt)
+    apart zero (suc zero) lt j_in same = differ same
+    apart (suc i) zero lt j_in same = omega (arith, lt)
+    apart (suc i) (suc zero) lt j_in same = omega (arith, lt)
+    apart i (suc (suc j)) lt j_in same = omega (arith, j_in)
 
-pub IsLeastCycle-end : (pairs : List Pair) (u v last : ℕ) (cycle : List ℕ) → IsTraced pairs u v last cycle → IsLowestBack pairs u last u → IsLeastCycle pairs u v cycle
-IsLeastCycle-end pairs u v last cycle traced next = record {
-  rest = traced.rest;
-  begins = traced.begins;
-  goes = GoesBack-end pairs u v last traced.rest traced.went next;
-}
+    marked : (k : ℕ) → 1 ≤ k → k < 2 → IsMarked marks (get_or (u ∷ v ∷ path) k 0)
+    marked zero some lt = absurd (omega (arith, some))
+    marked (suc zero) some lt = begun
+    marked (suc (suc k)) some lt = absurd (omega (arith, lt))
 
-IsPath-from_WentBack : (pairs : List Pair) (u x last : ℕ) (rest : List ℕ) → WentBack pairs u x rest last → IsPath pairs x rest last
-IsPath-from_WentBack pairs u x last [] went = went
-IsPath-from_WentBack pairs u x last (w ∷ rest) went = (went.1.back.follows, IsPath-from_WentBack pairs u w last rest went.2)
+-- from v on each router of the path reaches the later ones
+reaches_later : (n : ℕ) (pairs : List Pair) (u v : ℕ) (marks : List Bool) (path : List ℕ) (count : ℕ) → IsWalking n pairs u v marks path count → (k m : ℕ) → 1 ≤ k → k + m < count → Reaches pairs (get_or path k 0) (get_or path (k + m) 0)
+reaches_later n pairs u v marks path count walking k zero some lt =
+    let same : k + 0 ≡ k = omega arith in
+    subst (λ (j : ℕ). Reaches pairs (get_or path k 0) (get_or path j 0)) (sym same) (Reaches-itself pairs (get_or path k 0))
+reaches_later n pairs u v marks path count walking k (suc m) some lt =
+    let last : ℕ = get_or path (k + m) 0 in
+    let next : ℕ = get_or path ((k + m) + 1) 0 in
+    let same : (k + m) + 1 ≡ k + suc m = omega arith in
+    let step = walking.steps (k + m) (omega (arith, some)) (omega (arith, lt)) in
+    let one : Reaches pairs last next = Reaches-step pairs last next next step.follows (Reaches-itself pairs next) in
+    let all = Reaches-trans pairs (get_or path k 0) last next (reaches_later n pairs u v marks path count walking k m some (omega (arith, lt))) one in
+    subst (λ (j : ℕ). Reaches pairs (get_or path k 0) (get_or path j 0)) same all
 
-last_reaches : (pairs : List Pair) (u x last : ℕ) (rest : List ℕ) → Reaches pairs x u → WentBack pairs u x rest last → Reaches pairs last u
-last_reaches pairs u x last [] reaches went = subst (λ (y : ℕ). Reaches pairs y u) went reaches
-last_reaches pairs u x last (w ∷ rest) reaches went = last_reaches pairs u w last rest went.1.back.reaches went.2
+-- a router after the last one, other than u, isn't on the path
+is_new : (n : ℕ) (pairs : List Pair) (u v : ℕ) (marks : List Bool) (path : List ℕ) (count w : ℕ) → HasNoCycle pairs → IsWalking n pairs u v marks path count → Contains pairs (get_or path (count - 1) 0, w) → w ≢ u → (i : ℕ) → i < count → get_or path i 0 ≢ w
+is_new n pairs u v marks path count w acyclic walking follows differ zero lt same = differ (sym same ∙ walking.first)
+is_new n pairs u v marks path count w acyclic walking follows differ (suc i) lt same =
+    let last : ℕ = get_or path (count - 1) 0 in
+    let far : suc i + (count - 1 - suc i) ≡ count - 1 = omega (arith, lt) in
+    let to_last : Reaches pairs (get_or path (suc i) 0) (get_or path (suc i + (count - 1 - suc i)) 0) =
+    reaches_later n pairs u v marks path count walking (suc i) (count - 1 - suc i) (omega arith) (omega (arith, lt)) in
+    let back : Reaches pairs w last =
+    subst (λ (x : ℕ). Reaches pairs x last) same (subst (λ (j : ℕ). Reaches pairs (get_or path (suc i) 0) (get_or path j 0)) far to_last) in
+    acyclic last (Leads-step pairs last w last follows back)
 
-last_differs : (pairs : List Pair) (u x last : ℕ) (rest : List ℕ) → x ≢ u → WentBack pairs u x rest last → last ≢ u
-last_differs pairs u x last [] differ went = λ same. differ (went ∙ same)
-last_differs pairs u x last (w ∷ rest) differ went = last_differs pairs u w last rest went.0 went.2
+-- so there is room for it
+pub room_for_next : (n : ℕ) (pairs : List Pair) → AreBelow n pairs → HasNoCycle pairs → (u v : ℕ) (marks : List Bool) (path : List ℕ) (count w : ℕ) → length path ≡ n → IsWalking n pairs u v marks path count → Contains pairs (get_or path (count - 1) 0, w) → w ≢ u → count < length path
+room_for_next n pairs below acyclic u v marks path count w whole walking follows differ = elim (cases_lt count (length path)) [
+  | inl lt ↦ lt
+  | inr ge ↦
+      let new = is_new n pairs u v marks path count w acyclic walking follows differ in
+      let w_in : w < n = (All-contains (λ (p : Pair). (p.0 < n) × (p.1 < n)) pairs (get_or path (count - 1) 0, w) below follows).1 in
+      let all : length (w ∷ path) ≤ n = length-le_from_distinct (w ∷ path) n
+      (AllPairs-cons (λ a b. a ≢ b) w path
+      (λ k d in' same. new k (omega (arith, in', ge)) (get_or_default path k 0 d in' ∙ sym same))
+      (λ i j d lt in' same. walking.distinct i j lt (omega (arith, in', ge))
+      (get_or_default path i 0 d (omega (arith, lt, in')) ∙ same ∙ get_or_default path j d 0 in')))
+      (All-cons (λ a. a < n) w path w_in
+      (λ k d in'. subst (λ (x : ℕ). x < n) (get_or_default path k 0 d in') (walking.below k (omega (arith, in', ge))))) in
+      absurd (omega (arith, all, whole))
+]
 
--- the last router so far reaches u, and is another
-pub IsTraced-reaches : (pairs : List Pair) (u v last : ℕ) (cycle : List ℕ) → Reaches pairs v u → IsTraced pairs u v last cycle → Reaches pairs last u
-IsTraced-reaches pairs u v last cycle reaches traced = last_reaches pairs u v last traced.rest reaches traced.went
+-- the path is longer by the lowest marked router after the last one
+pub IsWalking-longer : (n : ℕ) (pairs : List Pair) → AreBelow n pairs → HasNoCycle pairs → (u v : ℕ) (marks : List Bool) (path : List ℕ) (count w : ℕ) → 2 ≤ count → count < length path → IsWalking n pairs u v marks path count → IsLowestAhead pairs marks (get_or path (count - 1) 0) w → IsMarked marks w → w ≢ u → IsWalking n pairs u v marks (set path count w) (count + 1)
+IsWalking-longer n pairs below acyclic u v marks path count w two room walking ahead marked differ =
+    let new = is_new n pairs u v marks path count w acyclic walking ahead.follows differ in
+    let w_in : w < n = (All-contains (λ (p : Pair). (p.0 < n) × (p.1 < n)) pairs (get_or path (count - 1) 0, w) below ahead.follows).1 in
+    record {
+      first = old 0 (omega (arith, two)) ∙ walking.first;
+      second = old 1 (omega (arith, two)) ∙ walking.second;
+      some = omega arith;
+      within = more;
+      below = below_more (λ k. get_or (set path count w) k 0 < n) count
+          (λ k lt. subst (λ (x : ℕ). x < n) (sym (old k lt)) (walking.below k lt)) (subst (λ (x : ℕ). x < n) (sym here) w_in);
+      distinct = λ i j lt j_in same. elim (cases_lt j count) [
+        | inl before ↦ walking.distinct i j lt before (sym (old i (omega (arith, lt, before))) ∙ same ∙ old j before)
+        | inr ge ↦
+            let at : j ≡ count = omega (arith, ge, j_in) in
+            new i (omega (arith, lt, at)) (sym (old i (omega (arith, lt, at))) ∙ same ∙ ap (λ (k : ℕ). get_or (set path count w) k 0) at ∙ here)
+      ];
+      standing = λ k some k_in. elim (cases_lt k count) [
+        | inl before ↦ subst (λ (x : ℕ). IsMarked marks x) (sym (old k before)) (walking.standing k some before)
+        | inr ge ↦
+            let at : k ≡ count = omega (arith, ge, k_in) in
+            subst (λ (x : ℕ). IsMarked marks x) (sym (ap (λ (j : ℕ). get_or (set path count w) j 0) at ∙ here)) marked
+      ];
+      steps = λ k some k_in. elim (cases_lt (k + 1) count) [
+        | inl before ↦
+            subst (λ (x : ℕ). IsLowestAhead pairs marks (get_or (set path count w) k 0) x) (sym (old (k + 1) before))
+            (subst (λ (x : ℕ). IsLowestAhead pairs marks x (get_or path (k + 1) 0)) (sym (old k (omega (arith, before)))) (walking.steps k some before))
+        | inr ge ↦
+            let at : k + 1 ≡ count = omega (arith, ge, k_in) in
+            let last : k ≡ count - 1 = omega (arith, at) in
+            subst (λ (x : ℕ). IsLowestAhead pairs marks (get_or (set path count w) k 0) x) (sym (ap (λ (j : ℕ). get_or (set path count w) j 0) at ∙ here))
+            (subst (λ (x : ℕ). IsLowestAhead pairs marks x w) (sym (old k (omega (arith, at)) ∙ ap (λ (j : ℕ). get_or path j 0) last)) ahead)
+      ];
+      complete = walking.complete;
+      done = λ e. absurd (omega (arith, e, two));
+    }
+  where
+    old : (k : ℕ) → k < count → get_or (set path count w) k 0 ≡ get_or path k 0
+    old k lt = get_or-set_other path count k w 0 (λ same. omega (arith, lt, same))
 
-pub IsTraced-differs : (pairs : List Pair) (u v last : ℕ) (cycle : List ℕ) → v ≢ u → IsTraced pairs u v last cycle → last ≢ u
-IsTraced-differs pairs u v last cycle differ traced = last_differs pairs u v last traced.rest differ traced.went
+    here : get_or (set path count w) count 0 ≡ w
+    here = get_or-set_same path count w 0 room
 
--- so a first step leads from it to a router that reaches u
+    more : count + 1 ≤ length (set path count w)
+    more = omega (arith, room, length-set path count w)
+
+-- from a router that reaches u, and isn't u, a pair leads to one that reaches u
 pub first_back : (pairs : List Pair) (u x : ℕ) → x ≢ u → Reaches pairs x u → (w : ℕ) × Contains pairs (x, w) × Reaches pairs w u
 first_back pairs u x differ reaches = by_path reaches.path reaches.onward
   where
@@ -67,37 +173,178 @@ first_back pairs u x differ reaches = by_path reaches.path reaches.onward
     by_path [] onward = absurd (differ onward)
     by_path (w ∷ path) onward = (w, onward.0, record { path = path; onward = onward.1 })
 
--- the cycle has no more than n routers
-pub length-traced : (n : ℕ) (pairs : List Pair) → AreBelow n pairs → HasNoCycle pairs → (u v last : ℕ) (cycle : List ℕ) → v < n → v ≢ u → Reaches pairs v u → IsTraced pairs u v last cycle → length cycle ≤ n
-length-traced n pairs below acyclic u v last cycle v_in differ reaches traced =
-    let on = IsTraced-reaches pairs u v last cycle reaches traced in
-    let apart = IsTraced-differs pairs u v last cycle differ traced in
-    let whole = IsPath-append pairs v last u traced.rest on.path (IsPath-from_WentBack pairs u v last traced.rest traced.went) on.onward in
-    let short = length-path n pairs below acyclic v u (traced.rest ++ on.path) v_in whole in
-    omega (arith, short, length-append traced.rest on.path, ap (λ (xs : List ℕ). length xs) traced.begins, some on.path apart on.onward)
-  where
-    some : (path : List ℕ) → last ≢ u → IsPath pairs last path u → 1 ≤ length path
-    some [] apart onward = absurd (apart onward)
-    some (w ∷ path) apart onward = omega arith
+-- a mark that stands after one is taken stood before
+marked_before : (marks : List Bool) (x r : ℕ) → x < length marks → IsMarked (set marks x false) r → IsMarked marks r
+marked_before marks x r x_in marked = elim (cases_eq r x) [
+  | inl same ↦ absurd (false≢true (sym (get_or-set_same marks x false false x_in) ∙ subst (λ (y : ℕ). IsMarked (set marks x false) y) same marked))
+  | inr differ ↦ sym (get_or-set_other marks x r false false differ) ∙ marked
+]
 
--- by the marks of what reaches u
-pub IsLowestBack-from_marks : (pairs : List Pair) (marks : List Bool) (u x w : ℕ) → ((r : ℕ) → IsMarked marks r → Reaches pairs r u) → ((r : ℕ) → Reaches pairs r u → IsMarked marks r) → Contains pairs (x, w) → IsMarked marks w → ((q : ℕ) → Contains pairs (x, q) → IsMarked marks q → w ≤ q) → IsLowestBack pairs u x w
-IsLowestBack-from_marks pairs marks u x w sound complete follows marked lowest = record {
-  back = record { follows = follows; reaches = sound w marked };
-  lowest = λ q back. lowest q back.follows (complete q back.reaches);
+-- the path is shorter by the last router, which leads to no marked one and has no mark now
+pub IsWalking-shorter : (n : ℕ) (pairs : List Pair) (u v : ℕ) (marks : List Bool) (path : List ℕ) (count less : ℕ) → 2 ≤ count → less + 1 ≡ count → get_or path (count - 1) 0 < length marks → IsWalking n pairs u v marks path count → ((q : ℕ) → Contains pairs (get_or path (count - 1) 0, q) → ¬ IsMarked marks q) → IsWalking n pairs u v (set marks (get_or path (count - 1) 0) false) path less
+IsWalking-shorter n pairs u v marks path count less two shorter last_in walking none = record {
+  first = walking.first;
+  second = walking.second;
+  some = omega (arith, two, shorter);
+  within = omega (arith, walking.within, shorter);
+  below = λ k lt. walking.below k (omega (arith, lt, shorter));
+  distinct = λ i j lt j_in. walking.distinct i j lt (omega (arith, j_in, shorter));
+  standing = λ k some lt. kept (get_or path k 0) (walking.distinct k (count - 1) (omega (arith, lt, shorter)) (omega (arith, two))) (walking.standing k some (omega (arith, lt, shorter)));
+  steps = λ k some lt.
+      let step = walking.steps k some (omega (arith, lt, shorter)) in
+      record { follows = step.follows; lowest = λ q has marked. step.lowest q has (marked_before marks last q last_in marked) };
+  complete = λ r reaches. kept r (λ same. apart (subst (λ (x : ℕ). Reaches pairs x u) same reaches)) (walking.complete r reaches);
+  done = λ one marked.
+      let at : count - 1 ≡ 1 = omega (arith, one, shorter) in
+      let is_v : last ≡ v = ap (λ (k : ℕ). get_or path k 0) at ∙ walking.second in
+      false≢true (sym (get_or-set_same marks last false false last_in) ∙ subst (λ (x : ℕ). IsMarked (set marks last false) x) (sym is_v) marked);
 }
+  where
+    last : ℕ
+    last = get_or path (count - 1) 0
 
--- the cycle begins with u and v
-pub IsTraced-begins : (pairs : List Pair) (u v : ℕ) (cycle : List ℕ) → 2 ≤ length cycle → IsTraced pairs u v v (take 2 (set (set cycle 0 u) 1 v))
-IsTraced-begins pairs u v [] long = absurd (omega (arith, long))
-IsTraced-begins pairs u v (x ∷ []) long = absurd (omega (arith, long))
-IsTraced-begins pairs u v (x ∷ y ∷ cycle) long = record { rest = []; begins = refl; went = refl }
+    kept : (r : ℕ) → r ≢ last → IsMarked marks r → IsMarked (set marks last false) r
+    kept r differ marked = get_or-set_other marks last r false false differ ∙ marked
 
-last_below : (n : ℕ) (pairs : List Pair) → AreBelow n pairs → (u x last : ℕ) (rest : List ℕ) → x < n → WentBack pairs u x rest last → last < n
-last_below n pairs below u x last [] x_in went = subst (λ (y : ℕ). y < n) went x_in
-last_below n pairs below u x last (w ∷ rest) x_in went =
-    last_below n pairs below u w last rest (All-contains (λ (p : Pair). (p.0 < n) × (p.1 < n)) pairs (x, w) below went.1.back.follows).1 went.2
+    apart : ¬ Reaches pairs last u
+    apart reaches =
+        let onward = first_back pairs u last (λ same. walking.distinct 0 (count - 1) (omega (arith, two)) (omega (arith, two)) (walking.first ∙ sym same)) reaches in
+        none onward.0 onward.1 (walking.complete onward.0 onward.2)
 
--- every router so far is within the number of routers
-pub IsTraced-below : (n : ℕ) (pairs : List Pair) → AreBelow n pairs → (u v last : ℕ) (cycle : List ℕ) → v < n → IsTraced pairs u v last cycle → last < n
-IsTraced-below n pairs below u v last cycle v_in traced = last_below n pairs below u v last traced.rest v_in traced.went
+-- by lowest marked routers one goes back to u by lowest routers that lead back
+goes_back : (pairs : List Pair) (marks : List Bool) (u : ℕ) → ((r : ℕ) → Reaches pairs r u → IsMarked marks r) → (x : ℕ) (rest : List ℕ) → ((k : ℕ) → k < length rest → get_or rest k 0 ≢ u) → ((k : ℕ) → k < length rest → IsLowestAhead pairs marks (get_or (x ∷ rest) k 0) (get_or rest k 0)) → IsLowestAhead pairs marks (get_or (x ∷ rest) (length rest) 0) u → GoesBack pairs u x rest × Reaches pairs x u
+goes_back pairs marks u complete x [] differ steps end = (
+  record {
+    back = record { follows = end.follows; reaches = Reaches-itself pairs u };
+    lowest = λ q back. end.lowest q back.follows (complete q back.reaches);
+  },
+  Reaches-step pairs x u u end.follows (Reaches-itself pairs u),
+)
+goes_back pairs marks u complete x (w ∷ rest) differ steps end =
+    let later = goes_back pairs marks u complete w rest (λ k lt. differ (suc k) (omega (arith, lt))) (λ k lt. steps (suc k) (omega (arith, lt))) end in
+    let step = steps 0 (omega arith) in (
+      (
+        differ 0 (omega arith),
+        record {
+          back = record { follows = step.follows; reaches = later.1 };
+          lowest = λ q back. step.lowest q back.follows (complete q back.reaches);
+        },
+        later.0,
+      ),
+      Reaches-step pairs x w u step.follows later.1,
+    )
+
+-- where u is the lowest marked router after the last one, the path is the cycle
+pub IsWalking-end : (n : ℕ) (pairs : List Pair) (u v : ℕ) (marks : List Bool) (path : List ℕ) (count : ℕ) → 2 ≤ count → IsWalking n pairs u v marks path count → IsLowestAhead pairs marks (get_or path (count - 1) 0) u → IsLeastCycle pairs u v (take count path) × Reaches pairs v u
+IsWalking-end n pairs u v marks path zero two walking end = absurd (omega (arith, two))
+IsWalking-end n pairs u v marks path (suc zero) two walking end = absurd (omega (arith, two))
+IsWalking-end n pairs u v marks [] (suc (suc m)) two walking end = absurd (omega (arith, walking.within))
+IsWalking-end n pairs u v marks (x ∷ []) (suc (suc m)) two walking end = absurd (omega (arith, walking.within))
+IsWalking-end n pairs u v marks (x ∷ y ∷ path) (suc (suc m)) two walking end =
+    let goes = goes_back pairs marks u walking.complete y (take m path) differ steps last in (
+      record {
+        rest = take m path;
+        begins = ap (λ (a : ℕ). a ∷ y ∷ take m path) walking.first ∙ ap (λ (b : ℕ). u ∷ b ∷ take m path) walking.second;
+        goes = subst (λ (b : ℕ). GoesBack pairs u b (take m path)) walking.second goes.0;
+      },
+      subst (λ (b : ℕ). Reaches pairs b u) walking.second goes.1,
+    )
+  where
+    long : length (take m path) ≡ m
+    long = length-take-le m path (omega (arith, walking.within))
+
+    at : (k : ℕ) → k < suc m → get_or (y ∷ take m path) k 0 ≡ get_or (x ∷ y ∷ path) (suc k) 0
+    at k lt = get_or-take (suc m) (y ∷ path) k 0 lt
+
+    differ : (k : ℕ) → k < length (take m path) → get_or (take m path) k 0 ≢ u
+    differ k lt same = walking.distinct 0 (suc (suc k)) (omega arith) (omega (arith, lt, long)) (walking.first ∙ sym same ∙ at (suc k) (omega (arith, lt, long)))
+
+    steps : (k : ℕ) → k < length (take m path) → IsLowestAhead pairs marks (get_or (y ∷ take m path) k 0) (get_or (take m path) k 0)
+    steps k lt =
+        let more : suc k + 1 ≡ suc (suc k) = omega arith in
+        let step = subst (λ (j : ℕ). IsLowestAhead pairs marks (get_or (x ∷ y ∷ path) (suc k) 0) (get_or (x ∷ y ∷ path) j 0)) more (walking.steps (suc k) (omega arith) (omega (arith, lt, long))) in
+        subst (λ (a : ℕ). IsLowestAhead pairs marks a (get_or (take m path) k 0)) (sym (at k (omega (arith, lt, long))))
+        (subst (λ (b : ℕ). IsLowestAhead pairs marks (get_or (x ∷ y ∷ path) (suc k) 0) b) (sym (at (suc k) (omega (arith, lt, long)))) step)
+
+    last : IsLowestAhead pairs marks (get_or (y ∷ take m path) (length (take m path)) 0) u
+    last =
+        let far : suc (length (take m path)) ≡ suc (suc m) - 1 = omega (arith, long) in
+        subst (λ (a : ℕ). IsLowestAhead pairs marks a u) (sym (at (length (take m path)) (omega (arith, long)) ∙ ap (λ (j : ℕ). get_or (x ∷ y ∷ path) j 0) far)) end
+
+-- How many routers are marked
+
+pub marked_count-taken : (marks : List Bool) (r : ℕ) → IsMarked marks r → marked_count (set marks r false) + 1 ≡ marked_count marks
+marked_count-taken [] r marked = absurd (false≢true marked)
+marked_count-taken (true ∷ marks) zero marked = refl
+marked_count-taken (false ∷ marks) zero marked = absurd (false≢true marked)
+marked_count-taken (true ∷ marks) (suc r) marked = ap (λ (n : ℕ). n + 1) (marked_count-taken marks r marked)
+marked_count-taken (false ∷ marks) (suc r) marked = marked_count-taken marks r marked
+
+-- What is found after the last router of the path
+
+pub IsLowestAhead-found : (pairs : List Pair) (marks : List Bool) (x u : ℕ) (next : Option ℕ) → next ≡ Some u →
+    IfSome next (λ w. Contains pairs (x, w)) → IfSome next (λ w. (q : ℕ) → Contains pairs (x, q) → IsMarked marks q → w ≤ q) →
+    IsLowestAhead pairs marks x u
+IsLowestAhead-found pairs marks x u None e follows lowest = absurd (let e : None ≡ Some u = e in cc)
+IsLowestAhead-found pairs marks x u (Some w) e follows lowest =
+    let same : w ≡ u = cc in
+    subst (λ (y : ℕ). IsLowestAhead pairs marks x y) same (record { follows = follows; lowest = lowest })
+
+-- there is room for a router that is found
+pub room_for_found : (n : ℕ) (pairs : List Pair) → AreBelow n pairs → HasNoCycle pairs → (u v : ℕ) (marks : List Bool) (path : List ℕ) (count : ℕ) →
+    length path ≡ n → IsWalking n pairs u v marks path count → (next : Option ℕ) → next ≢ Some u →
+    IfSome next (λ w. Contains pairs (get_or path (count - 1) 0, w)) → OnSome next (count < length path)
+room_for_found n pairs below acyclic u v marks path count whole walking None differ follows = tt
+room_for_found n pairs below acyclic u v marks path count whole walking (Some w) differ follows =
+    room_for_next n pairs below acyclic u v marks path count w whole walking follows (λ same. differ (ap (λ (x : ℕ). Some x) same))
+
+-- what one step of the walk makes of the path and the marks
+pub record IsStep (marks : List Bool) (path : List ℕ) (count : ℕ) (next : Option ℕ) (marks' : List Bool) (path' : List ℕ) (count' : ℕ) : Type 0 where
+  pub longer : OnSome next (count' ≡ count + 1)
+  pub added : IfSome next (λ w. path' ≡ set path count w)
+  pub kept : OnSome next (marks' ≡ marks)
+  pub shorter : IfNone next (count' + 1 ≡ count)
+  pub same : IfNone next (path' ≡ path)
+  pub taken : IfNone next (marks' ≡ set marks (get_or path (count - 1) 0) false)
+
+-- what is found by the walk after the last router
+pub record IsNextOf (pairs : List Pair) (marks : List Bool) (x : ℕ) (next : Option ℕ) : Type 0 where
+  pub after : IfSome next (λ w. Contains pairs (x, w))
+  pub marked : IfSome next (λ w. IsMarked marks w)
+  pub lowest : IfSome next (λ w. (q : ℕ) → Contains pairs (x, q) → IsMarked marks q → w ≤ q)
+  pub none : IfNone next ((q : ℕ) → Contains pairs (x, q) → ¬ IsMarked marks q)
+
+-- the walk goes on by a step
+pub IsWalking-step : (n : ℕ) (pairs : List Pair) → AreBelow n pairs → HasNoCycle pairs → (u v : ℕ) (marks : List Bool) (path : List ℕ) (count : ℕ) →
+    (next : Option ℕ) (marks' : List Bool) (path' : List ℕ) (count' : ℕ) → 2 ≤ count → length path ≡ n → length marks ≡ n →
+    IsWalking n pairs u v marks path count → next ≢ Some u → IsNextOf pairs marks (get_or path (count - 1) 0) next →
+    IsStep marks path count next marks' path' count' → IsWalking n pairs u v marks' path' count'
+IsWalking-step n pairs below acyclic u v marks path count None marks' path' count' two whole many walking differ is_next step =
+    let last_in : get_or path (count - 1) 0 < length marks = omega (arith, walking.below (count - 1) (omega (arith, two)), many) in
+    let on = IsWalking-shorter n pairs u v marks path count count' two step.shorter last_in walking is_next.none in
+    subst (λ (xs : List ℕ). IsWalking n pairs u v marks' xs count') (sym step.same)
+    (subst (λ (ms : List Bool). IsWalking n pairs u v ms path count') (sym step.taken) on)
+IsWalking-step n pairs below acyclic u v marks path count (Some w) marks' path' count' two whole many walking differ is_next step =
+    let apart : w ≢ u = λ same. differ (ap (λ (x : ℕ). Some x) same) in
+    let room = room_for_next n pairs below acyclic u v marks path count w whole walking is_next.after apart in
+    let ahead : IsLowestAhead pairs marks (get_or path (count - 1) 0) w = record { follows = is_next.after; lowest = is_next.lowest } in
+    let on = IsWalking-longer n pairs below acyclic u v marks path count w two room walking ahead is_next.marked apart in
+    subst (λ (c : ℕ). IsWalking n pairs u v marks' path' c) (sym step.longer)
+    (subst (λ (xs : List ℕ). IsWalking n pairs u v marks' xs (count + 1)) (sym step.added)
+    (subst (λ (ms : List Bool). IsWalking n pairs u v ms (set path count w) (count + 1)) (sym step.kept) on))
+
+-- and comes nearer to its end
+pub step_is_nearer : (n : ℕ) (pairs : List Pair) (u v : ℕ) (marks : List Bool) (path : List ℕ) (count : ℕ) →
+    (next : Option ℕ) (marks' : List Bool) (path' : List ℕ) (count' : ℕ) → 2 ≤ count → IsWalking n pairs u v marks path count →
+    OnSome next (count < length path) → IsStep marks path count next marks' path' count' →
+    2 * marked_count marks' + (length path' - count') < 2 * marked_count marks + (length path - count)
+step_is_nearer n pairs u v marks path count None marks' path' count' two walking room step =
+    let last : ℕ = get_or path (count - 1) 0 in
+    let fewer = marked_count-taken marks last (walking.standing (count - 1) (omega (arith, two)) (omega (arith, two))) in
+    let marks_are : marked_count marks' ≡ marked_count (set marks last false) = ap (λ (ms : List Bool). marked_count ms) step.taken in
+    let path_is : length path' ≡ length path = ap (λ (xs : List ℕ). length xs) step.same in
+    omega (arith, fewer, marks_are, path_is, step.shorter, walking.within, two)
+step_is_nearer n pairs u v marks path count (Some w) marks' path' count' two walking room step =
+    let marks_are : marked_count marks' ≡ marked_count marks = ap (λ (ms : List Bool). marked_count ms) step.kept in
+    let path_is : length path' ≡ length path = ap (λ (xs : List ℕ). length xs) step.added ∙ length-set path count w in
+    omega (arith, marks_are, path_is, step.longer, room)

@@ -1,7 +1,8 @@
 -- How the fields of `Precedences` hold the assumed pairs.
-use Rattle.std.specs.Prelude.{◌≡◌, ℕ, ◌+◌, ◌-◌, ◌*◌, ◌≤◌, [], ◌∷◌, length, take, vec_len}
+use Rattle.std.specs.Prelude.{◌≡◌, ℕ, ◌+◌, ◌-◌, ◌≤◌, false, length, take, vec_len}
 use Rattle.link_trail.specs.Lists.{lists_at_mark}
 use Rattle.order_core.specs.Pairs.{AreBelow, HasNoCycle}
+use Rattle.precedence_set.specs.Layers.{AreLayers}
 use Rattle.precedence_set.specs.Successors.{AreSuccessors}
 use Rattle.precedence_set.specs.Assumed.{Assumed}
 use Rattle.precedence_set.specs.declared.precedences.Precedences.TheInside.{Inside}
@@ -16,8 +17,8 @@ assumed_of a = record {
 }
 
 -- the counts are within their rooms, each room has its size, the links held at each mark the
--- successors by the pairs so far, with one move for each pair, the lists of ready and placed routers
--- are empty and have room for three moves of each router, and the pairs have no cycle
+-- successors by the pairs so far, with one move for each pair, the pairs have no cycle, and the layers
+-- are theirs where they aren't stale
 pub record IsSettled (a : Inside) : Type 0 where
   pub few : a.routers ≤ 1000
   pub counted : a.count ≤ vec_len a.room
@@ -26,18 +27,12 @@ pub record IsSettled (a : Inside) : Type 0 where
   pub spare : vec_len a.room ≤ a.count + a.successors.spare
   pub moves : length a.successors.trail ≡ a.count
   pub marked : (i : ℕ) → i ≤ a.count → AreSuccessors a.routers (take i a.room.items) (lists_at_mark a.successors i)
-  pub stage_nodes : a.stages.nodes ≡ a.routers
-  pub stages_bare : a.stages.lists ≡ [] ∷ [] ∷ []
-  pub unmoved : a.stages.trail ≡ []
-  pub stage_spare : 3 * a.routers ≤ a.stages.spare
-  pub listed_length : vec_len a.listed ≡ a.routers
-  pub earlier_length : vec_len a.room ≤ vec_len a.earlier
   pub cycle_length : vec_len a.cycle_room ≡ a.routers
   pub cycle_counted : a.cycle_count ≤ a.routers
-  pub waits_length : vec_len a.waits ≡ a.routers
   pub marks_length : vec_len a.marks ≡ a.routers
   pub counts_length : vec_len a.counts ≡ a.routers
   pub order_length : vec_len a.order ≡ a.routers
   pub layers_length : vec_len a.layers ≡ a.routers
   pub below : AreBelow a.routers (take a.count a.room.items)
   pub acyclic : HasNoCycle (take a.count a.room.items)
+  pub layered : a.stale ≡ false → AreLayers a.routers (take a.count a.room.items) a.layers.items

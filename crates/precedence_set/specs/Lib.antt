@@ -1,12 +1,8 @@
-pub use Rattle.order_core.specs.Orders
 pub use Rattle.order_core.specs.Pairs
-pub mod LeastExtension
 pub mod LeastCycle
 pub mod Assumed
-pub mod Marks
-pub mod Waits
 pub mod Successors
-pub mod Stages
 pub mod Layers
 pub mod Sorting
+pub mod Marks
 pub mod Held

@@ -1,7 +1,7 @@
 -- Routers listed so that each stands after its predecessors: what is listed and what is left to wait for.
 use Rattle.std.specs.Prelude.{◌≡◌, ◌≢◌, ℕ, zero, suc, ◌+◌, ◌<◌, ◌↔◌, ◌⊎◌, ◌==◌, if◌then◌else◌, Bool, true, List, length, slice_index, Contains}
 use Rattle.order_core.specs.Pairs.{Pair}
-use Rattle.precedence_set.specs.Waits.{pair_at}
+use Rattle.precedence_set.specs.Successors.{pair_at}
 
 -- router u stands at one of the first places of the list
 abbrev pub StandsBelow : List ℕ → ℕ → ℕ → Type 0

@@ -1,8 +1,11 @@
 -- How lists of pair numbers, one for each router, hold the successors of the routers.
-use Rattle.std.specs.Prelude.{◌≡◌, ◌≢◌, ℕ, suc, ◌<◌, ◌≤◌, ◌==◌, if◌then◌else◌, List, [], ◌∷◌, length, Option, Some, None}
+use Rattle.std.specs.Prelude.{◌≡◌, ◌≢◌, ℕ, suc, ◌<◌, ◌≤◌, ◌==◌, if◌then◌else◌, List, [], ◌∷◌, length, slice_index_or, Option, Some, None}
 use Rattle.link_trail.specs.Lists.{list_at}
 use Rattle.order_core.specs.Pairs.{Pair}
-use Rattle.precedence_set.specs.Waits.{pair_at}
+
+-- the pair of number i
+abbrev pub pair_at : List Pair → ℕ → Pair
+pair_at pairs i = slice_index_or pairs i (0, 0)
 
 -- the numbers of the pairs from router u, where the pairs are numbered from s on
 abbrev pub numbers_from : ℕ → ℕ → List Pair → List ℕ

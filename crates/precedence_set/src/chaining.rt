@@ -1,43 +1,12 @@
 ghost use Rattle.std.specs.Prelude.{◌≡◌, ℕ, ◌+◌, ◌^◌, ◌<◌, ◌≤◌, ◌⊎◌, length, slice_index, take, Contains};
 ghost use Rattle.order_core.specs.Least.{IsLowest};
-ghost use Rattle.order_core.specs.Pairs.{AreBelow, HasNoCycle};
+ghost use Rattle.order_core.specs.Pairs.{AreBelow};
 ghost use Rattle.order_core.specs.Rankings.{rank_of, wave_count};
-ghost use Rattle.precedence_set.specs.Layers.{AreLayers, IsChain, IsInLayer, IsLayeredChain};
-ghost use Rattle.precedence_set.specs.Successors.{AreSuccessors};
-
-use crate::layering::write_layers;
-use link_trail::Links;
-
-/// Writes the chain of the pairs' layers into the first places, in time of the pairs and routers; how long it
-/// is. The counts, the order and the layers are room to work in.
-pub fn write_chain(
-    successors: &Links,
-    pairs: &[(u32, u32)],
-    counts: &mut [u32],
-    order: &mut [u32],
-    layers: &mut [u32],
-    out: &mut [u32],
-) -> u32
-    requires small { length out.old < 2 ^ 31 }
-    requires pairs_small { length pairs.now < 2 ^ 31 }
-    requires below { AreBelow (length out.old) pairs.now }
-    requires acyclic { HasNoCycle pairs.now }
-    requires successors { AreSuccessors (length out.old) pairs.now successors.now.lists }
-    requires nodes { length pairs.now ≤ successors.now.nodes }
-    requires counts_length { length counts.old ≡ length out.old }
-    requires order_length { length order.old ≡ length out.old }
-    requires layers_length { length layers.old ≡ length out.old }
-    ensures chain { IsLayeredChain (length out.new) pairs.now (take result out.new) }
-    ensures within { result ≤ length out.new }
-{
-    let count = write_layers(successors, pairs, counts, order, layers);
-    trace_chain(pairs, layers, count, counts, out);
-    count
-}
+ghost use Rattle.precedence_set.specs.Layers.{AreLayers, IsChain, IsInLayer};
 
 /// Writes the chain of the layers into the first places, in time of the pairs and routers. The parents are
 /// room to work in.
-fn trace_chain(
+pub fn trace_chain(
     pairs: &[(u32, u32)],
     layers: &[u32],
     count: u32,

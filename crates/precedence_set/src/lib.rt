@@ -6,7 +6,6 @@ mod chaining;
 mod following;
 mod laws;
 mod layering;
-mod placing;
 mod precedences;
 mod reaching;
 mod sorting;

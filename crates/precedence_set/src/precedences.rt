@@ -1,17 +1,16 @@
 ghost use Rattle.std.specs.Prelude.{◌≡◌, ◌≢◌, ◌+◌, ◌-◌, ◌<◌, ◌≤◌, ◌↔◌, [], ◌∷◌, ◌++◌, length, take, IfOk, OnOk, vec_len};
 ghost use Rattle.order_core.specs.Pairs.{AreBelow, HasNoCycle, Leads};
-ghost use Rattle.precedence_set.specs.LeastExtension.{IsLeastExtension};
 ghost use Rattle.precedence_set.specs.LeastCycle.{IsLeastCycle};
 ghost use Rattle.precedence_set.specs.Layers.{AreLayers, IsLayeredChain};
 ghost use Rattle.order_core.specs.Rankings.{wave_count};
 
-use crate::chaining::write_chain;
-use crate::layering::write_layers;
-use crate::placing::place_all;
+use crate::chaining::trace_chain;
+use crate::layering::{add_to_layers, count_layers, refresh_layers};
 use crate::tracing::closed_cycle;
 use link_trail::Links;
 use std::alloc::{AllocError, Global};
 use std::marker::Model;
+use std::mem;
 
 /// What came of a pair that was to be assumed.
 #[derive(Clone, Copy, Debug, PartialEq, Eq)]
@@ -35,17 +34,13 @@ pub struct Precedences {
     cycle_room: Vec<u32>,
     /// For each router the numbers of the pairs from it, in order: a move for each pair.
     successors: Links,
-    /// The ready and the placed routers, in two lists that are empty between calls.
-    stages: Links,
-    /// Room to work in: one for each pair, one for each router, two marks for each router.
-    earlier: Vec<u32>,
-    waits: Vec<u32>,
-    marks: Vec<bool>,
-    listed: Vec<bool>,
-    /// Room for the layers: three numbers for each router.
+    /// The layers of the pairs, where they aren't stale.
+    layers: Vec<u32>,
+    stale: bool,
+    /// Room to work in: two numbers and a mark for each router.
     counts: Vec<u32>,
     order: Vec<u32>,
-    layers: Vec<u32>,
+    marks: Vec<bool>,
 }
 
 impl Model for Precedences {
@@ -69,8 +64,6 @@ impl Precedences {
         ensures cycle { IfOk result (λ p. p.cycle ≡ []) }
     {
         let each = routers as usize;
-        let mut stages = Links::new(alloc, 2, routers)?;
-        stages.reserve(3 * routers)?;
         Ok(Precedences {
             routers,
             count: 0,
@@ -78,14 +71,11 @@ impl Precedences {
             cycle_count: 0,
             cycle_room: vec![in alloc; 0; each]?,
             successors: Links::new(alloc, routers, 0)?,
-            stages,
-            earlier: Vec::new(alloc),
-            waits: vec![in alloc; 0; each]?,
-            marks: vec![in alloc; false; each]?,
-            listed: vec![in alloc; false; each]?,
+            layers: vec![in alloc; 0; each]?,
+            stale: true,
             counts: vec![in alloc; 0; each]?,
             order: vec![in alloc; 0; each]?,
-            layers: vec![in alloc; 0; each]?,
+            marks: vec![in alloc; false; each]?,
         })
     }
 
@@ -97,15 +87,11 @@ impl Precedences {
         ensures same { self.new ≡ record self.old { spare = self.new.spare } }
     {
         let wanted = self.count + pairs as usize;
-        widen(
-            &mut self.successors,
-            &mut self.earlier,
-            &mut self.room,
-            wanted,
-        )
+        widen(&mut self.successors, &mut self.room, wanted)
     }
 
-    /// Assumes "u before v", unless that would close a cycle: then only `cycle` changes.
+    /// Assumes "u before v", unless that would close a cycle: then only `cycle` changes. Takes time of the routers
+    /// that v reaches and of the pairs from them, where no cycle is closed.
     pub fn add(&mut self, u: u32, v: u32) -> Added
         requires u_in { u < self.old.routers }
         requires v_in { v < self.old.routers }
@@ -124,13 +110,16 @@ impl Precedences {
             u,
             v,
             &mut self.marks,
-            &mut self.cycle_room,
+            &mut self.counts,
+            &mut self.order,
         ) {
             Some(count) => {
+                mem::swap(&mut self.cycle_room, &mut self.order);
                 self.cycle_count = count;
                 Added::Closes
             }
             None => {
+                self.stale = add_to_layers(&self.successors, &mut self.layers, self.stale, u, v);
                 self.successors.link(u, self.count as u32);
                 self.room[self.count] = (u, v);
                 self.count += 1;
@@ -161,12 +150,17 @@ impl Precedences {
           spare = self.old.spare + (length self.old.pairs - mark);
         } }
     {
+        if mark as usize == self.count {
+            return;
+        }
         self.successors.undo_to(mark);
         self.count = mark as usize;
+        self.stale = true;
     }
 
     /// Writes the layer of each router: 0 without a predecessor, else one more than the greatest layer of its
-    /// predecessors. How many layers there are. Takes time of the pairs and routers.
+    /// predecessors. How many layers there are. Takes time of the pairs and routers; of the routers alone, where
+    /// each pair since the latest call moved at most its second router, and none was taken back.
     pub fn layers(&mut self, out: &mut [u32]) -> u32
         requires { length out.old ≡ self.old.routers }
         ensures layers { AreLayers self.old.routers self.old.pairs out.new }
@@ -175,13 +169,16 @@ impl Precedences {
         ensures acyclic { HasNoCycle self.old.pairs }
         ensures below { AreBelow self.old.routers self.old.pairs }
     {
-        write_layers(
+        refresh_layers(
             &self.successors,
             &self.room[..self.count],
             &mut self.counts,
             &mut self.order,
-            out,
-        )
+            &mut self.layers,
+            &mut self.stale,
+        );
+        out.copy_from_slice(&self.layers);
+        count_layers(out)
     }
 
     /// Writes the chain of the layers into the first places: the lowest-numbered router of the last layer, and
@@ -192,54 +189,36 @@ impl Precedences {
         ensures within { result ≤ length out.new }
         ensures same { self.new ≡ self.old }
     {
-        write_chain(
+        let pairs = &self.room[..self.count];
+        refresh_layers(
             &self.successors,
-            &self.room[..self.count],
+            pairs,
             &mut self.counts,
             &mut self.order,
             &mut self.layers,
-            out,
-        )
-    }
-
-    /// Writes the order that places each time the lowest-numbered router whose predecessors are placed.
-    pub fn least_extension(&mut self, out: &mut [u32])
-        requires { length out.old ≡ self.old.routers }
-        ensures least { IsLeastExtension self.old.routers self.old.pairs out.new }
-        ensures same { self.new ≡ self.old }
-        ensures acyclic { HasNoCycle self.old.pairs }
-        ensures below { AreBelow self.old.routers self.old.pairs }
-    {
-        place_all(
-            &self.room[..self.count],
-            &mut self.waits,
-            &mut self.earlier,
-            &mut self.marks,
-            &mut self.listed,
-            &mut self.stages,
-            out,
+            &mut self.stale,
         );
+        let count = count_layers(&self.layers);
+        trace_chain(pairs, &self.layers, count, &mut self.counts, out);
+        count
     }
 }
 
 /// Makes room for so many pairs at least, in the vector of pairs last.
 fn widen(
     successors: &mut Links,
-    earlier: &mut Vec<u32>,
     room: &mut Vec<(u32, u32)>,
     wanted: usize,
 ) -> Result<(), AllocError>
     requires nodes { vec_len room.old ≤ successors.old.nodes }
     requires spare { vec_len room.old ≤ length successors.old.trail + successors.old.spare }
     requires standing { length successors.old.trail ≤ wanted }
-    requires ahead { vec_len room.old ≤ vec_len earlier.old }
     requires bound { vec_len room.old ≤ 1000000 }
     requires small { wanted ≤ 1000000 }
     ensures lists { successors.new.lists ≡ successors.old.lists }
     ensures trail { successors.new.trail ≡ successors.old.trail }
     ensures nodes { vec_len room.new ≤ successors.new.nodes }
     ensures spare { vec_len room.new ≤ length successors.new.trail + successors.new.spare }
-    ensures ahead { vec_len room.new ≤ vec_len earlier.new }
     ensures bound { vec_len room.new ≤ 1000000 }
     ensures enough { OnOk result (wanted ≤ vec_len room.new) }
     ensures no_less { vec_len room.old ≤ vec_len room.new }
@@ -247,9 +226,6 @@ fn widen(
 {
     successors.widen(wanted as u32)?;
     successors.reserve(wanted as u32 - successors.mark())?;
-    while earlier.len() < wanted {
-        earlier.push(0)?;
-    }
     while room.len() < wanted {
         room.push((0, 0))?;
     }

@@ -1,96 +1,120 @@
-ghost use Rattle.std.specs.Prelude.{◌≡◌, ◌≢◌, ℕ, ◌^◌, ◌<◌, ◌≤◌, length, take, Contains, IfSome, IfNone};
+ghost use Rattle.std.specs.Prelude.{◌≡◌, ◌≢◌, ℕ, ◌+◌, ◌-◌, ◌^◌, ◌<◌, ◌≤◌, length, true, false, take, slice_index, slice_set, IfSome, IfNone, OnSome};
 ghost use Rattle.order_core.specs.Pairs.{AreBelow, HasNoCycle, Reaches};
 ghost use Rattle.precedence_set.specs.LeastCycle.{IsLeastCycle};
 ghost use Rattle.order_core.specs.Marks.{IsMarked};
 ghost use Rattle.precedence_set.specs.Successors.{AreSuccessors};
 
 use crate::following::lowest_marked_after;
-use crate::reaching::mark_reaching;
+use crate::reaching::{list_reached, prune};
 use link_trail::Links;
 
-/// Where the pair (u, v) closes a cycle, writes that cycle and says how long it is.
+/// Where the pair (u, v) closes a cycle, writes that cycle and says how long it is. Walks from v along the pairs
+/// and stops at u, in time of the routers that it reaches and the pairs from them. Where that closes a cycle, the
+/// way back is then found among the routers that may lead to u.
 pub fn closed_cycle(
     successors: &Links,
     pairs: &[(u32, u32)],
     u: u32,
     v: u32,
     marks: &mut [bool],
-    cycle: &mut [u32],
+    list: &mut [u32],
+    path: &mut [u32],
 ) -> Option<usize>
-    requires below { AreBelow (length cycle.old) pairs.now }
-    requires small { length cycle.old < 2 ^ 32 }
-    requires marks_length { length marks.old ≡ length cycle.old }
-    requires successors { AreSuccessors (length cycle.old) pairs.now successors.now.lists }
+    requires below { AreBelow (length path.old) pairs.now }
+    requires small { length path.old < 2 ^ 31 }
+    requires marks_length { length marks.old ≡ length path.old }
+    requires list_length { length list.old ≡ length path.old }
+    requires successors { AreSuccessors (length path.old) pairs.now successors.now.lists }
     requires nodes { length pairs.now ≤ successors.now.nodes }
-    requires u_in { u < length cycle.old }
-    requires v_in { v < length cycle.old }
+    requires u_in { u < length path.old }
+    requires v_in { v < length path.old }
     requires differ { u ≢ v }
     requires acyclic { HasNoCycle pairs.now }
     ensures closes { IfSome result (λ _. Reaches pairs.now v u) }
-    ensures within { IfSome result (λ count. count ≤ length cycle.new) }
-    ensures cycle { IfSome result (λ count. IsLeastCycle pairs.now u v (take count cycle.new)) }
+    ensures within { IfSome result (λ count. count ≤ length path.new) }
+    ensures cycle { IfSome result (λ count. IsLeastCycle pairs.now u v (take count path.new)) }
     ensures open { IfNone result (¬ Reaches pairs.now v u) }
-    ensures same { IfNone result (cycle.new ≡ cycle.old) }
 {
-    mark_reaching(successors, pairs, u, marks);
-    if !marks[v as usize] {
+    let count = list_reached(successors, pairs, u, v, marks, list);
+    if !marks[u as usize] {
         return None;
     }
-    Some(trace_cycle(successors, pairs, marks, u, v, cycle))
+    mark_all(marks);
+    prune(successors, pairs, u, marks, list, count);
+    way_back(successors, pairs, u, v, marks, path)
 }
 
-/// Writes the cycle that the pair (u, v) closes, where the routers that reach u are marked; how long it is.
-fn trace_cycle(
+/// Writes u, v and the way back from v to u by lowest numbers, where there is one; how long that is. Goes depth
+/// first and each time to the lowest-numbered marked router, and takes the mark of a router from which it comes
+/// back. What reaches u is marked.
+fn way_back(
     successors: &Links,
     pairs: &[(u32, u32)],
-    marks: &[bool],
     u: u32,
     v: u32,
-    cycle: &mut [u32],
-) -> usize
-    requires below { AreBelow (length cycle.old) pairs.now }
-    requires small { length cycle.old < 2 ^ 32 }
-    requires marks_length { length marks.now ≡ length cycle.old }
-    requires successors { AreSuccessors (length cycle.old) pairs.now successors.now.lists }
+    marks: &mut [bool],
+    path: &mut [u32],
+) -> Option<usize>
+    requires below { AreBelow (length path.old) pairs.now }
+    requires small { length path.old < 2 ^ 31 }
+    requires marks_length { length marks.old ≡ length path.old }
+    requires successors { AreSuccessors (length path.old) pairs.now successors.now.lists }
     requires nodes { length pairs.now ≤ successors.now.nodes }
-    requires u_in { u < length cycle.old }
-    requires v_in { v < length cycle.old }
+    requires u_in { u < length path.old }
+    requires v_in { v < length path.old }
     requires differ { u ≢ v }
     requires acyclic { HasNoCycle pairs.now }
-    requires sound { (r : ℕ) → IsMarked marks.now r → Reaches pairs.now r u }
-    requires complete { (r : ℕ) → Reaches pairs.now r u → IsMarked marks.now r }
-    requires closes { IsMarked marks.now v }
-    ensures within { result ≤ length cycle.new }
-    ensures cycle { IsLeastCycle pairs.now u v (take result cycle.new) }
+    requires begun { IsMarked marks.old v }
+    requires complete { (r : ℕ) → Reaches pairs.now r u → IsMarked marks.old r }
+    ensures closes { IfSome result (λ _. Reaches pairs.now v u) }
+    ensures within { IfSome result (λ count. count ≤ length path.new) }
+    ensures cycle { IfSome result (λ count. IsLeastCycle pairs.now u v (take count path.new)) }
+    ensures open { IfNone result (¬ Reaches pairs.now v u) }
 {
-    cycle[0] = u;
-    cycle[1] = v;
+    path[0] = u;
+    path[1] = v;
     let mut count = 2;
-    let mut last = v;
-    loop {
-        let next = step_back(successors, pairs, marks, last);
-        if next == u {
-            return count;
+    while count > 1 {
+        let next = lowest_marked_after(successors, pairs, marks, path[count - 1]);
+        if next == Some(u) {
+            return Some(count);
         }
-        cycle[count] = next;
-        count += 1;
-        last = next;
+        count = step(marks, path, count, next);
+    }
+    None
+}
+
+/// Each router is marked.
+fn mark_all(marks: &mut [bool])
+    ensures { (r : ℕ) → r < length marks.new → IsMarked marks.new r }
+{
+    for mark in marks.iter_mut() {
+        *mark = true;
     }
 }
 
-/// The lowest-numbered marked router that is assumed after x, where there is one.
-fn step_back(successors: &Links, pairs: &[(u32, u32)], marks: &[bool], x: u32) -> u32
-    requires x_in { x < length marks.now }
-    requires below { AreBelow (length marks.now) pairs.now }
-    requires successors { AreSuccessors (length marks.now) pairs.now successors.now.lists }
-    requires nodes { length pairs.now ≤ successors.now.nodes }
-    requires some { (w : ℕ) × Contains pairs.now (x, w) × IsMarked marks.now w }
-    ensures after { Contains pairs.now (x, result) }
-    ensures marked { IsMarked marks.now result }
-    ensures lowest { (w : ℕ) → Contains pairs.now (x, w) → IsMarked marks.now w → result ≤ w }
+/// Takes the next router to the path; where there is none, takes the last one off and takes its mark. How
+/// long the path is then.
+fn step(marks: &mut [bool], path: &mut [u32], count: usize, next: Option<u32>) -> usize
+    requires some { 1 ≤ count }
+    requires within { count ≤ length path.old }
+    requires room { OnSome next (count < length path.old) }
+    requires last_in { slice_index path.old (count - 1) < length marks.old }
+    ensures longer { OnSome next (result ≡ count + 1) }
+    ensures added { IfSome next (λ w. path.new ≡ slice_set path.old count w) }
+    ensures kept { OnSome next (marks.new ≡ marks.old) }
+    ensures shorter { IfNone next (result + 1 ≡ count) }
+    ensures same { IfNone next (path.new ≡ path.old) }
+    ensures taken { IfNone next (marks.new ≡ slice_set marks.old (slice_index path.old (count - 1)) false) }
 {
-    match lowest_marked_after(successors, pairs, marks, x) {
-        Some(next) => next,
-        None => unreachable!(),
+    match next {
+        Some(router) => {
+            path[count] = router;
+            count + 1
+        }
+        None => {
+            marks[path[count - 1] as usize] = false;
+            count - 1
+        }
     }
 }

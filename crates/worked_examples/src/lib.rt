@@ -9,6 +9,10 @@ mod links;
 #[cfg(test)]
 mod precedences;
 #[cfg(test)]
+mod searches;
+#[cfg(test)]
 mod tables;
 #[cfg(test)]
 mod walks;
+#[cfg(test)]
+mod wanting;

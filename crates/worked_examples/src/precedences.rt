@@ -1,48 +1,60 @@
-ghost use Rattle.std.specs.Prelude.{◌≡◌, ◌≤◌, IfOk};
+ghost use Rattle.std.specs.Prelude.{◌≡◌, ◌≢◌, ◌<◌, ◌≤◌, length, IfOk};
 
 use precedence_set::{Added, Precedences};
 use std::alloc::{AllocError, Global};
 use std::process::Abort;
 
-/// The first pairs, and what came of them.
+/// The first pairs, and what came of them. The layers are asked for after each.
 fn assumed(
     alloc: Global,
     routers: u32,
     pairs: &[(u32, u32)],
+    layers: &mut [u32],
     answers: &mut Vec<Added>,
 ) -> Result<Precedences, AllocError>
-    requires { routers ≤ 1000 }
+    requires small { routers ≤ 1000 }
+    requires layers { length layers.old ≡ routers }
     ensures { IfOk result (λ p. p.routers ≡ routers) }
 {
     let mut held = Precedences::new(alloc, routers)?;
     for &(u, v) in pairs {
         if u < routers && v < routers && u != v && held.mark() < 1000 {
-            held.reserve(1)?;
-            answers.push(held.add(u, v))?;
+            answers.push(assume(&mut held, layers, u, v)?)?;
         }
     }
     Ok(held)
 }
 
-/// Checks the answers, the cycle and the least extension of some pairs of five routers.
-fn check_row(
+/// Takes one pair more, and asks for the layers.
+fn assume(held: &mut Precedences, layers: &mut [u32], u: u32, v: u32) -> Result<Added, AllocError>
+    requires u_in { u < held.old.routers }
+    requires v_in { v < held.old.routers }
+    requires differ { u ≢ v }
+    requires few { length held.old.pairs < 1000 }
+    requires layers { length layers.old ≡ held.old.routers }
+    ensures { held.new.routers ≡ held.old.routers }
+{
+    held.reserve(1)?;
+    let added = held.add(u, v);
+    held.layers(layers);
+    Ok(added)
+}
+
+/// Checks which of some pairs of five routers close a cycle, and the cycle of the latest that did.
+fn check_cycles(
     rt: &(impl AllocGlobal + Abort),
     pairs: &[(u32, u32)],
     closes: &[bool],
     cycle: &[u32],
-    order: [u32; 5],
 ) -> Result<(), AllocError> {
     let mut answers = Vec::new(rt.alloc());
-    let mut held = assumed(rt.alloc(), 5, pairs, &mut answers)?;
+    let held = assumed(rt.alloc(), 5, pairs, &mut [9; 5], &mut answers)?;
     let mut closed = Vec::new(rt.alloc());
     for answer in answers.as_slice() {
         closed.push(*answer == Added::Closes)?;
     }
     assert_eq!(rt; closed.as_slice(), closes, "at {pairs:?}");
     assert_eq!(rt; held.cycle(), cycle, "at {pairs:?}");
-    let mut out = [9; 5];
-    held.least_extension(&mut out);
-    assert_eq!(rt; out, order, "at {pairs:?}");
     Ok(())
 }
 
@@ -54,8 +66,8 @@ fn check_layers(
     chain: &[u32],
 ) -> Result<(), AllocError> {
     let mut answers = Vec::new(rt.alloc());
-    let mut held = assumed(rt.alloc(), 5, pairs, &mut answers)?;
     let mut out = [9; 5];
+    let mut held = assumed(rt.alloc(), 5, pairs, &mut out, &mut answers)?;
     let count = held.layers(&mut out);
     assert_eq!(rt; out, layers, "at {pairs:?}");
     let length = held.chain(&mut out);
@@ -80,49 +92,46 @@ fn layers_and_chains(rt: HostRuntime) -> Result<(), AllocError> {
 }
 
 #[test]
-fn pairs_cycles_and_least_extensions(rt: HostRuntime) -> Result<(), AllocError> {
-    // no pair; one that holds back the lowest; one that frees a router which is lower than the others
-    check_row(&rt, &[], &[], &[], [0, 1, 2, 3, 4])?;
-    check_row(&rt, &[(4, 0)], &[false], &[], [1, 2, 3, 4, 0])?;
-    check_row(&rt, &[(1, 0)], &[false], &[], [1, 0, 2, 3, 4])?;
-    check_row(
-        &rt,
-        &[(2, 0), (4, 2)],
-        &[false, false],
-        &[],
-        [1, 3, 4, 2, 0],
-    )?;
-    // the lowest way back, which isn't the shortest; a router that doesn't lead back is passed by
-    check_row(
-        &rt,
-        &[(0, 1), (1, 2), (2, 3), (0, 3), (3, 0)],
-        &[false, false, false, false, true],
-        &[3, 0, 1, 2],
-        [0, 1, 2, 3, 4],
-    )?;
-    check_row(
-        &rt,
-        &[(0, 1), (0, 4), (0, 2), (2, 3), (4, 3), (3, 0)],
-        &[false, false, false, false, false, true],
-        &[3, 0, 2],
-        [0, 1, 2, 4, 3],
-    )?;
-    check_row(
+fn pairs_that_close_cycles(rt: HostRuntime) -> Result<(), AllocError> {
+    check_cycles(&rt, &[], &[], &[])?;
+    check_cycles(&rt, &[(2, 0), (4, 2)], &[false, false], &[])?;
+    check_cycles(
         &rt,
         &[(1, 0), (0, 1), (1, 0)],
         &[false, true, false],
         &[0, 1],
-        [1, 0, 2, 3, 4],
+    )?;
+    // the lowest way back, which isn't the shortest
+    check_cycles(
+        &rt,
+        &[(0, 1), (1, 2), (2, 3), (0, 3), (3, 0)],
+        &[false, false, false, false, true],
+        &[3, 0, 1, 2],
+    )?;
+    // a router that doesn't lead back is passed by, and so are two in a row
+    check_cycles(
+        &rt,
+        &[(0, 1), (0, 4), (0, 2), (2, 3), (4, 3), (3, 0)],
+        &[false, false, false, false, false, true],
+        &[3, 0, 2],
+    )?;
+    check_cycles(
+        &rt,
+        &[(0, 1), (1, 2), (0, 4), (4, 2), (4, 3), (3, 0)],
+        &[false, false, false, false, false, true],
+        &[3, 0, 4],
     )
 }
 
 #[test]
 fn pairs_are_taken_back(rt: HostRuntime) -> Result<(), AllocError> {
     let mut answers = Vec::new(rt.alloc());
+    let mut out = [9; 5];
     let mut held = assumed(
         rt.alloc(),
         5,
         &[(0, 1), (1, 2), (2, 3), (3, 0)],
+        &mut out,
         &mut answers,
     )?;
     assert_eq!(&rt; held.mark(), 3);
@@ -133,10 +142,15 @@ fn pairs_are_taken_back(rt: HostRuntime) -> Result<(), AllocError> {
     assert!(&rt; held.add(3, 0) == Added::Kept);
     let expected = [3, 0, 1, 2];
     assert_eq!(&rt; held.cycle(), expected.as_slice());
-    let mut out = [9; 5];
-    held.least_extension(&mut out);
-    assert_eq!(&rt; out, [2, 3, 0, 1, 4]);
     assert_eq!(&rt; held.layers(&mut out), 3);
     assert_eq!(&rt; out, [1, 2, 0, 0, 0]);
+    // layers that were asked for are those of the first pairs again; a mark that stands takes nothing back
+    if held.mark() >= 1 {
+        held.undo_to(1);
+    }
+    assert_eq!(&rt; held.layers(&mut out), 2);
+    assert_eq!(&rt; out, [0, 1, 0, 0, 0]);
+    held.undo_to(held.mark());
+    assert_eq!(&rt; held.layers(&mut out), 2);
     Ok(())
 }

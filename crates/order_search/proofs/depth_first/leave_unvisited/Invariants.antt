@@ -1,6 +1,9 @@
-use Rattle.std.proofs.Common.{◌≡◌, ◌++◌, replicate}
+use Rattle.std.proofs.Common.{◌≡◌, ◌++◌, length, replicate}
 use Rattle.order_search.specs.declared.tree.Node.TheVariants.{Unvisited}
 use Rattle.order_search.proofs.depth_first.leave_unvisited.Given as goal
 
-abbrev pub invariant-loop : goal.invariant-loop
-invariant-loop l = l.tree ≡ l.initial.tree ++ replicate l.counter Unvisited
+abbrev pub invariant-loop-child : goal.invariant-loop-child
+invariant-loop-child l = l.tree ++ replicate (length l.waiting) Unvisited ≡ l.initial.tree ++ replicate (length l.initial.waiting) Unvisited
+
+abbrev pub decreases-loop-child : goal.decreases-loop-child
+decreases-loop-child l = length l.waiting

@@ -1,47 +1,75 @@
--- The child on top is the first of those that wait.
+-- The child that is taken is the first of those that wait.
 use Rattle.std.specs.Bool.{OnTrue, OnFalse}
-use Rattle.std.proofs.Common.{Bool, ◌≡◌, ◌++◌, ◌∷◌, [], List, ℕ, take, reverse, sym, subst, ap, ◌∙◌}
-use Rattle.std.proofs.lemmas.List.{reverse-append}
-use Rattle.order_search.specs.Waiting.{place_of, AreChildren}
+use Rattle.std.proofs.Common.{Bool, ◌≡◌, ◌∷◌, [], List, ℕ, take, sym, subst, ◌∙◌}
+use Rattle.order_core.specs.Pairs.{Pair}
+use Rattle.order_search.specs.Waiting.{place_of, AreChildren, IsUnder}
 use Rattle.order_search.specs.Leaves.{GrowsLeaves}
-use Rattle.order_search.specs.declared.children.Child.{Child}
+use Rattle.order_search.specs.declared.child.Child.{Child}
 use Rattle.order_search.proofs.LeafFacts.{AreChildren-left, GrowsLeaves-place, AreChildren-back, GrowsLeaves-back}
 use Rattle.order_search.proofs.places.next_place.Goals as goal
 
--- the child on top is the first one
-on_top : (all rest : List Child) (c : Child) → all ≡ rest ++ c ∷ [] → reverse all ≡ c ∷ reverse rest
-on_top all rest c e = ap (λ (xs : List Child). reverse xs) e ∙ reverse-append rest (c ∷ [])
+-- the first of the children that wait stands there alone
+first_alone : (n : ℕ) (base pairs : List Pair) (all rest : List Child) (c : Child) → IsUnder n base pairs all → all ≡ c ∷ rest → IsUnder n base pairs (c ∷ [])
+first_alone n base pairs all rest c under top =
+    let each : AreChildren n base pairs (c ∷ rest) = subst (λ (xs : List Child). AreChildren n base pairs xs) top under.waiting in
+    record { fresh = under.fresh; waiting = (each.0, tt) }
 
-pub enter-requires-clause-child : goal.enter-requires-clause-child
-enter-requires-clause-child c =
-    let top = on_top c.loop-child.waiting.items c.pop.new.self.items c.in-Some.child c.in-Some.ensures.items in
-    let each : AreChildren c.loop-child.held.routers c.loop-child.held.pairs (c.in-Some.child ∷ reverse c.pop.new.self.items) =
-    subst (λ (xs : List Child). AreChildren c.loop-child.held.routers c.loop-child.held.pairs xs) top c.loop-child.invariant.children in
-    each.0
+pub enter-requires-clause-stands : goal.enter-requires-clause-stands
+enter-requires-clause-stands c =
+    let base = c.requires.stands.0 in (
+      base,
+      first_alone c.loop-child.held.routers base c.loop-child.held.pairs _ _ c.in-Some.child (c.loop-child.invariant.stands base c.requires.stands.1)
+          c.in-Some.ensures.some,
+    )
 
-pub returns-then-branch-clause-children : goal.returns-then-branch-clause-children
-returns-then-branch-clause-children c =
-    let top = on_top c.loop-child.waiting.items c.pop.new.self.items c.in-Some.child c.in-Some.ensures.items in
-    let place = subst (λ (b : Bool). OnTrue b (c.enter.new.held.pairs ≡ place_of c.loop-child.held.pairs c.in-Some.child)) c.if-branch.true c.in_ok-enter.ensures.place in
-    subst (λ (n : ℕ). AreChildren n c.enter.new.held.pairs (reverse c.pop.new.self.items)) (sym c.in_ok-enter.ensures.routers)
-    (AreChildren-left _ c.loop-child.held.pairs c.enter.new.held.pairs _ _ c.in-Some.child c.loop-child.invariant.children top place)
+pub returns-then-branch-clause-stands : goal.returns-then-branch-clause-stands
+returns-then-branch-clause-stands c = λ base before.
+    let top = c.in-Some.ensures.some in
+    let under = c.loop-child.invariant.stands base before in
+    let place = subst (λ (b : Bool). OnTrue b (c.enter.new.held.pairs ≡ place_of c.loop-child.held.pairs c.in-Some.child)) c.if-branch.true
+    c.in_ok-enter.ensures.place in
+    record {
+      fresh = c.in_ok-enter.ensures.fresh base (first_alone c.loop-child.held.routers base c.loop-child.held.pairs _ _ c.in-Some.child under top);
+      waiting = subst (λ (n : ℕ). AreChildren n base c.enter.new.held.pairs c.next.new.self) (sym c.in_ok-enter.ensures.routers)
+          (AreChildren-left _ base c.loop-child.held.pairs c.enter.new.held.pairs _ _ c.in-Some.child under.waiting top place);
+    }
 
 pub returns-then-branch-clause-found : goal.returns-then-branch-clause-found
 returns-then-branch-clause-found c =
-    let top = on_top c.loop-child.waiting.items c.pop.new.self.items c.in-Some.child c.in-Some.ensures.items in
-    let place = subst (λ (b : Bool). OnTrue b (c.enter.new.held.pairs ≡ place_of c.loop-child.held.pairs c.in-Some.child)) c.if-branch.true c.in_ok-enter.ensures.place in
+    let top = c.in-Some.ensures.some in
+    let base = c.requires.stands.0 in
+    let under = c.loop-child.invariant.stands base c.requires.stands.1 in
+    let place = subst (λ (b : Bool). OnTrue b (c.enter.new.held.pairs ≡ place_of c.loop-child.held.pairs c.in-Some.child)) c.if-branch.true
+    c.in_ok-enter.ensures.place in
     let same = subst (λ (b : Bool). OnTrue b (c.enter.new.tree ≡ c.loop-child.tree)) c.if-branch.true c.in_ok-enter.ensures.same in
-    GrowsLeaves-place c.loop-child.held.routers c.args.tree.now c.loop-child.tree c.enter.new.tree _ c.loop-child.held.pairs c.enter.new.held.pairs _ _ c.in-Some.child c.loop-child.invariant.children top c.loop-child.invariant.grown place same
+    GrowsLeaves-place c.loop-child.held.routers base c.args.tree.now c.loop-child.tree c.enter.new.tree _ c.loop-child.held.pairs c.enter.new.held.pairs _ _
+    c.in-Some.child under.waiting top c.loop-child.invariant.grown place same
 
 pub loop-child-preserved : goal.loop-child-preserved
 loop-child-preserved c =
-    let top = on_top c.loop-child.waiting.items c.pop.new.self.items c.in-Some.child c.in-Some.ensures.items in
-    let back = subst (λ (b : Bool). OnFalse b (c.enter.new.held.pairs ≡ take c.in-Some.child.above c.loop-child.held.pairs)) c.if-branch.false c.in_ok-enter.ensures.back in
-    let leaf = subst (λ (b : Bool). OnFalse b (GrowsLeaves c.loop-child.tree c.enter.new.tree (place_of c.loop-child.held.pairs c.in-Some.child ∷ []) [])) c.if-branch.false c.in_ok-enter.ensures.leaf in
+    let top = c.in-Some.ensures.some in
+    let back = subst (λ (b : Bool). OnFalse b (c.enter.new.held.pairs ≡ take c.in-Some.child.above c.loop-child.held.pairs)) c.if-branch.false
+    c.in_ok-enter.ensures.back in
+    let leaf = subst (λ (b : Bool). OnFalse b (GrowsLeaves c.loop-child.tree c.enter.new.tree (place_of c.loop-child.held.pairs c.in-Some.child ∷ []) []))
+    c.if-branch.false c.in_ok-enter.ensures.leaf in
     record {
       routers = c.in_ok-enter.ensures.routers ∙ c.loop-child.invariant.routers;
-      fresh = c.in_ok-enter.ensures.fresh;
-      children = subst (λ (n : ℕ). AreChildren n c.enter.new.held.pairs (reverse c.pop.new.self.items)) (sym c.in_ok-enter.ensures.routers)
-          (AreChildren-back _ c.loop-child.held.pairs c.enter.new.held.pairs _ _ c.in-Some.child c.loop-child.invariant.children top back);
-      grown = GrowsLeaves-back c.args.tree.now c.loop-child.tree c.enter.new.tree _ c.loop-child.held.pairs c.enter.new.held.pairs _ _ c.in-Some.child top c.loop-child.invariant.grown back leaf;
+      stands = λ base before.
+          let under = c.loop-child.invariant.stands base before in
+          record {
+            fresh = c.in_ok-enter.ensures.fresh base (first_alone c.loop-child.held.routers base c.loop-child.held.pairs _ _ c.in-Some.child under top);
+            waiting = subst (λ (n : ℕ). AreChildren n base c.enter.new.held.pairs c.next.new.self) (sym c.in_ok-enter.ensures.routers)
+                (AreChildren-back _ base c.loop-child.held.pairs c.enter.new.held.pairs _ _ c.in-Some.child under.waiting top back);
+          };
+      grown = GrowsLeaves-back c.args.tree.now c.loop-child.tree c.enter.new.tree _ c.loop-child.held.pairs c.enter.new.held.pairs _ _ c.in-Some.child top
+          c.loop-child.invariant.grown back leaf;
+    }
+
+pub returns-clause-stands : goal.returns-clause-stands
+returns-clause-stands c = λ base before.
+    let under = c.loop-child.invariant.stands base before in
+    record {
+      fresh = under.fresh;
+      waiting = subst (λ (xs : List Child). AreChildren c.loop-child.held.routers base c.loop-child.held.pairs xs)
+          (sym c.in_default.ensures.left) tt;
     }

@@ -1,20 +1,12 @@
 use Rattle.std.proofs.Common.{◌≡◌, ◌≤◌, ◌-◌, max, take, vec_len}
 use Rattle.precedence_set.proofs.precedences.widen.Given as goal
 
-abbrev pub invariant-loop-earlier : goal.invariant-loop-earlier
-invariant-loop-earlier l = vec_len l.room ≤ vec_len l.earlier
-
-abbrev pub decreases-loop-earlier : goal.decreases-loop-earlier
-decreases-loop-earlier l = l.wanted - vec_len l.earlier
-
 abbrev pub invariant-loop-room : goal.invariant-loop-room
 invariant-loop-room l = record {
-  ahead : vec_len l.room ≤ vec_len l.earlier;
   bound : vec_len l.room ≤ 1000000;
   sized : vec_len l.room ≤ max (vec_len l.fn.room) l.wanted;
   no_less : vec_len l.fn.room ≤ vec_len l.room;
   kept : take (vec_len l.fn.room) l.room.items ≡ l.fn.room.items;
-  first : l.wanted ≤ vec_len l.earlier;
 }
 
 abbrev pub decreases-loop-room : goal.decreases-loop-room

@@ -2,7 +2,7 @@
 use Rattle.std.proofs.Common.{◌≡◌, ℕ, false, length, arith, ap, ◌∙◌}
 use Rattle.std.proofs.lemmas.Bool.{false≢true}
 use Rattle.precedence_set.specs.Sorting.{left_into}
-use Rattle.precedence_set.specs.Waits.{pair_at}
+use Rattle.precedence_set.specs.Successors.{pair_at}
 use Rattle.precedence_set.proofs.LayerFacts.{pair_at_below}
 use Rattle.precedence_set.proofs.SortFacts.{left_le}
 use Rattle.precedence_set.proofs.sorting.count_pairs.Goals as goal

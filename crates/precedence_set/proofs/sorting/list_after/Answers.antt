@@ -1,7 +1,7 @@
 -- Each step of the walk frees the router where the next pair leads.
 use Rattle.std.proofs.Common.{ℕ, ◌<◌, ◌≡◌, Option, arith, subst, sym, refl, get_or, length}
 use Rattle.precedence_set.specs.Sorting.{IsGone, IsGoneBy}
-use Rattle.precedence_set.specs.Waits.{pair_at}
+use Rattle.precedence_set.specs.Successors.{pair_at}
 use Rattle.precedence_set.proofs.LayerFacts.{pair_at_below}
 use Rattle.precedence_set.proofs.SuccessorFacts.{IsFirstFrom-first, IsFirstFrom-next, left_after, left_after-smaller}
 use Rattle.precedence_set.proofs.SortFacts.{AreCounted-same, counted_some}

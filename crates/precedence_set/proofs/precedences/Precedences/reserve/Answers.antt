@@ -2,6 +2,7 @@
 use Rattle.std.proofs.Common.{◌≡◌, ◌≤◌, ℕ, List, length, take, arith, subst, sym, ap, ◌∙◌}
 use Rattle.std.proofs.lemmas.List.{take-take}
 use Rattle.order_core.specs.Pairs.{Pair, AreBelow, HasNoCycle}
+use Rattle.precedence_set.specs.Layers.{AreLayers}
 use Rattle.precedence_set.proofs.MarkedLinks.{AreMarked-same}
 use Rattle.precedence_set.proofs.precedences.Precedences.reserve.Goals as goal
 
@@ -22,19 +23,13 @@ invariant_of-self c =
       spare = omega (arith, c.widen.ensures.spare, moves, old.moves);
       moves = moves ∙ old.moves;
       marked = AreMarked-same a.routers a.room.items c.widen.new.room.items a.count a.successors c.widen.new.successors old.marked c.widen.ensures.lists c.widen.ensures.trail kept;
-      stage_nodes = old.stage_nodes;
-      stages_bare = old.stages_bare;
-      unmoved = old.unmoved;
-      stage_spare = old.stage_spare;
-      listed_length = old.listed_length;
-      earlier_length = c.widen.ensures.ahead;
       cycle_length = old.cycle_length;
       cycle_counted = old.cycle_counted;
-      waits_length = old.waits_length;
       marks_length = old.marks_length;
       counts_length = old.counts_length;
       order_length = old.order_length;
       layers_length = old.layers_length;
       below = subst (λ (xs : List Pair). AreBelow a.routers xs) e old.below;
       acyclic = subst (λ (xs : List Pair). HasNoCycle xs) e old.acyclic;
+      layered = λ fresh. subst (λ (xs : List Pair). AreLayers a.routers xs a.layers.items) e (old.layered fresh);
     }

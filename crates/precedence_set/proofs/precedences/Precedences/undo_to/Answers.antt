@@ -1,5 +1,5 @@
 -- Fewer pairs are of the same routers, and have no cycle either.
-use Rattle.std.proofs.Common.{◌≤◌, ◌<◌, ◌≡◌, List, length, take, arith, subst, ap, ℕ, ◌∙◌}
+use Rattle.std.proofs.Common.{◌≤◌, ◌<◌, ◌≡◌, List, length, take, true, false, arith, subst, ap, ℕ, ◌∙◌}
 use Rattle.std.proofs.lemmas.List.{take-take, length-take-le}
 use Rattle.std.proofs.lemmas.List.Elements.{All-take}
 use Rattle.order_core.specs.Pairs.{Pair, AreBelow, HasNoCycle}
@@ -23,19 +23,13 @@ invariant_of-self c =
       spare = omega (arith, old.spare, old.moves, le, c.undo_to.ensures.spare);
       moves = ap (λ (t : List (List (List ℕ))). length t) c.undo_to.ensures.trail ∙ length-take-le c.args.mark a.successors.trail (omega (arith, old.moves, le));
       marked = AreMarked-undone a.routers a.room.items a.count c.args.mark a.successors c.undo_to.new.self old.marked old.moves le c.undo_to.ensures.lists c.undo_to.ensures.trail;
-      stage_nodes = old.stage_nodes;
-      stages_bare = old.stages_bare;
-      unmoved = old.unmoved;
-      stage_spare = old.stage_spare;
-      listed_length = old.listed_length;
-      earlier_length = old.earlier_length;
       cycle_length = old.cycle_length;
       cycle_counted = old.cycle_counted;
-      waits_length = old.waits_length;
       marks_length = old.marks_length;
       counts_length = old.counts_length;
       order_length = old.order_length;
       layers_length = old.layers_length;
       below = subst (λ (xs : List Pair). AreBelow a.routers xs) e (All-take (λ (p : Pair). (p.0 < a.routers) × (p.1 < a.routers)) c.args.mark (take a.count a.room.items) old.below);
       acyclic = subst (λ (xs : List Pair). HasNoCycle xs) e (HasNoCycle-take (take a.count a.room.items) c.args.mark old.acyclic);
+      layered = λ (e : true ≡ false). cc;
     }

@@ -1,0 +1,52 @@
+-- What an oracle means, and what it says of a ranking.
+use Rattle.std.specs.Prelude.{◌≢◌, ℕ, ◌<◌, ◌≤◌, List, [], length, All, AllPairs, Contains}
+use Rattle.std.proofs.Common.{arith}
+use Rattle.order_core.specs.Pairs.{Pair, AreBelow, HasNoCycle}
+use Rattle.order_core.specs.Rankings.{KeepsPair, KeepsPairs, rank_of}
+use Rattle.order_core.specs.Turns.{old_routers, new_routers, HasBothTags}
+use Rattle.order_core.specs.declared.turn.Turn.{Turn}
+use Rattle.order_search.specs.Trees.{Real}
+
+-- which rankings are good
+abbrev pub Good : Type 1
+Good = List ℕ → Type 0
+
+-- which address and turns are the ones that are told of a ranking
+abbrev pub Picked : Type 1
+Picked = List ℕ → ℕ → List Turn → Type 0
+
+-- the meaning of an oracle over so many numbers, and the pairs that are assumed from the start
+pub record Meaning : Type 1 where
+  pub good : Good
+  pub real : Real
+  pub picked : Picked
+  pub size : ℕ
+  pub base : List Pair
+
+-- a base: at most n pairs of numbers below n, without a cycle; so each is of two different numbers
+pub record IsBase (n : ℕ) (base : List Pair) : Type 0 where
+  pub few : length base ≤ n
+  pub below : AreBelow n base
+  pub acyclic : HasNoCycle base
+
+-- the address and turns break a ranking: they are real and picked for it, their routers are distinct and
+-- below n, some turn is Old and some New, and no New turn's router stands in a later wave than an Old turn's
+pub record Break (real : Real) (picked : Picked) (n : ℕ) (ranks : List ℕ) (address : ℕ) (turns : List Turn) : Type 0 where
+  pub is_real : real address turns
+  pub pick : picked ranks address turns
+  pub distinct : AllPairs (λ (s t : Turn). s.router ≢ t.router) turns
+  pub below : All (λ (t : Turn). t.router < n) turns
+  pub both : HasBothTags turns
+  pub no_later : (u v : ℕ) → Contains (old_routers turns) u → Contains (new_routers turns) v → rank_of ranks v ≤ rank_of ranks u
+
+-- a ranking gives some Old turn's router a lower rank than some New turn's router
+pub record RanksSomeOldFirst (ranks : List ℕ) (turns : List Turn) : Type 0 where
+  pub old : ℕ
+  pub new : ℕ
+  pub is_old : Contains (old_routers turns) old
+  pub is_new : Contains (new_routers turns) new
+  pub keeps : KeepsPair ranks (old, new)
+
+-- every ranking keeps the pairs of the empty base
+pub KeepsPairs-nil : (ranks : List ℕ) → KeepsPairs ranks []
+KeepsPairs-nil ranks = λ pair has. absurd (omega (arith, has.1))

@@ -1,0 +1,218 @@
+-- What v reaches, marked and listed: one router more, the routers after one, and all.
+use Rattle.std.proofs.Common.{◌≡◌, ◌≢◌, ℕ, zero, suc, ◌+◌, ◌<◌, ◌≤◌, ◌⊎◌, inl, inr, Bool, true, false, List, [], ◌∷◌, length, get_or, set, Option, Some, None}
+use Rattle.std.proofs.Common.{arith, subst, sym, refl, ap, ◌∙◌}
+use Rattle.std.specs.List.{Contains}
+use Rattle.std.proofs.lemmas.Bool.{cases_lt, cases_eq, false≢true}
+use Rattle.std.proofs.lemmas.List.{get_or-set_same, get_or-set_other, get_or_past, get_or_default}
+use Rattle.std.proofs.lemmas.List.Elements.{Contains-get_or}
+use Rattle.order_core.specs.Pairs.{Pair, IsPath, Reaches}
+use Rattle.order_core.specs.Marks.{IsMarked}
+use Rattle.order_core.proofs.Paths.{Reaches-itself, Reaches-step, Reaches-trans}
+use Rattle.precedence_set.specs.Marks.{marked_count, AreListed}
+use Rattle.precedence_set.specs.Successors.{pair_at, IsFirstFrom}
+
+-- How many are marked
+
+pub marked_in : (marks : List Bool) (r : ℕ) → IsMarked marks r → r < length marks
+marked_in marks r marked = elim (cases_lt r (length marks)) [
+  | inl lt ↦ lt
+  | inr ge ↦ absurd (false≢true (sym (get_or_past marks r false ge) ∙ marked))
+]
+
+pub marked_count-le : (marks : List Bool) → marked_count marks ≤ length marks
+marked_count-le [] = omega arith
+marked_count-le (true ∷ marks) = omega (arith, marked_count-le marks)
+marked_count-le (false ∷ marks) = omega (arith, marked_count-le marks)
+
+marked_count-none : (marks : List Bool) → ((r : ℕ) → ¬ IsMarked marks r) → marked_count marks ≡ 0
+marked_count-none [] bare = refl
+marked_count-none (true ∷ marks) bare = absurd (bare 0 refl)
+marked_count-none (false ∷ marks) bare = marked_count-none marks (λ r. bare (suc r))
+
+pub marked_count-more : (marks : List Bool) (r : ℕ) → r < length marks → ¬ IsMarked marks r → marked_count (set marks r true) ≡ marked_count marks + 1
+marked_count-more [] r r_in fresh = absurd (omega (arith, r_in))
+marked_count-more (true ∷ marks) zero r_in fresh = absurd (fresh refl)
+marked_count-more (false ∷ marks) zero r_in fresh = refl
+marked_count-more (true ∷ marks) (suc r) r_in fresh = ap (λ (n : ℕ). n + 1) (marked_count-more marks r (omega (arith, r_in)) fresh)
+marked_count-more (false ∷ marks) (suc r) r_in fresh = marked_count-more marks r (omega (arith, r_in)) fresh
+
+-- where a router isn't marked, not all are
+pub marked_count-room : (marks : List Bool) (r : ℕ) → r < length marks → ¬ IsMarked marks r → marked_count marks < length marks
+marked_count-room [] r r_in fresh = absurd (omega (arith, r_in))
+marked_count-room (true ∷ marks) zero r_in fresh = absurd (fresh refl)
+marked_count-room (false ∷ marks) zero r_in fresh = omega (arith, marked_count-le marks)
+marked_count-room (true ∷ marks) (suc r) r_in fresh = omega (arith, marked_count-room marks r (omega (arith, r_in)) fresh)
+marked_count-room (false ∷ marks) (suc r) r_in fresh = omega (arith, marked_count-room marks r (omega (arith, r_in)) fresh)
+
+-- One router more
+
+pub AreListed-none : (marks : List Bool) (list : List ℕ) → ((r : ℕ) → ¬ IsMarked marks r) → AreListed marks list 0
+AreListed-none marks list bare = record {
+  counted = sym (marked_count-none marks bare);
+  listed = λ r marked. absurd (bare r marked);
+  marked = λ j lt. absurd (omega (arith, lt));
+}
+
+-- a mark stays when another is set, and is new only where it was set
+pub marked_kept : (marks : List Bool) (w r : ℕ) → w < length marks → IsMarked marks r → IsMarked (set marks w true) r
+marked_kept marks w r w_in marked = elim (cases_eq r w) [
+  | inl same ↦ subst (λ (x : ℕ). IsMarked (set marks w true) x) (sym same) (get_or-set_same marks w true false w_in)
+  | inr apart ↦ get_or-set_other marks w r true false apart ∙ marked
+]
+
+pub marked_from : (marks : List Bool) (w r : ℕ) → IsMarked (set marks w true) r → IsMarked marks r ⊎ (r ≡ w)
+marked_from marks w r marked = elim (cases_eq r w) [
+  | inl same ↦ inr same
+  | inr apart ↦ inl (sym (get_or-set_other marks w r true false apart) ∙ marked)
+]
+
+pub AreListed-more : (marks : List Bool) (list : List ℕ) (count w : ℕ) → w < length marks → count < length list → ¬ IsMarked marks w →
+    AreListed marks list count → AreListed (set marks w true) (set list count w) (count + 1)
+AreListed-more marks list count w w_in room fresh are = record {
+  counted = omega (arith, are.counted, marked_count-more marks w w_in fresh);
+  listed = λ r marked. elim (marked_from marks w r marked) [
+    | inl old ↦
+        let at = are.listed r old in
+        (at.0, omega (arith, at.1), get_or-set_other list count at.0 w 0 (λ same. omega (arith, same, at.1)) ∙ at.2)
+    | inr same ↦ (count, omega arith, get_or-set_same list count w 0 room ∙ sym same)
+  ];
+  marked = λ j lt. elim (cases_lt j count) [
+    | inl before ↦
+        let at : get_or list j 0 ≡ get_or (set list count w) j 0 = sym (get_or-set_other list count j w 0 (λ same. omega (arith, same, before))) in
+        subst (λ (x : ℕ). IsMarked (set marks w true) x) at (marked_kept marks w (get_or list j 0) w_in (are.marked j before))
+    | inr ge ↦
+        let here : j ≡ count = omega (arith, ge, lt) in
+        let at : w ≡ get_or (set list count w) j 0 = sym (ap (λ (i : ℕ). get_or (set list count w) i 0) here ∙ get_or-set_same list count w 0 room) in
+        subst (λ (x : ℕ). IsMarked (set marks w true) x) at (get_or-set_same marks w true false w_in)
+  ];
+}
+
+-- The walk over the pairs from x
+
+-- what the walk keeps, where it has come to the pair `at`
+pub record IsReachingOn (pairs : List Pair) (x : ℕ) (marks₀ marks : List Bool) (list₀ list : List ℕ) (count₀ count : ℕ) (at : Option ℕ) : Type 0 where
+  pub start : ℕ
+  pub first : IsFirstFrom pairs x start at
+  pub listed : AreListed marks list count
+  pub kept : (r : ℕ) → IsMarked marks₀ r → IsMarked marks r
+  pub from : (r : ℕ) → IsMarked marks r → IsMarked marks₀ r ⊎ Contains pairs (x, r)
+  pub passed : (j : ℕ) → j < start → j < length pairs → (pair_at pairs j).0 ≡ x → IsMarked marks (pair_at pairs j).1
+  pub same : (j : ℕ) → j < count₀ → get_or list j 0 ≡ get_or list₀ j 0
+  pub no_fewer : count₀ ≤ count
+
+pub IsReachingOn-begin : (pairs : List Pair) (x : ℕ) (marks : List Bool) (list : List ℕ) (count : ℕ) (at : Option ℕ) → IsFirstFrom pairs x 0 at →
+    AreListed marks list count → IsReachingOn pairs x marks marks list list count count at
+IsReachingOn-begin pairs x marks list count at first listed = record {
+  start = 0;
+  first = first;
+  listed = listed;
+  kept = λ r marked. marked;
+  from = λ r marked. inl marked;
+  passed = λ j lt. absurd (omega (arith, lt));
+  same = λ j lt. refl;
+  no_fewer = omega arith;
+}
+
+pub IsReachingOn-step : (pairs : List Pair) (x : ℕ) (marks₀ marks marks' : List Bool) (list₀ list list' : List ℕ) (count₀ count count' i : ℕ) (next : Option ℕ) →
+    IsReachingOn pairs x marks₀ marks list₀ list count₀ count (Some i) → IsFirstFrom pairs x (suc i) next → AreListed marks' list' count' →
+    ((r : ℕ) → IsMarked marks r → IsMarked marks' r) → ((r : ℕ) → IsMarked marks' r → IsMarked marks r ⊎ (r ≡ (pair_at pairs i).1)) →
+    IsMarked marks' (pair_at pairs i).1 → ((j : ℕ) → j < count → get_or list' j 0 ≡ get_or list j 0) → count ≤ count' →
+    IsReachingOn pairs x marks₀ marks' list₀ list' count₀ count' next
+IsReachingOn-step pairs x marks₀ marks marks' list₀ list list' count₀ count count' i next on first listed kept from marked same no_fewer = record {
+  start = suc i;
+  first = first;
+  listed = listed;
+  kept = λ r old. kept r (on.kept r old);
+  from = λ r new. elim (from r new) [
+    | inl old ↦ on.from r old
+    | inr is ↦
+        let pair : pair_at pairs i ≡ (x, r) = ap (λ (a : ℕ). (a, (pair_at pairs i).1)) on.first.2 ∙ ap (λ (b : ℕ). (x, b)) (sym is) in
+        inr (subst (λ (p : Pair). Contains pairs p) pair (Contains-get_or pairs i (0, 0) on.first.1))
+  ];
+  passed = λ j lt j_in of. elim (cases_lt j on.start) [
+    | inl before ↦ kept (pair_at pairs j).1 (on.passed j before j_in of)
+    | inr ge ↦ elim (cases_lt j i) [
+      | inl between ↦ absurd (on.first.3 j ge between of)
+      | inr end ↦
+          let here : j ≡ i = omega (arith, end, lt) in
+          subst (λ (k : ℕ). IsMarked marks' (pair_at pairs k).1) (sym here) marked
+    ]
+  ];
+  same = λ j lt. same j (omega (arith, lt, on.no_fewer)) ∙ on.same j lt;
+  no_fewer = omega (arith, on.no_fewer, no_fewer);
+}
+
+-- at its end all that is assumed after x is marked
+pub IsReachingOn-end : (pairs : List Pair) (x : ℕ) (marks₀ marks : List Bool) (list₀ list : List ℕ) (count₀ count : ℕ) (at : Option ℕ) →
+    IsReachingOn pairs x marks₀ marks list₀ list count₀ count at → ((i : ℕ) → at ≡ Some i → ⊥) → (w : ℕ) → Contains pairs (x, w) → IsMarked marks w
+IsReachingOn-end pairs x marks₀ marks list₀ list count₀ count (Some i) on none w has = absurd (none i refl)
+IsReachingOn-end pairs x marks₀ marks list₀ list count₀ count None on none w has =
+    let e : pair_at pairs has.0 ≡ (x, w) = get_or_default pairs has.0 (0, 0) (x, w) has.1 ∙ has.2 in
+    let of : (pair_at pairs has.0).0 ≡ x = ap (λ (p : Pair). p.0) e in
+    elim (cases_lt has.0 on.start) [
+      | inl before ↦ subst (λ (y : ℕ). IsMarked marks y) (ap (λ (p : Pair). p.1) e) (on.passed has.0 before has.1 of)
+      | inr ge ↦ absurd (on.first has.0 ge has.1 of)
+    ]
+
+-- The walk over all that is reached
+
+-- what is marked is reached from v, and so is marked what is assumed after the first k listed routers but u
+pub record IsReaching (pairs : List Pair) (u v : ℕ) (marks : List Bool) (list : List ℕ) (k count : ℕ) : Type 0 where
+  pub listed : AreListed marks list count
+  pub sound : (r : ℕ) → IsMarked marks r → Reaches pairs v r
+  pub begun : IsMarked marks v
+  pub closed : (j : ℕ) → j < k → get_or list j 0 ≢ u → (w : ℕ) → Contains pairs (get_or list j 0, w) → IsMarked marks w
+  pub within : k ≤ count
+
+pub IsReaching-begin : (pairs : List Pair) (u v : ℕ) (marks marks' : List Bool) (list : List ℕ) (count : ℕ) → ((r : ℕ) → ¬ IsMarked marks r) →
+    AreListed marks' list count → IsMarked marks' v → ((r : ℕ) → IsMarked marks' r → IsMarked marks r ⊎ (r ≡ v)) → IsReaching pairs u v marks' list 0 count
+IsReaching-begin pairs u v marks marks' list count bare listed begun from = record {
+  listed = listed;
+  sound = λ r marked. elim (from r marked) [
+    | inl old ↦ absurd (bare r old)
+    | inr same ↦ subst (λ (x : ℕ). Reaches pairs v x) (sym same) (Reaches-itself pairs v)
+  ];
+  begun = begun;
+  closed = λ j lt. absurd (omega (arith, lt));
+  within = omega arith;
+}
+
+pub IsReaching-step : (pairs : List Pair) (u v : ℕ) (marks marks' : List Bool) (list list' : List ℕ) (k count count' : ℕ) → k < count →
+    IsReaching pairs u v marks list k count → AreListed marks' list' count' → ((r : ℕ) → IsMarked marks r → IsMarked marks' r) →
+    ((r : ℕ) → IsMarked marks' r → IsMarked marks r ⊎ Contains pairs (get_or list k 0, r)) →
+    (get_or list k 0 ≢ u → (w : ℕ) → Contains pairs (get_or list k 0, w) → IsMarked marks' w) →
+    ((j : ℕ) → j < count → get_or list' j 0 ≡ get_or list j 0) → count ≤ count' → IsReaching pairs u v marks' list' (k + 1) count'
+IsReaching-step pairs u v marks marks' list list' k count count' k_in on listed kept from after same no_fewer = record {
+  listed = listed;
+  sound = λ r marked. elim (from r marked) [
+    | inl old ↦ on.sound r old
+    | inr has ↦ Reaches-trans pairs v (get_or list k 0) r (on.sound (get_or list k 0) (on.listed.marked k k_in))
+        (Reaches-step pairs (get_or list k 0) r r has (Reaches-itself pairs r))
+  ];
+  begun = kept v on.begun;
+  closed = λ j lt differ w has. elim (cases_lt j k) [
+    | inl before ↦
+        let at : get_or list' j 0 ≡ get_or list j 0 = same j (omega (arith, before, k_in)) in
+        kept w (on.closed j before (λ e. differ (at ∙ e)) w (subst (λ (x : ℕ). Contains pairs (x, w)) at has))
+    | inr ge ↦
+        let here : j ≡ k = omega (arith, ge, lt) in
+        let at : get_or list' j 0 ≡ get_or list k 0 = ap (λ (i : ℕ). get_or list' i 0) here ∙ same k k_in in
+        after (λ e. differ (at ∙ e)) w (subst (λ (x : ℕ). Contains pairs (x, w)) at has)
+  ];
+  within = omega (arith, k_in, no_fewer);
+}
+
+-- once all are walked over, u is marked where v reaches it
+pub IsReaching-end : (pairs : List Pair) (u v : ℕ) (marks : List Bool) (list : List ℕ) (k count : ℕ) → count ≤ k → IsReaching pairs u v marks list k count →
+    Reaches pairs v u → IsMarked marks u
+IsReaching-end pairs u v marks list k count whole on reaches = along v reaches.path reaches.onward on.begun
+  where
+    along : (x : ℕ) (path : List ℕ) → IsPath pairs x path u → IsMarked marks x → IsMarked marks u
+    along x [] onward marked = subst (λ (y : ℕ). IsMarked marks y) onward marked
+    along x (w ∷ path) onward marked =
+        let at = on.listed.listed x marked in
+        elim (cases_eq x u) [
+          | inl same ↦ subst (λ (y : ℕ). IsMarked marks y) same marked
+          | inr apart ↦ along w path onward.1 (on.closed at.0 (omega (arith, at.1, whole)) (λ e. apart (sym at.2 ∙ e)) w
+              (subst (λ (y : ℕ). Contains pairs (y, w)) (sym at.2) onward.0))
+        ]

@@ -1,0 +1,9 @@
+use Rattle.std.proofs.Common.{◌-◌, length}
+use Rattle.precedence_set.proofs.ReachFacts.{IsReaching}
+use Rattle.precedence_set.proofs.reaching.list_reached.Given as goal
+
+abbrev pub invariant-loop-k : goal.invariant-loop-k
+invariant-loop-k l = IsReaching l.pairs l.u l.v l.marks l.list l.k l.count
+
+abbrev pub decreases-loop-k : goal.decreases-loop-k
+decreases-loop-k l = length l.list - l.k
