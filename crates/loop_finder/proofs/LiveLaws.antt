@@ -18,7 +18,7 @@ marked_below marks u marked = elim (cases_lt u (length marks)) [
 ]
 
 -- lists of steps, one after the other
-follows_append : (step : ℕ → ℕ → Type 0) (u : ℕ) (xs : List ℕ) (v : ℕ) (ys : List ℕ) (w : ℕ) → Follows step u xs v → Follows step v ys w → Follows step u (xs ++ ys) w
+pub follows_append : (step : ℕ → ℕ → Type 0) (u : ℕ) (xs : List ℕ) (v : ℕ) (ys : List ℕ) (w : ℕ) → Follows step u xs v → Follows step v ys w → Follows step u (xs ++ ys) w
 follows_append step u [] v ys w one two = subst (λ (x : ℕ). Follows step x ys w) (sym one) two
 follows_append step u (x ∷ xs) v ys w one two = (one.0, follows_append step x xs v ys w one.1 two)
 

@@ -1,25 +1,20 @@
 -- What is told of a state twice holds of the state.
-use Rattle.std.proofs.Common.{ℕ, ◌^◌, ◌<◌, Bool, List, [], ◌∷◌, length, Option, Some, None, IfSome, IfNone, inl, inr, arith, sym, subst}
+use Rattle.std.proofs.Common.{ℕ, ◌^◌, ◌<◌, Bool, List, length, Option, Some, None, IfSome, IfNone, inl, inr, arith, sym, subst}
 use Rattle.route_core.specs.Tables.{HasEntry}
-use Rattle.igp_theory.specs.Forwarding.{MustForward, HasStep}
 use Rattle.igp_theory.specs.Loops.{missing_step, loop_arises}
 use Rattle.igp_theory.specs.States.{StepsIn}
 use Rattle.igp_theory.specs.declared.phase.Phase.{Phase}
-use Rattle.igp_theory.proofs.SameTables.{SameHops, follows_over, found_ring_over}
+use Rattle.igp_theory.proofs.SameTables.{SameHops, found_ring_over}
 use Rattle.order_core.specs.declared.turn.Turn.{Turn}
 use Rattle.rib_mix.specs.Mixture.{Mixture}
 use Rattle.loop_finder.specs.Faults.{state_in}
-use Rattle.loop_finder.specs.Steps.{Listing, ClassState, sample_of, ClassStep, IsStuckIn, MovesIn}
-use Rattle.loop_finder.specs.Verdicts.{Verdict, IsTold, Told, ClassesOf, SoundAt, SoundBelow, Sound, Faulty}
+use Rattle.loop_finder.specs.Steps.{Listing, ClassState, sample_of, ClassStep, IsStuckIn}
+use Rattle.loop_finder.specs.Verdicts.{Verdict, Told, ClassesOf, SoundBelow, Sound, Faulty}
 use Rattle.loop_finder.specs.declared.fault.Fault.{Fault}
 use Rattle.loop_finder.specs.declared.fault.Fault.TheVariants.{Loop, Missing}
+use Rattle.loop_finder.proofs.Between.{has_step, between_itself}
 use Rattle.loop_finder.proofs.ClassVerdicts.{sample_in}
 use Rattle.loop_finder.proofs.StateVerdicts.{below_from, sound_from_classes}
-
--- where a router moves it has a step
-pub has_step : {O N : Type 0} (old : Listing O) (new : Listing N) (c : ClassState O N) (u : ℕ) (phase : Phase) → MovesIn old new c u phase → MustForward c.mixture.net (sample_of c.mixture c.atom) u
-    → HasStep c.mixture.net (HasEntry (old c.mixture.old)) (HasEntry (new c.mixture.new)) u phase (sample_of c.mixture c.atom)
-has_step old new c u phase moves must = record { hop = (moves must).0; steps = (moves must).1 }
 
 -- a state, twice, and a class
 abbrev pub twice : {O N : Type 0} → Mixture O N → List Phase → List Bool → ℕ → ClassState O N
@@ -29,15 +24,6 @@ twice m phases forwards atom = record { mixture = m; first = phases; last = phas
 same_steps : {O N : Type 0} (old : Listing O) (new : Listing N) (m : Mixture O N) (phases : List Phase) (forwards : List Bool) (atom : ℕ)
     → SameHops (ClassStep old new (twice m phases forwards atom)) (StepsIn m.net (HasEntry (old m.old)) (HasEntry (new m.new)) (state_in phases) (sample_of m atom))
 same_steps old new m phases forwards atom u h = (λ steps. elim steps [ inl one ↦ one | inr other ↦ other ], λ steps. inl steps)
-
-sound_told : {O N : Type 0} (old : Listing O) (new : Listing N) (m : Mixture O N) (phases : List Phase) (atom : ℕ) → IsTold old new m phases phases atom None [] → SoundAt old new m (state_in phases) (sample_of m atom)
-sound_told {O} {N} old new m phases atom told = record {
-  forwards = λ u must. has_step old new c u (state_in phases u) (told.verdict.0 u).0 must;
-  returns_never = λ u h hops follows. told.verdict.1 u h hops (follows_over (λ v w steps. inl steps) u (h ∷ hops) u follows);
-}
-  where
-    c : ClassState O N
-    c = twice m phases told.forwards atom
 
 fault_from : {O N : Type 0} (old : Listing O) (new : Listing N) (m : Mixture O N) (phases : List Phase) (forwards : List Bool) (atom : ℕ) (turns : List Turn) (fault : Fault) → sample_of m atom < 2 ^ 32
     → SoundBelow old new m (state_in phases) (sample_of m atom) → Verdict old new (twice m phases forwards atom) (Some fault) turns → Faulty old new m (state_in phases) fault turns
@@ -55,7 +41,7 @@ fault_from {O} {N} old new m phases forwards atom turns (Missing a u) address be
 pub sound_of_told : {O N : Type 0} (old : Listing O) (new : Listing N) (m : Mixture O N) (phases : List Phase) (result : Option Fault) (turns : List Turn) → ClassesOf old new m → Told old new m phases phases result turns
     → IfNone result (Sound old new m (state_in phases))
 sound_of_told old new m phases None turns are told =
-    sound_from_classes old new m (state_in phases) (length m.classes.samples) are (omega arith) (λ j below. sound_told old new m phases j (told j below))
+    sound_from_classes old new m (state_in phases) (length m.classes.samples) are (omega arith) (λ j below. told j below (state_in phases) (between_itself (length m.net) phases))
 sound_of_told old new m phases (Some fault) turns are told = tt
 
 pub fault_of_told : {O N : Type 0} (old : Listing O) (new : Listing N) (m : Mixture O N) (phases : List Phase) (result : Option Fault) (turns : List Turn) → ClassesOf old new m → Told old new m phases phases result turns
@@ -63,4 +49,4 @@ pub fault_of_told : {O N : Type 0} (old : Listing O) (new : Listing N) (m : Mixt
 fault_of_told old new m phases None turns are told = tt
 fault_of_told old new m phases (Some fault) turns are told =
     fault_from old new m phases told.here.forwards told.atom turns fault (sample_in m.classes told.atom are told.within).address
-    (below_from old new m (state_in phases) told.atom are told.within (λ j below. sound_told old new m phases j (told.before j below))) told.here.verdict
+    (below_from old new m (state_in phases) told.atom are told.within (λ j below. told.before j below (state_in phases) (between_itself (length m.net) phases))) told.here.verdict

@@ -1,30 +1,27 @@
 -- What is told of the first and the last state of a wave holds of all its states.
-use Rattle.std.proofs.Common.{◌≡◌, ℕ, ◌+◌, ◌^◌, ◌<◌, ◌⊎◌, List, [], ◌∷◌, length, Option, Some, None, IfSome, IfNone, inl, inr, arith, sym, ◌∙◌, subst}
+use Rattle.std.proofs.Common.{◌≡◌, ℕ, ◌+◌, ◌^◌, ◌<◌, List, length, Option, Some, None, IfSome, IfNone, inl, inr, arith, sym, ◌∙◌, subst}
 use Rattle.std.proofs.lemmas.Bool.{cases_order}
 use Rattle.order_core.specs.Rankings.{rank_of}
 use Rattle.order_core.specs.declared.turn.Turn.{Turn}
 use Rattle.route_core.specs.Tables.{HasEntry}
-use Rattle.igp_theory.specs.Forwarding.{MustForward, Steps, HasStep}
-use Rattle.igp_theory.specs.States.{State, StepsIn}
+use Rattle.igp_theory.specs.Forwarding.{MustForward}
+use Rattle.igp_theory.specs.States.{State}
 use Rattle.igp_theory.specs.WaveFaults.{StepsInSome, LacksStep, HasStepsInAll, IsLeastUnsound, missing_in_one, loop_over_all}
 use Rattle.igp_theory.specs.Waves.{IsStateOfWave}
 use Rattle.igp_theory.specs.declared.phase.Phase.{Phase}
-use Rattle.igp_theory.specs.declared.phase.Phase.TheVariants.{Old, New}
-use Rattle.igp_theory.proofs.ForwardingLaws.{every_phase_steps}
 use Rattle.igp_theory.proofs.FoundRings.{found_ring_returns}
-use Rattle.igp_theory.proofs.LoopLaws.{old_or_new_step}
 use Rattle.igp_theory.proofs.LoopWaves.{return_is_unsound}
-use Rattle.igp_theory.proofs.SameTables.{SameHops, follows_over, found_ring_over}
+use Rattle.igp_theory.proofs.SameTables.{SameHops, found_ring_over}
 use Rattle.rib_mix.specs.Mixture.{Mixture}
 use Rattle.loop_finder.specs.Faults.{state_in}
 use Rattle.loop_finder.specs.Steps.{Listing, ClassState, sample_of, ClassStep, IsStuck, Moves}
-use Rattle.loop_finder.specs.Verdicts.{Verdict, IsTold, Told, ClassesOf, SoundAt, SoundWave, FaultyWave}
+use Rattle.loop_finder.specs.Verdicts.{Verdict, Told, ClassesOf, SoundAt, SoundWave, FaultyWave, IsBetween}
 use Rattle.loop_finder.specs.WaveLists.{AreSwitchedBefore}
 use Rattle.loop_finder.specs.declared.fault.Fault.{Fault}
 use Rattle.loop_finder.specs.declared.fault.Fault.TheVariants.{Loop, Missing}
+use Rattle.loop_finder.proofs.Between.{step_between, moves_between}
 use Rattle.loop_finder.proofs.ClassVerdicts.{sample_in}
 use Rattle.loop_finder.proofs.StateVerdicts.{below_from, sound_from_classes}
-use Rattle.loop_finder.proofs.ToldOfStates.{has_step}
 
 -- the first and the last state of a wave of n routers
 pub record AreEnds (n : ℕ) (ranks : List ℕ) (w : ℕ) (first last : List Phase) : Type 0 where
@@ -45,30 +42,15 @@ last_of_wave ends = record {
   later = λ u within after. ends.ends.others u (omega (arith, within, ends.each)) (omega (arith, after));
 }
 
--- in a state of the wave a router has its phase of both, or it is Old in the first and New in the last
-phase_between : {n : ℕ} {ranks : List ℕ} {w : ℕ} {first last : List Phase} (state : State) (u : ℕ) → AreEnds n ranks w first last → IsStateOfWave n ranks w state → u < n
-    → (state u ≡ state_in first u) ⊎ ((state_in first u ≡ Old) × (state_in last u ≡ New))
-phase_between {ranks = ranks} {w = w} state u ends of_wave within = elim (cases_order (rank_of ranks u) w) [
+-- a state of the wave is between them
+pub wave_between : {n : ℕ} {ranks : List ℕ} {w : ℕ} {first last : List Phase} (state : State) → AreEnds n ranks w first last → IsStateOfWave n ranks w state → IsBetween n first last state
+wave_between {ranks = ranks} {w = w} state ends of_wave u within = elim (cases_order (rank_of ranks u) w) [
   | inl same ↦ inr (ends.begins.others u (omega (arith, within, ends.each)) (omega (arith, same)), ends.ends.switched u (omega (arith, within, ends.each)) (omega (arith, same)))
   | inr (inl before) ↦ inl (of_wave.earlier u within before ∙ sym (ends.begins.switched u (omega (arith, within, ends.each)) before))
   | inr (inr after) ↦ inl (of_wave.later u within after ∙ sym (ends.begins.others u (omega (arith, within, ends.each)) (omega (arith, after))))
 ]
 
 -- the steps of all states of the wave are those of both
-step_inside : {O N : Type 0} (old : Listing O) (new : Listing N) (c : ClassState O N) (ranks : List ℕ) (w : ℕ) (state : State) (u h : ℕ) → AreEnds (length c.mixture.net) ranks w c.first c.last
-    → IsStateOfWave (length c.mixture.net) ranks w state → StepsIn c.mixture.net (HasEntry (old c.mixture.old)) (HasEntry (new c.mixture.new)) state (sample_of c.mixture c.atom) u h → ClassStep old new c u h
-step_inside old new c ranks w state u h ends of_wave steps = elim (phase_between state u ends of_wave steps.must.router) [
-  | inl same ↦ inl (in_phase (state_in c.first u) same steps)
-  | inr both ↦ elim (old_or_new_step (state u) steps) [
-    | inl one ↦ inl (in_phase (state_in c.first u) (sym both.0) one)
-    | inr other ↦ inr (in_phase (state_in c.last u) (sym both.1) other)
-  ]
-]
-  where
-    in_phase : {p : Phase} (q : Phase) → p ≡ q → Steps c.mixture.net (HasEntry (old c.mixture.old)) (HasEntry (new c.mixture.new)) u p (sample_of c.mixture c.atom) h
-        → Steps c.mixture.net (HasEntry (old c.mixture.old)) (HasEntry (new c.mixture.new)) u q (sample_of c.mixture c.atom) h
-    in_phase q same one = subst (λ (x : Phase). Steps c.mixture.net (HasEntry (old c.mixture.old)) (HasEntry (new c.mixture.new)) u x (sample_of c.mixture c.atom) h) same one
-
 wave_steps : {O N : Type 0} (old : Listing O) (new : Listing N) (c : ClassState O N) (ranks : List ℕ) (w : ℕ) → AreEnds (length c.mixture.net) ranks w c.first c.last
     → SameHops (ClassStep old new c) (StepsInSome c.mixture.net (HasEntry (old c.mixture.old)) (HasEntry (new c.mixture.new)) (IsStateOfWave (length c.mixture.net) ranks w) (sample_of c.mixture c.atom))
 wave_steps old new c ranks w ends u h = (
@@ -76,21 +58,14 @@ wave_steps old new c ranks w ends u h = (
     | inl one ↦ record { state = state_in c.first; among = first_of_wave ends; steps = one }
     | inr other ↦ record { state = state_in c.last; among = last_of_wave ends; steps = other }
   ],
-  λ some. step_inside old new c ranks w some.state u h ends some.among some.steps,
+  λ some. step_between old new c some.state u h (wave_between some.state ends some.among) some.steps,
 )
 
 -- a router that moves in both moves in all states of the wave
 steps_in_all : {O N : Type 0} (old : Listing O) (new : Listing N) (c : ClassState O N) (ranks : List ℕ) (w : ℕ) (u : ℕ) → AreEnds (length c.mixture.net) ranks w c.first c.last → Moves old new c u
     → MustForward c.mixture.net (sample_of c.mixture c.atom) u
     → HasStepsInAll c.mixture.net (HasEntry (old c.mixture.old)) (HasEntry (new c.mixture.new)) (IsStateOfWave (length c.mixture.net) ranks w) (sample_of c.mixture c.atom) u
-steps_in_all old new c ranks w u ends moves must state of_wave = elim (phase_between state u ends of_wave must.router) [
-  | inl same ↦ in_phase (state u) (sym same) (has_step old new c u (state_in c.first u) moves.0 must)
-  | inr both ↦ every_phase_steps (in_phase Old both.0 (has_step old new c u (state_in c.first u) moves.0 must)) (in_phase New both.1 (has_step old new c u (state_in c.last u) moves.1 must)) (state u)
-]
-  where
-    in_phase : {p : Phase} (q : Phase) → p ≡ q → HasStep c.mixture.net (HasEntry (old c.mixture.old)) (HasEntry (new c.mixture.new)) u p (sample_of c.mixture c.atom)
-        → HasStep c.mixture.net (HasEntry (old c.mixture.old)) (HasEntry (new c.mixture.new)) u q (sample_of c.mixture c.atom)
-    in_phase q same has = subst (λ (x : Phase). HasStep c.mixture.net (HasEntry (old c.mixture.old)) (HasEntry (new c.mixture.new)) u x (sample_of c.mixture c.atom)) same has
+steps_in_all old new c ranks w u ends moves must state of_wave = moves_between old new c state u (wave_between state ends of_wave) moves must
 
 -- a router that is stuck in one of both lacks a step in a state of the wave
 lacks_from : {O N : Type 0} (old : Listing O) (new : Listing N) (c : ClassState O N) (ranks : List ℕ) (w : ℕ) (u : ℕ) → AreEnds (length c.mixture.net) ranks w c.first c.last → IsStuck old new c u
@@ -107,17 +82,6 @@ lacks_from old new c ranks w u ends (inr other) = record {
   among = last_of_wave ends;
   lacks = λ has. other.lacks has.hop has.steps;
 }
-
--- where nothing is told of a class, every state of the wave is sound for it
-sound_told : {O N : Type 0} (old : Listing O) (new : Listing N) (m : Mixture O N) (ranks : List ℕ) (w : ℕ) (first last : List Phase) (atom : ℕ) (state : State) → AreEnds (length m.net) ranks w first last
-    → IsStateOfWave (length m.net) ranks w state → IsTold old new m first last atom None [] → SoundAt old new m state (sample_of m atom)
-sound_told {O} {N} old new m ranks w first last atom state ends of_wave told = record {
-  forwards = λ u must. steps_in_all old new c ranks w u ends (told.verdict.0 u) must state of_wave;
-  returns_never = λ u h hops follows. told.verdict.1 u h hops (follows_over (λ v n steps. step_inside old new c ranks w state v n ends of_wave steps) u (h ∷ hops) u follows);
-}
-  where
-    c : ClassState O N
-    c = record { mixture = m; first = first; last = last; forwards = told.forwards; atom = atom }
 
 -- at a class for which all lower addresses are sound the fault of the wave is told
 abbrev LeastIn : {O N : Type 0} → Listing O → Listing N → ClassState O N → List ℕ → ℕ → Type 0
@@ -153,7 +117,7 @@ fault_from old new c ranks w turns (Missing a u) ends address below verdict =
 pub sound_of_told : {O N : Type 0} (old : Listing O) (new : Listing N) (m : Mixture O N) (ranks : List ℕ) (w : ℕ) (first last : List Phase) (result : Option Fault) (turns : List Turn)
     → AreEnds (length m.net) ranks w first last → ClassesOf old new m → Told old new m first last result turns → IfNone result (SoundWave old new m ranks w)
 sound_of_told old new m ranks w first last None turns ends are told = λ state of_wave.
-    sound_from_classes old new m state (length m.classes.samples) are (omega arith) (λ j below. sound_told old new m ranks w first last j state ends of_wave (told j below))
+    sound_from_classes old new m state (length m.classes.samples) are (omega arith) (λ j below. told j below state (wave_between state ends of_wave))
 sound_of_told old new m ranks w first last (Some fault) turns ends are told = tt
 
 pub fault_of_told : {O N : Type 0} (old : Listing O) (new : Listing N) (m : Mixture O N) (ranks : List ℕ) (w : ℕ) (first last : List Phase) (result : Option Fault) (turns : List Turn)
@@ -161,4 +125,4 @@ pub fault_of_told : {O N : Type 0} (old : Listing O) (new : Listing N) (m : Mixt
 fault_of_told old new m ranks w first last None turns ends are told = tt
 fault_of_told old new m ranks w first last (Some fault) turns ends are told =
     fault_from old new (record { mixture = m; first = first; last = last; forwards = told.here.forwards; atom = told.atom }) ranks w turns fault ends (sample_in m.classes told.atom are told.within).address
-    (λ b less state of_wave. below_from old new m state told.atom are told.within (λ j below. sound_told old new m ranks w first last j state ends of_wave (told.before j below)) b less) told.here.verdict
+    (λ b less state of_wave. below_from old new m state told.atom are told.within (λ j below. told.before j below state (wave_between state ends of_wave)) b less) told.here.verdict

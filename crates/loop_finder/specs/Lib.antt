@@ -11,3 +11,9 @@ pub mod Rings
 pub mod WaveLists
 pub mod Verdicts
 pub mod Orders
+pub mod Returns
+pub mod Parts
+pub mod PartRows
+pub mod Making
+pub mod WaveStarts
+pub mod Findings

@@ -1,5 +1,5 @@
 -- What is told of a class, of a state and of an order, over what is mixed.
-use Rattle.std.specs.Prelude.{◌≡◌, ℕ, ◌<◌, Bool, List, [], length, Option, Some, None}
+use Rattle.std.specs.Prelude.{◌≡◌, ℕ, ◌<◌, ◌⊎◌, Bool, List, length, Option, Some, None}
 use Rattle.route_core.specs.Tables.{HasEntry}
 use Rattle.igp_theory.specs.Loops.{AroundRing, IsFoundRing, IsFault, IsFirstFault}
 use Rattle.igp_theory.specs.States.{State, IsSoundAt, IsSound}
@@ -7,11 +7,12 @@ use Rattle.igp_theory.specs.WaveFaults.{IsFaultOver}
 use Rattle.igp_theory.specs.WaveLaws.{IsStateOfSomeWave}
 use Rattle.igp_theory.specs.Waves.{IsStateOfWave}
 use Rattle.igp_theory.specs.declared.phase.Phase.{Phase}
+use Rattle.igp_theory.specs.declared.phase.Phase.TheVariants.{Old, New}
 use Rattle.prefix_atoms.specs.Classes.{AreClasses, SourceEntry}
 use Rattle.order_core.specs.Turns.{routers_of}
 use Rattle.order_core.specs.declared.turn.Turn.{Turn}
 use Rattle.rib_mix.specs.Mixture.{Mixture}
-use Rattle.loop_finder.specs.Faults.{told_fault}
+use Rattle.loop_finder.specs.Faults.{state_in, told_fault}
 use Rattle.loop_finder.specs.Steps.{Listing, ClassState, sample_of, ClassStep, IsTagged, Moves, FirstStuck}
 use Rattle.loop_finder.specs.Walks.{ReturnsNever}
 use Rattle.loop_finder.specs.WaveLists.{IsNumberedWavesFault}
@@ -36,22 +37,6 @@ pub record IsTold {O N : Type 0} (old : Listing O) (new : Listing N) (m : Mixtur
   pub forwards : List Bool
   pub verdict : Verdict old new (record { mixture = m; first = first; last = last; forwards = forwards; atom = atom }) result turns
 
--- of the first n classes it is that they have no fault
-abbrev pub AreClear : {O N : Type 0} → Listing O → Listing N → Mixture O N → List Phase → List Phase → ℕ → Type 0
-AreClear old new m first last n = (k : ℕ) → k < n → IsTold old new m first last k None []
-
--- the fault of the first class that has one
-pub record IsFirstTold {O N : Type 0} (old : Listing O) (new : Listing N) (m : Mixture O N) (first last : List Phase) (fault : Fault) (turns : List Turn) : Type 0 where
-  pub atom : ℕ
-  pub within : atom < length m.classes.samples
-  pub before : AreClear old new m first last atom
-  pub here : IsTold old new m first last atom (Some fault) turns
-
--- what is told of all classes
-abbrev pub Told : {O N : Type 0} → Listing O → Listing N → Mixture O N → List Phase → List Phase → Option Fault → List Turn → Type 0
-Told old new m first last None turns = AreClear old new m first last (length m.classes.samples)
-Told old new m first last (Some fault) turns = IsFirstTold old new m first last fault turns
-
 -- the classes of what is mixed
 abbrev pub ClassesOf : {O N : Type 0} → Listing O → Listing N → Mixture O N → Type 0
 ClassesOf old new m = AreClasses m.net (SourceEntry (length m.net) (old m.old)) (SourceEntry (length m.net) (new m.new)) m.classes
@@ -65,6 +50,27 @@ SoundBelow old new m state a = (b : ℕ) → b < a → SoundAt old new m state b
 
 abbrev pub Sound : {O N : Type 0} → Listing O → Listing N → Mixture O N → State → Type 0
 Sound old new m state = IsSound m.net (HasEntry (old m.old)) (HasEntry (new m.new)) state
+
+-- a state of n routers is between two others: each router has its phase in the first, or it is Old in the first and
+-- New in the last, and has any phase
+abbrev pub IsBetween : ℕ → List Phase → List Phase → State → Type 0
+IsBetween n first last state = (u : ℕ) → u < n → (state u ≡ state_in first u) ⊎ ((state_in first u ≡ Old) × (state_in last u ≡ New))
+
+-- the states between two are sound for the first n classes
+abbrev pub AreClear : {O N : Type 0} → Listing O → Listing N → Mixture O N → List Phase → List Phase → ℕ → Type 0
+AreClear old new m first last n = (k : ℕ) → k < n → (state : State) → IsBetween (length m.net) first last state → SoundAt old new m state (sample_of m k)
+
+-- the fault of the first class that has one
+pub record IsFirstTold {O N : Type 0} (old : Listing O) (new : Listing N) (m : Mixture O N) (first last : List Phase) (fault : Fault) (turns : List Turn) : Type 0 where
+  pub atom : ℕ
+  pub within : atom < length m.classes.samples
+  pub before : AreClear old new m first last atom
+  pub here : IsTold old new m first last atom (Some fault) turns
+
+-- what is told of all classes
+abbrev pub Told : {O N : Type 0} → Listing O → Listing N → Mixture O N → List Phase → List Phase → Option Fault → List Turn → Type 0
+Told old new m first last None turns = AreClear old new m first last (length m.classes.samples)
+Told old new m first last (Some fault) turns = IsFirstTold old new m first last fault turns
 
 -- the fault of a state, as an answer with the turns beside it
 abbrev pub Faulty : {O N : Type 0} → Listing O → Listing N → Mixture O N → State → Fault → List Turn → Type 0

@@ -1,11 +1,13 @@
-ghost use Rattle.std.specs.Prelude.{◌≡◌, ◌<◌, ◌≤◌, ◌↔◌, ℕ, length};
+ghost use Rattle.std.specs.Prelude.{◌≡◌, ◌<◌, ◌≤◌, ◌^◌, ◌↔◌, ℕ, length};
+ghost use Rattle.std.specs.Bool.{OnFalse, OnTrue};
 ghost use Rattle.std.specs.Vec.{vec_capacity};
 ghost use Rattle.net_model.specs.Network.{Connected};
 ghost use Rattle.net_model.specs.Refusals.{IsNetwork};
+ghost use Rattle.prefix_atoms.specs.Classes.{HasTarget};
 ghost use Rattle.order_core.specs.Marks.{IsMarked};
 ghost use Rattle.loop_finder.specs.Faults.{KeepsRing};
 ghost use Rattle.loop_finder.specs.Rooms.{HasRoom};
-ghost use Rattle.loop_finder.specs.Steps.{sample_of};
+ghost use Rattle.loop_finder.specs.Steps.{AreForwarders, sample_of};
 ghost use Rattle.loop_finder.specs.Verdicts.{IsTold, Verdict};
 
 use crate::class_steps::ClassSteps;
@@ -35,21 +37,38 @@ pub fn class_fault<O: RouteSource, N: RouteSource>(
     ensures told { IsTold O.table N.table mixed.now first.now last.now atom result room.new.ring.items }
     ensures ring { KeepsRing result room.old.ring.items room.new.ring.items }
 {
-    let atoms = mixed.atoms();
-    let target = match atoms.target(atom) {
-        Some(target) => target,
-        None => return None,
-    };
-    let address = atoms.sample(atom);
-    mark_forwarders(mixed.net(), target, &mut room.forwards);
+    if !mark_class(mixed, atom, &mut room.forwards) {
+        return None;
+    }
     let steps = ClassSteps::new(mixed, first, last, room.forwards.as_slice(), atom);
     steps_fault(
         &steps,
-        address,
+        mixed.atoms().sample(atom),
         &mut room.live,
         &mut room.path,
         &mut room.ring,
     )
+}
+
+/// Marks the routers that have to pass packets for a class on; false where its addresses have no target.
+pub fn mark_class<O: RouteSource, N: RouteSource>(
+    mixed: &Mixed<'_, O, N>,
+    atom: u32,
+    forwards: &mut [bool],
+) -> bool
+    requires atom { atom < length mixed.now.classes.samples }
+    requires many { length forwards.old ≡ length mixed.now.net }
+    ensures forwarders { OnTrue result (AreForwarders mixed.now.net (sample_of mixed.now atom) forwards.new) }
+    ensures none { OnFalse result (HasTarget mixed.now.net (sample_of mixed.now atom) None) }
+    ensures address { sample_of mixed.now atom < 2 ^ 32 }
+{
+    match mixed.atoms().target(atom) {
+        Some(target) => {
+            mark_forwarders(mixed.net(), target, forwards);
+            true
+        }
+        None => false,
+    }
 }
 
 /// Marks the routers at which a prefix isn't connected.

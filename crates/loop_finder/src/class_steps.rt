@@ -56,6 +56,13 @@ impl<'s, 'm, O: RouteSource, N: RouteSource> ClassSteps<'s, 'm, O, N> {
         }
     }
 
+    /// The class.
+    pub fn atom(&self) -> u32
+        ensures { result ≡ self.now.atom }
+    {
+        self.atom
+    }
+
     /// The routers that a router steps to in a phase.
     pub fn hops_in(&self, router: u32, phase: Phase) -> &[u32]
         requires { router < length self.now.mixture.net }

@@ -9,7 +9,9 @@ ghost use Rattle.loop_finder.specs.Faults.{KeepsRing, state_in, told, told_fault
 ghost use Rattle.loop_finder.specs.WaveLists.{IsNumberedWavesFault};
 
 use crate::fault::Fault;
-use crate::order_fault::{order_fault, state_fault};
+use crate::order_fault::{begin_is_sound, order_fault, state_fault};
+use crate::part::Part;
+use crate::parts::parts_of;
 use crate::room::Room;
 use crate::waves_fault::waves_fault;
 use order_core::Turn;
@@ -25,21 +27,25 @@ use std::marker::Model;
 #[derive(Drop)]
 pub struct Finder<'a, O: RouteSource, N: RouteSource> {
     mixed: &'a Mixed<'a, O, N>,
+    /// The classes that are looked at.
+    parts: Vec<Part>,
+    /// Whether the state in which every router is in its old phase is sound.
+    begun: bool,
     phases: Vec<Phase>,
     later: Vec<Phase>,
     room: Room,
 }
 
 impl<'a, O: RouteSource, N: RouteSource> Model for Finder<'a, O, N> {
-    ghost use Rattle.std.specs.Prelude.{◌≡◌, length, vec_len};
+    ghost use Rattle.std.specs.Prelude.{vec_len};
     ghost use Rattle.loop_finder.specs.Faults.{Finding};
-    ghost use Rattle.loop_finder.specs.Rooms.{HasRoom};
+    ghost use Rattle.loop_finder.specs.Findings.{IsFinding};
 
     ghost Value = { Finding O N };
 
     ghost view = { λ x. record { mixture = x.mixed.now; ring = x.room.ring.items } };
 
-    ghost invariant = { λ x. (vec_len x.phases ≡ length x.mixed.now.net) × (vec_len x.later ≡ length x.mixed.now.net) × HasRoom (length x.mixed.now.net) x.room };
+    ghost invariant = { λ x. IsFinding O.table N.table x.mixed.now x.parts.items x.begun (vec_len x.phases) (vec_len x.later) x.room };
 }
 
 impl<'a, O: RouteSource, N: RouteSource> Finder<'a, O, N> {
@@ -49,11 +55,16 @@ impl<'a, O: RouteSource, N: RouteSource> Finder<'a, O, N> {
         ensures ring { IfOk result (λ finder. finder.ring ≡ []) }
     {
         let routers = mixed.net().routers();
-        let phases = vec![in alloc; Phase::Old; routers as usize]?;
+        let mut phases = vec![in alloc; Phase::Old; routers as usize]?;
         let later = vec![in alloc; Phase::Old; routers as usize]?;
-        let room = Room::new(alloc, routers)?;
+        let parts = parts_of(alloc, mixed)?;
+        let mut room = Room::new(alloc, routers)?;
+        let begun = begin_is_sound(mixed, parts.as_slice(), &mut phases, &mut room);
+        room.ring.clear();
         Ok(Finder {
             mixed,
+            parts,
+            begun,
             phases,
             later,
             room,
@@ -70,7 +81,7 @@ impl<'a, O: RouteSource, N: RouteSource> Finder<'a, O, N> {
         ensures ring { KeepsRing result self.old.ring self.new.ring }
         ensures mixture { self.new.mixture ≡ self.old.mixture }
     {
-        state_fault(self.mixed, phases, &mut self.room)
+        state_fault(self.mixed, self.parts.as_slice(), phases, &mut self.room)
     }
 
     /// The number of the first unsound state of an order, with that state's fault; none where the order is
@@ -85,7 +96,14 @@ impl<'a, O: RouteSource, N: RouteSource> Finder<'a, O, N> {
         ensures ring { KeepsRing (told result) self.old.ring self.new.ring }
         ensures mixture { self.new.mixture ≡ self.old.mixture }
     {
-        order_fault(self.mixed, order, &mut self.phases, &mut self.room)
+        order_fault(
+            self.mixed,
+            self.parts.as_slice(),
+            self.begun,
+            order,
+            &mut self.phases,
+            &mut self.room,
+        )
     }
 
     /// The number, from 1, of the first wave with an unsound state of the wave list that gives each router the rank at
@@ -101,6 +119,8 @@ impl<'a, O: RouteSource, N: RouteSource> Finder<'a, O, N> {
     {
         waves_fault(
             self.mixed,
+            self.parts.as_slice(),
+            self.begun,
             ranks,
             &mut self.phases,
             &mut self.later,

@@ -19,11 +19,20 @@ pub fn mark_live<G: StepGraph>(graph: &G, live: &mut [bool])
 }
 
 /// Marks every router.
-fn mark_all(marks: &mut [bool])
+pub fn mark_all(marks: &mut [bool])
     ensures { (r : ℕ) → r < length marks.new → IsMarked marks.new r }
 {
     for mark in marks.iter_mut() {
         *mark = true;
+    }
+}
+
+/// Takes the mark from every router.
+pub fn mark_none(marks: &mut [bool])
+    ensures { (r : ℕ) → ¬ IsMarked marks.new r }
+{
+    for mark in marks.iter_mut() {
+        *mark = false;
     }
 }
 

@@ -1,12 +1,16 @@
 ghost use Rattle.std.specs.Prelude.{◌≡◌, ◌+◌, ◌*◌, ◌≤◌, ◌<◌, ℕ, Contains, IfNone, IfSome, length};
+ghost use Rattle.std.specs.Bool.{OnTrue};
 ghost use Rattle.order_core.specs.Orders.{IsOrder};
 ghost use Rattle.loop_finder.specs.Faults.{KeepsRing, told, state_in};
-ghost use Rattle.loop_finder.specs.Orders.{AreFirstStates, IsAdvanced, IsStateOf, next_phase};
+ghost use Rattle.loop_finder.specs.Orders.{AreFirstStates, IsAdvanced, IsStateOf, all_old, next_phase};
+ghost use Rattle.loop_finder.specs.Parts.{AreParts};
 ghost use Rattle.loop_finder.specs.Rooms.{HasRoom};
 ghost use Rattle.loop_finder.specs.Verdicts.{Faulty, FirstFaulty, Sound};
 
 use crate::classes_fault::classes_fault;
 use crate::fault::Fault;
+use crate::follow::passes_never;
+use crate::part::Part;
 use crate::room::Room;
 use rib_mix::{Mixed, Phase};
 use route_core::RouteSource;
@@ -14,9 +18,11 @@ use route_core::RouteSource;
 /// The fault of a state.
 pub fn state_fault<O: RouteSource, N: RouteSource>(
     mixed: &Mixed<'_, O, N>,
+    parts: &[Part],
     phases: &[Phase],
     room: &mut Room,
 ) -> Option<Fault>
+    requires parts { AreParts O.table N.table mixed.now parts.now (length mixed.now.classes.samples) }
     requires phases { length phases.now ≡ length mixed.now.net }
     requires room { HasRoom (length mixed.now.net) room.old }
     ensures room { HasRoom (length mixed.now.net) room.new }
@@ -24,16 +30,42 @@ pub fn state_fault<O: RouteSource, N: RouteSource>(
     ensures fault { IfSome result (λ fault. Faulty O.table N.table mixed.now (state_in phases.now) fault room.new.ring.items) }
     ensures ring { KeepsRing result room.old.ring.items room.new.ring.items }
 {
-    classes_fault(mixed, phases, phases, room)
+    classes_fault(mixed, parts, phases, phases, room)
 }
 
-/// The first unsound state of an order, with its fault.
+/// Whether the state in which every router is in its old phase is sound. The room may keep the ring of its fault.
+pub fn begin_is_sound<O: RouteSource, N: RouteSource>(
+    mixed: &Mixed<'_, O, N>,
+    parts: &[Part],
+    phases: &mut [Phase],
+    room: &mut Room,
+) -> bool
+    requires parts { AreParts O.table N.table mixed.now parts.now (length mixed.now.classes.samples) }
+    requires phases { length phases.old ≡ length mixed.now.net }
+    requires room { HasRoom (length mixed.now.net) room.old }
+    ensures room { HasRoom (length mixed.now.net) room.new }
+    ensures sound { OnTrue result (Sound O.table N.table mixed.now all_old) }
+{
+    begin(phases);
+    match state_fault(mixed, parts, phases, room) {
+        Some(_) => false,
+        None => true,
+    }
+}
+
+/// The first unsound state of an order, with its fault. `begun` tells that the first state is sound.
+///
+/// After a change only the walks through the changed router are followed, since the state before was sound.
 pub fn order_fault<O: RouteSource, N: RouteSource>(
     mixed: &Mixed<'_, O, N>,
+    parts: &[Part],
+    begun: bool,
     order: &[u32],
     phases: &mut [Phase],
     room: &mut Room,
 ) -> Option<(u32, Fault)>
+    requires parts { AreParts O.table N.table mixed.now parts.now (length mixed.now.classes.samples) }
+    requires begun { OnTrue begun (Sound O.table N.table mixed.now all_old) }
     requires order { IsOrder (length mixed.now.net) order.now }
     requires phases { length phases.old ≡ length mixed.now.net }
     requires room { HasRoom (length mixed.now.net) room.old }
@@ -44,13 +76,70 @@ pub fn order_fault<O: RouteSource, N: RouteSource>(
     ensures ring { KeepsRing (told result) room.old.ring.items room.new.ring.items }
 {
     begin(phases);
-    for k in 0..2 * mixed.net().routers() + 1 {
-        if let Some(fault) = state_fault(mixed, phases, room) {
-            return Some((k, fault));
+    if let Some(fault) = begin_fault(mixed, parts, begun, phases, room) {
+        return Some((0, fault));
+    }
+    for k in 0..2 * mixed.net().routers() {
+        if let Some(fault) = change_fault(mixed, parts, order, k, phases, room) {
+            return Some((k + 1, fault));
         }
-        change(phases, order, k);
     }
     None
+}
+
+/// The fault of the first state, where that isn't known to be sound.
+fn begin_fault<O: RouteSource, N: RouteSource>(
+    mixed: &Mixed<'_, O, N>,
+    parts: &[Part],
+    begun: bool,
+    phases: &[Phase],
+    room: &mut Room,
+) -> Option<Fault>
+    requires parts { AreParts O.table N.table mixed.now parts.now (length mixed.now.classes.samples) }
+    requires begun { OnTrue begun (Sound O.table N.table mixed.now all_old) }
+    requires many { length phases.now ≡ length mixed.now.net }
+    requires phases { (u : ℕ) → state_in phases.now u ≡ Phase.Old }
+    requires room { HasRoom (length mixed.now.net) room.old }
+    ensures room { HasRoom (length mixed.now.net) room.new }
+    ensures sound { IfNone result (Sound O.table N.table mixed.now (state_in phases.now)) }
+    ensures fault { IfSome result (λ fault. Faulty O.table N.table mixed.now (state_in phases.now) fault room.new.ring.items) }
+    ensures ring { KeepsRing result room.old.ring.items room.new.ring.items }
+{
+    if begun {
+        return None;
+    }
+    state_fault(mixed, parts, phases, room)
+}
+
+/// Makes a change of an order after a sound state; the fault of the state that comes of it.
+fn change_fault<O: RouteSource, N: RouteSource>(
+    mixed: &Mixed<'_, O, N>,
+    parts: &[Part],
+    order: &[u32],
+    k: u32,
+    phases: &mut [Phase],
+    room: &mut Room,
+) -> Option<Fault>
+    requires parts { AreParts O.table N.table mixed.now parts.now (length mixed.now.classes.samples) }
+    requires routers { (u : ℕ) → Contains order.now u → u < length mixed.now.net }
+    requires many { length phases.old ≡ length mixed.now.net }
+    requires state { IsStateOf phases.old order.now k }
+    requires before { Sound O.table N.table mixed.now (state_in phases.old) }
+    requires room { HasRoom (length mixed.now.net) room.old }
+    ensures state { IsStateOf phases.new order.now (k + 1) }
+    ensures room { HasRoom (length mixed.now.net) room.new }
+    ensures sound { IfNone result (Sound O.table N.table mixed.now (state_in phases.new)) }
+    ensures fault { IfSome result (λ fault. Faulty O.table N.table mixed.now (state_in phases.new) fault room.new.ring.items) }
+    ensures ring { KeepsRing result room.old.ring.items room.new.ring.items }
+{
+    let Some(router) = order.get(k as usize / 2) else {
+        return None;
+    };
+    advance(phases, *router);
+    if passes_never(parts, phases, phases, *router, mixed.net().routers(), room) {
+        return None;
+    }
+    state_fault(mixed, parts, phases, room)
 }
 
 /// Every router is in its old phase.
@@ -59,17 +148,6 @@ fn begin(phases: &mut [Phase])
 {
     for phase in phases.iter_mut() {
         *phase = Phase::Old;
-    }
-}
-
-/// Makes a change of an order, where it has that many.
-fn change(phases: &mut [Phase], order: &[u32], k: u32)
-    requires routers { (u : ℕ) → Contains order.now u → u < length phases.old }
-    requires state { IsStateOf phases.old order.now k }
-    ensures { IsStateOf phases.new order.now (k + 1) }
-{
-    if let Some(router) = order.get(k as usize / 2) {
-        advance(phases, *router);
     }
 }
 

@@ -53,7 +53,7 @@ fn walk<G: StepGraph>(graph: &G, live: &[bool], start: u32, path: &mut Vec<u32>)
 }
 
 /// Adds a router for which there is room.
-fn visit(path: &mut Vec<u32>, router: u32)
+pub fn visit(path: &mut Vec<u32>, router: u32)
     requires { vec_len path.old < vec_capacity path.old }
     ensures items { path.new.items ≡ path.old.items ++ router ∷ [] }
     ensures capacity { vec_capacity path.old ≤ vec_capacity path.new }

@@ -5,7 +5,7 @@ use net_model::Configs;
 use std::alloc::Global;
 
 /// How many bytes a file has at most, 16 MiB.
-const FILE_MOST: usize = 16_777_216;
+pub const FILE_MOST: usize = 16_777_216;
 
 /// What texts are read as.
 #[derive(Drop)]

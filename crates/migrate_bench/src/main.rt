@@ -2,18 +2,25 @@
 //! how long it took on standard error.
 //!
 //! - `migrate_bench walks SIZE`: the least walks from every root of a ring and of a grid of SIZE routers.
-//! - `migrate_bench search SIZE BUDGET`: the search for an order of SIZE routers of which only the
-//!   descending one is good, with at most BUDGET branches.
+//! - `migrate_bench search SIZE BUDGET`: the search for a ranking of SIZE numbers of which only the one is good that
+//!   gives each number itself as its rank, with at most BUDGET branches.
 //! - `migrate_bench read FILE...`: the reading of the configurations of these files.
 //! - `migrate_bench tables FILE...`: the route tables of both protocols of the network of these files, and
 //!   the least walks that they take.
+//! - `migrate_bench check ORDER FILE...`: mixed forwarding over the network of these files, the finder of its
+//!   faults, and what that finds of the order of the file ORDER.
+//! - `migrate_bench refute TREE FILE...`: mixed forwarding over the network of these files, and what is found of the
+//!   tree of the file TREE.
 #![tactic(auto)]
 
 mod areas;
+mod ascending;
 mod configurations;
 mod entries;
+mod faults;
 mod mesh;
 mod reading;
+mod refutations;
 mod searches;
 mod seconds;
 mod shape;
@@ -40,5 +47,7 @@ fn run(rt: &(impl AllocGlobal + Clock + Env + Eprint + Files + Print)) -> Result
         Task::Search { size, budget } => searches::measure(rt, size, budget),
         Task::Read { files } => reading::measure(rt, files),
         Task::Tables { files } => tables::measure(rt, files),
+        Task::Check { files } => faults::measure(rt, files),
+        Task::Refute { files } => refutations::measure(rt, files),
     }
 }

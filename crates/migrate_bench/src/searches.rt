@@ -1,10 +1,11 @@
+use crate::ascending::Ascending;
 use crate::seconds::print_seconds;
 use anyhow::{Result, ensure};
-use order_search::{Descending, Found, Node, search};
+use order_search::{Found, Node, search};
 use std::rt::Clock;
 use std::time::Instant;
 
-/// Measures the search for the descending order of so many routers.
+/// Measures the search for the ranking of so many numbers in which each stands in a wave of its own, ascending.
 pub fn measure(
     rt: &(impl AllocGlobal + Clock + Eprint + Print),
     size: u32,
@@ -12,7 +13,7 @@ pub fn measure(
 ) -> Result<()> {
     ensure!(1 <= size && size <= 1000, "{size} isn't from 1 to 1000");
     ensure!(1 <= budget, "{budget} isn't from 1 to {}", u32::MAX);
-    let mut oracle = Descending::new(size);
+    let mut oracle = Ascending::new(size);
     let start = Instant::now(rt)?;
     let found = search(rt.alloc(), &mut oracle, budget)?;
     print_seconds(rt, "search", u64::from(size), start)?;
@@ -22,8 +23,12 @@ pub fn measure(
 /// Prints what was found, and with how many branches.
 fn report(rt: &impl Print, found: &Found) -> Result<()> {
     match found {
-        Found::Order { trail, .. } => {
-            println!(rt; "order with {} branches", count_branches(trail.as_slice()))?;
+        Found::Waves { waves, trail, .. } => {
+            println!(rt;
+                "{} waves with {} branches",
+                waves.count(),
+                count_branches(trail.as_slice())
+            )?;
         }
         Found::Refuted { tree } => {
             println!(rt; "refuted with {} branches", count_branches(tree.as_slice()))?;

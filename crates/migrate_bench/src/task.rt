@@ -3,19 +3,23 @@ use std::alloc::Global;
 use std::env::Args;
 
 const USAGE: &str =
-    "usage: migrate_bench walks SIZE | search SIZE BUDGET | read FILE... | tables FILE...";
+    "usage: migrate_bench walks SIZE | search SIZE BUDGET | read FILE... | tables FILE... | check ORDER FILE... | refute TREE FILE...";
 
 /// What is to be measured.
 #[derive(Drop)]
 pub enum Task {
     /// The least walks of two networks of so many routers.
     Walks { size: u32 },
-    /// The search for an order of so many routers, with so many branches at most.
+    /// The search for a ranking of so many numbers, with so many branches at most.
     Search { size: u32, budget: u32 },
     /// The reading of the configurations of files.
     Read { files: Vec<String> },
     /// The route tables of the network of files.
     Tables { files: Vec<String> },
+    /// What is found of the order of the first file, over the network of the others.
+    Check { files: Vec<String> },
+    /// What is found of the tree of the first file, over the network of the others.
+    Refute { files: Vec<String> },
 }
 
 impl Task {
@@ -34,6 +38,12 @@ impl Task {
                 files: read_files(alloc, &mut words)?,
             },
             "tables" => Task::Tables {
+                files: read_files(alloc, &mut words)?,
+            },
+            "check" => Task::Check {
+                files: read_files(alloc, &mut words)?,
+            },
+            "refute" => Task::Refute {
                 files: read_files(alloc, &mut words)?,
             },
             _ => bail!(USAGE),

@@ -2,7 +2,9 @@ use Rattle.std.proofs.Common.{length, ap, ◌∙◌, refl, arith, below_more}
 use Rattle.std.proofs.lemmas.Bool.{false≢true}
 use Rattle.net_model.specs.Network.{Network}
 use Rattle.loop_finder.specs.Verdicts.{SoundWave}
+use Rattle.loop_finder.proofs.OnFalse.{on_true}
 use Rattle.loop_finder.proofs.WaveListFacts.{sound_to_last, sound_to_all}
+use Rattle.loop_finder.proofs.WaveSteps.{begins_sound}
 use Rattle.loop_finder.proofs.waves_fault.waves_fault.Goals as goal
 
 pub returns-then-not-is_wave-clause-sound : goal.returns-then-not-is_wave-clause-sound
@@ -27,3 +29,11 @@ pub returns-clause-sound : goal.returns-clause-sound
 returns-clause-sound g c =
     sound_to_all g.O.RouteSource.table g.N.RouteSource.table c.args.mixed.now c.args.ranks.now c.loop-wave.wave c.requires.ranks
     (omega (arith, c.loop-wave-test.false, c.routers-wave-end.ensures.count, ap (λ (n : Network). length n) c.net.ensures)) c.loop-wave.invariant.sound
+
+pub wave_fault-requires-clause-begun : goal.wave_fault-requires-clause-begun
+wave_fault-requires-clause-begun g c =
+    on_true c.begins_sound-known.result c.begins_sound-known.ensures
+    (λ known. begins_sound g.O.RouteSource.table g.N.RouteSource.table c.args.mixed.now c.args.ranks.now c.loop-wave.wave c.args.begun c.requires.ranks.each c.requires.begun c.loop-wave.invariant.sound known)
+
+pub wave_fault-requires-clause-few : goal.wave_fault-requires-clause-few
+wave_fault-requires-clause-few g c = omega (arith, c.requires.ranks.each, c.routers-wave-end.ensures.count, ap (λ (n : Network). length n) c.net.ensures)

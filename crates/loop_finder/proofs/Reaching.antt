@@ -1,0 +1,99 @@
+-- Routers that are reached one after another.
+use Rattle.std.proofs.Common.{◌≡◌, ℕ, suc, ◌+◌, ◌<◌, ◌≤◌, Bool, true, false, cond, List, [], ◌∷◌, ◌++◌, length, get_or, set, Contains, inl, inr, arith, refl, sym, ap, ◌∙◌, subst}
+use Rattle.std.specs.List.{All}
+use Rattle.std.proofs.lemmas.Bool.Decides.{eqb_tells}
+use Rattle.std.proofs.lemmas.List.{get_or-set_other, length-set, length_push, length-append, append-nil, append_assoc, get_or_default}
+use Rattle.std.proofs.Math.ListN.{get_or-append}
+use Rattle.std.proofs.lemmas.List.Elements.{All-nil, All-push, Contains-append_left, Contains-push}
+use Rattle.std.proofs.lemmas.List.Sums.{sum_by-set, count_by-le-length}
+use Rattle.igp_theory.specs.States.{Follows}
+use Rattle.order_core.specs.Marks.{IsMarked}
+use Rattle.loop_finder.specs.Live.{marked_count}
+use Rattle.loop_finder.specs.Returns.{NeverReturnsTo, AreReached, ReachesMore}
+
+-- where no router is marked, none is counted
+none_counted : (marks : List Bool) → ((r : ℕ) → ¬ IsMarked marks r) → marked_count marks ≡ 0
+none_counted [] bare = refl
+none_counted (true ∷ marks) bare = absurd (bare 0 refl)
+none_counted (false ∷ marks) bare = let rest : marked_count marks ≡ 0 = none_counted marks (λ r. bare (suc r)) in omega (arith, rest)
+
+-- at first none is reached
+pub AreReached-none : (goal : ℕ) (marks : List Bool) (reached : List ℕ) → ((r : ℕ) → ¬ IsMarked marks r) → reached ≡ [] → AreReached goal marks reached
+AreReached-none goal marks reached bare none = record {
+  listed = λ u marked. absurd (bare u marked);
+  within = subst (λ (xs : List ℕ). All (λ u. u < length marks) xs) (sym none) (All-nil (λ u. u < length marks));
+  count = let counted : marked_count marks ≡ 0 = none_counted marks bare in omega (arith, counted, ap length none);
+  apart = bare goal;
+}
+
+-- one more mark
+one_more : (marks : List Bool) (r : ℕ) → r < length marks → get_or marks r false ≡ false → marked_count (set marks r true) ≡ marked_count marks + 1
+one_more marks r within bare =
+    let one : Bool → ℕ = λ b. cond b 1 0 in
+    let k : one (get_or marks r false) ≡ one false = ap one bare in
+    omega (arith, sum_by-set one marks r true false within, k)
+
+-- fewer routers are reached than there are
+pub reached_short : (goal : ℕ) (marks : List Bool) (reached : List ℕ) (r : ℕ) → AreReached goal marks reached → r < length marks → get_or marks r false ≡ false → length reached < length marks
+reached_short goal marks reached r are within bare =
+    omega (arith, are.count, one_more marks r within bare, count_by-le-length (λ (b : Bool). b) (set marks r true), length-set marks r true)
+
+-- a router that isn't the goal is reached
+pub AreReached-more : (goal : ℕ) (marks : List Bool) (reached : List ℕ) (r : ℕ) → AreReached goal marks reached → r < length marks → get_or marks r false ≡ false → (¬ (r ≡ goal))
+    → AreReached goal (set marks r true) (reached ++ r ∷ [])
+AreReached-more goal marks reached r are within bare apart = record {
+  listed = λ u marked. elim (eqb_tells u r) [
+    | inl same ↦ subst (λ (x : ℕ). Contains (reached ++ r ∷ []) x) (sym same.1) (Contains-push reached r)
+    | inr other ↦ Contains-append_left reached (r ∷ []) u (are.listed u (sym (get_or-set_other marks r u true false other.1) ∙ marked))
+  ];
+  within = All-push (λ u. u < length (set marks r true)) reached r
+      (λ k d inside. let less : get_or reached k d < length marks = are.within k d inside in omega (arith, less, length-set marks r true)) (omega (arith, within, length-set marks r true));
+  count = omega (arith, are.count, one_more marks r within bare, length_push reached r);
+  apart = λ marked. are.apart (sym (get_or-set_other marks r goal true false (λ same. apart (sym same))) ∙ marked);
+}
+
+-- nothing more is reached
+pub ReachesMore-same : (marks : List Bool) (reached : List ℕ) → ReachesMore marks reached marks reached
+ReachesMore-same marks reached = record { marked = λ u marked. marked; added = []; listed = sym (append-nil reached) }
+
+-- first some are reached, then others
+pub ReachesMore-then : (marks marks' marks'' : List Bool) (reached reached' reached'' : List ℕ) → ReachesMore marks reached marks' reached' → ReachesMore marks' reached' marks'' reached''
+    → ReachesMore marks reached marks'' reached''
+ReachesMore-then marks marks' marks'' reached reached' reached'' one two = record {
+  marked = λ u marked. two.marked u (one.marked u marked);
+  added = one.added ++ two.added;
+  listed = two.listed ∙ ap (λ (xs : List ℕ). xs ++ two.added) one.listed ∙ append_assoc reached one.added two.added;
+}
+
+-- the routers at the first places stay there
+pub place_stays : (marks marks' : List Bool) (reached reached' : List ℕ) (k : ℕ) → ReachesMore marks reached marks' reached' → k < length reached → get_or reached' k 0 ≡ get_or reached k 0
+place_stays marks marks' reached reached' k more within = ap (λ (xs : List ℕ). get_or xs k 0) more.listed ∙ get_or-append reached more.added 0 k within
+
+-- the places don't get fewer
+pub places_stay : (marks marks' : List Bool) (reached reached' : List ℕ) → ReachesMore marks reached marks' reached' → length reached ≤ length reached'
+places_stay marks marks' reached reached' more = omega (arith, ap length more.listed, length-append reached more.added)
+
+-- where a list of steps ends at a router of so many, it begins at one
+begins_inside : (step : ℕ → ℕ → Type 0) (n goal : ℕ) → goal < n → ((u h : ℕ) → step u h → u < n) → (u : ℕ) (hops : List ℕ) → Follows step u hops goal → u < n
+begins_inside step n goal within inside u [] same = omega (arith, within, same)
+begins_inside step n goal within inside u (h ∷ hops) follows = inside u h follows.0
+
+-- from a marked router only marked routers are reached, where each marked router steps to marked ones
+stays_marked : (step : ℕ → ℕ → Type 0) (n goal : ℕ) (marks : List Bool) → goal < n → ((u h : ℕ) → step u h → u < n) → ((u h : ℕ) → IsMarked marks u → step u h → h < n → IsMarked marks h)
+    → (u : ℕ) (hops : List ℕ) → IsMarked marks u → Follows step u hops goal → IsMarked marks goal
+stays_marked step n goal marks within inside closed u [] marked same = subst (λ (x : ℕ). IsMarked marks x) same marked
+stays_marked step n goal marks within inside closed u (h ∷ hops) marked follows =
+    stays_marked step n goal marks within inside closed h hops (closed u h marked follows.0 (begins_inside step n goal within inside h hops follows.1)) follows.1
+
+-- where the hops of the goal and of all routers reached are marked, no list of steps returns to the goal
+pub never_returns : (step : ℕ → ℕ → Type 0) (n goal : ℕ) (marks : List Bool) (reached : List ℕ) (place : ℕ) → goal < n → length marks ≡ n → ((u h : ℕ) → step u h → u < n)
+    → AreReached goal marks reached → length reached ≤ place → ((h : ℕ) → step goal h → h < length marks → IsMarked marks h)
+    → ((k : ℕ) → k < place → (h : ℕ) → step (get_or reached k 0) h → h < length marks → IsMarked marks h) → NeverReturnsTo step goal
+never_returns step n goal marks reached place within many inside are whole first spread h hops follows =
+    are.apart (stays_marked step n goal marks within inside closed h hops (first h follows.0 (omega (arith, many, begins_inside step n goal within inside h hops follows.1))) follows.1)
+  where
+    closed : (u v : ℕ) → IsMarked marks u → step u v → v < n → IsMarked marks v
+    closed u v marked steps below =
+        let among : Contains reached u = are.listed u marked in
+        let is : get_or reached among.0 0 ≡ u = get_or_default reached among.0 0 u among.1 ∙ among.2 in
+        spread among.0 (omega (arith, among.1, whole)) v (subst (λ (x : ℕ). step x v) (sym is) steps) (omega (arith, below, many))

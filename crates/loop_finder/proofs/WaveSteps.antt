@@ -1,0 +1,109 @@
+-- A wave is gone through router by router.
+use Rattle.std.proofs.Common.{◌≡◌, ℕ, zero, suc, ◌-◌, ◌<◌, ◌≤◌, ◌⊎◌, Bool, true, cond, leb, List, length, inl, inr, arith, sym, ap, ◌∙◌, subst}
+use Rattle.std.specs.Bool.{OnTrue}
+use Rattle.std.proofs.lemmas.Bool.{cases_lt, cases_order}
+use Rattle.std.proofs.lemmas.Bool.Decides.{leb_tells}
+use Rattle.std.proofs.lemmas.List.{get_or_past}
+use Rattle.order_core.specs.Rankings.{rank_of}
+use Rattle.igp_theory.specs.States.{State}
+use Rattle.igp_theory.specs.declared.phase.Phase.{Phase}
+use Rattle.igp_theory.specs.declared.phase.Phase.TheVariants.{Old}
+use Rattle.igp_theory.proofs.AlikeStates.{sound_alike}
+use Rattle.rib_mix.specs.Mixture.{Mixture}
+use Rattle.loop_finder.specs.Faults.{state_in}
+use Rattle.loop_finder.specs.Orders.{all_old}
+use Rattle.loop_finder.specs.Parts.{ClassPart, AreParts, PassesNever}
+use Rattle.loop_finder.specs.Steps.{Listing}
+use Rattle.loop_finder.specs.Verdicts.{Sound, SoundWave, SoundWavesBefore, IsBetween}
+use Rattle.loop_finder.specs.WaveStarts.{BeginsSound}
+use Rattle.loop_finder.proofs.OrderStates.{same_state}
+use Rattle.loop_finder.proofs.PartLists.{stays_sound}
+use Rattle.loop_finder.proofs.ToldOfWaves.{AreEnds, wave_between}
+
+-- the routers below r have their phases of one state, the others those of another
+abbrev mixed : State → State → ℕ → State
+mixed one other r u = cond (leb (suc u) r) (one u) (other u)
+
+mixed_one : (one other : State) (r u : ℕ) → u < r → mixed one other r u ≡ one u
+mixed_one one other r u below = elim (leb_tells (suc u) r) [
+  | inl met ↦ ap (λ (b : Bool). cond b (one u) (other u)) met.0
+  | inr missed ↦ absurd (omega (arith, missed.1, below))
+]
+
+mixed_other : (one other : State) (r u : ℕ) → r ≤ u → mixed one other r u ≡ other u
+mixed_other one other r u above = elim (leb_tells (suc u) r) [
+  | inl met ↦ absurd (omega (arith, met.1, above))
+  | inr missed ↦ ap (λ (b : Bool). cond b (one u) (other u)) missed.0
+]
+
+-- one router more changes no other
+mixed_more : (one other : State) (r v : ℕ) → (¬ (v ≡ r)) → mixed one other (suc r) v ≡ mixed one other r v
+mixed_more one other r v apart = elim (cases_lt v r) [
+  | inl below ↦ mixed_one one other (suc r) v (omega (arith, below)) ∙ sym (mixed_one one other r v below)
+  | inr above ↦ mixed_other one other (suc r) v (omega (arith, above, apart)) ∙ sym (mixed_other one other r v above)
+]
+
+-- where no walk returns to a router of the wave, each state of it is sound: the routers change one after another
+pub wave_stays_sound : {O N : Type 0} (old : Listing O) (new : Listing N) (m : Mixture O N) (parts : List ClassPart) (ranks : List ℕ) (w : ℕ) (first last : List Phase)
+    → AreParts old new m parts (length m.classes.samples) → AreEnds (length m.net) ranks w first last → Sound old new m (state_in first)
+    → ((u : ℕ) → u < length ranks → rank_of ranks u ≡ w → PassesNever parts first last u) → SoundWave old new m ranks w
+wave_stays_sound old new m parts ranks w first last are ends begun never state of_wave =
+    sound_alike (λ u within. mixed_one state (state_in first) (length m.net) u within) (sound_to (length m.net) (omega arith))
+  where
+    between : (r : ℕ) → IsBetween (length m.net) first last (mixed state (state_in first) r)
+    between r u within = elim (cases_lt u r) [
+      | inl below ↦
+          let is : mixed state (state_in first) r u ≡ state u = mixed_one state (state_in first) r u below in
+          elim (wave_between state ends of_wave u within) [ inl same ↦ inl (is ∙ same) | inr both ↦ inr both ]
+      | inr above ↦ inl (mixed_other state (state_in first) r u above)
+    ]
+
+    as_first : (r : ℕ) → r < length m.net → (¬ (rank_of ranks r ≡ w)) → state r ≡ state_in first r
+    as_first r within apart = elim (cases_order (rank_of ranks r) w) [
+      | inl same ↦ absurd (apart same)
+      | inr (inl before) ↦ of_wave.earlier r within before ∙ sym (ends.begins.switched r (omega (arith, within, ends.each)) before)
+      | inr (inr after) ↦ of_wave.later r within after ∙ sym (ends.begins.others r (omega (arith, within, ends.each)) (omega (arith, after)))
+    ]
+
+    unchanged : (r : ℕ) → state r ≡ state_in first r → (v : ℕ) → mixed state (state_in first) r v ≡ mixed state (state_in first) (suc r) v
+    unchanged r same v = elim (cases_lt v r) [
+      | inl below ↦ mixed_one state (state_in first) r v below ∙ sym (mixed_one state (state_in first) (suc r) v (omega (arith, below)))
+      | inr above ↦ elim (cases_lt r v) [
+        | inl past ↦ mixed_other state (state_in first) r v above ∙ sym (mixed_other state (state_in first) (suc r) v (omega (arith, past)))
+        | inr equal ↦
+            let is : r ≡ v = omega (arith, above, equal) in
+            mixed_other state (state_in first) r v above ∙ sym (subst (λ (x : ℕ). state x ≡ state_in first x) is same) ∙ sym (mixed_one state (state_in first) (suc r) v (omega (arith, equal)))
+      ]
+    ]
+
+    sound_to : (r : ℕ) → r ≤ length m.net → Sound old new m (mixed state (state_in first) r)
+    sound_to zero most = subst (λ (s : State). Sound old new m s) (same_state (state_in first) (mixed state (state_in first) zero) (λ u. sym (mixed_other state (state_in first) zero u (omega arith)))) begun
+    sound_to (suc r) most = elim (cases_order (rank_of ranks r) w) [
+      | inl same ↦ stays_sound old new m parts first last r (mixed state (state_in first) r) (mixed state (state_in first) (suc r)) are (never r (omega (arith, most, ends.each)) same)
+          (λ v within apart. mixed_more state (state_in first) r v apart) (between (suc r)) (sound_to r (omega (arith, most)))
+      | inr (inl before) ↦ subst (λ (s : State). Sound old new m s)
+          (same_state (mixed state (state_in first) r) (mixed state (state_in first) (suc r)) (unchanged r (as_first r (omega (arith, most)) (λ same. omega (arith, same, before))))) (sound_to r (omega (arith, most)))
+      | inr (inr after) ↦ subst (λ (s : State). Sound old new m s)
+          (same_state (mixed state (state_in first) r) (mixed state (state_in first) (suc r)) (unchanged r (as_first r (omega (arith, most)) (λ same. omega (arith, same, after))))) (sound_to r (omega (arith, most)))
+    ]
+
+-- the first state of a wave is the last one of the wave before, and that of the first wave is the one in which every
+-- router is Old
+pub begins_sound : {O N : Type 0} (old : Listing O) (new : Listing N) (m : Mixture O N) (ranks : List ℕ) (w : ℕ) (begun : Bool) → length ranks ≡ length m.net
+    → OnTrue begun (Sound old new m all_old) → SoundWavesBefore old new m ranks w → (begun ≡ true) ⊎ (0 < w) → BeginsSound old new m ranks w
+begins_sound old new m ranks w begun each first before known phases many switched = elim (cases_lt 0 w) [
+  | inl later ↦ before (w - 1) (omega (arith, later)) (state_in phases) (record {
+    earlier = λ u within less. switched.switched u (omega (arith, within, each)) (omega (arith, less));
+    later = λ u within more. switched.others u (omega (arith, within, each)) (omega (arith, more));
+  })
+  | inr none ↦ elim known [
+    | inl known_now ↦ subst (λ (s : State). Sound old new m s) (same_state all_old (state_in phases) (λ u. sym (is_old none u))) (subst (λ (b : Bool). OnTrue b (Sound old new m all_old)) known_now first)
+    | inr later ↦ absurd (omega (arith, none, later))
+  ]
+]
+  where
+    is_old : w ≤ 0 → (u : ℕ) → state_in phases u ≡ Old
+    is_old none u = elim (cases_lt u (length ranks)) [
+      | inl below ↦ switched.others u below (omega (arith, none))
+      | inr past ↦ get_or_past phases u Old (omega (arith, past, many))
+    ]

@@ -1,0 +1,142 @@
+-- The parts of classes that loops can take, and how they tell of all classes.
+use Rattle.std.specs.Prelude.{◌≡◌, ℕ, ◌<◌, ◌⊎◌, Bool, true, List, [], length, slice_index_or, Option, Some, None, All, AllPairs, Contains}
+use Rattle.std.specs.Bool.{OnTrue}
+use Rattle.route_core.specs.Tables.{HasEntry}
+use Rattle.igp_theory.specs.Forwarding.{MustForward, Steps, HasStep}
+use Rattle.igp_theory.specs.States.{State, Follows}
+use Rattle.igp_theory.specs.declared.phase.Phase.{Phase}
+use Rattle.igp_theory.specs.declared.phase.Phase.TheVariants.{Old, Middle, New}
+use Rattle.rib_mix.specs.Mixture.{Mixture}
+use Rattle.loop_finder.specs.Faults.{state_in}
+use Rattle.loop_finder.specs.Returns.{NeverReturnsTo}
+use Rattle.loop_finder.specs.Steps.{Listing, ClassState, sample_of}
+use Rattle.loop_finder.specs.Verdicts.{ClassesOf, SoundAt}
+
+-- Parts
+
+-- the hops of a router in each phase
+pub record PhaseHops : Type 0 where
+  pub old : List ℕ
+  pub middle : List ℕ
+  pub new : List ℕ
+
+abbrev pub hops_of : PhaseHops → Phase → List ℕ
+hops_of row Old = row.old
+hops_of row Middle = row.middle
+hops_of row New = row.new
+
+abbrev pub no_hops : PhaseHops
+no_hops = record { old = []; middle = []; new = [] }
+
+-- a class, whether all its routers are known to move in both networks, and hops of each router
+pub record ClassPart : Type 0 where
+  pub atom : ℕ
+  pub moves : Bool
+  pub rows : List PhaseHops
+
+-- the hops of router u in a phase
+abbrev pub part_hops : ClassPart → ℕ → Phase → List ℕ
+part_hops part u phase = hops_of (slice_index_or part.rows u no_hops) phase
+
+-- two parts have the same hops
+abbrev pub HaveSameHops : ClassPart → ClassPart → Type 0
+HaveSameHops part other = (u : ℕ) (phase : Phase) → part_hops part u phase ≡ part_hops other u phase
+
+-- one of some parts has the hops of another
+pub record HasEarlierHops (parts : List ClassPart) (part : ClassPart) : Type 0 where
+  pub earlier : ClassPart
+  pub among : Contains parts earlier
+  pub same : HaveSameHops earlier part
+
+-- a router steps to another in a phase, for the addresses of a class
+abbrev pub StepsOf : {O N : Type 0} → Listing O → Listing N → Mixture O N → ℕ → ℕ → Phase → ℕ → Type 0
+StepsOf old new m atom u phase h = Steps m.net (HasEntry (old m.old)) (HasEntry (new m.new)) u phase (sample_of m atom) h
+
+-- a router has a step in a phase
+abbrev pub HasStepOf : {O N : Type 0} → Listing O → Listing N → Mixture O N → ℕ → ℕ → Phase → Type 0
+HasStepOf old new m atom u phase = HasStep m.net (HasEntry (old m.old)) (HasEntry (new m.new)) u phase (sample_of m atom)
+
+-- the steps of both networks: a router steps to another in Old or in New
+abbrev pub StepsEver : {O N : Type 0} → Listing O → Listing N → Mixture O N → ℕ → ℕ → ℕ → Type 0
+StepsEver old new m atom u h = StepsOf old new m atom u Old h ⊎ StepsOf old new m atom u New h
+
+-- each router that has to pass packets on has a step in both networks
+abbrev pub AllMove : {O N : Type 0} → Listing O → Listing N → Mixture O N → ℕ → Type 0
+AllMove old new m atom = (u : ℕ) → MustForward m.net (sample_of m atom) u → HasStepOf old new m atom u Old × HasStepOf old new m atom u New
+
+-- the part of a class: it has only steps of the class, and each step from which a walk over the steps of both
+-- networks leads back
+pub record IsPart {O N : Type 0} (old : Listing O) (new : Listing N) (m : Mixture O N) (part : ClassPart) : Type 0 where
+  pub class : part.atom < length m.classes.samples
+  pub many : length part.rows ≡ length m.net
+  pub moves : OnTrue part.moves (AllMove old new m part.atom)
+  pub steps : (u h : ℕ) (phase : Phase) → Contains (part_hops part u phase) h → StepsOf old new m part.atom u phase h
+  pub returns : (u h : ℕ) (hops : List ℕ) (phase : Phase) → StepsOf old new m part.atom u phase h → Follows (StepsEver old new m part.atom) h hops u → Contains (part_hops part u phase) h
+
+-- the steps of a part in one of two states
+abbrev pub PartStep : ClassPart → List Phase → List Phase → ℕ → ℕ → Type 0
+PartStep part first last u h = Contains (part_hops part u (state_in first u)) h ⊎ Contains (part_hops part u (state_in last u)) h
+
+-- two states and a part
+pub record PartState : Type 0 where
+  pub part : ClassPart
+  pub first : List Phase
+  pub last : List Phase
+  pub routers : ℕ
+
+-- they are of so many routers
+pub record IsPartState (c : PartState) : Type 0 where
+  pub rows : length c.part.rows ≡ c.routers
+  pub first_phases : length c.first ≡ c.routers
+  pub last_phases : length c.last ≡ c.routers
+
+-- What the parts tell
+
+-- every state is sound for a class
+abbrev pub NeverUnsound : {O N : Type 0} → Listing O → Listing N → Mixture O N → ℕ → Type 0
+NeverUnsound old new m atom = (state : State) → SoundAt old new m state (sample_of m atom)
+
+-- a state that is sound for class j is sound for class k
+abbrev pub SoundWith : {O N : Type 0} → Listing O → Listing N → Mixture O N → ℕ → ℕ → Type 0
+SoundWith old new m j k = (state : State) → SoundAt old new m state (sample_of m j) → SoundAt old new m state (sample_of m k)
+
+-- what is found for a class: its part, or that every state is sound for it
+abbrev pub HasPart : {O N : Type 0} → Listing O → Listing N → Mixture O N → ℕ → Option ClassPart → Type 0
+HasPart old new m atom None = NeverUnsound old new m atom
+HasPart old new m atom (Some part) = IsPart old new m part × (part.atom ≡ atom)
+
+-- a class has one of some parts
+pub record IsOneOf (parts : List ClassPart) (k : ℕ) : Type 0 where
+  pub part : ClassPart
+  pub among : Contains parts part
+  pub is : part.atom ≡ k
+
+-- a class has one of some parts, or every state is sound for it, or every state that is sound for an earlier class
+-- that has one
+pub data IsCovered {O N : Type 0} (old : Listing O) (new : Listing N) (m : Mixture O N) (parts : List ClassPart) (k : ℕ) : Type 0 where
+  has_part : IsOneOf parts k → IsCovered old new m parts k
+  never_unsound : NeverUnsound old new m k → IsCovered old new m parts k
+  as_earlier : (part : ClassPart) → Contains parts part → part.atom < k → SoundWith old new m part.atom k → IsCovered old new m parts k
+
+-- parts, ascending, that tell of the first n classes
+pub record AreParts {O N : Type 0} (old : Listing O) (new : Listing N) (m : Mixture O N) (parts : List ClassPart) (n : ℕ) : Type 0 where
+  pub classes : ClassesOf old new m
+  pub each : All (IsPart old new m) parts
+  pub ascending : AllPairs (λ (part other : ClassPart). part.atom < other.atom) parts
+  pub below : All (λ (part : ClassPart). part.atom < n) parts
+  pub covered : (k : ℕ) → k < n → IsCovered old new m parts k
+
+-- the states of two ends: every router is Old in the first and New in the last
+pub record TakesBothEnds {O N : Type 0} (c : ClassState O N) : Type 0 where
+  pub begins : (u : ℕ) → state_in c.first u ≡ Old
+  pub ends : (u : ℕ) → u < length c.mixture.net → state_in c.last u ≡ New
+
+-- Changes
+
+-- two states of n routers differ at router u alone
+abbrev pub DifferAt : ℕ → ℕ → State → State → Type 0
+DifferAt n u before after = (v : ℕ) → v < n → ¬ (v ≡ u) → after v ≡ before v
+
+-- in no part does a walk over the steps of two states return to a router
+abbrev pub PassesNever : List ClassPart → List Phase → List Phase → ℕ → Type 0
+PassesNever parts first last u = All (λ (part : ClassPart). (part.moves ≡ true) × NeverReturnsTo (PartStep part first last) u) parts

@@ -1,0 +1,35 @@
+-- Lists of steps that return to their first router, and which routers they pass.
+use Rattle.std.specs.Prelude.{◌≡◌, ℕ, ◌<◌, Bool, List, ◌∷◌, ◌++◌, length, slice_index_or, All, Contains}
+use Rattle.igp_theory.specs.States.{Follows}
+use Rattle.order_core.specs.Marks.{IsMarked}
+use Rattle.loop_finder.specs.Live.{marked_count}
+
+-- no non-empty list of steps from router u returns to it
+abbrev pub NeverReturnsTo : (ℕ → ℕ → Type 0) → ℕ → Type 0
+NeverReturnsTo step u = (h : ℕ) (hops : List ℕ) → Follows step u (h ∷ hops) u → ⊥
+
+-- each router to which a non-empty list of steps returns is marked
+abbrev pub MarksReturns : (ℕ → ℕ → Type 0) → List Bool → Type 0
+MarksReturns step marks = (u h : ℕ) (hops : List ℕ) → Follows step u (h ∷ hops) u → IsMarked marks u
+
+-- the layer of router u
+abbrev pub layer_in : List ℕ → ℕ → ℕ
+layer_in layers u = slice_index_or layers u 0
+
+-- a layer is above those of some routers
+abbrev pub IsAbove : List ℕ → List ℕ → ℕ → Type 0
+IsAbove layers routers layer = (h : ℕ) → Contains routers h → layer_in layers h < layer
+
+-- what is kept of the routers that steps from the goal have reached: each is marked and listed once, and the
+-- goal isn't reached again
+pub record AreReached (goal : ℕ) (marks : List Bool) (reached : List ℕ) : Type 0 where
+  pub listed : (u : ℕ) → IsMarked marks u → Contains reached u
+  pub within : All (λ u. u < length marks) reached
+  pub count : length reached ≡ marked_count marks
+  pub apart : ¬ IsMarked marks goal
+
+-- further routers are reached, and none is forgotten
+pub record ReachesMore (marks : List Bool) (reached : List ℕ) (marks' : List Bool) (reached' : List ℕ) : Type 0 where
+  pub marked : (u : ℕ) → IsMarked marks u → IsMarked marks' u
+  pub added : List ℕ
+  pub listed : reached' ≡ reached ++ added

@@ -1,0 +1,122 @@
+ghost use Rattle.std.specs.Prelude.{◌≡◌, ◌<◌, All, length, true};
+ghost use Rattle.std.specs.Bool.{OnTrue};
+ghost use Rattle.std.specs.Vec.{vec_capacity};
+ghost use Rattle.loop_finder.specs.Parts.{PartStep, PassesNever};
+ghost use Rattle.loop_finder.specs.Returns.{NeverReturnsTo};
+ghost use Rattle.loop_finder.specs.Rooms.{HasRoom};
+
+use crate::graph::StepGraph;
+use crate::part::Part;
+use crate::returns::may_return;
+use crate::room::Room;
+use rib_mix::Phase;
+use std::marker::Model;
+
+/// The steps of a part in two states: each router has the hops of both.
+#[derive(Drop)]
+struct PartSteps<'s> {
+    part: &'s Part,
+    first: &'s [Phase],
+    last: &'s [Phase],
+    routers: u32,
+}
+
+impl<'s> Model for PartSteps<'s> {
+    ghost use Rattle.loop_finder.specs.Parts.{IsPartState, PartState};
+
+    ghost Value = { PartState };
+
+    ghost view = { λ x. record { part = x.part.now; first = x.first.now; last = x.last.now; routers = x.routers } };
+
+    ghost invariant = { λ x. IsPartState (record { part = x.part.now; first = x.first.now; last = x.last.now; routers = x.routers }) };
+}
+
+impl<'s> PartSteps<'s> {
+    /// The steps of a part in two states of so many routers.
+    fn new(part: &'s Part, first: &'s [Phase], last: &'s [Phase], routers: u32) -> PartSteps<'s>
+        requires rows { length part.now.rows ≡ routers }
+        requires first { length first.now ≡ routers }
+        requires last { length last.now ≡ routers }
+        ensures { result ≡ record { part = part.now; first = first.now; last = last.now; routers = routers } }
+    {
+        PartSteps {
+            part,
+            first,
+            last,
+            routers,
+        }
+    }
+}
+
+impl<'s> StepGraph for PartSteps<'s> {
+    ghost use Rattle.loop_finder.specs.Parts.{PartStep};
+
+    ghost size = { λ s. s.routers };
+
+    ghost step = { λ s. PartStep s.part s.first s.last };
+
+    fn size(&self) -> u32 {
+        self.routers
+    }
+
+    fn hops(&self, router: u32) -> (&[u32], &[u32]) {
+        let first = self.first[router as usize];
+        let last = self.last[router as usize];
+        (
+            self.part.hops_in(router, first),
+            self.part.hops_in(router, last),
+        )
+    }
+}
+
+/// Whether in no part a walk over the steps of two states returns to a router.
+pub fn passes_never(
+    parts: &[Part],
+    first: &[Phase],
+    last: &[Phase],
+    router: u32,
+    routers: u32,
+    room: &mut Room,
+) -> bool
+    requires parts { All (λ part. length part.rows ≡ routers) parts.now }
+    requires first { length first.now ≡ routers }
+    requires last { length last.now ≡ routers }
+    requires router { router < routers }
+    requires room { HasRoom routers room.old }
+    ensures never { OnTrue result (PassesNever parts.now first.now last.now router) }
+    ensures room { HasRoom routers room.new }
+    ensures ring { room.new.ring.items ≡ room.old.ring.items }
+{
+    for part in parts {
+        if !passes_part_never(part, first, last, router, routers, room) {
+            return false;
+        }
+    }
+    true
+}
+
+/// Whether all routers move, and no walk over the steps of a part in two states returns to a router.
+fn passes_part_never(
+    part: &Part,
+    first: &[Phase],
+    last: &[Phase],
+    router: u32,
+    routers: u32,
+    room: &mut Room,
+) -> bool
+    requires rows { length part.now.rows ≡ routers }
+    requires first { length first.now ≡ routers }
+    requires last { length last.now ≡ routers }
+    requires router { router < routers }
+    requires room { HasRoom routers room.old }
+    ensures moves { OnTrue result (part.now.moves ≡ true) }
+    ensures never { OnTrue result (NeverReturnsTo (PartStep part.now first.now last.now) router) }
+    ensures room { HasRoom routers room.new }
+    ensures ring { room.new.ring.items ≡ room.old.ring.items }
+{
+    if !part.moves() {
+        return false;
+    }
+    let steps = PartSteps::new(part, first, last, routers);
+    !may_return(&steps, router, &mut room.live, &mut room.path)
+}

@@ -1,0 +1,253 @@
+ghost use Rattle.std.specs.Prelude.{◌≡◌, ◌<◌, ℕ, Contains, IfOk, OnOk, length, slice_index_or};
+ghost use Rattle.std.specs.Bool.{OnTrue};
+ghost use Rattle.order_core.specs.Marks.{IsMarked};
+ghost use Rattle.loop_finder.specs.PartRows.{AreKept, AreRowsOf, IsRowOf, KeepsOne};
+ghost use Rattle.loop_finder.specs.Parts.{AllMove, HasPart, HaveSameHops, TakesBothEnds, hops_of, no_hops, part_hops};
+ghost use Rattle.loop_finder.specs.Returns.{MarksReturns};
+ghost use Rattle.loop_finder.specs.Steps.{ClassStep};
+
+use crate::class_steps::ClassSteps;
+use crate::graph::StepGraph;
+use crate::layers::{Layers, mark_level};
+use crate::live::{is_marked, mark_all};
+use rib_mix::{OutOfMemory, Phase};
+use route_core::RouteSource;
+use std::alloc::Global;
+use std::marker::Model;
+
+/// The hops of a router by which a walk may return to it, in each phase.
+#[derive(Drop)]
+pub struct Row {
+    old: Vec<u32>,
+    middle: Vec<u32>,
+    new: Vec<u32>,
+}
+
+impl Model for Row {
+    ghost use Rattle.loop_finder.specs.Parts.{PhaseHops};
+
+    ghost Value = { PhaseHops };
+
+    ghost view = { λ x. record { old = x.old.items; middle = x.middle.items; new = x.new.items } };
+}
+
+impl Row {
+    /// No hops.
+    fn empty(alloc: Global) -> Row
+        ensures { result ≡ no_hops }
+    {
+        Row {
+            old: Vec::new(alloc),
+            middle: Vec::new(alloc),
+            new: Vec::new(alloc),
+        }
+    }
+
+    /// The hops in a phase.
+    fn hops_in(&self, phase: Phase) -> &[u32]
+        ensures { result.now ≡ hops_of self.now phase }
+    {
+        match phase {
+            Phase::Old => self.old.as_slice(),
+            Phase::Middle => self.middle.as_slice(),
+            Phase::New => self.new.as_slice(),
+        }
+    }
+
+    /// Whether two rows are the same.
+    fn is_same(&self, other: &Row) -> bool
+        ensures { OnTrue result (self.now ≡ other.now) }
+    {
+        are_same(self.old.as_slice(), other.old.as_slice())
+            && are_same(self.middle.as_slice(), other.middle.as_slice())
+            && are_same(self.new.as_slice(), other.new.as_slice())
+    }
+}
+
+/// The part of a class's steps that loops can take: for each router and phase the hops by which a walk over the
+/// steps of both networks may return to the router.
+#[derive(Drop)]
+pub struct Part {
+    atom: u32,
+    moves: bool,
+    rows: Vec<Row>,
+}
+
+impl Model for Part {
+    ghost use Rattle.loop_finder.specs.Parts.{ClassPart};
+
+    ghost Value = { ClassPart };
+
+    ghost view = { λ x. record { atom = x.atom; moves = x.moves; rows = x.rows.items } };
+}
+
+impl Part {
+    /// The part of a class; none where no state is unsound for it.
+    pub fn build<O: RouteSource, N: RouteSource>(
+        alloc: Global,
+        steps: &ClassSteps<'_, '_, O, N>,
+        layers: &mut Layers,
+        marks: &mut [bool],
+    ) -> Result<Option<Part>, OutOfMemory>
+        requires atom { steps.now.atom < length steps.now.mixture.classes.samples }
+        requires ends { TakesBothEnds steps.now }
+        requires marks { length marks.old ≡ length steps.now.mixture.net }
+        ensures { IfOk result (HasPart O.table N.table steps.now.mixture steps.now.atom) }
+    {
+        mark_returns(steps, layers, marks)?;
+        let moves = all_move(steps);
+        if moves && none_marked(marks) {
+            return Ok(None);
+        }
+        let rows = rows_of(alloc, steps, marks)?;
+        Ok(Some(Part {
+            atom: steps.atom(),
+            moves,
+            rows,
+        }))
+    }
+
+    /// The class.
+    pub fn atom(&self) -> u32
+        ensures { result ≡ self.now.atom }
+    {
+        self.atom
+    }
+
+    /// Whether every router that has to pass packets on is known to have a step in both networks.
+    pub fn moves(&self) -> bool
+        ensures { result ≡ self.now.moves }
+    {
+        self.moves
+    }
+
+    /// The hops of a router in a phase.
+    pub fn hops_in(&self, router: u32, phase: Phase) -> &[u32]
+        requires { router < length self.now.rows }
+        ensures { result.now ≡ part_hops self.now router phase }
+    {
+        self.rows[router as usize].hops_in(phase)
+    }
+
+    /// Whether two parts have the same hops.
+    pub fn has_hops_of(&self, other: &Part) -> bool
+        requires { length self.now.rows ≡ length other.now.rows }
+        ensures { OnTrue result (HaveSameHops self.now other.now) }
+    {
+        same_rows(self.rows.as_slice(), other.rows.as_slice())
+    }
+}
+
+/// Whether two lists of rows are the same.
+fn same_rows(one: &[Row], other: &[Row]) -> bool
+    requires { length one.now ≡ length other.now }
+    ensures { OnTrue result ((u : ℕ) → slice_index_or one.now u no_hops ≡ slice_index_or other.now u no_hops) }
+{
+    for place in 0..one.len() {
+        if !one[place].is_same(&other[place]) {
+            return false;
+        }
+    }
+    true
+}
+
+/// Whether every router that has to pass packets on has a step in both networks.
+fn all_move<O: RouteSource, N: RouteSource>(steps: &ClassSteps<'_, '_, O, N>) -> bool
+    requires { TakesBothEnds steps.now }
+    ensures { OnTrue result (AllMove O.table N.table steps.now.mixture steps.now.atom) }
+{
+    match steps.first_stuck() {
+        Some(_) => false,
+        None => true,
+    }
+}
+
+/// Whether no router is marked.
+fn none_marked(marks: &[bool]) -> bool
+    ensures { OnTrue result ((u : ℕ) → ¬ IsMarked marks.now u) }
+{
+    if marks.contains(&true) {
+        return false;
+    }
+    true
+}
+
+/// Marks the routers to which a walk over the steps may return.
+fn mark_returns<O: RouteSource, N: RouteSource>(
+    steps: &ClassSteps<'_, '_, O, N>,
+    layers: &mut Layers,
+    marks: &mut [bool],
+) -> Result<(), OutOfMemory>
+    requires { length marks.old ≡ length steps.now.mixture.net }
+    ensures { OnOk result (MarksReturns (ClassStep O.table N.table steps.now) marks.new) }
+{
+    layers.choose(steps)?;
+    if !mark_level(steps, layers.numbers(), marks) {
+        mark_all(marks);
+    }
+    Ok(())
+}
+
+/// The hops between marked routers, for each router.
+fn rows_of<O: RouteSource, N: RouteSource>(
+    alloc: Global,
+    steps: &ClassSteps<'_, '_, O, N>,
+    marks: &[bool],
+) -> Result<Vec<Row>, OutOfMemory>
+    requires { length marks.now ≡ length steps.now.mixture.net }
+    ensures { IfOk result (λ rows. AreRowsOf O.table N.table steps.now marks.now rows.items) }
+{
+    let mut rows = Vec::with_capacity(alloc, marks.len())?;
+    for router in 0..steps.size() {
+        let row = row_of(alloc, steps, router, marks)?;
+        rows.push(row)?;
+    }
+    Ok(rows)
+}
+
+/// The hops from a router to marked routers, none where it isn't marked itself.
+fn row_of<O: RouteSource, N: RouteSource>(
+    alloc: Global,
+    steps: &ClassSteps<'_, '_, O, N>,
+    router: u32,
+    marks: &[bool],
+) -> Result<Row, OutOfMemory>
+    requires { router < length steps.now.mixture.net }
+    ensures { IfOk result (IsRowOf O.table N.table steps.now marks.now router) }
+{
+    if !is_marked(marks, router) {
+        return Ok(Row::empty(alloc));
+    }
+    let old = kept(alloc, steps.hops_in(router, Phase::Old), marks)?;
+    let middle = kept(alloc, steps.hops_in(router, Phase::Middle), marks)?;
+    let new = kept(alloc, steps.hops_in(router, Phase::New), marks)?;
+    Ok(Row { old, middle, new })
+}
+
+/// The marked ones of some routers.
+fn kept(alloc: Global, routers: &[u32], marks: &[bool]) -> Result<Vec<u32>, OutOfMemory>
+    ensures { IfOk result (λ v. AreKept routers.now marks.now v.items) }
+{
+    let mut kept = Vec::new(alloc);
+    for router in routers {
+        keep_one(&mut kept, marks, *router)?;
+    }
+    Ok(kept)
+}
+
+/// Keeps a router where it's marked.
+fn keep_one(kept: &mut Vec<u32>, marks: &[bool], router: u32) -> Result<(), OutOfMemory>
+    ensures { OnOk result (KeepsOne marks.now router kept.old.items kept.new.items) }
+{
+    if is_marked(marks, router) {
+        kept.push(router)?;
+    }
+    Ok(())
+}
+
+/// Whether two lists of routers are the same.
+fn are_same(one: &[u32], other: &[u32]) -> bool
+    ensures { OnTrue result (one.now ≡ other.now) }
+{
+    one == other
+}
