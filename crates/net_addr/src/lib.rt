@@ -4,6 +4,7 @@
 mod address;
 mod blank;
 mod boundary;
+mod cursor;
 mod line;
 mod mask;
 mod matches;
@@ -15,6 +16,7 @@ mod word;
 
 pub use address::read_addr;
 pub use boundary::boundary_law;
+pub use cursor::LineCursor;
 pub use line::{Line, LineList, lines};
 pub use mask::read_mask;
 pub use matches::Match;

@@ -85,7 +85,7 @@ pub fn lines(alloc: Global, text: &[u8]) -> Result<LineList, OutOfMemory>
 }
 
 /// How many bytes stand before the first line feed: all of them where there is none.
-fn piece_len(bytes: &[u8]) -> usize
+pub(crate) fn piece_len(bytes: &[u8]) -> usize
     ensures value { result ≡ position_or_len is_line_feed bytes.now }
     ensures bound { result ≤ length bytes.now }
 {
@@ -111,7 +111,7 @@ fn line_between(text: &[u8], number: u32, start: usize, stop: usize) -> Line
 }
 
 /// The bytes without the one carriage return at their end.
-fn without_return(bytes: &[u8]) -> &[u8]
+pub(crate) fn without_return(bytes: &[u8]) -> &[u8]
     ensures { result.now ≡ strip_carriage_return bytes.now }
 {
     match bytes {

@@ -1,5 +1,15 @@
 pub mod Zips
+pub mod Splits
 pub mod Routers
 pub mod LineNumbers
-pub mod FaultyLines
+pub mod WaveLineFacts
+pub mod WaveLists
+pub mod NamesOnLines
+pub mod ReadFacts
+pub mod LeastFaults
+pub mod NamedWaves
+pub mod WaveFileLaws
 pub mod Reading
+pub mod Endings
+pub mod ScriptFacts
+pub mod TextFacts

@@ -1,62 +1,29 @@
 -- How far the lines after the header have been read.
-use Rattle.std.proofs.Common.{◌≡◌, ◌≢◌, Bool, true, false, cond, eqb, ℕ, suc, ◌+◌, ◌<◌, ◌≤◌, Some, List, [], ◌∷◌, ◌++◌, length, get_or, take, refl, sym, ap, subst, ◌∙◌, arith}
+use Rattle.std.proofs.Common.{◌≡◌, Bool, true, false, cond, eqb, ℕ, suc, ◌+◌, ◌<◌, ◌≤◌, None, List, [], ◌∷◌, ◌++◌, length, get_or, take, drop, refl, sym, ap, subst, ◌∙◌, arith}
 use Rattle.std.specs.List.{All, AllZip, slice_split}
-use Rattle.std.proofs.lemmas.List.{take_more, get_or_default, get_or-map, length-map}
+use Rattle.std.proofs.lemmas.List.{append-nil, get_or_default, take_more, drop_more, take-append-drop, get_or-map, length-map, length-take-le}
 use Rattle.std.proofs.lemmas.List.Elements.{All-tail}
 use Rattle.std.proofs.lemmas.List.Splits.{length-slice_split}
 use Rattle.std.proofs.lemmas.List.Sums.{count_by-le-length}
-use Rattle.std.proofs.lemmas.List.Quantifiers.{all_pairs_push}
-use Rattle.std.proofs.lemmas.Option.{slice_get-get_or}
+use Rattle.std.proofs.lemmas.Slice.Zip.{AllZip-long}
 use Rattle.net_addr.specs.Lines.{is_line_feed, line_pieces, line_texts, lines_of, text_lines, without_empty_last}
 use Rattle.net_addr.specs.Spans.{bytes_of, LiesIn}
 use Rattle.net_addr.specs.declared.line.Line.{Line}
 use Rattle.net_model.specs.Lookups.{IsNamed}
 use Rattle.net_model.specs.Network.{Network}
-use Rattle.net_model.specs.Refusals.{IsNetwork}
-use Rattle.step_scripts.specs.Orders.{header, HasLine, IsFaultyLine, IsLeastFaultyLine, rank}
-use Rattle.step_scripts.specs.Entries.{texts_of, AreEntries, AreNamed, IsFresh, IsNotFresh}
+use Rattle.net_model.specs.Refusals.{NamesAscend}
+use Rattle.order_core.specs.Orders.{AreDistinct}
+use Rattle.step_scripts.specs.WaveLines.{header_of, wave_on}
+use Rattle.step_scripts.specs.WaveFiles.{all_in}
+use Rattle.step_scripts.specs.FaultyLines.{IsLeastFaultyLine}
+use Rattle.step_scripts.specs.ReadWaves.{texts_of, AreEntries, AreWavesRead, AreRead, AreFirstWaves, IsUnfit, TakesSeats}
+use Rattle.step_scripts.specs.declared.version.Version.{Version}
 use Rattle.step_scripts.specs.declared.kind.OrderKind.{OrderKind}
-use Rattle.step_scripts.specs.declared.kind.OrderKind.TheVariants.{Header, NotInNetwork, Twice, Missing}
-use Rattle.step_scripts.proofs.FaultyLines.{least_here}
+use Rattle.step_scripts.proofs.LeastFaults.{IsLowestBehind, least_here, lowest_unfit}
 use Rattle.step_scripts.proofs.LineNumbers.{numbered}
+use Rattle.step_scripts.proofs.ReadFacts.{all_in-append, without_end}
+use Rattle.step_scripts.proofs.WaveLineFacts.{Says}
 use Rattle.step_scripts.proofs.Zips.{zip_push}
-
-text_at : (text : List ℕ) (entries : List Line) (i : ℕ) (d : Line) → i < length entries → get_or (texts_of text entries) i [] ≡ bytes_of text (get_or entries i d).span
-text_at text entries i d l = get_or-map (λ (line : Line). bytes_of text line.span) entries i d [] l
-
--- a line that names no further router is the least faulty one
-pub least_at : (net : Network) → IsNetwork net → (text : List ℕ) (entries : List Line) → AreEntries text entries → (i : ℕ) (d : Line) (order : List ℕ) → i < length entries → AreNamed net (take i (texts_of text entries)) order → (kind : OrderKind) → IsNotFresh net (bytes_of text (get_or entries i d).span) order kind → IsLeastFaultyLine net text (get_or entries i d).number kind
-least_at net network text entries are i d order l front kind f =
-    let long = length-map entries (λ (line : Line). bytes_of text line.span) in
-    let name = bytes_of text (get_or entries i d).span in
-    let at = slice_get-get_or (texts_of text entries) i [] (omega (arith, long, l)) ∙ ap Some (text_at text entries i d l) in
-    subst (λ n. IsLeastFaultyLine net text n kind) (sym (are.numbers i d l))
-    (least_here net network text (texts_of text entries) are.lines i order (omega (arith, long, l)) front name kind at f)
-
--- one more name of a further router
-pub grown : (net : Network) (text : List ℕ) (entries : List Line) (i : ℕ) (d : Line) (order : List ℕ) (u : ℕ) → i < length entries → AreNamed net (take i (texts_of text entries)) order → IsFresh net (bytes_of text (get_or entries i d).span) order u → AreNamed net (take (i + 1) (texts_of text entries)) (order ++ u ∷ [])
-grown net text entries i d order u l front fresh =
-    let long = length-map entries (λ (line : Line). bytes_of text line.span) in
-    let within : i < length (texts_of text entries) = omega (arith, long, l) in
-    let step = take_more (texts_of text entries) i [] within in
-    let here = subst (λ n. IsNamed net n u) (sym (text_at text entries i d l)) fresh.named in
-    record {
-      named = subst (λ names. AllZip (IsNamed net) names (order ++ u ∷ [])) (sym step) (zip_push (IsNamed net) (take i (texts_of text entries)) order (get_or (texts_of text entries) i []) u front.named here);
-      once = all_pairs_push (λ (u v : ℕ). u ≢ v) order u front.once (λ k e h same. fresh.absent (k, h, get_or_default order k u e h ∙ same));
-    }
-
--- the lines after a first line that is the header
-pub entries_from : (text : List ℕ) (lines entries : List Line) (first : Line) → lines ≡ text_lines text → All (λ (line : Line). LiesIn text line.span) lines → texts_of text lines ≡ line_texts text → lines ≡ first ∷ entries → bytes_of text first.span ≡ header → AreEntries text entries
-entries_from text lines entries first exact inside texts parts is = record {
-  lines = sym texts ∙ ap (texts_of text) parts ∙ ap (λ h. h ∷ texts_of text entries) is;
-  numbers = λ k d l.
-      let same : text_lines text ≡ first ∷ entries = sym exact ∙ parts in
-      let long = ap length same in
-      let number = numbered text (suc k) d (omega (arith, long, l)) in
-      let at = subst (λ (all : List Line). (get_or all (suc k) d).number ≡ suc k + 1) same number in
-      omega (arith, at);
-  inside = All-tail (λ (line : Line). LiesIn text line.span) first entries (subst (All (λ (line : Line). LiesIn text line.span)) parts inside);
-}
 
 one_few : (empty : Bool) (piece : List ℕ) → length (cond empty [] (piece ∷ [])) ≤ 1
 one_few true piece = omega arith
@@ -76,21 +43,99 @@ pub lines_few : (text : List ℕ) → length (text_lines text) ≤ length text +
 lines_few text =
     omega (arith, lines_many 1 0 (line_pieces text), pieces_few (slice_split is_line_feed text), length-slice_split is_line_feed text, count_by-le-length is_line_feed text)
 
-first_least : (net : Network) (text : List ℕ) (other : ℕ) (its : OrderKind) → IsFaultyLine net text other its → 1 ≤ other
-first_least net text other Header f = omega (arith, f.0)
-first_least net text other NotInNetwork f = omega (arith, f.entry.later)
-first_least net text other Twice f = omega (arith, f.entry.later)
-first_least net text other Missing f = omega (arith, f.ends)
+-- the lines after a first line that is a header
+pub entries_from : (text : List ℕ) (version : Version) (lines entries : List Line) (first : Line) → lines ≡ text_lines text → All (λ (line : Line). LiesIn text line.span) lines → texts_of text lines ≡ line_texts text → lines ≡ first ∷ entries → bytes_of text first.span ≡ header_of version → AreEntries version text entries
+entries_from text version lines entries first exact inside texts parts is = record {
+  lines = sym texts ∙ ap (texts_of text) parts ∙ ap (λ h. h ∷ texts_of text entries) is;
+  numbers = λ k d l.
+      let same : text_lines text ≡ first ∷ entries = sym exact ∙ parts in
+      let long = ap length same in
+      let number = numbered text (suc k) d (omega (arith, long, l)) in
+      let at = subst (λ (all : List Line). (get_or all (suc k) d).number ≡ suc k + 1) same number in
+      omega (arith, at);
+  inside = All-tail (λ (line : Line). LiesIn text line.span) first entries (subst (All (λ (line : Line). LiesIn text line.span)) parts inside);
+}
 
-header_lowest : (net : Network) (text : List ℕ) (its : OrderKind) → IsFaultyLine net text 1 its → 1 ≤ rank its
-header_lowest net text Header f = omega arith
-header_lowest net text NotInNetwork f = omega arith
-header_lowest net text Twice f = omega arith
-header_lowest net text Missing f = omega arith
+-- how many lines a text has with its header
+pub count_lines : (text : List ℕ) (version : Version) (lines entries : List Line) → texts_of text lines ≡ line_texts text → AreEntries version text entries →
+    length lines + 1 ≡ length (texts_of text entries) + 2
+count_lines text version lines entries texts are =
+    omega (arith, length-map lines (λ (line : Line). bytes_of text line.span), ap length (texts ∙ are.lines))
 
--- a text whose first line isn't the header
-pub least_first : (net : Network) (text : List ℕ) → (HasLine text 1 header → ⊥) → IsLeastFaultyLine net text 1 Header
-least_first net text none = record { faulty = (refl, none); least = first_least net text; lowest = header_lowest net text }
+module _ (net : Network) (network : NamesAscend net) (version : Version) (text : List ℕ) (entries : List Line) (are : AreEntries version text entries) where
+  pub long : length (texts_of text entries) ≡ length entries
+  long = length-map entries (λ (line : Line). bytes_of text line.span)
 
-pub count_lines : (text : List ℕ) (lines : List Line) (names : List (List ℕ)) → texts_of text lines ≡ header ∷ names → length lines + 1 ≡ length names + 2
-count_lines text lines names e = omega (arith, length-map lines (λ (line : Line). bytes_of text line.span), ap length e)
+  pub text_at : (i : ℕ) (d : Line) → i < length entries → get_or (texts_of text entries) i [] ≡ bytes_of text (get_or entries i d).span
+  text_at i d l = get_or-map (λ (line : Line). bytes_of text line.span) entries i d [] l
+
+  parts_at : (i : ℕ) (d : Line) → i < length entries → texts_of text entries ≡ take i (texts_of text entries) ++ bytes_of text (get_or entries i d).span ∷ drop (i + 1) (texts_of text entries)
+  parts_at i d l =
+      sym (take-append-drop i (texts_of text entries))
+      ∙ ap (λ l. take i (texts_of text entries) ++ l) (drop_more (texts_of text entries) i [] (omega (arith, long, l)) ∙ ap (λ h. h ∷ drop (i + 1) (texts_of text entries)) (text_at i d l))
+
+  -- a line behind what was read that is faulty is the least faulty one
+  pub least_at : (i : ℕ) (d : Line) (seats : List (List ℕ)) → i < length entries → AreRead net version (take i (texts_of text entries)) seats → (kind : OrderKind) →
+      IsLowestBehind net version (take i (texts_of text entries)) (bytes_of text (get_or entries i d).span) kind → IsLeastFaultyLine net text (get_or entries i d).number kind
+  least_at i d seats l read kind is =
+      let front = take i (texts_of text entries) in
+      let lines = are.lines ∙ ap (λ l. header_of version ∷ l) (parts_at i d l) in
+      let number : length front + 2 ≡ (get_or entries i d).number = ap (λ n. n + 2) (length-take-le i (texts_of text entries) (omega (arith, long, l))) ∙ sym (are.numbers i d l) in
+      subst (λ n. IsLeastFaultyLine net text n kind) number
+      (least_here net network text version front (bytes_of text (get_or entries i d).span) (drop (i + 1) (texts_of text entries)) seats lines read kind is)
+
+  -- names that are no further wave
+  pub unfit_at : (i : ℕ) (d : Line) (seats : List (List ℕ)) (names : List (List ℕ)) → i < length entries → AreWavesRead net version (take i (texts_of text entries)) seats →
+      Says version (bytes_of text (get_or entries i d).span) names → (kind : OrderKind) → IsUnfit net names seats kind → IsLeastFaultyLine net text (get_or entries i d).number kind
+  unfit_at i d seats names l read says kind f =
+      let front = take i (texts_of text entries) in
+      least_at i d seats l (without_end net network version front seats read) kind
+      (lowest_unfit net network version front seats read (bytes_of text (get_or entries i d).span) names says kind f)
+
+  -- one wave more
+  pub one_more : (i : ℕ) (d : Line) (old new : List (List ℕ)) (names : List (List ℕ)) → i < length entries → AreWavesRead net version (take i (texts_of text entries)) old →
+      Says version (bytes_of text (get_or entries i d).span) names → TakesSeats net names old new → AreWavesRead net version (take (i + 1) (texts_of text entries)) new
+  one_more i d old new names l read says takes =
+      let step = take_more (texts_of text entries) i [] (omega (arith, long, l)) in
+      let at = text_at i d l in
+      let here = subst (λ t. Says version t names) (sym at) says in
+      record {
+        waves = read.waves ++ names ∷ [];
+        each = subst (λ l. AllZip (Says version) l (read.waves ++ names ∷ [])) (sym step)
+            (zip_push (Says version) (take i (texts_of text entries)) read.waves (get_or (texts_of text entries) i []) names read.each here);
+        named = subst (λ s. AllZip (AllZip (IsNamed net)) (read.waves ++ names ∷ []) s) (sym takes.added)
+            (zip_push (AllZip (IsNamed net)) read.waves old names takes.routers read.named takes.named);
+        once = subst (λ s. AreDistinct (all_in s)) (sym takes.added) (subst AreDistinct (sym (all_in-append old (takes.routers ∷ []) ∙ ap (λ l. all_in old ++ l) (one_wave_in takes.routers))) takes.once);
+      }
+    where
+      one_wave_in : (wave : List ℕ) → all_in (wave ∷ []) ≡ wave
+      one_wave_in wave = append-nil wave
+
+  -- as many seats as lines
+  pub seats_long : (i : ℕ) (seats : List (List ℕ)) → i ≤ length entries → AreWavesRead net version (take i (texts_of text entries)) seats → length seats ≡ i
+  seats_long i seats l read =
+      AllZip-long (AllZip (IsNamed net)) read.waves seats read.named ∙ AllZip-long (Says version) (take i (texts_of text entries)) read.waves read.each
+      ∙ length-take-le i (texts_of text entries) (omega (arith, long, l))
+
+  -- the waves end at a line that is none
+  pub first_waves : (i : ℕ) (d : Line) (seats : List (List ℕ)) → i < length entries → AreWavesRead net version (take i (texts_of text entries)) seats →
+      wave_on version (bytes_of text (get_or entries i d).span) ≡ None → AreFirstWaves net version (texts_of text entries) seats
+  first_waves i d seats l read none =
+      let same = seats_long i seats (omega (arith, l)) read in
+      record {
+        few = omega (arith, same, long, l);
+        read = subst (λ n. AreWavesRead net version (take n (texts_of text entries)) seats) (sym same) read;
+        next = λ e inside. subst (λ n. wave_on version (get_or (texts_of text entries) n e) ≡ None) (sym same)
+            (subst (λ t. wave_on version t ≡ None) (sym (get_or_default (texts_of text entries) i e [] (omega (arith, long, l)) ∙ text_at i d l)) none);
+      }
+
+  -- or with the last line
+  pub all_waves : (i : ℕ) (seats : List (List ℕ)) → i ≤ length entries → length entries ≤ i → AreWavesRead net version (take i (texts_of text entries)) seats →
+      AreFirstWaves net version (texts_of text entries) seats
+  all_waves i seats l done read =
+      let same = seats_long i seats l read in
+      record {
+        few = omega (arith, same, long, l);
+        read = subst (λ n. AreWavesRead net version (take n (texts_of text entries)) seats) (sym same) read;
+        next = λ e inside. absurd (omega (arith, same, long, done, inside));
+      }

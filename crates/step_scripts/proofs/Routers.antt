@@ -4,12 +4,12 @@ use Rattle.std.proofs.lemmas.Option.{same_Some, slice_get_cases}
 use Rattle.net_model.specs.Configuration.{Configuration}
 use Rattle.net_model.specs.Lookups.{IsNamed}
 use Rattle.net_model.specs.Network.{Network}
-use Rattle.net_model.specs.Refusals.{IsNetwork}
+use Rattle.net_model.specs.Refusals.{NamesAscend}
 use Rattle.net_model.proofs.NetworkFacts.{IsNamed-unique}
 
 -- a name is that of one router
-pub same_router : (net : Network) → IsNetwork net → (name : List ℕ) (u v : ℕ) → IsNamed net name u → IsNamed net name v → u ≡ v
-same_router net network name u v = IsNamed-unique net name u v network.ascending
+pub same_router : (net : Network) → NamesAscend net → (name : List ℕ) (u v : ℕ) → IsNamed net name u → IsNamed net name v → u ≡ v
+same_router net network name u v = IsNamed-unique net name u v network
 
 -- a router has one name
 pub same_name : (net : Network) (one other : List ℕ) (u : ℕ) → IsNamed net one u → IsNamed net other u → one ≡ other

@@ -4,14 +4,18 @@ use thiserror::Error;
 /// Why a line of an order file is faulty; where several kinds stand on a line the first of this order counts.
 #[derive(Clone, Copy, Debug, PartialEq, Eq)]
 pub enum OrderKind {
-    /// The first line isn't `order 1`, or there is none.
+    /// The first line is neither `order 1` nor `order 2`, or there is none.
     Header = 1,
-    /// A later line is no router's name.
+    /// A wave has a name of no router.
     NotInNetwork = 2,
-    /// A later line stood before.
+    /// A wave has a name that stood before.
     Twice = 3,
-    /// The file ends before each router was named.
+    /// The file ends, and some router stands in no wave.
     Missing = 4,
+    /// A line of version 2 is neither a wave nor a chain, or it stands after the chain.
+    Wave = 5,
+    /// The names of the chain aren't one of each wave, in the order of the waves.
+    Chain = 6,
 }
 
 /// Why a text is no order file.

@@ -1,8 +1,10 @@
-ghost use Rattle.step_scripts.specs.OrderLaws.{OneOrderLaw, OneRefusalLaw, OrderOrRefusalLaw};
+ghost use Rattle.step_scripts.specs.WavesTexts.{WavesReadBack};
+ghost use Rattle.step_scripts.specs.WaveFileLaws.{OneRefusalLaw, OneWaveListLaw, WavesOrRefusalLaw};
 
-/// The laws of order files: a text names one order at most, or is refused, and in one way.
-pub fn order_laws()
-    ensures one_order { OneOrderLaw }
-    ensures order_or_refusal { OrderOrRefusalLaw }
+/// The laws of order files: a text names one wave list at most, or is refused, and in one way; that of `waves_text` names its waves.
+pub fn waves_laws()
+    ensures one_wave_list { OneWaveListLaw }
+    ensures waves_or_refusal { WavesOrRefusalLaw }
     ensures one_refusal { OneRefusalLaw }
+    ensures read_back { WavesReadBack }
 {}

@@ -1,0 +1,578 @@
+-- A further section of a process that sets its distance: no fault comes with it, and nothing but the distance changes.
+use Rattle.std.proofs.Common.{◌≡◌, ℕ, ◌+◌, Bool, true, false, not, ◌&&◌, ◌||◌, cond, drop, List, [], ◌∷◌, ◌++◌, map, Option, Some, None, Result, Ok, refl, sym, ap, subst, ◌∙◌, append-nil, length-append, nat_eq, nat_lt, length, ◌<◌, arith}
+use Rattle.std.specs.Prelude.{filter, filter_map, fold, unwrap_or, option_map, is_some, is_none, bytes_eq}
+use Rattle.std.specs.List.{flat_map, list_any, list_all, cons_option}
+use Rattle.std.proofs.lemmas.Bool.{eqb-true, eq-eqb}
+use Rattle.std.proofs.lemmas.List.{map-append}
+use Rattle.std.proofs.lemmas.Slice.Eq.{bytes_eq-Decides}
+use Rattle.std.proofs.lemmas.List.Concat.{flat_map-append}
+use Rattle.std.proofs.lemmas.List.Elements.{filter-append, filter_map-append}
+use Rattle.std.proofs.lemmas.List.Folds.{list_any-append}
+use Rattle.net_model.specs.Configuration.{Configuration}
+use Rattle.net_model.specs.declared.bounds.TheConstants.{ISIS_DISTANCE, OSPF_DISTANCE, MOST_DISTANCE}
+use Rattle.net_model.specs.declared.interface.Interface.{Interface}
+use Rattle.net_model.specs.declared.config.Levels.{Levels}
+use Rattle.net_model.specs.declared.config.Levels.TheVariants.{Both}
+use Rattle.net_model.specs.LevelSets.{has_one, has_two}
+use Rattle.ios_lines.specs.Words.{Word, is_printable}
+use Rattle.ios_lines.specs.Lookups.{later, last_of, earlier, first_of, value_or, replaced}
+use Rattle.ios_lines.specs.FaultOrder.{fault_at, faults_if}
+use Rattle.ios_lines.specs.declared.bounds.TheConstants.{DEFAULT_METRIC, DEFAULT_REFERENCE}
+use Rattle.ios_lines.specs.InterfaceLines.{counting}
+use Rattle.ios_lines.specs.declared.kind.ReadKind.{ReadKind}
+use Rattle.ios_lines.specs.declared.kind.ReadKind.TheVariants.{NoHostname, SecondProcess, Unsupported, BadNet, NoBandwidth}
+use Rattle.ios_lines.specs.declared.fault.Fault.{Fault}
+use Rattle.ios_lines.specs.declared.title.Title.{Title}
+use Rattle.ios_lines.specs.declared.address.InterfaceAddress.{InterfaceAddress}
+use Rattle.ios_lines.specs.declared.ospf_line.StubLine.{StubLine}
+use Rattle.net_model.specs.declared.area.Range.{Range}
+use Rattle.net_model.specs.declared.area.Stub.{Stub}
+use Rattle.ios_reader.specs.declared.facts.InterfaceFacts.{InterfaceFacts}
+use Rattle.ios_lines.specs.declared.isis_line.IsisStatement.{IsisStatement}
+use Rattle.ios_lines.specs.declared.isis_line.IsisLine.TheVariants.{Distance as IsisDistance}
+use Rattle.ios_lines.specs.declared.ospf_line.OspfStatement.{OspfStatement}
+use Rattle.ios_lines.specs.declared.ospf_line.OspfLine.TheVariants.{Distance as OspfDistance}
+use Rattle.ios_sections.specs.Processes.{as_hostname, as_ospf, as_isis, as_fault, interfaces_in, mention_of, mentions_in, mentions_of, first_mention, first_process, lines_of_process, first_isis, first_tag, lines_of_tag}
+use Rattle.ios_sections.specs.ProcessFaults.{process_faults, ospf_statement_faults, tag_faults_of, isis_statement_faults, second_titles, lacking, first_isis_line, is_net, is_metric_style}
+use Rattle.ios_sections.specs.declared.process.Mention.{Mention}
+use Rattle.ios_sections.specs.declared.section.Section.{Section}
+use Rattle.ios_sections.specs.declared.section.IsisSection.{IsisSection}
+use Rattle.ios_sections.specs.declared.section.OspfSection.{OspfSection}
+use Rattle.ios_sections.specs.declared.section.InterfaceSection.{InterfaceSection}
+use Rattle.ios_reader.specs.Routers.{Router, router_with, title_said, levels_said, router_metric_said, isis_distance_said, isis_passive_said, ospf_distance_said, ospf_passive_said, passive_default_said, reference_said, area_taken, range_said, stub_said, default_cost_said, is_same_range, is_same_area, stub_lines_in, stub_of, rfc1583_said, ranges_in, stubs_in, leak_said}
+use Rattle.ios_reader.specs.InterfacesAsRead.{address_given, is_up, area_by, area_with, interface_area, default_cost, cost_given, cost_field, interface_as_read, runs_level, level_metric}
+use Rattle.ios_reader.specs.InterfaceFacts.{facts_of}
+use Rattle.ios_reader.specs.Faults.{interface_line_faults, loopback_faults, interface_faults, section_faults}
+use Rattle.ios_reader.specs.Configurations.{title_given, area_in, system_in, tag_in, configuration_of}
+
+-- ---- one item more at the end of a list ----
+
+pub last_stays : {A B : Type 0} (form : A → Option B) (xs : List A) (x : A) → form x ≡ None → last_of form (xs ++ x ∷ []) ≡ last_of form xs
+last_stays form [] x none = ap (λ o. later o None) none
+last_stays form (y ∷ xs) x none = ap (later (form y)) (last_stays form xs x none)
+
+pub last_is : {A B : Type 0} (form : A → Option B) (xs : List A) (x : A) (b : B) → form x ≡ Some b → last_of form (xs ++ x ∷ []) ≡ Some b
+last_is form [] x b some = ap (λ o. later o None) some
+last_is form (y ∷ xs) x b some = ap (later (form y)) (last_is form xs x b some)
+
+pub first_stays : {A B : Type 0} (form : A → Option B) (xs : List A) (x : A) → form x ≡ None → first_of form (xs ++ x ∷ []) ≡ first_of form xs
+first_stays form [] x none = ap (λ o. earlier o None) none
+first_stays form (y ∷ xs) x none = ap (earlier (form y)) (first_stays form xs x none)
+
+pub left_out : {A B : Type 0} (form : A → Option B) (xs : List A) (x : A) → form x ≡ None → filter_map form (xs ++ x ∷ []) ≡ filter_map form xs
+left_out {A} {B} form xs x none =
+    filter_map-append form xs (x ∷ []) ∙ ap (λ (o : Option B). filter_map form xs ++ cons_option o []) none ∙ append-nil (filter_map form xs)
+
+two_none : (fs gs : List Fault) → fs ≡ [] → gs ≡ [] → fs ++ gs ≡ []
+two_none fs gs one two = ap (λ l. l ++ gs) one ∙ two
+
+none_left : (fs gs : List Fault) → fs ++ gs ≡ [] → fs ≡ []
+none_left [] gs e = refl
+none_left (f ∷ fs) gs e = absurd cc
+
+none_right : (fs gs : List Fault) → fs ++ gs ≡ [] → gs ≡ []
+none_right [] gs e = e
+none_right (f ∷ fs) gs e = absurd cc
+
+-- ---- what sections say, by what they are looked up by ----
+
+-- the lines of the two processes
+abbrev pub ospf_lines_by : Option ℕ → List OspfSection → List OspfStatement
+ospf_lines_by process ospf = flat_map (lines_of_process process) ospf
+
+abbrev pub isis_lines_by : List IsisSection → List IsisStatement
+isis_lines_by isis = flat_map (lines_of_tag (first_tag isis)) isis
+
+abbrev pub process_by : List OspfSection → List InterfaceSection → Option ℕ
+process_by ospf interfaces = first_process (mentions_of ospf interfaces)
+
+-- the faults of sections, one sort after the other
+pub record HasNoFault (name : Option Word) (interfaces : List InterfaceSection) (ospf : List OspfSection) (isis : List IsisSection) (heads : List Fault) (ends : ℕ) : Type 0 where
+  pub heads_fine : heads ≡ []
+  pub one_process : flat_map (process_faults (process_by ospf interfaces)) (mentions_of ospf interfaces) ≡ []
+  pub ospf_fine : flat_map ospf_statement_faults (ospf_lines_by (process_by ospf interfaces) ospf) ≡ []
+  pub one_tag : flat_map (tag_faults_of (first_tag isis)) isis ≡ []
+  pub isis_fine : flat_map isis_statement_faults (isis_lines_by isis) ≡ []
+  pub one_title : second_titles (isis_lines_by isis) ≡ []
+  pub lacks_none : lacking (first_isis_line isis) (isis_lines_by isis) ≡ []
+  pub interfaces_fine :
+      flat_map (interface_faults (router_with (process_by ospf interfaces) (ospf_lines_by (process_by ospf interfaces) ospf) (isis_lines_by isis)) (first_tag isis)) interfaces ≡ []
+  pub named : faults_if (is_none name) ends NoHostname ≡ []
+
+pub no_fault_from : (ss : List Section) (ends : ℕ) → section_faults ss ends ≡ [] →
+    HasNoFault (last_of as_hostname ss) (interfaces_in ss) (filter_map as_ospf ss) (filter_map as_isis ss) (filter_map as_fault ss) ends
+no_fault_from ss ends e =
+    let l1 = none_left _ _ e in
+    let l2 = none_left _ _ l1 in
+    let l3 = none_left _ _ l2 in
+    let l4 = none_left _ _ l3 in
+    let i0 = none_right _ _ l2 in
+    let i1 = none_left _ _ i0 in
+    let i2 = none_left _ _ i1 in
+    record {
+      heads_fine = none_left _ _ l4;
+      one_process = none_right _ _ l4;
+      ospf_fine = none_right _ _ l3;
+      one_tag = none_left _ _ i2;
+      isis_fine = none_right _ _ i2;
+      one_title = none_right _ _ i1;
+      lacks_none = none_right _ _ i0;
+      interfaces_fine = none_right _ _ l1;
+      named = none_right _ _ e;
+    }
+
+no_fault_to : (ss : List Section) (ends : ℕ) →
+    HasNoFault (last_of as_hostname ss) (interfaces_in ss) (filter_map as_ospf ss) (filter_map as_isis ss) (filter_map as_fault ss) ends →
+    section_faults ss ends ≡ []
+no_fault_to ss ends n =
+    two_none _ _
+    (two_none _ _
+    (two_none _ _ (two_none _ _ (two_none _ _ n.heads_fine n.one_process) n.ospf_fine)
+    (two_none _ _ (two_none _ _ (two_none _ _ n.one_tag n.isis_fine) n.one_title) n.lacks_none))
+    n.interfaces_fine)
+    n.named
+
+-- sections that are looked up alike have no fault either
+pub no_fault_by : (ss : List Section) (ends : ℕ) (name : Option Word) (interfaces : List InterfaceSection) (ospf : List OspfSection) (isis : List IsisSection) (heads : List Fault) →
+    last_of as_hostname ss ≡ name → interfaces_in ss ≡ interfaces → filter_map as_ospf ss ≡ ospf → filter_map as_isis ss ≡ isis → filter_map as_fault ss ≡ heads →
+    HasNoFault name interfaces ospf isis heads ends → section_faults ss ends ≡ []
+no_fault_by ss ends name interfaces ospf isis heads a b c d f n =
+    no_fault_to ss ends
+    (subst (λ v. HasNoFault v (interfaces_in ss) (filter_map as_ospf ss) (filter_map as_isis ss) (filter_map as_fault ss) ends) (sym a)
+    (subst (λ v. HasNoFault name v (filter_map as_ospf ss) (filter_map as_isis ss) (filter_map as_fault ss) ends) (sym b)
+    (subst (λ v. HasNoFault name interfaces v (filter_map as_isis ss) (filter_map as_fault ss) ends) (sym c)
+    (subst (λ v. HasNoFault name interfaces ospf v (filter_map as_fault ss) ends) (sym d)
+    (subst (λ v. HasNoFault name interfaces ospf isis v ends) (sym f) n)))))
+
+-- the configuration that sections make
+abbrev pub configuration_by : Option Word → List InterfaceSection → List OspfSection → List IsisSection → Configuration
+configuration_by name interfaces ospf isis =
+    let process : Option ℕ = process_by ospf interfaces in
+    let lines : List OspfStatement = ospf_lines_by process ospf in
+    let others : List IsisStatement = isis_lines_by isis in
+    let title : Option Title = title_given (last_of (λ (s : IsisStatement). title_said s.says) others) in
+    record {
+      name = unwrap_or name [];
+      interfaces = map (interface_as_read (router_with process lines others)) interfaces;
+      process = process;
+      isis = is_some (first_isis isis);
+      tag = tag_in (first_isis isis);
+      isis_area = area_in title;
+      system = system_in title;
+      levels = (router_with process lines others).levels;
+      leak = unwrap_or (last_of (λ (s : IsisStatement). leak_said s.says) others) false;
+      ranges = ranges_in lines;
+      stubs = stubs_in lines;
+      rfc1583 = unwrap_or (last_of (λ (s : OspfStatement). rfc1583_said s.says) lines) true;
+      distances = record {
+        ospf = value_or (last_of (λ (s : OspfStatement). ospf_distance_said s.says) lines) OSPF_DISTANCE;
+        isis = value_or (last_of (λ (s : IsisStatement). isis_distance_said s.says) others) ISIS_DISTANCE;
+      };
+    }
+
+pub made_by : (ss : List Section) (name : Option Word) (interfaces : List InterfaceSection) (ospf : List OspfSection) (isis : List IsisSection) →
+    last_of as_hostname ss ≡ name → interfaces_in ss ≡ interfaces → filter_map as_ospf ss ≡ ospf → filter_map as_isis ss ≡ isis →
+    configuration_of ss ≡ configuration_by name interfaces ospf isis
+made_by ss name interfaces ospf isis a b c d =
+    ap (λ v. configuration_by v (interfaces_in ss) (filter_map as_ospf ss) (filter_map as_isis ss)) a
+    ∙ ap (λ v. configuration_by name v (filter_map as_ospf ss) (filter_map as_isis ss)) b
+    ∙ ap (λ v. configuration_by name interfaces v (filter_map as_isis ss)) c
+    ∙ ap (configuration_by name interfaces ospf) d
+
+same_map : {A B : Type 0} (f g : A → B) → ((x : A) → f x ≡ g x) → (xs : List A) → map f xs ≡ map g xs
+same_map f g same [] = refl
+same_map f g same (x ∷ xs) = ap (λ y. y ∷ map f xs) (same x) ∙ ap (λ l. g x ∷ l) (same_map f g same xs)
+
+or_false : (b : Bool) → (b || false) ≡ b
+or_false true = refl
+or_false false = refl
+
+not_faulty : (b : Bool) (line : ℕ) (kind : ReadKind) → faults_if (not b) line kind ≡ [] → b ≡ true
+not_faulty true line kind e = refl
+not_faulty false line kind e = absurd cc
+
+any_stays : {A : Type 0} (p : A → Bool) (xs : List A) (x : A) → p x ≡ false → list_any p (xs ++ x ∷ []) ≡ list_any p xs
+any_stays p xs x off = list_any-append p xs (x ∷ []) ∙ ap (λ b. list_any p xs || (b || false)) off ∙ or_false (list_any p xs)
+
+-- ---- a section of the IS-IS process more ----
+
+-- the line that sets the distance, and its section
+abbrev pub isis_distance_at : ℕ → IsisStatement
+isis_distance_at line = record { line = line; says = IsisDistance (Ok ISIS_DISTANCE) }
+
+abbrev pub isis_section : ℕ → Word → IsisSection
+isis_section line tag = record { line = line; tag = tag; lines = isis_distance_at (line + 1) ∷ [] }
+
+-- with the distance of IS-IS
+abbrev pub with_isis_distance : Configuration → Configuration
+with_isis_distance c = record c { distances = record { ospf = c.distances.ospf; isis = ISIS_DISTANCE } }
+
+module _ (name : Option Word) (interfaces : List InterfaceSection) (ospf : List OspfSection) (f : IsisSection) (more : List IsisSection) (heads : List Fault) (ends line : ℕ) where
+  abbrev x : IsisSection
+  x = isis_section line f.tag
+
+  abbrev d : IsisStatement
+  d = isis_distance_at (line + 1)
+
+  abbrev lines_before : List IsisStatement
+  lines_before = isis_lines_by (f ∷ more)
+
+  same_tag : bytes_eq f.tag f.tag ≡ true
+  same_tag = (bytes_eq-Decides f.tag f.tag).1 refl
+
+  pub tag_printable : HasNoFault name interfaces ospf (f ∷ more) heads ends → list_all is_printable f.tag ≡ true
+  tag_printable n =
+      let own = none_left (tag_faults_of (Some f.tag) f) (flat_map (tag_faults_of (Some f.tag)) more) n.one_tag in
+      not_faulty (list_all is_printable f.tag) f.line Unsupported
+      (none_right (faults_if (not (bytes_eq f.tag f.tag)) f.line SecondProcess) (faults_if (not (list_all is_printable f.tag)) f.line Unsupported) own)
+
+  isis_lines_more : list_all is_printable f.tag ≡ true → isis_lines_by (f ∷ (more ++ x ∷ [])) ≡ lines_before ++ d ∷ []
+  isis_lines_more printable =
+      flat_map-append (lines_of_tag (Some f.tag)) (f ∷ more) (x ∷ [])
+      ∙ ap (λ b. lines_before ++ (cond (b && list_all is_printable f.tag) (d ∷ []) [] ++ [])) same_tag
+      ∙ ap (λ b. lines_before ++ (cond b (d ∷ []) [] ++ [])) printable
+
+  pub isis_no_fault : HasNoFault name interfaces ospf (f ∷ more) heads ends → HasNoFault name interfaces ospf (f ∷ (more ++ x ∷ [])) heads ends
+  isis_no_fault n =
+      let printable : list_all is_printable f.tag ≡ true = tag_printable n in
+      let lines : isis_lines_by (f ∷ (more ++ x ∷ [])) ≡ lines_before ++ d ∷ [] = isis_lines_more printable in
+      record {
+        heads_fine = n.heads_fine;
+        one_process = n.one_process;
+        ospf_fine = n.ospf_fine;
+        one_tag =
+            flat_map-append (tag_faults_of (Some f.tag)) (f ∷ more) (x ∷ [])
+            ∙ two_none (flat_map (tag_faults_of (Some f.tag)) (f ∷ more)) (flat_map (tag_faults_of (Some f.tag)) (x ∷ [])) n.one_tag
+            (two_none (tag_faults_of (Some f.tag) x) []
+            (two_none (faults_if (not (bytes_eq f.tag f.tag)) line SecondProcess) (faults_if (not (list_all is_printable f.tag)) line Unsupported)
+            (ap (λ b. faults_if (not b) line SecondProcess) same_tag) (ap (λ b. faults_if (not b) line Unsupported) printable)) refl);
+        isis_fine =
+            ap (flat_map isis_statement_faults) lines
+            ∙ flat_map-append isis_statement_faults lines_before (d ∷ [])
+            ∙ two_none (flat_map isis_statement_faults lines_before) (flat_map isis_statement_faults (d ∷ [])) n.isis_fine refl;
+        one_title =
+            ap second_titles lines
+            ∙ ap (λ l. map (λ (s : IsisStatement). fault_at s.line Unsupported) (drop 1 l)) (filter-append is_net lines_before (d ∷ []) ∙ append-nil (filter is_net lines_before))
+            ∙ n.one_title;
+        lacks_none =
+            ap (lacking (Some f.line)) lines
+            ∙ ap (λ b. faults_if (not b) f.line BadNet ++ faults_if (not (list_any is_metric_style (lines_before ++ d ∷ []))) f.line Unsupported) (any_stays is_net lines_before d refl)
+            ∙ ap (λ b. faults_if (not (list_any is_net lines_before)) f.line BadNet ++ faults_if (not b) f.line Unsupported) (any_stays is_metric_style lines_before d refl)
+            ∙ n.lacks_none;
+        interfaces_fine = n.interfaces_fine;
+        named = n.named;
+      }
+
+  abbrev process : Option ℕ
+  process = process_by ospf interfaces
+
+  abbrev others : List OspfStatement
+  others = ospf_lines_by process ospf
+
+  -- an interface by what the IS-IS process says of it
+  abbrev interface_by : Bool → Levels → ℕ → InterfaceSection → Interface
+  interface_by passive levels metric section =
+      let facts = facts_of (counting section.lines) in
+      record (interface_as_read (router_with process others []) section) {
+        level1 = runs_level has_one levels passive facts;
+        level2 = runs_level has_two levels passive facts;
+        metric1 = level_metric metric passive facts facts.metric1;
+        metric2 = level_metric metric passive facts facts.metric2;
+        isis_passive = passive;
+      }
+
+  same_interface : (l : List IsisStatement) (s : InterfaceSection) →
+      interface_as_read (router_with process others (l ++ d ∷ [])) s ≡ interface_as_read (router_with process others l) s
+  same_interface l s =
+      ap (λ o. interface_by (unwrap_or o false) (router_with process others (l ++ d ∷ [])).levels (router_with process others (l ++ d ∷ [])).metric s)
+      (last_stays (λ (t : IsisStatement). isis_passive_said s.name t.says) l d refl)
+      ∙ ap (λ o. interface_by (unwrap_or (last_of (λ (t : IsisStatement). isis_passive_said s.name t.says) l) false) (value_or o Both) (router_with process others (l ++ d ∷ [])).metric s)
+      (last_stays (λ (t : IsisStatement). levels_said t.says) l d refl)
+      ∙ ap (λ o. interface_by (unwrap_or (last_of (λ (t : IsisStatement). isis_passive_said s.name t.says) l) false) (router_with process others l).levels (value_or o DEFAULT_METRIC) s)
+      (last_stays (λ (t : IsisStatement). router_metric_said t.says) l d refl)
+
+  -- a configuration by what the IS-IS process says of it
+  abbrev by_isis : List Interface → Option Title → Levels → ℕ → Bool → Configuration
+  by_isis its title levels distance leaks = record {
+    name = unwrap_or name [];
+    interfaces = its;
+    process = process;
+    isis = true;
+    tag = f.tag;
+    isis_area = area_in title;
+    system = system_in title;
+    levels = levels;
+    leak = leaks;
+    ranges = ranges_in others;
+    stubs = stubs_in others;
+    rfc1583 = unwrap_or (last_of (λ (s : OspfStatement). rfc1583_said s.says) others) true;
+    distances = record {
+      ospf = value_or (last_of (λ (s : OspfStatement). ospf_distance_said s.says) others) OSPF_DISTANCE;
+      isis = distance;
+    };
+  }
+
+  abbrev its_title : List IsisStatement → Option Title
+  its_title l = title_given (last_of (λ (s : IsisStatement). title_said s.says) l)
+
+  abbrev leaks_in : List IsisStatement → Bool
+  leaks_in l = unwrap_or (last_of (λ (s : IsisStatement). leak_said s.says) l) false
+
+  abbrev by_lines : List IsisStatement → Configuration
+  by_lines l =
+      by_isis (map (interface_as_read (router_with process others l)) interfaces) (its_title l) (router_with process others l).levels
+      (value_or (last_of (λ (s : IsisStatement). isis_distance_said s.says) l) ISIS_DISTANCE) (leaks_in l)
+
+  pub isis_made : list_all is_printable f.tag ≡ true →
+      configuration_by name interfaces ospf (f ∷ (more ++ x ∷ [])) ≡ with_isis_distance (configuration_by name interfaces ospf (f ∷ more))
+  isis_made printable =
+      let l : List IsisStatement = lines_before in
+      ap by_lines (isis_lines_more printable)
+      ∙ ap (λ o. by_isis (map (interface_as_read (router_with process others (l ++ d ∷ []))) interfaces) (its_title (l ++ d ∷ []))
+      (router_with process others (l ++ d ∷ [])).levels
+      (value_or (last_of (λ (s : IsisStatement). isis_distance_said s.says) (l ++ d ∷ [])) ISIS_DISTANCE) (unwrap_or o false))
+      (last_stays (λ (s : IsisStatement). leak_said s.says) l d refl)
+      ∙ ap (λ its. by_isis its (its_title (l ++ d ∷ [])) (router_with process others (l ++ d ∷ [])).levels
+      (value_or (last_of (λ (s : IsisStatement). isis_distance_said s.says) (l ++ d ∷ [])) ISIS_DISTANCE) (leaks_in l))
+      (same_map (interface_as_read (router_with process others (l ++ d ∷ []))) (interface_as_read (router_with process others l)) (same_interface l) interfaces)
+      ∙ ap (λ o. by_isis (map (interface_as_read (router_with process others l)) interfaces) (title_given o) (router_with process others (l ++ d ∷ [])).levels
+      (value_or (last_of (λ (s : IsisStatement). isis_distance_said s.says) (l ++ d ∷ [])) ISIS_DISTANCE) (leaks_in l))
+      (last_stays (λ (s : IsisStatement). title_said s.says) l d refl)
+      ∙ ap (λ o. by_isis (map (interface_as_read (router_with process others l)) interfaces) (its_title l) (value_or o Both)
+      (value_or (last_of (λ (s : IsisStatement). isis_distance_said s.says) (l ++ d ∷ [])) ISIS_DISTANCE) (leaks_in l))
+      (last_stays (λ (s : IsisStatement). levels_said s.says) l d refl)
+      ∙ ap (λ o. by_isis (map (interface_as_read (router_with process others l)) interfaces) (its_title l) (router_with process others l).levels
+      (value_or o ISIS_DISTANCE) (leaks_in l))
+      (last_is (λ (s : IsisStatement). isis_distance_said s.says) l d (Ok ISIS_DISTANCE) refl)
+
+-- ---- a section of the OSPF process more ----
+
+abbrev pub ospf_distance_at : ℕ → OspfStatement
+ospf_distance_at line = record { line = line; says = OspfDistance (Ok MOST_DISTANCE) }
+
+abbrev pub ospf_section : ℕ → ℕ → OspfSection
+ospf_section line process = record { line = line; process = process; lines = ospf_distance_at (line + 1) ∷ [] }
+
+-- with the distance of OSPF
+abbrev pub with_ospf_distance : Configuration → Configuration
+with_ospf_distance c = record c { distances = record { ospf = MOST_DISTANCE; isis = c.distances.isis } }
+
+module _ (p : ℕ) where
+  first_of_all : (ms : List Mention) (m : Mention) → flat_map (process_faults (Some p)) ms ≡ [] → nat_eq m.process p ≡ true →
+      option_map (λ (n : Mention). n.process) (fold first_mention (Some m) ms) ≡ Some p
+  first_of_all [] m none is = ap Some (eqb-true m.process p is)
+  first_of_all (n ∷ ms) m none is =
+      by_line (nat_lt n.line m.line)
+      (first_of_all ms n (none_right (process_faults (Some p) n) (flat_map (process_faults (Some p)) ms) none)
+      (not_faulty (nat_eq n.process p) n.line SecondProcess (none_left (process_faults (Some p) n) (flat_map (process_faults (Some p)) ms) none)))
+      (first_of_all ms m (none_right (process_faults (Some p) n) (flat_map (process_faults (Some p)) ms) none) is)
+    where
+      by_line : (b : Bool) → option_map (λ (k : Mention). k.process) (fold first_mention (Some n) ms) ≡ Some p →
+          option_map (λ (k : Mention). k.process) (fold first_mention (Some m) ms) ≡ Some p →
+          option_map (λ (k : Mention). k.process) (fold first_mention (cond b (Some n) (Some m)) ms) ≡ Some p
+      by_line true one other = one
+      by_line false one other = other
+
+  -- where some line names a process, and each one names this, it is the router's
+  one_process_named : (ms : List Mention) → flat_map (process_faults (Some p)) ms ≡ [] → 0 < length ms → first_process ms ≡ Some p
+  one_process_named [] none some = absurd (omega (arith, some))
+  one_process_named (m ∷ ms) none some =
+      first_of_all ms m (none_right (process_faults (Some p) m) (flat_map (process_faults (Some p)) ms) none)
+      (not_faulty (nat_eq m.process p) m.line SecondProcess (none_left (process_faults (Some p) m) (flat_map (process_faults (Some p)) ms) none))
+
+same_flat : {A B : Type 0} (f g : A → List B) → ((x : A) → f x ≡ g x) → (xs : List A) → flat_map f xs ≡ flat_map g xs
+same_flat f g same [] = refl
+same_flat f g same (x ∷ xs) = ap (λ l. l ++ flat_map f xs) (same x) ∙ ap (λ l. g x ++ l) (same_flat f g same xs)
+
+module _ (name : Option Word) (interfaces : List InterfaceSection) (ospf : List OspfSection) (isis : List IsisSection) (heads : List Fault) (ends line p : ℕ) (running : process_by ospf interfaces ≡ Some p) where
+  abbrev y : OspfSection
+  y = ospf_section line p
+
+  abbrev e : OspfStatement
+  e = ospf_distance_at (line + 1)
+
+  abbrev sections : List OspfSection
+  sections = ospf ++ y ∷ []
+
+  abbrev told : Mention → List Fault
+  told = process_faults (Some p)
+
+  abbrev by_sections : List Mention
+  by_sections = map mention_of ospf
+
+  abbrev by_interfaces : List Mention
+  by_interfaces = flat_map mentions_in interfaces
+
+  same_process : nat_eq p p ≡ true
+  same_process = eq-eqb p p refl
+
+  mentions_more : mentions_of sections interfaces ≡ (by_sections ++ mention_of y ∷ []) ++ by_interfaces
+  mentions_more = ap (λ l. l ++ by_interfaces) (map-append mention_of ospf (y ∷ []))
+
+  no_other : HasNoFault name interfaces ospf isis heads ends → flat_map told ((by_sections ++ mention_of y ∷ []) ++ by_interfaces) ≡ []
+  no_other n =
+      let before : flat_map told (by_sections ++ by_interfaces) ≡ [] = subst (λ q. flat_map (process_faults q) (by_sections ++ by_interfaces) ≡ []) running n.one_process in
+      let apart : flat_map told by_sections ++ flat_map told by_interfaces ≡ [] = sym (flat_map-append told by_sections by_interfaces) ∙ before in
+      flat_map-append told (by_sections ++ mention_of y ∷ []) by_interfaces
+      ∙ two_none (flat_map told (by_sections ++ mention_of y ∷ [])) (flat_map told by_interfaces)
+      (flat_map-append told by_sections (mention_of y ∷ [])
+      ∙ two_none (flat_map told by_sections) (flat_map told (mention_of y ∷ [])) (none_left (flat_map told by_sections) (flat_map told by_interfaces) apart)
+      (two_none (told (mention_of y)) [] (ap (λ b. faults_if (not b) line SecondProcess) same_process) refl))
+      (none_right (flat_map told by_sections) (flat_map told by_interfaces) apart)
+
+  still_running : HasNoFault name interfaces ospf isis heads ends → process_by sections interfaces ≡ Some p
+  still_running n =
+      ap first_process mentions_more
+      ∙ one_process_named p ((by_sections ++ mention_of y ∷ []) ++ by_interfaces) (no_other n)
+      (omega (arith, length-append (by_sections ++ mention_of y ∷ []) by_interfaces, length-append by_sections (mention_of y ∷ [])))
+
+  abbrev own : List OspfStatement
+  own = ospf_lines_by (Some p) ospf
+
+  ospf_lines_more : ospf_lines_by (Some p) sections ≡ own ++ e ∷ []
+  ospf_lines_more =
+      flat_map-append (lines_of_process (Some p)) ospf (y ∷ [])
+      ∙ ap (λ b. own ++ (cond b (e ∷ []) [] ++ [])) same_process
+
+  abbrev all_isis : List IsisStatement
+  all_isis = isis_lines_by isis
+
+  abbrev router : List OspfStatement → Router
+  router l = router_with (Some p) l all_isis
+
+  abbrev facts : InterfaceSection → InterfaceFacts
+  facts s = facts_of (counting s.lines)
+
+  same_area : (l : List OspfStatement) (given : InterfaceFacts) → interface_area (router (l ++ e ∷ [])) given ≡ interface_area (router l) given
+  same_area l given = by_address (address_given given.address)
+    where
+      by_address : (o : Option InterfaceAddress) → area_with (router (l ++ e ∷ [])) given o ≡ area_with (router l) given o
+      by_address None = refl
+      by_address (Some a) = ap (area_by (Some p) given.area) (first_stays (λ (s : OspfStatement). area_taken a.address s.says) l e refl)
+
+  -- the faults of an interface by its area and the reference bandwidth
+  abbrev faults_by : Option ℕ → Option (Result ℕ ReadKind) → InterfaceSection → List Fault
+  faults_by area reference s =
+      interface_line_faults (first_tag isis) (counting s.lines)
+      ++ loopback_faults s.name (facts s)
+      ++ faults_if (is_up (facts s) && is_some area && is_none (cost_given (facts s).cost (default_cost (value_or reference DEFAULT_REFERENCE) s.name (facts s).bandwidth))) s.line NoBandwidth
+
+  same_faults : (l : List OspfStatement) (s : InterfaceSection) → interface_faults (router (l ++ e ∷ [])) (first_tag isis) s ≡ interface_faults (router l) (first_tag isis) s
+  same_faults l s =
+      ap (λ a. faults_by a (last_of (λ (t : OspfStatement). reference_said t.says) (l ++ e ∷ [])) s) (same_area l (facts s))
+      ∙ ap (λ r. faults_by (interface_area (router l) (facts s)) r s) (last_stays (λ (t : OspfStatement). reference_said t.says) l e refl)
+
+  pub ospf_no_fault : HasNoFault name interfaces ospf isis heads ends → HasNoFault name interfaces sections isis heads ends
+  ospf_no_fault n =
+      let now : process_by sections interfaces ≡ Some p = still_running n in
+      record {
+        heads_fine = n.heads_fine;
+        one_process =
+            subst (λ q. flat_map (process_faults q) (mentions_of sections interfaces) ≡ []) (sym now) (ap (flat_map told) mentions_more ∙ no_other n);
+        ospf_fine =
+            subst (λ q. flat_map ospf_statement_faults (ospf_lines_by q sections) ≡ []) (sym now)
+            (ap (flat_map ospf_statement_faults) ospf_lines_more
+            ∙ flat_map-append ospf_statement_faults own (e ∷ [])
+            ∙ two_none (flat_map ospf_statement_faults own) (flat_map ospf_statement_faults (e ∷ []))
+            (subst (λ q. flat_map ospf_statement_faults (ospf_lines_by q ospf) ≡ []) running n.ospf_fine) refl);
+        one_tag = n.one_tag;
+        isis_fine = n.isis_fine;
+        one_title = n.one_title;
+        lacks_none = n.lacks_none;
+        interfaces_fine =
+            subst (λ q. flat_map (interface_faults (router_with q (ospf_lines_by q sections) all_isis) (first_tag isis)) interfaces ≡ []) (sym now)
+            (ap (λ l. flat_map (interface_faults (router l) (first_tag isis)) interfaces) ospf_lines_more
+            ∙ same_flat (interface_faults (router (own ++ e ∷ [])) (first_tag isis)) (interface_faults (router own) (first_tag isis)) (same_faults own) interfaces
+            ∙ subst (λ q. flat_map (interface_faults (router_with q (ospf_lines_by q ospf) all_isis) (first_tag isis)) interfaces ≡ []) running n.interfaces_fine);
+        named = n.named;
+      }
+
+  -- an interface by what the OSPF process says of it
+  abbrev interface_of : Option ℕ → Option (Result ℕ ReadKind) → Option Bool → Option Bool → InterfaceSection → Interface
+  interface_of area reference passive default s =
+      record (interface_as_read (router []) s) {
+        area = area;
+        cost = cost_field area (cost_given (facts s).cost (default_cost (value_or reference DEFAULT_REFERENCE) s.name (facts s).bandwidth));
+        ospf_passive = unwrap_or passive (unwrap_or default false);
+      }
+
+  abbrev reference_in : List OspfStatement → Option (Result ℕ ReadKind)
+  reference_in l = last_of (λ (t : OspfStatement). reference_said t.says) l
+
+  abbrev passive_in : Word → List OspfStatement → Option Bool
+  passive_in its l = last_of (λ (t : OspfStatement). ospf_passive_said its t.says) l
+
+  abbrev default_in : List OspfStatement → Option Bool
+  default_in l = last_of (λ (t : OspfStatement). passive_default_said t.says) l
+
+  still_interface : (l : List OspfStatement) (s : InterfaceSection) → interface_as_read (router (l ++ e ∷ [])) s ≡ interface_as_read (router l) s
+  still_interface l s =
+      ap (λ a. interface_of a (reference_in (l ++ e ∷ [])) (passive_in s.name (l ++ e ∷ [])) (default_in (l ++ e ∷ [])) s) (same_area l (facts s))
+      ∙ ap (λ r. interface_of (interface_area (router l) (facts s)) r (passive_in s.name (l ++ e ∷ [])) (default_in (l ++ e ∷ [])) s)
+      (last_stays (λ (t : OspfStatement). reference_said t.says) l e refl)
+      ∙ ap (λ o. interface_of (interface_area (router l) (facts s)) (reference_in l) o (default_in (l ++ e ∷ [])) s)
+      (last_stays (λ (t : OspfStatement). ospf_passive_said s.name t.says) l e refl)
+      ∙ ap (λ o. interface_of (interface_area (router l) (facts s)) (reference_in l) (passive_in s.name l) o s)
+      (last_stays (λ (t : OspfStatement). passive_default_said t.says) l e refl)
+
+  abbrev the_title : Option Title
+  the_title = title_given (last_of (λ (s : IsisStatement). title_said s.says) all_isis)
+
+  -- a configuration by what the OSPF process says of it
+  abbrev by_ospf : Option ℕ → List Interface → List Range → List Stub → Option Bool → Option (Result ℕ ReadKind) → Configuration
+  by_ospf its_process its ranges stubs compatible distance = record {
+    name = unwrap_or name [];
+    interfaces = its;
+    process = its_process;
+    isis = is_some (first_isis isis);
+    tag = tag_in (first_isis isis);
+    isis_area = area_in the_title;
+    system = system_in the_title;
+    levels = value_or (last_of (λ (s : IsisStatement). levels_said s.says) all_isis) Both;
+    leak = unwrap_or (last_of (λ (s : IsisStatement). leak_said s.says) all_isis) false;
+    ranges = ranges;
+    stubs = stubs;
+    rfc1583 = unwrap_or compatible true;
+    distances = record {
+      ospf = value_or distance OSPF_DISTANCE;
+      isis = value_or (last_of (λ (s : IsisStatement). isis_distance_said s.says) all_isis) ISIS_DISTANCE;
+    };
+  }
+
+  abbrev compatible_in : List OspfStatement → Option Bool
+  compatible_in l = last_of (λ (s : OspfStatement). rfc1583_said s.says) l
+
+  abbrev distance_in : List OspfStatement → Option (Result ℕ ReadKind)
+  distance_in l = last_of (λ (s : OspfStatement). ospf_distance_said s.says) l
+
+  abbrev by_process : Option ℕ → List OspfStatement → Configuration
+  by_process q l = by_ospf q (map (interface_as_read (router_with q l all_isis)) interfaces) (ranges_in l) (stubs_in l) (compatible_in l) (distance_in l)
+
+  same_ranges : (l : List OspfStatement) → ranges_in (l ++ e ∷ []) ≡ ranges_in l
+  same_ranges l = ap (fold (replaced is_same_range) []) (left_out (λ (s : OspfStatement). range_said s.says) l e refl)
+
+  abbrev stub_with : StubLine → Option ℕ → Stub
+  stub_with s o = record { area = s.area; no_summary = s.no_summary; default_cost = unwrap_or o 1 }
+
+  same_stubs : (l : List OspfStatement) → stubs_in (l ++ e ∷ []) ≡ stubs_in l
+  same_stubs l =
+      ap (λ ls. map (stub_of (l ++ e ∷ [])) (fold (replaced is_same_area) [] ls)) (left_out (λ (s : OspfStatement). stub_said s.says) l e refl)
+      ∙ same_map (stub_of (l ++ e ∷ [])) (stub_of l)
+      (λ s. ap (λ o. stub_with s o) (last_stays (λ (t : OspfStatement). default_cost_said s.area t.says) l e refl)) (stub_lines_in l)
+
+  pub ospf_made : HasNoFault name interfaces ospf isis heads ends →
+      configuration_by name interfaces sections isis ≡ with_ospf_distance (configuration_by name interfaces ospf isis)
+  ospf_made n =
+      ap (λ q. by_process q (ospf_lines_by q sections)) (still_running n)
+      ∙ ap (by_process (Some p)) ospf_lines_more
+      ∙ ap (λ its. by_ospf (Some p) its (ranges_in (own ++ e ∷ [])) (stubs_in (own ++ e ∷ [])) (compatible_in (own ++ e ∷ [])) (distance_in (own ++ e ∷ [])))
+      (same_map (interface_as_read (router (own ++ e ∷ []))) (interface_as_read (router own)) (still_interface own) interfaces)
+      ∙ ap (λ r. by_ospf (Some p) (map (interface_as_read (router own)) interfaces) r (stubs_in (own ++ e ∷ [])) (compatible_in (own ++ e ∷ [])) (distance_in (own ++ e ∷ [])))
+      (same_ranges own)
+      ∙ ap (λ r. by_ospf (Some p) (map (interface_as_read (router own)) interfaces) (ranges_in own) r (compatible_in (own ++ e ∷ [])) (distance_in (own ++ e ∷ [])))
+      (same_stubs own)
+      ∙ ap (λ o. by_ospf (Some p) (map (interface_as_read (router own)) interfaces) (ranges_in own) (stubs_in own) o (distance_in (own ++ e ∷ [])))
+      (last_stays (λ (s : OspfStatement). rfc1583_said s.says) own e refl)
+      ∙ ap (λ o. by_ospf (Some p) (map (interface_as_read (router own)) interfaces) (ranges_in own) (stubs_in own) (compatible_in own) o)
+      (last_is (λ (s : OspfStatement). ospf_distance_said s.says) own e (Ok MOST_DISTANCE) refl)
+      ∙ sym (ap (λ q. with_ospf_distance (by_process q (ospf_lines_by q ospf))) running)

@@ -1,0 +1,73 @@
+-- What the lines of changes make of a router's configuration.
+use Rattle.std.specs.Prelude.{ℕ, ◌==◌, ◌&&◌, not, List, [], ◌∷◌, ◌++◌, map, if◌then◌else◌, is_some}
+use Rattle.net_model.specs.Configuration.{Configuration}
+use Rattle.net_model.specs.declared.bounds.TheConstants.{ISIS_DISTANCE, MOST_DISTANCE}
+use Rattle.igp_theory.specs.declared.phase.Phase.{Phase}
+use Rattle.igp_theory.specs.declared.phase.Phase.TheVariants.{Old, Middle, New}
+use Rattle.ios_sections.specs.TextLines.{lines_in}
+use Rattle.ios_sections.specs.JoinedLines.{is_in_banner, begins_with_end, open_sections}
+use Rattle.ios_reader.specs.Configurations.{configuration_of}
+use Rattle.ios_reader.specs.Texts.{ReadsText}
+use Rattle.printed_lines.specs.Texts.{text_of}
+use Rattle.step_scripts.specs.Scripts.{isis_lines, process_lines}
+
+-- the lines that take a router from the start to a phase: those of its first change, then those of its second
+abbrev pub lines_to : Phase → Configuration → List (List ℕ)
+lines_to Old c = []
+lines_to Middle c = isis_lines c
+lines_to New c = isis_lines c ++ process_lines c.process
+
+-- a configuration with other distances
+abbrev pub with_distances : ℕ → ℕ → Configuration → Configuration
+with_distances ospf isis c = record c { distances = record { ospf = ospf; isis = isis } }
+
+-- after its first change a router has IS-IS at 115, where it has IS-IS; nothing else differs
+abbrev pub after_first : Configuration → Configuration
+after_first c = if c.isis then with_distances c.distances.ospf ISIS_DISTANCE c else c
+
+-- after its second change it has OSPF at 255, where it has an OSPF process; nothing else differs
+abbrev pub after_second : Configuration → Configuration
+after_second c = if is_some c.process then with_distances MOST_DISTANCE c.distances.isis c else c
+
+-- its configuration in a phase
+abbrev pub in_phase : Phase → Configuration → Configuration
+in_phase Old c = c
+in_phase Middle c = after_first c
+in_phase New c = after_second (after_first c)
+
+-- ---- texts with the lines of changes put in ----
+
+-- a byte more in front of the first of some lines
+abbrev pub with_byte : ℕ → List (List ℕ) → List (List ℕ)
+with_byte b [] = (b ∷ []) ∷ []
+with_byte b (raw ∷ raws) = (b ∷ raw) ∷ raws
+
+-- the lines of a text, each with its line feed (10); the last one may have none
+abbrev pub raw_lines : List ℕ → List (List ℕ)
+raw_lines [] = []
+raw_lines (b ∷ bytes) = if b == 10 then (10 ∷ []) ∷ raw_lines bytes else with_byte b (raw_lines bytes)
+
+-- the lines that take the router of a configuration to its phase, by its name
+abbrev pub block_for : (List ℕ → Phase) → Configuration → List ℕ
+block_for phases c = text_of (lines_to (phases c.name) c)
+
+-- what is put between a text and the line behind it: where this is an `end` line outside banners, the lines for the
+-- configuration that it ends
+abbrev pub end_block : (List ℕ → Phase) → List ℕ → List ℕ → List ℕ
+end_block phases before raw =
+    if not (is_in_banner (lines_in before)) && begins_with_end (lines_in raw) then block_for phases (configuration_of (open_sections before)) else []
+
+-- the lines behind a text, with these blocks put in
+abbrev pub applied_lines : (List ℕ → Phase) → List ℕ → List (List ℕ) → List ℕ
+applied_lines phases before [] = []
+applied_lines phases before (raw ∷ raws) = end_block phases before raw ++ raw ++ applied_lines phases (before ++ raw) raws
+
+-- a text with the lines put before each `end` line that take the router of its configuration to its phase
+abbrev pub applied_text : (List ℕ → Phase) → List ℕ → List ℕ
+applied_text phases text = applied_lines phases [] (raw_lines text)
+
+-- read, it has the configurations of the text, each router in its phase
+abbrev pub AppliedTextLaw : Type 0
+AppliedTextLaw =
+    (phases : List ℕ → Phase) (text : List ℕ) (configurations : List Configuration) → ReadsText text configurations →
+    ReadsText (applied_text phases text) (map (λ (c : Configuration). in_phase (phases c.name) c) configurations)

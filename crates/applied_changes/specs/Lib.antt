@@ -1,0 +1,4 @@
+pub mod AppliedTexts
+pub mod MadeChanges
+pub mod NamedPhases
+pub mod steps

@@ -1,0 +1,154 @@
+ghost use Rattle.std.specs.Prelude.{◌≡◌, ◌<◌, ◌^◌, ◌++◌, [], List, ℕ, IfOk, OnOk, length, map, unwrap_or};
+ghost use Rattle.net_addr.specs.Lines.{text_lines};
+ghost use Rattle.net_model.specs.Configuration.{Configuration};
+ghost use Rattle.igp_theory.specs.States.{state_of};
+ghost use Rattle.ios_sections.specs.Sections.{section_of};
+ghost use Rattle.ios_sections.specs.TextLines.{parts_after, sections_of};
+ghost use Rattle.ios_reader.specs.Configurations.{configuration_of};
+ghost use Rattle.ios_reader.specs.Texts.{ReadsText};
+ghost use Rattle.applied_changes.specs.AppliedTexts.{applied_text, block_for, in_phase};
+ghost use Rattle.applied_changes.specs.NamedPhases.{phase_named};
+ghost use Rattle.applied_changes.specs.steps.AppliedParts.{applied_parts, between, start_of};
+
+use crate::OutOfMemory;
+use crate::change_lines::phase_text;
+use crate::phases::phase_named;
+use igp_theory::Phase;
+use ios_sections::read_section::read_sections;
+use ios_sections::statements::statements_of;
+use ios_sections::text::counted_lines;
+use ios_sections::text_line::TextLine;
+use net_addr::{Bytes, Line, Name, lines};
+use net_model::Net;
+use std::alloc::Global;
+
+/// A text of configurations with the lines of the first so many changes along an order, those of each router before its
+/// `end` line.
+///
+/// An order is router by router two changes, as in the flat run of a wave list; with more changes than it has all are
+/// made. A configuration of a router that isn't in the network, or not in the order, stays. The only error is want of memory.
+#[tactic(auto, using(crate::proofs::PartFacts::applied_by_parts, crate::proofs::PartFacts::reads_by_parts))]
+pub fn apply(
+    alloc: Global,
+    net: &Net,
+    order: &[u32],
+    changes: u32,
+    text: &[u8],
+) -> Result<Bytes, OutOfMemory>
+    requires { length text.now < 2 ^ 26 }
+    ensures applied { IfOk result (λ applied. applied ≡ applied_text (phase_named net.now (state_of order.now changes)) text.now) }
+    ensures reads { IfOk result (λ applied. (configurations : List Configuration) → ReadsText text.now configurations → ReadsText applied (map (λ (c : Configuration). in_phase (phase_named net.now (state_of order.now changes) c.name) c) configurations)) }
+{
+    let lines = lines(alloc, text)?;
+    let counted = counted_lines(alloc, text, lines.as_slice())?;
+    let all = with_blocks(
+        alloc,
+        text,
+        lines.as_slice(),
+        counted.as_slice(),
+        net,
+        order,
+        changes,
+    )?;
+    Ok(Bytes::from_vec(all))
+}
+
+/// A text, of which these lines count, with the lines of changes.
+fn with_blocks(
+    alloc: Global,
+    text: &[u8],
+    lines: &[Line],
+    counted: &[TextLine],
+    net: &Net,
+    order: &[u32],
+    changes: u32,
+) -> Result<Vec<u8>, OutOfMemory>
+    requires { lines.now ≡ text_lines text.now }
+    ensures { IfOk result (λ all. all.items ≡ applied_parts (phase_named net.now (state_of order.now changes)) text.now 0 (parts_after [] counted.now)) }
+{
+    let mut all = Vec::new(alloc);
+    let mut from = 0;
+    let mut start = 0;
+    for (i, line) in counted.iter().enumerate() {
+        if line.is_end() {
+            let block = block_text(alloc, net, order, changes, &counted[start..i])?;
+            from = add_block(
+                &mut all,
+                text,
+                lines,
+                from,
+                line.number() as usize,
+                block.as_slice(),
+            )?;
+            start = i + 1;
+        }
+    }
+    all.extend_from_slice(between(text, from, text.len()))?;
+    Ok(all)
+}
+
+/// Adds a text from this place up to a line, and the lines put before it, and tells where this line begins.
+fn add_block(
+    all: &mut Vec<u8>,
+    text: &[u8],
+    lines: &[Line],
+    from: usize,
+    ends: usize,
+    block: &[u8],
+) -> Result<usize, OutOfMemory>
+    requires { lines.now ≡ text_lines text.now }
+    ensures next { IfOk result (λ next. next ≡ start_of text.now ends) }
+    ensures added { OnOk result (all.new.items ≡ all.old.items ++ (between text.now from (start_of text.now ends) ++ block.now)) }
+{
+    let end = start_of(text, lines, ends);
+    all.extend_from_slice(between(text, from, end))?;
+    all.extend_from_slice(block)?;
+    Ok(end)
+}
+
+/// Where the line of this number begins, and the end of the text where there is none.
+fn start_of(text: &[u8], lines: &[Line], number: usize) -> usize
+    requires { lines.now ≡ text_lines text.now }
+    ensures { result ≡ start_of text.now number }
+{
+    match lines.get(number.saturating_sub(1)) {
+        Some(line) => line.span.start as usize,
+        None => text.len(),
+    }
+}
+
+/// What stands between two places of a text.
+fn between(text: &[u8], from: usize, to: usize) -> &[u8]
+    ensures { result.now ≡ between text.now from to }
+{
+    let to = to.min(text.len());
+    let from = from.min(to);
+    &text[from..to]
+}
+
+/// The lines that take the router, whose configuration these lines make, to its phase.
+#[tactic(auto, using(crate::proofs::PhaseFacts::block_made))]
+fn block_text(
+    alloc: Global,
+    net: &Net,
+    order: &[u32],
+    changes: u32,
+    lines: &[TextLine],
+) -> Result<Bytes, OutOfMemory>
+    ensures { IfOk result (λ block. block ≡ block_for (phase_named net.now (state_of order.now changes)) (configuration_of (map section_of (sections_of lines.now)))) }
+{
+    let statements = statements_of(alloc, read_sections(alloc, lines)?)?;
+    let phase = phase_in(net, order, changes, &statements.name);
+    let block = phase_text(alloc, phase, &statements.tag, statements.process)?;
+    Ok(block)
+}
+
+/// The phase of the router of this name, or of the empty one, after so many changes along an order.
+fn phase_in(net: &Net, order: &[u32], changes: u32, name: &Option<Name>) -> Phase
+    ensures { result ≡ phase_named net.now (state_of order.now changes) (unwrap_or name.now []) }
+{
+    match name {
+        Some(name) => phase_named(net, order, changes, name.as_slice()),
+        None => phase_named(net, order, changes, &[]),
+    }
+}

@@ -1,0 +1,5 @@
+pub mod Halves
+pub mod Journals
+pub mod ReplayLaws
+pub mod Fitting
+pub mod Making

@@ -1,0 +1,77 @@
+ghost use Rattle.std.specs.Prelude.{◌≡◌, [], length};
+ghost use Rattle.order_core.specs.Rankings.{IsRanking};
+ghost use Rattle.net_model.specs.Refusals.{IsNetwork};
+ghost use Rattle.state_replay.specs.Journals.{AreCounts, IsPlace};
+ghost use Rattle.state_replay.specs.Making.{BeginsWithHeader, MakesChange};
+
+use crate::told::told_change;
+use crate::{Place, next_change};
+use net_addr::LineCursor;
+use net_model::Net;
+
+/// What a journal has reached of a wave list: the line `journal 1`, then for each change the name of its router, a blank
+/// and 1 or 2.
+///
+/// `ranks` has the wave of each router, counted from 0. Afterwards `done` has the count of changes made on each router;
+/// where a line fits no run these are the changes of the lines before it. Takes no memory, and time of the lines times
+/// the routers.
+pub fn replay(net: &Net, ranks: &[u32], journal: &[u8], done: &mut [u8]) -> Place
+    requires ranking { IsRanking (length net.now) ranks.now }
+    requires counts { length done.old ≡ length net.now }
+    ensures { IsPlace net.now ranks.now journal.now result done.new }
+{
+    start_counts(net, done);
+    let mut lines = LineCursor::new(journal);
+    if !begins_journal(&mut lines) {
+        return Place::Departs(1);
+    }
+    let mut changes = 0;
+    while let Some(line) = lines.next_line() {
+        if !make_change(net, ranks, line, done) {
+            return Place::Departs(changes + 2);
+        }
+        changes += 1;
+    }
+    Place::Reached(changes)
+}
+
+/// Makes the count of each router 0.
+fn start_counts(net: &Net, done: &mut [u8])
+    requires { length done.old ≡ length net.now }
+    ensures counts { AreCounts (length net.now) [] done.new }
+    ensures network { IsNetwork net.now }
+{
+    for router in 0..net.routers() {
+        done[router as usize] = 0;
+    }
+}
+
+/// Takes the first line, and whether it is that of a journal.
+fn begins_journal(lines: &mut LineCursor) -> bool
+    ensures { BeginsWithHeader lines.old lines.new result }
+{
+    match lines.next_line() {
+        Some(line) => line == b"journal 1".as_slice(),
+        None => false,
+    }
+}
+
+/// Makes the change that a line tells, where it may come next; else nothing is made, and the line fits no run.
+fn make_change(net: &Net, ranks: &[u32], line: &[u8], done: &mut [u8]) -> bool
+    requires network { IsNetwork net.now }
+    requires ranking { IsRanking (length net.now) ranks.now }
+    requires counts { length done.old ≡ length net.now }
+    ensures { MakesChange net.now ranks.now line.now done.old done.new result }
+{
+    let Some(told) = told_change(net, line) else {
+        return false;
+    };
+    let Some(next) = next_change(ranks, done, told.router) else {
+        return false;
+    };
+    if next != told.half {
+        return false;
+    }
+    done[told.router as usize] = next.number();
+    true
+}

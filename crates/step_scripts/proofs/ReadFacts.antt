@@ -1,0 +1,135 @@
+-- What was read of an order file has no faulty line.
+use Rattle.std.proofs.Common.{◌≡◌, ℕ, ◌+◌, ◌<◌, List, [], ◌∷◌, ◌++◌, length, get_or, take, drop, Contains, sym, ap, subst, ◌∙◌, ⊎_elim, arith}
+use Rattle.std.specs.List.{AllZip}
+use Rattle.std.proofs.lemmas.Grind.{flat_map-append}
+use Rattle.std.proofs.lemmas.List.{append-nil, append_assoc, drop_more, take-append-drop}
+use Rattle.std.proofs.lemmas.List.Elements.{filter_map-append}
+use Rattle.std.proofs.lemmas.Slice.Zip.{AllZip-long}
+use Rattle.net_model.specs.Lookups.{IsNamed}
+use Rattle.net_model.specs.Network.{Network}
+use Rattle.net_model.specs.Refusals.{NamesAscend}
+use Rattle.order_core.specs.Orders.{AreDistinct}
+use Rattle.step_scripts.specs.WaveLines.{wave_on, waves_on, chains_on}
+use Rattle.step_scripts.specs.WaveFiles.{all_in, MayEnd, IsChainOf, AreOfEach}
+use Rattle.step_scripts.specs.FaultyLines.{IsFaultBehind, NamesNoRouter}
+use Rattle.step_scripts.specs.ReadWaves.{AreWavesRead, AreRead}
+use Rattle.step_scripts.specs.declared.version.Version.{Version}
+use Rattle.step_scripts.specs.declared.kind.OrderKind.{OrderKind}
+use Rattle.step_scripts.specs.declared.kind.OrderKind.TheVariants.{Header, NotInNetwork, Twice, Missing, Wave, Chain}
+use Rattle.step_scripts.proofs.Routers.{same_router}
+use Rattle.step_scripts.proofs.Zips.{IsSplit, zip_at, zip_append, zip_flat, zip_take, zip_split, zip_partner}
+use Rattle.step_scripts.proofs.Splits.{IsSplitAt, split_at, not_before}
+use Rattle.step_scripts.proofs.Splits.IsSplitAt.{in_first, in_second}
+use Rattle.step_scripts.proofs.WaveLineFacts.{Says, chain_no_wave, wave_no_chain, waves_of, no_chains, end_no_wave}
+
+pub all_in-append : {A : Type 0} (xs ys : List (List A)) → all_in (xs ++ ys) ≡ all_in xs ++ all_in ys
+all_in-append xs ys = flat_map-append (λ wave. wave) xs ys
+
+module _ (net : Network) (network : NamesAscend net) (version : Version) where
+  -- a wave that was read has no name of no router
+  known : (line : List ℕ) (wave : List (List ℕ)) (seat : List ℕ) → Says version line wave → AllZip (IsNamed net) wave seat → (before : List (List ℕ)) → NamesNoRouter net version before line → ⊥
+  known line wave seat says named before f =
+      let same : f.names ≡ wave = cc (f.wave.wave, says) in
+      let among = subst (λ l. Contains l f.name) same f.among in
+      let its = zip_partner (IsNamed net) wave seat f.name 0 named among in
+      f.unknown its.partner its.related
+
+  -- and none that stood before
+  fresh : (front : List (List (List ℕ))) (seats_front : List (List ℕ)) (wave : List (List ℕ)) (seat : List ℕ) (behind : List (List ℕ)) →
+      AllZip (AllZip (IsNamed net)) front seats_front → AllZip (IsNamed net) wave seat → AreDistinct (all_in (seats_front ++ seat ∷ behind)) →
+      (place : ℕ) → place < length wave → Contains (all_in front ++ take place wave) (get_or wave place []) → ⊥
+  fresh front seats_front wave seat behind named here once place within stood =
+      let long = AllZip-long (IsNamed net) wave seat here in
+      let inside : place < length seat = omega (arith, long, within) in
+      let zipped = zip_append (IsNamed net) (all_in front) (all_in seats_front) (take place wave) (take place seat)
+      (zip_flat (IsNamed net) front seats_front named) (zip_take (IsNamed net) place wave seat here) in
+      let its = zip_partner (IsNamed net) (all_in front ++ take place wave) (all_in seats_front ++ take place seat) (get_or wave place []) 0 zipped stood in
+      let own = zip_at (IsNamed net) wave seat place [] 0 here within in
+      let same = same_router net network (get_or wave place []) its.partner (get_or seat place 0) its.related own in
+      let parts : seat ≡ take place seat ++ get_or seat place 0 ∷ drop (place + 1) seat =
+      sym (take-append-drop place seat) ∙ ap (λ l. take place seat ++ l) (drop_more seat place 0 inside) in
+      let whole : all_in (seats_front ++ seat ∷ behind) ≡ (all_in seats_front ++ take place seat) ++ get_or seat place 0 ∷ (drop (place + 1) seat ++ all_in behind) =
+      all_in-append seats_front (seat ∷ behind)
+      ∙ ap (λ l. all_in seats_front ++ (l ++ all_in behind)) parts
+      ∙ ap (λ l. all_in seats_front ++ l) (append_assoc (take place seat) (get_or seat place 0 ∷ drop (place + 1) seat) (all_in behind))
+      ∙ sym (append_assoc (all_in seats_front) (take place seat) (get_or seat place 0 ∷ (drop (place + 1) seat ++ all_in behind))) in
+      not_before (all_in seats_front ++ take place seat) (get_or seat place 0) (drop (place + 1) seat ++ all_in behind)
+      (subst AreDistinct whole once) (subst (λ v. Contains (all_in seats_front ++ take place seat) v) same its.among)
+
+  -- a line among waves that were read isn't faulty
+  no_wave_fault : (lines seats : List (List ℕ)) → AreWavesRead net version lines seats → (before : List (List ℕ)) (line : List ℕ) (after : List (List ℕ)) →
+      lines ≡ before ++ line ∷ after → (kind : OrderKind) → IsFaultBehind net version before line kind → ⊥
+  no_wave_fault lines seats read before line after parts kind fault =
+      by_kind kind fault
+    where
+      each : AllZip (Says version) (before ++ line ∷ after) read.waves
+      each = subst (λ l. AllZip (Says version) l read.waves) parts read.each
+
+      here : IsSplit (Says version) before line after read.waves
+      here = zip_split (Says version) before line after read.waves each
+
+      seat : IsSplit (AllZip (IsNamed net)) here.front here.partner here.back seats
+      seat = zip_split (AllZip (IsNamed net)) here.front here.partner here.back seats (subst (λ l. AllZip (AllZip (IsNamed net)) l seats) here.parts read.named)
+
+      none : chains_on version before ≡ []
+      none = no_chains version before here.front here.before_zip
+
+      by_kind : (kind : OrderKind) → IsFaultBehind net version before line kind → ⊥
+      by_kind Header f = f
+      by_kind NotInNetwork f = known line here.partner seat.partner here.here seat.here before f
+      by_kind Twice f =
+          let same : f.names ≡ here.partner = cc (f.wave.wave, here.here) in
+          let waves = waves_of version before here.front here.before_zip in
+          fresh here.front seat.front here.partner seat.partner seat.back seat.before_zip seat.here (subst (λ l. AreDistinct (all_in l)) seat.parts read.once) f.place
+          (subst (λ l. f.place < length l) same f.within)
+          (subst (λ l. Contains (all_in l ++ take f.place here.partner) (get_or here.partner f.place [])) waves
+          (subst (λ l. Contains (all_in (waves_on version before) ++ take f.place l) (get_or l f.place [])) same f.stood))
+      by_kind Missing f = f
+      by_kind Wave f = ⊎_elim (λ no. let says = here.here in let wave = no.0 in absurd cc) (λ some. some none) f
+      by_kind Chain f = let no = wave_no_chain version line here.partner here.here in let chain = f.chain in absurd cc
+
+  -- a chain that was read isn't faulty
+  no_chain_fault : (lines seats : List (List ℕ)) (read : AreWavesRead net version lines seats) (line : List ℕ) → IsChainOf version read.waves line →
+      (kind : OrderKind) → IsFaultBehind net version lines line kind → ⊥
+  no_chain_fault lines seats read line is Header f = f
+  no_chain_fault lines seats read line is NotInNetwork f = let no = chain_no_wave version line is.names is.chain in let wave = f.wave.wave in absurd cc
+  no_chain_fault lines seats read line is Twice f = let no = chain_no_wave version line is.names is.chain in let wave = f.wave.wave in absurd cc
+  no_chain_fault lines seats read line is Missing f = f
+  no_chain_fault lines seats read line is Wave f =
+      ⊎_elim (λ no. let chain = is.chain in let none = no.1 in absurd cc) (λ some. some (no_chains version lines read.waves read.each)) f
+  no_chain_fault lines seats read line is Chain f =
+      let same : is.names ≡ f.names = cc (is.chain, f.chain) in
+      f.wrong (subst (λ l. AreOfEach l f.names) (sym (waves_of version lines read.waves read.each)) (subst (AreOfEach read.waves) same is.each))
+
+  -- the chain is the last line
+  last_fault : (lines seats : List (List ℕ)) (read : AreWavesRead net version lines seats) (front : List (List ℕ)) (line : List ℕ) (after : List (List ℕ)) →
+      MayEnd version read.waves (front ++ line ∷ after) → (kind : OrderKind) → IsFaultBehind net version (lines ++ front) line kind → ⊥
+  last_fault lines seats read [] line [] ends kind f =
+      no_chain_fault lines seats read line ends kind (subst (λ l. IsFaultBehind net version l line kind) (append-nil lines) f)
+  last_fault lines seats read [] line (next ∷ after) ends kind f = absurd ends
+  last_fault lines seats read (first ∷ []) line after ends kind f = absurd ends
+  last_fault lines seats read (first ∷ next ∷ front) line after ends kind f = absurd ends
+
+  -- no line of what was read is faulty
+  pub no_fault_in : (entries seats : List (List ℕ)) → AreRead net version entries seats → (before : List (List ℕ)) (line : List ℕ) (after : List (List ℕ)) →
+      entries ≡ before ++ line ∷ after → (kind : OrderKind) → IsFaultBehind net version before line kind → ⊥
+  no_fault_in entries seats read before line after parts kind fault =
+      by_part (split_at before line after read.lines read.ending (sym read.parts ∙ parts))
+    where
+      by_part : IsSplitAt before line after read.lines read.ending → ⊥
+      by_part (in_first more is rest) = no_wave_fault read.lines seats read.read before line more is kind fault
+      by_part (in_second front is rest) =
+          last_fault read.lines seats read.read front line after (subst (MayEnd version read.read.waves) rest read.ends) kind
+          (subst (λ l. IsFaultBehind net version l line kind) is fault)
+
+  -- the waves among what was read
+  pub waves_read : (entries seats : List (List ℕ)) (read : AreRead net version entries seats) → waves_on version entries ≡ read.read.waves
+  waves_read entries seats read =
+      ap (waves_on version) read.parts ∙ filter_map-append (wave_on version) read.lines read.ending
+      ∙ ap (λ l. waves_on version read.lines ++ l) (end_no_wave version read.read.waves read.ending read.ends)
+      ∙ append-nil (waves_on version read.lines)
+      ∙ waves_of version read.lines read.read.waves read.read.each
+
+  -- waves alone are read
+  pub without_end : (lines seats : List (List ℕ)) → AreWavesRead net version lines seats → AreRead net version lines seats
+  without_end lines seats read = record { lines = lines; ending = []; parts = sym (append-nil lines); read = read; ends = tt }

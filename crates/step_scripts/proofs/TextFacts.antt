@@ -1,0 +1,272 @@
+-- What is printed of a wave list reads back.
+use Rattle.std.proofs.Common.{◌≡◌, ◌≢◌, ℕ, ◌+◌, ◌<◌, Bool, true, false, cond, Some, None, List, [], ◌∷◌, ◌++◌, length, get_or, map, Contains, refl, sym, ap, subst, ◌∙◌, ⊎_elim, arith, append-nil}
+use Rattle.std.specs.Prelude.{codes, bytes_eq, nat_lt}
+use Rattle.std.specs.List.{All, AllZip, list_all, slice_split}
+use Rattle.std.proofs.lemmas.Bool.{and_from, and_parts, cases_lt, lt-ltb, ltb-true}
+use Rattle.std.proofs.lemmas.Bool.Decides.{nat_tests}
+use Rattle.std.proofs.lemmas.Grind.{flat_map-append}
+use Rattle.std.proofs.lemmas.List.{append_assoc, get_or-map, get_or_past, length-map, map_push}
+use Rattle.std.proofs.lemmas.Option.{get_or_from_slice_get}
+use Rattle.std.proofs.lemmas.Slice.Zip.{AllZip-long}
+use Rattle.std.proofs.lemmas.List.Elements.{All-append, All-cons, All-contains, All-contains_itself, All-head, All-map, All-nil, All-tail, All-weaker}
+use Rattle.std.proofs.lemmas.List.Folds.{flat_map-map}
+use Rattle.std.proofs.lemmas.List.FromFn.{length-range_with_len, get_or-range_with_len}
+use Rattle.std.proofs.lemmas.List.Splits.{slice_split_at, slice_split_none}
+use Rattle.net_addr.specs.Blanks.{is_blank}
+use Rattle.net_model.specs.Configuration.{Configuration, IsConfiguration, IsNameByte}
+use Rattle.net_model.specs.Lookups.{IsNamed}
+use Rattle.net_model.specs.Network.{Network}
+use Rattle.net_model.specs.Refusals.{IsNetwork}
+use Rattle.net_model.specs.RouterNames.{names_of}
+use Rattle.order_core.specs.Orders.{IsOrder}
+use Rattle.order_core.specs.Rankings.{IsRanking, rank_of, wave_count, wave_of, numbers_below, flat_of}
+use Rattle.order_core.proofs.WaveLists.{flat_is_order, numbers_more, wave_routers, wave_some}
+use Rattle.printed_lines.specs.Words.{IsWordByte, IsPrintedWord, spaced, joined}
+use Rattle.printed_lines.specs.Texts.{IsPrintedLine, text_of}
+use Rattle.printed_lines.proofs.LineFacts.{lines_read_back}
+use Rattle.printed_lines.proofs.WordFacts.{words_make_lines}
+use Rattle.step_scripts.specs.WaveLines.{header_of, are_names, named_pieces, names_behind}
+use Rattle.step_scripts.specs.WaveFiles.{all_in, wave_at, AreOfEach, AreWaves, NamesWaves}
+use Rattle.step_scripts.specs.WavesTexts.{waves_in, AreOneOfEach, named, named_line, wave_lines, waves_text}
+use Rattle.step_scripts.specs.declared.version.Version.TheVariants.{Two}
+use Rattle.step_scripts.proofs.Routers.{has_name}
+use Rattle.step_scripts.proofs.WaveLineFacts.{Says}
+
+no_blank : (b : ℕ) → IsWordByte b → is_blank b ≡ false
+no_blank b byte =
+    let no_space : b ≢ 32 = byte.no_space in
+    let no_tab : b ≢ 9 = byte.no_tab in
+    grind (arith, nat_tests)
+
+no_blanks : (word : List ℕ) → IsPrintedWord word → All (λ b. is_blank b ≡ false) word
+no_blanks word fine = All-weaker IsWordByte (λ b. is_blank b ≡ false) no_blank word fine.bytes
+
+-- the pieces of joined words are these words
+pieces_are : (word : List ℕ) (more : List (List ℕ)) → IsPrintedWord word → All IsPrintedWord more → slice_split is_blank (word ++ spaced more) ≡ word ∷ more
+pieces_are word [] fine others = ap (slice_split is_blank) (append-nil word) ∙ slice_split_none is_blank word (no_blanks word fine)
+pieces_are word (next ∷ more) fine others =
+    slice_split_at is_blank word 32 (next ++ spaced more) (no_blanks word fine) refl
+    ∙ ap (λ (pieces : List (List ℕ)). word ∷ pieces) (pieces_are next more (All-head IsPrintedWord next more others) (All-tail IsPrintedWord next more others))
+
+-- words that are printed are names
+all_some : (words : List (List ℕ)) → All IsPrintedWord words → list_all (λ name. nat_lt 0 (length name)) words ≡ true
+all_some [] fine = refl
+all_some (word ∷ words) fine =
+    and_from (nat_lt 0 (length word)) (list_all (λ name. nat_lt 0 (length name)) words)
+    (lt-ltb 0 (length word) (All-head IsPrintedWord word words fine).some) (all_some words (All-tail IsPrintedWord word words fine))
+
+names_are : (words : List (List ℕ)) → 0 < length words → All IsPrintedWord words → are_names words ≡ true
+names_are words some fine =
+    and_from (nat_lt 0 (length words)) (list_all (λ name. nat_lt 0 (length name)) words) (lt-ltb 0 (length words) some) (all_some words fine)
+
+-- a word and names, joined by one blank each, have these names behind this word
+behind_joined : (word : List ℕ) (names : List (List ℕ)) → bytes_eq word word ≡ true → IsPrintedWord word → 0 < length names → All IsPrintedWord names →
+    names_behind word (joined (word ∷ names)) ≡ Some names
+behind_joined word names same fine some words =
+    ap (named_pieces word) (pieces_are word names fine words)
+    ∙ ap (λ (b : Bool). cond b (Some names) None) (and_from (bytes_eq word word) (are_names names) same (names_are names some words))
+
+-- a word of bytes above the blanks can be printed
+above_blanks : (b : ℕ) → 32 < b → IsWordByte b
+above_blanks b l = record { no_space = λ e. omega (arith, e, l); no_tab = λ e. omega (arith, e, l); no_feed = λ e. omega (arith, e, l); no_return = λ e. omega (arith, e, l) }
+
+pub plain_word : (word : List ℕ) → 0 < length word → list_all (λ b. nat_lt 32 b) word ≡ true → IsPrintedWord word
+plain_word word some all = record { some = some; bytes = each word all }
+  where
+    each : (word : List ℕ) → list_all (λ b. nat_lt 32 b) word ≡ true → All IsWordByte word
+    each [] all = All-nil IsWordByte
+    each (b ∷ word) all =
+        let both = and_parts (nat_lt 32 b) (list_all (λ b. nat_lt 32 b) word) all in
+        All-cons IsWordByte b word (above_blanks b (ltb-true 32 b both.0)) (each word both.1)
+
+name_byte : (b : ℕ) → IsNameByte b → IsWordByte b
+name_byte b is = above_blanks b (omega (arith, is))
+
+-- the words that lines begin with
+wave_word : IsPrintedWord (codes "wave")
+wave_word = plain_word (codes "wave") (omega arith) refl
+
+chain_word : IsPrintedWord (codes "chain")
+chain_word = plain_word (codes "chain") (omega arith) refl
+
+header_line : IsPrintedLine (header_of Two)
+header_line =
+    (words_make_lines (codes "order" ∷ codes "2" ∷ [])
+    (All-cons IsPrintedWord (codes "order") (codes "2" ∷ []) (plain_word (codes "order") (omega arith) refl)
+    (All-cons IsPrintedWord (codes "2") [] (plain_word (codes "2") (omega arith) refl) (All-nil IsPrintedWord)))).0
+
+-- what holds of each wave of a ranking
+each_wave : (ranks : List ℕ) (P : List ℕ → Type 0) → ((w : ℕ) → w < wave_count ranks → P (wave_of ranks w)) → All P (waves_in ranks)
+each_wave ranks P holds =
+    All-map P (wave_of ranks) (numbers_below (wave_count ranks)) (λ k d l.
+    let below : k < wave_count ranks = subst (λ n. k < n) (length-range_with_len 0 (wave_count ranks)) l in
+    let at : k ≡ get_or (numbers_below (wave_count ranks)) k d = omega (arith, get_or-range_with_len 0 (wave_count ranks) k d below) in
+    subst (λ w. P (wave_of ranks w)) at (holds k below))
+
+waves_long : (ranks : List ℕ) → length (waves_in ranks) ≡ wave_count ranks
+waves_long ranks = length-map (numbers_below (wave_count ranks)) (wave_of ranks) ∙ length-range_with_len 0 (wave_count ranks)
+
+-- a router of wave w has this rank
+wave_rank : (ranks : List ℕ) (w u : ℕ) → Contains (wave_at (waves_in ranks) w) u → rank_of ranks u ≡ w
+wave_rank ranks w u c =
+    ⊎_elim
+    (λ below.
+    let number = get_or-range_with_len 0 (wave_count ranks) w 0 below in
+    let at = get_or-map (wave_of ranks) (numbers_below (wave_count ranks)) w 0 [] (subst (λ n. w < n) (sym (length-range_with_len 0 (wave_count ranks))) below) in
+    let same : get_or (numbers_below (wave_count ranks)) w 0 ≡ w = omega (arith, number) in
+    ((wave_routers ranks w u).0 (subst (λ l. Contains l u) (at ∙ ap (wave_of ranks) same) c)).1)
+    (λ past. absurd (none_there (subst (λ l. Contains l u) (get_or_past (waves_in ranks) w [] (omega (arith, past, waves_long ranks))) c)))
+    (cases_lt w (wave_count ranks))
+  where
+    none_there : Contains {X = ℕ} [] u → ⊥
+    none_there c = omega (arith, c.1)
+
+-- the waves, end to end, are the flat run
+waves_flat : (ranks : List ℕ) → all_in (waves_in ranks) ≡ flat_of ranks
+waves_flat ranks = flat_map-map (λ wave. wave) (wave_of ranks) (numbers_below (wave_count ranks))
+
+count_some : (ranks : List ℕ) → 0 < length ranks → 0 < wave_count ranks
+count_some [] some = absurd (omega (arith, some))
+count_some (rank ∷ ranks) some = omega arith
+
+-- the routers of a wave are below the count
+pub wave_below : (ranks : List ℕ) (w n : ℕ) → length ranks ≡ n → All (λ u. u < n) (wave_of ranks w)
+wave_below ranks w n each =
+    All-weaker (Contains (wave_of ranks w)) (λ u. u < n) (λ u c. subst (λ m. u < m) each ((wave_routers ranks w u).0 c).0) (wave_of ranks w) (All-contains_itself (wave_of ranks w))
+
+chain_below : (n : ℕ) (waves : List (List ℕ)) (chain : List ℕ) → AllZip (λ (wave : List ℕ) (u : ℕ). Contains wave u) waves chain → All (All (λ u. u < n)) waves → All (λ u. u < n) chain
+chain_below n [] [] each below = All-nil (λ u. u < n)
+chain_below n [] (u ∷ chain) each below = absurd each
+chain_below n (wave ∷ waves) [] each below = absurd each
+chain_below n (wave ∷ waves) (u ∷ chain) each below =
+    All-cons (λ u. u < n) u chain (All-contains (λ u. u < n) wave u (All-head (All (λ u. u < n)) wave waves below) each.0)
+    (chain_below n waves chain each.1 (All-tail (All (λ u. u < n)) wave waves below))
+
+-- and so are those of a chain
+pub chain_routers : (ranks chain : List ℕ) (n : ℕ) → length ranks ≡ n → AreOneOfEach ranks chain → All (λ u. u < n) chain
+chain_routers ranks chain n long each = chain_below n (waves_in ranks) chain each (each_wave ranks (All (λ u. u < n)) (λ w _. wave_below ranks w n long))
+
+-- the text with one more wave
+pub text_more : (names : List (List ℕ)) (ranks : List ℕ) (w : ℕ) →
+    text_of (header_of Two ∷ wave_lines names (map (wave_of ranks) (numbers_below w))) ++ named_line names (codes "wave") (wave_of ranks w) ++ 10 ∷ []
+    ≡ text_of (header_of Two ∷ wave_lines names (map (wave_of ranks) (numbers_below (w + 1))))
+text_more names ranks w =
+    let lines = wave_lines names (map (wave_of ranks) (numbers_below w)) in
+    let line = named_line names (codes "wave") (wave_of ranks w) in
+    let more : wave_lines names (map (wave_of ranks) (numbers_below (w + 1))) ≡ lines ++ line ∷ [] =
+    ap (λ l. wave_lines names (map (wave_of ranks) l)) (numbers_more w)
+    ∙ ap (wave_lines names) (map_push (wave_of ranks) (numbers_below w) w)
+    ∙ map_push (named_line names (codes "wave")) (map (wave_of ranks) (numbers_below w)) (wave_of ranks w) in
+    append_assoc (text_of (header_of Two ∷ lines)) line (10 ∷ [])
+    ∙ ap (λ l. text_of (header_of Two ∷ lines) ++ l) (sym (append-nil (line ++ 10 ∷ [])))
+    ∙ sym (flat_map-append (λ (l : List ℕ). l ++ 10 ∷ []) (header_of Two ∷ lines) (line ∷ []))
+    ∙ ap (λ l. text_of (header_of Two ∷ l)) (sym more)
+
+module _ (net : Network) (network : IsNetwork net) where
+  abbrev Below : ℕ → Type 0
+  Below u = u < length net
+
+  -- the name of a router stands for it
+  own_name : (u : ℕ) → u < length net → IsNamed net (get_or (names_of net) u []) u
+  own_name u l =
+      let its = (has_name net u l).named in
+      let at = get_or-map (λ (c : Configuration). c.name) net u its.config [] l in
+      let same = get_or_from_slice_get net u its.config its.config its.router in
+      record { config = its.config; router = its.router; name_is = sym (at ∙ ap (λ (c : Configuration). c.name) same) }
+
+  -- and is a word
+  name_word : (u : ℕ) → u < length net → IsPrintedWord (get_or (names_of net) u [])
+  name_word u l =
+      let its = own_name u l in
+      let same = get_or_from_slice_get net u its.config its.config its.router in
+      let whole = subst IsConfiguration same (network.configurations u its.config l) in
+      subst IsPrintedWord its.name_is (record { some = whole.name.some; bytes = All-weaker IsNameByte IsWordByte name_byte its.config.name whole.name.bytes })
+
+  names_words : (routers : List ℕ) → All Below routers → All IsPrintedWord (named (names_of net) routers)
+  names_words routers below = All-map IsPrintedWord (λ u. get_or (names_of net) u []) routers (All-weaker Below (λ u. IsPrintedWord (get_or (names_of net) u [])) name_word routers below)
+
+  named_zip : (routers : List ℕ) → All Below routers → AllZip (IsNamed net) (named (names_of net) routers) routers
+  named_zip [] below = tt
+  named_zip (u ∷ routers) below = (own_name u (All-head Below u routers below), named_zip routers (All-tail Below u routers below))
+
+  waves_zip : (waves : List (List ℕ)) → All (All Below) waves → AllZip (AllZip (IsNamed net)) (map (named (names_of net)) waves) waves
+  waves_zip [] below = tt
+  waves_zip (wave ∷ waves) below = (named_zip wave (All-head (All Below) wave waves below), waves_zip waves (All-tail (All Below) wave waves below))
+
+  some_named : (routers : List ℕ) → 0 < length routers → 0 < length (named (names_of net) routers)
+  some_named routers some = omega (arith, some, length-map routers (λ (u : ℕ). get_or (names_of net) u []))
+
+  -- the line of a wave says it
+  lines_say : (waves : List (List ℕ)) → All (All Below) waves → All (λ wave. 0 < length wave) waves → AllZip (Says Two) (wave_lines (names_of net) waves) (map (named (names_of net)) waves)
+  lines_say [] below some = tt
+  lines_say (wave ∷ waves) below some = (
+    behind_joined (codes "wave") (named (names_of net) wave) refl wave_word (some_named wave (All-head (λ (w : List ℕ). 0 < length w) wave waves some))
+        (names_words wave (All-head (All Below) wave waves below)),
+    lines_say waves (All-tail (All Below) wave waves below) (All-tail (λ (w : List ℕ). 0 < length w) wave waves some),
+  )
+
+  line_printed : (word : List ℕ) (routers : List ℕ) → IsPrintedWord word → All Below routers → IsPrintedLine (named_line (names_of net) word routers)
+  line_printed word routers fine below = (words_make_lines (word ∷ named (names_of net) routers) (All-cons IsPrintedWord word (named (names_of net) routers) fine (names_words routers below))).0
+
+  lines_printed : (waves : List (List ℕ)) → All (All Below) waves → All IsPrintedLine (wave_lines (names_of net) waves)
+  lines_printed waves below = All-map IsPrintedLine (named_line (names_of net) (codes "wave")) waves
+      (All-weaker (All Below) (λ wave. IsPrintedLine (named_line (names_of net) (codes "wave") wave)) (λ wave b. line_printed (codes "wave") wave wave_word b) waves below)
+
+  -- the names of a chain are names of each wave
+  chain_each : (waves : List (List ℕ)) (chain : List ℕ) → AllZip (λ (wave : List ℕ) (u : ℕ). Contains wave u) waves chain → AreOfEach (map (named (names_of net)) waves) (named (names_of net) chain)
+  chain_each [] [] each = tt
+  chain_each [] (u ∷ chain) each = absurd each
+  chain_each (wave ∷ waves) [] each = absurd each
+  chain_each (wave ∷ waves) (u ∷ chain) each = (
+    (
+      each.0.0,
+      subst (λ n. each.0.0 < n) (sym (length-map wave (λ (v : ℕ). get_or (names_of net) v []))) each.0.1,
+      get_or-map (λ (v : ℕ). get_or (names_of net) v []) wave each.0.0 u (get_or (names_of net) u []) each.0.1 ∙ ap (λ v. get_or (names_of net) v []) each.0.2,
+    ),
+    chain_each waves chain each.1,
+  )
+
+  module _ (ranks : List ℕ) (ranking : IsRanking (length net) ranks) where
+    waves_below : All (All Below) (waves_in ranks)
+    waves_below = each_wave ranks (All Below) (λ w _. wave_below ranks w (length net) ranking.each)
+
+    waves_some : All (λ wave. 0 < length wave) (waves_in ranks)
+    waves_some = each_wave ranks (λ wave. 0 < length wave) (λ w l. wave_some (length net) ranks w ranking l)
+
+    waves_are : AreWaves net (map (named (names_of net)) (waves_in ranks)) ranks
+    waves_are = record {
+      routers = waves_in ranks;
+      named = waves_zip (waves_in ranks) waves_below;
+      once = subst (IsOrder (length net)) (sym (waves_flat ranks)) (subst (λ n. IsOrder n (flat_of ranks)) ranking.each (flat_is_order ranks));
+      each = ranking.each;
+      seats = wave_rank ranks;
+    }
+
+    pub names_waves : 0 < length net → (chain : List ℕ) → AreOneOfEach ranks chain → NamesWaves net (waves_text (names_of net) ranks chain) Two ranks
+    names_waves some chain each =
+        let below = chain_routers ranks chain (length net) ranking.each each in
+        let long = AllZip-long (λ (wave : List ℕ) (u : ℕ). Contains wave u) (waves_in ranks) chain each in
+        let ranked : 0 < wave_count ranks = count_some ranks (subst (λ n. 0 < n) (sym ranking.each) some) in
+        let chained : 0 < length chain = omega (arith, long, waves_long ranks, ranked) in
+        let last = named_line (names_of net) (codes "chain") chain in
+        let lines = wave_lines (names_of net) (waves_in ranks) in
+        let printed = All-cons IsPrintedLine (header_of Two) (lines ++ last ∷ []) header_line
+        (All-append IsPrintedLine lines (last ∷ []) (lines_printed (waves_in ranks) waves_below)
+        (All-cons IsPrintedLine last [] (line_printed (codes "chain") chain chain_word below) (All-nil IsPrintedLine))) in
+        record {
+          lines = lines;
+          ending = last ∷ [];
+          whole = (lines_read_back (header_of Two ∷ (lines ++ last ∷ [])) printed).texts;
+          waves = map (named (names_of net)) (waves_in ranks);
+          each = lines_say (waves_in ranks) waves_below waves_some;
+          ends = record {
+            names = named (names_of net) chain;
+            chain = behind_joined (codes "chain") (named (names_of net) chain) refl chain_word (some_named chain chained) (names_words chain below);
+            each = chain_each (waves_in ranks) chain each;
+          };
+          are = waves_are;
+        }
+
+pub waves_read_back : (net : Network) (ranks chain : List ℕ) → IsNetwork net → 0 < length net → IsRanking (length net) ranks → AreOneOfEach ranks chain →
+    NamesWaves net (waves_text (names_of net) ranks chain) Two ranks
+waves_read_back net ranks chain network some ranking each = names_waves net network ranks ranking some chain each

@@ -1,0 +1,96 @@
+-- What a line of an order file can say: a wave or a chain, and not both.
+use Rattle.std.proofs.Common.{◌≡◌, ℕ, ◌<◌, Bool, true, false, cond, ◌&&◌, Option, Some, None, List, [], ◌∷◌, length, get_or, refl, sym, ap, subst, arith}
+use Rattle.std.specs.Prelude.{codes, bytes_eq, nat_lt}
+use Rattle.std.specs.List.{AllZip, list_all, slice_split}
+use Rattle.std.proofs.lemmas.Bool.{and_parts, ltb-true}
+use Rattle.std.proofs.lemmas.Slice.Eq.{bytes_eq-Decides}
+use Rattle.net_addr.specs.Blanks.{is_blank}
+use Rattle.step_scripts.specs.WaveLines.{header_of, are_names, named_pieces, wave_on, chain_on, waves_on, chains_on}
+use Rattle.step_scripts.specs.WaveFiles.{MayEnd}
+use Rattle.step_scripts.specs.declared.version.Version.{Version}
+use Rattle.step_scripts.specs.declared.version.Version.TheVariants.{One, Two}
+
+-- a line is the wave of these names
+abbrev pub Says : Version → List ℕ → List (List ℕ) → Type 0
+Says version line wave = wave_on version line ≡ Some wave
+
+-- two headers are of one version
+pub one_header : (version its : Version) → header_of version ≡ header_of its → version ≡ its
+one_header One One same = refl
+one_header One Two same = absurd (omega (arith, ap (λ (l : List ℕ). get_or l 6 0) same))
+one_header Two One same = absurd (omega (arith, ap (λ (l : List ℕ). get_or l 6 0) same))
+one_header Two Two same = refl
+
+-- what stands behind a word
+pub record IsBehind (word first : List ℕ) (rest names : List (List ℕ)) : Type 0 where
+  pub word_is : first ≡ word
+  pub names_are : names ≡ rest
+  pub are : are_names rest ≡ true
+
+behind : (word first : List ℕ) (rest names : List (List ℕ)) (b : Bool) → (bytes_eq first word && are_names rest) ≡ b → cond b (Some rest) None ≡ Some names → IsBehind word first rest names
+behind word first rest names true is same =
+    let both = and_parts (bytes_eq first word) (are_names rest) is in
+    record { word_is = (bytes_eq-Decides first word).0 both.0; names_are = cc; are = both.1 }
+behind word first rest names false is same = absurd cc
+
+pub behind_first : (word first : List ℕ) (rest names : List (List ℕ)) → named_pieces word (first ∷ rest) ≡ Some names → IsBehind word first rest names
+behind_first word first rest names same = behind word first rest names (bytes_eq first word && are_names rest) refl same
+
+another_word : (pieces : List (List ℕ)) (names : List (List ℕ)) → named_pieces (codes "chain") pieces ≡ Some names → named_pieces (codes "wave") pieces ≡ None
+another_word [] names same = absurd cc
+another_word (first ∷ rest) names same =
+    let word = (behind_first (codes "chain") first rest names same).word_is in
+    subst (λ w. named_pieces (codes "wave") (w ∷ rest) ≡ None) (sym word) refl
+
+-- a chain is no wave
+pub chain_no_wave : (version : Version) (line : List ℕ) (names : List (List ℕ)) → chain_on version line ≡ Some names → wave_on version line ≡ None
+chain_no_wave One line names same = absurd cc
+chain_no_wave Two line names same = another_word (slice_split is_blank line) names same
+
+-- a wave is no chain
+pub wave_no_chain : (version : Version) (line : List ℕ) (names : List (List ℕ)) → Says version line names → chain_on version line ≡ None
+wave_no_chain version line names says = by_case (chain_on version line) refl
+  where
+    by_case : (chain : Option (List (List ℕ))) → chain_on version line ≡ chain → chain_on version line ≡ None
+    by_case None is = is
+    by_case (Some other) is = absurd (let none = chain_no_wave version line other is in cc)
+
+some_names : (names : List (List ℕ)) → are_names names ≡ true → 0 < length names
+some_names names are = ltb-true 0 (length names) (and_parts (nat_lt 0 (length names)) (list_all (λ name. nat_lt 0 (length name)) names) are).0
+
+some_behind : (word : List ℕ) (pieces names : List (List ℕ)) → named_pieces word pieces ≡ Some names → 0 < length names
+some_behind word [] names same = absurd cc
+some_behind word (first ∷ rest) names same =
+    let is = behind_first word first rest names same in
+    subst (λ l. 0 < length l) (sym is.names_are) (some_names rest is.are)
+
+-- a wave has a name
+pub wave_some : (version : Version) (line : List ℕ) (names : List (List ℕ)) → Says version line names → 0 < length names
+wave_some One line names says = let same : line ∷ [] ≡ names = cc in subst (λ l. 0 < length l) same (omega arith)
+wave_some Two line names says = some_behind (codes "wave") (slice_split is_blank line) names says
+
+-- the waves of lines that are waves
+pub waves_of : (version : Version) (lines : List (List ℕ)) (waves : List (List (List ℕ))) → AllZip (Says version) lines waves → waves_on version lines ≡ waves
+waves_of version [] [] each = refl
+waves_of version [] (wave ∷ waves) each = absurd each
+waves_of version (line ∷ lines) [] each = absurd each
+waves_of version (line ∷ lines) (wave ∷ waves) each = rw each.0 (ap (λ l. wave ∷ l) (waves_of version lines waves each.1))
+
+-- no chain is among them
+pub no_chains : (version : Version) (lines : List (List ℕ)) (waves : List (List (List ℕ))) → AllZip (Says version) lines waves → chains_on version lines ≡ []
+no_chains version [] [] each = refl
+no_chains version [] (wave ∷ waves) each = absurd each
+no_chains version (line ∷ lines) [] each = absurd each
+no_chains version (line ∷ lines) (wave ∷ waves) each = rw (wave_no_chain version line wave each.0) (no_chains version lines waves each.1)
+
+-- no wave is in what may end
+pub end_no_wave : (version : Version) (waves : List (List (List ℕ))) (ending : List (List ℕ)) → MayEnd version waves ending → waves_on version ending ≡ []
+end_no_wave version waves [] ends = refl
+end_no_wave version waves (line ∷ []) ends = rw (chain_no_wave version line ends.names ends.chain) refl
+end_no_wave version waves (line ∷ next ∷ more) ends = absurd ends
+
+-- version 1 has no chain
+pub ones_end : (waves : List (List (List ℕ))) (ending : List (List ℕ)) → MayEnd One waves ending → ending ≡ []
+ones_end waves [] ends = refl
+ones_end waves (line ∷ []) ends = absurd (let none = ends.chain in cc)
+ones_end waves (line ∷ next ∷ more) ends = absurd ends

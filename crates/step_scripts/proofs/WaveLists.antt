@@ -1,0 +1,66 @@
+-- Waves of distinct routers: in which one a router stands.
+use Rattle.std.proofs.Common.{◌≡◌, ◌≢◌, ℕ, zero, suc, ◌+◌, ◌<◌, List, [], ◌∷◌, ◌++◌, length, get_or, take, Contains, refl, sym, ap, subst, ◌∙◌, ⊎_elim, arith}
+use Rattle.std.proofs.lemmas.List.Quantifiers.{all_pairs_push}
+use Rattle.std.proofs.lemmas.List.{take_more, get_or_append_left, get_or-append-add, get_or_default, length-append, append_assoc}
+use Rattle.std.proofs.lemmas.List.Elements.{Contains-append_left, Contains-append_right, Contains-append_cases}
+use Rattle.order_core.specs.Orders.{AreDistinct}
+use Rattle.step_scripts.specs.WaveFiles.{all_in, wave_at}
+use Rattle.step_scripts.specs.ReadWaves.{IsIn, HasSeat}
+
+none_in : {A : Type 0} (x : A) → Contains [] x → ⊥
+none_in x c = omega (arith, c.1)
+
+-- a router of a wave stands among all
+pub in_all : (seats : List (List ℕ)) (w u : ℕ) → Contains (wave_at seats w) u → Contains (all_in seats) u
+in_all [] w u c = absurd (none_in u c)
+in_all (wave ∷ seats) zero u c = Contains-append_left wave (all_in seats) u c
+in_all (wave ∷ seats) (suc w) u c = Contains-append_right wave (all_in seats) u (in_all seats w u c)
+
+-- a router of a wave has a seat, and the other way round
+pub seat_in : (seats : List (List ℕ)) (w u : ℕ) → Contains (wave_at seats w) u → IsIn seats u w
+seat_in [] w u c = absurd (none_in u c)
+seat_in (wave ∷ seats) zero u c = record { within = omega arith; among = c }
+seat_in (wave ∷ seats) (suc w) u c = let rest = seat_in seats w u c in record { within = omega (arith, rest.within); among = c }
+
+pub seat_of : (seats : List (List ℕ)) (u : ℕ) → Contains (all_in seats) u → HasSeat seats u
+seat_of [] u c = absurd (none_in u c)
+seat_of (wave ∷ seats) u c =
+    ⊎_elim
+    (λ here. record { wave = 0; is_in = record { within = omega arith; among = here } })
+    (λ behind. let rest = seat_of seats u behind in record { wave = suc rest.wave; is_in = record { within = omega (arith, rest.is_in.within); among = rest.is_in.among } })
+    (Contains-append_cases wave (all_in seats) u c)
+
+-- of two lists without a repeat, end to end, the second one has none
+pub second_distinct : (front back : List ℕ) → AreDistinct (front ++ back) → AreDistinct back
+second_distinct front back once i j d before within =
+    let long = length-append front back in
+    let one = get_or-append-add front back i d in
+    let two = get_or-append-add front back j d in
+    λ same. once (length front + i) (length front + j) d (omega (arith, before)) (omega (arith, long, within)) (one ∙ same ∙ sym two)
+
+-- nothing is in both
+pub in_one : (front back : List ℕ) (u : ℕ) → AreDistinct (front ++ back) → Contains front u → Contains back u → ⊥
+in_one front back u once c d =
+    let long = length-append front back in
+    let one = get_or_append_left front back u c.0 c.1 in
+    let two = get_or-append-add front back d.0 u in
+    once c.0 (length front + d.0) u (omega (arith, c.1)) (omega (arith, long, d.1)) (one ∙ c.2 ∙ sym (two ∙ d.2))
+
+-- a router stands in one wave
+pub one_wave : (seats : List (List ℕ)) (u v w : ℕ) → AreDistinct (all_in seats) → Contains (wave_at seats v) u → Contains (wave_at seats w) u → v ≡ w
+one_wave [] u v w once c d = absurd (none_in u c)
+one_wave (wave ∷ seats) u zero zero once c d = refl
+one_wave (wave ∷ seats) u zero (suc w) once c d = absurd (in_one wave (all_in seats) u once c (in_all seats w u d))
+one_wave (wave ∷ seats) u (suc v) zero once c d = absurd (in_one wave (all_in seats) u once d (in_all seats v u c))
+one_wave (wave ∷ seats) u (suc v) (suc w) once c d = ap suc (one_wave seats u v w (second_distinct wave (all_in seats) once) c d)
+
+-- one more router that isn't among them
+pub distinct_more : (before routers : List ℕ) (place d : ℕ) → place < length routers → AreDistinct (before ++ take place routers) →
+    (Contains (before ++ take place routers) (get_or routers place d) → ⊥) → AreDistinct (before ++ take (place + 1) routers)
+distinct_more before routers place d within once none =
+    let front = before ++ take place routers in
+    let x = get_or routers place d in
+    let step : before ++ take (place + 1) routers ≡ front ++ x ∷ [] =
+    ap (λ l. before ++ l) (take_more routers place d within) ∙ sym (append_assoc before (take place routers) (x ∷ [])) in
+    subst AreDistinct (sym step)
+    (all_pairs_push (λ (u v : ℕ). u ≢ v) front x once (λ k e h same. none (k, h, get_or_default front k x e h ∙ same)))

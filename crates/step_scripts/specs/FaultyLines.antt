@@ -1,0 +1,104 @@
+-- The faulty lines of an order file, counted from 1, and the least of them.
+use Rattle.std.specs.Prelude.{◌≡◌, ℕ, ◌+◌, ◌<◌, ◌≤◌, ◌⊎◌, List, [], ◌∷◌, ◌++◌, length, slice_index_or, take, Some, None, slice_get, Contains}
+use Rattle.net_addr.specs.Lines.{line_texts}
+use Rattle.net_model.specs.Lookups.{IsNamed}
+use Rattle.net_model.specs.Network.{Network}
+use Rattle.step_scripts.specs.WaveLines.{header_of, wave_on, chain_on, waves_on, chains_on}
+use Rattle.step_scripts.specs.WaveFiles.{all_in, AreOfEach}
+use Rattle.step_scripts.specs.declared.version.Version.{Version}
+use Rattle.step_scripts.specs.declared.kind.OrderKind.{OrderKind}
+use Rattle.step_scripts.specs.declared.kind.OrderKind.TheVariants.{Header, NotInNetwork, Twice, Missing, Wave, Chain}
+use Rattle.step_scripts.specs.declared.kind.OrderRefusal.{OrderRefusal}
+use Rattle.step_scripts.specs.declared.kind.OrderRefusal.TheVariants.{Bad, OutOfMemory}
+
+-- the first line of a text is the header of this version
+abbrev pub HasHeader : Version → List ℕ → Type 0
+HasHeader version text = slice_get (line_texts text) 0 ≡ Some (header_of version)
+
+-- a line is a wave, and no line before it is a chain. What comes before is told by the lines between the header and this line
+pub record IsWaveBehind (version : Version) (before : List (List ℕ)) (line : List ℕ) (names : List (List ℕ)) : Type 0 where
+  pub wave : wave_on version line ≡ Some names
+  pub no_chain : chains_on version before ≡ []
+
+-- a wave has a name of no router
+pub record NamesNoRouter (net : Network) (version : Version) (before : List (List ℕ)) (line : List ℕ) : Type 0 where
+  pub names : List (List ℕ)
+  pub wave : IsWaveBehind version before line names
+  pub name : List ℕ
+  pub among : Contains names name
+  pub unknown : (u : ℕ) → IsNamed net name u → ⊥
+
+-- a wave has a name that stood before, in a wave on a line before or in front of it on its own line
+pub record NamesAgain (version : Version) (before : List (List ℕ)) (line : List ℕ) : Type 0 where
+  pub names : List (List ℕ)
+  pub wave : IsWaveBehind version before line names
+  pub place : ℕ
+  pub within : place < length names
+  pub stood : Contains (all_in (waves_on version before) ++ take place names) (slice_index_or names place [])
+
+-- a line is neither a wave nor a chain, or some line before it is a chain
+abbrev pub IsNoWave : Version → List (List ℕ) → List ℕ → Type 0
+IsNoWave version before line = ((wave_on version line ≡ None) × (chain_on version line ≡ None)) ⊎ (chains_on version before ≡ [] → ⊥)
+
+-- a line is a chain, none before it is, and its names aren't one of each wave before it, in their order
+pub record IsWrongChain (version : Version) (before : List (List ℕ)) (line : List ℕ) : Type 0 where
+  pub names : List (List ℕ)
+  pub chain : chain_on version line ≡ Some names
+  pub no_chain : chains_on version before ≡ []
+  pub wrong : AreOfEach (waves_on version before) names → ⊥
+
+-- a line behind the header is faulty with this kind, by itself and the lines before it
+abbrev pub IsFaultBehind : Network → Version → List (List ℕ) → List ℕ → OrderKind → Type 0
+IsFaultBehind net version before line Header = ⊥
+IsFaultBehind net version before line NotInNetwork = NamesNoRouter net version before line
+IsFaultBehind net version before line Twice = NamesAgain version before line
+IsFaultBehind net version before line Missing = ⊥
+IsFaultBehind net version before line Wave = IsNoWave version before line
+IsFaultBehind net version before line Chain = IsWrongChain version before line
+
+-- the line of this number, behind a header, is faulty with this kind
+pub record HasFaultyEntry (net : Network) (text : List ℕ) (number : ℕ) (kind : OrderKind) : Type 0 where
+  pub version : Version
+  pub before : List (List ℕ)
+  pub line : List ℕ
+  pub after : List (List ℕ)
+  pub lines : line_texts text ≡ header_of version ∷ (before ++ line ∷ after)
+  pub number_is : number ≡ length before + 2
+  pub fault : IsFaultBehind net version before line kind
+
+-- a text ends before the line of this number, and some router stands in no wave
+pub record EndsEarly (net : Network) (text : List ℕ) (number : ℕ) : Type 0 where
+  pub version : Version
+  pub entries : List (List ℕ)
+  pub lines : line_texts text ≡ header_of version ∷ entries
+  pub number_is : number ≡ length entries + 2
+  pub router : ℕ
+  pub name : List ℕ
+  pub named : IsNamed net name router
+  pub absent : Contains (all_in (waves_on version entries)) name → ⊥
+
+-- the line of this number is faulty with this kind
+abbrev pub IsFaultyLine : Network → List ℕ → ℕ → OrderKind → Type 0
+IsFaultyLine net text number Header = (number ≡ 1) × ((version : Version) → HasHeader version text → ⊥)
+IsFaultyLine net text number Missing = EndsEarly net text number
+IsFaultyLine net text number kind = HasFaultyEntry net text number kind
+
+-- the place of a kind among the kinds
+abbrev pub rank : OrderKind → ℕ
+rank Header = 1
+rank NotInNetwork = 2
+rank Twice = 3
+rank Missing = 4
+rank Wave = 5
+rank Chain = 6
+
+-- the least faulty line of a text, and the lowest kind on it
+pub record IsLeastFaultyLine (net : Network) (text : List ℕ) (number : ℕ) (kind : OrderKind) : Type 0 where
+  pub faulty : IsFaultyLine net text number kind
+  pub least : (other : ℕ) (its : OrderKind) → IsFaultyLine net text other its → number ≤ other
+  pub lowest : (its : OrderKind) → IsFaultyLine net text number its → rank kind ≤ rank its
+
+-- when each refusal comes; want of memory may come at any time
+abbrev pub RefusesWaves : Network → List ℕ → OrderRefusal → Type 0
+RefusesWaves net text (Bad number kind) = IsLeastFaultyLine net text number kind
+RefusesWaves net text OutOfMemory = Unit {0}

@@ -1,0 +1,107 @@
+-- How far the lines of an order file have been read: the entries are the lines behind the header, the seats the routers of the waves.
+use Rattle.std.specs.Prelude.{◌≡◌, ℕ, ◌+◌, ◌<◌, ◌≤◌, List, [], ◌∷◌, ◌++◌, length, slice_index_or, take, map, All, Contains, Some, None}
+use Rattle.std.specs.List.{AllZip}
+use Rattle.net_addr.specs.Lines.{line_texts}
+use Rattle.net_addr.specs.Spans.{bytes_of, LiesIn}
+use Rattle.net_addr.specs.declared.line.Line.{Line}
+use Rattle.net_model.specs.Lookups.{IsNamed}
+use Rattle.net_model.specs.Network.{Network}
+use Rattle.order_core.specs.Orders.{AreDistinct}
+use Rattle.order_core.specs.Rankings.{rank_of}
+use Rattle.step_scripts.specs.WaveLines.{header_of, wave_on}
+use Rattle.step_scripts.specs.WaveFiles.{all_in, wave_at, MayEnd}
+use Rattle.step_scripts.specs.declared.version.Version.{Version}
+use Rattle.step_scripts.specs.declared.kind.OrderKind.{OrderKind}
+use Rattle.step_scripts.specs.declared.kind.OrderKind.TheVariants.{Header, NotInNetwork, Twice, Missing, Wave, Chain}
+
+-- the bytes of some lines
+abbrev pub texts_of : List ℕ → List Line → List (List ℕ)
+texts_of text lines = map (λ line. bytes_of text line.span) lines
+
+-- a text's lines are the header of this version and these
+pub record AreEntries (version : Version) (text : List ℕ) (entries : List Line) : Type 0 where
+  pub lines : line_texts text ≡ header_of version ∷ texts_of text entries
+  pub numbers : (k : ℕ) (d : Line) → k < length entries → (slice_index_or entries k d).number ≡ k + 2
+  pub inside : All (λ line. LiesIn text line.span) entries
+
+-- these entries are waves of distinct routers, and these are their seats
+pub record AreWavesRead (net : Network) (version : Version) (entries : List (List ℕ)) (seats : List (List ℕ)) : Type 0 where
+  pub waves : List (List (List ℕ))
+  pub each : AllZip (λ (line : List ℕ) (wave : List (List ℕ)). wave_on version line ≡ Some wave) entries waves
+  pub named : AllZip (AllZip (IsNamed net)) waves seats
+  pub once : AreDistinct (all_in seats)
+
+-- these entries are waves of distinct routers, and maybe a chain of them
+pub record AreRead (net : Network) (version : Version) (entries : List (List ℕ)) (seats : List (List ℕ)) : Type 0 where
+  pub lines : List (List ℕ)
+  pub ending : List (List ℕ)
+  pub parts : entries ≡ lines ++ ending
+  pub read : AreWavesRead net version lines seats
+  pub ends : MayEnd version read.waves ending
+
+-- the first entries are waves with these seats, and the next one is none
+pub record AreFirstWaves (net : Network) (version : Version) (entries : List (List ℕ)) (seats : List (List ℕ)) : Type 0 where
+  pub few : length seats ≤ length entries
+  pub read : AreWavesRead net version (take (length seats) entries) seats
+  pub next : (d : List ℕ) → length seats < length entries → wave_on version (slice_index_or entries (length seats) d) ≡ None
+
+-- a name is that of no router
+pub record HasUnknown (net : Network) (names : List (List ℕ)) : Type 0 where
+  pub name : List ℕ
+  pub among : Contains names name
+  pub unknown : (u : ℕ) → IsNamed net name u → ⊥
+
+-- a router stood before, in a seat or in front of it among these
+pub record HasRepeat (seats : List (List ℕ)) (routers : List ℕ) : Type 0 where
+  pub place : ℕ
+  pub within : place < length routers
+  pub stood : Contains (all_in seats ++ take place routers) (slice_index_or routers place 0)
+
+-- the routers of these names, one of which stood before
+pub record NamesRepeat (net : Network) (names : List (List ℕ)) (seats : List (List ℕ)) : Type 0 where
+  pub routers : List ℕ
+  pub named : AllZip (IsNamed net) names routers
+  pub repeat : HasRepeat seats routers
+
+-- why names aren't a further wave
+abbrev pub IsUnfit : Network → List (List ℕ) → List (List ℕ) → OrderKind → Type 0
+IsUnfit net names seats Header = ⊥
+IsUnfit net names seats NotInNetwork = HasUnknown net names
+IsUnfit net names seats Twice = NamesRepeat net names seats
+IsUnfit net names seats Missing = ⊥
+IsUnfit net names seats Wave = ⊥
+IsUnfit net names seats Chain = ⊥
+
+-- the routers of these names are new, and their wave is added
+pub record TakesSeats (net : Network) (names : List (List ℕ)) (old new : List (List ℕ)) : Type 0 where
+  pub routers : List ℕ
+  pub named : AllZip (IsNamed net) names routers
+  pub once : AreDistinct (all_in old ++ routers)
+  pub added : new ≡ old ++ routers ∷ []
+
+-- a router is in this wave
+pub record IsIn (seats : List (List ℕ)) (u w : ℕ) : Type 0 where
+  pub within : w < length seats
+  pub among : Contains (wave_at seats w) u
+
+-- a router is in some wave
+pub record HasSeat (seats : List (List ℕ)) (u : ℕ) : Type 0 where
+  pub wave : ℕ
+  pub is_in : IsIn seats u wave
+
+-- a router below the count is in no wave
+pub record HasUnseated (count : ℕ) (seats : List (List ℕ)) : Type 0 where
+  pub router : ℕ
+  pub below : router < count
+  pub absent : HasSeat seats router → ⊥
+
+-- the rank of each router is that of its wave
+pub record AreRanksOf (count : ℕ) (seats : List (List ℕ)) (ranks : List ℕ) : Type 0 where
+  pub each : length ranks ≡ count
+  pub is_in : (u : ℕ) → u < count → IsIn seats u (rank_of ranks u)
+
+-- a router of this name is in the wave
+pub record NamesOneOf (net : Network) (wave : List ℕ) (name : List ℕ) : Type 0 where
+  pub router : ℕ
+  pub named : IsNamed net name router
+  pub among : Contains wave router
