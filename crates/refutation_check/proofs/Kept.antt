@@ -1,0 +1,59 @@
+-- What a filter keeps, and words joined with a blank before each.
+use Rattle.std.proofs.Common.{◌≡◌, ℕ, zero, suc, ◌+◌, ◌<◌, Bool, true, false, cond, List, [], ◌∷◌, ◌++◌, length, get_or, take, map, arith, refl}
+use Rattle.std.proofs.Common.{sym, ap, ◌∙◌, append_assoc}
+use Rattle.std.specs.List.{All, filter}
+use Rattle.std.proofs.lemmas.List.{take_more, map-append, append-nil}
+use Rattle.std.proofs.lemmas.List.Concat.{flat_map-append}
+use Rattle.std.proofs.lemmas.List.Elements.{All-head, All-tail}
+use Rattle.printed_lines.specs.Texts.{text_of}
+use Rattle.printed_lines.specs.Words.{spaced}
+
+kept : {A : Type 0} (p : A → Bool) (x : A) (xs : List A) (b : Bool) → p x ≡ b → length (filter p (x ∷ xs)) ≡ cond b 1 0 + length (filter p xs)
+kept p x xs true e = let one : suc (length (filter p xs)) ≡ 1 + length (filter p xs) = omega arith in ap
+    (λ (c : Bool). length (cond c (x ∷ filter p xs) (filter p xs))) e ∙ one
+kept p x xs false e = let none : length (filter p xs) ≡ 0 + length (filter p xs) = omega arith in ap
+    (λ (c : Bool). length (cond c (x ∷ filter p xs) (filter p xs))) e ∙ none
+
+-- an item that passes is kept
+pub some_kept : {A : Type 0} (p : A → Bool) (xs : List A) (k : ℕ) (d : A) → k < length xs → p (get_or xs k d) ≡ true → 0 < length (filter p xs)
+some_kept p [] k d within e = absurd (omega (arith, within))
+some_kept p (x ∷ xs) zero d within e = omega (arith, kept p x xs true e)
+some_kept p (x ∷ xs) (suc k) d within e = omega (arith, some_kept p xs k d (omega (arith, within)) e, kept p x xs (p x) refl)
+
+-- where none passes, none is kept
+pub none_kept : {A : Type 0} (p : A → Bool) (xs : List A) → All (λ (x : A). p x ≡ false) xs → length (filter p xs) ≡ 0
+none_kept p [] all = refl
+none_kept {A} p (x ∷ xs) all =
+    omega (arith, kept p x xs false (All-head (λ (y : A). p y ≡ false) x xs all), none_kept p xs (All-tail (λ (y : A). p y ≡ false) x xs all))
+
+-- one word more
+pub spaced_more : {A : Type 0} (word : A → List ℕ) (xs : List A) (i : ℕ) (d : A) (start line : List ℕ) → i < length xs →
+    line ≡ start ++ spaced (map word (take i xs))
+    → line ++ 32 ∷ word (get_or xs i d) ≡ start ++ spaced (map word (take (i + 1) xs))
+spaced_more {A} word xs i d start line within so_far =
+    let front = take i xs in
+    let x = get_or xs i d in
+    let more : spaced (map word (take (i + 1) xs)) ≡ spaced (map word front) ++ 32 ∷ word x =
+    ap (λ (l : List A). spaced (map word l)) (take_more xs i d within)
+    ∙ ap spaced (map-append word front (x ∷ []))
+    ∙ flat_map-append (λ (w : List ℕ). 32 ∷ w) (map word front) (word x ∷ [])
+    ∙ ap (λ (l : List ℕ). spaced (map word front) ++ 32 ∷ l) (append-nil (word x)) in
+    ap (λ (l : List ℕ). l ++ 32 ∷ word x) so_far
+    ∙ append_assoc start (spaced (map word front)) (32 ∷ word x)
+    ∙ ap (λ (l : List ℕ). start ++ l) (sym more)
+
+-- one line more
+pub text_more : {A : Type 0} (line : A → List ℕ) (first : List ℕ) (xs : List A) (i : ℕ) (d : A) (text : List ℕ) → i < length xs →
+    text ≡ text_of (first ∷ map line (take i xs))
+    → (text ++ line (get_or xs i d)) ++ 10 ∷ [] ≡ text_of (first ∷ map line (take (i + 1) xs))
+text_more {A} line first xs i d text within so_far =
+    let front = map line (take i xs) in
+    let x = get_or xs i d in
+    let more : text_of (first ∷ map line (take (i + 1) xs)) ≡ text_of (first ∷ front) ++ (line x ++ 10 ∷ []) =
+    ap (λ (l : List A). text_of (first ∷ map line l)) (take_more xs i d within)
+    ∙ ap (λ (l : List (List ℕ)). text_of (first ∷ l)) (map-append line (take i xs) (x ∷ []))
+    ∙ flat_map-append (λ (l : List ℕ). l ++ 10 ∷ []) (first ∷ front) (line x ∷ [])
+    ∙ ap (λ (l : List ℕ). text_of (first ∷ front) ++ l) (append-nil (line x ++ 10 ∷ [])) in
+    append_assoc text (line x) (10 ∷ [])
+    ∙ ap (λ (l : List ℕ). l ++ (line x ++ 10 ∷ [])) so_far
+    ∙ sym more

@@ -1,0 +1,133 @@
+-- What a line says as a node: one node at most, which has the form of a node and distinct routers of the network.
+use Rattle.std.proofs.Common.{◌≡◌, ℕ, ◌+◌, ◌-◌, ◌<◌, List, [], ◌∷◌, length, get_or, codes, arith, refl, sym, ap, ◌∙◌}
+use Rattle.std.proofs.Common.{subst, length-append}
+use Rattle.std.specs.List.{All, AllZip}
+use Rattle.std.proofs.lemmas.List.{get_or-append-add}
+use Rattle.std.proofs.lemmas.List.Elements.{All-cons, All-nil}
+use Rattle.std.proofs.lemmas.Slice.Zip.{AllZip-long}
+use Rattle.net_addr.specs.AddressWords.{IsAddressWord}
+use Rattle.net_addr.proofs.AddressWordFacts.{IsAddressWord-unique}
+use Rattle.net_model.specs.Lookups.{IsNamed}
+use Rattle.net_model.specs.Network.{Network}
+use Rattle.net_model.specs.Refusals.{IsNetwork}
+use Rattle.net_model.proofs.NetworkFacts.{IsNamed-unique, HasConfiguration-within}
+use Rattle.order_core.specs.declared.turn.Tag.{Tag}
+use Rattle.order_core.specs.declared.turn.Tag.TheVariants.{Old, New, Both}
+use Rattle.order_core.specs.declared.turn.Turn.{Turn}
+use Rattle.order_search.specs.declared.tree.Node.{Node}
+use Rattle.order_search.specs.declared.tree.Node.TheVariants.{Branch, Leaf, Unvisited}
+use Rattle.refutation_check.specs.TreeLines.{letter_of, IsEntry, IsSomeEntry, HasForm, branch_form, leaf_form, open_form, SaysTurn, SaysNode}
+use Rattle.refutation_check.specs.steps.Walks.{IsRinged}
+use Rattle.refutation_check.proofs.NameFacts.{one_router}
+
+-- lists whose items are related one by one
+all_said : {A B : Type 0} (R : A → B → Type 0) (P : A → Type 0) → ((x : A) (y : B) → R x y → P x) → (xs : List A) (ys : List B) → AllZip R xs ys → All P xs
+all_said R P from [] ys said = All-nil P
+all_said R P from (x ∷ xs) [] said = absurd said
+all_said R P from (x ∷ xs) (y ∷ ys) said = All-cons P x xs (from x y said.0) (all_said R P from xs ys said.1)
+
+all_saying : {A B : Type 0} (R : A → B → Type 0) (P : B → Type 0) → ((x : A) (y : B) → R x y → P y) →
+    (xs : List A) (ys : List B) → AllZip R xs ys → All P ys
+all_saying R P from [] [] said = All-nil P
+all_saying R P from [] (y ∷ ys) said = absurd said
+all_saying R P from (x ∷ xs) [] said = absurd said
+all_saying R P from (x ∷ xs) (y ∷ ys) said = All-cons P y ys (from x y said.0) (all_saying R P from xs ys said.1)
+
+pub one_zip : {A B : Type 0} (R : A → B → Type 0) → ((x : A) (y z : B) → R x y → R x z → y ≡ z) → (xs : List A) (ys zs : List B) → AllZip R xs ys →
+    AllZip R xs zs → ys ≡ zs
+one_zip R one [] [] [] h k = refl
+one_zip R one [] [] (z ∷ zs) h k = absurd k
+one_zip R one [] (y ∷ ys) zs h k = absurd h
+one_zip R one (x ∷ xs) [] zs h k = absurd h
+one_zip R one (x ∷ xs) (y ∷ ys) [] h k = absurd k
+one_zip R one (x ∷ xs) (y ∷ ys) (z ∷ zs) h k = ap (λ a. a ∷ ys) (one x y z h.0 k.0) ∙ ap (λ l. z ∷ l) (one_zip R one xs ys zs h.1 k.1)
+
+-- a letter is that of one tag
+one_tag : (s t : Tag) → letter_of s ≡ letter_of t → s ≡ t
+one_tag Old Old e = refl
+one_tag Old New e = absurd (omega (arith, e))
+one_tag Old Both e = absurd (omega (arith, e))
+one_tag New Old e = absurd (omega (arith, e))
+one_tag New New e = refl
+one_tag New Both e = absurd (omega (arith, e))
+one_tag Both Old e = absurd (omega (arith, e))
+one_tag Both New e = absurd (omega (arith, e))
+one_tag Both Both e = refl
+
+-- the letter stands last
+last_letter : (word name : List ℕ) (t : Tag) → IsEntry word name t → get_or word (length word - 1) 0 ≡ letter_of t
+last_letter word name t is =
+    let long : length word - 1 ≡ length name + 1 = omega (arith, ap (λ (l : List ℕ). length l) is.written, length-append name (58 ∷ letter_of t ∷ [])) in
+    ap (λ (k : ℕ). get_or word k 0) long ∙ ap (λ (l : List ℕ). get_or l (length name + 1) 0) is.written ∙ get_or-append-add name (58 ∷ letter_of t ∷ []) 1 0
+
+one_turn : (net : Network) → IsNetwork net → (word : List ℕ) (s t : Turn) → SaysTurn net word s → SaysTurn net word t → s ≡ t
+one_turn net network word s t first second =
+    let router = one_router net network word s t first second in
+    let tag = one_tag s.tag t.tag (sym (last_letter word first.name s.tag first.entry) ∙ last_letter word second.name t.tag second.entry) in
+    ap (λ (u : ℕ). let made : Turn = record { router = u; tag = s.tag } in made) router
+    ∙ ap (λ (g : Tag). let made : Turn = record { router = t.router; tag = g } in made) tag
+
+pub first_word : (one two : List ℕ) (rest more : List (List ℕ)) → one ∷ rest ≡ two ∷ more → one ≡ two
+first_word one two rest more e = cc
+
+pub later_words : (one two : List ℕ) (rest more : List (List ℕ)) → one ∷ rest ≡ two ∷ more → rest ≡ more
+later_words one two rest more e = cc
+
+-- the three first words are three
+pub branch_no_leaf : (rest more : List (List ℕ)) → codes "branch" ∷ rest ≡ codes "leaf" ∷ more → ⊥
+branch_no_leaf rest more e = omega (arith, ap (λ (w : List ℕ). get_or w 0 0) (first_word (codes "branch") (codes "leaf") rest more e))
+
+pub branch_no_open : (rest more : List (List ℕ)) → codes "branch" ∷ rest ≡ codes "open" ∷ more → ⊥
+branch_no_open rest more e = omega (arith, ap (λ (w : List ℕ). get_or w 0 0) (first_word (codes "branch") (codes "open") rest more e))
+
+pub leaf_no_open : (rest more : List (List ℕ)) → codes "leaf" ∷ rest ≡ codes "open" ∷ more → ⊥
+leaf_no_open rest more e = omega (arith, ap (λ (w : List ℕ). get_or w 0 0) (first_word (codes "leaf") (codes "open") rest more e))
+
+-- words that say a node have its form
+pub form_of : (net : Network) (words : List (List ℕ)) (node : Node) → SaysNode net words node → HasForm words
+form_of net words (Branch a turns) says =
+    branch_form a says.entries says.line
+    (all_said (SaysTurn net) IsSomeEntry (λ word turn s. record { name = s.name; tag = turn.tag; entry = s.entry }) says.entries turns says.said)
+form_of net words (Leaf cycle) says = leaf_form says.names says.line
+form_of net words Unvisited says = open_form says
+
+named_below : (net : Network) (name : List ℕ) (u : ℕ) → IsNamed net name u → u < length net
+named_below net name u is = HasConfiguration-within net u is.config is.router
+
+-- and its routers are distinct ones of the network
+pub ringed : (net : Network) (words : List (List ℕ)) (node : Node) → SaysNode net words node → IsRinged (length net) node
+ringed net words (Branch a turns) says = (
+  all_saying (SaysTurn net) (λ (t : Turn). t.router < length net) (λ word turn s. named_below net s.name turn.router s.named) says.entries turns says.said,
+  record { some = omega (arith, says.line.some, AllZip-long (SaysTurn net) says.entries turns says.said); distinct = says.distinct },
+)
+ringed net words (Leaf cycle) says = (
+  all_saying (IsNamed net) (λ (u : ℕ). u < length net) (named_below net) says.names cycle says.named,
+  record { some = omega (arith, says.line.some, AllZip-long (IsNamed net) says.names cycle says.named); distinct = says.distinct },
+)
+ringed net words Unvisited says = tt
+
+-- words say one node
+pub one_node : (net : Network) → IsNetwork net → (words : List (List ℕ)) (n m : Node) → SaysNode net words n → SaysNode net words m → n ≡ m
+one_node net network words (Branch a turns) (Branch b others) one two =
+    let rest = later_words (codes "branch") (codes "branch") (one.line.address ∷ one.entries) (two.line.address ∷ two.entries)
+    (sym one.line.words_are ∙ two.line.words_are) in
+    let address = first_word one.line.address two.line.address one.entries two.entries rest in
+    let entries = later_words one.line.address two.line.address one.entries two.entries rest in
+    let same_a : a ≡ b = IsAddressWord-unique two.line.address a b (subst (λ (w : List ℕ). IsAddressWord w a) address one.line.stands) two.line.stands in
+    let same_turns : turns ≡ others = one_zip (SaysTurn net) (one_turn net network) two.entries turns others
+    (subst (λ (l : List (List ℕ)). AllZip (SaysTurn net) l turns) entries one.said) two.said in
+    ap (λ (x : ℕ). Branch x turns) same_a ∙ ap (λ (l : List Turn). Branch b l) same_turns
+one_node net network words (Branch a turns) (Leaf cycle) one two = absurd
+    (branch_no_leaf (one.line.address ∷ one.entries) two.names (sym one.line.words_are ∙ two.line.words_are))
+one_node net network words (Branch a turns) Unvisited one two = absurd (branch_no_open (one.line.address ∷ one.entries) [] (sym one.line.words_are ∙ two))
+one_node net network words (Leaf cycle) (Branch b others) one two = absurd
+    (branch_no_leaf (two.line.address ∷ two.entries) one.names (sym two.line.words_are ∙ one.line.words_are))
+one_node net network words (Leaf cycle) (Leaf other) one two =
+    let names = later_words (codes "leaf") (codes "leaf") one.names two.names (sym one.line.words_are ∙ two.line.words_are) in
+    ap (λ (l : List ℕ). Leaf l)
+    (one_zip (IsNamed net) (λ word u v. IsNamed-unique net word u v network.ascending) two.names cycle other
+    (subst (λ (l : List (List ℕ)). AllZip (IsNamed net) l cycle) names one.named) two.named)
+one_node net network words (Leaf cycle) Unvisited one two = absurd (leaf_no_open one.names [] (sym one.line.words_are ∙ two))
+one_node net network words Unvisited (Branch b others) one two = absurd (branch_no_open (two.line.address ∷ two.entries) [] (sym two.line.words_are ∙ one))
+one_node net network words Unvisited (Leaf cycle) one two = absurd (leaf_no_open two.names [] (sym two.line.words_are ∙ one))
+one_node net network words Unvisited Unvisited one two = refl

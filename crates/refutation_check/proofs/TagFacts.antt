@@ -1,0 +1,31 @@
+-- Tags, told by two tests.
+use Rattle.std.proofs.Common.{◌≡◌, ℕ, ◌↔◌, Bool, true, false, IsTrue, sym, refl, ◌∙◌}
+use Rattle.std.proofs.lemmas.Bool.{false≢true}
+use Rattle.net_model.specs.Network.{Network}
+use Rattle.igp_theory.specs.Forwarding.{Steps}
+use Rattle.igp_theory.specs.Loops.{IsTag, IsTagOf}
+use Rattle.igp_theory.specs.Routes.{Tables}
+use Rattle.igp_theory.specs.declared.phase.Phase.TheVariants.{Old, New}
+use Rattle.order_core.specs.declared.turn.Tag.{Tag}
+use Rattle.order_core.specs.declared.turn.Tag.TheVariants as tag
+use Rattle.order_core.specs.declared.turn.Turn.{Turn}
+use Rattle.refutation_check.specs.steps.Right.{tells}
+
+told : (t : Tag) (old new : Bool) (P Q : Type 0) → (IsTrue old ↔ P) → (IsTrue new ↔ Q) → IsTrue (tells t old new) ↔ IsTagOf t P Q
+told tag.Old true true P Q p q = (λ e. absurd (false≢true e), λ is. absurd (is.1 (q.0 refl)))
+told tag.Old true false P Q p q = (λ e. (p.0 refl, λ there. false≢true (q.1 there)), λ is. refl)
+told tag.Old false new P Q p q = (λ e. absurd (false≢true e), λ is. absurd (false≢true (p.1 is.0)))
+told tag.New true new P Q p q = (λ e. absurd (false≢true e), λ is. absurd (is.0 (p.0 refl)))
+told tag.New false true P Q p q = (λ e. (λ there. false≢true (p.1 there), q.0 refl), λ is. refl)
+told tag.New false false P Q p q = (λ e. absurd (false≢true e), λ is. absurd (false≢true (q.1 is.1)))
+told tag.Both true true P Q p q = (λ e. (p.0 refl, q.0 refl), λ is. refl)
+told tag.Both true false P Q p q = (λ e. absurd (false≢true e), λ is. absurd (false≢true (q.1 is.1)))
+told tag.Both false new P Q p q = (λ e. absurd (false≢true e), λ is. absurd (false≢true (p.1 is.0)))
+
+-- the tag of a turn, by two tests for its router's steps to the next one
+pub tag_told : (net : Network) (old new : Tables) (a : ℕ) (turn : Turn) (next : ℕ) (b c result : Bool) →
+    (IsTrue b ↔ Steps net old new turn.router Old a next) → (IsTrue c ↔ Steps net old new turn.router New a next)
+    → result ≡ tells turn.tag b c → IsTrue result ↔ IsTag net old new a turn next
+tag_told net old new a turn next b c result by_old by_new is =
+    let tagged = told turn.tag b c (Steps net old new turn.router Old a next) (Steps net old new turn.router New a next) by_old by_new in
+    (λ e. record { steps = tagged.0 (sym is ∙ e) }, λ t. is ∙ tagged.1 t.steps)

@@ -1,0 +1,70 @@
+-- How trees are printed, and that a printed tree reads back.
+use Rattle.std.specs.Prelude.{◌≡◌, ◌≢◌, ℕ, ◌^◌, ◌<◌, ◌≤◌, List, [], ◌∷◌, ◌++◌, length, map, slice_index_or, codes, All, AllPairs}
+use Rattle.std.specs.List.{AllZip}
+use Rattle.net_addr.specs.Lines.{line_texts}
+use Rattle.net_model.specs.Network.{Network}
+use Rattle.net_model.specs.Refusals.{IsNetwork}
+use Rattle.net_model.specs.RouterNames.{names_of}
+use Rattle.order_core.specs.Orders.{AreDistinct}
+use Rattle.order_core.specs.declared.turn.Turn.{Turn}
+use Rattle.order_search.specs.declared.tree.Node.{Node}
+use Rattle.order_search.specs.declared.tree.Node.TheVariants.{Branch, Leaf, Unvisited}
+use Rattle.printed_lines.specs.Texts.{text_of}
+use Rattle.printed_lines.specs.Words.{joined, dotted}
+use Rattle.refutation_check.specs.TreeLines.{header, letter_of, pieces_of, SaysNode}
+
+-- the name of a router
+abbrev pub router_word : List (List ℕ) → ℕ → List ℕ
+router_word names u = slice_index_or names u []
+
+-- a turn: the name of its router, a colon (58), and the letter of its tag
+abbrev pub entry_word : List (List ℕ) → Turn → List ℕ
+entry_word names turn = router_word names turn.router ++ 58 ∷ letter_of turn.tag ∷ []
+
+-- the words of a node
+abbrev pub node_words : List (List ℕ) → Node → List (List ℕ)
+node_words names (Branch a turns) = codes "branch" ∷ dotted a ∷ map (entry_word names) turns
+node_words names (Leaf cycle) = codes "leaf" ∷ map (router_word names) cycle
+node_words names Unvisited = codes "open" ∷ []
+
+-- the line of a node
+abbrev pub node_line : List (List ℕ) → Node → List ℕ
+node_line names node = joined (node_words names node)
+
+-- the text of a tree: the header, then a line for each node
+abbrev pub tree_text : List (List ℕ) → List Node → List ℕ
+tree_text names nodes = text_of (header ∷ map (node_line names) nodes)
+
+-- the routers of a node are below the count
+abbrev pub NodeBelow : ℕ → Node → Type 0
+NodeBelow count (Branch a turns) = All (λ (turn : Turn). turn.router < count) turns
+NodeBelow count (Leaf cycle) = All (λ (u : ℕ). u < count) cycle
+NodeBelow count Unvisited = Unit {0}
+
+-- two or more turns of distinct routers
+pub record AreDistinctTurns (turns : List Turn) : Type 0 where
+  pub some : 2 ≤ length turns
+  pub distinct : AllPairs (λ (s t : Turn). s.router ≢ t.router) turns
+
+-- two or more distinct routers
+pub record AreDistinctRouters (cycle : List ℕ) : Type 0 where
+  pub some : 2 ≤ length cycle
+  pub distinct : AreDistinct cycle
+
+-- a node that reads back: a branch of an address with such turns, a leaf of such routers
+abbrev pub IsPrintedNode : Node → Type 0
+IsPrintedNode (Branch a turns) = (a < 2 ^ 32) × AreDistinctTurns turns
+IsPrintedNode (Leaf cycle) = AreDistinctRouters cycle
+IsPrintedNode Unvisited = Unit {0}
+
+-- the text of some nodes reads as these: its lines are the header and lines that say them
+pub record ReadsAsNodes (net : Network) (text : List ℕ) (nodes : List Node) : Type 0 where
+  pub lines : List (List ℕ)
+  pub text_is : line_texts text ≡ header ∷ lines
+  pub said : AllZip (λ (line : List ℕ) (node : Node). SaysNode net (pieces_of line) node) lines nodes
+
+-- the text of nodes of a network's routers reads as these nodes
+abbrev pub TreesReadBack : Type 0
+TreesReadBack =
+    (net : Network) (nodes : List Node) → IsNetwork net → All (NodeBelow (length net)) nodes → All IsPrintedNode nodes →
+    ReadsAsNodes net (tree_text (names_of net) nodes) nodes

@@ -1,0 +1,84 @@
+-- What makes a line of a tree file wrong at its place. A place is told by the pairs that are assumed there.
+use Rattle.std.specs.Prelude.{ℕ, ◌≤◌, List, Any, Contains}
+use Rattle.net_addr.specs.Addresses.{Block}
+use Rattle.net_model.specs.Network.{Network, Connected}
+use Rattle.igp_theory.specs.Forwarding.{IsTarget}
+use Rattle.igp_theory.specs.Loops.{AroundRing, IsTag}
+use Rattle.igp_theory.specs.Routes.{Tables}
+use Rattle.order_core.specs.Turns.{HasBothTags}
+use Rattle.order_core.specs.declared.turn.Turn.{Turn}
+use Rattle.order_search.specs.Trees.{Place}
+use Rattle.order_search.specs.declared.tree.Node.{Node}
+use Rattle.order_search.specs.declared.tree.Node.TheVariants.{Branch, Leaf, Unvisited}
+use Rattle.refutation_check.specs.TreeLines.{HasForm, SaysNode}
+use Rattle.refutation_check.specs.declared.verdict.WrongKind.{WrongKind}
+use Rattle.refutation_check.specs.declared.verdict.WrongKind.TheVariants.{Form, Router, Address, Originator, Step, OneSided, NotAssumed}
+
+-- the router of some turn originates the target of the address
+pub record IsOriginatedBySome (net : Network) (a : ℕ) (turns : List Turn) : Type 0 where
+  pub target : Block
+  pub is_target : IsTarget net a target
+  pub by_some : Any (λ (turn : Turn). Connected net turn.router target) turns
+
+-- a branch is wrong: its address has no target; a turn's router originates the target; a turn hasn't the tag by which
+-- its router steps to the next one, or the last one to the first; no turn is Old, or none is New
+abbrev pub WrongBranch : Network → Tables → Tables → ℕ → List Turn → WrongKind → Type 0
+WrongBranch net old new a turns Form = ⊥
+WrongBranch net old new a turns Router = ⊥
+WrongBranch net old new a turns Address = (p : Block) → ¬ IsTarget net a p
+WrongBranch net old new a turns Originator = IsOriginatedBySome net a turns
+WrongBranch net old new a turns Step = ¬ AroundRing (λ (r s : Turn). IsTag net old new a r s.router) turns
+WrongBranch net old new a turns OneSided = ¬ HasBothTags turns
+WrongBranch net old new a turns NotAssumed = ⊥
+
+-- each router of a cycle is assumed before the next one at a place, and the last one before the first
+abbrev pub IsAssumedRound : Place → List ℕ → Type 0
+IsAssumedRound place cycle = AroundRing (λ (u v : ℕ). Contains place (u, v)) cycle
+
+-- a leaf is wrong: two neighbours of its cycle are no pair that is assumed
+abbrev pub WrongLeaf : Place → List ℕ → WrongKind → Type 0
+WrongLeaf place cycle Form = ⊥
+WrongLeaf place cycle Router = ⊥
+WrongLeaf place cycle Address = ⊥
+WrongLeaf place cycle Originator = ⊥
+WrongLeaf place cycle Step = ⊥
+WrongLeaf place cycle OneSided = ⊥
+WrongLeaf place cycle NotAssumed = ¬ IsAssumedRound place cycle
+
+-- a node is wrong at a place; an unvisited place never is
+abbrev pub WrongNode : Network → Tables → Tables → Place → Node → WrongKind → Type 0
+WrongNode net old new place (Branch a turns) kind = WrongBranch net old new a turns kind
+WrongNode net old new place (Leaf cycle) kind = WrongLeaf place cycle kind
+WrongNode net old new place Unvisited kind = ⊥
+
+-- words say a node that is wrong at a place
+pub record SaysWrongNode (net : Network) (old new : Tables) (place : Place) (words : List (List ℕ)) (kind : WrongKind) : Type 0 where
+  pub node : Node
+  pub says : SaysNode net words node
+  pub wrong : WrongNode net old new place node kind
+
+-- words are wrong as those of a node: they haven't its form; their names aren't those of distinct routers, so that they
+-- say no node; or the node is wrong at its place
+abbrev pub WrongWords : Network → Tables → Tables → Place → List (List ℕ) → WrongKind → Type 0
+WrongWords net old new place words Form = ¬ HasForm words
+WrongWords net old new place words Router = (node : Node) → ¬ SaysNode net words node
+WrongWords net old new place words Address = SaysWrongNode net old new place words Address
+WrongWords net old new place words Originator = SaysWrongNode net old new place words Originator
+WrongWords net old new place words Step = SaysWrongNode net old new place words Step
+WrongWords net old new place words OneSided = SaysWrongNode net old new place words OneSided
+WrongWords net old new place words NotAssumed = SaysWrongNode net old new place words NotAssumed
+
+-- the number of a kind
+abbrev pub number_of : WrongKind → ℕ
+number_of Form = 1
+number_of Router = 2
+number_of Address = 3
+number_of Originator = 4
+number_of Step = 5
+number_of OneSided = 6
+number_of NotAssumed = 7
+
+-- P holds of the kind, and of none with a lower number
+pub record IsLowestKind (P : WrongKind → Type 0) (kind : WrongKind) : Type 0 where
+  pub wrong : P kind
+  pub lowest : (other : WrongKind) → P other → number_of kind ≤ number_of other

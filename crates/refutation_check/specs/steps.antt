@@ -1,0 +1,10 @@
+pub mod Spans
+pub mod Shapes
+pub mod Names
+pub mod Right
+pub mod Rings
+pub mod Assumed
+pub mod Cursors
+pub mod Walks
+pub mod Counted
+pub mod Reading

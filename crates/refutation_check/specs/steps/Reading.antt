@@ -1,0 +1,77 @@
+-- How far a tree file has been read.
+use Rattle.std.specs.Prelude.{◌≡◌, ℕ, ◌+◌, ◌<◌, List, [], ◌∷◌, length, map, slice_index_or, All}
+use Rattle.net_addr.specs.Lines.{line_texts}
+use Rattle.net_addr.specs.Spans.{bytes_of, LiesIn}
+use Rattle.net_addr.specs.declared.line.Line.{Line}
+use Rattle.net_model.specs.Network.{Network}
+use Rattle.igp_theory.specs.Routes.{Tables}
+use Rattle.order_search.specs.Trees.{Place, branch_count}
+use Rattle.order_search.specs.declared.tree.Node.{Node}
+use Rattle.refutation_check.specs.TreeLines.{header, pieces_of, SaysNode}
+use Rattle.refutation_check.specs.Verdicts.{AreRightLines, IsFirstWrongLine, leaf_count, open_count}
+use Rattle.refutation_check.specs.WrongLines.{IsLowestKind, WrongWords}
+use Rattle.refutation_check.specs.declared.reading.Reading.{Reading}
+use Rattle.refutation_check.specs.declared.tally.Tally.{Tally}
+use Rattle.refutation_check.specs.declared.verdict.Verdict.{Verdict}
+use Rattle.refutation_check.specs.declared.verdict.Verdict.TheVariants.{Closed, Unfinished, Wrong}
+use Rattle.refutation_check.specs.declared.verdict.WrongKind.{WrongKind}
+use Rattle.refutation_check.specs.declared.verdict.WrongKind.TheVariants.{Form}
+use Rattle.refutation_check.specs.steps.Counted.{CountsNode}
+use Rattle.refutation_check.specs.steps.Walks.{IsTaken}
+
+-- the bytes of some lines
+abbrev pub line_bytes : List ℕ → List Line → List (List ℕ)
+line_bytes text lines = map (λ (line : Line). bytes_of text line.span) lines
+
+-- a text's lines are the header and these
+pub record AreEntries (text : List ℕ) (entries : List Line) : Type 0 where
+  pub lines : line_texts text ≡ header ∷ line_bytes text entries
+  pub numbers : (k : ℕ) (d : Line) → k < length entries → (slice_index_or entries k d).number ≡ k + 2
+  pub inside : All (λ (line : Line). LiesIn text line.span) entries
+
+-- the counts are those of these nodes
+pub record AreCounted (tally : Tally) (nodes : List Node) : Type 0 where
+  pub branches : tally.branches ≡ branch_count nodes
+  pub leaves : tally.leaves ≡ leaf_count nodes
+  pub unvisited : tally.unvisited ≡ open_count nodes
+
+-- the lines before the next one are right; their nodes are counted, and leave these places open
+pub record HasRead (net : Network) (old new : Tables) (lines : List (List ℕ)) (reading : Reading) : Type 0 where
+  pub nodes : List Node
+  pub right : AreRightLines net old new lines nodes reading.walk.left
+  pub counted : AreCounted reading.tally nodes
+
+-- a line says a node that is right at a place; the node is counted, and its children are open before the other places
+pub record TakesLine (net : Network) (old new : Tables) (place : Place) (left : List Place) (line : List ℕ) (before after : Reading) : Type 0 where
+  pub node : Node
+  pub says : SaysNode net (pieces_of line) node
+  pub taken : IsTaken net old new place left after.walk.left node
+  pub counts : CountsNode before.tally after.tally node
+
+-- why a line isn't taken: no place is open, or it is wrong at the first open place
+abbrev pub IsNotTaken : Network → Tables → Tables → List Place → List ℕ → WrongKind → Type 0
+IsNotTaken net old new [] line kind = kind ≡ Form
+IsNotTaken net old new (place ∷ left) line kind = IsLowestKind (WrongWords net old new place (pieces_of line)) kind
+
+-- what came of a line where some place is open
+abbrev pub IsTakenThere : Network → Tables → Tables → List Place → List ℕ → Reading → Reading → Type 0
+IsTakenThere net old new [] line before after = ⊥
+IsTakenThere net old new (place ∷ left) line before after = TakesLine net old new place left line before after
+
+-- the verdict is that a line is wrong, and which
+abbrev pub IsWrongVerdict : Network → Tables → Tables → List ℕ → Verdict → Type 0
+IsWrongVerdict net old new text (Closed branches leaves) = ⊥
+IsWrongVerdict net old new text (Unfinished unvisited) = ⊥
+IsWrongVerdict net old new text (Wrong line kind) = IsFirstWrongLine net old new text line kind
+
+-- the verdict on a whole tree by its counts
+abbrev pub IsWholeVerdict : Tally → Verdict → Type 0
+IsWholeVerdict tally (Closed branches leaves) = (tally.unvisited ≡ 0) × (branches ≡ tally.branches) × (leaves ≡ tally.leaves)
+IsWholeVerdict tally (Unfinished unvisited) = (0 < unvisited) × (unvisited ≡ tally.unvisited)
+IsWholeVerdict tally (Wrong line kind) = ⊥
+
+-- the verdict behind the last line: the tree is whole, or the text ended too early at this line
+abbrev pub IsEndVerdict : Reading → ℕ → Verdict → Type 0
+IsEndVerdict read next (Closed branches leaves) = (read.walk.left ≡ []) × IsWholeVerdict read.tally (Closed branches leaves)
+IsEndVerdict read next (Unfinished unvisited) = (read.walk.left ≡ []) × IsWholeVerdict read.tally (Unfinished unvisited)
+IsEndVerdict read next (Wrong line kind) = (¬ (read.walk.left ≡ [])) × (line ≡ next) × (kind ≡ Form)

@@ -1,0 +1,50 @@
+-- How the words of a line are held: as spans of the text.
+use Rattle.std.specs.Prelude.{◌≡◌, ℕ, List, [], ◌∷◌, codes, All}
+use Rattle.net_addr.specs.Spans.{LiesIn}
+use Rattle.net_addr.specs.declared.span.Span.{Span}
+use Rattle.net_model.specs.Network.{Network}
+use Rattle.order_search.specs.declared.tree.Node.{Node}
+use Rattle.refutation_check.specs.TreeLines.{HasForm, IsBranchLine, IsLeafLine, IsSomeEntry, SaysNode}
+use Rattle.refutation_check.specs.declared.shape.Shape.{Shape}
+use Rattle.refutation_check.specs.declared.shape.Shape.TheVariants.{Branch, Leaf, Open}
+use Rattle.refutation_check.specs.declared.verdict.WrongKind.{WrongKind}
+use Rattle.refutation_check.specs.declared.verdict.WrongKind.TheVariants.{Form, Router, Address, Originator, Step, OneSided, NotAssumed}
+use Rattle.refutation_check.specs.steps.Spans.{texts_of}
+
+-- words are the line of a branch with these entries
+pub record IsBranchShape (text : List ℕ) (words : List (List ℕ)) (a : ℕ) (entries : List Span) : Type 0 where
+  pub line : IsBranchLine words a (texts_of text entries)
+  pub tagged : All IsSomeEntry (texts_of text entries)
+  pub inside : All (LiesIn text) entries
+
+-- words are the line of a leaf with these names
+pub record IsLeafShape (text : List ℕ) (words : List (List ℕ)) (names : List Span) : Type 0 where
+  pub line : IsLeafLine words (texts_of text names)
+  pub inside : All (LiesIn text) names
+
+-- the words have this shape
+abbrev pub IsShape : List ℕ → List (List ℕ) → Shape → Type 0
+IsShape text words (Branch a entries) = IsBranchShape text words a entries.now
+IsShape text words (Leaf names) = IsLeafShape text words names.now
+IsShape text words Open = words ≡ codes "open" ∷ []
+
+-- the words of a shape stand in the text
+abbrev pub LieInside : List ℕ → Shape → Type 0
+LieInside text (Branch a entries) = All (LiesIn text) entries.now
+LieInside text (Leaf names) = All (LiesIn text) names.now
+LieInside text Open = Unit {0}
+
+-- words have a form, and say no node
+pub record SaysNone (net : Network) (words : List (List ℕ)) : Type 0 where
+  pub form : HasForm words
+  pub none : (node : Node) → ¬ SaysNode net words node
+
+-- why words say no node
+abbrev pub IsUnread : Network → List (List ℕ) → WrongKind → Type 0
+IsUnread net words Form = ¬ HasForm words
+IsUnread net words Router = SaysNone net words
+IsUnread net words Address = ⊥
+IsUnread net words Originator = ⊥
+IsUnread net words Step = ⊥
+IsUnread net words OneSided = ⊥
+IsUnread net words NotAssumed = ⊥

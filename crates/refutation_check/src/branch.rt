@@ -1,0 +1,179 @@
+ghost use Rattle.std.specs.Prelude.{◌≡◌, ◌<◌, ◌↔◌, ℕ, All, Any, Contains, IfNone, IfSome, IsTrue, length};
+ghost use Rattle.net_model.specs.Network.{Connected};
+ghost use Rattle.net_model.specs.Refusals.{IsNetwork};
+ghost use Rattle.route_core.specs.Tables.{HasEntry};
+ghost use Rattle.igp_theory.specs.Forwarding.{MustForward, Steps};
+ghost use Rattle.igp_theory.specs.Loops.{AroundRing, IsTag};
+ghost use Rattle.order_core.specs.Turns.{HasBothTags, new_routers, old_routers};
+ghost use Rattle.order_core.specs.declared.turn.Turn.{Turn};
+ghost use Rattle.prefix_atoms.specs.Classes.{IsInClass};
+ghost use Rattle.rib_mix.specs.Answers.{NextLeadsTo};
+ghost use Rattle.refutation_check.specs.WrongLines.{IsLowestKind, WrongBranch};
+ghost use Rattle.refutation_check.specs.steps.Rings.{next_at};
+ghost use Rattle.refutation_check.specs.steps.Right.{IsRightBranch, tells};
+
+use crate::names::has_router;
+use crate::verdict::WrongKind;
+use net_addr::Prefix;
+use net_model::Net;
+use order_core::{Tag, Turn};
+use rib_mix::{Mixed, Next, Phase};
+use route_core::RouteSource;
+
+/// The lowest kind by which a branch is wrong, none where it is right.
+pub fn branch_fault<O: RouteSource, N: RouteSource>(
+    mixed: &Mixed<'_, O, N>,
+    address: u32,
+    turns: &[Turn],
+) -> Option<WrongKind>
+    requires network { IsNetwork mixed.now.net }
+    requires below { All (λ turn. turn.router < length mixed.now.net) turns.now }
+    ensures right { IfNone result (IsRightBranch mixed.now.net (HasEntry (O.table mixed.now.old)) (HasEntry (N.table mixed.now.new)) address turns.now) }
+    ensures wrong { IfSome result (IsLowestKind (WrongBranch mixed.now.net (HasEntry (O.table mixed.now.old)) (HasEntry (N.table mixed.now.new)) address turns.now)) }
+{
+    let atom = mixed.atoms().of(address);
+    let Some(target) = mixed.atoms().target(atom) else {
+        return Some(WrongKind::Address);
+    };
+    if some_originates(mixed.net(), turns, target) {
+        return Some(WrongKind::Originator);
+    }
+    if !goes_round(mixed, address, atom, turns) {
+        return Some(WrongKind::Step);
+    }
+    if !has_both_tags(turns) {
+        return Some(WrongKind::OneSided);
+    }
+    None
+}
+
+/// Whether the router of some turn originates the prefix.
+fn some_originates(net: &Net, turns: &[Turn], target: Prefix) -> bool
+    requires { All (λ turn. turn.router < length net.now) turns.now }
+    ensures { IsTrue result ↔ Any (λ (turn : Turn). Connected net.now turn.router target) turns.now }
+{
+    for turn in turns {
+        if net.originates(turn.router, target) {
+            return true;
+        }
+    }
+    false
+}
+
+/// Whether each turn has the tag by which its router steps to the next one, and the last one to the first.
+fn goes_round<O: RouteSource, N: RouteSource>(
+    mixed: &Mixed<'_, O, N>,
+    address: u32,
+    atom: u32,
+    turns: &[Turn],
+) -> bool
+    requires class { IsInClass mixed.now.classes atom address }
+    requires must { All (λ (turn : Turn). MustForward mixed.now.net address turn.router) turns.now }
+    ensures { IsTrue result ↔ AroundRing (λ (r s : Turn). IsTag mixed.now.net (HasEntry (O.table mixed.now.old)) (HasEntry (N.table mixed.now.new)) address r s.router) turns.now }
+{
+    for place in 0..turns.len() {
+        let turn = turns[place];
+        let next = next_turn(turns, place);
+        if !is_tagged(mixed, address, atom, turn, next.router) {
+            return false;
+        }
+    }
+    true
+}
+
+/// The turn after a place of a ring, the first one after the last.
+fn next_turn(turns: &[Turn], place: usize) -> Turn
+    requires { place < length turns.now }
+    ensures { (d : Turn) → result ≡ next_at turns.now place d }
+{
+    if place + 1 < turns.len() {
+        turns[place + 1]
+    } else {
+        turns[0]
+    }
+}
+
+/// Whether a turn has the tag by which its router steps to another.
+fn is_tagged<O: RouteSource, N: RouteSource>(
+    mixed: &Mixed<'_, O, N>,
+    address: u32,
+    atom: u32,
+    turn: Turn,
+    next: u32,
+) -> bool
+    requires class { IsInClass mixed.now.classes atom address }
+    requires must { MustForward mixed.now.net address turn.router }
+    ensures { IsTrue result ↔ IsTag mixed.now.net (HasEntry (O.table mixed.now.old)) (HasEntry (N.table mixed.now.new)) address turn next }
+{
+    let old = steps_to(mixed, address, atom, turn.router, Phase::Old, next);
+    let new = steps_to(mixed, address, atom, turn.router, Phase::New, next);
+    is_tag_of(turn.tag, old, new)
+}
+
+/// Whether a tag says which of two phases step on.
+fn is_tag_of(tag: Tag, old: bool, new: bool) -> bool
+    ensures { result ≡ tells tag old new }
+{
+    match tag {
+        Tag::Old => old && !new,
+        Tag::New => !old && new,
+        Tag::Both => old && new,
+    }
+}
+
+/// Whether a router steps to another in a phase.
+fn steps_to<O: RouteSource, N: RouteSource>(
+    mixed: &Mixed<'_, O, N>,
+    address: u32,
+    atom: u32,
+    router: u32,
+    phase: Phase,
+    next: u32,
+) -> bool
+    requires class { IsInClass mixed.now.classes atom address }
+    requires must { MustForward mixed.now.net address router }
+    ensures { IsTrue result ↔ Steps mixed.now.net (HasEntry (O.table mixed.now.old)) (HasEntry (N.table mixed.now.new)) router phase address next }
+{
+    leads_to(mixed.hops(router, atom, phase), next)
+}
+
+/// Whether an answer forwards to a router.
+fn leads_to(answer: Next<'_>, router: u32) -> bool
+    ensures { IsTrue result ↔ NextLeadsTo answer.entry router }
+{
+    match answer {
+        Next::Via(hops) => has_router(hops.as_slice(), router),
+        Next::Discard | Next::Connected | Next::Absent => false,
+    }
+}
+
+/// Whether some turn is Old, and some is New.
+fn has_both_tags(turns: &[Turn]) -> bool
+    ensures { IsTrue result ↔ HasBothTags turns.now }
+{
+    has_old(turns) && has_new(turns)
+}
+
+/// Whether some turn is Old.
+fn has_old(turns: &[Turn]) -> bool
+    ensures { IsTrue result ↔ (0 < length (old_routers turns.now)) }
+{
+    for turn in turns {
+        if turn.tag.is_old() {
+            return true;
+        }
+    }
+    false
+}
+
+/// Whether some turn is New.
+fn has_new(turns: &[Turn]) -> bool
+    ensures { IsTrue result ↔ (0 < length (new_routers turns.now)) }
+{
+    for turn in turns {
+        if turn.tag.is_new() {
+            return true;
+        }
+    }
+    false
+}

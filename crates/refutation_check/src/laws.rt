@@ -1,0 +1,21 @@
+ghost use Rattle.refutation_check.specs.Laws.{ClosedTreesRefute, HaveOneVerdict};
+ghost use Rattle.refutation_check.specs.TreeTexts.{TreesReadBack};
+
+use igp_theory::TablePair;
+
+/// The law that where a text is a closed tree no wave list and no order of the network is seamless.
+///
+/// Neither end needs to be sound, and no branch needs to be the one that a search would make.
+pub fn closed_trees_refute<T: TablePair>()
+    ensures { ClosedTreesRefute T.old T.new }
+{}
+
+/// The law that a printed tree reads as just its nodes.
+pub fn trees_read_back()
+    ensures { TreesReadBack }
+{}
+
+/// The law that a text has one verdict over a network and two sources of tables.
+pub fn texts_have_one_verdict<T: TablePair>()
+    ensures { HaveOneVerdict T.old T.new }
+{}

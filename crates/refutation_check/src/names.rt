@@ -1,0 +1,134 @@
+ghost use Rattle.std.specs.Prelude.{◌≡◌, ◌≢◌, ℕ, List, ◌++◌, ◌∷◌, [], ◌↔◌, All, AllPairs, Contains, IfOk, IsTrue, MatchOption, OnOk};
+ghost use Rattle.std.specs.List.{AllZip};
+ghost use Rattle.net_addr.specs.Spans.{LiesIn};
+ghost use Rattle.net_model.specs.Lookups.{IsNamed};
+ghost use Rattle.net_model.specs.Refusals.{IsNetwork};
+ghost use Rattle.order_core.specs.Turns.{routers_of};
+ghost use Rattle.order_core.specs.declared.turn.Turn.{Turn};
+ghost use Rattle.refutation_check.specs.TreeLines.{IsSomeEntry, SaysTurn};
+ghost use Rattle.refutation_check.specs.steps.Names.{IsFurtherRouter, IsFurtherTurn, NameRouters, NamesNoFurtherRouter, SayTurns, SaysNoFurtherTurn};
+ghost use Rattle.refutation_check.specs.steps.Spans.{texts_of};
+
+use crate::shape::split_entry;
+use crate::spans::bytes_at;
+use net_addr::{OutOfMemory, Span};
+use net_model::Net;
+use order_core::{Turn, Turns};
+use order_search::Cycle;
+use std::alloc::Global;
+
+/// The turns that some entries say, none where a name is no router's or is there twice.
+pub fn turns_of(
+    alloc: Global,
+    net: &Net,
+    text: &[u8],
+    entries: &[Span],
+) -> Result<Option<Turns>, OutOfMemory>
+    requires network { IsNetwork net.now }
+    requires inside { All (LiesIn text.now) entries.now }
+    ensures { IfOk result (λ found. MatchOption found
+        ((turns : List Turn) → SayTurns net.now (texts_of text.now entries.now) turns → ⊥)
+        (SayTurns net.now (texts_of text.now entries.now))) }
+{
+    let mut turns = Vec::new(alloc);
+    for entry in entries {
+        match further_turn(net, bytes_at(text, *entry), turns.as_slice()) {
+            Some(turn) => add_turn(&mut turns, turn)?,
+            None => return Ok(None),
+        }
+    }
+    Ok(Some(Turns::from_vec(turns)))
+}
+
+/// The routers that some spans name, none where one is no router's name or is there twice.
+pub fn routers_named(
+    alloc: Global,
+    net: &Net,
+    text: &[u8],
+    names: &[Span],
+) -> Result<Option<Cycle>, OutOfMemory>
+    requires network { IsNetwork net.now }
+    requires inside { All (LiesIn text.now) names.now }
+    ensures { IfOk result (λ found. MatchOption found
+        ((routers : List ℕ) → NameRouters net.now (texts_of text.now names.now) routers → ⊥)
+        (NameRouters net.now (texts_of text.now names.now))) }
+{
+    let mut routers = Vec::new(alloc);
+    for name in names {
+        match further_router(net, bytes_at(text, *name), routers.as_slice()) {
+            Some(router) => add_router(&mut routers, router)?,
+            None => return Ok(None),
+        }
+    }
+    Ok(Some(Cycle::from_vec(routers)))
+}
+
+/// The turn that an entry says, where its router is in none of these turns.
+fn further_turn(net: &Net, entry: &[u8], turns: &[Turn]) -> Option<Turn>
+    requires { IsNetwork net.now }
+    ensures { MatchOption result (SaysNoFurtherTurn net.now entry.now turns.now) (IsFurtherTurn net.now entry.now turns.now) }
+{
+    let turn = turn_of(net, entry)?;
+    if has_turn(turns, turn.router) {
+        None
+    } else {
+        Some(turn)
+    }
+}
+
+/// The turn that an entry says.
+fn turn_of(net: &Net, entry: &[u8]) -> Option<Turn>
+    ensures { MatchOption result ((turn : Turn) → SaysTurn net.now entry.now turn → ⊥) (SaysTurn net.now entry.now) }
+{
+    let (name, tag) = split_entry(entry)?;
+    let router = net.number_of(name)?;
+    Some(Turn { router, tag })
+}
+
+/// Whether some turn is that of the router.
+fn has_turn(turns: &[Turn], router: u32) -> bool
+    ensures { IsTrue result ↔ Contains (routers_of turns.now) router }
+{
+    for turn in turns {
+        if turn.router == router {
+            return true;
+        }
+    }
+    false
+}
+
+/// Adds a turn to the end.
+fn add_turn(turns: &mut Vec<Turn>, turn: Turn) -> Result<(), OutOfMemory>
+    ensures { OnOk result (turns.new.items ≡ turns.old.items ++ turn ∷ []) }
+{
+    turns.push(turn)?;
+    Ok(())
+}
+
+/// The router of a name, where it isn't among these.
+fn further_router(net: &Net, name: &[u8], routers: &[u32]) -> Option<u32>
+    requires { IsNetwork net.now }
+    ensures { MatchOption result (NamesNoFurtherRouter net.now name.now routers.now) (IsFurtherRouter net.now name.now routers.now) }
+{
+    let router = net.number_of(name)?;
+    if has_router(routers, router) {
+        None
+    } else {
+        Some(router)
+    }
+}
+
+/// Whether the router is among some.
+pub fn has_router(routers: &[u32], router: u32) -> bool
+    ensures { IsTrue result ↔ Contains routers.now router }
+{
+    routers.contains(&router)
+}
+
+/// Adds a router to the end.
+fn add_router(routers: &mut Vec<u32>, router: u32) -> Result<(), OutOfMemory>
+    ensures { OnOk result (routers.new.items ≡ routers.old.items ++ router ∷ []) }
+{
+    routers.push(router)?;
+    Ok(())
+}

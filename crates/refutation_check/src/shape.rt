@@ -1,0 +1,148 @@
+ghost use Rattle.std.specs.Prelude.{◌≡◌, ◌≢◌, ℕ, List, ◌∷◌, [], ◌↔◌, All, codes, IfNone, IfSome, IsTrue, MatchOption};
+ghost use Rattle.net_addr.specs.Spans.{LiesIn};
+ghost use Rattle.order_core.specs.declared.turn.Tag.{Tag};
+ghost use Rattle.refutation_check.specs.TreeLines.{HasForm, IsBranchLine, IsEntry, IsLeafLine, IsSomeEntry, letter_of};
+ghost use Rattle.refutation_check.specs.steps.Shapes.{IsShape};
+ghost use Rattle.refutation_check.specs.steps.Spans.{AreFilled, texts_of};
+
+use crate::spans::bytes_at;
+use net_addr::{Span, read_addr};
+use order_core::Tag;
+
+/// What a line is by its words, before its names are looked up.
+#[derive(Clone, Copy, Debug)]
+pub enum Shape<'a> {
+    /// A branch.
+    Branch {
+        /// Its address.
+        address: u32,
+        /// Its entries, at least two.
+        entries: &'a [Span],
+    },
+    /// A leaf, with its names, at least two.
+    Leaf {
+        /// Its names, at least two.
+        names: &'a [Span],
+    },
+    /// An unvisited place.
+    Open,
+}
+
+/// The shape of the words of a line, none where they haven't the form of a node.
+pub fn shape_of<'a>(text: &[u8], words: &'a [Span]) -> Option<Shape<'a>>
+    requires inside { All (LiesIn text.now) words.now }
+    requires filled { AreFilled (texts_of text.now words.now) }
+    ensures { MatchOption result
+        (HasForm (texts_of text.now words.now) → ⊥)
+        (IsShape text.now (texts_of text.now words.now)) }
+{
+    let (first, others) = words.split_first()?;
+    let word = bytes_at(text, *first);
+    if is_text(word, b"branch") {
+        branch_shape(text, others)
+    } else if is_text(word, b"leaf") {
+        leaf_shape(text, others)
+    } else if is_text(word, b"open") {
+        open_shape(text, others)
+    } else {
+        None
+    }
+}
+
+/// Whether a word is this text.
+fn is_text(word: &[u8], text: &[u8]) -> bool
+    ensures { IsTrue result ↔ (word.now ≡ text.now) }
+{
+    word == text
+}
+
+/// The unvisited place, where no word stands behind the first one.
+fn open_shape<'a>(text: &[u8], others: &'a [Span]) -> Option<Shape<'a>>
+    ensures none { IfNone result (codes "open" ∷ texts_of text.now others.now ≡ codes "open" ∷ [] → ⊥) }
+    ensures some { IfSome result (IsShape text.now (codes "open" ∷ texts_of text.now others.now)) }
+{
+    let _ = text;
+    if others.is_empty() {
+        Some(Shape::Open)
+    } else {
+        None
+    }
+}
+
+/// The branch with these words behind its first one.
+fn branch_shape<'a>(text: &[u8], others: &'a [Span]) -> Option<Shape<'a>>
+    requires { All (LiesIn text.now) others.now }
+    ensures none { IfNone result ((a : ℕ) (entries : List (List ℕ)) → IsBranchLine (codes "branch" ∷ texts_of text.now others.now) a entries → All IsSomeEntry entries → ⊥) }
+    ensures some { IfSome result (IsShape text.now (codes "branch" ∷ texts_of text.now others.now)) }
+{
+    let (address, entries) = others.split_first()?;
+    let address = read_addr(bytes_at(text, *address))?;
+    if entries.len() < 2 || !are_entries(text, entries) {
+        return None;
+    }
+    Some(Shape::Branch { address, entries })
+}
+
+/// The leaf with these words behind its first one.
+fn leaf_shape<'a>(text: &[u8], others: &'a [Span]) -> Option<Shape<'a>>
+    requires inside { All (LiesIn text.now) others.now }
+    requires filled { AreFilled (texts_of text.now others.now) }
+    ensures none { IfNone result ((names : List (List ℕ)) → IsLeafLine (codes "leaf" ∷ texts_of text.now others.now) names → ⊥) }
+    ensures some { IfSome result (IsShape text.now (codes "leaf" ∷ texts_of text.now others.now)) }
+{
+    if others.len() < 2 {
+        return None;
+    }
+    Some(Shape::Leaf { names: others })
+}
+
+/// Whether each word is an entry of a branch.
+fn are_entries(text: &[u8], words: &[Span]) -> bool
+    requires { All (LiesIn text.now) words.now }
+    ensures { IsTrue result ↔ All IsSomeEntry (texts_of text.now words.now) }
+{
+    for word in words {
+        if !is_entry(bytes_at(text, *word)) {
+            return false;
+        }
+    }
+    true
+}
+
+/// Whether a word is an entry of a branch.
+fn is_entry(word: &[u8]) -> bool
+    ensures { IsTrue result ↔ IsSomeEntry word.now }
+{
+    match split_entry(word) {
+        Some(_) => true,
+        None => false,
+    }
+}
+
+/// The name and the tag of an entry, none where the word is no entry.
+pub fn split_entry(word: &[u8]) -> Option<(&[u8], Tag)>
+    ensures { MatchOption result (IsSomeEntry word.now → ⊥) (λ cut. IsEntry word.now cut.0.now cut.1) }
+{
+    match word {
+        [] | [_] | [_, _] => None,
+        [name @ .., colon, letter] => {
+            if *colon != b':' {
+                return None;
+            }
+            let tag = tag_of(*letter)?;
+            Some((name, tag))
+        }
+    }
+}
+
+/// The tag of a letter.
+fn tag_of(letter: u8) -> Option<Tag>
+    ensures { MatchOption result ((tag : Tag) → letter_of tag ≢ letter) (λ tag. letter_of tag ≡ letter) }
+{
+    match letter {
+        b'O' => Some(Tag::Old),
+        b'N' => Some(Tag::New),
+        b'B' => Some(Tag::Both),
+        _ => None,
+    }
+}
