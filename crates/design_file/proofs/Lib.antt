@@ -1,0 +1,10 @@
+pub mod FaultOrder
+pub mod FaultListLaws
+pub mod TableFaultLaws
+pub mod NetworkLookups
+pub mod NetworkFaultLaws
+pub mod SoundLaws
+pub mod AreaLaws
+pub mod FitLaws
+pub mod AnswerLaws
+pub mod NameOrder

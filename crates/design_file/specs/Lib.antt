@@ -1,0 +1,12 @@
+pub mod Keys
+pub mod Values
+pub mod Documents
+pub mod Faults
+pub mod Designs
+pub mod NetworkFaults
+pub mod Settling
+pub mod Answers
+pub mod Laws
+pub mod Parsing
+pub mod FaultLists
+pub mod NetworkFaultLists

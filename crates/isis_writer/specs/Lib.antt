@@ -1,0 +1,2 @@
+pub mod RouterLines
+pub mod Prepared

@@ -1,0 +1,70 @@
+-- Prepared texts: the lines of each router stand before its `end` line, and what stood behind the last one is left out.
+use Rattle.std.specs.Prelude.{ℕ, ◌+◌, ◌-◌, List, [], ◌∷◌, ◌++◌, Option, Some, None, bytes_eq, drop, if◌then◌else◌, length, slice_get, take, unwrap_or}
+use Rattle.net_addr.specs.Lines.{text_lines}
+use Rattle.net_addr.specs.declared.line.Line.{Line}
+use Rattle.net_model.specs.Network.{Network}
+use Rattle.printed_lines.specs.Texts.{text_of}
+use Rattle.ios_lines.specs.Words.{Word}
+use Rattle.ios_lines.specs.Lookups.{last_of}
+use Rattle.ios_sections.specs.TextLines.{Part, lines_in, parts_of}
+use Rattle.ios_sections.specs.Sections.{sections_in}
+use Rattle.ios_sections.specs.Processes.{as_hostname, interfaces_in}
+use Rattle.ios_sections.specs.declared.section.InterfaceSection.{InterfaceSection}
+use Rattle.ios_sections.specs.declared.section.Section.{Section}
+use Rattle.design_file.specs.declared.settled.SettledRouter.{SettledRouter}
+use Rattle.isis_writer.specs.RouterLines.{router_lines}
+
+-- ---- the places of lines ----
+
+-- where a line begins, and the end of the text where there is no such line
+abbrev pub begins_at : ℕ → Option Line → ℕ
+begins_at ends None = ends
+begins_at ends (Some line) = line.span.start
+
+-- where the line of this number begins
+abbrev pub start_of : List ℕ → ℕ → ℕ
+start_of text number = begins_at (length text) (slice_get (text_lines text) (number - 1))
+
+-- what stands between two places of a text
+abbrev pub between : List ℕ → ℕ → ℕ → List ℕ
+between text from to = take (to - from) (drop from text)
+
+-- ---- the lines of a configuration ----
+
+-- the number of the first router of this name, counted from this one
+abbrev pub numbered_from : ℕ → Word → Network → Option ℕ
+numbered_from u name [] = None
+numbered_from u name (config ∷ more) = if bytes_eq config.name name then Some u else numbered_from (u + 1) name more
+
+-- the lines of a router for which this is settled, and whose old interfaces are these
+abbrev pub settled_lines : List InterfaceSection → ℕ → Option SettledRouter → List (List ℕ)
+settled_lines old number None = []
+settled_lines old number (Some router) = router_lines old number router
+
+-- the lines of the router of this number
+abbrev pub numbered_lines : List InterfaceSection → List SettledRouter → Option ℕ → List (List ℕ)
+numbered_lines old settled None = []
+numbered_lines old settled (Some number) = settled_lines old number (slice_get settled number)
+
+-- the lines of the router whose configuration these sections make
+abbrev pub new_lines : Network → List SettledRouter → List Section → List (List ℕ)
+new_lines net settled sections =
+    numbered_lines (interfaces_in sections) settled (numbered_from 0 (unwrap_or (last_of as_hostname sections) []) net)
+
+-- ---- the text ----
+
+-- a part with its new lines: what stands before its `end` line, the new lines, and the `end` line
+abbrev pub prepared_part : List ℕ → Network → List SettledRouter → ℕ → Part → List ℕ
+prepared_part text net settled from part =
+    between text from (start_of text part.ends) ++ text_of (new_lines net settled (sections_in part))
+    ++ between text (start_of text part.ends) (start_of text (part.ends + 1))
+
+-- the parts with their new lines, from a place of the text on
+abbrev pub prepared_parts : List ℕ → Network → List SettledRouter → ℕ → List Part → List ℕ
+prepared_parts text net settled from [] = []
+prepared_parts text net settled from (part ∷ more) =
+    prepared_part text net settled from part ++ prepared_parts text net settled (start_of text (part.ends + 1)) more
+
+-- the prepared text
+abbrev pub prepared_text : List ℕ → Network → List SettledRouter → List ℕ
+prepared_text text net settled = prepared_parts text net settled 0 (parts_of (lines_in text))

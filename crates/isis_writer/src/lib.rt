@@ -1,0 +1,10 @@
+//! Prepared configurations: the IS-IS lines of a settled design, written into the texts of the configurations.
+//!
+//! `specs/RouterLines.antt` is the lines of one router, `specs/Prepared.antt` where they stand. `prepared_text` is the call.
+#![tactic(auto)]
+
+mod prepared;
+mod router_lines;
+
+pub use prepared::prepared_text;
+pub use std::alloc::AllocError as OutOfMemory;

@@ -1,0 +1,185 @@
+ghost use Rattle.std.specs.Prelude.{◌≡◌, ◌+◌, ◌<◌, ◌^◌, ◌++◌, [], IfOk, IfSome, OnOk, bytes_eq, length, unwrap_or};
+ghost use Rattle.net_addr.specs.Lines.{text_lines};
+ghost use Rattle.net_model.specs.Refusals.{IsNetwork};
+ghost use Rattle.printed_lines.specs.Texts.{text_of};
+ghost use Rattle.ios_sections.specs.Sections.{section_of};
+ghost use Rattle.ios_sections.specs.TextLines.{parts_after, sections_of};
+ghost use Rattle.std.specs.Prelude.{map};
+ghost use Rattle.isis_writer.specs.Prepared.{between, new_lines, numbered_from, numbered_lines, prepared_parts, prepared_text, start_of};
+
+use crate::OutOfMemory;
+use crate::router_lines::with_router;
+use design_file::Settled;
+use ios_sections::read_section::read_sections;
+use ios_sections::section::InterfaceSection;
+use ios_sections::statements::statements_of;
+use ios_sections::text::counted_lines;
+use ios_sections::text_line::TextLine;
+use net_addr::{Bytes, Line, Name, lines};
+use net_model::{Config, Net};
+use printed_lines::TextBuilder;
+use std::alloc::Global;
+
+/// A text of configurations with the IS-IS lines of a settled design, those of each router before its `end` line.
+///
+/// What stands behind the last `end` line is left out. The only error is want of memory.
+pub fn prepared_text(
+    alloc: Global,
+    text: &[u8],
+    net: &Net,
+    settled: &Settled,
+) -> Result<Bytes, OutOfMemory>
+    requires { length text.now < 2 ^ 26 }
+    ensures { IfOk result (λ prepared. prepared ≡ prepared_text text.now net.now settled.now) }
+{
+    let lines = lines(alloc, text)?;
+    let counted = counted_lines(alloc, text, lines.as_slice())?;
+    let parts = with_parts(
+        alloc,
+        text,
+        lines.as_slice(),
+        counted.as_slice(),
+        net,
+        settled,
+    )?;
+    Ok(Bytes::from_vec(parts))
+}
+
+/// The parts of a text, of which these lines count, with their new lines.
+fn with_parts(
+    alloc: Global,
+    text: &[u8],
+    lines: &[Line],
+    counted: &[TextLine],
+    net: &Net,
+    settled: &Settled,
+) -> Result<Vec<u8>, OutOfMemory>
+    requires { lines.now ≡ text_lines text.now }
+    ensures { IfOk result (λ all. all.items ≡ prepared_parts text.now net.now settled.now 0 (parts_after [] counted.now)) }
+{
+    let mut all = Vec::new(alloc);
+    let mut from = 0;
+    let mut start = 0;
+    for (i, line) in counted.iter().enumerate() {
+        if line.is_end() {
+            let new = new_text(alloc, net, settled, &counted[start..i])?;
+            from = add_part(
+                &mut all,
+                text,
+                lines,
+                from,
+                line.number() as usize,
+                new.as_slice(),
+            )?;
+            start = i + 1;
+        }
+    }
+    Ok(all)
+}
+
+/// Adds a part of a text from this place on, with new lines before its `end` line, and tells where the next one begins.
+fn add_part(
+    all: &mut Vec<u8>,
+    text: &[u8],
+    lines: &[Line],
+    from: usize,
+    ends: usize,
+    new: &[u8],
+) -> Result<usize, OutOfMemory>
+    requires exact { lines.now ≡ text_lines text.now }
+    requires small { ends < 2 ^ 32 }
+    ensures next { IfOk result (λ next. next ≡ start_of text.now (ends + 1)) }
+    ensures added { OnOk result (all.new.items ≡ all.old.items ++ (between text.now from (start_of text.now ends) ++ new.now ++ between text.now (start_of text.now ends) (start_of text.now (ends + 1)))) }
+{
+    let end = start_of(text, lines, ends);
+    let next = start_of(text, lines, ends + 1);
+    all.extend_from_slice(between(text, from, end))?;
+    all.extend_from_slice(new)?;
+    all.extend_from_slice(between(text, end, next))?;
+    Ok(next)
+}
+
+/// Where the line of this number begins, and the end of the text where there is none.
+fn start_of(text: &[u8], lines: &[Line], number: usize) -> usize
+    requires { lines.now ≡ text_lines text.now }
+    ensures { result ≡ start_of text.now number }
+{
+    match lines.get(number.saturating_sub(1)) {
+        Some(line) => line.span.start as usize,
+        None => text.len(),
+    }
+}
+
+/// What stands between two places of a text.
+fn between(text: &[u8], from: usize, to: usize) -> &[u8]
+    ensures { result.now ≡ between text.now from to }
+{
+    let to = to.min(text.len());
+    let from = from.min(to);
+    &text[from..to]
+}
+
+/// The new lines of the router whose configuration these lines make.
+fn new_text(
+    alloc: Global,
+    net: &Net,
+    settled: &Settled,
+    lines: &[TextLine],
+) -> Result<Bytes, OutOfMemory>
+    ensures { IfOk result (λ new. new ≡ text_of (new_lines net.now settled.now (map section_of (sections_of lines.now)))) }
+{
+    let statements = statements_of(alloc, read_sections(alloc, lines)?)?;
+    let number = number_of(net, &statements.name);
+    numbered_text(alloc, settled, statements.interfaces.as_slice(), number)
+}
+
+/// The new lines of the router of this number.
+fn numbered_text(
+    alloc: Global,
+    settled: &Settled,
+    old: &[InterfaceSection],
+    number: Option<u32>,
+) -> Result<Bytes, OutOfMemory>
+    requires { IfSome number (λ n. n < 1000) }
+    ensures { IfOk result (λ new. new ≡ text_of (numbered_lines old.now settled.now number)) }
+{
+    let text = TextBuilder::new(alloc);
+    let Some(number) = number else {
+        return Ok(text.finish());
+    };
+    match settled.as_slice().get(number as usize) {
+        Some(router) => Ok(with_router(alloc, text, old, number, router)?.finish()),
+        None => Ok(text.finish()),
+    }
+}
+
+/// The number of the router of this name, where there is one.
+fn number_of(net: &Net, name: &Option<Name>) -> Option<u32>
+    ensures number { result ≡ numbered_from 0 (unwrap_or name.now []) net.now }
+    ensures small { IfSome result (λ n. n < 1000) }
+{
+    match name {
+        Some(name) => numbered(net, name.as_slice()),
+        None => numbered(net, &[]),
+    }
+}
+
+/// The number of the first router of this name.
+fn numbered(net: &Net, name: &[u8]) -> Option<u32>
+    ensures number { result ≡ numbered_from 0 name.now net.now }
+    ensures small { IfSome result (λ n. n < 1000) }
+{
+    for router in 0..net.routers() {
+        if has_name(net.config(router), name) {
+            return Some(router);
+        }
+    }
+    None
+}
+
+/// Whether a configuration is of this name.
+fn has_name(config: &Config, name: &[u8]) -> bool
+    ensures { result ≡ bytes_eq config.now.name name.now }
+{
+    config.name.as_slice() == name
+}
