@@ -1,5 +1,6 @@
-ghost use Rattle.std.specs.Prelude.{◌≡◌, ◌≤◌, [], None, length, IfOk};
-ghost use Rattle.store_edge.specs.Files.{RealFilesState};
+ghost use Rattle.std.specs.Prelude.{◌≡◌, ◌≢◌, ◌≤◌, List, ℕ, Option, [], None, length, take, Err, IfOk, IfSome};
+ghost use Rattle.store_edge.specs.Faults.{Rose};
+ghost use Rattle.store_edge.specs.Files.{RealFilesState, asked_after, faults_after};
 
 use crate::files::{FileAnswer, Files};
 use crate::names::own_name;
@@ -46,7 +47,18 @@ impl<R: rt::Files + Drop> Files for RealFiles<R> {
 
     ghost asked = { λ files. files.asked };
 
-    fn read(&mut self, alloc: Global, name: &str, most: u64) -> Result<Bytes, FileAnswer> {
+    fn read(&mut self, alloc: Global, name: &str, most: u64) -> Result<Bytes, FileAnswer>
+        ensures told { IfOk result (λ bytes. IfSome None (λ text. bytes ≡ take most text)) }
+        ensures at_most { IfOk result (λ bytes. length bytes ≤ most) }
+        ensures contents_stay { (other : List ℕ) → let untold : Option (List ℕ) = None in untold ≡ untold }
+        ensures asked { self.new.asked ≡ asked_after result self.old.asked name.now }
+
+        ensures failed { result ≡ Err FileAnswer.Failed → Rose self.old.faults self.new.faults }
+        ensures unless_failed { result ≢ Err FileAnswer.Failed → self.new.faults ≡ self.old.faults }
+        ensures never_falls { self.old.faults ≤ self.new.faults }
+
+        ensures counts { self.new.faults ≡ faults_after result self.old.faults }
+    {
         let asked = own_name(alloc, name)?;
         let answer = read_file(&self.rt, alloc, name, most);
         if let Err(FileAnswer::OutOfMemory) = answer {
