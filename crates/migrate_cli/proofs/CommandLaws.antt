@@ -1,11 +1,17 @@
 -- What a command decides on has one verdict of it.
 use Rattle.std.proofs.Common.{◌≡◌, ◌∙◌, ◌∷◌, [], ℕ, List, sym, subst}
 use Rattle.net_model.specs.Refusals.{NamesAscend}
-use Rattle.migrate_words.specs.Requests.{Request, check}
+use Rattle.migrate_words.specs.Requests.{Request, check, refute, scripts, replay}
 use Rattle.migrate_cli.specs.CheckVerdict.{IsCheckVerdict}
+use Rattle.migrate_cli.specs.RefuteVerdict.{IsRefuteVerdict}
+use Rattle.migrate_cli.specs.ReplayVerdict.{IsReplayVerdict}
+use Rattle.migrate_cli.specs.ScriptsVerdict.{IsScriptsVerdict}
 use Rattle.migrate_cli.specs.CommandVerdicts.{Input, IsCommandVerdict}
 use Rattle.migrate_cli.specs.declared.status.Status.{Status}
 use Rattle.migrate_cli.proofs.CheckLaws.{check_no_fault, one_check_verdict}
+use Rattle.migrate_cli.proofs.RefuteLaws.{one_refute_verdict, refute_no_fault}
+use Rattle.migrate_cli.proofs.ReplayLaws.{one_replay_verdict, replay_no_fault}
+use Rattle.migrate_cli.proofs.ScriptsLaws.{one_scripts_verdict, scripts_no_fault}
 use Rattle.migrate_cli.proofs.SameAnswers.{AreSame, NoFault}
 
 pub one_command_verdict : (request : Request) (input : Input) {s z : Status} {t w : List ℕ} → NamesAscend input.net → IsCommandVerdict request input s t
@@ -14,9 +20,27 @@ one_command_verdict (check file _) input {z = z} {w = w} ascending one other =
     let lists : one.0 ∷ [] ≡ other.0 ∷ [] = sym one.1 ∙ other.1 in
     let same : one.0 ≡ other.0 = cc lists in
     one_check_verdict file one.0 input.net ascending one.2 (subst (λ text. IsCheckVerdict file text input.net z w) (sym same) other.2)
+one_command_verdict (refute _ _) input {z = z} {w = w} ascending one other =
+    let lists : one.0 ∷ [] ≡ other.0 ∷ [] = sym one.1 ∙ other.1 in
+    let same : one.0 ≡ other.0 = cc lists in
+    one_refute_verdict one.0 input.net one.2 (subst (λ text. IsRefuteVerdict text input.net z w) (sym same) other.2)
+one_command_verdict (scripts file _) input {z = z} {w = w} ascending one other =
+    let lists : one.0 ∷ [] ≡ other.0 ∷ [] = sym one.1 ∙ other.1 in
+    let same : one.0 ≡ other.0 = cc lists in
+    one_scripts_verdict file one.0 input.net ascending one.2 (subst (λ text. IsScriptsVerdict file text input.net z w) (sym same) other.2)
+one_command_verdict (replay file _ _) input {z = z} {w = w} ascending one other =
+    let lists : one.0 ∷ one.1 ∷ [] ≡ other.0 ∷ other.1 ∷ [] = sym one.2 ∙ other.2 in
+    let order : one.0 ≡ other.0 = cc lists in
+    let journal : one.1 ≡ other.1 = cc lists in
+    one_replay_verdict file one.0 one.1 input.net ascending one.3
+    (subst (λ text. IsReplayVerdict file text one.1 input.net z w) (sym order)
+    (subst (λ text. IsReplayVerdict file other.0 text input.net z w) (sym journal) other.3))
 one_command_verdict _ input ascending one other = absurd one
 
 -- and it is no fault of reading or of writing
 pub command_no_fault : (request : Request) (input : Input) (status : Status) (text : List ℕ) → IsCommandVerdict request input status text → NoFault status
 command_no_fault (check _ _) input status text verdict = check_no_fault verdict.2
+command_no_fault (refute _ _) input status text verdict = refute_no_fault verdict.2
+command_no_fault (scripts _ _) input status text verdict = scripts_no_fault verdict.2
+command_no_fault (replay _ _ _) input status text verdict = replay_no_fault verdict.3
 command_no_fault _ input status text verdict = absurd verdict

@@ -5,16 +5,27 @@ use Rattle.net_model.proofs.RefusalLaws.{IsNetworkOf-unique, MakeNetwork-refused
 use Rattle.net_model.specs.Network.{Network}
 use Rattle.net_model.specs.Refusals.{MakeNetwork, NamesAscend}
 use Rattle.migrate_words.proofs.OneRequest.{one_request}
-use Rattle.migrate_words.specs.Requests.{check}
-use Rattle.step_scripts.specs.Orders.{NamesOrder}
+use Rattle.migrate_words.specs.Requests.{Request, check, refute, scripts, replay}
+use Rattle.step_scripts.specs.WaveFiles.{NamesWaves}
+use Rattle.step_scripts.specs.declared.version.Version.{Version}
+use Rattle.step_scripts.proofs.WaveFileLaws.{no_fault}
 use Rattle.migrate_cli.specs.Answers.{IsAnswer}
 use Rattle.migrate_cli.specs.Calls.{Call}
-use Rattle.migrate_cli.specs.CheckVerdict.{IsCheckVerdict, IsOrderVerdict}
-use Rattle.migrate_cli.specs.CheckVerdict.IsCheckVerdict.{faulty_order, of_order}
+use Rattle.migrate_cli.specs.CheckVerdict.{IsCheckVerdict, IsOrderVerdict, IsWavesVerdict}
+use Rattle.migrate_cli.specs.CheckVerdict.IsCheckVerdict.{no_router, faulty_order, of_order, of_waves}
 use Rattle.migrate_cli.specs.CheckVerdict.IsOrderVerdict.{safe, unsafe}
-use Rattle.migrate_cli.specs.CommandFiles.{config_texts, files_of, own_texts}
-use Rattle.migrate_cli.specs.Completeness.{AcceptsCheck, Decides}
+use Rattle.migrate_cli.specs.CheckVerdict.IsWavesVerdict.{safe_waves, unsafe_wave}
+use Rattle.migrate_cli.specs.CommandFiles.{NeedsStart, config_texts, files_of, own_texts}
+use Rattle.migrate_cli.specs.CommandVerdicts.{Input, IsCommandVerdict}
+use Rattle.migrate_cli.specs.RefuteVerdict.{IsRefuteVerdict}
+use Rattle.migrate_cli.specs.ReplayVerdict.{IsJournalVerdict, IsReplayVerdict}
+use Rattle.migrate_cli.specs.ReplayVerdict.IsJournalVerdict.{reached, departs}
+use Rattle.migrate_cli.specs.ReplayVerdict.IsReplayVerdict.{no_router as none_replayed, faulty_waves as faulty_replay, of_waves as replay_of}
+use Rattle.migrate_cli.specs.ScriptsVerdict.{IsScriptsVerdict}
+use Rattle.migrate_cli.specs.ScriptsVerdict.IsScriptsVerdict.{no_router as none_scripted, faulty_waves as faulty_scripts, of_waves as script_of}
+use Rattle.migrate_cli.specs.Completeness.{AcceptsCheck, AcceptsRefute, AcceptsReplay, AcceptsScripts, Decides, DecidesTree, IsAccepted, Writes}
 use Rattle.migrate_cli.specs.Completeness.Decides.{yes, no}
+use Rattle.migrate_cli.specs.Completeness.Writes.{written}
 use Rattle.migrate_cli.specs.Configurations.{GiveNetwork, IsAtStart}
 use Rattle.migrate_cli.specs.Verdicts.{IsVerdict}
 use Rattle.migrate_cli.specs.Verdicts.IsVerdict.{faulty_configuration, no_network, off_start, of_command}
@@ -23,7 +34,7 @@ use Rattle.migrate_cli.specs.declared.status.Status.TheVariants.{ReadFault}
 use Rattle.migrate_cli.proofs.CallLaws.{OfFiles, OfWords, few_or_many, refused_or_asks, steps_of, stop_or_all}
 use Rattle.migrate_cli.proofs.CallLaws.OfFiles.{above, stopped, all_read}
 use Rattle.migrate_cli.proofs.CallLaws.OfWords.{refused, asks}
-use Rattle.migrate_cli.proofs.OrderFileLaws.{no_faulty_line}
+use Rattle.migrate_cli.proofs.RefuteLaws.{tree_decides}
 use Rattle.migrate_cli.proofs.StopLaws.{one_list, told_files, told_with, IsToldOf}
 use Rattle.migrate_cli.proofs.TextLaws.{one_reading, none_refused}
 use Rattle.migrate_cli.proofs.VerdictLaws.{no_memory}
@@ -33,12 +44,19 @@ order_decides : {net : Network} {old new : Tables} {order text : List ℕ} {stat
 order_decides (safe _) = yes
 order_decides (unsafe _ _ _ _) = no
 
--- an order file that names an order has no other verdict
-check_of_order : {file text answer order : List ℕ} {net : Network} {status : Status} → NamesAscend net → NamesOrder net text order
+-- and so is a wave list
+waves_decide : {net : Network} {old new : Tables} {ranks text : List ℕ} {status : Status} → IsWavesVerdict net old new ranks status text → Decides status
+waves_decide (safe_waves _) = yes
+waves_decide (unsafe_wave _ _ _ _) = no
+
+-- an order file that names a wave list has no other verdict
+check_of_waves : {file text answer : List ℕ} {version : Version} {ranks : List ℕ} {net : Network} {status : Status} → NamesAscend net → NamesWaves net text version ranks
     → IsCheckVerdict file text net status answer → Decides status
-check_of_order {text = text} {order = order} {net = net} ascending names (faulty_order n k least) =
-    absurd (no_faulty_line net ascending text order n k names least.faulty)
-check_of_order ascending names (of_order _ _ _ _ verdict) = order_decides verdict
+check_of_waves ascending names (no_router _) = yes
+check_of_waves {text = text} {version = version} {ranks = ranks} {net = net} ascending names (faulty_order n k _ least) =
+    absurd (no_fault net text version ranks n k ascending names least.faulty)
+check_of_waves ascending names (of_order _ _ _ _ _ verdict) = order_decides verdict
+check_of_waves ascending names (of_waves _ _ _ _ _ verdict) = waves_decide verdict
 
 -- texts give one network
 one_network : (texts : List (List ℕ)) (net other : Network) → GiveNetwork texts net → GiveNetwork texts other → net ≡ other
@@ -47,45 +65,94 @@ one_network texts net other a b =
     let make : MakeNetwork b.configs net = subst (λ some. MakeNetwork some net) same a.make in
     IsNetworkOf-unique b.configs net other make.network b.make.network
 
--- nothing of the texts of `check` is refused
-verdict_decides : (file : List ℕ) (configs own texts : List (List ℕ)) (text order : List ℕ) (net : Network) {status : Status} {answer : List ℕ} → own ≡ text ∷ []
-    → GiveNetwork texts net → IsAtStart net → NamesOrder net text order → IsVerdict (check file configs) own texts status answer → Decides status
-verdict_decides file configs own texts text order net own_is gives start names (faulty_configuration _ _ _ first) =
-    absurd (none_refused first gives.configs gives.read)
-verdict_decides file configs own texts text order net own_is gives start names (no_network all refusal status read refuses given) =
+-- nothing of some texts is refused before a command's own verdict
+judged_alone : (request : Request) (own texts : List (List ℕ)) (net : Network) {status : Status} {answer : List ℕ} → GiveNetwork texts net → (NeedsStart request → IsAtStart net)
+    → IsVerdict request own texts status answer → IsCommandVerdict request (record { own = own; configs = texts; net = net }) status answer
+judged_alone request own texts net gives start (faulty_configuration _ _ _ first) = absurd (none_refused first gives.configs gives.read)
+judged_alone request own texts net gives start (no_network all refusal status read refuses given) =
     let same = one_reading texts gives.configs all gives.read read in
     let make : MakeNetwork all net = subst (λ some. MakeNetwork some net) same gives.make in
     absurd (no_memory refusal status given (MakeNetwork-refused all net refusal make refuses))
-verdict_decides file configs own texts text order net own_is gives start names (off_start other router _ given _ lowest _) =
-    let at_start : IsAtStart other = subst IsAtStart (one_network texts net other gives given) start in
+judged_alone request own texts net gives start (off_start other router _ given needs lowest _) =
+    let at_start : IsAtStart other = subst IsAtStart (one_network texts net other gives given) (start needs) in
     absurd (at_start router lowest.holds)
-verdict_decides file configs own texts text order net own_is gives start names (of_command other status answer given _ verdict) =
-    let same = one_network texts net other gives given in
-    let lists : text ∷ [] ≡ verdict.0 ∷ [] = sym own_is ∙ verdict.1 in
-    let order_text : text ≡ verdict.0 = cc lists in
-    check_of_order given.make.network.ascending (subst (λ t. NamesOrder other t order) order_text (subst (λ n. NamesOrder n text order) same names)) verdict.2
+judged_alone request own texts net gives start (of_command other status answer given _ verdict) =
+    subst (λ n. IsCommandVerdict request (record { own = own; configs = texts; net = n }) status answer) (one_network texts other net given gives) verdict
 
-module _ (call : Call) (accepts : AcceptsCheck call) where
-  files_decide : {asked : List (List ℕ)} {status : Status} {answer : List ℕ} → OfFiles call.content (check accepts.file accepts.configs) asked status answer → Decides status
-  files_decide (above many) = absurd (few_or_many call.content (check accepts.file accepts.configs) many accepts.accepted.asked.few)
-  files_decide (stopped before file texts text _ _ stop _) =
-      let request = check accepts.file accepts.configs in
-      let tell = told_files call.content (files_of request) accepts.accepted.told in
-      absurd (stop_or_all call.content request before file texts text accepts.texts
-      (told_with call.content before file stop.after (subst (All (IsToldOf call.content)) stop.files_are tell)) stop accepts.accepted.read accepts.accepted.within)
-  files_decide {status = status} {answer = answer} (all_read texts _ read _ verdict) =
-      let request = check accepts.file accepts.configs in
-      let same = one_list call.content (files_of request) texts accepts.texts (told_files call.content (files_of request) accepts.accepted.told) read accepts.accepted.read in
-      verdict_decides accepts.file accepts.configs (own_texts request accepts.texts) (config_texts request accepts.texts) accepts.text accepts.order accepts.net accepts.text_is
-      accepts.accepted.gives (accepts.accepted.start tt) accepts.names
-      (subst (λ some. IsVerdict request (own_texts request some) (config_texts request some) status answer) same verdict)
+module _ (call : Call) (request : Request) (texts : List (List ℕ)) (net : Network) (accepted : IsAccepted call request texts net) where
+  abbrev pub input : Input
+  input = record { own = own_texts request texts; configs = config_texts request texts; net = net }
 
-  words_decide : {asked : List (List ℕ)} {status : Status} {answer : List ℕ} → OfWords call asked status answer → Decides status
-  words_decide (refused text are) = absurd (refused_or_asks call.words text (check accepts.file accepts.configs) are accepts.accepted.asked.asked)
-  words_decide {asked} {status} {answer} (asks request ask files) =
-      let same = one_request call.words request (check accepts.file accepts.configs) ask.asks accepts.accepted.asked.asked.asks in
-      files_decide (subst (λ some. OfFiles call.content some asked status answer) same files)
+  files_judged : {asked : List (List ℕ)} {status : Status} {answer : List ℕ} → OfFiles call.content request asked status answer → IsCommandVerdict request input status answer
+  files_judged (above many) = absurd (few_or_many call.content request many accepted.asked.few)
+  files_judged (stopped before file read text _ _ stop _) =
+      let tell = told_files call.content (files_of request) accepted.told in
+      absurd (stop_or_all call.content request before file read text texts
+      (told_with call.content before file stop.after (subst (All (IsToldOf call.content)) stop.files_are tell)) stop accepted.read accepted.within)
+  files_judged {status = status} {answer = answer} (all_read some _ read _ verdict) =
+      let same = one_list call.content (files_of request) some texts (told_files call.content (files_of request) accepted.told) read accepted.read in
+      judged_alone request (own_texts request texts) (config_texts request texts) net accepted.gives accepted.start
+      (subst (λ list. IsVerdict request (own_texts request list) (config_texts request list) status answer) same verdict)
 
-  -- an answer decides that is no fault of reading
-  pub check_decides : (asked : List (List ℕ)) (status : Status) (answer : List ℕ) → status ≢ ReadFault → IsAnswer call asked status answer → Decides status
-  check_decides asked status answer no_fault one = words_decide (steps_of no_fault one)
+  words_judged : {asked : List (List ℕ)} {status : Status} {answer : List ℕ} → OfWords call asked status answer → IsCommandVerdict request input status answer
+  words_judged (refused text are) = absurd (refused_or_asks call.words text request are accepted.asked.asked)
+  words_judged {asked} {status} {answer} (asks some ask files) =
+      let same = one_request call.words some request ask.asks accepted.asked.asked.asks in
+      files_judged (subst (λ other. OfFiles call.content other asked status answer) same files)
+
+  -- an answer that is no fault of reading is the command's own verdict
+  pub accepted_verdict : (asked : List (List ℕ)) (status : Status) (answer : List ℕ) → status ≢ ReadFault → IsAnswer call asked status answer → IsCommandVerdict request input status answer
+  accepted_verdict asked status answer no_fault one = words_judged (steps_of no_fault one)
+
+-- the network of some texts has ascending names
+names_ascend : {texts : List (List ℕ)} {net : Network} → GiveNetwork texts net → NamesAscend net
+names_ascend gives = gives.make.network.ascending
+
+pub check_decides : (call : Call) → AcceptsCheck call → (asked : List (List ℕ)) (status : Status) (answer : List ℕ) → status ≢ ReadFault → IsAnswer call asked status answer → Decides status
+check_decides call it asked status answer no_fault one =
+    let verdict = accepted_verdict call (check it.file it.configs) it.texts it.net it.accepted asked status answer no_fault one in
+    let lists : it.text ∷ [] ≡ verdict.0 ∷ [] = sym it.text_is ∙ verdict.1 in
+    let same : it.text ≡ verdict.0 = cc lists in
+    check_of_waves (names_ascend it.accepted.gives) (subst (λ t. NamesWaves it.net t it.version it.ranks) same it.names) verdict.2
+
+-- a wave list has a script
+scripts_of_waves : {file text : List ℕ} {net : Network} {status : Status} {answer : List ℕ} {version : Version} {ranks : List ℕ} → NamesAscend net → NamesWaves net text version ranks
+    → IsScriptsVerdict file text net status answer → Writes status
+scripts_of_waves ascending names (none_scripted _) = written
+scripts_of_waves {text = text} {net = net} {version = version} {ranks = ranks} ascending names (faulty_scripts n k _ least) =
+    absurd (no_fault net text version ranks n k ascending names least.faulty)
+scripts_of_waves ascending names (script_of _ _ _ _) = written
+
+pub scripts_write : (call : Call) → AcceptsScripts call → (asked : List (List ℕ)) (status : Status) (answer : List ℕ) → status ≢ ReadFault → IsAnswer call asked status answer → Writes status
+scripts_write call it asked status answer no_fault one =
+    let verdict = accepted_verdict call (scripts it.file it.configs) it.texts it.net it.accepted asked status answer no_fault one in
+    let lists : it.text ∷ [] ≡ verdict.0 ∷ [] = sym it.text_is ∙ verdict.1 in
+    let same : it.text ≡ verdict.0 = cc lists in
+    scripts_of_waves (names_ascend it.accepted.gives) (subst (λ t. NamesWaves it.net t it.version it.ranks) same it.names) verdict.2
+
+-- a journal of a wave list begins a run, or it doesn't
+journal_decides : {net : Network} {ranks journal text : List ℕ} {status : Status} → IsJournalVerdict net ranks journal status text → Decides status
+journal_decides (reached _ _ _ _ _) = yes
+journal_decides (departs _ _ _) = no
+
+replay_of_waves : {file text journal : List ℕ} {net : Network} {status : Status} {answer : List ℕ} {version : Version} {ranks : List ℕ} → NamesAscend net → NamesWaves net text version ranks
+    → IsReplayVerdict file text journal net status answer → Decides status
+replay_of_waves ascending names (none_replayed _) = yes
+replay_of_waves {text = text} {net = net} {version = version} {ranks = ranks} ascending names (faulty_replay n k _ least) =
+    absurd (no_fault net text version ranks n k ascending names least.faulty)
+replay_of_waves ascending names (replay_of _ _ _ _ _ _ verdict) = journal_decides verdict
+
+pub replay_decides : (call : Call) → AcceptsReplay call → (asked : List (List ℕ)) (status : Status) (answer : List ℕ) → status ≢ ReadFault → IsAnswer call asked status answer → Decides status
+replay_decides call it asked status answer no_fault one =
+    let verdict = accepted_verdict call (replay it.file it.journal_file it.configs) it.texts it.net it.accepted asked status answer no_fault one in
+    let lists : it.text ∷ it.journal ∷ [] ≡ verdict.0 ∷ verdict.1 ∷ [] = sym it.texts_are ∙ verdict.2 in
+    let same : it.text ≡ verdict.0 = cc lists in
+    replay_of_waves (names_ascend it.accepted.gives) (subst (λ t. NamesWaves it.net t it.version it.ranks) same it.names) verdict.3
+
+pub refute_decides : (call : Call) → (it : AcceptsRefute call) → (asked : List (List ℕ)) (status : Status) (answer : List ℕ) → status ≢ ReadFault
+    → IsAnswer call asked status answer → DecidesTree it.net it.tree status
+refute_decides call it asked status answer no_fault one =
+    let verdict = accepted_verdict call (refute it.file it.configs) it.texts it.net it.accepted asked status answer no_fault one in
+    let lists : it.tree ∷ [] ≡ verdict.0 ∷ [] = sym it.tree_is ∙ verdict.1 in
+    let same : it.tree ≡ verdict.0 = cc lists in
+    tree_decides it.tree it.net (subst (λ t. IsRefuteVerdict t it.net status answer) (sym same) verdict.2)

@@ -2,6 +2,7 @@
 use Rattle.std.proofs.Common.{◌≡◌, ℕ, zero, suc, ◌<◌, List, [], ◌∷◌, length, All, Some, arith, sym, ◌∙◌, subst}
 use Rattle.net_model.specs.Network.{Network}
 use Rattle.igp_theory.specs.Loops.{IsTagOf, IsTag, EachToNext, AroundRing, IsFault, missing_step, loop_arises}
+use Rattle.igp_theory.specs.WaveFaults.{IsFaultOver, missing_in_one, loop_over_all}
 use Rattle.igp_theory.specs.Forwarding.{Steps}
 use Rattle.igp_theory.specs.Routes.{Tables}
 use Rattle.igp_theory.specs.declared.phase.Phase.TheVariants as phase
@@ -57,5 +58,22 @@ pub names_routers : (net : Network) (old new : Tables) (state : State) (fault : 
 names_routers net old new state (Loop a) before turns fault kept none = record { named = tt; turned = loop_within net old new state a turns fault }
 names_routers net old new state (Missing a u) before turns fault kept none = record {
   named = missing_within net old new state a u turns fault;
+  turned = subst (All (λ (turn : Turn). turn.router < length net)) (sym (kept ∙ none)) (λ k d within. absurd (omega arith));
+}
+
+-- the same of the fault of a set of states, as that of a wave
+pub loop_within_over : (net : Network) (old new : Tables) (states : State → Type 0) (a : ℕ) (turns : List Turn) → IsFaultOver net old new states (told_fault (Loop a) turns)
+    → All (λ (turn : Turn). turn.router < length net) turns
+loop_within_over net old new states a turns (loop_over_all _ _ _ tags) = around_within net old new a turns tags
+
+pub missing_within_over : (net : Network) (old new : Tables) (states : State → Type 0) (a u : ℕ) (turns : List Turn)
+    → IsFaultOver net old new states (told_fault (Missing a u) turns) → u < length net
+missing_within_over net old new states a u turns (missing_in_one _ lacks _) = lacks.must.router
+
+pub names_routers_over : (net : Network) (old new : Tables) (states : State → Type 0) (fault : Fault) (before turns : List Turn)
+    → IsFaultOver net old new states (told_fault fault turns) → KeepsRing (Some fault) before turns → before ≡ [] → NamesRouters (length net) fault turns
+names_routers_over net old new states (Loop a) before turns fault kept none = record { named = tt; turned = loop_within_over net old new states a turns fault }
+names_routers_over net old new states (Missing a u) before turns fault kept none = record {
+  named = missing_within_over net old new states a u turns fault;
   turned = subst (All (λ (turn : Turn). turn.router < length net)) (sym (kept ∙ none)) (λ k d within. absurd (omega arith));
 }

@@ -6,8 +6,11 @@ mod ConfigurationFacts
 mod SameAnswers
 mod FaultFacts
 mod OrderFacts
-mod OrderFileLaws
 mod CheckLaws
+mod NextFacts
+mod RefuteLaws
+mod ReplayLaws
+mod ScriptsLaws
 mod CommandLaws
 mod AnswerFacts
 mod TextLaws

@@ -1,11 +1,13 @@
--- Verdicts on an order, over tables with the same entries.
+-- Verdicts on an order and on a wave list, over tables with the same entries.
 use Rattle.std.proofs.Common.{◌≡◌, ℕ, List, subst}
 use Rattle.net_model.specs.Network.{Network}
 use Rattle.igp_theory.specs.Laws.{HaveSameTables}
 use Rattle.igp_theory.specs.Routes.{Tables}
 use Rattle.igp_theory.proofs.SameTables.{seamless_over, first_fault_over}
-use Rattle.migrate_cli.specs.CheckVerdict.{IsOrderVerdict}
+use Rattle.igp_theory.proofs.WaveFaultLaws.{seamless_waves_over, waves_fault_over}
+use Rattle.migrate_cli.specs.CheckVerdict.{IsOrderVerdict, IsWavesVerdict}
 use Rattle.migrate_cli.specs.CheckVerdict.IsOrderVerdict.{safe, unsafe}
+use Rattle.migrate_cli.specs.CheckVerdict.IsWavesVerdict.{safe_waves, unsafe_wave}
 use Rattle.migrate_cli.specs.declared.status.Status.{Status}
 
 -- what holds of three things holds of what equals them
@@ -24,3 +26,10 @@ pub verdict_over : {net : Network} {old new old' new' : Tables} {order : List �
     → IsOrderVerdict net old new order status text → IsOrderVerdict net old' new' order status text
 verdict_over same (safe seamless) = safe (seamless_over same seamless)
 verdict_over same (unsafe state fault broken first) = unsafe state fault (λ seamless. broken (seamless_over (same_tables_back same) seamless)) (first_fault_over same first)
+
+-- and a wave list too
+pub waves_verdict_over : {net : Network} {old new old' new' : Tables} {ranks : List ℕ} {status : Status} {text : List ℕ} → HaveSameTables net old new old' new'
+    → IsWavesVerdict net old new ranks status text → IsWavesVerdict net old' new' ranks status text
+waves_verdict_over same (safe_waves seamless) = safe_waves (seamless_waves_over same seamless)
+waves_verdict_over same (unsafe_wave wave fault broken first) =
+    unsafe_wave wave fault (λ seamless. broken (seamless_waves_over (same_tables_back same) seamless)) (waves_fault_over same first)

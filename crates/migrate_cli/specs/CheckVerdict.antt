@@ -1,15 +1,20 @@
 -- What `check` answers to an order file and a network that is at its start.
-use Rattle.std.specs.Prelude.{ℕ, ◌*◌, List, length}
+use Rattle.std.specs.Prelude.{◌≡◌, ℕ, ◌+◌, ◌*◌, ◌<◌, List, length}
 use Rattle.net_model.specs.Network.{Network}
 use Rattle.igp_theory.specs.Isis.{IsisEntry}
 use Rattle.igp_theory.specs.Loops.{Fault, IsFirstFault}
 use Rattle.igp_theory.specs.Ospf.{OspfEntry}
 use Rattle.igp_theory.specs.Routes.{Tables}
 use Rattle.igp_theory.specs.States.{IsSeamless}
-use Rattle.step_scripts.specs.Orders.{NamesOrder, IsLeastFaultyLine}
+use Rattle.igp_theory.specs.WaveFaults.{IsWavesFault}
+use Rattle.igp_theory.specs.Waves.{AreSeamlessWaves}
+use Rattle.order_core.specs.Rankings.{flat_of, wave_count}
+use Rattle.step_scripts.specs.FaultyLines.{IsLeastFaultyLine}
+use Rattle.step_scripts.specs.WaveFiles.{NamesWaves}
+use Rattle.step_scripts.specs.declared.version.Version.TheVariants.{One, Two}
 use Rattle.step_scripts.specs.declared.kind.OrderKind.{OrderKind}
 use Rattle.migration_report.specs.Kinds.{order_kind_name}
-use Rattle.migration_report.specs.Texts.{faulty_text, safe_text, unsafe_text}
+use Rattle.migration_report.specs.Texts.{faulty_text, safe_text, unsafe_text, waves_safe_text, waves_unsafe_text}
 use Rattle.net_model.specs.RouterNames.{names_of}
 use Rattle.migrate_cli.specs.declared.status.Status.{Status}
 use Rattle.migrate_cli.specs.declared.status.Status.TheVariants.{Done, Negative, Refused}
@@ -22,9 +27,21 @@ pub data IsOrderVerdict (net : Network) (old new : Tables) (order : List ℕ) : 
   unsafe : (state : ℕ) (fault : Fault) → (IsSeamless net old new order → ⊥) → IsFirstFault net old new order state fault →
       IsOrderVerdict net old new order Negative (unsafe_text (names_of net) state fault)
 
--- the order file has a faulty line, or names an order of the routers
+-- what is answered of a wave list, by the tables of the two protocols: it is safe where in every state after every prefix
+-- of every interleaving of the changes within each wave each packet for an address with a target reaches an originator
+-- from every router, along every equal-cost choice; else its first wave with an unsound state is told, from 1
+pub data IsWavesVerdict (net : Network) (old new : Tables) (ranks : List ℕ) : Status → List ℕ → Type 0 where
+  safe_waves : AreSeamlessWaves net old new ranks → IsWavesVerdict net old new ranks Done (waves_safe_text (2 * length net) (wave_count ranks))
+  unsafe_wave : (wave : ℕ) (fault : Fault) → (AreSeamlessWaves net old new ranks → ⊥) → IsWavesFault net old new ranks wave fault →
+      IsWavesVerdict net old new ranks Negative (waves_unsafe_text (names_of net) (wave + 1) fault)
+
+-- the order file has a faulty line; or it is of version 1, and its routers are switched one after the other; or it is of
+-- version 2, and they are switched wave by wave. In a network without routers there is nothing to switch
 pub data IsCheckVerdict (file text : List ℕ) (net : Network) : Status → List ℕ → Type 0 where
-  faulty_order : (number : ℕ) (kind : OrderKind) → IsLeastFaultyLine net text number kind →
+  no_router : length net ≡ 0 → IsCheckVerdict file text net Done (safe_text 0)
+  faulty_order : (number : ℕ) (kind : OrderKind) → 0 < length net → IsLeastFaultyLine net text number kind →
       IsCheckVerdict file text net Refused (faulty_text file number (order_kind_name kind))
-  of_order : (order : List ℕ) (status : Status) (answer : List ℕ) → NamesOrder net text order →
-      IsOrderVerdict net (OspfEntry net) (IsisEntry net) order status answer → IsCheckVerdict file text net status answer
+  of_order : (ranks : List ℕ) (status : Status) (answer : List ℕ) → 0 < length net → NamesWaves net text One ranks →
+      IsOrderVerdict net (OspfEntry net) (IsisEntry net) (flat_of ranks) status answer → IsCheckVerdict file text net status answer
+  of_waves : (ranks : List ℕ) (status : Status) (answer : List ℕ) → 0 < length net → NamesWaves net text Two ranks →
+      IsWavesVerdict net (OspfEntry net) (IsisEntry net) ranks status answer → IsCheckVerdict file text net status answer

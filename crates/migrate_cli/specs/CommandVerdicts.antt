@@ -1,8 +1,11 @@
 -- The verdict of each command, in a file of its own.
 use Rattle.std.specs.Prelude.{◌≡◌, ℕ, List, [], ◌∷◌}
 use Rattle.net_model.specs.Network.{Network}
-use Rattle.migrate_words.specs.Requests.{Request, check}
+use Rattle.migrate_words.specs.Requests.{Request, check, refute, scripts, replay}
 use Rattle.migrate_cli.specs.CheckVerdict.{IsCheckVerdict}
+use Rattle.migrate_cli.specs.RefuteVerdict.{IsRefuteVerdict}
+use Rattle.migrate_cli.specs.ReplayVerdict.{IsReplayVerdict}
+use Rattle.migrate_cli.specs.ScriptsVerdict.{IsScriptsVerdict}
 use Rattle.migrate_cli.specs.declared.status.Status.{Status}
 
 -- what a command decides on: the texts of its own files, those of the configurations, and the network that these make
@@ -14,4 +17,8 @@ pub record Input : Type 0 where
 -- the status and the text that answer a command
 abbrev pub IsCommandVerdict : Request → Input → Status → List ℕ → Type 0
 IsCommandVerdict (check file _) input status text = (order : List ℕ) × (input.own ≡ order ∷ []) × IsCheckVerdict file order input.net status text
+IsCommandVerdict (refute _ _) input status text = (tree : List ℕ) × (input.own ≡ tree ∷ []) × IsRefuteVerdict tree input.net status text
+IsCommandVerdict (scripts file _) input status text = (order : List ℕ) × (input.own ≡ order ∷ []) × IsScriptsVerdict file order input.net status text
+IsCommandVerdict (replay file _ _) input status text =
+    (order : List ℕ) × (journal : List ℕ) × (input.own ≡ order ∷ journal ∷ []) × IsReplayVerdict file order journal input.net status text
 IsCommandVerdict _ input status text = ⊥

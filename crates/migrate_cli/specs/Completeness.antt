@@ -1,8 +1,12 @@
 -- Where nothing of the input is refused, a command answers.
 use Rattle.std.specs.Prelude.{◌≡◌, ℕ, List, [], ◌∷◌, All}
+use Rattle.igp_theory.specs.Isis.{IsisEntry}
+use Rattle.igp_theory.specs.Ospf.{OspfEntry}
 use Rattle.net_model.specs.Network.{Network}
-use Rattle.migrate_words.specs.Requests.{Request, check}
-use Rattle.step_scripts.specs.Orders.{NamesOrder}
+use Rattle.migrate_words.specs.Requests.{Request, check, refute, scripts, replay}
+use Rattle.refutation_check.specs.Verdicts.{HasNoneSeamless, IsClosedText}
+use Rattle.step_scripts.specs.WaveFiles.{NamesWaves}
+use Rattle.step_scripts.specs.declared.version.Version.{Version}
 use Rattle.store_edge.specs.Faults.{Rose}
 use Rattle.migrate_cli.specs.AnswerLaws.{IsTold}
 use Rattle.migrate_cli.specs.Answers.{AsksForFew}
@@ -28,7 +32,7 @@ pub record NoFaultRose (before after : Outside) : Type 0 where
   pub files : Rose before.file_faults after.file_faults → ⊥
   pub sink : Rose before.sink_faults after.sink_faults → ⊥
 
--- `check` of these files, whose order file names an order of the routers
+-- `check` of these files, whose order file names a wave list of the routers, in either version
 pub record AcceptsCheck (call : Call) : Type 0 where
   pub file : List ℕ
   pub configs : List (List ℕ)
@@ -37,8 +41,47 @@ pub record AcceptsCheck (call : Call) : Type 0 where
   pub accepted : IsAccepted call (check file configs) texts net
   pub text : List ℕ
   pub text_is : own_texts (check file configs) texts ≡ text ∷ []
-  pub order : List ℕ
-  pub names : NamesOrder net text order
+  pub version : Version
+  pub ranks : List ℕ
+  pub names : NamesWaves net text version ranks
+
+-- `scripts` of these files, whose order file names a wave list of the routers, in either version
+pub record AcceptsScripts (call : Call) : Type 0 where
+  pub file : List ℕ
+  pub configs : List (List ℕ)
+  pub texts : List (List ℕ)
+  pub net : Network
+  pub accepted : IsAccepted call (scripts file configs) texts net
+  pub text : List ℕ
+  pub text_is : own_texts (scripts file configs) texts ≡ text ∷ []
+  pub version : Version
+  pub ranks : List ℕ
+  pub names : NamesWaves net text version ranks
+
+-- `replay` of these files, whose order file names a wave list of the routers, in either version
+pub record AcceptsReplay (call : Call) : Type 0 where
+  pub file : List ℕ
+  pub journal_file : List ℕ
+  pub configs : List (List ℕ)
+  pub texts : List (List ℕ)
+  pub net : Network
+  pub accepted : IsAccepted call (replay file journal_file configs) texts net
+  pub text : List ℕ
+  pub journal : List ℕ
+  pub texts_are : own_texts (replay file journal_file configs) texts ≡ text ∷ journal ∷ []
+  pub version : Version
+  pub ranks : List ℕ
+  pub names : NamesWaves net text version ranks
+
+-- `refute` of these files
+pub record AcceptsRefute (call : Call) : Type 0 where
+  pub file : List ℕ
+  pub configs : List (List ℕ)
+  pub texts : List (List ℕ)
+  pub net : Network
+  pub accepted : IsAccepted call (refute file configs) texts net
+  pub tree : List ℕ
+  pub tree_is : own_texts (refute file configs) texts ≡ tree ∷ []
 
 -- a command that decides ends with yes, with no, or for want of memory
 pub data Decides : Status → Type 0 where
@@ -46,6 +89,31 @@ pub data Decides : Status → Type 0 where
   no : Decides Negative
   memory : Decides Memory
 
+-- a command that writes ends with what it was asked for, or for want of memory
+pub data Writes : Status → Type 0 where
+  written : Writes Done
+  unwritten : Writes Memory
+
+-- a command that decides on a tree ends with yes where the tree is closed, and then no wave list and no order of the network
+-- is seamless; with no where the text is no closed tree; or for want of memory
+pub data DecidesTree (net : Network) (tree : List ℕ) : Status → Type 0 where
+  closed_tree : (branches leaves : ℕ) → IsClosedText net (OspfEntry net) (IsisEntry net) tree branches leaves →
+      HasNoneSeamless net (OspfEntry net) (IsisEntry net) → DecidesTree net tree Done
+  no_closed_tree : ((branches leaves : ℕ) → ¬ IsClosedText net (OspfEntry net) (IsisEntry net) tree branches leaves) → DecidesTree net tree Negative
+  no_memory : DecidesTree net tree Memory
+
 -- where nothing of the input of `check` is refused and no fault rises, it decides
 abbrev pub CheckDecides : Call → Outside → Outside → Status → Type 0
 CheckDecides call before after result = AcceptsCheck call → NoFaultRose before after → Decides result
+
+-- and so does `replay`
+abbrev pub ReplayDecides : Call → Outside → Outside → Status → Type 0
+ReplayDecides call before after result = AcceptsReplay call → NoFaultRose before after → Decides result
+
+-- `refute` decides on its tree
+abbrev pub RefuteDecides : Call → Outside → Outside → Status → Type 0
+RefuteDecides call before after result = (accepts : AcceptsRefute call) → NoFaultRose before after → DecidesTree accepts.net accepts.tree result
+
+-- and `scripts` writes
+abbrev pub ScriptsWrites : Call → Outside → Outside → Status → Type 0
+ScriptsWrites call before after result = AcceptsScripts call → NoFaultRose before after → Writes result

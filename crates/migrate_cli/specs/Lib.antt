@@ -9,6 +9,9 @@ pub mod Configurations
 pub mod Unread
 pub mod RefusalStatus
 pub mod CheckVerdict
+pub mod RefuteVerdict
+pub mod ReplayVerdict
+pub mod ScriptsVerdict
 pub mod CommandVerdicts
 pub mod Verdicts
 pub mod Answers

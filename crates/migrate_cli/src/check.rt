@@ -6,11 +6,11 @@ ghost use Rattle.igp_theory.specs.Routes.{Tables};
 ghost use Rattle.order_core.specs.Orders.{IsOrder};
 ghost use Rattle.igp_theory.specs.States.{State};
 ghost use Rattle.loop_finder.specs.Faults.{told_fault};
-ghost use Rattle.migration_report.specs.Texts.{safe_text, unsafe_text};
+ghost use Rattle.migration_report.specs.Texts.{safe_text, unsafe_text, waves_safe_text, waves_unsafe_text};
 ghost use Rattle.net_model.specs.RouterNames.{names_of};
 ghost use Rattle.route_core.specs.Tables.{HasEntry};
 ghost use Rattle.migrate_cli.specs.Faults.{NamesRouters};
-ghost use Rattle.migrate_cli.specs.CheckVerdict.{IsCheckVerdict, IsOrderVerdict};
+ghost use Rattle.migrate_cli.specs.CheckVerdict.{IsCheckVerdict, IsOrderVerdict, IsWavesVerdict};
 
 use crate::answer::{Answer, refuse};
 use crate::files::FILE_MOST;
@@ -20,12 +20,12 @@ use loop_finder::{Fault, Finder};
 use migration_report::{Refusal, Report, report_text};
 use net_addr::Bytes;
 use net_model::Net;
-use order_core::Turn;
+use order_core::{Turn, Waves};
 use ospf_routes::OspfRoutes;
 use rib_mix::Mixed;
 use route_core::RouteSource;
 use std::alloc::{AllocError, Global};
-use step_scripts::{OrderRefusal, read_order};
+use step_scripts::{OrderRefusal, Version, read_waves};
 
 /// The answer to the text of an order file and a network.
 pub fn judge_check(
@@ -37,15 +37,21 @@ pub fn judge_check(
     requires { length text.now ≤ FILE_MOST }
     ensures { IfOk result (λ answer. IsCheckVerdict file.now text.now net.now answer.status answer.text) }
 {
-    let order = match read_order(alloc, net, text.as_slice()) {
-        Ok(order) => order,
+    if net.routers() == 0 {
+        return safe(alloc, net);
+    }
+    let read = match read_waves(alloc, net, text.as_slice()) {
+        Ok(read) => read,
         Err(OrderRefusal::OutOfMemory) => return Err(AllocError),
         Err(OrderRefusal::Bad { line, kind }) => {
             let refusal = Refusal::Order { file, line, kind };
             return refuse(alloc, Status::Refused, &refusal);
         }
     };
-    judge_order(alloc, net, order.as_slice())
+    match read.version {
+        Version::One => judge_order(alloc, net, read.waves.flat()),
+        Version::Two => judge_waves(alloc, net, &read.waves),
+    }
 }
 
 /// The answer to an order of the routers of a network, by the routes of OSPF and of IS-IS.
@@ -105,6 +111,70 @@ fn unsafe_in(
     ensures text { IfOk result (λ answer. answer.text ≡ unsafe_text (names_of net.now) state (told_fault fault ring.now)) }
 {
     let report = Report::Unsafe { state, fault, ring };
+    let text = report_text(alloc, net, &report)?;
+    Ok(Answer {
+        status: Status::Negative,
+        text,
+    })
+}
+
+/// The answer to a wave list of the routers of a network, by the routes of OSPF and of IS-IS.
+fn judge_waves(alloc: Global, net: &Net, waves: &Waves) -> Result<Answer, OutOfMemory>
+    requires { length waves.now ≡ length net.now }
+    ensures { IfOk result (λ answer. IsWavesVerdict net.now (OspfEntry net.now) (IsisEntry net.now) waves.now answer.status answer.text) }
+{
+    let old = OspfRoutes::build(alloc, net)?;
+    let new = IsisRoutes::build(alloc, net)?;
+    judge_waves_between(alloc, net, &old, &new, waves)
+}
+
+/// The answer to a wave list, by the tables of two sources.
+fn judge_waves_between<O: RouteSource, N: RouteSource>(
+    alloc: Global,
+    net: &Net,
+    old: &O,
+    new: &N,
+    waves: &Waves,
+) -> Result<Answer, OutOfMemory>
+    requires old_routers { O.routers old.now ≡ length net.now }
+    requires new_routers { N.routers new.now ≡ length net.now }
+    requires ranks { length waves.now ≡ length net.now }
+    ensures { IfOk result (λ answer. IsWavesVerdict net.now (HasEntry (O.table old.now)) (HasEntry (N.table new.now)) waves.now answer.status answer.text) }
+{
+    let mixed = Mixed::build(alloc, net, old, new)?;
+    let mut finder = Finder::new(alloc, &mixed)?;
+    match finder.waves_fault(waves.ranks()) {
+        None => safe_waves(alloc, net, waves.count()),
+        Some((wave, fault)) => unsafe_wave(alloc, net, wave, fault, finder.ring()),
+    }
+}
+
+/// The answer that a wave list of the routers is safe.
+fn safe_waves(alloc: Global, net: &Net, waves: u32) -> Result<Answer, OutOfMemory>
+    ensures status { IfOk result (λ answer. answer.status ≡ Status.Done) }
+    ensures text { IfOk result (λ answer. answer.text ≡ waves_safe_text (2 * length net.now) waves) }
+{
+    let changes = 2 * net.routers();
+    let text = report_text(alloc, net, &Report::WavesSafe { changes, waves })?;
+    Ok(Answer {
+        status: Status::Done,
+        text,
+    })
+}
+
+/// The answer that a wave, the first with an unsound state, has a fault.
+fn unsafe_wave(
+    alloc: Global,
+    net: &Net,
+    wave: u32,
+    fault: Fault,
+    ring: &[Turn],
+) -> Result<Answer, OutOfMemory>
+    requires { NamesRouters (length net.now) fault ring.now }
+    ensures status { IfOk result (λ answer. answer.status ≡ Status.Negative) }
+    ensures text { IfOk result (λ answer. answer.text ≡ waves_unsafe_text (names_of net.now) wave (told_fault fault ring.now)) }
+{
+    let report = Report::WavesUnsafe { wave, fault, ring };
     let text = report_text(alloc, net, &report)?;
     Ok(Answer {
         status: Status::Negative,

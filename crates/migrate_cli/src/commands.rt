@@ -7,6 +7,9 @@ ghost use Rattle.migrate_cli.specs.Reading.{AreShort};
 use crate::OutOfMemory;
 use crate::answer::Answer;
 use crate::check::judge_check;
+use crate::refute::judge_refute;
+use crate::replay::judge_replay;
+use crate::scripts::judge_scripts;
 use migrate_words::Command;
 use net_addr::Bytes;
 use net_model::Net;
@@ -17,7 +20,10 @@ pub fn has_landed(command: &Command<'_>) -> bool
     ensures { IsTrue result ↔ HasLanded (request_of command.now) }
 {
     match command {
-        Command::Check { .. } => true,
+        Command::Check { .. }
+        | Command::Refute { .. }
+        | Command::Scripts { .. }
+        | Command::Replay { .. } => true,
         _ => false,
     }
 }
@@ -42,6 +48,9 @@ pub fn judge_command(
 {
     match command {
         Command::Check { order, .. } => judge_check(alloc, order, &own[0], net),
+        Command::Refute { .. } => judge_refute(alloc, &own[0], net),
+        Command::Scripts { order, .. } => judge_scripts(alloc, order, &own[0], net),
+        Command::Replay { order, .. } => judge_replay(alloc, order, &own[0], &own[1], net),
         _ => unreachable!(),
     }
 }

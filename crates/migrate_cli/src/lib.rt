@@ -12,7 +12,10 @@ mod files;
 mod judging;
 mod laws;
 mod reading;
+mod refute;
+mod replay;
 mod run_call;
+mod scripts;
 mod sending;
 mod status;
 

@@ -6,7 +6,7 @@ ghost use Rattle.migration_report.specs.Texts.{words_refused_text};
 ghost use Rattle.migrate_cli.specs.AnswerLaws.{EndsByAnswer};
 ghost use Rattle.migrate_cli.specs.Answers.{Answers, FaultsAgree, HasAnswer, RefusalAnswer, StopAnswer};
 ghost use Rattle.migrate_cli.specs.Calls.{Call, Outside};
-ghost use Rattle.migrate_cli.specs.Completeness.{CheckDecides};
+ghost use Rattle.migrate_cli.specs.Completeness.{CheckDecides, RefuteDecides, ReplayDecides, ScriptsWrites};
 
 use crate::answer::{Answer, refuse};
 use crate::commands::has_landed;
@@ -38,6 +38,18 @@ pub fn run<F: Files, S: Sink>(alloc: Global, words: &[String], files: &mut F, ou
         let before : Outside = record { asked = F.asked files.old; file_faults = F.faults files.old; written = S.written out.old; sink_faults = S.faults out.old } in
         let after : Outside = record { asked = F.asked files.new; file_faults = F.faults files.new; written = S.written out.new; sink_faults = S.faults out.new } in
         CheckDecides call before after result }
+    ensures refute_decides { let call : Call = record { words = map string_bytes words.now; content = F.content files.old } in
+        let before : Outside = record { asked = F.asked files.old; file_faults = F.faults files.old; written = S.written out.old; sink_faults = S.faults out.old } in
+        let after : Outside = record { asked = F.asked files.new; file_faults = F.faults files.new; written = S.written out.new; sink_faults = S.faults out.new } in
+        RefuteDecides call before after result }
+    ensures replay_decides { let call : Call = record { words = map string_bytes words.now; content = F.content files.old } in
+        let before : Outside = record { asked = F.asked files.old; file_faults = F.faults files.old; written = S.written out.old; sink_faults = S.faults out.old } in
+        let after : Outside = record { asked = F.asked files.new; file_faults = F.faults files.new; written = S.written out.new; sink_faults = S.faults out.new } in
+        ReplayDecides call before after result }
+    ensures scripts_write { let call : Call = record { words = map string_bytes words.now; content = F.content files.old } in
+        let before : Outside = record { asked = F.asked files.old; file_faults = F.faults files.old; written = S.written out.old; sink_faults = S.faults out.old } in
+        let after : Outside = record { asked = F.asked files.new; file_faults = F.faults files.new; written = S.written out.new; sink_faults = S.faults out.new } in
+        ScriptsWrites call before after result }
     ensures read_fault { result ≡ Status.ReadFault → Rose (F.faults files.old) (F.faults files.new) }
     ensures write_fault { result ≡ Status.WriteFault → Rose (S.faults out.old) (S.faults out.new) }
     ensures unless_write_fault { result ≢ Status.WriteFault → S.faults out.new ≡ S.faults out.old }

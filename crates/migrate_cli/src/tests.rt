@@ -69,15 +69,16 @@ struct Outcome {
 /// An order file and configuration files, by their names.
 type FilesOf<'a> = &'a [(&'a str, &'a [u8])];
 
-/// Runs `check` on these files, of which one read fails, and none where its number is 0, while so many pieces are taken.
-fn run_check(
+/// Runs a command on these files, of which one read fails, and none where its number is 0, while so many pieces are taken.
+fn run_command(
     alloc: Global,
+    command: &str,
     files: FilesOf<'_>,
     failing: u64,
     pieces: u64,
 ) -> Result<Outcome, AllocError> {
     let mut words = Vec::new(alloc);
-    words.push(String::from_str(alloc, "check")?)?;
+    words.push(String::from_str(alloc, command)?)?;
     let mut all = Vec::new(alloc);
     for (name, bytes) in files {
         words.push(String::from_str(alloc, name)?)?;
@@ -120,7 +121,7 @@ fn faults_of_files_and_of_the_sink_are_answers(rt: HostRuntime) -> Result<(), Fa
         (0, 0, Status::WriteFault, ""),
         (2, 0, Status::WriteFault, ""),
     ] {
-        let outcome = run_check(rt.alloc(), &TWO_ROUTERS, failing, pieces)?;
+        let outcome = run_command(rt.alloc(), "check", &TWO_ROUTERS, failing, pieces)?;
         assert_eq!(rt; outcome.status, status);
         assert_eq!(rt; outcome.out.all.as_slice(), text.as_bytes());
     }
@@ -129,7 +130,7 @@ fn faults_of_files_and_of_the_sink_are_answers(rt: HostRuntime) -> Result<(), Fa
 
 #[test]
 fn each_file_is_read_up_to_one_byte_more_than_it_may_have(rt: HostRuntime) -> Result<(), Fail> {
-    let outcome = run_check(rt.alloc(), &TWO_ROUTERS, 0, 1)?;
+    let outcome = run_command(rt.alloc(), "check", &TWO_ROUTERS, 0, 1)?;
     assert_eq!(rt; outcome.most.as_slice(), [16_777_217; 3].as_slice());
     Ok(())
 }
@@ -140,13 +141,49 @@ fn a_long_text_is_written_in_pieces(rt: HostRuntime) -> Result<(), Fail> {
     let name = "o".repeat(alloc, 5000)?;
     let text = format!(in alloc; "read fault {name}\n")?;
     let files = [(name.as_str(), "".as_bytes()), TWO_ROUTERS[1]];
-    let whole = run_check(alloc, &files, 1, 2)?;
+    let whole = run_command(alloc, "check", &files, 1, 2)?;
     assert_eq!(rt; whole.status, Status::ReadFault);
     assert_eq!(rt; whole.out.lengths.as_slice(), [4096, 916].as_slice());
     assert_eq!(rt; whole.out.all.as_slice(), text.as_bytes());
-    let cut = run_check(alloc, &files, 1, 1)?;
+    let cut = run_command(alloc, "check", &files, 1, 1)?;
     assert_eq!(rt; cut.status, Status::WriteFault);
     assert_eq!(rt; cut.out.lengths.as_slice(), [4096].as_slice());
     assert!(rt; text.as_bytes().starts_with(cut.out.all.as_slice()));
+    Ok(())
+}
+
+/// The configurations of 60 routers with both processes.
+fn sixty_routers(alloc: Global) -> Result<String, AllocError> {
+    let mut text = String::new(alloc);
+    for i in 1..61 {
+        let router = format!(in alloc;
+            "hostname S{i:02}\nrouter ospf 1\nrouter isis\n net 49.0001.0000.0000.00{i:02}.00\n metric-style wide\n distance 255\nend\n"
+        )?;
+        text.push_str(router.as_str())?;
+    }
+    Ok(text)
+}
+
+/// The order of 60 routers by their names.
+fn sixty_in_order(alloc: Global) -> Result<String, AllocError> {
+    let mut text = String::from_str(alloc, "order 1\n")?;
+    for i in 1..61 {
+        let line = format!(in alloc; "S{i:02}\n")?;
+        text.push_str(line.as_str())?;
+    }
+    Ok(text)
+}
+
+#[test]
+fn a_script_is_cut_where_its_second_write_fails(rt: HostRuntime) -> Result<(), Fail> {
+    let alloc = rt.alloc();
+    let (order, routers) = (sixty_in_order(alloc)?, sixty_routers(alloc)?);
+    let files = [("o.txt", order.as_bytes()), ("all.cfg", routers.as_bytes())];
+    let whole = run_command(alloc, "scripts", &files, 0, 2)?;
+    assert_eq!(rt; whole.status, Status::Done);
+    assert_eq!(rt; whole.out.lengths.as_slice(), [4096, 236].as_slice());
+    let cut = run_command(alloc, "scripts", &files, 0, 1)?;
+    assert_eq!(rt; cut.status, Status::WriteFault);
+    assert_eq!(rt; cut.out.lengths.as_slice(), [4096].as_slice());
     Ok(())
 }

@@ -16,6 +16,11 @@ pub fn made(alloc: Global, name: &str) -> Result<Option<Vec<u8>>> {
         "made/4097-ranges.cfg" => ranges(alloc, 4097)?,
         "made/ring-of-20.cfg" => ring(alloc, 20)?,
         "made/halves-of-20.txt" => halves(alloc, 20)?,
+        "made/ring-of-60.cfg" => ring(alloc, 60)?,
+        "made/ascending-60.txt" => ascending(alloc, 60)?,
+        "made/20000-branches-and-open.txt" => branches(alloc, 20_000, "open\n")?,
+        "made/20000-branches-and-leaf.txt" => branches(alloc, 20_000, "leaf R1 R2\n")?,
+        "made/20000-branches.txt" => branches(alloc, 20_000, "")?,
         _ => return Ok(None),
     };
     Ok(Some(text.into_bytes()))
@@ -89,5 +94,26 @@ fn halves(alloc: Global, count: u32) -> Result<String>
         let line = format!(in alloc; "S{router:02}\n")?;
         text.push_str(line.as_str())?;
     }
+    Ok(text)
+}
+
+/// The order of the routers of a ring by their names, of at most 99.
+fn ascending(alloc: Global, count: u32) -> Result<String>
+    requires { count < 100 }
+{
+    let mut text = String::from_str(alloc, "order 1\n")?;
+    for i in 1..count + 1 {
+        let line = format!(in alloc; "S{i:02}\n")?;
+        text.push_str(line.as_str())?;
+    }
+    Ok(text)
+}
+
+/// A tree of so many branches of the triangle, each below the one before it, and then these lines.
+fn branches(alloc: Global, count: usize, last: &str) -> Result<String> {
+    let mut text = String::from_str(alloc, "tree 1\n")?;
+    let all = "branch 10.0.0.3 R1:O R2:N\n".repeat(alloc, count)?;
+    text.push_str(all.as_str())?;
+    text.push_str(last)?;
     Ok(text)
 }

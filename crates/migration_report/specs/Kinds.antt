@@ -4,8 +4,10 @@ use Rattle.ios_lines.specs.declared.kind.ReadKind.{ReadKind}
 use Rattle.ios_lines.specs.declared.kind.ReadKind.TheVariants.{NoHostname, NoEnd, BadAddress, BadMask, BadCost, BadArea, SecondProcess, Unsupported, LoopbackMask, BadNet, BadLevel, BadMetric, BadDistance, DistanceClash, NoBandwidth}
 use Rattle.net_model.specs.declared.refusal.LimitWhat.{LimitWhat}
 use Rattle.net_model.specs.declared.refusal.LimitWhat.TheVariants.{Routers, Interfaces, Dests}
+use Rattle.refutation_check.specs.declared.verdict.WrongKind.{WrongKind}
+use Rattle.refutation_check.specs.declared.verdict.WrongKind.TheVariants.{Form, Router, Address, Originator, Step, OneSided, NotAssumed}
 use Rattle.step_scripts.specs.declared.kind.OrderKind.{OrderKind}
-use Rattle.step_scripts.specs.declared.kind.OrderKind.TheVariants.{Header, NotInNetwork, Twice, Missing}
+use Rattle.step_scripts.specs.declared.kind.OrderKind.TheVariants.{Header, NotInNetwork, Twice, Missing, Wave, Chain}
 
 -- why a line of a configuration is faulty
 abbrev pub read_kind_name : ReadKind → List ℕ
@@ -31,6 +33,18 @@ order_kind_name Header = codes "Header"
 order_kind_name NotInNetwork = codes "NotInNetwork"
 order_kind_name Twice = codes "Twice"
 order_kind_name Missing = codes "Missing"
+order_kind_name Wave = codes "Wave"
+order_kind_name Chain = codes "Chain"
+
+-- why a line of a tree file is wrong
+abbrev pub wrong_kind_name : WrongKind → List ℕ
+wrong_kind_name Form = codes "Form"
+wrong_kind_name Router = codes "Router"
+wrong_kind_name Address = codes "Address"
+wrong_kind_name Originator = codes "Originator"
+wrong_kind_name Step = codes "Step"
+wrong_kind_name OneSided = codes "OneSided"
+wrong_kind_name NotAssumed = codes "NotAssumed"
 
 -- what a network has too many of
 abbrev pub limit_name : LimitWhat → List ℕ

@@ -13,7 +13,7 @@ use Rattle.printed_lines.specs.Texts.{line}
 use Rattle.migration_report.specs.Words.{name_of}
 use Rattle.migration_report.specs.Kinds.{read_kind_name, order_kind_name, limit_name}
 use Rattle.migration_report.specs.declared.report.Report.{Report}
-use Rattle.migration_report.specs.declared.report.Report.TheVariants.{Safe, Unsafe}
+use Rattle.migration_report.specs.declared.report.Report.TheVariants.{Safe, Unsafe, WavesSafe, WavesUnsafe}
 use Rattle.migration_report.specs.declared.refusal.Refusal.{Refusal}
 use Rattle.migration_report.specs.declared.refusal.Refusal.TheVariants.{Words, Read, Config, Order, Network, OffStart, Files, Length, Total}
 
@@ -34,10 +34,20 @@ safe_text changes = line (codes "safe") (decimal changes ∷ [])
 abbrev pub unsafe_text : List (List ℕ) → ℕ → WholeFault → List ℕ
 unsafe_text names state fault = line (codes "unsafe") (decimal state ∷ fault_words names fault)
 
--- what was found of an order, by the names of the routers
+-- a wave list is safe: the count of its changes, and how many waves it has
+abbrev pub waves_safe_text : ℕ → ℕ → List ℕ
+waves_safe_text changes waves = line (codes "safe") (decimal changes ∷ codes "waves" ∷ decimal waves ∷ [])
+
+-- a wave list isn't safe: the number of its first wave with an unsound state, from 1, and what is wrong there
+abbrev pub waves_unsafe_text : List (List ℕ) → ℕ → WholeFault → List ℕ
+waves_unsafe_text names wave fault = line (codes "unsafe") (codes "wave" ∷ decimal wave ∷ fault_words names fault)
+
+-- what was found of an order or of a wave list, by the names of the routers
 abbrev pub report_text : List (List ℕ) → Report → List ℕ
 report_text names (Safe changes) = safe_text changes
 report_text names (Unsafe state fault ring) = unsafe_text names state (told_fault fault ring.now)
+report_text names (WavesSafe changes waves) = waves_safe_text changes waves
+report_text names (WavesUnsafe wave fault ring) = waves_unsafe_text names wave (told_fault fault ring.now)
 
 -- a line of a file is faulty
 abbrev pub faulty_text : List ℕ → ℕ → List ℕ → List ℕ
@@ -101,6 +111,8 @@ FaultBelow count (Missing _ u) = u < count
 abbrev pub ReportBelow : ℕ → Report → Type 0
 ReportBelow count (Safe _) = Unit {0}
 ReportBelow count (Unsafe _ fault ring) = FaultBelow count fault × All (λ (turn : Turn). turn.router < count) ring.now
+ReportBelow count (WavesSafe _ _) = Unit {0}
+ReportBelow count (WavesUnsafe _ fault ring) = FaultBelow count fault × All (λ (turn : Turn). turn.router < count) ring.now
 
 -- a refusal that is printed isn't want of memory
 abbrev pub IsPrinted : Refusal → Type 0

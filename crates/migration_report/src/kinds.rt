@@ -1,8 +1,9 @@
 ghost use Rattle.std.specs.Prelude.{◌≡◌};
-ghost use Rattle.migration_report.specs.Kinds.{limit_name, order_kind_name, read_kind_name};
+ghost use Rattle.migration_report.specs.Kinds.{limit_name, order_kind_name, read_kind_name, wrong_kind_name};
 
 use ios_lines::ReadKind;
 use net_model::LimitWhat;
+use refutation_check::WrongKind;
 use step_scripts::OrderKind;
 
 /// The name of a kind of faulty line of a configuration.
@@ -37,6 +38,23 @@ pub fn order_kind_name(kind: OrderKind) -> &'static [u8]
         OrderKind::NotInNetwork => b"NotInNetwork",
         OrderKind::Twice => b"Twice",
         OrderKind::Missing => b"Missing",
+        OrderKind::Wave => b"Wave",
+        OrderKind::Chain => b"Chain",
+    }
+}
+
+/// The name of a kind of wrong line of a tree file.
+pub fn wrong_kind_name(kind: WrongKind) -> &'static [u8]
+    ensures { result.now ≡ wrong_kind_name kind }
+{
+    match kind {
+        WrongKind::Form => b"Form",
+        WrongKind::Router => b"Router",
+        WrongKind::Address => b"Address",
+        WrongKind::Originator => b"Originator",
+        WrongKind::Step => b"Step",
+        WrongKind::OneSided => b"OneSided",
+        WrongKind::NotAssumed => b"NotAssumed",
     }
 }
 

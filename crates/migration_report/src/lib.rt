@@ -1,14 +1,19 @@
-//! The texts that the planner prints: what it found of an order, and why it refused its input.
+//! The texts that the planner prints: what it found of an order, where a journal stands, what is found of a tree, and
+//! why it refused its input.
 #![tactic(auto)]
 
+mod journal;
 mod kinds;
 mod network;
 mod refusal;
 mod report;
+mod tree;
 
+pub use journal::{departs_text, reached_text};
 pub use refusal::{Refusal, refusal_text};
 pub use report::{Report, report_text};
 pub use std::alloc::AllocError as OutOfMemory;
+pub use tree::verdict_text;
 
 #[cfg(test)]
 mod tests;

@@ -12,7 +12,7 @@ use order_core::Turn;
 use printed_lines::LineBuilder;
 use std::alloc::{AllocError, Global};
 
-/// What the planner found of an order.
+/// What the planner found of an order or of a wave list.
 #[derive(Clone, Copy, Debug)]
 pub enum Report<'a> {
     /// All states of the order are sound.
@@ -29,9 +29,25 @@ pub enum Report<'a> {
         /// The ring of a loop.
         ring: &'a [Turn],
     },
+    /// All states of the wave list are sound.
+    WavesSafe {
+        /// The count of its changes.
+        changes: u32,
+        /// How many waves it has.
+        waves: u32,
+    },
+    /// A state of the wave list is unsound.
+    WavesUnsafe {
+        /// The number of the first wave with such a state, from 1.
+        wave: u32,
+        /// What is wrong in its states.
+        fault: Fault,
+        /// The ring of a loop.
+        ring: &'a [Turn],
+    },
 }
 
-/// The line that tells what was found of an order. The only error is want of memory.
+/// The line that tells what was found of an order or of a wave list. The only error is want of memory.
 pub fn report_text(alloc: Global, net: &Net, report: &Report<'_>) -> Result<Bytes, AllocError>
     requires { ReportBelow (length net.now) report.now }
     ensures { IfOk result (λ text. text ≡ report_text (names_of net.now) report.now) }
@@ -44,6 +60,15 @@ pub fn report_text(alloc: Global, net: &Net, report: &Report<'_>) -> Result<Byte
         Report::Unsafe { state, fault, ring } => {
             let line = LineBuilder::start(alloc, b"unsafe")?;
             let line = line.number(u64::from(*state))?;
+            fault_words(line, net, *fault, ring)?.finish()
+        }
+        Report::WavesSafe { changes, waves } => {
+            let line = LineBuilder::start(alloc, b"safe")?.number(u64::from(*changes))?;
+            line.word(b"waves")?.number(u64::from(*waves))?.finish()
+        }
+        Report::WavesUnsafe { wave, fault, ring } => {
+            let line = LineBuilder::start(alloc, b"unsafe")?.word(b"wave")?;
+            let line = line.number(u64::from(*wave))?;
             fault_words(line, net, *fault, ring)?.finish()
         }
     }
@@ -84,7 +109,7 @@ fn ring_words(mut line: LineBuilder, net: &Net, ring: &[Turn]) -> Result<LineBui
 }
 
 /// The name of a router.
-fn router_name(net: &Net, router: u32) -> &[u8]
+pub(crate) fn router_name(net: &Net, router: u32) -> &[u8]
     requires { router < length net.now }
     ensures { result.now ≡ name_of (names_of net.now) router }
 {

@@ -57,6 +57,32 @@ fn an_order_is_safe_or_unsafe(rt: HostRuntime) -> Result<(), Fail> {
     Ok(())
 }
 
+#[test]
+fn a_wave_list_is_safe_or_unsafe(rt: HostRuntime) -> Result<(), Fail> {
+    let net = Net::build(rt.alloc(), bare(rt.alloc(), 2)?)?;
+    assert_eq!(rt; net.routers(), 2);
+    let safe = Report::WavesSafe {
+        changes: 4,
+        waves: 1,
+    };
+    let missing = Report::WavesUnsafe {
+        wave: 1,
+        fault: Fault::Missing {
+            address: 0x0a01_0000,
+            router: 1,
+        },
+        ring: &[],
+    };
+    let text = report_text(rt.alloc(), &net, &safe)?;
+    assert_eq!(rt; text.as_slice(), b"safe 4 waves 1\n".as_slice());
+    let text = report_text(rt.alloc(), &net, &missing)?;
+    assert_eq!(rt;
+        text.as_slice(),
+        b"unsafe wave 1 10.1.0.0 missing R2\n".as_slice()
+    );
+    Ok(())
+}
+
 /// The refusal is printed as this line.
 fn prints(
     rt: &impl Abort,

@@ -5,7 +5,7 @@ use std::process::Abort;
 use std::test::Fail;
 
 /// The configurations of a text.
-fn read(rt: &impl Abort, alloc: Global, text: &[u8]) -> Result<Configs, Fail> {
+pub(crate) fn read(rt: &impl Abort, alloc: Global, text: &[u8]) -> Result<Configs, Fail> {
     assert!(rt; text.len() < 10000);
     match read_configs(alloc, text) {
         Ok(configs) => Ok(configs),
@@ -108,8 +108,13 @@ fn a_printed_configuration_is_read(rt: HostRuntime) -> Result<(), Fail> {
     let config = configs.as_slice().first().ok_or("no configuration")?;
     assert_eq!(rt; config.name.as_slice(), b"edge-1".as_slice());
     assert_eq!(rt;
-        (config.process, config.isis, config.distances.ospf),
-        (Some(1), false, 110)
+        (
+            config.process,
+            config.isis,
+            config.leak,
+            config.distances.ospf
+        ),
+        (Some(1), false, false, 110)
     );
     shows_printed(&rt, config.interfaces.as_slice());
     Ok(())
@@ -165,6 +170,7 @@ router isis A
  distance 115 ip
  passive-interface Ethernet0
  no passive-interface GigabitEthernet0/1
+ redistribute isis ip level-2 into level-1
 ip route vrf X 0.0.0.0 0.0.0.0 10.0.0.1
 end
 hostname R2
@@ -237,8 +243,14 @@ fn shows_names(rt: &impl Abort, config: &Config) -> Result<(), Fail> {
 /// The numbers of each form.
 fn shows_numbers(rt: &impl Abort, config: &Config) -> Result<(), Fail> {
     assert_eq!(rt;
-        (config.process, config.rfc1583, config.isis, config.system),
-        (Some(7), false, true, 20015998343868)
+        (
+            config.process,
+            config.rfc1583,
+            config.isis,
+            config.system,
+            config.leak
+        ),
+        (Some(7), false, true, 20015998343868, true)
     );
     assert_eq!(rt;
         (config.distances.ospf, config.distances.isis, config.levels),

@@ -3,9 +3,13 @@
 #![tactic(auto)]
 
 #[cfg(test)]
+mod applied;
+#[cfg(test)]
 mod classes;
 #[cfg(test)]
 mod configurations;
+#[cfg(test)]
+mod designs;
 #[cfg(test)]
 mod faults;
 #[cfg(test)]
@@ -18,5 +22,9 @@ mod networks;
 mod orders;
 #[cfg(test)]
 mod ospf_tables;
+#[cfg(test)]
+mod prepared;
+#[cfg(test)]
+mod trees;
 #[cfg(test)]
 mod zones;

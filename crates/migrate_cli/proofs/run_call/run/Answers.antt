@@ -3,9 +3,11 @@ use Rattle.store_edge.specs.Sink.{Adds, AddsFront}
 use Rattle.migrate_cli.specs.AnswerLaws.MayEnd.{by_write_fault, by_memory}
 use Rattle.migrate_cli.specs.Answers.Ends.{whole, cut, no_memory}
 use Rattle.migrate_cli.specs.Completeness.Decides.{memory}
+use Rattle.migrate_cli.specs.Completeness.DecidesTree.{no_memory as none_for_tree}
+use Rattle.migrate_cli.specs.Completeness.Writes.{unwritten}
 use Rattle.migrate_cli.proofs.AnswerFacts.{answer_writes, reads_or_not}
 use Rattle.migrate_cli.proofs.CallLaws.{ends_so}
-use Rattle.migrate_cli.proofs.CompletenessLaws.{check_decides}
+use Rattle.migrate_cli.proofs.CompletenessLaws.{check_decides, refute_decides, replay_decides, scripts_write}
 use Rattle.migrate_cli.proofs.run_call.run.Goals as goal
 
 pub returns-in_default-clause-answers : goal.returns-in_default-clause-answers
@@ -18,6 +20,15 @@ returns-in_default-clause-exact g c = λ _ _ _ _ _ _. by_memory
 
 pub returns-in_default-clause-check_decides : goal.returns-in_default-clause-check_decides
 returns-in_default-clause-check_decides g c = λ _ _. memory
+
+pub returns-in_default-clause-refute_decides : goal.returns-in_default-clause-refute_decides
+returns-in_default-clause-refute_decides g c = λ _ _. none_for_tree
+
+pub returns-in_default-clause-replay_decides : goal.returns-in_default-clause-replay_decides
+returns-in_default-clause-replay_decides g c = λ _ _. memory
+
+pub returns-in_default-clause-scripts_write : goal.returns-in_default-clause-scripts_write
+returns-in_default-clause-scripts_write g c = λ _ _. unwritten
 
 pub returns-in-Ok-send-clause-answers : goal.returns-in-Ok-send-clause-answers
 returns-in-Ok-send-clause-answers g c =
@@ -35,6 +46,21 @@ returns-in-Ok-send-clause-check_decides g c = λ accepts calm.
     let h = c.in-Ok.ensures.answer in
     check_decides _ accepts h.asked c.in-Ok.answer.status c.in-Ok.answer.text (λ fault. calm.files (c.in-Ok.ensures.faults.read_fault fault)) h.answers
 
+pub returns-in-Ok-send-clause-refute_decides : goal.returns-in-Ok-send-clause-refute_decides
+returns-in-Ok-send-clause-refute_decides g c = λ accepts calm.
+    let h = c.in-Ok.ensures.answer in
+    refute_decides _ accepts h.asked c.in-Ok.answer.status c.in-Ok.answer.text (λ fault. calm.files (c.in-Ok.ensures.faults.read_fault fault)) h.answers
+
+pub returns-in-Ok-send-clause-replay_decides : goal.returns-in-Ok-send-clause-replay_decides
+returns-in-Ok-send-clause-replay_decides g c = λ accepts calm.
+    let h = c.in-Ok.ensures.answer in
+    replay_decides _ accepts h.asked c.in-Ok.answer.status c.in-Ok.answer.text (λ fault. calm.files (c.in-Ok.ensures.faults.read_fault fault)) h.answers
+
+pub returns-in-Ok-send-clause-scripts_write : goal.returns-in-Ok-send-clause-scripts_write
+returns-in-Ok-send-clause-scripts_write g c = λ accepts calm.
+    let h = c.in-Ok.ensures.answer in
+    scripts_write _ accepts h.asked c.in-Ok.answer.status c.in-Ok.answer.text (λ fault. calm.files (c.in-Ok.ensures.faults.read_fault fault)) h.answers
+
 pub returns-in-Ok-send-clause-write_fault : goal.returns-in-Ok-send-clause-write_fault
 returns-in-Ok-send-clause-write_fault g c = λ e. absurd (answer_writes c.in-Ok.ensures.answer.answers e)
 
@@ -49,3 +75,12 @@ returns-clause-exact g c = λ _ _ _ _ _ _. by_write_fault
 
 pub returns-clause-check_decides : goal.returns-clause-check_decides
 returns-clause-check_decides g c = λ accepts calm. absurd (calm.sink c.in-Err.ensures.failed)
+
+pub returns-clause-refute_decides : goal.returns-clause-refute_decides
+returns-clause-refute_decides g c = λ accepts calm. absurd (calm.sink c.in-Err.ensures.failed)
+
+pub returns-clause-replay_decides : goal.returns-clause-replay_decides
+returns-clause-replay_decides g c = λ accepts calm. absurd (calm.sink c.in-Err.ensures.failed)
+
+pub returns-clause-scripts_write : goal.returns-clause-scripts_write
+returns-clause-scripts_write g c = λ accepts calm. absurd (calm.sink c.in-Err.ensures.failed)

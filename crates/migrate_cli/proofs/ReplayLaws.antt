@@ -1,0 +1,90 @@
+-- An order file, a journal and a network have one verdict of `replay`.
+use Rattle.std.proofs.Common.{◌≡◌, ℕ, ◌<◌, ◌*◌, List, length, get_or, Option, Some, None, refl, sym, ap, subst, ◌∙◌, arith}
+use Rattle.std.proofs.lemmas.List.{same_lists, get_or_default}
+use Rattle.igp_theory.specs.Waves.{Change}
+use Rattle.net_model.specs.Network.{Network}
+use Rattle.net_model.specs.Refusals.{NamesAscend}
+use Rattle.net_model.specs.RouterNames.{names_of}
+use Rattle.state_replay.specs.Journals.{AreCounts, BeginRun, IsNextOn}
+use Rattle.state_replay.specs.declared.half.Half.{Half}
+use Rattle.state_replay.specs.declared.place.Place.{Place}
+use Rattle.state_replay.specs.declared.place.Place.TheVariants.{Reached, Departs}
+use Rattle.state_replay.proofs.Places.{one_place}
+use Rattle.step_scripts.proofs.WaveFileLaws.{no_fault, one_faulty_line, one_wave_list}
+use Rattle.migration_report.specs.JournalTexts.{departs_text, reached_text}
+use Rattle.migration_report.specs.Kinds.{order_kind_name}
+use Rattle.migration_report.specs.Texts.{faulty_text}
+use Rattle.migrate_cli.specs.ReplayVerdict.{AreNext, IsJournalVerdict, IsReplayVerdict}
+use Rattle.migrate_cli.specs.ReplayVerdict.IsJournalVerdict.{reached, departs}
+use Rattle.migrate_cli.specs.ReplayVerdict.IsReplayVerdict.{no_router, faulty_waves, of_waves}
+use Rattle.migrate_cli.specs.declared.status.Status.{Status}
+use Rattle.migrate_cli.proofs.SameAnswers.{AreSame, NoFault}
+
+-- after changes with these counts a router has one change that may come next
+same_next : (ranks done : List ℕ) (changes : List Change) → BeginRun (length ranks) ranks changes → AreCounts (length ranks) changes done
+    → (u : ℕ) (one other : Option Half) → IsNextOn ranks done u one → IsNextOn ranks done u other → one ≡ other
+same_next ranks done changes begin counts u None None is its = refl
+same_next ranks done changes begin counts u None (Some half) is its = absurd (is changes begin counts half ((its changes begin counts half).1 refl))
+same_next ranks done changes begin counts u (Some half) None is its = absurd (its changes begin counts half ((is changes begin counts half).1 refl))
+same_next ranks done changes begin counts u (Some half) (Some next) is its =
+    ap (λ h. Some h) ((its changes begin counts half).0 ((is changes begin counts half).1 refl))
+
+same_nexts : (ranks done : List ℕ) (changes : List Change) → BeginRun (length ranks) ranks changes → AreCounts (length ranks) changes done
+    → (one other : List (Option Half)) → AreNext ranks done (length ranks) one → AreNext ranks done (length ranks) other → one ≡ other
+same_nexts ranks done changes begin counts one other is its =
+    same_lists one other (is.each ∙ sym its.each)
+    (λ u d within. let below : u < length ranks = subst (λ n. u < n) is.each within in
+    let there : u < length other = subst (λ n. u < n) (sym its.each) below in
+    get_or_default one u d None within
+    ∙ same_next ranks done changes begin counts u (get_or one u None) (get_or other u None) (is.next u below) (its.next u below)
+    ∙ sym (get_or_default other u d None there))
+
+-- a journal has one verdict
+one_journal_verdict : (net : Network) (ranks journal : List ℕ) {s z : Status} {t w : List ℕ} → NamesAscend net → length ranks ≡ length net
+    → IsJournalVerdict net ranks journal s t → IsJournalVerdict net ranks journal z w → AreSame s t z w
+one_journal_verdict net ranks journal ascending each (reached made done nexts place is) (reached many counts others its are) =
+    let same = one_place net ranks journal ascending (Reached made) (Reached many) done counts place its in
+    let made_same : made ≡ many = cc (same.0) in
+    let run : BeginRun (length ranks) ranks place.changes = subst (λ n. BeginRun n ranks place.changes) (sym each) place.replayed.begin in
+    let counted : AreCounts (length ranks) place.changes done = subst (λ n. AreCounts n place.changes done) (sym each) place.replayed.counts in
+    let these : AreNext ranks done (length ranks) nexts = subst (λ n. AreNext ranks done n nexts) (sym each) is in
+    let those : AreNext ranks done (length ranks) others = subst (λ n. AreNext ranks done n others) (sym each) (subst (λ d. AreNext ranks d (length net) others) (sym same.1) are) in
+    let nexts_same : nexts ≡ others = same_nexts ranks done place.changes run counted nexts others these those in
+    (refl, λ i. reached_text (names_of net) (made_same i) (2 * length net) (nexts_same i) (length net))
+one_journal_verdict net ranks journal ascending each (reached made done nexts place is) (departs line counts its) =
+    absurd (let same = one_place net ranks journal ascending (Reached made) (Departs line) done counts place its in Prim.cc same.0)
+one_journal_verdict net ranks journal ascending each (departs line counts its) (reached made done nexts place is) =
+    absurd (let same = one_place net ranks journal ascending (Departs line) (Reached made) counts done its place in Prim.cc same.0)
+one_journal_verdict net ranks journal ascending each (departs line done place) (departs number counts its) =
+    let same = one_place net ranks journal ascending (Departs line) (Departs number) done counts place its in
+    let line_same : line ≡ number = cc (same.0) in
+    (refl, λ i. departs_text (line_same i))
+
+-- and so have an order file and a journal
+pub one_replay_verdict : (file order journal : List ℕ) (net : Network) {s z : Status} {t w : List ℕ} → NamesAscend net
+    → IsReplayVerdict file order journal net s t → IsReplayVerdict file order journal net z w → AreSame s t z w
+one_replay_verdict file order journal net ascending (no_router _) (no_router _) = (refl, refl)
+one_replay_verdict file order journal net ascending (no_router none) (faulty_waves _ _ some _) = absurd (omega (arith, none, some))
+one_replay_verdict file order journal net ascending (no_router none) (of_waves _ _ _ _ some _ _) = absurd (omega (arith, none, some))
+one_replay_verdict file order journal net ascending (faulty_waves _ _ some _) (no_router none) = absurd (omega (arith, none, some))
+one_replay_verdict file order journal net ascending (of_waves _ _ _ _ some _ _) (no_router none) = absurd (omega (arith, none, some))
+one_replay_verdict file order journal net ascending (faulty_waves n k _ one) (faulty_waves m j _ other) =
+    let same = one_faulty_line net order n m k j one other in (refl, λ i. faulty_text file (same.0 i) (order_kind_name (same.1 i)))
+one_replay_verdict file order journal net ascending (faulty_waves n k _ least) (of_waves version ranks _ _ _ names _) =
+    absurd (no_fault net order version ranks n k ascending names least.faulty)
+one_replay_verdict file order journal net ascending (of_waves version ranks _ _ _ names _) (faulty_waves n k _ least) =
+    absurd (no_fault net order version ranks n k ascending names least.faulty)
+one_replay_verdict file order journal net {z = z} {w = w} ascending (of_waves version one _ _ _ names verdict) (of_waves its other _ _ _ again judged) =
+    let same : one ≡ other = (one_wave_list net order version its one other ascending names again).1 in
+    one_journal_verdict net one journal ascending names.are.each verdict (subst (λ ranks. IsJournalVerdict net ranks journal z w) (sym same) judged)
+
+-- no verdict is a fault of reading or of writing
+journal_no_fault : {net : Network} {ranks journal : List ℕ} {status : Status} {text : List ℕ} → IsJournalVerdict net ranks journal status text → NoFault status
+journal_no_fault (reached _ _ _ _ _) = (λ e. Prim.cc e, λ e. Prim.cc e)
+journal_no_fault (departs _ _ _) = (λ e. Prim.cc e, λ e. Prim.cc e)
+
+pub replay_no_fault : {file order journal : List ℕ} {net : Network} {status : Status} {text : List ℕ} → IsReplayVerdict file order journal net status text
+    → NoFault status
+replay_no_fault (no_router _) = (λ e. Prim.cc e, λ e. Prim.cc e)
+replay_no_fault (faulty_waves _ _ _ _) = (λ e. Prim.cc e, λ e. Prim.cc e)
+replay_no_fault (of_waves _ _ _ _ _ _ verdict) = journal_no_fault verdict

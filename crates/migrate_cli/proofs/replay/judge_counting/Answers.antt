@@ -1,0 +1,25 @@
+use Rattle.std.proofs.Common.{ℕ, List, sym, subst}
+use Rattle.state_replay.specs.Journals.{IsPlace}
+use Rattle.state_replay.specs.declared.place.Place.TheVariants.{Reached, Departs}
+use Rattle.migrate_cli.specs.ReplayVerdict.{AreNext, IsJournalVerdict}
+use Rattle.migrate_cli.specs.ReplayVerdict.IsJournalVerdict.{reached, departs}
+use Rattle.migrate_cli.specs.declared.status.Status.TheVariants.{Done, Negative}
+use Rattle.migrate_cli.proofs.replay.judge_counting.Goals as goal
+
+pub returns-in_ok-text-in-Reached : goal.returns-in_ok-text-in-Reached
+returns-in_ok-text-in-Reached c =
+    let net = c.args.net.now in
+    let ranks = c.args.ranks.now in
+    let made = c.in-Reached.made in
+    let nexts = c.as_slice-in-Reached.result.now in
+    let done = c.replay.new.done in
+    subst (λ (text : List ℕ). IsJournalVerdict net ranks c.args.journal.now Done text) (sym c.in_ok-text-in-Reached.ensures)
+    (reached made done nexts (subst (λ journal. IsPlace net ranks journal (Reached made) done) c.as_slice.ensures c.in-Reached.ensures)
+    (subst (λ n. AreNext ranks done n nexts) c.routers.ensures.count
+    (subst (AreNext ranks done c.routers.result) (sym c.as_slice-in-Reached.ensures.value) c.in_ok-nexts-in-Reached.ensures)))
+
+pub returns-in_ok-text-in-Departs : goal.returns-in_ok-text-in-Departs
+returns-in_ok-text-in-Departs c =
+    subst (λ (text : List ℕ). IsJournalVerdict c.args.net.now c.args.ranks.now c.args.journal.now Negative text) (sym c.in_ok-text-in-Departs.ensures)
+    (departs c.in-Departs.line c.replay.new.done
+    (subst (λ journal. IsPlace c.args.net.now c.args.ranks.now journal (Departs c.in-Departs.line) c.replay.new.done) c.as_slice.ensures c.in-Departs.ensures))

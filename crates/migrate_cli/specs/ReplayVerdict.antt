@@ -1,0 +1,37 @@
+-- What `replay` answers to an order file, a journal and a network that is at its start.
+use Rattle.std.specs.Prelude.{◌≡◌, ℕ, ◌*◌, ◌<◌, List, [], length, slice_index_or, Option, None}
+use Rattle.net_model.specs.Network.{Network}
+use Rattle.net_model.specs.RouterNames.{names_of}
+use Rattle.state_replay.specs.Journals.{IsNextOn, IsPlace}
+use Rattle.state_replay.specs.declared.half.Half.{Half}
+use Rattle.state_replay.specs.declared.place.Place.TheVariants.{Reached, Departs}
+use Rattle.step_scripts.specs.FaultyLines.{IsLeastFaultyLine}
+use Rattle.step_scripts.specs.WaveFiles.{NamesWaves}
+use Rattle.step_scripts.specs.declared.kind.OrderKind.{OrderKind}
+use Rattle.step_scripts.specs.declared.version.Version.{Version}
+use Rattle.migration_report.specs.JournalTexts.{departs_text, reached_text}
+use Rattle.migration_report.specs.Kinds.{order_kind_name}
+use Rattle.migration_report.specs.Texts.{faulty_text}
+use Rattle.migrate_cli.specs.declared.status.Status.{Status}
+use Rattle.migrate_cli.specs.declared.status.Status.TheVariants.{Done, Negative, Refused}
+
+-- of each of the first routers the change that may come next, where so many changes are made on each router
+pub record AreNext (ranks done : List ℕ) (routers : ℕ) (nexts : List (Option Half)) : Type 0 where
+  pub each : length nexts ≡ routers
+  pub next : (u : ℕ) → u < routers → IsNextOn ranks done u (slice_index_or nexts u None)
+
+-- what is answered of a journal of a wave list: how many changes it has reached and which may come next, where its
+-- changes are the first ones of some run; else its first line that fits no run
+pub data IsJournalVerdict (net : Network) (ranks journal : List ℕ) : Status → List ℕ → Type 0 where
+  reached : (made : ℕ) (done : List ℕ) (nexts : List (Option Half)) → IsPlace net ranks journal (Reached made) done → AreNext ranks done (length net) nexts →
+      IsJournalVerdict net ranks journal Done (reached_text (names_of net) made (2 * length net) nexts (length net))
+  departs : (line : ℕ) (done : List ℕ) → IsPlace net ranks journal (Departs line) done →
+      IsJournalVerdict net ranks journal Negative (departs_text line)
+
+-- the order file has a faulty line, or names a wave list of the routers. In a network without routers all is done
+pub data IsReplayVerdict (file order journal : List ℕ) (net : Network) : Status → List ℕ → Type 0 where
+  no_router : length net ≡ 0 → IsReplayVerdict file order journal net Done (reached_text (names_of net) 0 (2 * length net) [] (length net))
+  faulty_waves : (number : ℕ) (kind : OrderKind) → 0 < length net → IsLeastFaultyLine net order number kind →
+      IsReplayVerdict file order journal net Refused (faulty_text file number (order_kind_name kind))
+  of_waves : (version : Version) (ranks : List ℕ) (status : Status) (text : List ℕ) → 0 < length net → NamesWaves net order version ranks →
+      IsJournalVerdict net ranks journal status text → IsReplayVerdict file order journal net status text

@@ -1,0 +1,21 @@
+-- What `scripts` answers to an order file and a network that is at its start.
+use Rattle.std.specs.Prelude.{◌≡◌, ℕ, ◌<◌, List, [], length}
+use Rattle.net_model.specs.Network.{Network}
+use Rattle.step_scripts.specs.FaultyLines.{IsLeastFaultyLine}
+use Rattle.step_scripts.specs.Scripts.{script_text}
+use Rattle.step_scripts.specs.WaveFiles.{NamesWaves}
+use Rattle.step_scripts.specs.declared.kind.OrderKind.{OrderKind}
+use Rattle.step_scripts.specs.declared.version.Version.{Version}
+use Rattle.migration_report.specs.Kinds.{order_kind_name}
+use Rattle.migration_report.specs.Texts.{faulty_text}
+use Rattle.migrate_cli.specs.declared.status.Status.{Status}
+use Rattle.migrate_cli.specs.declared.status.Status.TheVariants.{Done, Refused}
+
+-- the order file has a faulty line, or names a wave list of the routers: then its script, in the version of the file. In a
+-- network without routers there is nothing to switch
+pub data IsScriptsVerdict (file order : List ℕ) (net : Network) : Status → List ℕ → Type 0 where
+  no_router : length net ≡ 0 → IsScriptsVerdict file order net Done []
+  faulty_waves : (number : ℕ) (kind : OrderKind) → 0 < length net → IsLeastFaultyLine net order number kind →
+      IsScriptsVerdict file order net Refused (faulty_text file number (order_kind_name kind))
+  of_waves : (version : Version) (ranks : List ℕ) → 0 < length net → NamesWaves net order version ranks →
+      IsScriptsVerdict file order net Done (script_text version net ranks)
