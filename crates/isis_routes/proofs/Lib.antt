@@ -8,3 +8,4 @@ mod EntryFacts
 mod LeakedOffers
 mod DestinationFacts
 mod ProtocolFacts
+mod HomeFacts

@@ -1,17 +1,19 @@
 -- Lists of offers, router by router.
-use Rattle.std.proofs.Common.{◌≡◌, ℕ, ◌+◌, ◌<◌, ◌↔◌, ◌⊎◌, inl, inr, ⊎_elim, List, [], ◌∷◌, ◌++◌, length, Some, refl, sym, ap, subst, ◌∙◌, arith}
-use Rattle.std.specs.List.{Contains}
-use Rattle.std.proofs.lemmas.Bool.{cases_lt}
+use Rattle.std.proofs.Common.{◌≡◌, ℕ, ◌+◌, ◌<◌, ◌↔◌, ◌⊎◌, inl, inr, ⊎_elim, List, [], ◌∷◌, ◌++◌, length, Some, Bool, true, false, ◌==◌, suc, refl, sym, ap, subst, ◌∙◌, arith}
+use Rattle.std.specs.List.{Any, Contains}
+use Rattle.std.proofs.lemmas.Bool.{cases_lt, eqb-true}
 use Rattle.std.proofs.lemmas.List.Elements.{Contains-append_left, Contains-push, Contains-push_cases}
 use Rattle.std.proofs.lemmas.Option.{slice_get_within}
 use Rattle.net_addr.specs.Addresses.{Block}
+use Rattle.net_model.proofs.Members.{Contains-first}
+use Rattle.route_tables.proofs.ListFacts.{any_of}
 use Rattle.net_model.specs.Configuration.{Configuration}
 use Rattle.net_model.specs.Network.{Network, HasConfiguration}
 use Rattle.net_model.specs.declared.interface.Interface.{Interface}
 use Rattle.walk_core.specs.Offers.{Offers}
 use Rattle.walk_core.specs.BestOffers.{ListsOffer}
 use Rattle.walk_core.specs.declared.offers.Offer.{Offer}
-use Rattle.isis_routes.specs.Offered.{Asks, AskedBy, OffersIn, AddsOffers, AreOffers, AreOffersBelow}
+use Rattle.isis_routes.specs.Offered.{Asks, AskedBy, OffersIn, AddsOffers, AreOffers, AreOffersBelow, others_than}
 use Rattle.isis_routes.specs.declared.level.Level.{Level}
 use Rattle.isis_routes.specs.declared.level.Level.TheVariants.{One, Two}
 
@@ -173,3 +175,15 @@ offered_is_asked net Two p w config router cost offers = record {
 pub offered_at_router : (net : Network) (level : Level) (p : Block) (w cost : ℕ) → OffersIn net level p w cost → w < length net
 offered_at_router net One p w cost offers = slice_get_within net w offers.up.config offers.up.router
 offered_at_router net Two p w cost offers = slice_get_within net w offers.up.config offers.up.router
+
+-- Offers of others
+
+-- where a router makes none of the offers, none is left out
+pub none_to_leave_out : (u : ℕ) (offers : List Offer) → (Any (λ (o : Offer). o.at ≡ u) offers → ⊥) → others_than u offers ≡ offers
+none_to_leave_out u [] none = refl
+none_to_leave_out u (o ∷ rest) none =
+    go (o.at == u) refl (none_to_leave_out u rest (λ any. none (suc any.0, any.1, omega (arith, any.2), any.3, any.4)))
+  where
+    go : (b : Bool) → (o.at == u) ≡ b → others_than u rest ≡ rest → others_than u (o ∷ rest) ≡ o ∷ rest
+    go true is kept = absurd (none (any_of (λ (x : Offer). x.at ≡ u) (o ∷ rest) o (Contains-first o rest) (eqb-true o.at u is)))
+    go false is kept = rw is (ap (λ (l : List Offer). o ∷ l) kept)

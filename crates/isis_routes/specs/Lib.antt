@@ -1,3 +1,4 @@
+pub mod Homes
 pub mod Offered
 pub mod Attached
 pub mod Candidates

@@ -1,5 +1,5 @@
 -- What the routers of a level offer of a prefix, and lists of offers.
-use Rattle.std.specs.Prelude.{◌≡◌, ◌↔◌, ◌⊎◌, ◌<◌, ℕ, List, Some, IsTrue, Contains}
+use Rattle.std.specs.Prelude.{◌≡◌, ◌==◌, ◌↔◌, ◌⊎◌, ◌<◌, ℕ, List, Some, IsTrue, Contains, filter, not}
 use Rattle.net_addr.specs.Addresses.{Block}
 use Rattle.net_model.specs.Network.{Network}
 use Rattle.net_model.specs.declared.interface.Interface.{Interface}
@@ -51,3 +51,7 @@ pub record AddsOffers (old new : List Offer) (w : ℕ) (asked : ℕ → Type 0) 
   pub kept : (at asks : ℕ) → ListsOffer old at asks → ListsOffer new at asks
   pub added : (asks : ℕ) → asked asks → ListsOffer new w asks
   pub nothing_else : (at asks : ℕ) → ListsOffer new at asks → ListsOffer old at asks ⊎ ((at ≡ w) × asked asks)
+
+-- the offers that other routers than u make
+abbrev pub others_than : ℕ → List Offer → List Offer
+others_than u offers = filter (λ o. not (o.at == u)) offers

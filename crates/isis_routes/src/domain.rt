@@ -1,11 +1,13 @@
 ghost use Rattle.std.specs.Prelude.{◌≡◌, All, IfOk};
 ghost use Rattle.isis_routes.specs.Domain.{AreAnnounced, AreDestinations, IsDomain, dests_of};
+ghost use Rattle.isis_routes.specs.Homes.{AreRoutersAt};
 ghost use Rattle.isis_routes.specs.Routing.{AreLevelWalks};
 
 use crate::OutOfMemory;
 use crate::announcements::announcements;
 use crate::attached::attached_routers;
 use crate::candidates::candidates_of;
+use crate::homes::{all_homes, routers_at};
 use crate::leaked::down_announcements;
 use crate::level_one::LevelOne;
 use crate::level_walks::LevelWalks;
@@ -26,19 +28,21 @@ pub struct Destination {
 }
 
 impl Destination {
-    /// What both levels know of a prefix.
+    /// What both levels know of a prefix, which is connected at these routers.
     pub fn build(
         alloc: Global,
         net: &Net,
         walks: &LevelWalks,
         dest: Prefix,
+        homes: &[u32],
     ) -> Result<Destination, OutOfMemory>
-        requires { AreLevelWalks net.now walks.now }
+        requires walks { AreLevelWalks net.now walks.now }
+        requires homes { AreRoutersAt net.now dest homes.now }
         ensures dest { IfOk result (λ d. d.one.dest ≡ dest) }
         ensures announced { IfOk result (λ d. AreAnnounced net.now d) }
     {
-        let one = LevelOne::collect(alloc, net, dest)?;
-        let two = announcements(alloc, net, &walks.one, &one)?;
+        let one = LevelOne::collect(alloc, net, dest, homes)?;
+        let two = announcements(alloc, net, &walks.one, &one, homes)?;
         let down = down_announcements(alloc, net, walks, &one, two.as_slice())?;
         Ok(Destination { one, two, down })
     }
@@ -96,9 +100,11 @@ fn each_destination(
     ensures dests { IfOk result (λ all. dests_of all.items ≡ dests.now) }
     ensures announced { IfOk result (λ all. All (AreAnnounced net.now) all.items) }
 {
+    let homes = all_homes(alloc, net)?;
     let mut all = Vec::new(alloc);
     for dest in dests {
-        all.push(Destination::build(alloc, net, walks, *dest)?)?;
+        let routers = routers_at(alloc, homes.as_slice(), *dest)?;
+        all.push(Destination::build(alloc, net, walks, *dest, routers.as_slice())?)?;
     }
     Ok(all)
 }

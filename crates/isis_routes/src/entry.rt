@@ -1,4 +1,7 @@
-ghost use Rattle.std.specs.Prelude.{◌<◌, length, IfOk, MatchOption};
+ghost use Rattle.std.specs.Prelude.{◌≡◌, ◌<◌, ◌↔◌, length, Any, IfOk, IsTrue, MatchOption};
+ghost use Rattle.walk_core.specs.BestOffers.{AreInRange, NoneTotals};
+ghost use Rattle.route_tables.specs.BestRoutes.{AreBestHops};
+ghost use Rattle.isis_routes.specs.Offered.{others_than};
 ghost use Rattle.igp_theory.specs.Isis.{IsOne, IsTwo, IsDown, IsisEntry};
 ghost use Rattle.route_core.specs.declared.entry.Entry.{Entry};
 ghost use Rattle.isis_routes.specs.Domain.{AreAnnounced, IsDomain};
@@ -13,6 +16,7 @@ use net_model::Net;
 use route_core::{Entry, Hops};
 use route_tables::{best_hops, is_all_addresses};
 use std::alloc::Global;
+use walk_core::{LeastWalks, Offer};
 
 /// The entry of a router for a prefix: by level 1, else by level 2, else by what is leaked, else the
 /// default. There is none for a connected prefix.
@@ -94,11 +98,11 @@ fn level_two_hops(
     if !runs_two(net, router) {
         return Ok(None);
     }
-    let others = of_others(alloc, destination.two.as_slice(), router)?;
-    best_hops(
+    best_of_others(
         alloc,
         domain.walks.two.from_router(router),
-        others.as_slice(),
+        destination.two.as_slice(),
+        router,
         net.routers(),
     )
 }
@@ -121,11 +125,11 @@ fn down_hops(
     if !runs_one(net, router) {
         return Ok(None);
     }
-    let others = of_others(alloc, destination.down.as_slice(), router)?;
-    best_hops(
+    best_of_others(
         alloc,
         domain.walks.one.from_router(router),
-        others.as_slice(),
+        destination.down.as_slice(),
+        router,
         net.routers(),
     )
 }
@@ -155,4 +159,32 @@ fn default_hops(
         attached,
         net.routers(),
     )
+}
+
+/// The first hops below `count` towards the best of the offers that other routers than this one make, and `None` where
+/// none of these is reached.
+fn best_of_others(
+    alloc: Global,
+    walks: &LeastWalks,
+    offers: &[Offer],
+    router: u32,
+    count: u32,
+) -> Result<Option<Hops>, OutOfMemory>
+    requires { AreInRange walks.now (others_than router offers.now) }
+    ensures { IfOk result (λ found. MatchOption found
+        (NoneTotals walks.now (others_than router offers.now))
+        (AreBestHops walks.now (others_than router offers.now) count)) }
+{
+    if !makes_one(offers, router) {
+        return best_hops(alloc, walks, offers, count);
+    }
+    let others = of_others(alloc, offers, router)?;
+    best_hops(alloc, walks, others.as_slice(), count)
+}
+
+/// Whether the router makes one of the offers.
+fn makes_one(offers: &[Offer], router: u32) -> bool
+    ensures { IsTrue result ↔ Any (λ o. o.at ≡ router) offers.now }
+{
+    offers.iter().any(|o| o.at == router)
 }

@@ -2,6 +2,7 @@ ghost use Rattle.std.specs.Prelude.{◌≡◌, ◌<◌, ◌↔◌, ℕ, length, 
 ghost use Rattle.net_model.specs.declared.zone.Zone.TheVariants.{One as ZoneOne};
 ghost use Rattle.igp_theory.specs.Isis.{OffersOne, OneCost};
 ghost use Rattle.zone_graph.specs.Walks.{AreZoneWalks};
+ghost use Rattle.isis_routes.specs.Homes.{AreRoutersAt};
 ghost use Rattle.isis_routes.specs.Offered.{AreOffers};
 
 use crate::OutOfMemory;
@@ -24,12 +25,18 @@ pub struct LevelOne {
 }
 
 impl LevelOne {
-    /// The offers of a prefix in level 1.
-    pub fn collect(alloc: Global, net: &Net, dest: Prefix) -> Result<LevelOne, OutOfMemory>
+    /// The offers of a prefix in level 1, which is connected at these routers.
+    pub fn collect(
+        alloc: Global,
+        net: &Net,
+        dest: Prefix,
+        homes: &[u32],
+    ) -> Result<LevelOne, OutOfMemory>
+        requires { AreRoutersAt net.now dest homes.now }
         ensures dest { IfOk result (λ one. one.dest ≡ dest) }
         ensures offers { IfOk result (λ one. AreOffers (OffersOne net.now one.dest) one.offers.items) }
     {
-        let offers = level_offers(alloc, net, Level::One, dest)?;
+        let offers = level_offers(alloc, net, Level::One, dest, homes)?;
         Ok(LevelOne { dest, offers })
     }
 

@@ -7,6 +7,7 @@ mod attached;
 mod candidates;
 mod domain;
 mod entry;
+mod homes;
 mod leaked;
 mod level;
 mod level_one;

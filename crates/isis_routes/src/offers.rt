@@ -1,5 +1,6 @@
-ghost use Rattle.std.specs.Prelude.{◌≡◌, ◌==◌, ◌<◌, ◌↔◌, ℕ, length, Some, IfOk, OnOk, filter, not};
+ghost use Rattle.std.specs.Prelude.{◌≡◌, ◌==◌, ◌<◌, ◌↔◌, ℕ, length, Some, Contains, IfOk, IsTrue, OnOk, filter, not};
 ghost use Rattle.net_model.specs.Network.{Network};
+ghost use Rattle.isis_routes.specs.Homes.{AreRoutersAt};
 ghost use Rattle.isis_routes.specs.Offered.{Asks, AskedBy, OffersIn, AddsOffers, AreOffers};
 
 use crate::OutOfMemory;
@@ -9,33 +10,40 @@ use net_model::{Interface, Net};
 use std::alloc::Global;
 use walk_core::Offer;
 
-/// What the subnets of all routers' interfaces in the level offer of a prefix.
+/// What the subnets of all routers' interfaces in the level offer of a prefix, which is connected at these routers.
 pub fn level_offers(
     alloc: Global,
     net: &Net,
     level: Level,
     dest: Prefix,
+    homes: &[u32],
 ) -> Result<Vec<Offer>, OutOfMemory>
+    requires { AreRoutersAt net.now dest homes.now }
     ensures { IfOk result (λ offers. AreOffers (OffersIn net.now level dest) offers.items) }
 {
     let mut offers = Vec::new(alloc);
     for router in 0..net.routers() {
-        push_router_offers(&mut offers, net, level, dest, router)?;
+        push_router_offers(&mut offers, net, level, dest, homes, router)?;
     }
     Ok(offers)
 }
 
-/// Adds what a router's own interfaces offer.
+/// Adds what a router's own interfaces offer of a prefix, which is connected at these routers.
 pub fn push_router_offers(
     offers: &mut Vec<Offer>,
     net: &Net,
     level: Level,
     dest: Prefix,
+    homes: &[u32],
     router: u32,
 ) -> Result<(), OutOfMemory>
-    requires { router < length net.now }
+    requires router { router < length net.now }
+    requires homes { AreRoutersAt net.now dest homes.now }
     ensures { OnOk result (AddsOffers offers.old.items offers.new.items router (OffersIn net.now level dest router)) }
 {
+    if !is_among(homes, router) {
+        return Ok(());
+    }
     push_offers(
         offers,
         level,
@@ -99,4 +107,11 @@ pub fn of_others(alloc: Global, offers: &[Offer], router: u32) -> Result<Vec<Off
         .filter(|o| o.at != router)
         .copied()
         .collect(alloc)
+}
+
+/// Whether the router is one of these.
+fn is_among(routers: &[u32], router: u32) -> bool
+    ensures { IsTrue result ↔ Contains routers.now router }
+{
+    routers.contains(&router)
 }

@@ -75,6 +75,8 @@ impl<'a> Protocol for Isis<'a> {
 
     fn is_neighbor(&self, router: u32, other: u32) -> bool {
         let net = self.net;
-        net.arc(Zone::One, router, other).is_some() || net.arc(Zone::Two, router, other).is_some()
+        let walks = &self.domain.walks;
+        walks.one.arc(net, Zone::One, router, other).is_some()
+            || walks.two.arc(net, Zone::Two, router, other).is_some()
     }
 }

@@ -1,8 +1,8 @@
 -- What the interfaces of each area offer of a prefix, and its intra-area costs.
-use Rattle.std.proofs.Common.{◌≡◌, ℕ, ◌<◌, ◌↔◌, ⊎_elim, List, [], ◌∷◌, ◌++◌, length, Option, Some, None, MatchOption, refl, sym, ap, subst, ◌∙◌, arith}
+use Rattle.std.proofs.Common.{◌≡◌, ℕ, ◌<◌, ◌↔◌, ◌⊎◌, ⊎_elim, get_or, List, [], ◌∷◌, ◌++◌, length, Option, Some, None, MatchOption, refl, sym, ap, subst, ◌∙◌, arith}
 use Rattle.std.specs.List.{Contains, Any, All}
 use Rattle.std.proofs.lemmas.Option.{none-some}
-use Rattle.std.proofs.lemmas.List.Elements.{All-push, All-weaker, All-contains, Contains-append_left, Contains-push, Contains-push_cases}
+use Rattle.std.proofs.lemmas.List.Elements.{All-push, All-weaker, All-contains, Contains-append_left, Contains-get_or, Contains-push, Contains-push_cases}
 use Rattle.net_addr.specs.Addresses.{Block}
 use Rattle.net_model.proofs.Adjacency.{UpInterface-among}
 use Rattle.net_model.proofs.NetworkFacts.{UpInterface-within}
@@ -16,7 +16,7 @@ use Rattle.walk_core.specs.declared.offers.Offer.{Offer}
 use Rattle.igp_theory.specs.Ospf.{OffersSubnet, IntraAreaCost, IsIntraArea}
 use Rattle.ospf_routes.specs.Areas.{AreAreas, HasArea, IsInside}
 use Rattle.ospf_routes.specs.declared.areas.AreaWalks.{AreaWalks}
-use Rattle.ospf_routes.specs.Destinations.{HasPart, IsDestination, IsPartOf}
+use Rattle.ospf_routes.specs.Destinations.{AddsPart, HasPart, IsDestination, IsPartOf}
 use Rattle.ospf_routes.specs.Lists.{Exactly}
 use Rattle.ospf_routes.specs.Offered.{AreOffers, InsideOf, IsSubnetRoute}
 use Rattle.ospf_routes.specs.declared.intra_area.AreaOffers.{AreaOffers}
@@ -88,42 +88,64 @@ part_offers net p routes given part are same is =
         (subst (λ (n : ℕ). OffersSubnet net n p r.at r.asks) inside.area offers))
 
 pub destination_is : (net : Network) (areas : List AreaWalks) (routes given : List AreaRoute) (d : Destination) → AreAreas net areas → Exactly (λ (r : AreaRoute). OffersSubnet net r.area d.dest r.at r.asks) routes → given ≡ routes →
-    All (IsPartOf given) d.parts.items → ((n : ℕ) → HasArea areas n → HasPart d.parts.items n) → IsDestination net d
+    All (IsPartOf given) d.parts.items → ((n : ℕ) (o : Offer) → HasArea areas n → Any (λ (r : AreaRoute). InsideOf n r o) given → HasPart d.parts.items n) → IsDestination net d
 destination_is net areas routes given d are exact same parts every = record {
   exact = All-weaker (IsPartOf given) (λ (part : AreaOffers). AreOffers (OffersSubnet net part.area d.dest) part.offers.items) (λ part is. part_offers net d.dest routes given part exact same is) d.parts.items parts;
-  every = λ n w cost offers. every n (are.every w n (record { interface = offers.interface; up = offers.up; area = offers.area }));
+  every = λ n w cost offers.
+      let r : AreaRoute = record { area = n; at = w; asks = cost } in
+      let among : Contains given r = subst (λ (l : List AreaRoute). Contains l r) (sym same) ((exact r).1 offers) in
+      let o : Offer = record { at = w; asks = cost } in
+      every n o (are.every w n (record { interface = offers.interface; up = offers.up; area = offers.area }))
+      (any_of (λ (x : AreaRoute). InsideOf n x o) given r among (record { area = refl; at = refl; asks = refl }));
 }
 
--- the parts so far, and one more
-pub record PartsSoFar (P : AreaOffers → Type 0) (front : List AreaWalks) (parts : List AreaOffers) : Type 0 where
-  pub exact : All P parts
-  pub every : (n : ℕ) → HasArea front n → HasPart parts n
+-- the parts so far, of the areas that have what is wanted
+pub record PartsSoFar (wanted : ℕ → Offer → Type 0) (front : List AreaWalks) (parts : List AreaOffers) : Type 0 where
+  pub exact : All (λ (part : AreaOffers). Exactly (wanted part.area) part.offers.items) parts
+  pub every : (n : ℕ) (o : Offer) → HasArea front n → wanted n o → HasPart parts n
 
-pub parts_none : (P : AreaOffers → Type 0) → PartsSoFar P [] []
-parts_none P = record { exact = λ k d within. absurd (omega arith); every = λ n has. absurd (omega (arith, has.among.1)) }
+pub parts_none : (wanted : ℕ → Offer → Type 0) → PartsSoFar wanted [] []
+parts_none wanted = record { exact = λ k d within. absurd (omega arith); every = λ n o has is. absurd (omega (arith, has.among.1)) }
 
-pub parts_more : (P : AreaOffers → Type 0) (front : List AreaWalks) (a : AreaWalks) (parts : List AreaOffers) (part : AreaOffers) → PartsSoFar P front parts → part.area ≡ a.number → P part → PartsSoFar P (front ++ a ∷ []) (parts ++ part ∷ [])
-parts_more P front a parts part before area is = record {
-  exact = All-push P parts part before.exact is;
-  every = λ n has. ⊎_elim
-      (λ among. has_part_left parts part n (before.every n (record { area = has.area; among = among; number = has.number })))
-      (λ same. subst (λ (m : ℕ). HasPart (parts ++ part ∷ []) m) (area ∙ ap (λ (x : AreaWalks). x.number) same ∙ has.number) (has_part_here parts part))
+pub parts_more : (wanted : ℕ → Offer → Type 0) (front : List AreaWalks) (a : AreaWalks) (old new : List AreaOffers) (part : AreaOffers) → PartsSoFar wanted front old → part.area ≡ a.number →
+    Exactly (wanted part.area) part.offers.items → AddsPart old new part → PartsSoFar wanted (front ++ a ∷ []) new
+parts_more wanted front a old new part before area is adds = record {
+  exact = λ k d within. one (get_or new k d) (adds.each (get_or new k d) (Contains-get_or new k d within));
+  every = λ n o has here. ⊎_elim
+      (λ among. kept n (before.every n o (record { area = has.area; among = among; number = has.number }) here))
+      (λ same. new_part n o (area ∙ ap (λ (x : AreaWalks). x.number) same ∙ has.number) here)
       (Contains-push_cases front a has.area has.among);
 }
+  where
+    one : (other : AreaOffers) → Contains old other ⊎ (part ≡ other) → Exactly (wanted other.area) other.offers.items
+    one other either = ⊎_elim
+        (λ among. All-contains (λ (x : AreaOffers). Exactly (wanted x.area) x.offers.items) old other before.exact among)
+        (λ same. subst (λ (x : AreaOffers). Exactly (wanted x.area) x.offers.items) same is)
+        either
+
+    kept : (n : ℕ) → HasPart old n → HasPart new n
+    kept n has = record { part = has.part; among = adds.kept has.part has.among; area = has.area }
+
+    new_part : (n : ℕ) (o : Offer) → part.area ≡ n → wanted n o → HasPart new n
+    new_part n o number here =
+        let offered : Contains part.offers.items o = (is o).1 (subst (λ (m : ℕ). wanted m o) (sym number) here) in
+        record { part = part; among = adds.added o offered; area = number }
 
 -- Intra-area costs
 
 pub no_intra_cost : (net : Network) (n : ℕ) (p : Block) (u : ℕ) → ((cost : ℕ) → IntraAreaCost net n p u cost → ⊥) → (cost : ℕ) → (◌≡◌ {A = Option ℕ} None (Some cost)) ↔ IntraAreaCost net n p u cost
 no_intra_cost net n p u none cost = (λ is. absurd (none-some cost is), λ costs. absurd (none cost costs))
 
-pub no_intra_anywhere : (net : Network) (areas : List AreaWalks) (p : Block) (u : ℕ) → AreAreas net areas → All (λ (a : AreaWalks). (c : ℕ) → IntraAreaCost net a.number p u c → ⊥) areas → IsIntraArea net p u → ⊥
-no_intra_anywhere net areas p u are none is =
-    let has = are.every u is.area is.costs.inside in
-    All-contains (λ (a : AreaWalks). (c : ℕ) → IntraAreaCost net a.number p u c → ⊥) areas has.area none has.among is.cost
-    (subst (λ (n : ℕ). IntraAreaCost net n p u is.cost) (sym has.number) is.costs)
-
 pub no_intra_part : (net : Network) (d : Destination) (n u : ℕ) → IsDestination net d → (HasPart d.parts.items n → ⊥) → (cost : ℕ) → IntraAreaCost net n d.dest u cost → ⊥
 no_intra_part net d n u is none cost costs = none (is.every n costs.best.at costs.best.attained.asks costs.best.attained.offered)
+
+pub no_intra_anywhere : (net : Network) (d : Destination) (given : List AreaOffers) (u : ℕ) → IsDestination net d → given ≡ d.parts.items → All (λ (part : AreaOffers). (c : ℕ) → IntraAreaCost net part.area d.dest u c → ⊥) given → IsIntraArea net d.dest u → ⊥
+no_intra_anywhere net d given u is same none intra =
+    let best = intra.costs.best in
+    let has = is.every intra.area best.at best.attained.asks best.attained.offered in
+    let among : Contains given has.part = subst (λ (l : List AreaOffers). Contains l has.part) (sym same) has.among in
+    All-contains (λ (part : AreaOffers). (c : ℕ) → IntraAreaCost net part.area d.dest u c → ⊥) given has.part none among intra.cost
+    (subst (λ (n : ℕ). IntraAreaCost net n d.dest u intra.cost) (sym has.area) intra.costs)
 
 pub no_intra_given : (net : Network) (d : Destination) (given : List AreaOffers) (n u : ℕ) → IsDestination net d → given ≡ d.parts.items → (HasPart given n → ⊥) → (cost : ℕ) → IntraAreaCost net n d.dest u cost → ⊥
 no_intra_given net d given n u is same none = no_intra_part net d n u is (subst (λ (l : List AreaOffers). HasPart l n → ⊥) same none)

@@ -1,10 +1,10 @@
 -- The routes of a router within and between areas.
-use Rattle.std.proofs.Common.{◌≡◌, ℕ, ◌+◌, ◌<◌, ◌↔◌, ◌⊎◌, inl, inr, ⊎_elim, List, [], ◌∷◌, ◌++◌, length, get_or, Option, Some, None, MatchOption, refl, sym, ap, subst, ◌∙◌, arith, length-append}
+use Rattle.std.proofs.Common.{◌≡◌, ℕ, ◌+◌, ◌<◌, ◌≤◌, ◌↔◌, ◌⊎◌, inl, inr, ⊎_elim, List, [], ◌∷◌, ◌++◌, length, take, get_or, Option, Some, None, MatchOption, refl, sym, ap, subst, ◌∙◌, arith}
 use Rattle.std.specs.List.{Contains, Any}
 use Rattle.std.specs.List.Sorted.{IsStrictlyIncreasing}
-use Rattle.std.proofs.lemmas.Bool.{cases_lt}
 use Rattle.std.proofs.lemmas.Option.{none-some, same_Some}
-use Rattle.std.proofs.lemmas.List.{get_or_append_left, get_or_push}
+use Rattle.std.proofs.lemmas.List.{take_all}
+use Rattle.std.proofs.lemmas.List.Quantifiers.{Any-push}
 use Rattle.std.proofs.lemmas.List.Elements.{All-contains, Contains-append_left, Contains-get_or, Contains-push, Contains-push_cases}
 use Rattle.net_addr.specs.Addresses.{Block}
 use Rattle.net_model.proofs.NetworkFacts.{Adjacent-to_within}
@@ -25,14 +25,15 @@ use Rattle.ospf_routes.specs.Lists.{Adds}
 use Rattle.route_tables.proofs.BestRoutes.{best_hops_are, hops_same}
 use Rattle.route_tables.specs.BestRoutes.{AreBestHops}
 use Rattle.ospf_routes.specs.Routing.{AreUnited, AreSomeUnited, IsAreaRoute, AreAreaRoutes, IsIntraRoute, ListenedCost, IsListenedRoute}
-use Rattle.ospf_routes.specs.Destinations.{HasPart}
+use Rattle.ospf_routes.specs.Destinations.{HasPart, IsDestination}
+use Rattle.ospf_routes.specs.declared.intra_area.Destination.{Destination}
 use Rattle.ospf_routes.specs.Summarized.{AreSummaries, IsSummaryOf}
 use Rattle.ospf_routes.specs.declared.areas.AreaWalks.{AreaWalks}
 use Rattle.ospf_routes.specs.declared.intra_area.AreaOffers.{AreaOffers}
 use Rattle.ospf_routes.specs.declared.summaries.Summaries.{Summaries}
 use Rattle.ospf_routes.proofs.CostBounds.{lists_from}
 use Rattle.ospf_routes.proofs.SummaryFacts.{OfReached, reached_best, reached_hop}
-use Rattle.route_tables.proofs.ListFacts.{any_of, any_in}
+use Rattle.route_tables.proofs.ListFacts.{any_of, any_in, any_left, any_cases, one_more}
 
 -- Within an area
 
@@ -53,94 +54,82 @@ area_route_is net n p u reach offers given inside are same count is (Some hops) 
     }
 
 -- the routes in the first areas
-pub record AreaListsSoFar (net : Network) (p : Block) (u : ℕ) (front : List AreaWalks) (lists : List (List ℕ)) : Type 0 where
+pub record AreaListsSoFar (net : Network) (p : Block) (u : ℕ) (front : List AreaOffers) (lists : List (List ℕ)) : Type 0 where
   pub each : (hops : List ℕ) → Contains lists hops → (n : ℕ) × IsAreaRoute net n p u hops
-  pub every : (n cost : ℕ) → HasArea front n → IntraAreaCost net n p u cost → (hops : List ℕ) × Contains lists hops × IsAreaRoute net n p u hops
+  pub every : (n cost : ℕ) → HasPart front n → IntraAreaCost net n p u cost → (hops : List ℕ) × Contains lists hops × IsAreaRoute net n p u hops
 
 pub area_lists_none : (net : Network) (p : Block) (u : ℕ) → AreaListsSoFar net p u [] []
 area_lists_none net p u = record { each = λ hops has. absurd (omega (arith, has.1)); every = λ n cost has costs. absurd (omega (arith, has.among.1)) }
 
-area_cases : (front : List AreaWalks) (a : AreaWalks) (n : ℕ) → HasArea (front ++ a ∷ []) n → HasArea front n ⊎ (a.number ≡ n)
-area_cases front a n has = ⊎_elim
-    (λ among. inl (record { area = has.area; among = among; number = has.number }))
-    (λ same. inr (ap (λ (x : AreaWalks). x.number) same ∙ has.number))
-    (Contains-push_cases front a has.area has.among)
+part_cases : (front : List AreaOffers) (a : AreaOffers) (n : ℕ) → HasPart (front ++ a ∷ []) n → HasPart front n ⊎ (a.area ≡ n)
+part_cases front a n has = ⊎_elim
+    (λ among. inl (record { part = has.part; among = among; area = has.area }))
+    (λ same. inr (ap (λ (x : AreaOffers). x.area) same ∙ has.area))
+    (Contains-push_cases front a has.part has.among)
 
-pub area_lists_more : (net : Network) (p : Block) (u : ℕ) (front : List AreaWalks) (a : AreaWalks) (old new : List (List ℕ)) (found : Option (List ℕ)) → AreaListsSoFar net p u front old →
-    MatchOption found ((cost : ℕ) → IntraAreaCost net a.number p u cost → ⊥) (IsAreaRoute net a.number p u) → Adds old new (λ x. found ≡ Some x) → AreaListsSoFar net p u (front ++ a ∷ []) new
+pub area_lists_more : (net : Network) (p : Block) (u : ℕ) (front : List AreaOffers) (a : AreaOffers) (old new : List (List ℕ)) (found : Option (List ℕ)) → AreaListsSoFar net p u front old →
+    MatchOption found ((cost : ℕ) → IntraAreaCost net a.area p u cost → ⊥) (IsAreaRoute net a.area p u) → Adds old new (λ x. found ≡ Some x) → AreaListsSoFar net p u (front ++ a ∷ []) new
 area_lists_more net p u front a old new None before none adds = record {
   each = λ hops has. ⊎_elim (λ older. before.each hops older) (λ no. absurd (none-some hops no)) ((adds hops).0 has);
   every = λ n cost has costs. ⊎_elim
       (λ earlier. let e = before.every n cost earlier costs in (e.0, (adds e.0).1 (inl e.1), e.2))
       (λ same. absurd (none cost (subst (λ (m : ℕ). IntraAreaCost net m p u cost) (sym same) costs)))
-      (area_cases front a n has);
+      (part_cases front a n has);
 }
 area_lists_more net p u front a old new (Some x) before route adds = record {
   each = λ hops has. ⊎_elim
       (λ older. before.each hops older)
-      (λ same. (a.number, subst (IsAreaRoute net a.number p u) (same_Some x hops same) route))
+      (λ same. (a.area, subst (IsAreaRoute net a.area p u) (same_Some x hops same) route))
       ((adds hops).0 has);
   every = λ n cost has costs. ⊎_elim
       (λ earlier. let e = before.every n cost earlier costs in (e.0, (adds e.0).1 (inl e.1), e.2))
       (λ same. (x, (adds x).1 (inr refl), subst (λ (m : ℕ). IsAreaRoute net m p u x) same route))
-      (area_cases front a n has);
+      (part_cases front a n has);
 }
 
-pub area_lists_all : (net : Network) (areas : List AreaWalks) (p : Block) (u : ℕ) (lists : List (List ℕ)) → AreAreas net areas → AreaListsSoFar net p u areas lists → AreAreaRoutes net p u lists
-area_lists_all net areas p u lists are so_far = record { each = so_far.each; every = λ n cost costs. so_far.every n cost (are.every u n costs.inside) costs }
+pub area_lists_all : (net : Network) (d : Destination) (given : List AreaOffers) (u : ℕ) (lists : List (List ℕ)) → IsDestination net d → given ≡ d.parts.items → AreaListsSoFar net d.dest u given lists →
+    AreAreaRoutes net d.dest u lists
+area_lists_all net d given u lists is same so_far = record {
+  each = so_far.each;
+  every = λ n cost costs.
+      let best = costs.best in
+      let has : HasPart given n = subst (λ (l : List AreaOffers). HasPart l n) (sym same) (is.every n best.at best.attained.asks best.attained.offered) in
+      so_far.every n cost has costs;
+}
 
 -- United lists
 
-pub united_none : (lists : List (List ℕ)) → AreUnited lists 0 []
-united_none lists = record { ascending = λ k within. absurd (omega arith); exact = λ h. (λ has. absurd (omega (arith, has.1)), λ both. absurd (omega (arith, both.0))) }
+-- the hops below n that are in one of the lists, in any order
+abbrev pub AreSomeOf : List (List ℕ) → ℕ → List ℕ → Type 0
+AreSomeOf lists n hops = (h : ℕ) → Contains hops h ↔ ((h < n) × Any (λ (list : List ℕ). Contains list h) lists)
 
--- a number above all of an ascending list goes to its end
-push_above : (xs : List ℕ) (y : ℕ) → IsStrictlyIncreasing xs → ((x : ℕ) → Contains xs x → x < y) → IsStrictlyIncreasing (xs ++ y ∷ [])
-push_above xs y ascending above k within =
-    let long : length (xs ++ y ∷ []) ≡ length xs + 1 = length-append xs (y ∷ []) in
-    elim (cases_lt (k + 1) (length xs)) [
-      | inl inside ↦
-          let one = get_or_append_left xs (y ∷ []) 0 k (omega arith) in
-          let two = get_or_append_left xs (y ∷ []) 0 (k + 1) inside in
-          let lower = ascending k inside in
-          omega arith
-      | inr not ↦
-          let last : length xs ≡ k + 1 = omega arith in
-          let one = get_or_append_left xs (y ∷ []) 0 k (omega arith) in
-          let two = get_or_push xs y 0 (k + 1) last in
-          let lower = above (get_or xs k 0) (Contains-get_or xs k 0 (omega arith)) in
-          omega arith
-    ]
+pub some_of_none : (lists : List (List ℕ)) (n : ℕ) → AreSomeOf (take 0 lists) n []
+some_of_none lists n h = (λ has. absurd (omega (arith, has.1)), λ both. absurd (omega (arith, both.1.2)))
 
-below_cases : (a i : ℕ) → a < i + 1 → (a < i) ⊎ (a ≡ i)
-below_cases a i h = elim (cases_lt a i) [ inl less ↦ inl less | inr more ↦ inr (omega arith) ]
+-- the hops of one more list
+pub some_of_more : (lists : List (List ℕ)) (i : ℕ) (list given : List ℕ) (n : ℕ) (old new : List ℕ) → i < length lists → list ≡ get_or lists i list → given ≡ list → AreSomeOf (take i lists) n old →
+    ((h : ℕ) → Contains new h ↔ (Contains old h ⊎ ((h < n) × Contains given h))) → AreSomeOf (take (i + 1) lists) n new
+some_of_more lists i list given n old new within is same before adds =
+    subst (λ (l : List (List ℕ)). AreSomeOf l n new) (one_more lists i list within is) (λ h. (
+      λ has. ⊎_elim
+          (λ older. let both = (before h).0 older in (both.0, any_left (λ (l : List ℕ). Contains l h) (take i lists) list both.1))
+          (λ both. (both.0, Any-push (λ (l : List ℕ). Contains l h) (take i lists) list (subst (λ (l : List ℕ). Contains l h) same both.1)))
+          ((adds h).0 has),
+      λ both. ⊎_elim
+          (λ earlier. (adds h).1 (inl ((before h).1 (both.0, earlier))))
+          (λ now. (adds h).1 (inr (both.0, subst (λ (l : List ℕ). Contains l h) (sym same) now)))
+          (any_cases (λ (l : List ℕ). Contains l h) (take i lists) list both.1),
+    ))
 
-pub united_more : (lists : List (List ℕ)) (n : ℕ) (hops : List ℕ) → AreUnited lists n hops → Any (λ (l : List ℕ). Contains l n) lists → AreUnited lists (n + 1) (hops ++ n ∷ [])
-united_more lists n hops are has = record {
-  ascending = push_above hops n are.ascending (λ x inside. ((are.exact x).0 inside).0);
-  exact = λ h. (
-    λ inside. ⊎_elim
-        (λ earlier. let both = (are.exact h).0 earlier in (omega (arith, both.0), both.1))
-        (λ same. (omega arith, subst (λ (k : ℕ). Any (λ (l : List ℕ). Contains l k) lists) same has))
-        (Contains-push_cases hops n h inside),
-    λ both. ⊎_elim
-        (λ less. Contains-append_left hops (n ∷ []) h ((are.exact h).1 (less, both.1)))
-        (λ same. subst (λ (k : ℕ). Contains (hops ++ n ∷ []) k) (sym same) (Contains-push hops n))
-        (below_cases h n both.0),
-  );
-}
-
-pub united_no_more : (lists : List (List ℕ)) (n : ℕ) (hops : List ℕ) → AreUnited lists n hops → (Any (λ (l : List ℕ). Contains l n) lists → ⊥) → AreUnited lists (n + 1) hops
-united_no_more lists n hops are none = record {
-  ascending = are.ascending;
-  exact = λ h. (
-    λ inside. let both = (are.exact h).0 inside in (omega (arith, both.0), both.1),
-    λ both. ⊎_elim
-        (λ less. (are.exact h).1 (less, both.1))
-        (λ same. absurd (none (subst (λ (k : ℕ). Any (λ (l : List ℕ). Contains l k) lists) same both.1)))
-        (below_cases h n both.0),
-  );
-}
+-- the hops of all lists, in order
+pub united_of_all : (lists : List (List ℕ)) (i n : ℕ) (hops sorted : List ℕ) → length lists ≤ i → AreSomeOf (take i lists) n hops → IsStrictlyIncreasing sorted →
+    ((h : ℕ) → Contains sorted h ↔ Contains hops h) → AreUnited lists n sorted
+united_of_all lists i n hops sorted past some ascending kept =
+    let all : AreSomeOf lists n hops = subst (λ (l : List (List ℕ)). AreSomeOf l n hops) (take_all i lists past) some in
+    record {
+      ascending = ascending;
+      exact = λ h. (λ has. (all h).0 ((kept h).0 has), λ both. (kept h).1 ((all h).1 both));
+    }
 
 -- All areas together
 
@@ -229,6 +218,16 @@ pub listened_area : (net : Network) (areas : List AreaWalks) (n u : ℕ) → Are
 listened_area net areas _ u are (backbone border) = are.backbone
 listened_area net areas n u are (one_area _ inside) = are.every u n inside
 
-pub summary_part_there : (net : Network) (areas : List AreaWalks) (s : Summaries) (given : List AreaOffers) (n u : ℕ) → AreAreas net areas → AreSummaries net areas s → given ≡ s.parts.items → ListensTo net u n → HasPart given n
-summary_part_there net areas s given n u are summaries same listens =
-    subst (λ (l : List AreaOffers). HasPart l n) (sym same) (summaries.every n (listened_area net areas n u are listens))
+pub summary_part_there : (net : Network) (areas : List AreaWalks) (s : Summaries) (given : List AreaOffers) (n u : ℕ) → AreAreas net areas → AreSummaries net areas s → given ≡ s.parts.items → ListensTo net u n →
+    (HasPart given n → ⊥) → (cost : ℕ) → ListenedCost net s.dest u cost → ⊥
+summary_part_there net areas s given n u are summaries same listens none cost costs =
+    let best : BestCost (Adjacent net (Area n)) (OfOthers (Summary net s.dest n) u) u cost =
+    subst (λ (m : ℕ). BestCost (Adjacent net (Area m)) (OfOthers (Summary net s.dest m) u) u cost) (listens_to_one_area costs.listens listens) costs.best in
+    none (subst (λ (l : List AreaOffers). HasPart l n) (sym same)
+    (summaries.every n best.at best.attained.asks (listened_area net areas n u are listens) best.attained.offered.offered))
+
+-- without announcements nothing is listened to
+pub no_summaries : (net : Network) (areas : List AreaWalks) (s : Summaries) (u : ℕ) → AreAreas net areas → AreSummaries net areas s → length s.parts.items ≡ 0 → (cost : ℕ) → ListenedCost net s.dest u cost → ⊥
+no_summaries net areas s u are summaries empty cost costs =
+    let has = summaries.every costs.area costs.best.at costs.best.attained.asks (listened_area net areas costs.area u are costs.listens) costs.best.attained.offered.offered in
+    omega (arith, empty, has.among.1)

@@ -1,5 +1,5 @@
 -- What the interfaces of each area offer of a prefix.
-use Rattle.std.specs.Prelude.{◌≡◌, ℕ, List, map, All, Any, Contains}
+use Rattle.std.specs.Prelude.{◌≡◌, ◌⊎◌, ℕ, List, map, All, Any, Contains}
 use Rattle.net_addr.specs.Addresses.{Block}
 use Rattle.net_model.specs.Network.{Network}
 use Rattle.walk_core.specs.declared.offers.Offer.{Offer}
@@ -15,6 +15,12 @@ use Rattle.ospf_routes.specs.declared.subnets.AreaRoute.{AreaRoute}
 -- these are the routes of the part's area, as offers
 abbrev pub IsPartOf : List AreaRoute → AreaOffers → Type 0
 IsPartOf routes part = Exactly (λ (o : Offer). Any (λ (r : AreaRoute). InsideOf part.area r o) routes) part.offers.items
+
+-- to the parts there comes this one, unless it has no offers
+pub record AddsPart (old new : List AreaOffers) (part : AreaOffers) : Type 0 where
+  pub each : (other : AreaOffers) → Contains new other → Contains old other ⊎ (part ≡ other)
+  pub kept : (other : AreaOffers) → Contains old other → Contains new other
+  pub added : (o : Offer) → Contains part.offers.items o → Contains new part
 
 -- one of the parts is of area n
 pub record HasPart (parts : List AreaOffers) (n : ℕ) : Type 0 where

@@ -100,10 +100,10 @@ pub record HasDefault (net : Network) (n : ℕ) (p : Block) (o : Offer) : Type 0
 abbrev pub IsSummaryOf : Network → Block → AreaOffers → Type 0
 IsSummaryOf net p part = AreOffers (Summary net p part.area) part.offers.items
 
--- each part has what is announced into its area, and each area is a part
+-- each part has what is announced into its area, and each area that something is announced into is a part
 pub record AreSummaries (net : Network) (areas : List AreaWalks) (s : Summaries) : Type 0 where
   pub exact : All (IsSummaryOf net s.dest) s.parts.items
-  pub every : (n : ℕ) → HasArea areas n → HasPart s.parts.items n
+  pub every : (n at asks : ℕ) → HasArea areas n → Summary net s.dest n at asks → HasPart s.parts.items n
 
 -- what border routers announce of each prefix, in the order of the destinations
 pub record AreAnnounced (net : Network) (domain : Domain) (summaries : List Summaries) : Type 0 where

@@ -87,8 +87,8 @@ fn area_lists(
     ensures { IfOk result (λ lists. AreAreaRoutes net.now destination.now.dest u lists.items) }
 {
     let mut lists = Vec::new(alloc);
-    for area in areas {
-        let hops = area_hops(alloc, net, areas, destination, area.number, u)?;
+    for part in destination.parts.as_slice() {
+        let hops = area_hops(alloc, net, areas, destination, part.area, u)?;
         push_option(&mut lists, hops)?;
     }
     Ok(lists)
@@ -110,9 +110,9 @@ fn area_hops(
         ((cost : ℕ) → IntraAreaCost net.now area destination.now.dest u cost → ⊥)
         (IsAreaRoute net.now area destination.now.dest u)) }
 {
-    match reach_inside(net, areas, area, u) {
-        Some(walks) => match part_of(destination.parts.as_slice(), area) {
-            Some(part) => best_hops(alloc, walks, part.offers.as_slice(), net.routers()),
+    match part_of(destination.parts.as_slice(), area) {
+        Some(part) => match reach_inside(net, areas, area, u) {
+            Some(walks) => best_hops(alloc, walks, part.offers.as_slice(), net.routers()),
             None => Ok(None),
         },
         None => Ok(None),
@@ -135,6 +135,9 @@ fn inter_hops(
         ((cost : ℕ) → ListenedCost net.now summaries.now.dest u cost → ⊥)
         (IsListenedRoute net.now summaries.now.dest u)) }
 {
+    if summaries.parts.as_slice().is_empty() {
+        return Ok(None);
+    }
     match listens_to(net, u) {
         Some(area) => listened_hops(alloc, net, areas, summaries, area, u),
         None => Ok(None),

@@ -1,7 +1,9 @@
-ghost use Rattle.std.specs.Prelude.{◌≡◌, ◌<◌, ◌↔◌, ℕ, length, Some, All, Contains, IfOk, IfNone, IfSome, IsTrue};
+ghost use Rattle.std.specs.Prelude.{◌≡◌, ◌<◌, ◌↔◌, ℕ, length, Some, All, Any, Contains, IfOk, IfNone, IfSome, IsTrue, OnOk};
 ghost use Rattle.igp_theory.specs.Ospf.{IntraAreaCost, IsIntraArea};
 ghost use Rattle.ospf_routes.specs.Areas.{AreAreas, HasArea};
-ghost use Rattle.ospf_routes.specs.Destinations.{HasPart, IsDestination, IsPartOf};
+ghost use Rattle.ospf_routes.specs.Destinations.{AddsPart, HasPart, IsDestination, IsPartOf};
+ghost use Rattle.ospf_routes.specs.Offered.{InsideOf};
+ghost use Rattle.walk_core.specs.declared.offers.Offer.{Offer as OfferValue};
 
 use crate::OutOfMemory;
 use crate::areas::{AreaWalks, reach_inside};
@@ -25,7 +27,7 @@ pub struct AreaOffers {
 pub struct Destination {
     /// The prefix.
     pub dest: Prefix,
-    /// The offers of each area.
+    /// The offers of each area that has some.
     pub parts: Vec<AreaOffers>,
 }
 
@@ -47,23 +49,35 @@ impl Destination {
     }
 }
 
-/// The routes of each area, as offers.
+/// The routes of each area that has some, as offers.
 fn area_parts(
     alloc: Global,
     areas: &[AreaWalks],
     routes: &[AreaRoute],
 ) -> Result<Vec<AreaOffers>, OutOfMemory>
     ensures exact { IfOk result (λ parts. All (IsPartOf routes.now) parts.items) }
-    ensures every { IfOk result (λ parts. (n : ℕ) → HasArea areas.now n → HasPart parts.items n) }
+    ensures every { IfOk result (λ parts. (n : ℕ) (o : OfferValue) → HasArea areas.now n → Any (λ r. InsideOf n r o) routes.now → HasPart parts.items n) }
 {
     let mut parts = Vec::new(alloc);
     for area in areas {
-        parts.push(AreaOffers {
-            area: area.number,
-            offers: offers_inside(alloc, routes, area.number)?,
-        })?;
+        let offers = offers_inside(alloc, routes, area.number)?;
+        push_part(&mut parts, area.number, offers)?;
     }
     Ok(parts)
+}
+
+/// Adds the offers of an area, unless there are none.
+pub fn push_part(
+    parts: &mut Vec<AreaOffers>,
+    area: u32,
+    offers: Vec<Offer>,
+) -> Result<(), OutOfMemory>
+    ensures { OnOk result (AddsPart parts.old.items parts.new.items (record { area = area; offers = offers })) }
+{
+    if offers.is_empty() {
+        return Ok(());
+    }
+    Ok(parts.push(AreaOffers { area, offers })?)
 }
 
 /// The offers of an area.
@@ -93,9 +107,9 @@ pub fn intra_cost(
     requires destination { IsDestination net.now destination.now }
     ensures { (cost : ℕ) → (result ≡ Some cost) ↔ IntraAreaCost net.now area destination.now.dest u cost }
 {
-    match reach_inside(net, areas, area, u) {
-        Some(walks) => match part_of(destination.parts.as_slice(), area) {
-            Some(part) => walks.best_cost(part.offers.as_slice()),
+    match part_of(destination.parts.as_slice(), area) {
+        Some(part) => match reach_inside(net, areas, area, u) {
+            Some(walks) => walks.best_cost(part.offers.as_slice()),
             None => None,
         },
         None => None,
@@ -109,8 +123,8 @@ pub fn has_intra(net: &Net, areas: &[AreaWalks], destination: &Destination, u: u
     requires destination { IsDestination net.now destination.now }
     ensures { IsTrue result ↔ IsIntraArea net.now destination.now.dest u }
 {
-    for area in areas {
-        if intra_cost(net, areas, destination, area.number, u).is_some() {
+    for part in destination.parts.as_slice() {
+        if intra_cost(net, areas, destination, part.area, u).is_some() {
             return true;
         }
     }

@@ -134,7 +134,8 @@ fn are_neighbors(net: &Net, areas: &[AreaWalks], router: u32, other: u32) -> boo
     ensures { IsTrue result ↔ IsOspfNeighbor net.now router other }
 {
     for area in areas {
-        if net.arc(Zone::Area(area.number), router, other).is_some() {
+        let arc = area.walks.arc(net, Zone::Area(area.number), router, other);
+        if arc.is_some() {
             return true;
         }
     }

@@ -1,4 +1,4 @@
-ghost use Rattle.std.specs.Prelude.{◌≡◌, ◌↔◌, length, Some, Any, Contains, IfOk, IsTrue, MatchOption};
+ghost use Rattle.std.specs.Prelude.{◌≡◌, ◌↔◌, length, Some, Any, IfOk, MatchOption};
 ghost use Rattle.walk_core.specs.declared.offers.Offer.{Offer as OfferValue};
 ghost use Rattle.ospf_routes.specs.Lists.{Exactly};
 ghost use Rattle.ospf_routes.specs.Routing.{AreSomeUnited, AreUnited, IsReachedOther};
@@ -7,7 +7,7 @@ use crate::OutOfMemory;
 use route_core::Hops;
 use route_tables::push_option;
 use std::alloc::Global;
-use walk_core::{LeastWalks, Offer};
+use walk_core::{LeastWalks, Offer, push_below, put_in_order};
 
 /// The offers that other routers than `u` make and that are reached.
 pub fn reached_others(
@@ -52,17 +52,9 @@ fn united(alloc: Global, lists: &[Hops], count: u32) -> Result<Hops, OutOfMemory
     ensures { IfOk result (AreUnited lists.now count) }
 {
     let mut hops = Vec::new(alloc);
-    for h in 0..count {
-        if some_contains(lists, h) {
-            hops.push(h)?;
-        }
+    for list in lists {
+        push_below(&mut hops, list.as_slice(), count)?;
     }
+    put_in_order(&mut hops);
     Ok(Hops::from_vec(hops))
-}
-
-/// Whether one of the lists has the hop.
-fn some_contains(lists: &[Hops], h: u32) -> bool
-    ensures { IsTrue result ↔ Any (λ list. Contains list h) lists.now }
-{
-    lists.iter().any(|list| list.as_slice().contains(&h))
 }

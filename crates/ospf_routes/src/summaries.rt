@@ -11,7 +11,7 @@ ghost use Rattle.ospf_routes.specs.Summarized.{AreSummaries, AreSummarized, IsAl
 use crate::OutOfMemory;
 use crate::areas::AreaWalks;
 use crate::border_routes::border_offers;
-use crate::intra_area::{AreaOffers, Destination};
+use crate::intra_area::{AreaOffers, Destination, push_part};
 use crate::ranges::ActiveRanges;
 use crate::stub_areas::{is_totally_stubby, push_defaults};
 use crate::subnets::{AreaRoute, offers_outside};
@@ -27,7 +27,7 @@ use walk_core::Offer;
 pub struct Summaries {
     /// The prefix.
     pub dest: Prefix,
-    /// The announcements into each area.
+    /// The announcements into each area that has some.
     pub parts: Vec<AreaOffers>,
 }
 
@@ -63,7 +63,7 @@ impl Summaries {
     }
 }
 
-/// The announcements into each area.
+/// The announcements into each area that has some.
 fn area_parts(
     alloc: Global,
     net: &Net,
@@ -75,14 +75,12 @@ fn area_parts(
     requires routes { AreSummarized net.now dest routes.now }
     requires borders { AreOffers (BorderCost net.now dest) borders.now }
     ensures exact { IfOk result (λ parts. All (IsSummaryOf net.now dest) parts.items) }
-    ensures every { IfOk result (λ parts. (n : ℕ) → HasArea areas.now n → HasPart parts.items n) }
+    ensures every { IfOk result (λ parts. (n at asks : ℕ) → HasArea areas.now n → Summary net.now dest n at asks → HasPart parts.items n) }
 {
     let mut parts = Vec::new(alloc);
     for area in areas {
-        parts.push(AreaOffers {
-            area: area.number,
-            offers: summaries_into(alloc, net, area.number, dest, routes, borders)?,
-        })?;
+        let offers = summaries_into(alloc, net, area.number, dest, routes, borders)?;
+        push_part(&mut parts, area.number, offers)?;
     }
     Ok(parts)
 }

@@ -25,7 +25,7 @@ fn table_of<P: Protocol>(alloc: Global, protocol: &P, router: u32) -> Result<Tab
     requires lawful { IsLawful (P.routers protocol.now) (P.entry protocol.now) (P.neighbor protocol.now) }
     ensures { IfOk result (IsTableOf (P.entry protocol.now router)) }
 {
-    let mut entries = Vec::new(alloc);
+    let mut entries = Vec::with_capacity(alloc, protocol.candidates())?;
     for place in 0..protocol.candidates() {
         let dest = protocol.candidate(place);
         let entry = protocol.entry(alloc, place, router)?;

@@ -4,18 +4,18 @@ use Rattle.std.proofs.lemmas.List.{get_or_default}
 use Rattle.std.proofs.lemmas.List.Elements.{Contains-push, Contains-append_left, Contains-push_cases}
 use borrow.Author.Count.{below_more}
 use Rattle.walk_core.specs.declared.hops.Departure.{Departure}
-use Rattle.walk_core.specs.Walks.{Arcs, LeastCost, FirstHop}
-use Rattle.walk_core.specs.Distances.{distance_at, AreDistances}
-use Rattle.walk_core.specs.Departures.{Departs, LeavesTo, AreDepartures, Begins, BeginsAt}
+use Rattle.walk_core.specs.Walks.{Arcs, FirstHop}
+use Rattle.walk_core.specs.Distances.{distance_at, distance_between, AreDistances, KnowsEnds}
+use Rattle.walk_core.specs.Departures.{LeavesTo, AreDepartures, Begins, BeginsAt}
 use Rattle.walk_core.proofs.HopLaws.{BeginsLeast, begins_least_from_first_hop, first_hop_from_begins_least}
 
 pub departs_more : (arc : Arcs) (root : ℕ) (ds : List Departure) (d : Departure) →
-    ((e : Departure) → Contains ds e → Departs arc root e) → Departs arc root d →
-    (e : Departure) → Contains (ds ++ d ∷ []) e → Departs arc root e
+    ((e : Departure) → Contains ds e → arc root e.to e.cost) → arc root d.to d.cost →
+    (e : Departure) → Contains (ds ++ d ∷ []) e → arc root e.to e.cost
 departs_more arc root ds d each departs e among =
     elim (Contains-push_cases ds d e among) [
       | inl before ↦ each e before
-      | inr last ↦ let P : Departure → Type 0 = λ x. Departs arc root x in subst P last departs
+      | inr last ↦ let P : Departure → Type 0 = λ x. arc root x.to x.cost in subst P last departs
     ]
 
 pub leaves_more : (ends : ℕ → ℕ × ℕ) (ds : List Departure) (d : Departure) (i : ℕ) →
@@ -32,50 +32,53 @@ leaves_more ends ds d i every leads costs =
     })
     (record { departure = d; among = Contains-push ds d; leads = leads; costs = costs })
 
-pub hops_begin_more : (ds : List Departure) (v : ℕ) (distance : Option ℕ) (hops : List ℕ) (d : Departure) →
-    ((h : ℕ) → Contains hops h → BeginsAt ds v distance h) → Contains ds d → Begins d v distance →
-    (h : ℕ) → Contains (hops ++ d.to ∷ []) h → BeginsAt ds v distance h
-hops_begin_more ds v distance hops d begin among begins h is =
+pub hops_begin_more : (ds : List Departure) (rows : List (List (Option ℕ))) (v : ℕ) (distance : Option ℕ) (hops : List ℕ) (d : Departure) →
+    ((h : ℕ) → Contains hops h → BeginsAt ds rows v distance h) → Contains ds d → Begins rows d v distance →
+    (h : ℕ) → Contains (hops ++ d.to ∷ []) h → BeginsAt ds rows v distance h
+hops_begin_more ds rows v distance hops d begin among begins h is =
     elim (Contains-push_cases hops d.to h is) [
       | inl before ↦ begin h before
       | inr last ↦ record { departure = d; among = among; begins = begins; leads = last }
     ]
 
 -- the departures so far that begin are listed, and one more
-pub hops_listed_more : (ds : List Departure) (v : ℕ) (distance : Option ℕ) (hops more : List ℕ) (i : ℕ) (item : Departure) →
+pub hops_listed_more : (ds : List Departure) (rows : List (List (Option ℕ))) (v : ℕ) (distance : Option ℕ) (hops more : List ℕ) (i : ℕ) (item : Departure) →
     i < length ds → item ≡ get_or ds i item →
-    ((h : ℕ) → Contains hops h → Contains more h) → (Begins item v distance → Contains more item.to) →
-    ((k : ℕ) → k < i → (d : Departure) → get_or ds k d ≡ d → Begins d v distance → Contains hops d.to) →
-    (k : ℕ) → k < i + 1 → (d : Departure) → get_or ds k d ≡ d → Begins d v distance → Contains more d.to
-hops_listed_more ds v distance hops more i item in_range is kept added listed =
-    below_more (λ k. (d : Departure) → get_or ds k d ≡ d → Begins d v distance → Contains more d.to) i
+    ((h : ℕ) → Contains hops h → Contains more h) → (Begins rows item v distance → Contains more item.to) →
+    ((k : ℕ) → k < i → (d : Departure) → get_or ds k d ≡ d → Begins rows d v distance → Contains hops d.to) →
+    (k : ℕ) → k < i + 1 → (d : Departure) → get_or ds k d ≡ d → Begins rows d v distance → Contains more d.to
+hops_listed_more ds rows v distance hops more i item in_range is kept added listed =
+    below_more (λ k. (d : Departure) → get_or ds k d ≡ d → Begins rows d v distance → Contains more d.to) i
     (λ k below d at begins. kept d.to (listed k below d at begins))
     (λ d at begins.
     let same : item ≡ d = is ∙ (get_or_default ds i item d in_range ∙ at) in
-    let P : Departure → Type 0 = λ x. Begins x v distance → Contains more x.to in
+    let P : Departure → Type 0 = λ x. Begins rows x v distance → Contains more x.to in
     subst P same added begins)
 
 -- the first hops are the ends of departures that begin
-pub begins_at_is_first_hop : (arc : Arcs) (root : ℕ) (ds : List Departure) (distances : List (Option ℕ))
-    (v h : ℕ) → AreDepartures arc root ds → AreDistances arc root distances →
-    BeginsAt ds v (distance_at distances v) h ↔ FirstHop arc root v h
-begins_at_is_first_hop arc root ds distances v h departures least = (
+pub begins_at_is_first_hop : (arc : Arcs) (root : ℕ) (ds : List Departure) (rows : List (List (Option ℕ))) (distances : List (Option ℕ))
+    (v h : ℕ) → AreDepartures arc root ds → KnowsEnds arc root rows → AreDistances arc root distances →
+    BeginsAt ds rows v (distance_at distances v) h ↔ FirstHop arc root v h
+begins_at_is_first_hop arc root ds rows distances v h departures ends least = (
   λ at.
-      let departs = departures.each at.departure at.among in
+      let d : Departure = at.departure in
+      let over : arc root d.to d.cost = departures.each d at.among in
       let P : ℕ → Type 0 = λ n. FirstHop arc root v n in
-      let begins : BeginsLeast arc root v at.departure.to = record {
-        cost = at.departure.cost;
+      let begins : BeginsLeast arc root v d.to = record {
+        cost = d.cost;
         beyond = at.begins.beyond;
-        over = departs.over;
-        rest = (departs.beyond.least v at.begins.beyond).0 at.begins.far;
-        whole = (least.least v (at.departure.cost + at.begins.beyond)).0 at.begins.whole;
+        over = over;
+        rest = ((ends d.to d.cost over).least v at.begins.beyond).0 at.begins.far;
+        whole = (least.least v (d.cost + at.begins.beyond)).0 at.begins.whole;
       } in
       subst P at.leads (first_hop_from_begins_least begins),
   λ hop.
       let begins = begins_least_from_first_hop hop in
       let leaves = departures.every h begins.cost begins.over in
-      let departs = departures.each leaves.departure leaves.among in
-      let P : ℕ → Type 0 = λ n. LeastCost arc n v begins.beyond in
+      let far : distance_between rows h v ≡ Some begins.beyond =
+      ((ends h begins.cost begins.over).least v begins.beyond).1 begins.rest
+      in
+      let At : ℕ → Type 0 = λ n. distance_between rows n v ≡ Some begins.beyond in
       let whole : distance_at distances v ≡ Some (begins.cost + begins.beyond) =
       (least.least v (begins.cost + begins.beyond)).1 begins.whole
       in
@@ -84,7 +87,7 @@ begins_at_is_first_hop arc root ds distances v h departures least = (
         among = leaves.among;
         begins = record {
           beyond = begins.beyond;
-          far = (departs.beyond.least v begins.beyond).1 (subst P (sym leaves.leads) begins.rest);
+          far = subst At (sym leaves.leads) far;
           whole = rw leaves.costs whole;
         };
         leads = leaves.leads;

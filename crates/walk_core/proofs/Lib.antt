@@ -4,3 +4,4 @@ pub mod HopLaws
 pub mod DepartureLaws
 pub mod ReachLaws
 pub mod OfferLaws
+mod HopLists

@@ -1,14 +1,14 @@
 -- The best of a list of offers, element by element, and what it is over all walks.
-use Rattle.std.proofs.Common.{◌≡◌, ℕ, ◌⊎◌, ◌↔◌, ◌+◌, ◌^◌, ◌<◌, ◌≤◌, List, [], ◌∷◌, ◌++◌, Option, Some, None, min, MatchOption, inl, inr, refl, sym, ap, subst, ◌∙◌, arith, length, length-append, take, get_or}
+use Rattle.std.proofs.Common.{◌≡◌, ℕ, ◌⊎◌, ◌↔◌, ◌+◌, ◌^◌, ◌<◌, ◌≤◌, List, [], ◌∷◌, ◌++◌, Option, Some, None, min, MatchOption, inl, inr, refl, sym, ap, subst, ◌∙◌, arith, length, take, get_or}
 use Rattle.std.specs.List.{Contains, All}
 use Rattle.std.proofs.lemmas.Bool.{cases_lt}
-use Rattle.std.proofs.lemmas.List.Elements.{Contains-append_left, Contains-push, Contains-push_cases, Contains-get_or}
-use Rattle.std.proofs.lemmas.List.{take_more, get_or_append_left, get_or_push}
+use Rattle.std.proofs.lemmas.List.Elements.{Contains-append_left, Contains-push, Contains-push_cases}
+use Rattle.std.proofs.lemmas.List.{take_more, take_all}
 use Rattle.std.specs.List.Sorted.{IsStrictlyIncreasing}
 use Rattle.walk_core.specs.Walks.{Arcs}
 use Rattle.walk_core.specs.Offers.{Offers, OfferCosts, BestCost, BestHop}
 use Rattle.walk_core.specs.Reach.{Reach, distance_of, HasHop, AreLeastWalks, AreNear}
-use Rattle.walk_core.specs.BestOffers.{ListsOffer, total_with, total_of, HasTotal, NoneTotals, IsBestTotal, least_cost_of, IsHopTowards, AreHopsTowards, AreInRange}
+use Rattle.walk_core.specs.BestOffers.{ListsOffer, total_with, total_of, HasTotal, NoneTotals, IsBestTotal, least_cost_of, IsHopOver, IsHopTowards, AreHopsTowards, AreInRange}
 use Rattle.walk_core.specs.declared.offers.Offer.{Offer}
 use Rattle.walk_core.proofs.WalkLaws.{best_cost_unique}
 
@@ -68,15 +68,6 @@ best_more reach front o best so_far = go best (total_of reach o) refl so_far
         | inr now ↦ let k : Some y ≡ Some c = sym is ∙ now in let e : y ≡ c = cc in omega arith
       ];
     }
-
--- no first hop towards one more offer, where there was none towards the first ones
-pub no_hop_more : (reach : Reach) (front : List Offer) (o : Offer) (cost h : ℕ) → (IsHopTowards reach front cost h → ⊥) →
-    (total_of reach o ≡ Some cost → HasHop reach o.at h → ⊥) → IsHopTowards reach (front ++ o ∷ []) cost h → ⊥
-no_hop_more reach front o cost h before here towards =
-    elim (Contains-push_cases front o towards.offer towards.among) [
-      | inl among ↦ before (record { offer = towards.offer; among = among; total = towards.total; hop = towards.hop })
-      | inr same ↦ here (subst (λ (x : Offer). total_of reach x ≡ Some cost) (sym same) towards.total) (subst (λ (x : Offer). HasHop reach x.at h) (sym same) towards.hop)
-    ]
 
 -- a total is the cost of an offer over the least walks
 pub total_is_cost : (arc : Arcs) (u : ℕ) (reach : Reach) (offer : Offers) (offers : List Offer) (c : ℕ) → AreLeastWalks arc u reach →
@@ -161,25 +152,6 @@ hop_towards_is_best_hop arc u reach offer offers c h walks same best = (there, b
           hop = here;
         }
 
--- a number above all of an ascending list goes to its end
-IsStrictlyIncreasing-push_above : (xs : List ℕ) (y : ℕ) → IsStrictlyIncreasing xs → ((x : ℕ) → Contains xs x → x < y) →
-    IsStrictlyIncreasing (xs ++ y ∷ [])
-IsStrictlyIncreasing-push_above xs y ascending above k within =
-    let long : length (xs ++ y ∷ []) ≡ length xs + 1 = length-append xs (y ∷ []) in
-    elim (cases_lt (k + 1) (length xs)) [
-      | inl inside ↦
-          let one = get_or_append_left xs (y ∷ []) 0 k (omega arith) in
-          let two = get_or_append_left xs (y ∷ []) 0 (k + 1) inside in
-          let lower = ascending k inside in
-          omega arith
-      | inr not ↦
-          let last : length xs ≡ k + 1 = omega arith in
-          let one = get_or_append_left xs (y ∷ []) 0 k (omega arith) in
-          let two = get_or_push xs y 0 (k + 1) last in
-          let lower = above (get_or xs k 0) (Contains-get_or xs k 0 (omega arith)) in
-          omega arith
-    ]
-
 -- a step of the loop that looks for the best total
 pub best_step : (reach : Reach) (offers : List Offer) (i : ℕ) (d : Offer) (best total next : Option ℕ) → i < length offers →
     total ≡ total_of reach (get_or offers i d) → next ≡ least_cost_of best total →
@@ -192,45 +164,54 @@ best_step reach offers i d best total next within is least so_far =
     subst (λ (l : List Offer). Goal next l) (sym (take_more offers i d within))
     (subst (λ (n : Option ℕ). Goal n (take i offers ++ o ∷ [])) (sym next_is) (best_more reach (take i offers) o best so_far))
 
--- a step of the loop that looks for a hop
-pub no_hop_step : (reach : Reach) (offers : List Offer) (i : ℕ) (d : Offer) (cost h : ℕ) → i < length offers →
-    (IsHopTowards reach (take i offers) cost h → ⊥) →
-    (total_of reach (get_or offers i d) ≡ Some cost → HasHop reach (get_or offers i d).at h → ⊥) →
-    IsHopTowards reach (take (i + 1) offers) cost h → ⊥
-no_hop_step reach offers i d cost h within before here =
-    subst (λ (l : List Offer). IsHopTowards reach l cost h → ⊥) (sym (take_more offers i d within))
-    (no_hop_more reach (take i offers) (get_or offers i d) cost h before here)
+-- the hops below n towards the first offers, in any order
+abbrev pub AreSomeHops : Reach → List Offer → ℕ → ℕ → List ℕ → Type 0
+AreSomeHops reach offers cost n hops = (h : ℕ) → Contains hops h ↔ ((h < n) × IsHopTowards reach offers cost h)
 
--- the hops below one more, where the next one is a hop
-pub hops_more : (reach : Reach) (offers : List Offer) (cost h : ℕ) (hops : List ℕ) → AreHopsTowards reach offers cost h hops →
-    IsHopTowards reach offers cost h → AreHopsTowards reach offers cost (h + 1) (hops ++ h ∷ [])
-hops_more reach offers cost h hops before here = record {
-  ascending = IsStrictlyIncreasing-push_above hops h before.ascending (λ x has. ((before.exact x).0 has).0);
-  exact = λ x. (
-    (λ has. elim (Contains-push_cases hops h x has) [
-      | inl earlier ↦ let k = (before.exact x).0 earlier in (omega arith, k.1)
-      | inr same ↦ (omega arith, subst (λ (y : ℕ). IsHopTowards reach offers cost y) same here)
-    ]),
-    (λ k. elim (cases_lt x h) [
-      | inl less ↦ Contains-append_left hops (h ∷ []) x ((before.exact x).1 (less, k.1))
-      | inr not ↦ let same : h ≡ x = omega (arith, k.0) in subst (λ (y : ℕ). Contains (hops ++ h ∷ []) y) same (Contains-push hops h)
-    ]),
-  );
-}
+-- there is none towards no offers
+pub no_hops : (reach : Reach) (offers : List Offer) (cost n : ℕ) → AreSomeHops reach (take 0 offers) cost n []
+no_hops reach offers cost n h = (λ has. absurd (omega (arith, has.1)), λ both. absurd (omega (arith, both.1.among.1)))
 
--- the hops below one more, where the next one is none
-pub hops_no_more : (reach : Reach) (offers : List Offer) (cost h : ℕ) (hops : List ℕ) → AreHopsTowards reach offers cost h hops →
-    (IsHopTowards reach offers cost h → ⊥) → AreHopsTowards reach offers cost (h + 1) hops
-hops_no_more reach offers cost h hops before none = record {
-  ascending = before.ascending;
-  exact = λ x. (
-    (λ has. let k = (before.exact x).0 has in (omega arith, k.1)),
-    (λ k. elim (cases_lt x h) [
-      | inl less ↦ (before.exact x).1 (less, k.1)
-      | inr not ↦ let same : x ≡ h = omega (arith, k.0) in absurd (none (subst (λ (y : ℕ). IsHopTowards reach offers cost y) same k.1))
-    ]),
-  );
-}
+-- the hops towards one more offer come to those towards the first ones
+pub hops_step : (reach : Reach) (offers : List Offer) (i : ℕ) (o : Offer) (cost n : ℕ) (old new : List ℕ) → i < length offers → o ≡ get_or offers i o →
+    AreSomeHops reach (take i offers) cost n old →
+    ((h : ℕ) → Contains new h ↔ (Contains old h ⊎ ((h < n) × IsHopOver reach o cost h))) →
+    AreSomeHops reach (take (i + 1) offers) cost n new
+hops_step reach offers i o cost n old new within is before adds =
+    let one_more : take i offers ++ o ∷ [] ≡ take (i + 1) offers = sym (take_more offers i o within ∙ ap (λ (x : Offer). take i offers ++ x ∷ []) (sym is)) in
+    subst (λ (l : List Offer). AreSomeHops reach l cost n new) one_more (λ h. (there h, back h))
+  where
+    there : (h : ℕ) → Contains new h → (h < n) × IsHopTowards reach (take i offers ++ o ∷ []) cost h
+    there h has = elim ((adds h).0 has) [
+      | inl earlier ↦ let k = (before h).0 earlier in (
+        k.0,
+        record { offer = k.1.offer; among = Contains-append_left (take i offers) (o ∷ []) k.1.offer k.1.among; total = k.1.total; hop = k.1.hop },
+      )
+      | inr now ↦ (now.0, record { offer = o; among = Contains-push (take i offers) o; total = now.1.total; hop = now.1.hop })
+    ]
+
+    back : (h : ℕ) → (h < n) × IsHopTowards reach (take i offers ++ o ∷ []) cost h → Contains new h
+    back h both = elim (Contains-push_cases (take i offers) o both.1.offer both.1.among) [
+      | inl among ↦ (adds h).1 (inl ((before h).1 (both.0, record { offer = both.1.offer; among = among; total = both.1.total; hop = both.1.hop })))
+      | inr same ↦ (adds h).1 (inr (
+        both.0,
+        record {
+          total = subst (λ (x : Offer). total_of reach x ≡ Some cost) (sym same) both.1.total;
+          hop = subst (λ (x : Offer). HasHop reach x.at h) (sym same) both.1.hop;
+        },
+      ))
+    ]
+
+-- all of them in order
+pub hops_in_order : (reach : Reach) (offers : List Offer) (i cost n : ℕ) (hops sorted : List ℕ) → length offers ≤ i →
+    AreSomeHops reach (take i offers) cost n hops → IsStrictlyIncreasing sorted → ((x : ℕ) → Contains sorted x ↔ Contains hops x) →
+    AreHopsTowards reach offers cost n sorted
+hops_in_order reach offers i cost n hops sorted past some ascending kept =
+    let all : AreSomeHops reach offers cost n hops = subst (λ (l : List Offer). AreSomeHops reach l cost n hops) (take_all i offers past) some in
+    record {
+      ascending = ascending;
+      exact = λ h. (λ has. (all h).0 ((kept h).0 has), λ both. (kept h).1 ((all h).1 both));
+    }
 
 -- over distances below 2^63 offers that ask less than 2^63 are in range
 pub near_offers_in_range : (count : ℕ) (reach : Reach) (offers : List Offer) → count ≤ 2 ^ 31 → AreNear count reach →

@@ -267,6 +267,17 @@ tights_more arc now after u false false so_far relaxes tight =
     subst P (sym same) (so_far v below))
     tight
 
+-- where nothing fell since, the vertices so far are tight yet
+pub tights_kept : (arc : Arcs) (now after : List (Option ℕ)) (u : ℕ) (fell more : Bool) →
+    OnFalse fell ((v : ℕ) → v < u → IsTightFrom arc v now) → Relaxes arc now after more →
+    OnFalse (more || fell) ((v : ℕ) → v < u → IsTightFrom arc v after)
+tights_kept arc now after u fell true so_far relaxes = tt
+tights_kept arc now after u true false so_far relaxes = tt
+tights_kept arc now after u false false so_far relaxes = λ v below.
+    let same : after ≡ now = relaxes.same in
+    let P : List (Option ℕ) → Type 0 = λ ds. IsTightFrom arc v ds in
+    subst P (sym same) (so_far v below)
+
 -- no vertex has a distance at first
 pub none_at_first : (n v : ℕ) → distance_at (replicate n None) v ≡ None
 none_at_first zero v = refl

@@ -55,6 +55,11 @@ pub record IsHopTowards (reach : Reach) (offers : List Offer) (cost h : ℕ) : T
   pub total : total_of reach offer ≡ Some cost
   pub hop : HasHop reach offer.at h
 
+-- h is a first hop towards an offer, which costs this in all
+pub record IsHopOver (reach : Reach) (offer : Offer) (cost h : ℕ) : Type 0 where
+  pub total : total_of reach offer ≡ Some cost
+  pub hop : HasHop reach offer.at h
+
 -- the hops below n towards the offers that cost this, in ascending order
 pub record AreHopsTowards (reach : Reach) (offers : List Offer) (cost n : ℕ) (hops : List ℕ) : Type 0 where
   pub ascending : IsStrictlyIncreasing hops

@@ -1,13 +1,8 @@
--- Arcs from the root, with the distances from where each of them leads.
+-- Arcs from the root, and which of them begin a least walk, by the distances from where they lead.
 use Rattle.std.specs.Prelude.{◌≡◌, ℕ, ◌+◌, List, Option, Some, Contains}
 use Rattle.walk_core.specs.declared.hops.Departure.{Departure}
 use Rattle.walk_core.specs.Walks.{Arcs}
-use Rattle.walk_core.specs.Distances.{distance_at, AreDistances}
-
--- a departure is an arc from the root, with the distances from its end
-pub record Departs (arc : Arcs) (root : ℕ) (departure : Departure) : Type 0 where
-  pub over : arc root departure.to departure.cost
-  pub beyond : AreDistances arc departure.to departure.beyond.items
+use Rattle.walk_core.specs.Distances.{distance_between}
 
 -- one of the departures is the arc to h at this cost
 pub record LeavesTo (departures : List Departure) (h cost : ℕ) : Type 0 where
@@ -18,18 +13,18 @@ pub record LeavesTo (departures : List Departure) (h cost : ℕ) : Type 0 where
 
 -- the departures are the arcs from the root, every one of them
 pub record AreDepartures (arc : Arcs) (root : ℕ) (departures : List Departure) : Type 0 where
-  pub each : (departure : Departure) → Contains departures departure → Departs arc root departure
+  pub each : (departure : Departure) → Contains departures departure → arc root departure.to departure.cost
   pub every : (h cost : ℕ) → arc root h cost → LeavesTo departures h cost
 
--- v is as far from the root as the arc costs and its end is from v
-pub record Begins (departure : Departure) (v : ℕ) (distance : Option ℕ) : Type 0 where
+-- v is as far from the root as the departure costs and its end is from v, by the rows of distances
+pub record Begins (rows : List (List (Option ℕ))) (departure : Departure) (v : ℕ) (distance : Option ℕ) : Type 0 where
   pub beyond : ℕ
-  pub far : distance_at departure.beyond.items v ≡ Some beyond
+  pub far : distance_between rows departure.to v ≡ Some beyond
   pub whole : distance ≡ Some (departure.cost + beyond)
 
 -- a departure to h begins a way to v of this distance
-pub record BeginsAt (departures : List Departure) (v : ℕ) (distance : Option ℕ) (h : ℕ) : Type 0 where
+pub record BeginsAt (departures : List Departure) (rows : List (List (Option ℕ))) (v : ℕ) (distance : Option ℕ) (h : ℕ) : Type 0 where
   pub departure : Departure
   pub among : Contains departures departure
-  pub begins : Begins departure v distance
+  pub begins : Begins rows departure v distance
   pub leads : departure.to ≡ h

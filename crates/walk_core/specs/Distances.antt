@@ -1,5 +1,5 @@
 -- Distances from one vertex, by the number of the other: the least costs of walks.
-use Rattle.std.specs.Prelude.{◌≡◌, ℕ, List, Option, Some, None, slice_index_or, ◌↔◌}
+use Rattle.std.specs.Prelude.{◌≡◌, ℕ, ◌*◌, ◌^◌, ◌<◌, List, [], length, Option, Some, None, slice_index_or, ◌↔◌}
 use Rattle.walk_core.specs.Walks.{Arcs, Leg, Walks, LeastCost}
 
 -- the distance of v; past the last vertex there is none
@@ -10,3 +10,22 @@ distance_at distances v = slice_index_or distances v None
 pub record AreDistances (arc : Arcs) (u : ℕ) (distances : List (Option ℕ)) : Type 0 where
   pub least : (v d : ℕ) → (distance_at distances v ≡ Some d) ↔ LeastCost arc u v d
   pub none : (v : ℕ) → (distance_at distances v ≡ None) ↔ ((legs : List Leg) → Walks arc u legs v → ⊥)
+
+-- the distance from u to v by these rows, one for each vertex
+abbrev pub distance_between : List (List (Option ℕ)) → ℕ → ℕ → Option ℕ
+distance_between rows u v = distance_at (slice_index_or rows u []) v
+
+-- the distances from u in a graph of this many vertices, none above the cost of one arc for each of them
+pub record IsRow (arc : Arcs) (count u : ℕ) (distances : List (Option ℕ)) : Type 0 where
+  pub least : AreDistances arc u distances
+  pub whole : length distances ≡ count
+  pub near : (v d : ℕ) → distance_at distances v ≡ Some d → d < count * 2 ^ 32
+
+-- the distances from each vertex below n
+pub record AreRows (arc : Arcs) (count n : ℕ) (rows : List (List (Option ℕ))) : Type 0 where
+  pub long : length rows ≡ n
+  pub each : (u : ℕ) → u < n → IsRow arc count u (slice_index_or rows u [])
+
+-- the rows of the vertices that arcs from the root lead to are their distances
+abbrev pub KnowsEnds : Arcs → ℕ → List (List (Option ℕ)) → Type 0
+KnowsEnds arc root rows = (h cost : ℕ) → arc root h cost → AreDistances arc h (slice_index_or rows h [])

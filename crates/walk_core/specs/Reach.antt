@@ -1,5 +1,5 @@
 -- What is known of the least walks from one vertex.
-use Rattle.std.specs.Prelude.{◌≡◌, ℕ, ◌*◌, ◌^◌, ◌<◌, List, [], Option, Some, None, slice_index_or, Contains, ◌↔◌}
+use Rattle.std.specs.Prelude.{◌≡◌, ℕ, ◌*◌, ◌^◌, ◌<◌, List, [], Option, Some, None, slice_index_or, Contains, length, slice_get, ◌↔◌}
 use Rattle.walk_core.specs.Walks.{Arcs, Leg, Walks, LeastCost, FirstHop}
 use Rattle.walk_core.specs.Distances.{distance_at}
 
@@ -27,3 +27,9 @@ pub record AreLeastWalks (arc : Arcs) (root : ℕ) (reach : Reach) : Type 0 wher
 -- a distance is at most the cost of one arc for each of this many vertices
 abbrev pub AreNear : ℕ → Reach → Type 0
 AreNear count reach = (v d : ℕ) → distance_of reach v ≡ Some d → d < count * 2 ^ 32
+
+-- the least walks from each vertex below n, over a graph of this many vertices
+pub record AreWalksBelow (arc : Arcs) (count n : ℕ) (walks : List Reach) : Type 0 where
+  pub long : length walks ≡ n
+  pub least : (u : ℕ) (reach : Reach) → slice_get walks u ≡ Some reach → AreLeastWalks arc u reach
+  pub near : (u : ℕ) (reach : Reach) → slice_get walks u ≡ Some reach → AreNear count reach

@@ -1,6 +1,7 @@
-ghost use Rattle.std.specs.Prelude.{◌↔◌, IsTrue, Contains};
+ghost use Rattle.std.specs.Prelude.{◌≡◌, ◌↔◌, ◌<◌, IfOk, IsTrue};
+ghost use Rattle.walk_core.specs.Departures.{AreDepartures, Begins};
 
-use crate::relax::{distance_at, distances_from};
+use crate::rows::{Distances, distance_between};
 use crate::{CostGraph, OutOfMemory};
 use std::alloc::Global;
 use std::marker::Model;
@@ -20,71 +21,75 @@ impl Model for FirstHops {
 }
 
 impl FirstHops {
-    /// Whether h is among them.
-    pub fn contains(&self, h: u32) -> bool
-        ensures { IsTrue result ↔ Contains self.now h }
-    {
-        self.all.contains(&h)
-    }
-}
-
-/// An arc from the root, with the distances from where it leads.
-#[derive(Drop)]
-pub struct Departure {
-    to: u32,
-    cost: u32,
-    beyond: Vec<Option<u64>>,
-}
-
-impl Departure {
-    ghost use Rattle.std.specs.Prelude.{◌<◌, ◌↔◌, ℕ, IfOk, IsTrue, Contains};
-    ghost use Rattle.walk_core.specs.Departures.{AreDepartures, Begins, BeginsAt};
-
-    /// The arcs from the root, each with the distances from where it leads.
-    pub fn all_from<G: CostGraph>(
-        alloc: Global,
-        graph: &G,
-        root: u32,
-    ) -> Result<Vec<Departure>, OutOfMemory>
-        requires { root < G.vertex_count graph.now }
-        ensures { IfOk result (λ ds. AreDepartures (G.has_arc graph.now) root ds.items) }
-    {
-        let mut departures = Vec::new(alloc);
-        for i in 0..graph.arcs(root) {
-            let (to, cost) = graph.arc(root, i);
-            let beyond = distances_from(alloc, graph, to)?;
-            departures.push(Departure { to, cost, beyond })?;
-        }
-        Ok(departures)
-    }
+    ghost use Rattle.std.specs.Prelude.{◌≡◌, ◌↔◌, ℕ, IfOk, IsTrue, Contains};
+    ghost use Rattle.walk_core.specs.Departures.{BeginsAt};
 
     /// The first hops towards v, which is at this distance from the root.
-    pub fn hops_towards(
+    pub fn towards(
         alloc: Global,
         departures: &[Departure],
+        rows: &[Distances],
         v: u32,
         distance: Option<u64>,
     ) -> Result<FirstHops, OutOfMemory>
         ensures { IfOk result (λ hops. (h : ℕ) →
-            Contains hops h ↔ BeginsAt departures.now v distance h) }
+            Contains hops h ↔ BeginsAt departures.now rows.now v distance h) }
     {
         let mut all = Vec::new(alloc);
         for departure in departures {
-            if departure.begins(v, distance) {
+            if begins(*departure, rows, v, distance) {
                 all.push(departure.to)?;
             }
         }
         Ok(FirstHops { all })
     }
 
-    /// Whether a least walk to v, which is at this distance from the root, begins here.
-    fn begins(&self, v: u32, distance: Option<u64>) -> bool
-        ensures { IsTrue result ↔ Begins self.now v distance }
+    /// Whether h is among them.
+    pub fn contains(&self, h: u32) -> bool
+        ensures { IsTrue result ↔ Contains self.now h }
     {
-        let cost = u64::from(self.cost);
-        match (distance, distance_at(&self.beyond, v)) {
-            (Some(whole), Some(beyond)) => cost <= whole && beyond == whole - cost,
-            _ => false,
-        }
+        self.all.contains(&h)
+    }
+
+    /// The hops as a slice.
+    pub fn as_slice(&self) -> &[u32]
+        ensures { result.now ≡ self.now }
+    {
+        self.all.as_slice()
+    }
+}
+
+/// An arc from the root: where it leads, and what it costs.
+#[derive(Clone, Copy, Debug)]
+pub struct Departure {
+    to: u32,
+    cost: u32,
+}
+
+/// The arcs from the root.
+pub fn departures_from<G: CostGraph>(
+    alloc: Global,
+    graph: &G,
+    root: u32,
+) -> Result<Vec<Departure>, OutOfMemory>
+    requires { root < G.vertex_count graph.now }
+    ensures { IfOk result (λ ds. AreDepartures (G.has_arc graph.now) root ds.items) }
+{
+    let mut departures = Vec::new(alloc);
+    for i in 0..graph.arcs(root) {
+        let (to, cost) = graph.arc(root, i);
+        departures.push(Departure { to, cost })?;
+    }
+    Ok(departures)
+}
+
+/// Whether a least walk to v, which is at this distance from the root, begins with the departure.
+fn begins(departure: Departure, rows: &[Distances], v: u32, distance: Option<u64>) -> bool
+    ensures { IsTrue result ↔ Begins rows.now departure v distance }
+{
+    let cost = u64::from(departure.cost);
+    match (distance, distance_between(rows, departure.to, v)) {
+        (Some(whole), Some(beyond)) => cost <= whole && beyond == whole - cost,
+        _ => false,
     }
 }

@@ -1,6 +1,7 @@
-ghost use Rattle.std.specs.Prelude.{◌≡◌, ◌<◌, ◌↔◌, ℕ, IsTrue, IfOk, MatchOption};
+ghost use Rattle.std.specs.Prelude.{◌≡◌, ◌<◌, ◌↔◌, ◌⊎◌, ℕ, IfOk, OnOk, MatchOption, Contains};
 ghost use Rattle.walk_core.specs.BestOffers.{least_cost_of};
 
+use crate::union::{push_below, put_in_order};
 use crate::{LeastWalks, OutOfMemory};
 use std::alloc::Global;
 
@@ -14,7 +15,7 @@ pub struct Offer {
 }
 
 impl LeastWalks {
-    ghost use Rattle.walk_core.specs.BestOffers.{AreInRange, FitsTotal, IsBestTotal, NoneTotals, AreHopsTowards, IsHopTowards, total_of};
+    ghost use Rattle.walk_core.specs.BestOffers.{AreInRange, FitsTotal, IsBestTotal, NoneTotals, AreHopsTowards, IsHopOver, total_of};
 
     /// What the best of some offers costs at the root, and `None` where none is reached.
     pub fn best_cost(&self, offers: &[Offer]) -> Option<u64>
@@ -40,25 +41,34 @@ impl LeastWalks {
         ensures { IfOk result (λ hops. AreHopsTowards self.now offers.now cost count hops.items) }
     {
         let mut hops = Vec::new(alloc);
-        for h in 0..count {
-            if self.leads_towards(offers, cost, h) {
-                hops.push(h)?;
-            }
+        for offer in offers {
+            self.push_hops(&mut hops, offer, cost, count)?;
         }
+        put_in_order(&mut hops);
         Ok(hops)
     }
 
-    /// Whether `h` is a first hop towards an offer that costs this at the root.
-    fn leads_towards(&self, offers: &[Offer], cost: u64, h: u32) -> bool
-        requires { AreInRange self.now offers.now }
-        ensures { IsTrue result ↔ IsHopTowards self.now offers.now cost h }
+    /// Adds the first hops below `count` towards an offer, if it costs this at the root.
+    fn push_hops(
+        &self,
+        hops: &mut Vec<u32>,
+        offer: &Offer,
+        cost: u64,
+        count: u32,
+    ) -> Result<(), OutOfMemory>
+        requires { FitsTotal self.now offer.now }
+        ensures { OnOk result ((h : ℕ) → Contains hops.new.items h ↔ (Contains hops.old.items h ⊎ ((h < count) × IsHopOver self.now offer.now cost h))) }
     {
-        for offer in offers {
-            if self.total(offer) == Some(cost) && self.first_hop(offer.at, h) {
-                return true;
-            }
+        let Some(total) = self.total(offer) else {
+            return Ok(());
+        };
+        if total != cost {
+            return Ok(());
         }
-        false
+        match self.hops.get(offer.at as usize) {
+            Some(towards) => push_below(hops, towards.as_slice(), count),
+            None => Ok(()),
+        }
     }
 
     /// What an offer costs at the root in all, and `None` where it isn't reached.

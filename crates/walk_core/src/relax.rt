@@ -3,26 +3,26 @@ ghost use Rattle.std.specs.Bool.{OnTrue, OnFalse};
 ghost use Rattle.walk_core.specs.Distances.{distance_at, AreDistances};
 ghost use Rattle.walk_core.specs.Relaxing.{weight_of, HaveRoom, IsTightFrom, Relaxes};
 
+use crate::rows::Distances;
 use crate::{CostGraph, OutOfMemory};
 use std::alloc::Global;
 
-/// The distances from a root: the least cost of a walk to each vertex, by its number, and None
-/// where no walk leads.
+/// The distances from a root.
 pub fn distances_from<G: CostGraph>(
     alloc: Global,
     graph: &G,
     root: u32,
-) -> Result<Vec<Option<u64>>, OutOfMemory>
+) -> Result<Distances, OutOfMemory>
     requires { root < G.vertex_count graph.now }
-    ensures least { IfOk result (λ ds. AreDistances (G.has_arc graph.now) root ds.items) }
-    ensures whole { IfOk result (λ ds. length ds.items ≡ G.vertex_count graph.now) }
-    ensures near { IfOk result (λ ds. (v d : ℕ) → distance_at ds.items v ≡ Some d →
+    ensures least { IfOk result (λ ds. AreDistances (G.has_arc graph.now) root ds) }
+    ensures whole { IfOk result (λ ds. length ds ≡ G.vertex_count graph.now) }
+    ensures near { IfOk result (λ ds. (v d : ℕ) → distance_at ds v ≡ Some d →
         d < G.vertex_count graph.now * 2 ^ 32) }
 {
     let mut distances = vec![in alloc; None; graph.vertices() as usize]?;
     distances[root as usize] = Some(0);
     while relax_all(graph, &mut distances) {}
-    Ok(distances)
+    Ok(Distances::from_vec(distances))
 }
 
 /// The distance of v, and None where there is none.
@@ -32,7 +32,8 @@ pub fn distance_at(distances: &[Option<u64>], v: u32) -> Option<u64>
     distances.get(v as usize).copied().flatten()
 }
 
-/// Relaxes every arc once: whether some distance fell.
+/// Relaxes every arc twice, by ascending and by descending numbers of where they begin: whether some distance fell. So
+/// distances spread along a row of vertices in one call, whichever way their numbers run.
 fn relax_all<G: CostGraph>(graph: &G, distances: &mut [Option<u64>]) -> bool
     requires vertices { length distances.old ≡ G.vertex_count graph.now }
     requires room { HaveRoom distances.old }
@@ -42,6 +43,7 @@ fn relax_all<G: CostGraph>(graph: &G, distances: &mut [Option<u64>]) -> bool
 {
     let mut fell = false;
     for u in 0..graph.vertices() {
+        fell = relax_from(graph, graph.vertices() - 1 - u, distances) || fell;
         fell = relax_from(graph, u, distances) || fell;
     }
     fell

@@ -1,8 +1,10 @@
-ghost use Rattle.std.specs.Prelude.{◌<◌, IfOk};
-ghost use Rattle.walk_core.specs.Reach.{AreLeastWalks, AreNear};
+ghost use Rattle.std.specs.Prelude.{◌≡◌, ◌<◌, ◌⊎◌, length, IfOk};
+ghost use Rattle.walk_core.specs.Distances.{IsRow, KnowsEnds};
+ghost use Rattle.walk_core.specs.Reach.{AreLeastWalks, AreNear, AreWalksBelow};
 
-use crate::hops::{Departure, FirstHops};
-use crate::relax::{distance_at, distances_from};
+use crate::hops::{Departure, FirstHops, departures_from};
+use crate::relax::distances_from;
+use crate::rows::{Distances, all_rows, rows_beyond};
 use crate::{CostGraph, OutOfMemory};
 use std::alloc::Global;
 use std::marker::Model;
@@ -11,8 +13,8 @@ use std::marker::Model;
 /// which first hops one goes there.
 #[derive(Debug, Drop)]
 pub struct LeastWalks {
-    distances: Vec<Option<u64>>,
-    hops: Vec<FirstHops>,
+    distances: Distances,
+    pub(crate) hops: Vec<FirstHops>,
 }
 
 impl Model for LeastWalks {
@@ -20,7 +22,7 @@ impl Model for LeastWalks {
 
     ghost Value = { Reach };
 
-    ghost view = { λ w. record { distances = w.distances.items; hops = w.hops.items } };
+    ghost view = { λ w. record { distances = w.distances; hops = w.hops.items } };
 }
 
 /// The least-cost walks from the root, over walks of any length. In the graph
@@ -45,13 +47,56 @@ pub fn least_walks<G: CostGraph>(
     ensures near { IfOk result (AreNear (G.vertex_count graph.now)) }
 {
     let distances = distances_from(alloc, graph, root)?;
-    let departures = Departure::all_from(alloc, graph, root)?;
+    let rows = rows_beyond(alloc, graph, root)?;
+    walks_over(alloc, graph, root, distances, rows.as_slice())
+}
+
+/// The least-cost walks from every vertex, in the order of their numbers. The distances from each are found once, and
+/// the first hops of one are found by the distances from the others.
+pub fn all_least_walks<G: CostGraph>(
+    alloc: Global,
+    graph: &G,
+) -> Result<Vec<LeastWalks>, OutOfMemory>
+    ensures { IfOk result (λ all. AreWalksBelow (G.has_arc graph.now) (G.vertex_count graph.now) (G.vertex_count graph.now) all.items) }
+{
+    let rows = all_rows(alloc, graph)?;
+    let mut all = Vec::new(alloc);
+    for root in 0..graph.vertices() {
+        let distances = rows[root as usize].copied()?;
+        all.push(walks_over(alloc, graph, root, distances, rows.as_slice())?)?;
+    }
+    Ok(all)
+}
+
+/// The least-cost walks from the root, by its distances and those from where its arcs lead.
+fn walks_over<G: CostGraph>(
+    alloc: Global,
+    graph: &G,
+    root: u32,
+    distances: Distances,
+    rows: &[Distances],
+) -> Result<LeastWalks, OutOfMemory>
+    requires root { root < G.vertex_count graph.now }
+    requires row { IsRow (G.has_arc graph.now) (G.vertex_count graph.now) root distances }
+    requires ends { KnowsEnds (G.has_arc graph.now) root rows.now }
+    ensures least { IfOk result (AreLeastWalks (G.has_arc graph.now) root) }
+    ensures near { IfOk result (AreNear (G.vertex_count graph.now)) }
+{
+    let departures = departures_from(alloc, graph, root)?;
     let mut hops = Vec::new(alloc);
-    for v in 0..graph.vertices() {
-        let distance = distance_at(&distances, v);
-        hops.push(Departure::hops_towards(alloc, &departures, v, distance)?)?;
+    for v in 0..most_ends(departures.as_slice(), graph.vertices()) {
+        let distance = distances.at(v);
+        let towards = FirstHops::towards(alloc, departures.as_slice(), rows, v, distance)?;
+        hops.push(towards)?;
     }
     Ok(LeastWalks { distances, hops })
+}
+
+/// How many of the vertices may have a first hop: all of them, and none where no arc leaves the root.
+fn most_ends(departures: &[Departure], vertices: u32) -> u32
+    ensures { (result ≡ vertices) ⊎ (length departures.now ≡ 0) }
+{
+    if departures.is_empty() { 0 } else { vertices }
 }
 
 impl LeastWalks {
@@ -62,7 +107,7 @@ impl LeastWalks {
     pub fn distance(&self, v: u32) -> Option<u64>
         ensures { result ≡ distance_of self.now v }
     {
-        distance_at(&self.distances, v)
+        self.distances.at(v)
     }
 
     /// Whether some least-cost walk to v begins with the leg from the root to h. Equal-cost walks

@@ -1,17 +1,20 @@
 -- One more row of arcs, one more router's walks.
-use Rattle.std.proofs.Common.{◌≡◌, ℕ, ◌⊎◌, ◌+◌, ◌*◌, ◌<◌, ◌≤◌, List, [], ◌∷◌, ◌++◌, length, get_or, Some, inl, inr, sym, ap, subst, ◌∙◌, arith, length-append}
+use Rattle.std.proofs.Common.{◌≡◌, ℕ, ◌⊎◌, ◌+◌, ◌*◌, ◌<◌, ◌≤◌, List, [], ◌∷◌, ◌++◌, length, length-append, get_or, Option, Some, None, Bool, true, false, refl, inl, inr, sym, ap, subst, ◌∙◌, arith}
 use Rattle.std.specs.List.{slice_get}
+use Rattle.std.specs.Option.{is_some}
 use Rattle.std.proofs.lemmas.Bool.{cases_lt}
 use Rattle.std.proofs.lemmas.List.{get_or_append_left, get_or_push, get_or_past}
-use Rattle.std.proofs.lemmas.Option.{slice_get_within, slice_get-get_or, same_Some}
 use Rattle.net_model.proofs.NetworkFacts.{Adjacent-from_within, Adjacent-to_within, Adjacent-cost}
 use Rattle.net_model.specs.Network.{Network, Adjacent}
 use Rattle.net_model.specs.Refusals.{IsNetwork}
 use Rattle.net_model.specs.declared.zone.Zone.{Zone}
-use Rattle.walk_core.specs.Reach.{Reach, AreLeastWalks, AreNear}
+use Rattle.walk_core.specs.Walks.{Leg}
+use Rattle.walk_core.specs.Reach.{Reach, AreLeastWalks, AreWalksBelow, distance_of}
 use Rattle.walk_core.proofs.WalkLaws.{least_cost_same, first_hop_same, SameArcs, walks_over}
-use Rattle.zone_graph.specs.Graphs.{ArcList, HasArc, arcs_from, AreArcsFrom, AreAdjacencies, AreGraphArcs, AreWalksBelow}
+use Rattle.zone_graph.specs.Graphs.{ArcList, HasArc, arcs_from, AreArcsFrom, AreAdjacencies, AreGraphArcs}
+use Rattle.zone_graph.specs.LinkLists.{AreRouterLinks, AreAllLinks}
 use Rattle.zone_graph.specs.Walks.{AreZoneWalks}
+use Rattle.zone_graph.specs.declared.links.Link.{Link}
 
 -- a place below i + 1 is below i or is i
 below_cases : (a i : ℕ) → a < i + 1 → (a < i) ⊎ (a ≡ i)
@@ -28,6 +31,19 @@ rows_more R rows u row long before here w below =
           let at_u : R u (arcs_from (rows ++ row ∷ []) u) = subst (λ (r : ArcList). R u r) (sym (get_or_push rows row [] u long)) here in
           subst (λ (x : ℕ). R x (arcs_from (rows ++ row ∷ []) x)) (sym same) at_u
     ]
+
+-- the links of one more router
+pub links_of_one_more : (net : Network) (z : Zone) (u : ℕ) (rows : List (List Link)) (row : List Link) → AreAllLinks net z u rows → AreRouterLinks net z u row →
+    AreAllLinks net z (u + 1) (rows ++ row ∷ [])
+links_of_one_more net z u rows row are is = record {
+  long = omega (arith, length-append rows (row ∷ []), are.long);
+  each = λ w below. elim (below_cases w u below) [
+    | inl less ↦ subst (λ (r : List Link). AreRouterLinks net z w r) (sym (get_or_append_left rows (row ∷ []) [] w (omega (arith, are.long)))) (are.each w less)
+    | inr same ↦
+        let at_u : AreRouterLinks net z u (get_or (rows ++ row ∷ []) u []) = subst (λ (r : List Link). AreRouterLinks net z u r) (sym (get_or_push rows row [] u are.long)) is in
+        subst (λ (x : ℕ). AreRouterLinks net z x (get_or (rows ++ row ∷ []) x [])) (sym same) at_u
+  ];
+}
 
 -- the rows of all routers are the adjacencies of the network
 pub are_adjacencies : (net : Network) (z : Zone) (rows : List ArcList) → length rows ≡ length net →
@@ -66,34 +82,9 @@ are_graph_arcs net z rows kept exact short = record {
   positive = λ u v cost has. (Adjacent-cost net z u v cost kept ((exact.exact u v cost).0 has)).0;
 }
 
--- one more router's walks
-pub walks_more : (arcs : List ArcList) (u : ℕ) (walks : List Reach) (reach : Reach) → AreWalksBelow arcs u walks →
-    AreLeastWalks (HasArc arcs) u reach → AreNear (length arcs) reach → AreWalksBelow arcs (u + 1) (walks ++ reach ∷ [])
-walks_more arcs u walks reach before least near = record {
-  long = omega (arith, length-append walks (reach ∷ []), before.long);
-  least = λ w r at. elim (place w r at) [
-    | inl earlier ↦ before.least w r earlier
-    | inr here ↦ subst (λ (x : ℕ). AreLeastWalks (HasArc arcs) x r) (sym here.0) (subst (λ (x : Reach). AreLeastWalks (HasArc arcs) u x) here.1 least)
-  ];
-  near = λ w r at. elim (place w r at) [
-    | inl earlier ↦ before.near w r earlier
-    | inr here ↦ subst (λ (x : Reach). AreNear (length arcs) x) here.1 near
-  ];
-}
-  where
-    place : (w : ℕ) (r : Reach) → slice_get (walks ++ reach ∷ []) w ≡ Some r → (slice_get walks w ≡ Some r) ⊎ ((w ≡ u) × (reach ≡ r))
-    place w r at =
-        let within : w < length (walks ++ reach ∷ []) = slice_get_within (walks ++ reach ∷ []) w r at in
-        let is : get_or (walks ++ reach ∷ []) w r ≡ r = same_Some _ _ (sym (slice_get-get_or (walks ++ reach ∷ []) w r within) ∙ at) in
-        elim (below_cases w u (omega (arith, length-append walks (reach ∷ []), before.long))) [
-          | inl less ↦ let inside : w < length walks = omega (arith, before.long) in
-              inl (slice_get-get_or walks w r inside ∙ ap (λ (x : Reach). Some x) (sym (get_or_append_left walks (reach ∷ []) r w inside) ∙ is))
-          | inr same ↦ inr (same, sym (get_or_push walks reach r w (before.long ∙ sym same)) ∙ is)
-        ]
-
 -- walks over the arcs of a zone's graph are walks over its adjacencies
 pub are_zone_walks : (net : Network) (z : Zone) (arcs : List ArcList) (walks : List Reach) → AreAdjacencies net z arcs →
-    length arcs ≤ 200 → AreWalksBelow arcs (length arcs) walks → AreZoneWalks net z walks
+    length arcs ≤ 200 → AreWalksBelow (HasArc arcs) (length arcs) (length arcs) walks → AreZoneWalks net z walks
 are_zone_walks net z arcs walks exact few below = record {
   routers = below.long ∙ exact.routers;
   least = λ u reach at.
@@ -109,3 +100,12 @@ are_zone_walks net z arcs walks exact few below = record {
       };
   near = λ u reach at v d is. let close = below.near u reach at v d is in omega arith;
 }
+
+-- where no walk leads to a router there is no adjacency with it
+pub no_walk_no_arc : (net : Network) (z : Zone) (walks : List Reach) (u v : ℕ) (reach : Reach) (distance : Option ℕ) → AreZoneWalks net z walks → slice_get walks u ≡ Some reach →
+    distance ≡ distance_of reach v → is_some distance ≡ false → (cost : ℕ) → Adjacent net z u v cost → ⊥
+no_walk_no_arc net z walks u v reach (Some d) are at is none = λ cost adjacent. let wrong : true ≡ false = none in cc wrong
+no_walk_no_arc net z walks u v reach None are at is none = λ cost adjacent.
+    let least : AreLeastWalks (Adjacent net z) u reach = are.least u reach at in
+    let leg : Leg = record { to = v; cost = cost } in
+    (least.unreached v).0 (sym is) (leg ∷ []) (adjacent, refl)

@@ -1,6 +1,5 @@
 -- The graph of a zone: for each router the arcs that leave it.
-use Rattle.std.specs.Prelude.{◌≡◌, ◌↔◌, ◌⊎◌, ◌<◌, ◌≤◌, ℕ, ◌*◌, List, [], length, Some, slice_get, slice_index_or, Contains}
-use Rattle.walk_core.specs.Reach.{Reach, AreLeastWalks, AreNear}
+use Rattle.std.specs.Prelude.{◌≡◌, ◌↔◌, ◌⊎◌, ◌<◌, ◌≤◌, ℕ, ◌*◌, List, [], length, slice_index_or, Contains}
 use Rattle.net_model.specs.Network.{Network, Adjacent}
 use Rattle.net_model.specs.declared.bounds.TheConstants.{MOST_ROUTERS, MOST_UP_INTERFACES}
 use Rattle.net_model.specs.declared.zone.Zone.{Zone}
@@ -43,9 +42,3 @@ pub record AreGraphArcs (arcs : List ArcList) : Type 0 where
   pub short : (u : ℕ) → length (arcs_from arcs u) ≤ MOST_UP_INTERFACES * MOST_ROUTERS
   pub ends : (u v cost : ℕ) → HasArc arcs u v cost → v < length arcs
   pub positive : (u v cost : ℕ) → HasArc arcs u v cost → 1 ≤ cost
-
--- these are the least walks over the arcs from each router below n
-pub record AreWalksBelow (arcs : List ArcList) (n : ℕ) (walks : List Reach) : Type 0 where
-  pub long : length walks ≡ n
-  pub least : (u : ℕ) (reach : Reach) → slice_get walks u ≡ Some reach → AreLeastWalks (HasArc arcs) u reach
-  pub near : (u : ℕ) (reach : Reach) → slice_get walks u ≡ Some reach → AreNear (length arcs) reach

@@ -1,3 +1,4 @@
+pub mod LinkLists
 pub mod Graphs
 pub mod Walks
 pub mod GraphFacts

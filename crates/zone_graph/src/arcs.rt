@@ -1,9 +1,10 @@
 ghost use Rattle.std.specs.Prelude.{◌≡◌, ◌+◌, ◌*◌, ◌<◌, ◌≤◌, length, vec_len, slice_index_or, IfOk, OnOk};
 ghost use Rattle.net_model.specs.Network.{Adjacent};
 ghost use Rattle.zone_graph.specs.Graphs.{AddsArcs, AreArcsFrom};
+ghost use Rattle.zone_graph.specs.LinkLists.{AreAllLinks};
 
 use crate::OutOfMemory;
-use crate::links::push_links;
+use crate::links::Links;
 use net_model::{MOST_UP_INTERFACES, Net, Zone, may_join};
 use std::alloc::Global;
 use std::marker::Model;
@@ -28,15 +29,17 @@ impl Arcs {
         alloc: Global,
         net: &Net,
         zone: Zone,
+        links: &[Links],
         u: u32,
     ) -> Result<Arcs, OutOfMemory>
-        requires { u < length net.now }
+        requires router { u < length net.now }
+        requires links { AreAllLinks net.now zone (length net.now) links.now }
         ensures arcs { IfOk result (AreArcsFrom net.now zone u) }
         ensures few { IfOk result (λ arcs. length arcs ≤ MOST_UP_INTERFACES * length net.now) }
     {
         let mut all = Vec::new(alloc);
         for v in 0..net.routers() {
-            push_arcs(&mut all, net, zone, u, v)?;
+            push_arcs(&mut all, net, zone, links, u, v)?;
         }
         Ok(Arcs { all })
     }
@@ -62,11 +65,13 @@ fn push_arcs(
     arcs: &mut Vec<(u32, u32)>,
     net: &Net,
     zone: Zone,
+    links: &[Links],
     u: u32,
     v: u32,
 ) -> Result<(), OutOfMemory>
     requires near { u < length net.now }
     requires far { v < length net.now }
+    requires links { AreAllLinks net.now zone (length net.now) links.now }
     ensures adds { OnOk result (AddsArcs arcs.old.items arcs.new.items v (Adjacent net.now zone u v)) }
     ensures few { OnOk result (vec_len arcs.new ≤ vec_len arcs.old + MOST_UP_INTERFACES) }
 {
@@ -75,11 +80,5 @@ fn push_arcs(
     if u == v || !may_join(zone, near, far) {
         return Ok(());
     }
-    push_links(
-        arcs,
-        zone,
-        near.interfaces.as_slice(),
-        far.interfaces.as_slice(),
-        v,
-    )
+    links[u as usize].push_arcs(arcs, &links[v as usize], v)
 }

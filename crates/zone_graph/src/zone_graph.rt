@@ -4,6 +4,7 @@ ghost use Rattle.zone_graph.specs.Graphs.{HasArc, arcs_from, AreAdjacencies, Are
 
 use crate::OutOfMemory;
 use crate::arcs::Arcs;
+use crate::links::all_links;
 use net_model::{Net, Zone};
 use std::alloc::Global;
 use walk_core::CostGraph;
@@ -34,9 +35,10 @@ fn all_arcs(alloc: Global, net: &Net, zone: Zone) -> Result<Vec<Arcs>, OutOfMemo
     ensures exact { IfOk result (λ arcs. AreAdjacencies net.now zone arcs.items) }
     ensures facts { IfOk result (λ arcs. AreGraphArcs arcs.items) }
 {
+    let links = all_links(alloc, net, zone)?;
     let mut all = Vec::new(alloc);
     for u in 0..net.routers() {
-        all.push(Arcs::from_router(alloc, net, zone, u)?)?;
+        all.push(Arcs::from_router(alloc, net, zone, links.as_slice(), u)?)?;
     }
     Ok(all)
 }

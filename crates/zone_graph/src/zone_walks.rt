@@ -1,13 +1,14 @@
-ghost use Rattle.std.specs.Prelude.{◌≡◌, ◌<◌, ◌≤◌, ℕ, length, IfOk, slice_get, Some};
+ghost use Rattle.std.specs.Prelude.{◌≡◌, ◌<◌, ℕ, length, IfOk, MatchOption, slice_get, Some};
+ghost use Rattle.net_model.specs.Lookups.{LeastArc};
+ghost use Rattle.net_model.specs.Network.{Adjacent};
 ghost use Rattle.zone_graph.specs.Walks.{AreZoneWalks};
-ghost use Rattle.zone_graph.specs.Graphs.{AreAdjacencies, AreWalksBelow};
 
 use crate::OutOfMemory;
 use crate::zone_graph::ZoneGraph;
 use net_model::{Net, Zone};
 use std::alloc::Global;
 use std::marker::Model;
-use walk_core::{CostGraph, LeastWalks, least_walks};
+use walk_core::{LeastWalks, all_least_walks};
 
 /// The least walks of one zone of a network, from every router.
 #[derive(Debug, Drop)]
@@ -30,7 +31,7 @@ impl ZoneWalks {
         ensures { IfOk result (AreZoneWalks net.now zone) }
     {
         let graph = ZoneGraph::build(alloc, net, zone)?;
-        let all = all_walks(alloc, &graph)?;
+        let all = all_least_walks(alloc, &graph)?;
         Ok(ZoneWalks { all })
     }
 
@@ -48,15 +49,20 @@ impl ZoneWalks {
     {
         &self.all[u as usize]
     }
-}
 
-/// The least walks from every vertex of the graph.
-fn all_walks(alloc: Global, graph: &ZoneGraph) -> Result<Vec<LeastWalks>, OutOfMemory>
-    ensures walks { IfOk result (λ all. AreWalksBelow graph.now.arcs.items (length graph.now.arcs.items) all.items) }
-{
-    let mut all = Vec::new(alloc);
-    for u in 0..graph.vertices() {
-        all.push(least_walks(alloc, graph, u)?)?;
+    /// The least cost at which two routers are adjacent in the zone of these walks. Where no walk leads from one to the
+    /// other their interfaces aren't looked at.
+    pub fn arc(&self, net: &Net, zone: Zone, u: u32, v: u32) -> Option<u32>
+        requires from { u < length net.now }
+        requires to { v < length net.now }
+        requires walks { AreZoneWalks net.now zone self.now }
+        ensures { MatchOption result
+            ((cost : ℕ) → Adjacent net.now zone u v cost → ⊥)
+            (LeastArc net.now zone u v) }
+    {
+        if self.from_router(u).distance(v).is_none() {
+            return None;
+        }
+        net.arc(zone, u, v)
     }
-    Ok(all)
 }

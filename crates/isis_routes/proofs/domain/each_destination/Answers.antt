@@ -2,9 +2,16 @@ use Rattle.std.proofs.Common.{◌≡◌, ◌+◌, ℕ, List, All, take, sym, sub
 use Rattle.std.proofs.lemmas.List.Elements.{All-push}
 use Rattle.net_addr.specs.Addresses.{Block}
 use Rattle.isis_routes.specs.Domain.{AreAnnounced, dests_of}
+use Rattle.isis_routes.specs.Homes.{AreRoutersAt}
+use Rattle.isis_routes.proofs.HomeFacts.{routers_are}
 use Rattle.isis_routes.specs.declared.domain.Destination.{Destination}
 use Rattle.route_tables.proofs.DestinationLists.{one_more_prefix}
 use Rattle.isis_routes.proofs.domain.each_destination.Goals as goal
+
+pub build-requires-clause-homes : goal.build-requires-clause-homes
+build-requires-clause-homes c =
+    subst (λ (l : List ℕ). AreRoutersAt c.args.net.now c.dest-item.result l) (sym c.as_slice-in-loop-dest.ensures.value)
+    (routers_are c.args.net.now c.dest-item.result c.in_ok-homes.homes.items c.as_slice.result.now c.in_ok-routers.routers.items c.in_ok-homes.ensures c.as_slice.ensures.value c.in_ok-routers.ensures)
 
 pub loop-dest-preserved : goal.loop-dest-preserved
 loop-dest-preserved c =

@@ -4,7 +4,7 @@ use Rattle.walk_core.specs.BestOffers.{NoneTotals}
 use Rattle.walk_core.specs.declared.offers.Offer.{Offer}
 use Rattle.igp_theory.specs.Ospf.{OfOthers}
 use Rattle.igp_theory.specs.Isis.{LevelTwoAnnouncement, IsTwo}
-use Rattle.isis_routes.specs.Offered.{AreOffers}
+use Rattle.isis_routes.specs.Offered.{AreOffers, others_than}
 use Rattle.route_tables.specs.BestRoutes.{AreBestHops}
 use Rattle.isis_routes.specs.Routing.{IsLevelTwoRoute}
 use Rattle.isis_routes.proofs.Announced.{others_of_are}
@@ -12,16 +12,16 @@ use Rattle.isis_routes.proofs.BestRoutes.{two_route_is}
 use Rattle.isis_routes.proofs.CostBounds.{in_range, announcement_is_small}
 use Rattle.isis_routes.proofs.entry.level_two_hops.Goals as goal
 
-pub best_hops-requires : goal.best_hops-requires
-best_hops-requires c =
+pub best_of_others-requires : goal.best_of_others-requires
+best_of_others-requires c =
     let net = c.args.net.now in
     let u = c.args.router in
     let d = c.args.destination.now in
-    let others = c.in_ok-others.others.items in
-    in_range c.from_router.result.now (OfOthers (LevelTwoAnnouncement net d.one.dest) u) others c.as_slice-2.result.now
+    let others : List Offer = others_than u c.as_slice.result.now in
+    in_range c.from_router.result.now (OfOthers (LevelTwoAnnouncement net d.one.dest) u) others others
     (c.requires.domain.walks.two.near u c.from_router.result.now c.from_router.ensures)
-    (others_of_are (LevelTwoAnnouncement net d.one.dest) d.two.items c.as_slice.result.now others u c.requires.announced.two c.as_slice.ensures.value c.in_ok-others.ensures)
-    c.as_slice-2.ensures.value
+    (others_of_are (LevelTwoAnnouncement net d.one.dest) d.two.items c.as_slice.result.now others u c.requires.announced.two c.as_slice.ensures.value refl)
+    refl
     (λ at asks o.
     let small : asks < 2 ^ 41 = announcement_is_small net d.one.dest at asks c.args.domain.now.walks.one c.routers.ensures.network c.requires.domain.walks.one o.offered in
     omega arith)
@@ -33,14 +33,13 @@ returns c =
     let d = c.args.destination.now in
     let p = d.one.dest in
     let reach = c.from_router.result.now in
-    let others = c.in_ok-others.others.items in
-    let given = c.as_slice-2.result.now in
+    let others : List Offer = others_than u c.as_slice.result.now in
+    let given : List Offer = others in
     let listed : AreOffers (OfOthers (LevelTwoAnnouncement net p) u) given =
-    subst (λ (l : List Offer). AreOffers (OfOthers (LevelTwoAnnouncement net p) u) l) (sym c.as_slice-2.ensures.value)
-    (others_of_are (LevelTwoAnnouncement net p) d.two.items c.as_slice.result.now others u c.requires.announced.two c.as_slice.ensures.value c.in_ok-others.ensures) in
-    IfOk-weaker c.best_hops.result
+    others_of_are (LevelTwoAnnouncement net p) d.two.items c.as_slice.result.now others u c.requires.announced.two c.as_slice.ensures.value refl in
+    IfOk-weaker c.best_of_others.result
     (λ (found : Option (List ℕ)). MatchOption found (NoneTotals reach given) (AreBestHops reach given c.routers.result))
     (λ (found : Option (List ℕ)). MatchOption found (IsTwo net p u → ⊥) (IsLevelTwoRoute net p u))
     (λ found best. two_route_is net p u reach given (c.if-not-runs_two.ensures.runs.0 refl)
     (c.requires.domain.walks.two.least u reach c.from_router.ensures) listed c.routers.result c.routers.ensures.count found best)
-    c.best_hops.ensures
+    c.best_of_others.ensures

@@ -1,9 +1,10 @@
-use Rattle.std.proofs.Common.{◌≡◌, ℕ, List, ap, subst, ◌∙◌}
+use Rattle.std.proofs.Common.{◌≡◌, ℕ, List, Contains, false, true, ap, subst, ◌∙◌}
 use Rattle.std.proofs.lemmas.Result.{on_ok_weaker}
 use Rattle.net_model.specs.Configuration.{Configuration}
 use Rattle.net_model.specs.declared.interface.Interface.{Interface}
 use Rattle.isis_routes.specs.Offered.{AskedBy, OffersIn, AddsOffers}
-use Rattle.isis_routes.proofs.OfferLists.{adds_same, asked_is_offered, offered_is_asked}
+use Rattle.isis_routes.proofs.OfferLists.{adds_nothing, adds_same, asked_is_offered, offered_is_asked}
+use Rattle.isis_routes.proofs.HomeFacts.{offered_is_connected}
 use Rattle.isis_routes.proofs.offers.push_router_offers.Goals as goal
 
 pub returns : goal.returns
@@ -21,3 +22,9 @@ returns c =
       offered_is_asked c.args.net.now c.args.level c.args.dest c.args.router config c.config.ensures.router k,
     )))
     c.push_offers.ensures
+
+pub returns-then-not-is_among : goal.returns-then-not-is_among
+returns-then-not-is_among c =
+    adds_nothing c.args.offers.now.items c.args.router (OffersIn c.args.net.now c.args.level c.args.dest c.args.router)
+    (λ cost offers. let there : Contains c.args.homes.now c.args.router = (c.requires.homes c.args.router).1 (offered_is_connected c.args.net.now c.args.level c.args.dest c.args.router cost offers) in
+    let k : false ≡ true = c.if-not-is_among.ensures.1 there in cc)

@@ -11,20 +11,20 @@ use Rattle.ospf_routes.proofs.entry.area_hops.Goals as goal
 
 pub best_hops-requires : goal.best_hops-requires
 best_hops-requires c =
-    in_range c.in-Some.walks.now (OffersSubnet c.args.net.now c.args.area c.args.destination.now.dest) c.in-Some-part_of.part.now.offers.items c.as_slice-in-Some-part_of.result.now c.in-Some.ensures.some.reach_is.near
-    (part_is c.args.net.now c.args.destination.now c.as_slice.result.now c.in-Some-part_of.part.now c.args.area c.requires.destination c.as_slice.ensures.value c.in-Some-part_of.ensures.among c.in-Some-part_of.ensures.area) c.as_slice-in-Some-part_of.ensures.value
+    in_range c.in-Some-reach_inside.walks.now (OffersSubnet c.args.net.now c.args.area c.args.destination.now.dest) c.in-Some.part.now.offers.items c.as_slice-in-Some-reach_inside.result.now c.in-Some-reach_inside.ensures.some.reach_is.near
+    (part_is c.args.net.now c.args.destination.now c.as_slice.result.now c.in-Some.part.now c.args.area c.requires.destination c.as_slice.ensures.value c.in-Some.ensures.among c.in-Some.ensures.area) c.as_slice-in-Some-reach_inside.ensures.value
     (λ at asks offers. let small : asks < 2 ^ 24 = subnet_is_small c.args.net.now c.args.area c.args.destination.now.dest at asks c.requires.areas.network offers in omega arith)
 
-pub returns-in-Some-part_of : goal.returns-in-Some-part_of
-returns-in-Some-part_of c =
-    let reach = c.in-Some.walks.now in
-    let given = c.as_slice-in-Some-part_of.result.now in
+pub returns-in-Some-reach_inside : goal.returns-in-Some-reach_inside
+returns-in-Some-reach_inside c =
+    let reach = c.in-Some-reach_inside.walks.now in
+    let given = c.as_slice-in-Some-reach_inside.result.now in
     IfOk-weaker c.best_hops.result
     (λ (found : Option (List ℕ)). MatchOption found (NoneTotals reach given) (AreBestHops reach given c.routers.result))
     (λ (found : Option (List ℕ)). MatchOption found ((cost : ℕ) → IntraAreaCost c.args.net.now c.args.area c.args.destination.now.dest c.args.u cost → ⊥) (IsAreaRoute c.args.net.now c.args.area c.args.destination.now.dest c.args.u))
-    (λ found best. area_route_is c.args.net.now c.args.area c.args.destination.now.dest c.args.u reach c.in-Some-part_of.part.now.offers.items given c.in-Some.ensures.some (part_is c.args.net.now c.args.destination.now c.as_slice.result.now c.in-Some-part_of.part.now c.args.area c.requires.destination c.as_slice.ensures.value c.in-Some-part_of.ensures.among c.in-Some-part_of.ensures.area) c.as_slice-in-Some-part_of.ensures.value c.routers.result c.routers.ensures.count found best)
+    (λ found best. area_route_is c.args.net.now c.args.area c.args.destination.now.dest c.args.u reach c.in-Some.part.now.offers.items given c.in-Some-reach_inside.ensures.some (part_is c.args.net.now c.args.destination.now c.as_slice.result.now c.in-Some.part.now c.args.area c.requires.destination c.as_slice.ensures.value c.in-Some.ensures.among c.in-Some.ensures.area) c.as_slice-in-Some-reach_inside.ensures.value c.routers.result c.routers.ensures.count found best)
     c.best_hops.ensures
 
-pub returns-in-None-part_of : goal.returns-in-None-part_of
-returns-in-None-part_of c =
-    no_intra_given c.args.net.now c.args.destination.now c.as_slice.result.now c.args.area c.args.u c.requires.destination c.as_slice.ensures.value c.in-None-part_of.ensures.none
+pub returns-in-None : goal.returns-in-None
+returns-in-None c =
+    no_intra_given c.args.net.now c.args.destination.now c.as_slice.result.now c.args.area c.args.u c.requires.destination c.as_slice.ensures.value c.in-None.ensures.none

@@ -28,7 +28,7 @@ returns-in_ok-others-in-Some-part_of c =
 
 pub returns-in-None-part_of : goal.returns-in-None-part_of
 returns-in-None-part_of c =
-    absurd (c.in-None-part_of.ensures.none (summary_part_there c.args.net.now c.args.areas.now c.args.summaries.now c.as_slice.result.now c.args.area c.args.u c.requires.areas c.requires.summaries c.as_slice.ensures.value c.requires.listens))
+    summary_part_there c.args.net.now c.args.areas.now c.args.summaries.now c.as_slice.result.now c.args.area c.args.u c.requires.areas c.requires.summaries c.as_slice.ensures.value c.requires.listens c.in-None-part_of.ensures.none
 
 pub returns-in-None : goal.returns-in-None
 returns-in-None c =

@@ -1,5 +1,6 @@
-use Rattle.ospf_routes.specs.Routing.{AreUnited}
+use Rattle.std.proofs.Common.{take}
+use Rattle.ospf_routes.proofs.RouteFacts.{AreSomeOf}
 use Rattle.ospf_routes.proofs.route.united.Given as goal
 
-abbrev pub invariant-loop-h : goal.invariant-loop-h
-invariant-loop-h l = AreUnited l.lists l.h l.hops.items
+abbrev pub invariant-loop-list : goal.invariant-loop-list
+invariant-loop-list l = AreSomeOf (take l.list-index l.lists) l.count l.hops.items

@@ -4,6 +4,12 @@ use Rattle.isis_routes.specs.Domain.{IsisNetwork}
 use Rattle.isis_routes.proofs.ProtocolFacts.{neighbor_by_one, neighbor_by_two}
 use Rattle.isis_routes.proofs.protocol.IsisProtocol.is_neighbor.Goals as goal
 
+pub arc-requires-clause-walks : goal.arc-requires-clause-walks
+arc-requires-clause-walks c = c.self.invariant.walks.one
+
+pub arc-requires-else-is_some-clause-walks : goal.arc-requires-else-is_some-clause-walks
+arc-requires-else-is_some-clause-walks c = c.self.invariant.walks.two
+
 pub returns-then-is_some : goal.returns-then-is_some
 returns-then-is_some c =
     subst (λ (isis : IsisNetwork). IsTrue c.is_some.result ↔ IsIsisNeighbor isis.net c.args.router c.args.other) c.self.view_is (

@@ -1,0 +1,71 @@
+ghost use Rattle.std.specs.Prelude.{◌≡◌, ◌<◌, ◌↔◌, ℕ, length, Some, Any, IfOk, OnOk};
+ghost use Rattle.net_model.specs.Network.{Connected};
+ghost use Rattle.route_tables.specs.Lists.{Adds, Exactly};
+ghost use Rattle.isis_routes.specs.Homes.{AreHomes, IsHomeOf, IsOwnSubnet};
+ghost use Rattle.isis_routes.specs.declared.homes.Home.{Home as HomeValue};
+
+use crate::OutOfMemory;
+use net_addr::Prefix;
+use net_model::{Interface, Net};
+use route_tables::push_option;
+use std::alloc::Global;
+
+/// A prefix, and a router at which it is connected.
+#[derive(Clone, Copy, Debug)]
+pub struct Home {
+    dest: Prefix,
+    router: u32,
+}
+
+/// The connected prefixes of all routers.
+pub fn all_homes(alloc: Global, net: &Net) -> Result<Vec<Home>, OutOfMemory>
+    ensures { IfOk result (λ homes. AreHomes net.now homes.items) }
+{
+    let mut homes = Vec::new(alloc);
+    for w in 0..net.routers() {
+        push_homes(&mut homes, net.config(w).interfaces.as_slice(), w)?;
+    }
+    Ok(homes)
+}
+
+/// Adds the connected prefixes of router `w`.
+fn push_homes(homes: &mut Vec<Home>, interfaces: &[Interface], w: u32) -> Result<(), OutOfMemory>
+    ensures { OnOk result (Adds homes.old.items homes.new.items (λ h. Any (λ i. IsOwnSubnet i w h) interfaces.now)) }
+{
+    for interface in interfaces {
+        push_option(homes, home_of(interface, w))?;
+    }
+    Ok(())
+}
+
+/// The subnet of an interface of router `w` that is up.
+fn home_of(interface: &Interface, w: u32) -> Option<Home>
+    ensures { (h : HomeValue) → (result ≡ Some h) ↔ IsOwnSubnet interface.now w h }
+{
+    match interface.subnet {
+        Some(dest) if interface.up => Some(Home { dest, router: w }),
+        _ => None,
+    }
+}
+
+/// The routers at which a prefix is connected, by these homes.
+pub fn routers_at(alloc: Global, homes: &[Home], dest: Prefix) -> Result<Vec<u32>, OutOfMemory>
+    ensures { IfOk result (λ routers. Exactly (λ u. Any (λ h. IsHomeOf dest h u) homes.now) routers.items) }
+{
+    let mut routers = Vec::new(alloc);
+    for home in homes {
+        push_option(&mut routers, router_at(*home, dest))?;
+    }
+    Ok(routers)
+}
+
+/// The router of a home, where it is one of this prefix.
+fn router_at(home: Home, dest: Prefix) -> Option<u32>
+    ensures { (u : ℕ) → (result ≡ Some u) ↔ IsHomeOf dest home u }
+{
+    if home.dest == dest {
+        Some(home.router)
+    } else {
+        None
+    }
+}

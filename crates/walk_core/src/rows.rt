@@ -1,0 +1,108 @@
+ghost use Rattle.std.specs.Prelude.{◌≡◌, ◌<◌, ◌*◌, ◌^◌, ℕ, length, slice_index_or, [], IfOk};
+ghost use Rattle.walk_core.specs.Distances.{distance_at, distance_between, AreRows, IsRow, KnowsEnds};
+
+use crate::relax::{distance_at, distances_from};
+use crate::{CostGraph, OutOfMemory};
+use std::alloc::Global;
+use std::marker::Model;
+
+/// The distances from one vertex, by the number of the other: the least cost of a walk there, and None where no walk
+/// leads.
+#[derive(Debug, Drop)]
+pub struct Distances {
+    all: Vec<Option<u64>>,
+}
+
+impl Model for Distances {
+    ghost use Rattle.std.specs.Prelude.{List, Option, ℕ};
+
+    ghost Value = { List (Option ℕ) };
+
+    ghost view = { λ x. x.all.items };
+}
+
+impl Distances {
+    ghost use Rattle.std.specs.Prelude.{◌≡◌, [], IfOk};
+    ghost use Rattle.walk_core.specs.Distances.{distance_at};
+
+    /// No distances.
+    pub fn none(alloc: Global) -> Distances
+        ensures { result ≡ [] }
+    {
+        Distances {
+            all: Vec::new(alloc),
+        }
+    }
+
+    /// The distances of a vector.
+    pub fn from_vec(all: Vec<Option<u64>>) -> Distances
+        ensures { result ≡ all.items }
+    {
+        Distances { all }
+    }
+
+    /// The distance of v, and None where there is none.
+    pub fn at(&self, v: u32) -> Option<u64>
+        ensures { result ≡ distance_at self.now v }
+    {
+        distance_at(self.all.as_slice(), v)
+    }
+
+    /// The same distances once more.
+    pub fn copied(&self) -> Result<Distances, OutOfMemory>
+        ensures { IfOk result (λ copy. copy ≡ self.now) }
+    {
+        Ok(Distances {
+            all: self.all.clone()?,
+        })
+    }
+}
+
+/// The distance from u to v by these rows, and None where there is none.
+pub fn distance_between(rows: &[Distances], u: u32, v: u32) -> Option<u64>
+    ensures { result ≡ distance_between rows.now u v }
+{
+    match rows.get(u as usize) {
+        Some(row) => row.at(v),
+        None => None,
+    }
+}
+
+/// The distances from every vertex.
+pub fn all_rows<G: CostGraph>(alloc: Global, graph: &G) -> Result<Vec<Distances>, OutOfMemory>
+    ensures { IfOk result (λ rows. AreRows (G.has_arc graph.now) (G.vertex_count graph.now) (G.vertex_count graph.now) rows.items) }
+{
+    let mut rows = Vec::new(alloc);
+    for u in 0..graph.vertices() {
+        rows.push(distances_from(alloc, graph, u)?)?;
+    }
+    Ok(rows)
+}
+
+/// The distances from each vertex that an arc from the root leads to.
+pub fn rows_beyond<G: CostGraph>(
+    alloc: Global,
+    graph: &G,
+    root: u32,
+) -> Result<Vec<Distances>, OutOfMemory>
+    requires { root < G.vertex_count graph.now }
+    ensures { IfOk result (λ rows. KnowsEnds (G.has_arc graph.now) root rows.items) }
+{
+    let mut rows = no_rows(alloc, graph.vertices())?;
+    for i in 0..graph.arcs(root) {
+        let to = graph.arc(root, i).0;
+        rows[to as usize] = distances_from(alloc, graph, to)?;
+    }
+    Ok(rows)
+}
+
+/// So many rows without distances.
+fn no_rows(alloc: Global, count: u32) -> Result<Vec<Distances>, OutOfMemory>
+    ensures { IfOk result (λ rows. length rows.items ≡ count) }
+{
+    let mut rows = Vec::new(alloc);
+    for _ in 0..count {
+        rows.push(Distances::none(alloc))?;
+    }
+    Ok(rows)
+}
