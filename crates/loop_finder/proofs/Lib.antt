@@ -22,3 +22,5 @@ mod WaveListFacts
 mod OrderStates
 mod WaveSteps
 mod FaultLaws
+mod WatchLaws
+mod CalmLaws

@@ -1,12 +1,17 @@
 -- The changes of an order, one after another.
-use Rattle.std.proofs.Common.{◌≡◌, ℕ, zero, suc, ◌+◌, ◌*◌, ◌/◌, ◌<◌, ◌≤◌, ◌==◌, if◌then◌else◌, List, [], ◌∷◌, ◌++◌, length, get_or, take, Bool, true, false, arith, refl, sym, ap, ◌∙◌, subst, inl, inr}
+use Rattle.std.proofs.Common.{◌≡◌, ℕ, zero, suc, ◌+◌, ◌-◌, ◌*◌, ◌/◌, ◌<◌, ◌≤◌, ◌==◌, if◌then◌else◌, List, [], ◌∷◌, ◌++◌, length, get_or, take, Option, Some, None, IfNone, IfSome, MatchOption, Bool, true, false, arith, refl, sym, ap, ◌∙◌, subst, inl, inr}
 use Rattle.std.proofs.lemmas.Bool.Decides.{eqb_tells}
 use Rattle.std.proofs.lemmas.List.{take_more, take_all}
 use Rattle.igp_theory.specs.States.{State, changes_of, changes_on, phase_after, state_of}
 use Rattle.igp_theory.specs.declared.phase.Phase.{Phase}
 use Rattle.igp_theory.specs.declared.phase.Phase.TheVariants.{Old}
 use Rattle.loop_finder.specs.Faults.{state_in}
-use Rattle.loop_finder.specs.Orders.{next_phase, IsStateOf, IsAdvanced}
+use Rattle.order_core.specs.declared.turn.Turn.{Turn}
+use Rattle.rib_mix.specs.Mixture.{Mixture}
+use Rattle.loop_finder.specs.Orders.{next_phase, IsStateOf, IsAdvanced, AreFirstStates}
+use Rattle.loop_finder.specs.Steps.{Listing}
+use Rattle.loop_finder.specs.Verdicts.{Sound, FirstFaulty}
+use Rattle.loop_finder.specs.declared.fault.Fault.{Fault}
 
 -- two states that give each router one phase are one
 pub same_state : (one other : State) → ((u : ℕ) → one u ≡ other u) → one ≡ other
@@ -73,3 +78,34 @@ pub state_stays : (order : List ℕ) (phases : List Phase) (k : ℕ) → length 
 state_stays order phases k past state u =
     let long : length (changes_of order) ≤ k = omega (arith, changes_length order, past) in
     state u ∙ ap (λ (xs : List ℕ). phase_after (changes_on u xs)) (take_all k (changes_of order) long ∙ sym (take_all (k + 1) (changes_of order) (omega (arith, long))))
+
+-- Orders that begin alike
+
+-- the first changes of two orders that share their first places
+same_changes : (one other : List ℕ) (places k : ℕ) → length one ≡ length other → ((j : ℕ) → j < places → get_or other j 0 ≡ get_or one j 0) → k ≤ 2 * places
+    → take k (changes_of other) ≡ take k (changes_of one)
+same_changes [] [] places k many same most = refl
+same_changes [] (v ∷ other) places k many same most = absurd (omega (arith, many))
+same_changes (u ∷ one) [] places k many same most = absurd (omega (arith, many))
+same_changes (u ∷ one) (v ∷ other) places zero many same most = refl
+same_changes (u ∷ one) (v ∷ other) places (suc zero) many same most = ap (λ (x : ℕ). x ∷ []) (same 0 (omega (arith, most)))
+same_changes (u ∷ one) (v ∷ other) places (suc (suc k)) many same most =
+    let head : v ≡ u = same 0 (omega (arith, most)) in
+    let rest : take k (changes_of other) ≡ take k (changes_of one) =
+    same_changes one other (places - 1) k (omega (arith, many)) (λ j less. same (suc j) (omega (arith, less))) (omega (arith, most)) in
+    ap (λ (x : ℕ). x ∷ x ∷ take k (changes_of other)) head ∙ ap (λ (xs : List ℕ). u ∷ u ∷ xs) rest
+
+-- so they share their first states
+pub same_states : (one other : List ℕ) (places k u : ℕ) → length one ≡ length other → ((j : ℕ) → j < places → get_or other j 0 ≡ get_or one j 0) → k < 2 * places + 1
+    → state_of other k u ≡ state_of one k u
+same_states one other places k u many same less =
+    ap (λ (xs : List ℕ). phase_after (changes_on u xs)) (same_changes one other places k many same (omega (arith, less)))
+
+-- What is known of an order
+
+-- the states before the first unsound one are sound, all of them where there is none
+pub known_after : {O N : Type 0} (old : Listing O) (new : Listing N) (m : Mixture O N) (order : List ℕ) (found : Option (ℕ × Fault)) (turns : List Turn) (count : ℕ)
+    → IfNone found (AreFirstStates (Sound old new m) order (2 * length order + 1)) → IfSome found (λ first. FirstFaulty old new m order first.0 first.1 turns)
+    → MatchOption found (count ≡ 2 * length order + 1) (λ first. count ≡ first.0) → AreFirstStates (Sound old new m) order count
+known_after old new m order None turns count sound fault is = subst (λ (n : ℕ). AreFirstStates (Sound old new m) order n) (sym is) sound
+known_after old new m order (Some first) turns count sound fault is = subst (λ (n : ℕ). AreFirstStates (Sound old new m) order n) (sym is) fault.before

@@ -7,15 +7,11 @@ use Rattle.std.proofs.lemmas.List.{get_or_default}
 use Rattle.std.proofs.lemmas.List.Elements.{All-contains, All-push, Contains-append_left, Contains-push}
 use Rattle.std.proofs.lemmas.List.Quantifiers.{all_pairs_push}
 use Rattle.igp_theory.specs.States.{State}
-use Rattle.igp_theory.specs.declared.phase.Phase.{Phase}
 use Rattle.rib_mix.specs.Mixture.{Mixture}
-use Rattle.loop_finder.specs.Parts.{ClassPart, PartStep, AllMove, HasEarlierHops, IsPart, IsCovered, has_part, never_unsound, as_earlier, AreParts, SoundWith, DifferAt, PassesNever}
-use Rattle.loop_finder.specs.Returns.{NeverReturnsTo}
+use Rattle.loop_finder.specs.Parts.{ClassPart, AllMove, HasEarlierHops, IsPart, IsCovered, has_part, never_unsound, as_earlier, AreParts, SoundWith}
 use Rattle.loop_finder.specs.Steps.{Listing, sample_of}
-use Rattle.loop_finder.specs.Verdicts.{ClassesOf, SoundAt, Sound, IsBetween}
-use Rattle.loop_finder.proofs.ClassVerdicts.{sample_in}
-use Rattle.loop_finder.proofs.PartLaws.{part_stays_sound, sound_with}
-use Rattle.loop_finder.proofs.StateVerdicts.{sound_from_classes}
+use Rattle.loop_finder.specs.Verdicts.{ClassesOf, SoundAt}
+use Rattle.loop_finder.proofs.PartLaws.{sound_with}
 
 -- What they tell
 
@@ -69,20 +65,6 @@ sound_whole old new m parts n d state are sound k below =
     let is : get_or parts among.0 d ≡ part = get_or_default parts among.0 d part among.1 ∙ among.2 in
     subst (λ (x : ClassPart). SoundAt old new m state (sample_of m x.atom)) is (sound among.0 among.1))
     (are.covered k below)
-
--- where in no part a walk returns to the router that changes, a sound state stays sound
-pub stays_sound : {O N : Type 0} (old : Listing O) (new : Listing N) (m : Mixture O N) (parts : List ClassPart) (first last : List Phase) (u : ℕ) (before after : State)
-    → AreParts old new m parts (length m.classes.samples) → PassesNever parts first last u → DifferAt (length m.net) u before after → IsBetween (length m.net) first last after
-    → Sound old new m before → Sound old new m after
-stays_sound old new m parts first last u before after are never differ between sound =
-    sound_from_classes old new m after (length m.classes.samples) are.classes (omega arith)
-    (λ k below. from_covered old new m parts (length m.classes.samples) k after below
-    (λ part among less.
-    let is : IsPart old new m part = All-contains (IsPart old new m) parts part are.each among in
-    let passes = All-contains (λ (x : ClassPart). (x.moves ≡ true) × NeverReturnsTo (PartStep x first last) u) parts part never among in
-    part_stays_sound old new m part first last u before after is passes.0 passes.1 differ between
-    (sound (sample_of m part.atom) (sample_in m.classes part.atom are.classes is.class).address))
-    (are.covered k below))
 
 -- How they are made
 

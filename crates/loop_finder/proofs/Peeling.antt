@@ -4,7 +4,7 @@ use Rattle.std.proofs.lemmas.List.{get_or-set_same, get_or-set_other, get_or_pas
 use Rattle.std.proofs.lemmas.List.Sums.{sum_by-set, count_by-le-length}
 use Rattle.std.proofs.lemmas.Bool.{false≢true, cases_lt}
 use Rattle.std.proofs.lemmas.Bool.Decides.{eqb_tells}
-use Rattle.std.specs.Bool.{OnFalse}
+use Rattle.std.specs.Bool.{OnFalse, OnTrue}
 use Rattle.igp_theory.specs.States.{Follows}
 use Rattle.order_core.specs.Marks.{IsMarked}
 use Rattle.loop_finder.specs.Live.{marked_count, HasMarkedHop, AreBounded}
@@ -97,3 +97,19 @@ IsPeel-closed step start marks false n peel whole = λ u marked. elim (cases_lt 
   | inl below ↦ peel.closed refl u below marked
   | inr past ↦ absurd (false≢true (sym (get_or_past marks u false (omega (arith, past, whole))) ∙ marked))
 ]
+
+-- marks were taken, of routers that step to no marked one
+pub record IsStripped (step : ℕ → ℕ → Type 0) (start marks : List Bool) : Type 0 where
+  pub bounded : AreBounded step marks
+  pub no_more : marked_count marks ≤ marked_count start
+
+-- one more, where that is so of it
+pub IsStripped-by : (step : ℕ → ℕ → Type 0) (start old new : List Bool) (u : ℕ) (taken : Bool) → u < length old → OnFalse taken (new ≡ old) → OnTrue taken (new ≡ set old u false)
+    → OnTrue taken (IsMarked old u) → OnTrue taken ((h : ℕ) → step u h → ¬ IsMarked old h) → IsStripped step start old → IsStripped step start new
+IsStripped-by step start old new u true within same is marked stuck before =
+    let less : marked_count (set old u false) + 1 ≡ marked_count old = marked_count-set old u within marked in
+    subst (λ (marks : List Bool). IsStripped step start marks) (sym is) (record {
+      bounded = bounded_more step old u within marked stuck before.bounded;
+      no_more = omega (arith, less, before.no_more);
+    })
+IsStripped-by step start old new u false within same is marked stuck before = subst (λ (marks : List Bool). IsStripped step start marks) (sym same) before

@@ -9,7 +9,7 @@ use Rattle.order_core.specs.declared.turn.Turn.{Turn}
 use Rattle.rib_mix.specs.Mixture.{Mixture}
 use Rattle.loop_finder.specs.Faults.{state_in}
 use Rattle.loop_finder.specs.Steps.{Listing, ClassState, sample_of, ClassStep, IsStuckIn}
-use Rattle.loop_finder.specs.Verdicts.{Verdict, Told, ClassesOf, SoundBelow, Sound, Faulty}
+use Rattle.loop_finder.specs.Verdicts.{Verdict, IsTold, Told, ClassesOf, SoundAt, SoundBelow, Sound, Faulty}
 use Rattle.loop_finder.specs.declared.fault.Fault.{Fault}
 use Rattle.loop_finder.specs.declared.fault.Fault.TheVariants.{Loop, Missing}
 use Rattle.loop_finder.proofs.Between.{has_step, between_itself}
@@ -37,6 +37,12 @@ fault_from {O} {N} old new m phases forwards atom turns (Missing a u) address be
     subst (λ (x : ℕ). Faulty old new m (state_in phases) (Missing x u) turns) (sym verdict.0)
     (missing_step address below stuck.must (λ has. stuck.lacks has.hop has.steps) (λ v before must. has_step old new c v (state_in phases v) (verdict.1.1 v before).0 must))
 
+-- the fault that is told of a class is that of a state which is sound for the classes before it
+pub faulty_at : {O N : Type 0} (old : Listing O) (new : Listing N) (m : Mixture O N) (phases : List Phase) (atom : ℕ) (turns : List Turn) (fault : Fault) → ClassesOf old new m → atom < length m.classes.samples
+    → ((k : ℕ) → k < atom → SoundAt old new m (state_in phases) (sample_of m k)) → IsTold old new m phases phases atom (Some fault) turns → Faulty old new m (state_in phases) fault turns
+faulty_at old new m phases atom turns fault are within before told =
+    fault_from old new m phases told.forwards atom turns fault (sample_in m.classes atom are within).address (below_from old new m (state_in phases) atom are within before) told.verdict
+
 -- no fault tells that the state is sound, a fault tells it
 pub sound_of_told : {O N : Type 0} (old : Listing O) (new : Listing N) (m : Mixture O N) (phases : List Phase) (result : Option Fault) (turns : List Turn) → ClassesOf old new m → Told old new m phases phases result turns
     → IfNone result (Sound old new m (state_in phases))
@@ -48,5 +54,4 @@ pub fault_of_told : {O N : Type 0} (old : Listing O) (new : Listing N) (m : Mixt
     → IfSome result (λ fault. Faulty old new m (state_in phases) fault turns)
 fault_of_told old new m phases None turns are told = tt
 fault_of_told old new m phases (Some fault) turns are told =
-    fault_from old new m phases told.here.forwards told.atom turns fault (sample_in m.classes told.atom are told.within).address
-    (below_from old new m (state_in phases) told.atom are told.within (λ j below. told.before j below (state_in phases) (between_itself (length m.net) phases))) told.here.verdict
+    faulty_at old new m phases told.atom turns fault are told.within (λ j below. told.before j below (state_in phases) (between_itself (length m.net) phases)) told.here

@@ -1,23 +1,28 @@
 -- A wave is gone through router by router.
-use Rattle.std.proofs.Common.{◌≡◌, ℕ, zero, suc, ◌-◌, ◌<◌, ◌≤◌, ◌⊎◌, Bool, true, cond, leb, List, length, inl, inr, arith, sym, ap, ◌∙◌, subst}
+use Rattle.std.proofs.Common.{◌≡◌, ℕ, zero, suc, ◌+◌, ◌-◌, ◌<◌, ◌≤◌, ◌⊎◌, Bool, true, cond, leb, List, ◌∷◌, length, Contains, inl, inr, arith, sym, ap, ◌∙◌, subst}
 use Rattle.std.specs.Bool.{OnTrue}
 use Rattle.std.proofs.lemmas.Bool.{cases_lt, cases_order}
 use Rattle.std.proofs.lemmas.Bool.Decides.{leb_tells}
 use Rattle.std.proofs.lemmas.List.{get_or_past}
 use Rattle.order_core.specs.Rankings.{rank_of}
 use Rattle.igp_theory.specs.States.{State}
+use Rattle.igp_theory.specs.Waves.{IsStateOfWave}
 use Rattle.igp_theory.specs.declared.phase.Phase.{Phase}
-use Rattle.igp_theory.specs.declared.phase.Phase.TheVariants.{Old}
-use Rattle.igp_theory.proofs.AlikeStates.{sound_alike}
+use Rattle.igp_theory.specs.declared.phase.Phase.TheVariants.{Old, New}
+use Rattle.igp_theory.proofs.AlikeStates.{sound_at_alike}
+use Rattle.igp_theory.proofs.SameTables.{follows_over}
 use Rattle.rib_mix.specs.Mixture.{Mixture}
+use Rattle.loop_finder.specs.Calm.{WaveStep}
 use Rattle.loop_finder.specs.Faults.{state_in}
 use Rattle.loop_finder.specs.Orders.{all_old}
-use Rattle.loop_finder.specs.Parts.{ClassPart, AreParts, PassesNever}
-use Rattle.loop_finder.specs.Steps.{Listing}
-use Rattle.loop_finder.specs.Verdicts.{Sound, SoundWave, SoundWavesBefore, IsBetween}
+use Rattle.loop_finder.specs.Parts.{ClassPart, part_hops, PartStep, IsPart}
+use Rattle.loop_finder.specs.Returns.{NeverReturnsTo}
+use Rattle.loop_finder.specs.Steps.{Listing, sample_of}
+use Rattle.loop_finder.specs.Verdicts.{SoundAt, Sound, SoundWavesBefore, IsBetween}
+use Rattle.loop_finder.specs.WaveLists.{AreSwitchedBefore}
 use Rattle.loop_finder.specs.WaveStarts.{BeginsSound}
 use Rattle.loop_finder.proofs.OrderStates.{same_state}
-use Rattle.loop_finder.proofs.PartLists.{stays_sound}
+use Rattle.loop_finder.proofs.PartLaws.{part_stays_sound, part_inside}
 use Rattle.loop_finder.proofs.ToldOfWaves.{AreEnds, wave_between}
 
 -- the routers below r have their phases of one state, the others those of another
@@ -43,18 +48,56 @@ mixed_more one other r v apart = elim (cases_lt v r) [
   | inr above ↦ mixed_other one other (suc r) v (omega (arith, above, apart)) ∙ sym (mixed_other one other r v above)
 ]
 
--- where no walk returns to a router of the wave, each state of it is sound: the routers change one after another
-pub wave_stays_sound : {O N : Type 0} (old : Listing O) (new : Listing N) (m : Mixture O N) (parts : List ClassPart) (ranks : List ℕ) (w : ℕ) (first last : List Phase)
-    → AreParts old new m parts (length m.classes.samples) → AreEnds (length m.net) ranks w first last → Sound old new m (state_in first)
-    → ((u : ℕ) → u < length ranks → rank_of ranks u ≡ w → PassesNever parts first last u) → SoundWave old new m ranks w
-wave_stays_sound old new m parts ranks w first last are ends begun never state of_wave =
-    sound_alike (λ u within. mixed_one state (state_in first) (length m.net) u within) (sound_to (length m.net) (omega arith))
+-- a state between the first and the last one of a wave is one of the wave
+pub state_between : {n : ℕ} {ranks : List ℕ} {w : ℕ} {first last : List Phase} (state : State) → AreEnds n ranks w first last → IsBetween n first last state → IsStateOfWave n ranks w state
+state_between {ranks = ranks} {w = w} {first = first} {last = last} state ends between = record {
+  earlier = λ u within before.
+      let switched : state_in first u ≡ New = ends.begins.switched u (omega (arith, within, ends.each)) before in
+      elim (between u within) [ inl same ↦ same ∙ switched | inr both ↦ absurd (let clash : Old ≡ New = sym both.0 ∙ switched in cc) ];
+  later = λ u within after.
+      let waits : state_in first u ≡ Old = ends.begins.others u (omega (arith, within, ends.each)) (omega (arith, after)) in
+      let waits_on : state_in last u ≡ Old = ends.ends.others u (omega (arith, within, ends.each)) (omega (arith, after)) in
+      elim (between u within) [ inl same ↦ same ∙ waits | inr both ↦ absurd (let clash : New ≡ Old = sym both.1 ∙ waits_on in cc) ];
+}
+
+-- the steps of a part in the first and the last state of a wave are those of the wave
+in_wave : (part : ClassPart) (ranks : List ℕ) (w : ℕ) (first last : List Phase) → length part.rows ≡ length ranks → AreSwitchedBefore ranks w first → AreSwitchedBefore ranks (w + 1) last
+    → (u h : ℕ) → PartStep part first last u h → WaveStep part ranks w u h
+in_wave part ranks w first last rows begins ends u h step =
+    let within : u < length ranks = omega (arith, part_inside part first last u h step, rows) in
+    elim (cases_order (rank_of ranks u) w) [
+      | inl same ↦ elim step [
+        | inl one ↦ inl (omega (arith, same), subst (λ (p : Phase). Contains (part_hops part u p) h) (begins.others u within (omega (arith, same))) one)
+        | inr other ↦ inr (omega (arith, same), subst (λ (p : Phase). Contains (part_hops part u p) h) (ends.switched u within (omega (arith, same))) other)
+      ]
+      | inr (inl before) ↦ elim step [
+        | inl one ↦ inr (omega (arith, before), subst (λ (p : Phase). Contains (part_hops part u p) h) (begins.switched u within before) one)
+        | inr other ↦ inr (omega (arith, before), subst (λ (p : Phase). Contains (part_hops part u p) h) (ends.switched u within (omega (arith, before))) other)
+      ]
+      | inr (inr after) ↦ elim step [
+        | inl one ↦ inl (omega (arith, after), subst (λ (p : Phase). Contains (part_hops part u p) h) (begins.others u within (omega (arith, after))) one)
+        | inr other ↦ inl (omega (arith, after), subst (λ (p : Phase). Contains (part_hops part u p) h) (ends.others u within (omega (arith, after))) other)
+      ]
+    ]
+
+-- where no walk over the steps of a part in a wave returns to a router of the wave, and the first state of the wave is
+-- sound for its class, each state of the wave is: the routers change one after another
+pub part_wave_sound : {O N : Type 0} (old : Listing O) (new : Listing N) (m : Mixture O N) (part : ClassPart) (ranks : List ℕ) (w : ℕ) (first last : List Phase) (state : State)
+    → IsPart old new m part → AreEnds (length m.net) ranks w first last → part.moves ≡ true
+    → ((u : ℕ) → u < length ranks → rank_of ranks u ≡ w → NeverReturnsTo (WaveStep part ranks w) u)
+    → SoundAt old new m (state_in first) (sample_of m part.atom) → IsStateOfWave (length m.net) ranks w state → SoundAt old new m state (sample_of m part.atom)
+part_wave_sound old new m part ranks w first last state is ends moves never begun of_wave =
+    sound_at_alike (λ u within. mixed_one state (state_in first) (length m.net) u within) (sound_to (length m.net) (omega arith))
   where
+    never_between : (u : ℕ) → u < length ranks → rank_of ranks u ≡ w → NeverReturnsTo (PartStep part first last) u
+    never_between u within same h hops follows = never u within same h hops
+        (follows_over (λ x y steps. in_wave part ranks w first last (is.many ∙ sym ends.each) ends.begins ends.ends x y steps) u (h ∷ hops) u follows)
+
     between : (r : ℕ) → IsBetween (length m.net) first last (mixed state (state_in first) r)
     between r u within = elim (cases_lt u r) [
       | inl below ↦
-          let is : mixed state (state_in first) r u ≡ state u = mixed_one state (state_in first) r u below in
-          elim (wave_between state ends of_wave u within) [ inl same ↦ inl (is ∙ same) | inr both ↦ inr both ]
+          let is_one : mixed state (state_in first) r u ≡ state u = mixed_one state (state_in first) r u below in
+          elim (wave_between state ends of_wave u within) [ inl same ↦ inl (is_one ∙ same) | inr both ↦ inr both ]
       | inr above ↦ inl (mixed_other state (state_in first) r u above)
     ]
 
@@ -71,20 +114,18 @@ wave_stays_sound old new m parts ranks w first last are ends begun never state o
       | inr above ↦ elim (cases_lt r v) [
         | inl past ↦ mixed_other state (state_in first) r v above ∙ sym (mixed_other state (state_in first) (suc r) v (omega (arith, past)))
         | inr equal ↦
-            let is : r ≡ v = omega (arith, above, equal) in
-            mixed_other state (state_in first) r v above ∙ sym (subst (λ (x : ℕ). state x ≡ state_in first x) is same) ∙ sym (mixed_one state (state_in first) (suc r) v (omega (arith, equal)))
+            let is_r : r ≡ v = omega (arith, above, equal) in
+            mixed_other state (state_in first) r v above ∙ sym (subst (λ (x : ℕ). state x ≡ state_in first x) is_r same) ∙ sym (mixed_one state (state_in first) (suc r) v (omega (arith, equal)))
       ]
     ]
 
-    sound_to : (r : ℕ) → r ≤ length m.net → Sound old new m (mixed state (state_in first) r)
-    sound_to zero most = subst (λ (s : State). Sound old new m s) (same_state (state_in first) (mixed state (state_in first) zero) (λ u. sym (mixed_other state (state_in first) zero u (omega arith)))) begun
+    sound_to : (r : ℕ) → r ≤ length m.net → SoundAt old new m (mixed state (state_in first) r) (sample_of m part.atom)
+    sound_to zero most = sound_at_alike (λ u within. sym (mixed_other state (state_in first) zero u (omega arith))) begun
     sound_to (suc r) most = elim (cases_order (rank_of ranks r) w) [
-      | inl same ↦ stays_sound old new m parts first last r (mixed state (state_in first) r) (mixed state (state_in first) (suc r)) are (never r (omega (arith, most, ends.each)) same)
-          (λ v within apart. mixed_more state (state_in first) r v apart) (between (suc r)) (sound_to r (omega (arith, most)))
-      | inr (inl before) ↦ subst (λ (s : State). Sound old new m s)
-          (same_state (mixed state (state_in first) r) (mixed state (state_in first) (suc r)) (unchanged r (as_first r (omega (arith, most)) (λ same. omega (arith, same, before))))) (sound_to r (omega (arith, most)))
-      | inr (inr after) ↦ subst (λ (s : State). Sound old new m s)
-          (same_state (mixed state (state_in first) r) (mixed state (state_in first) (suc r)) (unchanged r (as_first r (omega (arith, most)) (λ same. omega (arith, same, after))))) (sound_to r (omega (arith, most)))
+      | inl same ↦ part_stays_sound old new m part first last r (mixed state (state_in first) r) (mixed state (state_in first) (suc r)) is moves
+          (never_between r (omega (arith, most, ends.each)) same) (λ v within apart. mixed_more state (state_in first) r v apart) (between (suc r)) (sound_to r (omega (arith, most)))
+      | inr (inl before) ↦ sound_at_alike (λ u within. unchanged r (as_first r (omega (arith, most)) (λ same. omega (arith, same, before))) u) (sound_to r (omega (arith, most)))
+      | inr (inr after) ↦ sound_at_alike (λ u within. unchanged r (as_first r (omega (arith, most)) (λ same. omega (arith, same, after))) u) (sound_to r (omega (arith, most)))
     ]
 
 -- the first state of a wave is the last one of the wave before, and that of the first wave is the one in which every

@@ -2,18 +2,38 @@
 use Rattle.std.specs.Prelude.{◌≡◌, ℕ, Bool, List, length}
 use Rattle.std.specs.Bool.{OnTrue}
 use Rattle.rib_mix.specs.Mixture.{Mixture}
-use Rattle.loop_finder.specs.Orders.{all_old}
+use Rattle.loop_finder.specs.Calm.{AreCalm}
+use Rattle.loop_finder.specs.Orders.{AreFirstStates, all_old}
 use Rattle.loop_finder.specs.Parts.{ClassPart, AreParts}
 use Rattle.loop_finder.specs.Rooms.{HasRoom}
 use Rattle.loop_finder.specs.Steps.{Listing}
 use Rattle.loop_finder.specs.Verdicts.{Sound}
+use Rattle.loop_finder.specs.Watches.{IsWatch}
 use Rattle.loop_finder.specs.declared.room.Room.{Room}
 
--- the parts of all classes, whether the state in which every router is Old is sound, and room to work in, of which
--- two lists of phases have this length
-pub record IsFinding {O N : Type 0} (old : Listing O) (new : Listing N) (m : Mixture O N) (parts : List ClassPart) (begun : Bool) (phases later : ℕ) (room : Room) : Type 0 where
-  pub parts_are : AreParts old new m parts (length m.classes.samples)
-  pub begun_is : OnTrue begun (Sound old new m all_old)
-  pub phases_many : phases ≡ length m.net
-  pub later_many : later ≡ length m.net
+-- the parts of all classes, for each router those that a change of it concerns, the ranks of the latest wave list and
+-- the waves before which parts are calm, the latest order and how many of its first states are sound, whether the state
+-- in which every router is Old is sound, and how long the two lists of phases are that there is room for
+pub record Kept : Type 0 where
+  pub parts : List ClassPart
+  pub watch : List (List ℕ)
+  pub ranks : List ℕ
+  pub calm : List ℕ
+  pub order : List ℕ
+  pub sound : ℕ
+  pub begun : Bool
+  pub phases : ℕ
+  pub later : ℕ
+
+-- they are so, and there is room to work in
+pub record IsFinding {O N : Type 0} (old : Listing O) (new : Listing N) (m : Mixture O N) (kept : Kept) (room : Room) : Type 0 where
+  pub parts_are : AreParts old new m kept.parts (length m.classes.samples)
+  pub watch_is : IsWatch kept.parts (length m.net) kept.watch
+  pub ranks_many : length kept.ranks ≡ length m.net
+  pub calm_is : AreCalm kept.parts kept.ranks kept.calm
+  pub order_many : length kept.order ≡ length m.net
+  pub order_is : AreFirstStates (Sound old new m) kept.order kept.sound
+  pub begun_is : OnTrue kept.begun (Sound old new m all_old)
+  pub phases_many : kept.phases ≡ length m.net
+  pub later_many : kept.later ≡ length m.net
   pub room_is : HasRoom (length m.net) room

@@ -17,3 +17,5 @@ pub mod PartRows
 pub mod Making
 pub mod WaveStarts
 pub mod Findings
+pub mod Watches
+pub mod Calm

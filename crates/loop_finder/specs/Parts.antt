@@ -1,5 +1,5 @@
 -- The parts of classes that loops can take, and how they tell of all classes.
-use Rattle.std.specs.Prelude.{◌≡◌, ℕ, ◌<◌, ◌⊎◌, Bool, true, List, [], length, slice_index_or, Option, Some, None, All, AllPairs, Contains}
+use Rattle.std.specs.Prelude.{◌≡◌, ℕ, ◌<◌, ◌⊎◌, Bool, List, [], length, slice_index_or, Option, Some, None, All, AllPairs, Contains}
 use Rattle.std.specs.Bool.{OnTrue}
 use Rattle.route_core.specs.Tables.{HasEntry}
 use Rattle.igp_theory.specs.Forwarding.{MustForward, Steps, HasStep}
@@ -8,7 +8,6 @@ use Rattle.igp_theory.specs.declared.phase.Phase.{Phase}
 use Rattle.igp_theory.specs.declared.phase.Phase.TheVariants.{Old, Middle, New}
 use Rattle.rib_mix.specs.Mixture.{Mixture}
 use Rattle.loop_finder.specs.Faults.{state_in}
-use Rattle.loop_finder.specs.Returns.{NeverReturnsTo}
 use Rattle.loop_finder.specs.Steps.{Listing, ClassState, sample_of}
 use Rattle.loop_finder.specs.Verdicts.{ClassesOf, SoundAt}
 
@@ -136,7 +135,3 @@ pub record TakesBothEnds {O N : Type 0} (c : ClassState O N) : Type 0 where
 -- two states of n routers differ at router u alone
 abbrev pub DifferAt : ℕ → ℕ → State → State → Type 0
 DifferAt n u before after = (v : ℕ) → v < n → ¬ (v ≡ u) → after v ≡ before v
-
--- in no part does a walk over the steps of two states return to a router
-abbrev pub PassesNever : List ClassPart → List Phase → List Phase → ℕ → Type 0
-PassesNever parts first last u = All (λ (part : ClassPart). (part.moves ≡ true) × NeverReturnsTo (PartStep part first last) u) parts

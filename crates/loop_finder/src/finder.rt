@@ -8,11 +8,14 @@ ghost use Rattle.igp_theory.specs.Waves.{AreSeamlessWaves};
 ghost use Rattle.loop_finder.specs.Faults.{KeepsRing, state_in, told, told_fault};
 ghost use Rattle.loop_finder.specs.WaveLists.{IsNumberedWavesFault};
 
+use crate::calm::{none_known, renew};
 use crate::fault::Fault;
+use crate::known::{shared_states, sound_states};
 use crate::order_fault::{begin_is_sound, order_fault, state_fault};
 use crate::part::Part;
 use crate::parts::parts_of;
 use crate::room::Room;
+use crate::watch::{Places, watch_of};
 use crate::waves_fault::waves_fault;
 use order_core::Turn;
 use rib_mix::{Mixed, OutOfMemory, Phase};
@@ -23,12 +26,23 @@ use std::marker::Model;
 /// Finds the faults of states, orders and wave lists over mixed forwarding.
 ///
 /// All room that its calls need is made by `new`, so that a finder that was made once decides every state,
-/// every order and every wave list.
+/// every order and every wave list. What is found of the latest order and of the parts of the
+/// latest wave list is kept.
 #[derive(Drop)]
 pub struct Finder<'a, O: RouteSource, N: RouteSource> {
     mixed: &'a Mixed<'a, O, N>,
     /// The classes that are looked at.
     parts: Vec<Part>,
+    /// For each router the parts that a change of it may make unsound.
+    watch: Vec<Places>,
+    /// The ranks of the latest wave list.
+    ranks: Vec<u32>,
+    /// For each part a wave of that list before which it is calm.
+    calm: Vec<u32>,
+    /// The latest order.
+    order: Vec<u32>,
+    /// How many of its states are sound, from the first on.
+    sound: usize,
     /// Whether the state in which every router is in its old phase is sound.
     begun: bool,
     phases: Vec<Phase>,
@@ -39,13 +53,13 @@ pub struct Finder<'a, O: RouteSource, N: RouteSource> {
 impl<'a, O: RouteSource, N: RouteSource> Model for Finder<'a, O, N> {
     ghost use Rattle.std.specs.Prelude.{vec_len};
     ghost use Rattle.loop_finder.specs.Faults.{Finding};
-    ghost use Rattle.loop_finder.specs.Findings.{IsFinding};
+    ghost use Rattle.loop_finder.specs.Findings.{IsFinding, Kept};
 
     ghost Value = { Finding O N };
 
     ghost view = { λ x. record { mixture = x.mixed.now; ring = x.room.ring.items } };
 
-    ghost invariant = { λ x. IsFinding O.table N.table x.mixed.now x.parts.items x.begun (vec_len x.phases) (vec_len x.later) x.room };
+    ghost invariant = { λ x. IsFinding O.table N.table x.mixed.now (record { parts = x.parts.items; watch = x.watch.items; ranks = x.ranks.items; calm = x.calm.items; order = x.order.items; sound = x.sound; begun = x.begun; phases = vec_len x.phases; later = vec_len x.later }) x.room };
 }
 
 impl<'a, O: RouteSource, N: RouteSource> Finder<'a, O, N> {
@@ -58,12 +72,21 @@ impl<'a, O: RouteSource, N: RouteSource> Finder<'a, O, N> {
         let mut phases = vec![in alloc; Phase::Old; routers as usize]?;
         let later = vec![in alloc; Phase::Old; routers as usize]?;
         let parts = parts_of(alloc, mixed)?;
+        let watch = watch_of(alloc, parts.as_slice(), routers)?;
+        let ranks = vec![in alloc; 0; routers as usize]?;
+        let order = vec![in alloc; 0; routers as usize]?;
+        let calm = none_known(alloc, parts.as_slice())?;
         let mut room = Room::new(alloc, routers)?;
         let begun = begin_is_sound(mixed, parts.as_slice(), &mut phases, &mut room);
         room.ring.clear();
         Ok(Finder {
             mixed,
             parts,
+            watch,
+            ranks,
+            calm,
+            order,
+            sound: 0,
             begun,
             phases,
             later,
@@ -96,14 +119,20 @@ impl<'a, O: RouteSource, N: RouteSource> Finder<'a, O, N> {
         ensures ring { KeepsRing (told result) self.old.ring self.new.ring }
         ensures mixture { self.new.mixture ≡ self.old.mixture }
     {
-        order_fault(
+        let known = shared_states(self.order.as_slice(), self.sound, order);
+        let found = order_fault(
             self.mixed,
             self.parts.as_slice(),
+            self.watch.as_slice(),
             self.begun,
+            known,
             order,
             &mut self.phases,
             &mut self.room,
-        )
+        );
+        self.sound = sound_states(found, order);
+        self.order.copy_from_slice(order);
+        found
     }
 
     /// The number, from 1, of the first wave with an unsound state of the wave list that gives each router the rank at
@@ -117,11 +146,21 @@ impl<'a, O: RouteSource, N: RouteSource> Finder<'a, O, N> {
         ensures ring { KeepsRing (told result) self.old.ring self.new.ring }
         ensures mixture { self.new.mixture ≡ self.old.mixture }
     {
+        renew(
+            self.parts.as_slice(),
+            self.watch.as_slice(),
+            self.mixed.net().routers(),
+            ranks,
+            &mut self.ranks,
+            &mut self.calm,
+            &mut self.room,
+        );
         waves_fault(
             self.mixed,
             self.parts.as_slice(),
             self.begun,
             ranks,
+            self.calm.as_slice(),
             &mut self.phases,
             &mut self.later,
             &mut self.room,

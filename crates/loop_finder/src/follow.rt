@@ -1,7 +1,7 @@
-ghost use Rattle.std.specs.Prelude.{◌≡◌, ◌<◌, All, length, true};
+ghost use Rattle.std.specs.Prelude.{◌≡◌, ◌<◌, length, true};
 ghost use Rattle.std.specs.Bool.{OnTrue};
 ghost use Rattle.std.specs.Vec.{vec_capacity};
-ghost use Rattle.loop_finder.specs.Parts.{PartStep, PassesNever};
+ghost use Rattle.loop_finder.specs.Parts.{PartStep};
 ghost use Rattle.loop_finder.specs.Returns.{NeverReturnsTo};
 ghost use Rattle.loop_finder.specs.Rooms.{HasRoom};
 
@@ -69,34 +69,8 @@ impl<'s> StepGraph for PartSteps<'s> {
     }
 }
 
-/// Whether in no part a walk over the steps of two states returns to a router.
-pub fn passes_never(
-    parts: &[Part],
-    first: &[Phase],
-    last: &[Phase],
-    router: u32,
-    routers: u32,
-    room: &mut Room,
-) -> bool
-    requires parts { All (λ part. length part.rows ≡ routers) parts.now }
-    requires first { length first.now ≡ routers }
-    requires last { length last.now ≡ routers }
-    requires router { router < routers }
-    requires room { HasRoom routers room.old }
-    ensures never { OnTrue result (PassesNever parts.now first.now last.now router) }
-    ensures room { HasRoom routers room.new }
-    ensures ring { room.new.ring.items ≡ room.old.ring.items }
-{
-    for part in parts {
-        if !passes_part_never(part, first, last, router, routers, room) {
-            return false;
-        }
-    }
-    true
-}
-
 /// Whether all routers move, and no walk over the steps of a part in two states returns to a router.
-fn passes_part_never(
+pub fn passes_part_never(
     part: &Part,
     first: &[Phase],
     last: &[Phase],

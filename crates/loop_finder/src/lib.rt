@@ -1,6 +1,8 @@
 //! The faults of states, of orders and of wave lists: routers without a step, and loops with their rings.
 #![tactic(auto)]
 
+mod calm;
+mod change;
 mod class_fault;
 mod class_steps;
 mod classes_fault;
@@ -8,6 +10,7 @@ mod fault;
 mod finder;
 mod follow;
 mod graph;
+mod known;
 mod layers;
 mod live;
 mod order_fault;
@@ -17,6 +20,7 @@ mod returns;
 mod ring;
 mod room;
 mod tags;
+mod watch;
 mod waves_fault;
 
 pub use fault::Fault;

@@ -1,4 +1,4 @@
-ghost use Rattle.std.specs.Prelude.{◌≡◌, ◌<◌, ◌^◌, ◌↔◌, ℕ, false, length, slice_set, IsTrue};
+ghost use Rattle.std.specs.Prelude.{◌≡◌, ◌<◌, ◌≤◌, ◌^◌, ◌↔◌, ℕ, false, length, slice_set, IsTrue};
 ghost use Rattle.std.specs.Bool.{OnFalse, OnTrue};
 ghost use Rattle.order_core.specs.Marks.{IsMarked};
 ghost use Rattle.loop_finder.specs.Live.{AreBounded, ArePeeled, FirstMarked, HasMarkedHop, IsLowerMarked, LowestMarked, lower_of, marked_count};
@@ -15,7 +15,9 @@ pub fn mark_live<G: StepGraph>(graph: &G, live: &mut [bool])
 {
     let routers = graph.size();
     mark_all(live);
-    while peel(graph, routers, live) {}
+    while peel(graph, routers, live) {
+        peel_down(graph, routers, live);
+    }
 }
 
 /// Marks every router.
@@ -52,6 +54,20 @@ fn peel<G: StepGraph>(graph: &G, routers: u32, live: &mut [bool]) -> bool
         }
     }
     peeled
+}
+
+/// Goes once over the routers downwards and takes the mark from each that steps to no marked one. Where steps lead to
+/// higher numbers, one such pass takes the marks that passes upwards take one by one.
+fn peel_down<G: StepGraph>(graph: &G, routers: u32, live: &mut [bool])
+    requires routers { routers ≡ G.size graph.now }
+    requires size { length live.old ≡ G.size graph.now }
+    requires bounded { AreBounded (G.step graph.now) live.old }
+    ensures bounded { AreBounded (G.step graph.now) live.new }
+    ensures no_more { marked_count live.new ≤ marked_count live.old }
+{
+    for place in 0..routers {
+        let _ = peel_one(graph, live, routers - 1 - place);
+    }
 }
 
 /// Takes the mark from a router that steps to no marked one; whether it had it.

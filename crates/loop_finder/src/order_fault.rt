@@ -6,12 +6,14 @@ ghost use Rattle.loop_finder.specs.Orders.{AreFirstStates, IsAdvanced, IsStateOf
 ghost use Rattle.loop_finder.specs.Parts.{AreParts};
 ghost use Rattle.loop_finder.specs.Rooms.{HasRoom};
 ghost use Rattle.loop_finder.specs.Verdicts.{Faulty, FirstFaulty, Sound};
+ghost use Rattle.loop_finder.specs.Watches.{IsWatch};
 
+use crate::change::turned_fault;
 use crate::classes_fault::classes_fault;
 use crate::fault::Fault;
-use crate::follow::passes_never;
 use crate::part::Part;
 use crate::room::Room;
+use crate::watch::Places;
 use rib_mix::{Mixed, Phase};
 use route_core::RouteSource;
 
@@ -53,19 +55,24 @@ pub fn begin_is_sound<O: RouteSource, N: RouteSource>(
     }
 }
 
-/// The first unsound state of an order, with its fault. `begun` tells that the first state is sound.
+/// The first unsound state of an order, with its fault. `begun` tells that the first state is sound, and `known` how many
+/// states are known to be sound from the first on.
 ///
 /// After a change only the walks through the changed router are followed, since the state before was sound.
 pub fn order_fault<O: RouteSource, N: RouteSource>(
     mixed: &Mixed<'_, O, N>,
     parts: &[Part],
+    watch: &[Places],
     begun: bool,
+    known: usize,
     order: &[u32],
     phases: &mut [Phase],
     room: &mut Room,
 ) -> Option<(u32, Fault)>
     requires parts { AreParts O.table N.table mixed.now parts.now (length mixed.now.classes.samples) }
+    requires watch { IsWatch parts.now (length mixed.now.net) watch.now }
     requires begun { OnTrue begun (Sound O.table N.table mixed.now all_old) }
+    requires known { AreFirstStates (Sound O.table N.table mixed.now) order.now known }
     requires order { IsOrder (length mixed.now.net) order.now }
     requires phases { length phases.old ≡ length mixed.now.net }
     requires room { HasRoom (length mixed.now.net) room.old }
@@ -80,7 +87,7 @@ pub fn order_fault<O: RouteSource, N: RouteSource>(
         return Some((0, fault));
     }
     for k in 0..2 * mixed.net().routers() {
-        if let Some(fault) = change_fault(mixed, parts, order, k, phases, room) {
+        if let Some(fault) = change_fault(mixed, parts, watch, known, order, k, phases, room) {
             return Some((k + 1, fault));
         }
     }
@@ -111,16 +118,21 @@ fn begin_fault<O: RouteSource, N: RouteSource>(
     state_fault(mixed, parts, phases, room)
 }
 
-/// Makes a change of an order after a sound state; the fault of the state that comes of it.
+/// Makes a change of an order after a sound state; the fault of the state that comes of it, where that isn't known to be
+/// sound.
 fn change_fault<O: RouteSource, N: RouteSource>(
     mixed: &Mixed<'_, O, N>,
     parts: &[Part],
+    watch: &[Places],
+    known: usize,
     order: &[u32],
     k: u32,
     phases: &mut [Phase],
     room: &mut Room,
 ) -> Option<Fault>
     requires parts { AreParts O.table N.table mixed.now parts.now (length mixed.now.classes.samples) }
+    requires watch { IsWatch parts.now (length mixed.now.net) watch.now }
+    requires known { AreFirstStates (Sound O.table N.table mixed.now) order.now known }
     requires routers { (u : ℕ) → Contains order.now u → u < length mixed.now.net }
     requires many { length phases.old ≡ length mixed.now.net }
     requires state { IsStateOf phases.old order.now k }
@@ -136,10 +148,18 @@ fn change_fault<O: RouteSource, N: RouteSource>(
         return None;
     };
     advance(phases, *router);
-    if passes_never(parts, phases, phases, *router, mixed.net().routers(), room) {
+    if is_known(k, known) {
         return None;
     }
-    state_fault(mixed, parts, phases, room)
+    let places = watch[*router as usize].as_slice();
+    turned_fault(mixed, parts, places, phases, *router, room)
+}
+
+/// Whether the state that comes of a change is among the first ones, so many of them.
+fn is_known(k: u32, known: usize) -> bool
+    ensures { OnTrue result (k + 1 < known) }
+{
+    (k as usize) + 1 < known
 }
 
 /// Every router is in its old phase.

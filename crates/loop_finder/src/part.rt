@@ -1,10 +1,12 @@
 ghost use Rattle.std.specs.Prelude.{◌≡◌, ◌<◌, ℕ, Contains, IfOk, OnOk, length, slice_index_or};
 ghost use Rattle.std.specs.Bool.{OnTrue};
+ghost use Rattle.igp_theory.specs.declared.phase.Phase.{Phase};
 ghost use Rattle.order_core.specs.Marks.{IsMarked};
 ghost use Rattle.loop_finder.specs.PartRows.{AreKept, AreRowsOf, IsRowOf, KeepsOne};
 ghost use Rattle.loop_finder.specs.Parts.{AllMove, HasPart, HaveSameHops, TakesBothEnds, hops_of, no_hops, part_hops};
 ghost use Rattle.loop_finder.specs.Returns.{MarksReturns};
 ghost use Rattle.loop_finder.specs.Steps.{ClassStep};
+ghost use Rattle.loop_finder.specs.Watches.{IsIdle};
 
 use crate::class_steps::ClassSteps;
 use crate::graph::StepGraph;
@@ -52,6 +54,13 @@ impl Row {
             Phase::Middle => self.middle.as_slice(),
             Phase::New => self.new.as_slice(),
         }
+    }
+
+    /// Whether there is no hop in any phase.
+    fn is_bare(&self) -> bool
+        ensures { OnTrue result ((phase : Phase) (h : ℕ) → ¬ Contains (hops_of self.now phase) h) }
+    {
+        self.old.is_empty() && self.middle.is_empty() && self.new.is_empty()
     }
 
     /// Whether two rows are the same.
@@ -129,6 +138,14 @@ impl Part {
         self.rows[router as usize].hops_in(phase)
     }
 
+    /// Whether every router moves, and a router has no hops.
+    pub fn is_idle(&self, router: u32) -> bool
+        requires { router < length self.now.rows }
+        ensures { OnTrue result (IsIdle self.now router) }
+    {
+        self.moves && self.rows[router as usize].is_bare()
+    }
+
     /// Whether two parts have the same hops.
     pub fn has_hops_of(&self, other: &Part) -> bool
         requires { length self.now.rows ≡ length other.now.rows }
@@ -172,7 +189,8 @@ fn none_marked(marks: &[bool]) -> bool
     true
 }
 
-/// Marks the routers to which a walk over the steps may return.
+/// Marks the routers to which a walk over the steps may return. The layers that were chosen for the class before are kept
+/// where they tell that there is none.
 fn mark_returns<O: RouteSource, N: RouteSource>(
     steps: &ClassSteps<'_, '_, O, N>,
     layers: &mut Layers,
@@ -181,6 +199,9 @@ fn mark_returns<O: RouteSource, N: RouteSource>(
     requires { length marks.old ≡ length steps.now.mixture.net }
     ensures { OnOk result (MarksReturns (ClassStep O.table N.table steps.now) marks.new) }
 {
+    if mark_level(steps, layers.numbers(), marks) && none_marked(marks) {
+        return Ok(());
+    }
     layers.choose(steps)?;
     if !mark_level(steps, layers.numbers(), marks) {
         mark_all(marks);

@@ -1,17 +1,19 @@
-ghost use Rattle.std.specs.Prelude.{◌≡◌, ◌+◌, ◌<◌, ◌^◌, ◌↔◌, ◌⊎◌, ℕ, All, Contains, IfNone, IfSome, IsTrue, length, true};
+ghost use Rattle.std.specs.Prelude.{◌≡◌, ◌+◌, ◌<◌, ◌≤◌, ◌^◌, ◌↔◌, ◌⊎◌, ℕ, Contains, IfNone, IfSome, IsTrue, length, slice_index, true};
 ghost use Rattle.std.specs.Bool.{OnTrue};
-ghost use Rattle.order_core.specs.Rankings.{IsRanking, rank_of};
+ghost use Rattle.order_core.specs.Rankings.{IsRanking};
+ghost use Rattle.loop_finder.specs.Calm.{AreCalm};
 ghost use Rattle.loop_finder.specs.Faults.{KeepsRing, told};
 ghost use Rattle.loop_finder.specs.Orders.{all_old};
-ghost use Rattle.loop_finder.specs.Parts.{AreParts, PassesNever};
+ghost use Rattle.loop_finder.specs.Parts.{AreParts};
 ghost use Rattle.loop_finder.specs.Rooms.{HasRoom};
-ghost use Rattle.loop_finder.specs.Verdicts.{FaultyWave, FaultyWaves, Sound, SoundWave, SoundWaves};
+ghost use Rattle.loop_finder.specs.Verdicts.{FaultyWave, FaultyWaves, Sound, SoundWave, SoundWaves, Told};
 ghost use Rattle.loop_finder.specs.WaveLists.{AreSwitchedBefore};
-ghost use Rattle.loop_finder.specs.WaveStarts.{BeginsSound};
+ghost use Rattle.loop_finder.specs.WaveStarts.{AreClearParts, BeginsSound};
 
+use crate::calm::least_of;
+use crate::class_fault::class_fault;
 use crate::classes_fault::classes_fault;
 use crate::fault::Fault;
-use crate::follow::passes_never;
 use crate::part::Part;
 use crate::room::Room;
 use rib_mix::{Mixed, Phase};
@@ -20,12 +22,14 @@ use route_core::RouteSource;
 /// The number, from 1, of the first wave with an unsound state, with its fault. `begun` tells that the state in which
 /// every router is in its old phase is sound.
 ///
-/// In a wave only the walks through its routers are followed, since its first state is the last one of the wave before.
+/// `calm` tells for each part before which wave it is calm: where the first state of such a wave is sound, all its states
+/// are sound for the class of the part.
 pub fn waves_fault<O: RouteSource, N: RouteSource>(
     mixed: &Mixed<'_, O, N>,
     parts: &[Part],
     begun: bool,
     ranks: &[u32],
+    calm: &[u32],
     first: &mut [Phase],
     last: &mut [Phase],
     room: &mut Room,
@@ -33,6 +37,7 @@ pub fn waves_fault<O: RouteSource, N: RouteSource>(
     requires parts { AreParts O.table N.table mixed.now parts.now (length mixed.now.classes.samples) }
     requires begun { OnTrue begun (Sound O.table N.table mixed.now all_old) }
     requires ranks { IsRanking (length mixed.now.net) ranks.now }
+    requires calm { AreCalm parts.now ranks.now calm.now }
     requires first { length first.old ≡ length mixed.now.net }
     requires last { length last.old ≡ length mixed.now.net }
     requires room { HasRoom (length mixed.now.net) room.old }
@@ -41,12 +46,13 @@ pub fn waves_fault<O: RouteSource, N: RouteSource>(
     ensures fault { IfSome result (λ found. FaultyWaves O.table N.table mixed.now ranks.now found.0 found.1 room.new.ring.items) }
     ensures ring { KeepsRing (told result) room.old.ring.items room.new.ring.items }
 {
-    for wave in 0..mixed.net().routers() {
+    let start = first_stirred(begun, calm);
+    for wave in start..mixed.net().routers() {
         if !is_wave(ranks, wave) {
             return None;
         }
         let known = begins_sound(begun, wave);
-        if let Some(fault) = wave_fault(mixed, parts, known, ranks, wave, first, last, room) {
+        if let Some(fault) = wave_fault(mixed, parts, known, ranks, calm, wave, first, last, room) {
             return Some((wave + 1, fault));
         }
     }
@@ -67,6 +73,18 @@ fn begins_sound(begun: bool, wave: u32) -> bool
     begun || wave > 0
 }
 
+/// The first wave of which it isn't known that all parts are calm in it; where it isn't known that the state in which
+/// every router is in its old phase is sound, the first of all.
+fn first_stirred(begun: bool, calm: &[u32]) -> u32
+    ensures begun { 0 < result → begun ≡ true }
+    ensures calm { (p : ℕ) → p < length calm.now → result ≤ slice_index calm.now p }
+{
+    if !begun {
+        return 0;
+    }
+    least_of(calm)
+}
+
 /// The fault of the states of a wave. In its first state none of its routers is begun, in its last all are switched.
 /// `begun` tells that the first one is sound.
 fn wave_fault<O: RouteSource, N: RouteSource>(
@@ -74,6 +92,7 @@ fn wave_fault<O: RouteSource, N: RouteSource>(
     parts: &[Part],
     begun: bool,
     ranks: &[u32],
+    calm: &[u32],
     wave: u32,
     first: &mut [Phase],
     last: &mut [Phase],
@@ -82,8 +101,8 @@ fn wave_fault<O: RouteSource, N: RouteSource>(
     requires parts { AreParts O.table N.table mixed.now parts.now (length mixed.now.classes.samples) }
     requires begun { OnTrue begun (BeginsSound O.table N.table mixed.now ranks.now wave) }
     requires wave { wave + 1 < 2 ^ 32 }
-    requires few { length ranks.now < 2 ^ 32 }
     requires ranks { length ranks.now ≡ length mixed.now.net }
+    requires calm { AreCalm parts.now ranks.now calm.now }
     requires first { length first.old ≡ length mixed.now.net }
     requires last { length last.old ≡ length mixed.now.net }
     requires room { HasRoom (length mixed.now.net) room.old }
@@ -94,45 +113,43 @@ fn wave_fault<O: RouteSource, N: RouteSource>(
 {
     switch_before(first, ranks, wave);
     switch_before(last, ranks, wave + 1);
-    if pass_never(parts, begun, ranks, wave, first, last, room) {
-        return None;
+    if begun {
+        stirred_fault(mixed, parts, calm, wave, first, last, room)
+    } else {
+        classes_fault(mixed, parts, first, last, room)
     }
-    classes_fault(mixed, parts, first, last, room)
 }
 
-/// Whether a wave's first state is known to be sound, and in no part a walk over the steps of its first and last state
-/// returns to a router of it.
-fn pass_never(
+/// The fault of the steps of two states, for the first class that has one. The states between them are sound for the
+/// parts that are calm in a wave.
+fn stirred_fault<O: RouteSource, N: RouteSource>(
+    mixed: &Mixed<'_, O, N>,
     parts: &[Part],
-    begun: bool,
-    ranks: &[u32],
+    calm: &[u32],
     wave: u32,
     first: &[Phase],
     last: &[Phase],
     room: &mut Room,
-) -> bool
-    requires few { length ranks.now < 2 ^ 32 }
-    requires parts { All (λ part. length part.rows ≡ length ranks.now) parts.now }
-    requires first { length first.now ≡ length ranks.now }
-    requires last { length last.now ≡ length ranks.now }
-    requires room { HasRoom (length ranks.now) room.old }
-    ensures begun { OnTrue result (begun ≡ true) }
-    ensures never { OnTrue result ((u : ℕ) → u < length ranks.now → rank_of ranks.now u ≡ wave → PassesNever parts.now first.now last.now u) }
-    ensures room { HasRoom (length ranks.now) room.new }
-    ensures ring { room.new.ring.items ≡ room.old.ring.items }
+) -> Option<Fault>
+    requires parts { AreParts O.table N.table mixed.now parts.now (length mixed.now.classes.samples) }
+    requires many { length calm.now ≡ length parts.now }
+    requires calm { AreClearParts O.table N.table mixed.now parts.now calm.now wave first.now last.now }
+    requires first { length first.now ≡ length mixed.now.net }
+    requires last { length last.now ≡ length mixed.now.net }
+    requires room { HasRoom (length mixed.now.net) room.old }
+    ensures room { HasRoom (length mixed.now.net) room.new }
+    ensures told { Told O.table N.table mixed.now first.now last.now result room.new.ring.items }
+    ensures ring { KeepsRing result room.old.ring.items room.new.ring.items }
 {
-    if !begun {
-        return false;
-    }
-    let routers = ranks.len() as u32;
-    for router in 0..routers {
-        if ranks[router as usize] == wave
-            && !passes_never(parts, first, last, router, routers, room)
-        {
-            return false;
+    for place in 0..parts.len() {
+        if wave < calm[place] {
+            continue;
+        }
+        if let Some(fault) = class_fault(mixed, first, last, parts[place].atom(), room) {
+            return Some(fault);
         }
     }
-    true
+    None
 }
 
 /// The routers of the waves before one are switched, the others not begun.

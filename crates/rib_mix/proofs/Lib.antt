@@ -2,3 +2,4 @@ pub mod UsedEntries
 mod FoundFacts
 mod RowSteps
 pub mod NextLaws
+mod MiddleLaws

@@ -6,6 +6,8 @@ use Rattle.route_core.specs.declared.entry.Entry.TheVariants as entry
 use Rattle.igp_theory.specs.Forwarding.{Usable, connected, of_old, of_new, Uses}
 use Rattle.igp_theory.specs.Routes.{Tables}
 use Rattle.igp_theory.specs.declared.phase.Phase.{Phase}
+use Rattle.igp_theory.specs.declared.phase.Phase.TheVariants.{Old, New}
+use Rattle.prefix_atoms.specs.Classes.{Classes, IsInClass}
 use Rattle.rib_mix.specs.declared.next.Next.{Next}
 use Rattle.rib_mix.specs.declared.next.Next.TheVariants.{Via, Discard, Connected, Absent}
 
@@ -37,6 +39,15 @@ IsThere net old new u phase a next = (next ≡ Absent) ⊎ SaysUsed net old new 
 pub record IsNext (net : Network) (old new : Tables) (u : ℕ) (phase : Phase) (a : ℕ) (next : Next) : Type 0 where
   pub there : IsThere net old new u phase a next
   pub only : (used : Usable) → Uses net old new u phase a used → Says next used
+
+-- what it does with the packets of each address of a class
+abbrev pub IsNextOf : Network → Tables → Tables → Classes → ℕ → ℕ → Phase → Next → Type 0
+IsNextOf net old new classes u class phase next = (a : ℕ) → IsInClass classes class a → IsNext net old new u phase a next
+
+-- it does so in Old, or it does so in New
+abbrev pub IsNextAtAnEnd : Network → Tables → Tables → Classes → ℕ → ℕ → Next → Type 0
+IsNextAtAnEnd net old new classes u class next =
+    IsNextOf net old new classes u class Old next ⊎ IsNextOf net old new classes u class New next
 
 -- the answer forwards to h
 abbrev pub NextLeadsTo : Next → ℕ → Type 0

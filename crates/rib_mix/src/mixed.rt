@@ -1,9 +1,9 @@
-ghost use Rattle.std.specs.Prelude.{◌≡◌, ◌<◌, ℕ, IfOk, length};
+ghost use Rattle.std.specs.Prelude.{◌≡◌, ◌<◌, IfOk, length};
 ghost use Rattle.std.specs.List.Sorted.{IsStrictlyIncreasing};
 ghost use Rattle.net_model.specs.Refusals.{IsNetwork};
-ghost use Rattle.prefix_atoms.specs.Classes.{AreClasses, IsInClass, SourceEntry};
+ghost use Rattle.prefix_atoms.specs.Classes.{AreClasses, SourceEntry};
 ghost use Rattle.route_core.specs.Tables.{HasEntry};
-ghost use Rattle.rib_mix.specs.Answers.{IsNext, ShowsEntry};
+ghost use Rattle.rib_mix.specs.Answers.{IsNextAtAnEnd, IsNextOf, ShowsEntry};
 ghost use Rattle.rib_mix.specs.Candidates.{IsPlaced, ShowsWay};
 ghost use Rattle.rib_mix.specs.Rows.{AreRows};
 
@@ -79,11 +79,14 @@ impl<'a, O: RouteSource, N: RouteSource> Mixed<'a, O, N> {
         self.net
     }
 
-    /// What a router does in a phase with the packets of a class of addresses.
+    /// What a router does in a phase with the packets of a class of addresses. In `Middle` that is what it does in
+    /// `Old` or what it does in `New`.
     pub fn hops(&self, router: u32, atom: u32, phase: Phase) -> Next<'_>
         requires router { router < length self.now.net }
         requires atom { atom < length self.now.classes.samples }
-        ensures { (a : ℕ) → IsInClass self.now.classes atom a → IsNext self.now.net (HasEntry (O.table self.now.old)) (HasEntry (N.table self.now.new)) router phase a result }
+        ensures next { IsNextOf self.now.net (HasEntry (O.table self.now.old)) (HasEntry (N.table self.now.new)) self.now.classes router atom phase result }
+        ensures middle { phase ≡ Phase.Middle
+            → IsNextAtAnEnd self.now.net (HasEntry (O.table self.now.old)) (HasEntry (N.table self.now.new)) self.now.classes router atom result }
     {
         let found = self.rows[router as usize].at(atom as usize);
         let ospf = self.net.config(router).distances.ospf;

@@ -1,8 +1,8 @@
 use Rattle.loop_finder.specs.Live.{AreBounded, marked_count}
 use Rattle.loop_finder.proofs.live.mark_live.Given as goal
 
-abbrev pub invariant-loop : goal.invariant-loop
-invariant-loop g l = AreBounded (g.G.StepGraph.step l.graph) l.live
+abbrev pub invariant-loop-live : goal.invariant-loop-live
+invariant-loop-live g l = AreBounded (g.G.StepGraph.step l.graph) l.live
 
-abbrev pub decreases-loop : goal.decreases-loop
-decreases-loop g l = marked_count l.live
+abbrev pub decreases-loop-live : goal.decreases-loop-live
+decreases-loop-live g l = marked_count l.live

@@ -1,9 +1,13 @@
-use Rattle.std.proofs.Common.{◌≡◌, ℕ, ◌/◌, ◌<◌, length, get_or, Contains, inl, refl, arith, sym, subst}
-use Rattle.std.proofs.lemmas.List.{get_or_read}
+use Rattle.std.proofs.Common.{◌≡◌, ℕ, ◌+◌, ◌/◌, ◌<◌, List, [], length, get_or, Contains, arith, sym, ◌∙◌, subst}
+use Rattle.std.proofs.lemmas.List.{get_or_default, get_or_read}
 use Rattle.std.proofs.lemmas.List.Elements.{Contains-get_or}
+use Rattle.igp_theory.specs.States.{State, state_of}
 use Rattle.loop_finder.specs.Faults.{state_in}
-use Rattle.loop_finder.proofs.OrderStates.{state_advanced, state_stays}
-use Rattle.loop_finder.proofs.PartLists.{stays_sound}
+use Rattle.loop_finder.specs.Orders.{IsStateOf}
+use Rattle.loop_finder.specs.Verdicts.{Sound}
+use Rattle.loop_finder.specs.Watches.{ArePlacesOf}
+use Rattle.loop_finder.proofs.OrderStates.{same_state, state_advanced, state_stays}
+use Rattle.loop_finder.proofs.WatchLaws.{sound_after, faulty_after}
 use Rattle.loop_finder.proofs.order_fault.change_fault.Goals as goal
 
 pub advance-requires : goal.advance-requires
@@ -17,19 +21,51 @@ advance-requires g c =
 pub returns-in_default-clause-state : goal.returns-in_default-clause-state
 returns-in_default-clause-state g c = state_stays c.args.order.now c.args.phases.now c.args.k c.in_default.ensures.lookup.3 c.requires.state
 
-pub returns-then-passes_never-clause-state : goal.returns-then-passes_never-clause-state
-returns-then-passes_never-clause-state g c =
-    let within : c.args.k / 2 < length c.args.order.now = c.in-Some.ensures.lookup.3.0 in
-    state_advanced c.args.order.now c.args.phases.now c.advance.new.phases c.args.k c.in-Some.router.now within
-    (get_or_read c.args.order.now (c.args.k / 2) c.in-Some.router.now within c.in-Some.ensures.lookup.1 0) c.advance.ensures c.requires.state
-
 pub returns-clause-state : goal.returns-clause-state
 returns-clause-state g c =
     let within : c.args.k / 2 < length c.args.order.now = c.in-Some.ensures.lookup.3.0 in
     state_advanced c.args.order.now c.args.phases.now c.advance.new.phases c.args.k c.in-Some.router.now within
     (get_or_read c.args.order.now (c.args.k / 2) c.in-Some.router.now within c.in-Some.ensures.lookup.1 0) c.advance.ensures c.requires.state
 
-pub returns-then-passes_never-clause-sound : goal.returns-then-passes_never-clause-sound
-returns-then-passes_never-clause-sound g c =
-    stays_sound g.O.RouteSource.table g.N.RouteSource.table c.args.mixed.now c.args.parts.now c.advance.new.phases c.advance.new.phases c.in-Some.router.now (state_in c.args.phases.now) (state_in c.advance.new.phases)
-    c.requires.parts c.if-passes_never.ensures.never (λ v within apart. c.advance.ensures.others v apart) (λ u within. inl refl) c.requires.before
+pub turned_fault-requires-clause-places : goal.turned_fault-requires-clause-places
+turned_fault-requires-clause-places g c =
+    let place : c.args.k / 2 < length c.args.order.now = c.in-Some.ensures.lookup.3.0 in
+    let read : c.in-Some.router.now ≡ get_or c.args.order.now (c.args.k / 2) 0 = get_or_read c.args.order.now (c.args.k / 2) c.in-Some.router.now place c.in-Some.ensures.lookup.1 0 in
+    let inside : c.in-Some.router.now < length c.args.mixed.now.net =
+    c.requires.routers c.in-Some.router.now (subst (λ (u : ℕ). Contains c.args.order.now u) (sym read) (Contains-get_or c.args.order.now (c.args.k / 2) 0 place)) in
+    let within : c.in-Some.router.now < length c.args.watch.now = omega (arith, c.requires.watch.many, inside) in
+    subst (λ (xs : List ℕ). ArePlacesOf c.args.parts.now c.in-Some.router.now xs)
+    (sym (c.as_slice-places.ensures ∙ c.index-watch-router.is ∙ get_or_default c.args.watch.now c.in-Some.router.now c.index-watch-router.result [] within))
+    (c.requires.watch.each c.in-Some.router.now inside)
+
+pub turned_fault-requires-clause-router : goal.turned_fault-requires-clause-router
+turned_fault-requires-clause-router g c =
+    let within : c.args.k / 2 < length c.args.order.now = c.in-Some.ensures.lookup.3.0 in
+    let read : c.in-Some.router.now ≡ get_or c.args.order.now (c.args.k / 2) 0 = get_or_read c.args.order.now (c.args.k / 2) c.in-Some.router.now within c.in-Some.ensures.lookup.1 0 in
+    c.requires.routers c.in-Some.router.now (subst (λ (u : ℕ). Contains c.args.order.now u) (sym read) (Contains-get_or c.args.order.now (c.args.k / 2) 0 within))
+
+pub returns-clause-sound : goal.returns-clause-sound
+returns-clause-sound g c =
+    sound_after g.O.RouteSource.table g.N.RouteSource.table c.args.mixed.now c.advance.new.phases c.in-Some.router.now (state_in c.args.phases.now) c.turned_fault.result
+    (λ v within apart. c.advance.ensures.others v apart) c.requires.before c.turned_fault.ensures.sound
+
+pub returns-clause-fault : goal.returns-clause-fault
+returns-clause-fault g c =
+    faulty_after g.O.RouteSource.table g.N.RouteSource.table c.args.mixed.now c.advance.new.phases c.in-Some.router.now (state_in c.args.phases.now) c.turned_fault.result
+    c.turned_fault.new.room.ring.items (λ v within apart. c.advance.ensures.others v apart) c.requires.before c.turned_fault.ensures.fault
+
+pub returns-then-is_known-clause-state : goal.returns-then-is_known-clause-state
+returns-then-is_known-clause-state g c =
+    let within : c.args.k / 2 < length c.args.order.now = c.in-Some.ensures.lookup.3.0 in
+    state_advanced c.args.order.now c.args.phases.now c.advance.new.phases c.args.k c.in-Some.router.now within
+    (get_or_read c.args.order.now (c.args.k / 2) c.in-Some.router.now within c.in-Some.ensures.lookup.1 0) c.advance.ensures c.requires.state
+
+pub returns-then-is_known-clause-sound : goal.returns-then-is_known-clause-sound
+returns-then-is_known-clause-sound g c =
+    let within : c.args.k / 2 < length c.args.order.now = c.in-Some.ensures.lookup.3.0 in
+    let state : IsStateOf c.advance.new.phases c.args.order.now (c.args.k + 1) =
+    state_advanced c.args.order.now c.args.phases.now c.advance.new.phases c.args.k c.in-Some.router.now within
+    (get_or_read c.args.order.now (c.args.k / 2) c.in-Some.router.now within c.in-Some.ensures.lookup.1 0) c.advance.ensures c.requires.state in
+    subst (λ (s : State). Sound g.O.RouteSource.table g.N.RouteSource.table c.args.mixed.now s)
+    (same_state (state_of c.args.order.now (c.args.k + 1)) (state_in c.advance.new.phases) (λ u. sym (state u)))
+    (c.requires.known (c.args.k + 1) c.if-is_known.ensures)

@@ -2,6 +2,7 @@ use Rattle.std.proofs.Common.{length, ap, ◌∙◌, refl, arith, below_more}
 use Rattle.std.proofs.lemmas.Bool.{false≢true}
 use Rattle.net_model.specs.Network.{Network}
 use Rattle.loop_finder.specs.Verdicts.{SoundWave}
+use Rattle.loop_finder.proofs.CalmLaws.{sound_waves_before}
 use Rattle.loop_finder.proofs.OnFalse.{on_true}
 use Rattle.loop_finder.proofs.WaveListFacts.{sound_to_last, sound_to_all}
 use Rattle.loop_finder.proofs.WaveSteps.{begins_sound}
@@ -35,5 +36,10 @@ wave_fault-requires-clause-begun g c =
     on_true c.begins_sound-known.result c.begins_sound-known.ensures
     (λ known. begins_sound g.O.RouteSource.table g.N.RouteSource.table c.args.mixed.now c.args.ranks.now c.loop-wave.wave c.args.begun c.requires.ranks.each c.requires.begun c.loop-wave.invariant.sound known)
 
-pub wave_fault-requires-clause-few : goal.wave_fault-requires-clause-few
-wave_fault-requires-clause-few g c = omega (arith, c.requires.ranks.each, c.routers-wave-end.ensures.count, ap (λ (n : Network). length n) c.net.ensures)
+pub loop-wave-init : goal.loop-wave-init
+loop-wave-init g c = record {
+  sound = sound_waves_before g.O.RouteSource.table g.N.RouteSource.table c.args.mixed.now c.args.parts.now c.args.ranks.now c.args.calm.now c.args.begun c.first_stirred-start.result c.requires.ranks.each
+      c.requires.parts c.requires.calm c.requires.begun c.first_stirred-start.ensures.begun c.first_stirred-start.ensures.calm c.first_stirred-start.result (omega arith);
+  room = c.requires.room;
+  ring = refl;
+}

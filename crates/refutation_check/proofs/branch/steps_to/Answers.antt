@@ -6,5 +6,5 @@ pub returns : goal.returns
 returns g c =
     let law = steps_to_hops c.args.mixed.now.net (HasEntry (g.O.RouteSource.table c.args.mixed.now.old))
     (HasEntry (g.N.RouteSource.table c.args.mixed.now.new)) c.args.router c.args.phase c.args.address c.hops.result c.args.next
-    (c.hops.ensures c.args.address c.requires.class) c.requires.must in
+    (c.hops.ensures.next c.args.address c.requires.class) c.requires.must in
     (λ is. law.1 (c.leads_to.ensures.0 is), λ steps. c.leads_to.ensures.1 (law.0 steps))

@@ -1,0 +1,229 @@
+-- What calm parts tell of the waves of a wave list.
+use Rattle.std.proofs.Common.{◌≡◌, ℕ, zero, suc, ◌+◌, ◌<◌, ◌≤◌, Bool, true, cond, leb, List, [], ◌∷◌, length, get_or, set, inl, inr, refl, arith, sym, ap, ◌∙◌, subst, below_more}
+use Rattle.std.specs.Bool.{OnTrue}
+use Rattle.std.proofs.lemmas.Bool.{cases_lt}
+use Rattle.std.proofs.lemmas.Bool.Decides.{eqb_tells, leb_tells}
+use Rattle.std.proofs.lemmas.List.{get_or_default, get_or-replicate, get_or-set_other, get_or-set_same}
+use Rattle.std.proofs.Math.ListN.{length-set, length-replicate, replicate}
+use Rattle.order_core.specs.Rankings.{rank_of}
+use Rattle.igp_theory.specs.States.{State}
+use Rattle.igp_theory.specs.Waves.{IsStateOfWave}
+use Rattle.igp_theory.specs.declared.phase.Phase.{Phase}
+use Rattle.igp_theory.specs.declared.phase.Phase.TheVariants.{Old, New}
+use Rattle.igp_theory.proofs.SameTables.{follows_over}
+use Rattle.rib_mix.specs.Mixture.{Mixture}
+use Rattle.loop_finder.specs.Calm.{WaveStep, IsCalmIn, IsCalmBefore, AreCalm, AreLowered}
+use Rattle.loop_finder.specs.Faults.{state_in}
+use Rattle.loop_finder.specs.Orders.{all_old}
+use Rattle.loop_finder.specs.Parts.{ClassPart, IsPart, AreParts}
+use Rattle.loop_finder.specs.Steps.{Listing, sample_of}
+use Rattle.loop_finder.specs.Verdicts.{SoundAt, Sound, SoundWave, SoundWavesBefore}
+use Rattle.loop_finder.specs.Watches.{IsIdle, ArePlacesOf}
+use Rattle.loop_finder.specs.WaveLists.{AreSwitchedBefore}
+use Rattle.loop_finder.specs.WaveStarts.{AreClearParts, BeginsSound}
+use Rattle.loop_finder.proofs.ClassVerdicts.{sample_in}
+use Rattle.loop_finder.proofs.PartLists.{sound_whole}
+use Rattle.loop_finder.proofs.StateVerdicts.{sound_from_classes}
+use Rattle.loop_finder.proofs.ToldOfWaves.{AreEnds, wave_between}
+use Rattle.loop_finder.proofs.WaveSteps.{state_between, part_wave_sound, begins_sound}
+
+-- What is kept
+
+-- before the first wave nothing is said
+pub IsCalmBefore-zero : (part : ClassPart) (ranks : List ℕ) → IsCalmBefore part ranks 0
+IsCalmBefore-zero part ranks = record {
+  moves = λ some. absurd (omega (arith, some));
+  calm = λ v less. absurd (omega (arith, less));
+}
+
+-- what holds before a wave holds before each earlier one
+pub calm_sooner : (part : ClassPart) (ranks : List ℕ) (w v : ℕ) → v ≤ w → IsCalmBefore part ranks w → IsCalmBefore part ranks v
+calm_sooner part ranks w v most is = record {
+  moves = λ some. is.moves (omega (arith, some, most));
+  calm = λ x less. is.calm x (omega (arith, less, most));
+}
+
+-- a wave more
+pub calm_more : (part : ClassPart) (ranks : List ℕ) (w : ℕ) → part.moves ≡ true → IsCalmBefore part ranks w → IsCalmIn part ranks w → IsCalmBefore part ranks (w + 1)
+calm_more part ranks w moves is here = record {
+  moves = λ some. moves;
+  calm = below_more (IsCalmIn part ranks) w is.calm here;
+}
+
+-- a router that is idle in a part steps in no wave
+idle_wave : (part : ClassPart) (ranks : List ℕ) (w u h : ℕ) → IsIdle part u → WaveStep part ranks w u h → ⊥
+idle_wave part ranks w u h idle (inl one) = idle.bare Old h one.1
+idle_wave part ranks w u h idle (inr other) = idle.bare New h other.1
+
+other_rank : (ranks : List ℕ) (u rank v : ℕ) → (¬ (v ≡ u)) → rank_of (set ranks u rank) v ≡ rank_of ranks v
+other_rank ranks u rank v apart = get_or-set_other ranks u v rank 0 apart
+
+-- so its rank doesn't matter there
+calm_with_idle : (part : ClassPart) (ranks : List ℕ) (u rank w : ℕ) → IsIdle part u → IsCalmBefore part ranks w → IsCalmBefore part (set ranks u rank) w
+calm_with_idle part ranks u rank w idle is = record {
+  moves = is.moves;
+  calm = λ v less x within same h hops follows. elim (eqb_tells x u) [
+    | inl this ↦ idle_wave part (set ranks u rank) v u h idle (subst (λ (y : ℕ). WaveStep part (set ranks u rank) v y h) this.1 follows.0)
+    | inr apart ↦
+        is.calm v less x (omega (arith, within, length-set ranks u rank)) (sym (other_rank ranks u rank x apart.1) ∙ same) h hops
+        (follows_over (λ y z steps. steps_before v y z steps) x (h ∷ hops) x follows)
+  ];
+}
+  where
+    steps_before : (v y z : ℕ) → WaveStep part (set ranks u rank) v y z → WaveStep part ranks v y z
+    steps_before v y z steps = elim (eqb_tells y u) [
+      | inl this ↦ absurd (idle_wave part (set ranks u rank) v u z idle (subst (λ (x : ℕ). WaveStep part (set ranks u rank) v x z) this.1 steps))
+      | inr apart ↦
+          let as_was : rank_of (set ranks u rank) y ≡ rank_of ranks y = other_rank ranks u rank y apart.1 in
+          elim steps [ inl one ↦ inl (omega (arith, one.0, as_was), one.1) | inr other ↦ inr (omega (arith, other.0, as_was), other.1) ]
+    ]
+
+-- nor does a rank matter before it and the one that it takes the place of
+calm_with_later : (part : ClassPart) (ranks : List ℕ) (u rank w : ℕ) → u < length ranks → w ≤ rank_of ranks u → w ≤ rank → IsCalmBefore part ranks w → IsCalmBefore part (set ranks u rank) w
+calm_with_later part ranks u rank w inside was now is = record {
+  moves = is.moves;
+  calm = λ v less x within same h hops follows. elim (eqb_tells x u) [
+    | inl this ↦
+        let here : rank_of (set ranks u rank) x ≡ rank = subst (λ (y : ℕ). rank_of (set ranks u rank) y ≡ rank) (sym this.1) (get_or-set_same ranks u rank 0 inside) in
+        absurd (omega (arith, here, same, less, now))
+    | inr apart ↦
+        is.calm v less x (omega (arith, within, length-set ranks u rank)) (sym (other_rank ranks u rank x apart.1) ∙ same) h hops
+        (follows_over (λ y z steps. steps_before v less y z steps) x (h ∷ hops) x follows)
+  ];
+}
+  where
+    steps_before : (v : ℕ) → v < w → (y z : ℕ) → WaveStep part (set ranks u rank) v y z → WaveStep part ranks v y z
+    steps_before v less y z steps = elim (eqb_tells y u) [
+      | inl this ↦
+          let here : rank_of (set ranks u rank) y ≡ rank = subst (λ (x : ℕ). rank_of (set ranks u rank) x ≡ rank) (sym this.1) (get_or-set_same ranks u rank 0 inside) in
+          let then : w ≤ rank_of ranks y = subst (λ (x : ℕ). w ≤ rank_of ranks x) (sym this.1) was in
+          elim steps [ inl one ↦ inl (omega (arith, then, less), one.1) | inr other ↦ absurd (omega (arith, other.0, here, now, less)) ]
+      | inr apart ↦
+          let as_was : rank_of (set ranks u rank) y ≡ rank_of ranks y = other_rank ranks u rank y apart.1 in
+          elim steps [ inl one ↦ inl (omega (arith, one.0, as_was), one.1) | inr other ↦ inr (omega (arith, other.0, as_was), other.1) ]
+    ]
+
+-- what is kept where a router takes another rank, and less of the parts which that concerns
+pub AreCalm-with_rank : (parts : List ClassPart) (ranks calm lowered places : List ℕ) (u rank most : ℕ) → u < length ranks → most ≤ rank_of ranks u → most ≤ rank → ArePlacesOf parts u places
+    → AreLowered places most calm lowered → AreCalm parts ranks calm → AreCalm parts (set ranks u rank) lowered
+AreCalm-with_rank parts ranks calm lowered places u rank most inside was now placed lower are = record {
+  many = lower.many ∙ are.many;
+  each = λ p d within.
+      let less : IsCalmBefore (get_or parts p d) ranks (get_or lowered p 0) = calm_sooner (get_or parts p d) ranks (get_or calm p 0) (get_or lowered p 0) (lower.each p) (are.each p d within) in
+      elim (placed.whole p d within) [
+        | inl among ↦
+            let few : get_or lowered p 0 ≤ most = lower.these p among in
+            calm_with_later (get_or parts p d) ranks u rank (get_or lowered p 0) inside (omega (arith, few, was)) (omega (arith, few, now)) less
+        | inr idle ↦ calm_with_idle (get_or parts p d) ranks u rank (get_or lowered p 0) idle less
+      ];
+}
+
+-- what is kept where one part was looked at
+pub AreCalm-at : (parts : List ClassPart) (ranks calm : List ℕ) (p w : ℕ) (part : ClassPart) → p < length parts → part ≡ get_or parts p part → IsCalmBefore part ranks w
+    → AreCalm parts ranks calm → AreCalm parts ranks (set calm p w)
+AreCalm-at parts ranks calm p w part there at one are = record {
+  many = length-set calm p w ∙ are.many;
+  each = λ q d within. elim (eqb_tells q p) [
+    | inl same ↦
+        let now : w ≡ get_or (set calm p w) q 0 = subst (λ (x : ℕ). w ≡ get_or (set calm p w) x 0) (sym same.1) (sym (set_here (omega (arith, there, are.many)))) in
+        let is : part ≡ get_or parts q d = at ∙ get_or_default parts p part d there ∙ ap (λ (x : ℕ). get_or parts x d) (sym same.1) in
+        subst (λ (x : ClassPart). IsCalmBefore x ranks (get_or (set calm p w) q 0)) is (subst (λ (v : ℕ). IsCalmBefore part ranks v) now one)
+    | inr apart ↦
+        subst (λ (v : ℕ). IsCalmBefore (get_or parts q d) ranks v) (sym (get_or-set_other calm p q w 0 apart.1)) (are.each q d within)
+  ];
+}
+  where
+    set_here : p < length calm → get_or (set calm p w) p 0 ≡ w
+    set_here within = get_or-set_same calm p w 0 within
+
+-- the rank of one router more is taken
+pub taken_more : (ranks kept taken : List ℕ) (n : ℕ) → n < length kept → taken ≡ set kept n (get_or ranks n 0) → ((u : ℕ) → u < n → get_or kept u 0 ≡ get_or ranks u 0)
+    → (u : ℕ) → u < n + 1 → get_or taken u 0 ≡ get_or ranks u 0
+taken_more ranks kept taken n within is before = subst (λ (xs : List ℕ). (u : ℕ) → u < n + 1 → get_or xs u 0 ≡ get_or ranks u 0) (sym is)
+    (below_more (λ (u : ℕ). get_or (set kept n (get_or ranks n 0)) u 0 ≡ get_or ranks u 0) n
+    (λ u below. get_or-set_other kept n u (get_or ranks n 0) 0 (λ same. omega (arith, same, below)) ∙ before u below)
+    (get_or-set_same kept n (get_or ranks n 0) 0 within))
+
+-- Waves
+
+-- where the first state of a wave is sound, its states are sound for the parts that are calm in it
+sound_in_calm : {O N : Type 0} (old : Listing O) (new : Listing N) (m : Mixture O N) (part : ClassPart) (ranks : List ℕ) (c w : ℕ) (first last : List Phase) (state : State)
+    → IsPart old new m part → AreEnds (length m.net) ranks w first last → IsCalmBefore part ranks c → w < c → SoundAt old new m (state_in first) (sample_of m part.atom) → IsStateOfWave (length m.net) ranks w state
+    → SoundAt old new m state (sample_of m part.atom)
+sound_in_calm old new m part ranks c w first last state is ends calm less begun of_wave =
+    part_wave_sound old new m part ranks w first last state is ends (calm.moves (omega (arith, less))) (calm.calm w less) begun of_wave
+
+pub clear_parts : {O N : Type 0} (old : Listing O) (new : Listing N) (m : Mixture O N) (parts : List ClassPart) (ranks calm : List ℕ) (w : ℕ) (first last : List Phase)
+    → AreParts old new m parts (length m.classes.samples) → AreEnds (length m.net) ranks w first last → AreCalm parts ranks calm → Sound old new m (state_in first)
+    → AreClearParts old new m parts calm w first last
+clear_parts old new m parts ranks calm w first last are ends calms begun p d within less state between =
+    let is : IsPart old new m (get_or parts p d) = are.each p d within in
+    sound_in_calm old new m (get_or parts p d) ranks (get_or calm p 0) w first last state is ends (calms.each p d within) less
+    (begun (sample_of m (get_or parts p d).atom) (sample_in m.classes (get_or parts p d).atom are.classes is.class).address)
+    (state_between state ends between)
+
+-- the phases before a wave
+phases_before : List ℕ → ℕ → List Phase
+phases_before [] w = []
+phases_before (r ∷ ranks) w = cond (leb (suc r) w) New Old ∷ phases_before ranks w
+
+phases_many : (ranks : List ℕ) (w : ℕ) → length (phases_before ranks w) ≡ length ranks
+unfolding phases_before
+phases_many [] w = refl
+phases_many (r ∷ ranks) w = ap suc (phases_many ranks w)
+
+phase_before : (ranks : List ℕ) (w u : ℕ) → u < length ranks → state_in (phases_before ranks w) u ≡ cond (leb (suc (rank_of ranks u)) w) New Old
+unfolding phases_before
+phase_before [] w u within = absurd (omega (arith, within))
+phase_before (r ∷ ranks) w zero within = refl
+phase_before (r ∷ ranks) w (suc u) within = phase_before ranks w u (omega (arith, within))
+
+switched_before : (ranks : List ℕ) (w : ℕ) → AreSwitchedBefore ranks w (phases_before ranks w)
+switched_before ranks w = record {
+  switched = λ u within less. phase_before ranks w u within ∙ elim (leb_tells (suc (rank_of ranks u)) w) [
+    | inl met ↦ ap (λ (b : Bool). cond b New Old) met.0
+    | inr missed ↦ absurd (omega (arith, missed.1, less))
+  ];
+  others = λ u within more. phase_before ranks w u within ∙ elim (leb_tells (suc (rank_of ranks u)) w) [
+    | inl met ↦ absurd (omega (arith, met.1, more))
+    | inr missed ↦ ap (λ (b : Bool). cond b New Old) missed.0
+  ];
+}
+
+-- a wave in which all parts are calm is sound where its first state is
+sound_wave : {O N : Type 0} (old : Listing O) (new : Listing N) (m : Mixture O N) (parts : List ClassPart) (ranks calm : List ℕ) (start w : ℕ) → length ranks ≡ length m.net
+    → AreParts old new m parts (length m.classes.samples) → AreCalm parts ranks calm → ((p : ℕ) → p < length calm → start ≤ get_or calm p 0) → w < start → BeginsSound old new m ranks w
+    → SoundWave old new m ranks w
+sound_wave old new m parts ranks calm start w each are calms least less begins state of_wave =
+    let first : List Phase = phases_before ranks w in
+    let last : List Phase = phases_before ranks (w + 1) in
+    let none : ClassPart = record { atom = 0; moves = true; rows = [] } in
+    let ends : AreEnds (length m.net) ranks w first last = record { each = each; begins = switched_before ranks w; ends = switched_before ranks (w + 1) } in
+    let begun : Sound old new m (state_in first) = begins first (phases_many ranks w) (switched_before ranks w) in
+    let clear : AreClearParts old new m parts calm w first last = clear_parts old new m parts ranks calm w first last are ends calms begun in
+    sound_from_classes old new m state (length m.classes.samples) are.classes (omega arith)
+    (λ k below. sound_whole old new m parts (length m.classes.samples) none state are
+    (λ p within. clear p none within (let more : start ≤ get_or calm p 0 = least p (omega (arith, within, calms.many)) in omega (arith, more, less)) state (wave_between state ends of_wave)) k below)
+
+-- so the waves before one that no part has a lesser one than are sound
+pub sound_waves_before : {O N : Type 0} (old : Listing O) (new : Listing N) (m : Mixture O N) (parts : List ClassPart) (ranks calm : List ℕ) (begun : Bool) (start : ℕ) → length ranks ≡ length m.net
+    → AreParts old new m parts (length m.classes.samples) → AreCalm parts ranks calm → OnTrue begun (Sound old new m all_old) → (0 < start → begun ≡ true)
+    → ((p : ℕ) → p < length calm → start ≤ get_or calm p 0) → (w : ℕ) → w ≤ start → SoundWavesBefore old new m ranks w
+sound_waves_before old new m parts ranks calm begun start each are calms first known least zero most = λ v less. absurd (omega (arith, less))
+sound_waves_before old new m parts ranks calm begun start each are calms first known least (suc w) most =
+    let before : SoundWavesBefore old new m ranks w = sound_waves_before old new m parts ranks calm begun start each are calms first known least w (omega (arith, most)) in
+    let here : SoundWave old new m ranks w = sound_wave old new m parts ranks calm start w each are calms least (omega (arith, most))
+    (begins_sound old new m ranks w begun each first before (inl (known (omega (arith, most))))) in
+    λ v less. elim (cases_lt v w) [
+      | inl sooner ↦ before v sooner
+      | inr later ↦ let is : w ≡ v = omega (arith, less, later) in subst (λ (x : ℕ). SoundWave old new m ranks x) is here
+    ]
+
+-- Starting
+
+-- nothing is known at first
+pub AreCalm-none : (parts : List ClassPart) (ranks calm : List ℕ) → calm ≡ replicate (length parts) 0 → AreCalm parts ranks calm
+AreCalm-none parts ranks calm is = subst (λ (xs : List ℕ). AreCalm parts ranks xs) (sym is) (record {
+  many = length-replicate (length parts) 0;
+  each = λ p d within. subst (λ (w : ℕ). IsCalmBefore (get_or parts p d) ranks w) (sym (get_or-replicate (length parts) p 0 0 within)) (IsCalmBefore-zero (get_or parts p d) ranks);
+})

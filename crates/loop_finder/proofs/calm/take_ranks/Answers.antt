@@ -1,0 +1,24 @@
+use Rattle.std.proofs.Common.{ℕ, ◌<◌, List, [], length, arith, sym, ◌∙◌, subst}
+use Rattle.std.proofs.lemmas.List.{ext_get_or, get_or_default}
+use Rattle.loop_finder.specs.Watches.{ArePlacesOf}
+use Rattle.loop_finder.proofs.CalmLaws.{taken_more}
+use Rattle.loop_finder.proofs.calm.take_ranks.Goals as goal
+
+pub take_rank-requires-clause-places : goal.take_rank-requires-clause-places
+take_rank-requires-clause-places c =
+    let within : c.loop-router.router < length c.args.watch.now = omega (arith, c.requires.watch.many, c.loop-router-test.true) in
+    subst (λ (xs : List ℕ). ArePlacesOf c.args.parts.now c.loop-router.router xs)
+    (sym (c.as_slice.ensures ∙ c.index-watch-router.is ∙ get_or_default c.args.watch.now c.loop-router.router c.index-watch-router.result [] within))
+    (c.requires.watch.each c.loop-router.router c.loop-router-test.true)
+
+pub loop-router-preserved : goal.loop-router-preserved
+loop-router-preserved c = record {
+  taken = taken_more c.args.ranks.now c.loop-router.kept c.take_rank.new.kept c.loop-router.router
+      (omega (arith, c.loop-router-test.true, c.loop-router.auto.kept, c.requires.kept)) c.take_rank.ensures.kept c.loop-router.invariant.taken;
+  calm = c.take_rank.ensures.calm;
+}
+
+pub returns-clause-kept : goal.returns-clause-kept
+returns-clause-kept c =
+    ext_get_or 0 c.loop-router.kept c.args.ranks.now (c.loop-router.auto.kept ∙ c.requires.kept)
+    (λ u within. c.loop-router.invariant.taken u (omega (arith, within, c.loop-router.auto.kept, c.requires.kept, c.loop-router-test.false)))

@@ -1,0 +1,44 @@
+-- The waves in which no walk over a part's steps returns.
+use Rattle.std.specs.Prelude.{◌≡◌, ℕ, ◌<◌, ◌≤◌, ◌⊎◌, true, List, length, slice_index, slice_index_or, Contains}
+use Rattle.order_core.specs.Rankings.{rank_of}
+use Rattle.igp_theory.specs.declared.phase.Phase.TheVariants.{Old, New}
+use Rattle.loop_finder.specs.Parts.{ClassPart, part_hops}
+use Rattle.loop_finder.specs.Returns.{NeverReturnsTo}
+
+-- the steps of a part in the states of wave w: of the routers of the waves before it those in New, of the waves after
+-- it those in Old, and of its own both
+abbrev pub WaveStep : ClassPart → List ℕ → ℕ → ℕ → ℕ → Type 0
+WaveStep part ranks w u h =
+    ((w ≤ rank_of ranks u) × Contains (part_hops part u Old) h) ⊎ ((rank_of ranks u ≤ w) × Contains (part_hops part u New) h)
+
+-- no walk over the steps of wave w returns to a router of it
+abbrev pub IsCalmIn : ClassPart → List ℕ → ℕ → Type 0
+IsCalmIn part ranks w = (u : ℕ) → u < length ranks → rank_of ranks u ≡ w → NeverReturnsTo (WaveStep part ranks w) u
+
+-- a part is calm in each wave before w; where there is such a wave, all routers are known to move
+pub record IsCalmBefore (part : ClassPart) (ranks : List ℕ) (w : ℕ) : Type 0 where
+  pub moves : 0 < w → part.moves ≡ true
+  pub calm : (v : ℕ) → v < w → IsCalmIn part ranks v
+
+-- for each part such a wave
+pub record AreCalm (parts : List ClassPart) (ranks calm : List ℕ) : Type 0 where
+  pub many : length calm ≡ length parts
+  pub each : (p : ℕ) (d : ClassPart) → p < length parts → IsCalmBefore (slice_index_or parts p d) ranks (slice_index calm p)
+
+-- a part in a wave
+pub record WaveState : Type 0 where
+  pub part : ClassPart
+  pub ranks : List ℕ
+  pub wave : ℕ
+  pub routers : ℕ
+
+-- it is of so many routers
+pub record IsWaveState (c : WaveState) : Type 0 where
+  pub rows : length c.part.rows ≡ c.routers
+  pub each : length c.ranks ≡ c.routers
+
+-- each of some numbers is no greater than it was, and those at these places are at most this one
+pub record AreLowered (places : List ℕ) (most : ℕ) (old new : List ℕ) : Type 0 where
+  pub many : length new ≡ length old
+  pub each : (p : ℕ) → slice_index new p ≤ slice_index old p
+  pub these : (p : ℕ) → Contains places p → slice_index new p ≤ most

@@ -1,0 +1,72 @@
+ghost use Rattle.std.specs.Prelude.{◌≡◌, ◌<◌, All, IfOk, OnOk, length};
+ghost use Rattle.loop_finder.specs.Watches.{AddsPlace, ArePlacesOf, IsWatch};
+
+use crate::part::Part;
+use rib_mix::OutOfMemory;
+use std::alloc::Global;
+use std::marker::Model;
+
+/// The places of the parts that a change of a router may make unsound, ascending.
+#[derive(Drop)]
+pub struct Places {
+    all: Vec<usize>,
+}
+
+impl Model for Places {
+    ghost use Rattle.std.specs.Prelude.{List, ℕ};
+
+    ghost Value = { List ℕ };
+
+    ghost view = { λ x. x.all.items };
+}
+
+impl Places {
+    /// The places for a router.
+    fn of_router(alloc: Global, parts: &[Part], router: u32) -> Result<Places, OutOfMemory>
+        requires { All (λ part. router < length part.rows) parts.now }
+        ensures { IfOk result (ArePlacesOf parts.now router) }
+    {
+        let mut all = Vec::new(alloc);
+        for place in 0..parts.len() {
+            add_place(&parts[place], router, place, &mut all)?;
+        }
+        Ok(Places { all })
+    }
+
+    /// The places.
+    pub fn as_slice(&self) -> &[usize]
+        ensures { result.now ≡ self.now }
+    {
+        self.all.as_slice()
+    }
+}
+
+/// Adds the place of a part where a router isn't idle in it.
+fn add_place(
+    part: &Part,
+    router: u32,
+    place: usize,
+    places: &mut Vec<usize>,
+) -> Result<(), OutOfMemory>
+    requires { router < length part.now.rows }
+    ensures { OnOk result (AddsPlace part.now router place places.old.items places.new.items) }
+{
+    if part.is_idle(router) {
+        return Ok(());
+    }
+    places.push(place)?;
+    Ok(())
+}
+
+/// For each router the places of the parts that a change of it may make unsound.
+pub fn watch_of(alloc: Global, parts: &[Part], routers: u32) -> Result<Vec<Places>, OutOfMemory>
+    requires { All (λ part. length part.rows ≡ routers) parts.now }
+    ensures { IfOk result (λ watch. IsWatch parts.now routers watch.items) }
+{
+    let mut watch = Vec::with_capacity(alloc, routers as usize)?;
+    for router in 0..routers {
+        let places = Places::of_router(alloc, parts, router)?;
+        watch.push(places)?;
+    }
+    Ok(watch)
+}
