@@ -1,0 +1,5 @@
+use Rattle.plan_theory.proofs.OnePlan.{one_plan}
+use Rattle.plan_theory.proofs.laws.plans_are_one.Goals as goal
+
+pub returns : goal.returns
+returns g c = λ net budget planned other is too. one_plan net g.T.TablePair.old g.T.TablePair.new budget planned other is too

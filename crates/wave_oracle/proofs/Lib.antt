@@ -1,0 +1,3 @@
+mod Told
+mod EndStates
+mod PlanSteps

@@ -1,0 +1,36 @@
+-- The ends of what is mixed, and what the oracle of wave lists keeps.
+use Rattle.std.specs.Prelude.{◌≡◌, ℕ, length}
+use Rattle.route_core.specs.Tables.{HasEntry}
+use Rattle.igp_theory.specs.LoopLaws.{AreSoundEnds}
+use Rattle.igp_theory.specs.Loops.{IsFault}
+use Rattle.igp_theory.specs.States.{IsSound}
+use Rattle.igp_theory.specs.declared.phase.Phase.{Phase}
+use Rattle.rib_mix.specs.Mixture.{Mixture}
+use Rattle.loop_finder.specs.Faults.{Finding}
+use Rattle.loop_finder.specs.Steps.{Listing}
+use Rattle.loop_finder.specs.declared.fault.Fault.{Fault}
+use Rattle.loop_finder.specs.declared.fault.Fault.TheVariants.{Loop, Missing}
+use Rattle.plan_theory.specs.Plans.{fault_told}
+use Rattle.plan_theory.specs.declared.planned.EndFault.{EndFault}
+
+-- the state in which every router has this phase is sound
+abbrev pub IsSoundEnd : {O N : Type 0} → Listing O → Listing N → Mixture O N → Phase → Type 0
+IsSoundEnd old new m phase = IsSound m.net (HasEntry (old m.old)) (HasEntry (new m.new)) (λ _. phase)
+
+-- it has this fault
+abbrev pub HasEndFault : {O N : Type 0} → Listing O → Listing N → Mixture O N → Phase → EndFault → Type 0
+HasEndFault old new m phase fault = IsFault m.net (HasEntry (old m.old)) (HasEntry (new m.new)) (λ _. phase) (fault_told fault)
+
+-- both ends are sound
+abbrev pub HasSoundEnds : {O N : Type 0} → Listing O → Listing N → Mixture O N → Type 0
+HasSoundEnds old new m = AreSoundEnds m.net (HasEntry (old m.old)) (HasEntry (new m.new))
+
+-- the oracle's count is that of the network's routers, and both ends are sound
+pub record IsWaveOracle {O N : Type 0} (old : Listing O) (new : Listing N) (finding : Finding O N) (routers : ℕ) : Type 0 where
+  pub routers_are : routers ≡ length finding.mixture.net
+  pub ends : HasSoundEnds old new finding.mixture
+
+-- the fault that is told is a loop
+abbrev pub IsToldLoop : Fault → Type 0
+IsToldLoop (Loop address) = Unit {0}
+IsToldLoop (Missing address router) = ⊥
