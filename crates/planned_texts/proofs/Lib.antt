@@ -1,0 +1,4 @@
+pub mod TreeNodes
+pub mod TreesAsTexts
+pub mod WavesAsTexts
+pub mod ReadBack

@@ -1,0 +1,75 @@
+-- What was planned has a text, and the text reads back.
+use Rattle.std.proofs.Common.{ℕ, ◌<◌, List, [], length}
+use Rattle.net_model.specs.Network.{Network}
+use Rattle.net_model.specs.Refusals.{IsNetwork}
+use Rattle.net_model.specs.RouterNames.{names_of}
+use Rattle.igp_theory.specs.Routes.{Tables}
+use Rattle.igp_theory.specs.Waves.{AreSeamlessWaves}
+use Rattle.order_core.specs.Pairs.{Pair}
+use Rattle.order_search.specs.Answers.{AreFoundWaves, IsFound}
+use Rattle.order_search.specs.Trees.{branch_count}
+use Rattle.order_search.specs.declared.found.Found.{Found}
+use Rattle.order_search.specs.declared.found.Found.TheVariants.{Waves, Refuted, Spent}
+use Rattle.order_search.specs.declared.tree.Node.{Node}
+use Rattle.plan_theory.specs.WavesMeaning.{IsPickedFault, waves_meaning}
+use Rattle.planned_texts.specs.Chains.{IsTaggedChain}
+use Rattle.planned_texts.specs.PlannedTexts.{IsPrintable, planned_text}
+use Rattle.planned_texts.specs.ReadingBack.{HasVerdict, ReadsAsSafeWaves, ReadsBack}
+use Rattle.planned_texts.proofs.TreeNodes.{nodes_below}
+use Rattle.planned_texts.proofs.TreesAsTexts.{refutation_closes, refuted_fill, spent_fill, spent_stays_open}
+use Rattle.planned_texts.proofs.WavesAsTexts.{found_each, found_one_of_each, found_tagged}
+use Rattle.refutation_check.specs.TreeTexts.{tree_text}
+use Rattle.refutation_check.specs.Verdicts.{IsVerdict, leaf_count, open_count}
+use Rattle.refutation_check.specs.declared.verdict.Verdict.{Verdict}
+use Rattle.refutation_check.specs.declared.verdict.Verdict.TheVariants.{Closed, Unfinished}
+use Rattle.refutation_check.proofs.OneVerdict.{one_verdict}
+use Rattle.step_scripts.specs.WaveFiles.{NamesWaves}
+use Rattle.step_scripts.specs.WavesTexts.{waves_text}
+use Rattle.step_scripts.specs.declared.version.Version.TheVariants.{Two}
+use Rattle.step_scripts.proofs.TextFacts.{waves_read_back}
+use Rattle.step_scripts.proofs.WaveFileLaws.{no_fault, one_wave_list}
+
+module _ (old new : Tables) (net : Network) (budget : ℕ) where
+  pub plan_printable : (found : Found) → IsFound (waves_meaning net old new) budget found → IsPrintable net found
+  plan_printable (Waves ranks pairs chain trail) is = record {
+    each = found_each net old new (AreSeamlessWaves net old new) (IsPickedFault net old new) budget ranks pairs chain trail is;
+    one_of_each = found_one_of_each net old new (AreSeamlessWaves net old new) (IsPickedFault net old new) budget ranks pairs chain trail is;
+  }
+  plan_printable (Refuted tree) is =
+      nodes_below net old new [] tree (refuted_fill net old new (AreSeamlessWaves net old new) (IsPickedFault net old new) budget tree is)
+  plan_printable (Spent tree) is =
+      nodes_below net old new [] tree (spent_fill net old new (AreSeamlessWaves net old new) (IsPickedFault net old new) budget tree is)
+
+  pub chain_tagged : (ranks : List ℕ) (pairs : List Pair) (chain : List ℕ) (trail : List Node) →
+      AreFoundWaves (waves_meaning net old new) budget ranks pairs chain trail → IsTaggedChain net old new chain
+  chain_tagged ranks pairs chain trail is =
+      found_tagged net old new (AreSeamlessWaves net old new) (IsPickedFault net old new) budget ranks pairs chain trail is
+
+  module _ (network : IsNetwork net) (some : 0 < length net) where
+    waves_read : (ranks : List ℕ) (pairs : List Pair) (chain : List ℕ) (trail : List Node) →
+        AreFoundWaves (waves_meaning net old new) budget ranks pairs chain trail →
+        ReadsAsSafeWaves net old new (waves_text (names_of net) ranks chain) ranks
+    waves_read ranks pairs chain trail is =
+        let each = found_one_of_each net old new (AreSeamlessWaves net old new) (IsPickedFault net old new) budget ranks pairs chain trail is in
+        let names : NamesWaves net (waves_text (names_of net) ranks chain) Two ranks =
+        waves_read_back net ranks chain network some is.is_good.waves each in
+        let text : List ℕ = waves_text (names_of net) ranks chain in
+        record {
+          names = names;
+          faultless = λ number kind. no_fault net text Two ranks number kind network.ascending names;
+          alone = λ version other has. one_wave_list net text version Two other ranks network.ascending has names;
+          seamless = is.is_good;
+        }
+
+    has_verdict : (text : List ℕ) (verdict : Verdict) → IsVerdict net old new text verdict → HasVerdict net old new text verdict
+    has_verdict text verdict is = record { is = is; alone = λ other its. one_verdict net network old new text other verdict its is }
+
+    pub plan_reads_back : (found : Found) → IsFound (waves_meaning net old new) budget found →
+        ReadsBack net old new found (planned_text (names_of net) found)
+    plan_reads_back (Waves ranks pairs chain trail) is = waves_read ranks pairs chain trail is
+    plan_reads_back (Refuted tree) is =
+        has_verdict (tree_text (names_of net) tree) (Closed (branch_count tree) (leaf_count tree))
+        (refutation_closes net old new (AreSeamlessWaves net old new) (IsPickedFault net old new) budget network tree is)
+    plan_reads_back (Spent tree) is =
+        has_verdict (tree_text (names_of net) tree) (Unfinished (open_count tree))
+        (spent_stays_open net old new (AreSeamlessWaves net old new) (IsPickedFault net old new) budget network tree is)

@@ -1,0 +1,83 @@
+-- The texts of the trees that a search makes: a closed tree where it refutes, an unfinished one where it was stopped.
+use Rattle.std.proofs.Common.{◌≡◌, ℕ, suc, ◌+◌, ◌<◌, List, [], ◌∷◌, ◌++◌, length, replicate, arith, refl, sym, subst}
+use Rattle.net_model.specs.Network.{Network}
+use Rattle.net_model.specs.Refusals.{IsNetwork}
+use Rattle.net_model.specs.RouterNames.{names_of}
+use Rattle.igp_theory.specs.Loops.{IsLoop}
+use Rattle.igp_theory.specs.Routes.{Tables}
+use Rattle.order_search.specs.Answers.{IsFoundNode, IsRefutation, IsSpent}
+use Rattle.order_search.specs.Meanings.{Good, Picked}
+use Rattle.order_search.specs.Trees.{Fill, IsTreeNode, Place, Real, branch_count}
+use Rattle.order_search.proofs.Fills.{Fill-append, Fill-weaker}
+use Rattle.order_search.specs.declared.tree.Node.{Node}
+use Rattle.order_search.specs.declared.tree.Node.TheVariants.{Unvisited}
+use Rattle.refutation_check.specs.TreeTexts.{tree_text}
+use Rattle.refutation_check.specs.Verdicts.{IsClosedText, IsTreeText, IsUnfinishedText, leaf_count, open_count}
+use Rattle.refutation_check.proofs.PrintedTrees.{trees_read_back}
+use Rattle.planned_texts.proofs.TreeNodes.{nodes_below, nodes_read, over_loops}
+
+-- Unvisited places
+
+-- as many unvisited nodes as there are places fill these
+open_places : (real : Real) (places : List Place) → Fill (IsTreeNode real) places (replicate (length places) Unvisited) []
+open_places real [] = refl
+open_places real (place ∷ places) = (tt, open_places real places)
+
+open_count-append : (nodes more : List Node) → open_count (nodes ++ more) ≡ open_count nodes + open_count more
+open_count-append [] more = omega arith
+open_count-append (node ∷ nodes) more = omega (arith, open_count-append nodes more)
+
+-- the last of some unvisited nodes is open
+open_some : (nodes : List Node) (n : ℕ) → 0 < open_count (nodes ++ replicate (suc n) Unvisited)
+open_some nodes n = omega (arith, open_count-append nodes (replicate (suc n) Unvisited))
+
+module _ (net : Network) (old new : Tables) (good : Good) (picked : Picked) (budget : ℕ) where
+  found_fill : (places left : List Place) (nodes : List Node) → Fill (IsFoundNode (over_loops net old new good picked)) places nodes left →
+      Fill (IsTreeNode (IsLoop net old new)) places nodes left
+  found_fill places left nodes fill =
+      Fill-weaker (IsFoundNode (over_loops net old new good picked)) (IsTreeNode (IsLoop net old new)) (λ place node is. is.is_node) places left nodes fill
+
+  -- the branches of a refutation are loops of the network
+  pub refuted_fill : (tree : List Node) → IsRefutation (over_loops net old new good picked) budget tree →
+      Fill (IsTreeNode (IsLoop net old new)) ([] ∷ []) tree []
+  refuted_fill tree is = found_fill ([] ∷ []) [] tree is.closed.tree
+
+  -- and so are those of a tree that was stopped
+  pub spent_fill : (tree : List Node) → IsSpent (over_loops net old new good picked) budget tree →
+      Fill (IsTreeNode (IsLoop net old new)) ([] ∷ []) tree []
+  spent_fill tree is =
+      let stopped = is.stopped in
+      let before = found_fill ([] ∷ []) (stopped.place ∷ stopped.later) stopped.before stopped.stands.fills in
+      let rest = open_places (IsLoop net old new) (stopped.place ∷ stopped.later) in
+      subst (λ (nodes : List Node). Fill (IsTreeNode (IsLoop net old new)) ([] ∷ []) nodes []) (sym stopped.ends)
+      (Fill-append (IsTreeNode (IsLoop net old new)) ([] ∷ []) (stopped.place ∷ stopped.later) [] stopped.before
+      (replicate (suc (length stopped.later)) Unvisited) before rest)
+
+  module _ (network : IsNetwork net) where
+    -- a tree whose branches are loops of the network reads back as this tree
+    tree_reads : (nodes : List Node) → Fill (IsTreeNode (IsLoop net old new)) ([] ∷ []) nodes [] →
+        IsTreeText net old new (tree_text (names_of net) nodes) nodes
+    tree_reads nodes fill =
+        let back = trees_read_back net nodes network (nodes_below net old new [] nodes fill) (nodes_read net old new [] nodes fill) in
+        record { lines = back.lines; text_is = back.text_is; right = record { said = back.said; fills = fill } }
+
+    -- a refutation is a closed text
+    pub refutation_closes : (tree : List Node) → IsRefutation (over_loops net old new good picked) budget tree →
+        IsClosedText net old new (tree_text (names_of net) tree) (branch_count tree) (leaf_count tree)
+    refutation_closes tree is = record {
+      nodes = tree;
+      tree = tree_reads tree (refuted_fill tree is);
+      visited = is.closed.visited;
+      branches_are = refl;
+      leaves_are = refl;
+    }
+
+    -- a tree that was stopped is an unfinished text
+    pub spent_stays_open : (tree : List Node) → IsSpent (over_loops net old new good picked) budget tree →
+        IsUnfinishedText net old new (tree_text (names_of net) tree) (open_count tree)
+    spent_stays_open tree is = record {
+      nodes = tree;
+      tree = tree_reads tree (spent_fill tree is);
+      some = subst (λ (nodes : List Node). 0 < open_count nodes) (sym is.stopped.ends) (open_some is.stopped.before (length is.stopped.later));
+      unvisited_are = refl;
+    }
