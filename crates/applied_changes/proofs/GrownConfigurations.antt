@@ -1,5 +1,5 @@
 -- The lines of a change, put before an `end` line, change a distance of its configuration and nothing else.
-use Rattle.std.proofs.Common.{◌≡◌, ℕ, ◌+◌, Bool, true, false, cond, List, [], ◌∷◌, ◌++◌, length, Option, Some, None, refl, sym, ap, subst, ◌∙◌, append_assoc, append-nil}
+use Rattle.std.proofs.Common.{◌≡◌, ℕ, ◌+◌, Bool, true, false, cond, List, [], ◌∷◌, ◌++◌, Option, Some, None, refl, sym, ap, subst, ◌∙◌}
 use Rattle.std.specs.Prelude.{filter_map, is_some, IfSome}
 use Rattle.std.specs.List.{list_all}
 use Rattle.std.proofs.lemmas.List.Elements.{filter_map-append}
@@ -8,7 +8,6 @@ use Rattle.net_model.specs.declared.bounds.TheConstants.{ISIS_DISTANCE}
 use Rattle.ios_lines.specs.Words.{Word, is_printable}
 use Rattle.ios_lines.specs.Lookups.{last_of}
 use Rattle.ios_lines.proofs.GoodLines.{IsFrom}
-use Rattle.ios_sections.specs.TextLines.{lines_in}
 use Rattle.ios_sections.specs.JoinedLines.{sections_further_on}
 use Rattle.ios_sections.specs.Processes.{as_hostname, as_interface, as_ospf, as_isis, as_fault, merged_interfaces, interfaces_in, process_of, first_isis}
 use Rattle.ios_sections.specs.declared.section.Section.{Section}
@@ -16,15 +15,16 @@ use Rattle.ios_sections.specs.declared.section.Section.TheVariants.{Isis, Ospf}
 use Rattle.ios_sections.specs.declared.section.IsisSection.{IsisSection}
 use Rattle.ios_reader.specs.Faults.{section_faults}
 use Rattle.ios_reader.specs.Configurations.{tag_in, configuration_of}
-use Rattle.ios_reader.specs.InsertedLines.{IsBlock}
-use Rattle.ios_reader.proofs.InsertedFacts.{joined_blocks, block_by_block}
 use Rattle.igp_theory.specs.declared.phase.Phase.{Phase}
 use Rattle.igp_theory.specs.declared.phase.Phase.TheVariants.{Old, Middle, New}
 use Rattle.printed_lines.specs.Texts.{text_of}
 use Rattle.step_scripts.specs.Scripts.{isis_head, distance_line, isis_lines, process_lines}
 use Rattle.applied_changes.specs.AppliedTexts.{lines_to, after_first, after_second, in_phase}
 use Rattle.step_scripts.proofs.ScriptFacts.{text_of-append}
-use Rattle.applied_changes.proofs.FurtherSections.{last_stays, left_out, HasNoFault, no_fault_from, no_fault_by, made_by, isis_section, ospf_section, with_isis_distance, with_ospf_distance, tag_printable, isis_no_fault, isis_made, ospf_no_fault, ospf_made}
+use Rattle.ios_reader.proofs.LookedUp.{HasNoFault, no_fault_from, no_fault_by, made_by}
+use Rattle.ios_reader.proofs.GrownSections.{Grows, nothing_grows, both_grow}
+use Rattle.applied_changes.proofs.FurtherSections.{last_stays, left_out, isis_section, ospf_section, with_isis_distance, with_ospf_distance, tag_printable}
+use Rattle.applied_changes.proofs.FurtherSections.{isis_no_fault, isis_made, ospf_no_fault, ospf_made}
 use Rattle.applied_changes.proofs.BlockLines.{isis_block, isis_block_fits, isis_block_sections, ospf_block, ospf_block_fits, ospf_block_sections}
 
 -- a section more: no fault comes with it, and this is the configuration
@@ -83,32 +83,6 @@ module _ (ss : List Section) (ends line : ℕ) (fine : section_faults ss ends �
       }
 
 -- ---- blocks ----
-
--- a block behind sections: it fits, no fault comes with it, and this is the configuration
-pub record Grows (ss : List Section) (ends : ℕ) (block : List ℕ) (grown : Configuration) : Type 0 where
-  pub fits : IsBlock block
-  pub faultless : (count : ℕ) → section_faults (ss ++ sections_further_on count block) ends ≡ []
-  pub made : (count : ℕ) → grown ≡ configuration_of (ss ++ sections_further_on count block)
-
-nothing_grows : (ss : List Section) (ends : ℕ) → section_faults ss ends ≡ [] → Grows ss ends [] (configuration_of ss)
-nothing_grows ss ends fine = record {
-  fits = record { whole = refl; opens = refl; no_banner = refl; no_end = refl };
-  faultless = λ count. ap (λ l. section_faults l ends) (append-nil ss) ∙ fine;
-  made = λ count. ap configuration_of (sym (append-nil ss));
-}
-
--- one block, and then another
-both_grow : (ss : List Section) (ends : ℕ) (one two : List ℕ) (first grown : Configuration) → Grows ss ends one first →
-    ((count : ℕ) → Grows (ss ++ sections_further_on count one) ends two grown) → Grows ss ends (one ++ two) grown
-both_grow ss ends one two first grown begun more =
-    let later : ℕ → ℕ = λ count. count + length (lines_in one) in
-    let same : (count : ℕ) → ss ++ sections_further_on count (one ++ two) ≡ (ss ++ sections_further_on count one) ++ sections_further_on (later count) two =
-    λ count. ap (λ l. ss ++ l) (block_by_block count one two begun.fits (more count).fits) ∙ sym (append_assoc ss (sections_further_on count one) (sections_further_on (later count) two)) in
-    record {
-      fits = joined_blocks one two begun.fits (more 0).fits;
-      faultless = λ count. ap (λ l. section_faults l ends) (same count) ∙ (more count).faultless (later count);
-      made = λ count. (more count).made (later count) ∙ ap configuration_of (sym (same count));
-    }
 
 -- the lines of a first change, where the configuration has IS-IS and where it hasn't
 isis_grows : (ss : List Section) (ends : ℕ) (f : IsisSection) (more : List IsisSection) → section_faults ss ends ≡ [] → filter_map as_isis ss ≡ f ∷ more →

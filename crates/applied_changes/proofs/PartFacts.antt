@@ -1,61 +1,25 @@
 -- A text with the lines of changes put in, line by line and configuration by configuration.
-use Rattle.std.proofs.Common.{◌≡◌, ℕ, ◌+◌, ◌-◌, ◌<◌, ◌≤◌, Bool, true, false, not, ◌&&◌, cond, List, [], ◌∷◌, ◌++◌, length, map, take, drop, refl, sym, ap, subst, ◌∙◌, append_assoc, append-nil, length-append, length-drop, arith}
-use Rattle.std.specs.Prelude.{slice_get}
-use Rattle.std.proofs.lemmas.List.{length-map, drop-append-le, drop_at, take_at, take_all}
-use Rattle.net_addr.specs.declared.line.Line.{Line}
-use Rattle.net_addr.specs.Lines.{line_pieces, lines_of, text_lines}
-use Rattle.net_addr.specs.JoinedLines.{is_of_whole_lines, line_further_on}
+use Rattle.std.proofs.Common.{◌≡◌, ℕ, ◌+◌, ◌-◌, ◌≤◌, Bool, true, false, not, ◌&&◌, cond, List, [], ◌∷◌, ◌++◌, length, map, drop, refl, sym, ap, subst, ◌∙◌}
+use Rattle.std.proofs.Common.{append_assoc, append-nil, length-append, length-drop, arith}
+use Rattle.std.proofs.lemmas.List.{drop-append-le, drop_at, take_all}
+use Rattle.net_addr.specs.JoinedLines.{is_of_whole_lines}
 use Rattle.net_model.specs.Configuration.{Configuration}
-use Rattle.net_addr.proofs.JoinedFacts.{lines_of-length, text_lines-append}
 use Rattle.igp_theory.specs.declared.phase.Phase.{Phase}
-use Rattle.ios_sections.specs.TextLines.{TextLine, Part, text_line, lines_in, is_end, parts_of}
+use Rattle.ios_sections.specs.TextLines.{TextLine, Part, lines_in, is_end, parts_of}
 use Rattle.ios_sections.specs.JoinedLines.{further_on, is_in_banner, begins_with_end, open_sections}
 use Rattle.ios_sections.proofs.JoinedFacts.{lines_in-append}
 use Rattle.ios_reader.specs.Configurations.{configuration_of}
 use Rattle.ios_reader.specs.InsertedLines.{IsOutsideBanners}
 use Rattle.ios_reader.specs.Texts.{ReadsText}
-use Rattle.applied_changes.specs.AppliedTexts.{in_phase, raw_lines, block_for, applied_lines, applied_text}
-use Rattle.applied_changes.specs.steps.AppliedParts.{begins_at, start_of, between, applied_parts}
-use Rattle.applied_changes.proofs.AppliedFacts.{IsWholeBefore, AreRaw, joined_raw, are_raw, raw_joined, HasOneLine, one_line, parts_stay, parts_at_end, open_lines, part_with, whole_next, whole_start, applied_text_reads}
-
--- ---- where a line begins ----
-
-get_behind : {X : Type 0} (xs ys : List X) → slice_get (xs ++ ys) (length xs) ≡ slice_get ys 0
-get_behind [] ys = refl
-get_behind (x ∷ xs) ys = get_behind xs ys
-
-first_begins : (e count bytes : ℕ) (pieces : List (List ℕ)) → 0 < length pieces → begins_at e (slice_get (map (line_further_on count bytes) (lines_of 1 0 pieces)) 0) ≡ bytes
-first_begins e count bytes [] some = absurd (omega (arith, some))
-first_begins e count bytes (piece ∷ pieces) some = let here : bytes + 0 ≡ bytes = omega arith in here
-
-some_pieces : (text : List ℕ) (line : TextLine) (behind : List TextLine) → lines_in text ≡ line ∷ behind → 0 < length (line_pieces text)
-some_pieces text line behind is =
-    let counted = ap (λ (l : List TextLine). length l) is in
-    let mapped = length-map (text_lines text) (text_line text) in
-    let made = lines_of-length 1 0 (line_pieces text) in
-    omega (arith, counted, mapped, made)
-
--- the first line behind a text of whole lines begins at its end
-line_behind : (before rest : List ℕ) (line : TextLine) (behind : List TextLine) → is_of_whole_lines before ≡ true → lines_in rest ≡ line ∷ behind → line.number ≡ 1 →
-    start_of (before ++ rest) (length (lines_in before) + line.number) ≡ length before
-line_behind before rest line behind whole is first =
-    let n : ℕ = length (text_lines before) in
-    let mapped : length (lines_in before) ≡ n = length-map (text_lines before) (text_line before) in
-    let place : length (lines_in before) + line.number - 1 ≡ n = omega (arith, mapped, first) in
-    let e : ℕ = length (before ++ rest) in
-    ap (λ (k : ℕ). begins_at e (slice_get (text_lines (before ++ rest)) k)) place
-    ∙ ap (λ (l : List Line). begins_at e (slice_get l n)) (text_lines-append before rest whole)
-    ∙ ap (begins_at e) (get_behind (text_lines before) (map (line_further_on n (length before)) (text_lines rest)))
-    ∙ first_begins e n (length before) (line_pieces rest) (some_pieces rest line behind is)
+use Rattle.ios_reader.specs.Places.{between, raw_lines, start_of}
+use Rattle.ios_reader.proofs.LinePlaces.{line_behind, up_to}
+use Rattle.ios_reader.proofs.RawLines.{IsWholeBefore, AreRaw, joined_raw, are_raw, raw_joined, HasOneLine, one_line, parts_stay, parts_at_end, open_lines}
+use Rattle.ios_reader.proofs.RawLines.{part_with, whole_next, whole_start}
+use Rattle.applied_changes.specs.AppliedTexts.{in_phase, block_for, applied_lines, applied_text}
+use Rattle.applied_changes.specs.steps.AppliedParts.{applied_parts}
+use Rattle.applied_changes.proofs.AppliedFacts.{applied_text_reads}
 
 -- ---- the text ----
-
--- what stands from a place up to the end of a text's first part
-up_to : (before rest text : List ℕ) (from : ℕ) → before ++ rest ≡ text → from ≤ length before → between text from (length before) ≡ drop from before
-up_to before rest text from is low =
-    ap (λ (t : List ℕ). take (length before - from) (drop from t)) (sym is)
-    ∙ ap (take (length before - from)) (drop-append-le from before rest low)
-    ∙ take_at (drop from before) rest (length before - from) (length-drop from before)
 
 -- what stands behind the parts of a text's first part, and what it is with its lines
 record Behind (phases : List ℕ → Phase) (text before done : List ℕ) : Type 0 where
@@ -89,7 +53,7 @@ ends_behind phases text before raw tail done line others outside split is starts
     let part : Part = part_with (open_lines before) (n + line.number) in
     let block : List ℕ = block_for phases (configuration_of (open_sections before)) in
     let start : start_of text (n + line.number) ≡ length before =
-    sym (ap (λ (t : List ℕ). start_of t (n + line.number)) split) ∙ line_behind before (raw ++ tail) line others outside.whole starts first in
+    sym (ap (λ (t : List ℕ). start_of t (n + line.number)) split) ∙ line_behind before (raw ++ tail) (n + line.number) line others outside.whole starts (omega (arith, first)) in
     record {
       later = part ∷ rest.later;
       parts =

@@ -9,7 +9,8 @@ use Rattle.ios_sections.specs.TextLines.{Part, TextLine, is_end, parts_after, se
 use Rattle.ios_reader.specs.Configurations.{configuration_of}
 use Rattle.ios_reader.proofs.PartFacts.{slice_more, slice_none}
 use Rattle.applied_changes.specs.AppliedTexts.{block_for}
-use Rattle.applied_changes.specs.steps.AppliedParts.{between, applied_parts, start_of}
+use Rattle.ios_reader.specs.Places.{between, start_of}
+use Rattle.applied_changes.specs.steps.AppliedParts.{applied_parts}
 
 module _ (phases : List ℕ → Phase) (text : List ℕ) (counted : List TextLine) (i : ℕ) (x : TextLine) (within : i < length counted) (read : x ≡ get_or counted i x) where
   abbrev part_with : List TextLine → Part

@@ -1,5 +1,5 @@
 -- What the lines of changes make of a router's configuration.
-use Rattle.std.specs.Prelude.{ℕ, ◌==◌, ◌&&◌, not, List, [], ◌∷◌, ◌++◌, map, if◌then◌else◌, is_some}
+use Rattle.std.specs.Prelude.{ℕ, ◌&&◌, not, List, [], ◌∷◌, ◌++◌, map, if◌then◌else◌, is_some}
 use Rattle.net_model.specs.Configuration.{Configuration}
 use Rattle.net_model.specs.declared.bounds.TheConstants.{ISIS_DISTANCE, MOST_DISTANCE}
 use Rattle.igp_theory.specs.declared.phase.Phase.{Phase}
@@ -7,6 +7,7 @@ use Rattle.igp_theory.specs.declared.phase.Phase.TheVariants.{Old, Middle, New}
 use Rattle.ios_sections.specs.TextLines.{lines_in}
 use Rattle.ios_sections.specs.JoinedLines.{is_in_banner, begins_with_end, open_sections}
 use Rattle.ios_reader.specs.Configurations.{configuration_of}
+use Rattle.ios_reader.specs.Places.{raw_lines}
 use Rattle.ios_reader.specs.Texts.{ReadsText}
 use Rattle.printed_lines.specs.Texts.{text_of}
 use Rattle.step_scripts.specs.Scripts.{isis_lines, process_lines}
@@ -36,16 +37,6 @@ in_phase Middle c = after_first c
 in_phase New c = after_second (after_first c)
 
 -- ---- texts with the lines of changes put in ----
-
--- a byte more in front of the first of some lines
-abbrev pub with_byte : ℕ → List (List ℕ) → List (List ℕ)
-with_byte b [] = (b ∷ []) ∷ []
-with_byte b (raw ∷ raws) = (b ∷ raw) ∷ raws
-
--- the lines of a text, each with its line feed (10); the last one may have none
-abbrev pub raw_lines : List ℕ → List (List ℕ)
-raw_lines [] = []
-raw_lines (b ∷ bytes) = if b == 10 then (10 ∷ []) ∷ raw_lines bytes else with_byte b (raw_lines bytes)
 
 -- the lines that take the router of a configuration to its phase, by its name
 abbrev pub block_for : (List ℕ → Phase) → Configuration → List ℕ

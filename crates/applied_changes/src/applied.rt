@@ -8,12 +8,14 @@ ghost use Rattle.ios_reader.specs.Configurations.{configuration_of};
 ghost use Rattle.ios_reader.specs.Texts.{ReadsText};
 ghost use Rattle.applied_changes.specs.AppliedTexts.{applied_text, block_for, in_phase};
 ghost use Rattle.applied_changes.specs.NamedPhases.{phase_named};
-ghost use Rattle.applied_changes.specs.steps.AppliedParts.{applied_parts, between, start_of};
+ghost use Rattle.ios_reader.specs.Places.{between, start_of};
+ghost use Rattle.applied_changes.specs.steps.AppliedParts.{applied_parts};
 
 use crate::OutOfMemory;
 use crate::change_lines::phase_text;
 use crate::phases::phase_named;
 use igp_theory::Phase;
+use ios_reader::{between, start_of};
 use ios_sections::read_section::read_sections;
 use ios_sections::statements::statements_of;
 use ios_sections::text::counted_lines;
@@ -104,26 +106,6 @@ fn add_block(
     all.extend_from_slice(between(text, from, end))?;
     all.extend_from_slice(block)?;
     Ok(end)
-}
-
-/// Where the line of this number begins, and the end of the text where there is none.
-fn start_of(text: &[u8], lines: &[Line], number: usize) -> usize
-    requires { lines.now ≡ text_lines text.now }
-    ensures { result ≡ start_of text.now number }
-{
-    match lines.get(number.saturating_sub(1)) {
-        Some(line) => line.span.start as usize,
-        None => text.len(),
-    }
-}
-
-/// What stands between two places of a text.
-fn between(text: &[u8], from: usize, to: usize) -> &[u8]
-    ensures { result.now ≡ between text.now from to }
-{
-    let to = to.min(text.len());
-    let from = from.min(to);
-    &text[from..to]
 }
 
 /// The lines that take the router, whose configuration these lines make, to its phase.

@@ -11,3 +11,7 @@ pub mod PassiveFacts
 pub mod KeyedFacts
 pub mod FurtherReading
 pub mod InsertedFacts
+pub mod RawLines
+pub mod LinePlaces
+pub mod LookedUp
+pub mod GrownSections

@@ -12,3 +12,4 @@ pub mod Passives
 pub mod Tables
 pub mod ReadLaws
 pub mod InsertedLines
+pub mod Places

@@ -19,12 +19,14 @@ mod interface_read;
 mod configuration;
 mod inserted;
 mod laws;
+mod places;
 mod reader;
 mod refusal;
 
 pub use inserted::inserted_laws;
 pub use kind::ReadKind;
 pub use laws::read_laws;
+pub use places::{between, start_of};
 pub use reader::read_configs;
 pub use refusal::ReadRefusal;
 pub use std::alloc::AllocError as OutOfMemory;

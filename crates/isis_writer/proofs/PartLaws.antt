@@ -9,7 +9,8 @@ use Rattle.ios_sections.specs.Sections.{section_of}
 use Rattle.ios_sections.specs.TextLines.{Part, TextLine, is_end, parts_after, sections_of}
 use Rattle.ios_reader.proofs.PartFacts.{slice_more, slice_none}
 use Rattle.design_file.specs.declared.settled.SettledRouter.{SettledRouter}
-use Rattle.isis_writer.specs.Prepared.{between, new_lines, prepared_parts, start_of}
+use Rattle.ios_reader.specs.Places.{between, start_of}
+use Rattle.isis_writer.specs.Prepared.{new_lines, prepared_parts}
 
 module _ (text : List ℕ) (net : Network) (settled : List SettledRouter) (counted : List TextLine) (i : ℕ) (x : TextLine)
     (within : i < length counted) (read : x ≡ get_or counted i x) where

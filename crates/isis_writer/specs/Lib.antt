@@ -1,2 +1,3 @@
 pub mod RouterLines
 pub mod Prepared
+pub mod PreparedConfigurations

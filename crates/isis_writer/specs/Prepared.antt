@@ -1,7 +1,5 @@
 -- Prepared texts: the lines of each router stand before its `end` line, and what stood behind the last one is left out.
-use Rattle.std.specs.Prelude.{ℕ, ◌+◌, ◌-◌, List, [], ◌∷◌, ◌++◌, Option, Some, None, bytes_eq, drop, if◌then◌else◌, length, slice_get, take, unwrap_or}
-use Rattle.net_addr.specs.Lines.{text_lines}
-use Rattle.net_addr.specs.declared.line.Line.{Line}
+use Rattle.std.specs.Prelude.{ℕ, ◌+◌, List, [], ◌∷◌, ◌++◌, Option, Some, None, bytes_eq, if◌then◌else◌, slice_get, unwrap_or}
 use Rattle.net_model.specs.Network.{Network}
 use Rattle.printed_lines.specs.Texts.{text_of}
 use Rattle.ios_lines.specs.Words.{Word}
@@ -11,23 +9,9 @@ use Rattle.ios_sections.specs.Sections.{sections_in}
 use Rattle.ios_sections.specs.Processes.{as_hostname, interfaces_in}
 use Rattle.ios_sections.specs.declared.section.InterfaceSection.{InterfaceSection}
 use Rattle.ios_sections.specs.declared.section.Section.{Section}
+use Rattle.ios_reader.specs.Places.{between, start_of}
 use Rattle.design_file.specs.declared.settled.SettledRouter.{SettledRouter}
 use Rattle.isis_writer.specs.RouterLines.{router_lines}
-
--- ---- the places of lines ----
-
--- where a line begins, and the end of the text where there is no such line
-abbrev pub begins_at : ℕ → Option Line → ℕ
-begins_at ends None = ends
-begins_at ends (Some line) = line.span.start
-
--- where the line of this number begins
-abbrev pub start_of : List ℕ → ℕ → ℕ
-start_of text number = begins_at (length text) (slice_get (text_lines text) (number - 1))
-
--- what stands between two places of a text
-abbrev pub between : List ℕ → ℕ → ℕ → List ℕ
-between text from to = take (to - from) (drop from text)
 
 -- ---- the lines of a configuration ----
 

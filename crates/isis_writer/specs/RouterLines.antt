@@ -1,4 +1,5 @@
--- The lines of a prepared configuration: the IS-IS process of a router, idle at distance 255, and its IS-IS interfaces.
+-- The lines of a prepared configuration: the IS-IS process of a router, idle at distance 255, and its IS-IS interfaces. A line is
+-- its bytes; those of a section begin with a blank.
 use Rattle.std.specs.Prelude.{ℕ, ◌+◌, ◌/◌, ◌%◌, Bool, true, false, ◌&&◌, List, [], ◌∷◌, ◌++◌, Option, Some, None, bytes_eq, codes, decimal, if◌then◌else◌}
 use Rattle.std.specs.List.{flat_map, list_any}
 use Rattle.net_model.specs.declared.bounds.TheConstants.{MOST_DISTANCE}
@@ -12,10 +13,6 @@ use Rattle.ios_lines.specs.declared.interface_line.InterfaceStatement.{Interface
 use Rattle.ios_sections.specs.declared.section.InterfaceSection.{InterfaceSection}
 use Rattle.design_file.specs.declared.settled.SettledInterface.{SettledInterface}
 use Rattle.design_file.specs.declared.settled.SettledRouter.{SettledRouter}
-
--- a line is its bytes; those of a section begin with a blank
-abbrev pub Line : Type 0
-Line = List ℕ
 
 -- the word for some levels
 abbrev pub level_word : Levels → Word
@@ -33,37 +30,37 @@ four_digits n = (48 + n / 1000 % 10) ∷ (48 + n / 100 % 10) ∷ (48 + n / 10 % 
 abbrev pub title : Word → ℕ → Word
 title area number = area ++ codes ".0000.0000." ++ four_digits (number + 1) ++ codes ".00"
 
-abbrev pub title_line : Word → ℕ → Line
+abbrev pub title_line : Word → ℕ → List ℕ
 title_line area number = spaced (codes "net" ∷ title area number ∷ [])
 
-abbrev pub type_line : Levels → Line
+abbrev pub type_line : Levels → List ℕ
 type_line levels = spaced (codes "is-type" ∷ level_word levels ∷ [])
 
-abbrev pub style_line : Line
+abbrev pub style_line : List ℕ
 style_line = spaced (codes "metric-style" ∷ codes "wide" ∷ [])
 
-abbrev pub distance_line : Line
+abbrev pub distance_line : List ℕ
 distance_line = spaced (codes "distance" ∷ decimal MOST_DISTANCE ∷ [])
 
 -- the line that leaks level 2 routes into level 1
-abbrev pub leak_line : Line
+abbrev pub leak_line : List ℕ
 leak_line = spaced (codes "redistribute" ∷ codes "isis" ∷ codes "ip" ∷ codes "level-2" ∷ codes "into" ∷ codes "level-1" ∷ [])
 
-abbrev pub leak_lines : Bool → List Line
+abbrev pub leak_lines : Bool → List (List ℕ)
 leak_lines leak = if leak then leak_line ∷ [] else []
 
-abbrev pub passive_line : Word → Line
+abbrev pub passive_line : Word → List ℕ
 passive_line name = spaced (codes "passive-interface" ∷ name ∷ [])
 
 -- a passive interface has a line
-abbrev pub passive_lines : SettledInterface → List Line
+abbrev pub passive_lines : SettledInterface → List (List ℕ)
 passive_lines interface = if interface.passive then passive_line interface.name ∷ [] else []
 
-abbrev pub process_head : Line
+abbrev pub process_head : List ℕ
 process_head = joined (codes "router" ∷ codes "isis" ∷ [])
 
 -- the process of a router of this number
-abbrev pub process_lines : ℕ → SettledRouter → List Line
+abbrev pub process_lines : ℕ → SettledRouter → List (List ℕ)
 process_lines number router =
     process_head ∷ title_line router.area number ∷ type_line router.levels ∷ style_line ∷ distance_line
     ∷ leak_lines router.leak ++ flat_map passive_lines router.interfaces
@@ -82,42 +79,42 @@ abbrev pub has_old_line : List InterfaceSection → Word → Bool
 has_old_line old name = list_any (λ (s : InterfaceSection). bytes_eq s.name name && list_any (λ (l : InterfaceStatement). is_old_line l.says) s.lines) old
 
 -- an interface that isn't passive runs IS-IS by a line of its own
-abbrev pub run_lines : Bool → List Line
+abbrev pub run_lines : Bool → List (List ℕ)
 run_lines passive = if passive then [] else spaced (codes "ip" ∷ codes "router" ∷ codes "isis" ∷ []) ∷ []
 
-abbrev pub circuit_line : Levels → Line
+abbrev pub circuit_line : Levels → List ℕ
 circuit_line levels = spaced (codes "isis" ∷ codes "circuit-type" ∷ level_word levels ∷ [])
 
 -- the levels that the design names; where it names none, both, if an old line is to have no effect
-abbrev pub level_lines : Bool → Option Levels → List Line
+abbrev pub level_lines : Bool → Option Levels → List (List ℕ)
 level_lines old (Some levels) = circuit_line levels ∷ []
 level_lines old None = if old then circuit_line Both ∷ [] else []
 
 -- an interface that isn't passive has the line of its levels
-abbrev pub circuit_lines : Bool → SettledInterface → List Line
+abbrev pub circuit_lines : Bool → SettledInterface → List (List ℕ)
 circuit_lines old interface = if interface.passive then [] else level_lines old interface.circuit
 
-abbrev pub metric_line : ℕ → List Word → Line
+abbrev pub metric_line : ℕ → List Word → List ℕ
 metric_line metric level = spaced (codes "isis" ∷ codes "metric" ∷ decimal metric ∷ level)
 
 -- the metric of each level
-abbrev pub both_level_lines : ℕ → List Line
+abbrev pub both_level_lines : ℕ → List (List ℕ)
 both_level_lines metric = metric_line metric (codes "level-1" ∷ []) ∷ metric_line metric (codes "level-2" ∷ []) ∷ []
 
 -- the metric holds for each level where an old line is to have no effect
-abbrev pub level_metric_lines : Bool → ℕ → List Line
+abbrev pub level_metric_lines : Bool → ℕ → List (List ℕ)
 level_metric_lines old metric = if old then both_level_lines metric else []
 
-abbrev pub interface_head : Word → Line
+abbrev pub interface_head : Word → List ℕ
 interface_head name = joined (codes "interface" ∷ name ∷ [])
 
 -- an IS-IS interface, of which an old line may stand
-abbrev pub interface_lines : Bool → SettledInterface → List Line
+abbrev pub interface_lines : Bool → SettledInterface → List (List ℕ)
 interface_lines old interface =
     interface_head interface.name
     ∷ run_lines interface.passive ++ (circuit_lines old interface ++ metric_line interface.metric [] ∷ level_metric_lines old interface.metric)
 
 -- all lines of a router of this number, whose old interfaces are these
-abbrev pub router_lines : List InterfaceSection → ℕ → SettledRouter → List Line
+abbrev pub router_lines : List InterfaceSection → ℕ → SettledRouter → List (List ℕ)
 router_lines old number router =
     process_lines number router ++ flat_map (λ (i : SettledInterface). interface_lines (has_old_line old i.name) i) router.interfaces

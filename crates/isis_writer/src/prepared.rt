@@ -5,11 +5,13 @@ ghost use Rattle.printed_lines.specs.Texts.{text_of};
 ghost use Rattle.ios_sections.specs.Sections.{section_of};
 ghost use Rattle.ios_sections.specs.TextLines.{parts_after, sections_of};
 ghost use Rattle.std.specs.Prelude.{map};
-ghost use Rattle.isis_writer.specs.Prepared.{between, new_lines, numbered_from, numbered_lines, prepared_parts, prepared_text, start_of};
+ghost use Rattle.ios_reader.specs.Places.{between, start_of};
+ghost use Rattle.isis_writer.specs.Prepared.{new_lines, numbered_from, numbered_lines, prepared_parts, prepared_text};
 
 use crate::OutOfMemory;
 use crate::router_lines::with_router;
 use design_file::Settled;
+use ios_reader::{between, start_of};
 use ios_sections::read_section::read_sections;
 use ios_sections::section::InterfaceSection;
 use ios_sections::statements::statements_of;
@@ -97,26 +99,6 @@ fn add_part(
     all.extend_from_slice(new)?;
     all.extend_from_slice(between(text, end, next))?;
     Ok(next)
-}
-
-/// Where the line of this number begins, and the end of the text where there is none.
-fn start_of(text: &[u8], lines: &[Line], number: usize) -> usize
-    requires { lines.now ≡ text_lines text.now }
-    ensures { result ≡ start_of text.now number }
-{
-    match lines.get(number.saturating_sub(1)) {
-        Some(line) => line.span.start as usize,
-        None => text.len(),
-    }
-}
-
-/// What stands between two places of a text.
-fn between(text: &[u8], from: usize, to: usize) -> &[u8]
-    ensures { result.now ≡ between text.now from to }
-{
-    let to = to.min(text.len());
-    let from = from.min(to);
-    &text[from..to]
 }
 
 /// The new lines of the router whose configuration these lines make.

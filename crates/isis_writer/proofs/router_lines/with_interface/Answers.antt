@@ -1,5 +1,5 @@
 use Rattle.std.proofs.Common.{◌≡◌, ◌∙◌, [], ◌∷◌, ◌++◌, List, ℕ, IfOk, ap, subst}
-use Rattle.isis_writer.specs.RouterLines.{Line, circuit_lines, interface_head, level_metric_lines, metric_line, run_lines}
+use Rattle.isis_writer.specs.RouterLines.{circuit_lines, interface_head, level_metric_lines, metric_line, run_lines}
 use Rattle.isis_writer.proofs.TextLaws.{then_line, then_lines}
 use Rattle.isis_writer.proofs.router_lines.with_interface.Goals as goal
 
@@ -7,7 +7,7 @@ pub returns : goal.returns
 returns c =
     let interface = c.args.interface.now in
     let levels = level_metric_lines c.args.old interface.metric in
-    let metrics : List Line = metric_line interface.metric [] ∷ levels in
+    let metrics : List (List ℕ) = metric_line interface.metric [] ∷ levels in
     let circuits = circuit_lines c.args.old interface ++ metrics in
     let runs = run_lines interface.passive ++ circuits in
     let head = c.in_ok-interface_head.ensures ∙ ap interface_head c.as_slice.ensures in

@@ -1,0 +1,142 @@
+-- A configuration and its faults, by what its sections are looked up by.
+use Rattle.std.proofs.Common.{◌≡◌, ℕ, true, false, List, [], ◌∷◌, ◌++◌, map, Option, refl, sym, ap, subst, ◌∙◌}
+use Rattle.std.specs.Prelude.{filter_map, unwrap_or, is_some, is_none}
+use Rattle.std.specs.List.{flat_map}
+use Rattle.net_model.specs.Configuration.{Configuration}
+use Rattle.net_model.specs.declared.bounds.TheConstants.{ISIS_DISTANCE, OSPF_DISTANCE}
+use Rattle.ios_lines.specs.Words.{Word}
+use Rattle.ios_lines.specs.Lookups.{last_of, value_or}
+use Rattle.ios_lines.specs.FaultOrder.{faults_if}
+use Rattle.ios_lines.specs.declared.kind.ReadKind.TheVariants.{NoHostname}
+use Rattle.ios_lines.specs.declared.fault.Fault.{Fault}
+use Rattle.ios_lines.specs.declared.title.Title.{Title}
+use Rattle.ios_lines.specs.declared.isis_line.IsisStatement.{IsisStatement}
+use Rattle.ios_lines.specs.declared.ospf_line.OspfStatement.{OspfStatement}
+use Rattle.ios_sections.specs.Processes.{as_hostname, as_ospf, as_isis, as_fault, interfaces_in, mentions_of, first_process, lines_of_process, first_isis}
+use Rattle.ios_sections.specs.Processes.{first_tag, lines_of_tag}
+use Rattle.ios_sections.specs.ProcessFaults.{process_faults, ospf_statement_faults, tag_faults_of, isis_statement_faults, second_titles, lacking}
+use Rattle.ios_sections.specs.ProcessFaults.{first_isis_line}
+use Rattle.ios_sections.specs.declared.section.Section.{Section}
+use Rattle.ios_sections.specs.declared.section.IsisSection.{IsisSection}
+use Rattle.ios_sections.specs.declared.section.OspfSection.{OspfSection}
+use Rattle.ios_sections.specs.declared.section.InterfaceSection.{InterfaceSection}
+use Rattle.ios_reader.specs.Routers.{router_with, title_said, isis_distance_said, ospf_distance_said, rfc1583_said, ranges_in, stubs_in, leak_said}
+use Rattle.ios_reader.specs.InterfacesAsRead.{interface_as_read}
+use Rattle.ios_reader.specs.Faults.{interface_faults, section_faults}
+use Rattle.ios_reader.specs.Configurations.{title_given, area_in, system_in, tag_in, configuration_of}
+
+pub two_none : (fs gs : List Fault) → fs ≡ [] → gs ≡ [] → fs ++ gs ≡ []
+two_none fs gs one two = ap (λ l. l ++ gs) one ∙ two
+
+pub none_left : (fs gs : List Fault) → fs ++ gs ≡ [] → fs ≡ []
+none_left [] gs e = refl
+none_left (f ∷ fs) gs e = absurd cc
+
+pub none_right : (fs gs : List Fault) → fs ++ gs ≡ [] → gs ≡ []
+none_right [] gs e = e
+none_right (f ∷ fs) gs e = absurd cc
+
+-- ---- what sections say, by what they are looked up by ----
+
+-- the lines of the two processes
+abbrev pub ospf_lines_by : Option ℕ → List OspfSection → List OspfStatement
+ospf_lines_by process ospf = flat_map (lines_of_process process) ospf
+
+abbrev pub isis_lines_by : List IsisSection → List IsisStatement
+isis_lines_by isis = flat_map (lines_of_tag (first_tag isis)) isis
+
+abbrev pub process_by : List OspfSection → List InterfaceSection → Option ℕ
+process_by ospf interfaces = first_process (mentions_of ospf interfaces)
+
+-- the faults of sections, one sort after the other
+pub record HasNoFault (name : Option Word) (interfaces : List InterfaceSection) (ospf : List OspfSection) (isis : List IsisSection) (heads : List Fault) (ends : ℕ) : Type 0 where
+  pub heads_fine : heads ≡ []
+  pub one_process : flat_map (process_faults (process_by ospf interfaces)) (mentions_of ospf interfaces) ≡ []
+  pub ospf_fine : flat_map ospf_statement_faults (ospf_lines_by (process_by ospf interfaces) ospf) ≡ []
+  pub one_tag : flat_map (tag_faults_of (first_tag isis)) isis ≡ []
+  pub isis_fine : flat_map isis_statement_faults (isis_lines_by isis) ≡ []
+  pub one_title : second_titles (isis_lines_by isis) ≡ []
+  pub lacks_none : lacking (first_isis_line isis) (isis_lines_by isis) ≡ []
+  pub interfaces_fine :
+      flat_map (interface_faults (router_with (process_by ospf interfaces) (ospf_lines_by (process_by ospf interfaces) ospf) (isis_lines_by isis)) (first_tag isis)) interfaces ≡ []
+  pub named : faults_if (is_none name) ends NoHostname ≡ []
+
+pub no_fault_from : (ss : List Section) (ends : ℕ) → section_faults ss ends ≡ [] →
+    HasNoFault (last_of as_hostname ss) (interfaces_in ss) (filter_map as_ospf ss) (filter_map as_isis ss) (filter_map as_fault ss) ends
+no_fault_from ss ends e =
+    let l1 = none_left _ _ e in
+    let l2 = none_left _ _ l1 in
+    let l3 = none_left _ _ l2 in
+    let l4 = none_left _ _ l3 in
+    let i0 = none_right _ _ l2 in
+    let i1 = none_left _ _ i0 in
+    let i2 = none_left _ _ i1 in
+    record {
+      heads_fine = none_left _ _ l4;
+      one_process = none_right _ _ l4;
+      ospf_fine = none_right _ _ l3;
+      one_tag = none_left _ _ i2;
+      isis_fine = none_right _ _ i2;
+      one_title = none_right _ _ i1;
+      lacks_none = none_right _ _ i0;
+      interfaces_fine = none_right _ _ l1;
+      named = none_right _ _ e;
+    }
+
+no_fault_to : (ss : List Section) (ends : ℕ) →
+    HasNoFault (last_of as_hostname ss) (interfaces_in ss) (filter_map as_ospf ss) (filter_map as_isis ss) (filter_map as_fault ss) ends →
+    section_faults ss ends ≡ []
+no_fault_to ss ends n =
+    two_none _ _
+    (two_none _ _
+    (two_none _ _ (two_none _ _ (two_none _ _ n.heads_fine n.one_process) n.ospf_fine)
+    (two_none _ _ (two_none _ _ (two_none _ _ n.one_tag n.isis_fine) n.one_title) n.lacks_none))
+    n.interfaces_fine)
+    n.named
+
+-- sections that are looked up alike have no fault either
+pub no_fault_by : (ss : List Section) (ends : ℕ) (name : Option Word) (interfaces : List InterfaceSection) (ospf : List OspfSection) (isis : List IsisSection) (heads : List Fault) →
+    last_of as_hostname ss ≡ name → interfaces_in ss ≡ interfaces → filter_map as_ospf ss ≡ ospf → filter_map as_isis ss ≡ isis → filter_map as_fault ss ≡ heads →
+    HasNoFault name interfaces ospf isis heads ends → section_faults ss ends ≡ []
+no_fault_by ss ends name interfaces ospf isis heads a b c d f n =
+    no_fault_to ss ends
+    (subst (λ v. HasNoFault v (interfaces_in ss) (filter_map as_ospf ss) (filter_map as_isis ss) (filter_map as_fault ss) ends) (sym a)
+    (subst (λ v. HasNoFault name v (filter_map as_ospf ss) (filter_map as_isis ss) (filter_map as_fault ss) ends) (sym b)
+    (subst (λ v. HasNoFault name interfaces v (filter_map as_isis ss) (filter_map as_fault ss) ends) (sym c)
+    (subst (λ v. HasNoFault name interfaces ospf v (filter_map as_fault ss) ends) (sym d)
+    (subst (λ v. HasNoFault name interfaces ospf isis v ends) (sym f) n)))))
+
+-- the configuration that sections make
+abbrev pub configuration_by : Option Word → List InterfaceSection → List OspfSection → List IsisSection → Configuration
+configuration_by name interfaces ospf isis =
+    let process : Option ℕ = process_by ospf interfaces in
+    let lines : List OspfStatement = ospf_lines_by process ospf in
+    let others : List IsisStatement = isis_lines_by isis in
+    let title : Option Title = title_given (last_of (λ (s : IsisStatement). title_said s.says) others) in
+    record {
+      name = unwrap_or name [];
+      interfaces = map (interface_as_read (router_with process lines others)) interfaces;
+      process = process;
+      isis = is_some (first_isis isis);
+      tag = tag_in (first_isis isis);
+      isis_area = area_in title;
+      system = system_in title;
+      levels = (router_with process lines others).levels;
+      leak = unwrap_or (last_of (λ (s : IsisStatement). leak_said s.says) others) false;
+      ranges = ranges_in lines;
+      stubs = stubs_in lines;
+      rfc1583 = unwrap_or (last_of (λ (s : OspfStatement). rfc1583_said s.says) lines) true;
+      distances = record {
+        ospf = value_or (last_of (λ (s : OspfStatement). ospf_distance_said s.says) lines) OSPF_DISTANCE;
+        isis = value_or (last_of (λ (s : IsisStatement). isis_distance_said s.says) others) ISIS_DISTANCE;
+      };
+    }
+
+pub made_by : (ss : List Section) (name : Option Word) (interfaces : List InterfaceSection) (ospf : List OspfSection) (isis : List IsisSection) →
+    last_of as_hostname ss ≡ name → interfaces_in ss ≡ interfaces → filter_map as_ospf ss ≡ ospf → filter_map as_isis ss ≡ isis →
+    configuration_of ss ≡ configuration_by name interfaces ospf isis
+made_by ss name interfaces ospf isis a b c d =
+    ap (λ v. configuration_by v (interfaces_in ss) (filter_map as_ospf ss) (filter_map as_isis ss)) a
+    ∙ ap (λ v. configuration_by name v (filter_map as_ospf ss) (filter_map as_isis ss)) b
+    ∙ ap (λ v. configuration_by name interfaces v (filter_map as_isis ss)) c
+    ∙ ap (configuration_by name interfaces ospf) d

@@ -1,0 +1,423 @@
+-- The lines that are written for a router, by their words, and what they say.
+use Rattle.std.proofs.Common.{◌≡◌, ℕ, ◌<◌, ◌≤◌, ◌^◌, Bool, true, false, not, ◌&&◌, cond, List, [], ◌∷◌, ◌++◌, length, map, Option, Some, None}
+use Rattle.std.proofs.Common.{Ok, Err, refl, sym, ap, ◌∙◌, append-nil, arith, codes, bytes_eq, nat_eq, nat_le, nat_lt, decimal}
+use Rattle.std.specs.Prelude.{All}
+use Rattle.std.specs.List.{list_all, list_any, flat_map}
+use Rattle.std.proofs.lemmas.List.Elements.{All-head, All-tail}
+use Rattle.ios_lines.specs.declared.title.Title.{Title}
+use Rattle.std.specs.Char.{IsAsciiDigit, is_ascii_digit}
+use Rattle.std.proofs.lemmas.Bool.{and_parts, and_from, le-leb, not-true}
+use Rattle.std.proofs.lemmas.Bool.Decides.{nat_tests}
+use Rattle.std.proofs.lemmas.List.{map-append}
+use Rattle.std.proofs.lemmas.List.Folds.{list_all-append}
+use Rattle.net_model.specs.declared.bounds.TheConstants.{MOST_DISTANCE, MOST_METRIC}
+use Rattle.net_model.specs.declared.config.Levels.{Levels}
+use Rattle.net_model.specs.declared.config.Levels.TheVariants.{One, Two, Both}
+use Rattle.printed_lines.specs.Words.{spaced, joined}
+use Rattle.printed_lines.proofs.NumberFacts.{decimal-IsNumeral, numbers_read_back}
+use Rattle.ios_lines.specs.Words.{Word, is_printable, levels_of, at_least, number_from}
+use Rattle.ios_lines.specs.Heads.{head_of, is_interface_name, interface_of}
+use Rattle.ios_lines.specs.InterfaceLines.{interface_line}
+use Rattle.ios_lines.specs.IsisLines.{isis_line, isis_distance}
+use Rattle.ios_lines.specs.declared.kind.ReadKind.TheVariants.{BadMetric, BadDistance, Unsupported}
+use Rattle.ios_lines.specs.declared.head.Head.TheVariants.{Interface as InterfaceHead}
+use Rattle.ios_lines.specs.declared.interface_line.InterfaceLine.{InterfaceLine}
+use Rattle.ios_lines.specs.declared.interface_line.InterfaceLine.TheVariants.{Isis, Circuit, Metric, Metric1, Metric2}
+use Rattle.ios_lines.specs.declared.isis_line.IsisLine.{IsisLine}
+use Rattle.ios_lines.specs.declared.isis_line.IsisLine.TheVariants.{Net, Levels as LevelsLine, MetricStyle, Distance, Passive, Leak, Skipped, Faulty}
+use Rattle.ios_lines.proofs.NumberFacts.{number-some}
+use Rattle.design_file.specs.Designs.{IsMetric}
+use Rattle.design_file.specs.Values.{is_area}
+use Rattle.design_file.specs.declared.settled.SettledInterface.{SettledInterface}
+use Rattle.design_file.specs.declared.settled.SettledRouter.{SettledRouter}
+use Rattle.isis_writer.specs.PreparedConfigurations.{system_id}
+use Rattle.isis_writer.specs.RouterLines.{level_word, title, leak_lines, passive_lines, process_lines, run_lines, circuit_lines, level_lines, metric_line}
+use Rattle.isis_writer.specs.RouterLines.{level_metric_lines, interface_lines, distance_line, style_line, type_line, title_line}
+use Rattle.isis_writer.proofs.TitleWords.{router_title, title_fine}
+use Rattle.isis_writer.proofs.WrittenSections.{is_fine, is_fine_line}
+
+-- ---- words ----
+
+digits_printable : (b : ℕ) → IsAsciiDigit b → is_printable b ≡ true
+digits_printable b digit = and_from (nat_le 33 b) (nat_le b 126) (le-leb 33 b (let low = digit.0 in omega (arith, low)))
+    (le-leb b 126 (let high = digit.1 in omega (arith, high)))
+
+all_printable : (word : Word) → All IsAsciiDigit word → list_all is_printable word ≡ true
+all_printable [] digits = refl
+all_printable (b ∷ word) digits =
+    and_from (is_printable b) (list_all is_printable word) (digits_printable b (All-head IsAsciiDigit b word digits))
+    (all_printable word (All-tail IsAsciiDigit b word digits))
+
+some_test : (n : ℕ) → 0 < n → nat_lt 0 n ≡ true
+some_test n some = grind (arith, nat_tests)
+
+number_fine : (n : ℕ) → n < 2 ^ 64 → is_fine (decimal n) ≡ true
+number_fine n small =
+    let numeral = decimal-IsNumeral n small in
+    and_from (nat_lt 0 (length (decimal n))) (list_all is_printable (decimal n)) (some_test (length (decimal n)) numeral.some)
+    (all_printable (decimal n) numeral.digits)
+
+levels_fine : (levels : Levels) → is_fine (level_word levels) ≡ true
+levels_fine One = refl
+levels_fine Two = refl
+levels_fine Both = refl
+
+levels_read : (levels : Levels) → levels_of (level_word levels) ≡ Ok levels
+levels_read One = refl
+levels_read Two = refl
+levels_read Both = refl
+
+-- an interface's name is a word
+some_name : (n : ℕ) → nat_le 1 n ≡ true → nat_lt 0 n ≡ true
+some_name n some = grind (arith, nat_tests)
+
+name_there : (n : ℕ) → nat_le 1 n ≡ true → nat_eq n 0 ≡ false
+name_there n some = grind (arith, nat_tests)
+
+-- what the name of an interface has
+pub record NameWord (name : Word) : Type 0 where
+  pub fine : is_fine name ≡ true
+  pub there : nat_eq (length name) 0 ≡ false
+  pub no_default : bytes_eq name (codes "default") ≡ false
+
+pub name_word : (name : Word) → is_interface_name name ≡ true → NameWord name
+name_word name is =
+    let some : Bool = nat_le 1 (length name) in
+    let other : Bool = not (bytes_eq name (codes "default")) in
+    let last : ((some && other) ≡ true) × (list_all is_printable name ≡ true) = and_parts (some && other) (list_all is_printable name) is in
+    let two : (some ≡ true) × (other ≡ true) = and_parts some other last.0 in
+    record {
+      fine = and_from (nat_lt 0 (length name)) (list_all is_printable name) (some_name (length name) two.0) last.1;
+      there = name_there (length name) two.0;
+      no_default = not-true (bytes_eq name (codes "default")) two.1;
+    }
+
+-- ---- the lines of an interface ----
+
+abbrev run_words : Bool → List (List Word)
+run_words passive = cond passive [] ((codes "ip" ∷ codes "router" ∷ codes "isis" ∷ []) ∷ [])
+
+abbrev circuit_words : Levels → List Word
+circuit_words levels = codes "isis" ∷ codes "circuit-type" ∷ level_word levels ∷ []
+
+abbrev level_words : Bool → Option Levels → List (List Word)
+level_words old (Some levels) = circuit_words levels ∷ []
+level_words old None = cond old (circuit_words Both ∷ []) []
+
+abbrev circuit_bodies : Bool → Bool → Option Levels → List (List Word)
+circuit_bodies old passive circuit = cond passive [] (level_words old circuit)
+
+abbrev metric_words : ℕ → List Word → List Word
+metric_words metric level = codes "isis" ∷ codes "metric" ∷ decimal metric ∷ level
+
+abbrev level_metric_words : Bool → ℕ → List (List Word)
+level_metric_words old metric = cond old (metric_words metric (codes "level-1" ∷ []) ∷ metric_words metric (codes "level-2" ∷ []) ∷ []) []
+
+-- the lines of the section of an interface, where an old line stands or not
+abbrev pub interface_bodies : Bool → Bool → Option Levels → ℕ → List (List Word)
+interface_bodies old passive circuit metric =
+    run_words passive ++ (circuit_bodies old passive circuit ++ metric_words metric [] ∷ level_metric_words old metric)
+
+abbrev pub interface_head : Word → List Word
+interface_head name = codes "interface" ∷ name ∷ []
+
+runs_spaced : (passive : Bool) → map spaced (run_words passive) ≡ run_lines passive
+runs_spaced true = refl
+runs_spaced false = refl
+
+levels_spaced : (old : Bool) (circuit : Option Levels) → map spaced (level_words old circuit) ≡ level_lines old circuit
+levels_spaced old (Some levels) = refl
+levels_spaced true None = refl
+levels_spaced false None = refl
+
+circuits_spaced : (old passive : Bool) (circuit : Option Levels) → map spaced (circuit_bodies old passive circuit) ≡ cond passive [] (level_lines old circuit)
+circuits_spaced old true circuit = refl
+circuits_spaced old false circuit = levels_spaced old circuit
+
+metrics_spaced : (old : Bool) (metric : ℕ) → map spaced (level_metric_words old metric) ≡ level_metric_lines old metric
+metrics_spaced true metric = refl
+metrics_spaced false metric = refl
+
+pub interface_written : (old : Bool) (i : SettledInterface) → interface_lines old i ≡ joined (interface_head i.name) ∷ map spaced
+    (interface_bodies old i.passive i.circuit i.metric)
+interface_written old i =
+    let rest : List (List Word) = metric_words i.metric [] ∷ level_metric_words old i.metric in
+    let circuits : List (List Word) = circuit_bodies old i.passive i.circuit in
+    let metrics : map spaced rest ≡ metric_line i.metric [] ∷ level_metric_lines old i.metric =
+    ap (λ (l : List (List ℕ)). metric_line i.metric [] ∷ l) (metrics_spaced old i.metric) in
+    let later : map spaced (circuits ++ rest) ≡ circuit_lines old i ++ metric_line i.metric [] ∷ level_metric_lines old i.metric =
+    map-append spaced circuits rest ∙ ap (λ (l : List (List ℕ)). l ++ map spaced rest) (circuits_spaced old i.passive i.circuit)
+    ∙ ap (λ (l : List (List ℕ)). circuit_lines old i ++ l) metrics in
+    ap (λ (l : List (List ℕ)). joined (interface_head i.name) ∷ l)
+    (sym (map-append spaced (run_words i.passive) (circuits ++ rest)
+    ∙ ap (λ (l : List (List ℕ)). l ++ map spaced (circuits ++ rest)) (runs_spaced i.passive) ∙ ap (λ (l : List (List ℕ)). run_lines i.passive ++ l) later))
+
+-- what they say
+abbrev run_says : Bool → List InterfaceLine
+run_says passive = cond passive [] (Isis [] ∷ [])
+
+abbrev level_says : Bool → Option Levels → List InterfaceLine
+level_says old (Some levels) = Circuit (Ok levels) ∷ []
+level_says old None = cond old (Circuit (Ok Both) ∷ []) []
+
+abbrev circuit_says : Bool → Bool → Option Levels → List InterfaceLine
+circuit_says old passive circuit = cond passive [] (level_says old circuit)
+
+abbrev level_metric_says : Bool → ℕ → List InterfaceLine
+level_metric_says old metric = cond old (Metric1 (Ok metric) ∷ Metric2 (Ok metric) ∷ []) []
+
+abbrev pub interface_says : Bool → Bool → Option Levels → ℕ → List InterfaceLine
+interface_says old passive circuit metric = run_says passive ++ (circuit_says old passive circuit ++ Metric (Ok metric) ∷ level_metric_says old metric)
+
+metric_small : (metric : ℕ) → IsMetric metric → metric < 2 ^ 64
+metric_small metric is = let high : metric ≤ 16777214 = is.1 in omega (arith, high)
+
+metric_read : (metric : ℕ) → IsMetric metric → number_from 1 MOST_METRIC BadMetric (decimal metric) ≡ Ok metric
+metric_read metric is =
+    ap (λ o. at_least 1 BadMetric o)
+    (number-some MOST_METRIC metric (decimal metric) (numbers_read_back metric MOST_METRIC (metric_small metric is) is.1).1.stands)
+    ∙ ap (λ (b : Bool). cond b (Ok metric) (Err BadMetric)) (le-leb 1 metric is.0)
+
+runs_read : (passive : Bool) → map interface_line (run_words passive) ≡ run_says passive
+runs_read true = refl
+runs_read false = refl
+
+one_circuit : (levels : Levels) → interface_line (circuit_words levels) ≡ Circuit (Ok levels)
+one_circuit levels = ap (λ r. Circuit r) (levels_read levels)
+
+level_lines_read : (old : Bool) (circuit : Option Levels) → map interface_line (level_words old circuit) ≡ level_says old circuit
+level_lines_read old (Some levels) = ap (λ (l : InterfaceLine). l ∷ []) (one_circuit levels)
+level_lines_read true None = ap (λ (l : InterfaceLine). l ∷ []) (one_circuit Both)
+level_lines_read false None = refl
+
+circuits_read : (old passive : Bool) (circuit : Option Levels) → map interface_line (circuit_bodies old passive circuit) ≡ circuit_says old passive circuit
+circuits_read old true circuit = refl
+circuits_read old false circuit = level_lines_read old circuit
+
+one_metric : (metric : ℕ) → IsMetric metric → interface_line (metric_words metric []) ≡ Metric (Ok metric)
+one_metric metric is = ap (λ r. Metric r) (metric_read metric is)
+
+metrics_read : (old : Bool) (metric : ℕ) → IsMetric metric → map interface_line (level_metric_words old metric) ≡ level_metric_says old metric
+metrics_read true metric is = ap (λ r. Metric1 r ∷ Metric2 r ∷ []) (metric_read metric is)
+metrics_read false metric is = refl
+
+pub interface_read : (old passive : Bool) (circuit : Option Levels) (metric : ℕ) → IsMetric metric →
+    map interface_line (interface_bodies old passive circuit metric) ≡ interface_says old passive circuit metric
+interface_read old passive circuit metric is =
+    let rest : List (List Word) = metric_words metric [] ∷ level_metric_words old metric in
+    let circuits : List (List Word) = circuit_bodies old passive circuit in
+    let metrics : map interface_line rest ≡ Metric (Ok metric) ∷ level_metric_says old metric =
+    ap (λ (x : InterfaceLine). x ∷ map interface_line (level_metric_words old metric)) (one_metric metric is)
+    ∙ ap (λ (l : List InterfaceLine). Metric (Ok metric) ∷ l) (metrics_read old metric is) in
+    let later : map interface_line (circuits ++ rest) ≡ circuit_says old passive circuit ++ Metric (Ok metric) ∷ level_metric_says old metric =
+    map-append interface_line circuits rest ∙ ap (λ (l : List InterfaceLine). l ++ map interface_line rest) (circuits_read old passive circuit)
+    ∙ ap (λ (l : List InterfaceLine). circuit_says old passive circuit ++ l) metrics in
+    map-append interface_line (run_words passive) (circuits ++ rest)
+    ∙ ap (λ (l : List InterfaceLine). l ++ map interface_line (circuits ++ rest)) (runs_read passive)
+    ∙ ap (λ (l : List InterfaceLine). run_says passive ++ l) later
+
+-- they are lines of a section
+runs_fine : (passive : Bool) → list_all is_fine_line (run_words passive) ≡ true
+runs_fine true = refl
+runs_fine false = refl
+
+circuit_fine : (levels : Levels) → is_fine_line (circuit_words levels) ≡ true
+circuit_fine One = refl
+circuit_fine Two = refl
+circuit_fine Both = refl
+
+level_bodies_fine : (old : Bool) (circuit : Option Levels) → list_all is_fine_line (level_words old circuit) ≡ true
+level_bodies_fine old (Some levels) = ap (λ (b : Bool). b && true) (circuit_fine levels)
+level_bodies_fine true None = refl
+level_bodies_fine false None = refl
+
+circuits_fine : (old passive : Bool) (circuit : Option Levels) → list_all is_fine_line (circuit_bodies old passive circuit) ≡ true
+circuits_fine old true circuit = refl
+circuits_fine old false circuit = level_bodies_fine old circuit
+
+metrics_fine : (old : Bool) (metric : ℕ) → is_fine (decimal metric) ≡ true → list_all is_fine_line (level_metric_words old metric) ≡ true
+metrics_fine true metric fine = ap (λ (b : Bool). ((b && true) && true && true && true) && (((b && true) && true && true && true) && true)) fine
+metrics_fine false metric fine = refl
+
+one_metric_fine : (metric : ℕ) → is_fine (decimal metric) ≡ true → is_fine_line (metric_words metric []) ≡ true
+one_metric_fine metric fine = ap (λ (b : Bool). (b && true) && true && true && true) fine
+
+both_fine : (xs ys : List (List Word)) → list_all is_fine_line xs ≡ true → list_all is_fine_line ys ≡ true → list_all is_fine_line (xs ++ ys) ≡ true
+both_fine xs ys one two = list_all-append is_fine_line xs ys ∙ and_from (list_all is_fine_line xs) (list_all is_fine_line ys) one two
+
+pub interface_bodies_fine : (old passive : Bool) (circuit : Option Levels) (metric : ℕ) → IsMetric metric →
+    list_all is_fine_line (interface_bodies old passive circuit metric) ≡ true
+interface_bodies_fine old passive circuit metric is =
+    let digits : is_fine (decimal metric) ≡ true = number_fine metric (metric_small metric is) in
+    both_fine (run_words passive) (circuit_bodies old passive circuit ++ metric_words metric [] ∷ level_metric_words old metric) (runs_fine passive)
+    (both_fine (circuit_bodies old passive circuit) (metric_words metric [] ∷ level_metric_words old metric) (circuits_fine old passive circuit)
+    (and_from (is_fine_line (metric_words metric [])) (list_all is_fine_line (level_metric_words old metric))
+    (one_metric_fine metric digits) (metrics_fine old metric digits)))
+
+pub interface_head_fine : (name : Word) → is_interface_name name ≡ true → is_fine_line (interface_head name) ≡ true
+interface_head_fine name is = ap (λ (b : Bool). (b && true) && true && true && true) (name_word name is).fine
+
+-- a name reads as it is written, whether it has a digit or not
+head_by : (t : Bool) (name : Word) → cond t name (name ++ []) ≡ name
+head_by true name = refl
+head_by false name = append-nil name
+
+pub interface_head_reads : (name : Word) → is_interface_name name ≡ true → head_of (interface_head name) ≡ InterfaceHead (Ok name)
+interface_head_reads name is =
+    ap (λ n. InterfaceHead (interface_of n)) (head_by (list_any is_ascii_digit name) name)
+    ∙ ap (λ (b : Bool). InterfaceHead (cond b (Ok name) (Err Unsupported))) is
+
+-- ---- the lines of the process ----
+
+abbrev leak_words : Bool → List (List Word)
+leak_words leak = cond leak ((codes "redistribute" ∷ codes "isis" ∷ codes "ip" ∷ codes "level-2" ∷ codes "into" ∷ codes "level-1" ∷ []) ∷ []) []
+
+abbrev passive_words : SettledInterface → List (List Word)
+passive_words i = cond i.passive ((codes "passive-interface" ∷ i.name ∷ []) ∷ []) []
+
+abbrev later_words : SettledRouter → List (List Word)
+later_words router = leak_words router.leak ++ flat_map passive_words router.interfaces
+
+abbrev title_words : Word → ℕ → List Word
+title_words area number = codes "net" ∷ title area number ∷ []
+
+abbrev type_words : Levels → List Word
+type_words levels = codes "is-type" ∷ level_word levels ∷ []
+
+abbrev style_words : List Word
+style_words = codes "metric-style" ∷ codes "wide" ∷ []
+
+abbrev distance_words : List Word
+distance_words = codes "distance" ∷ decimal MOST_DISTANCE ∷ []
+
+abbrev pub first_bodies : ℕ → SettledRouter → List (List Word)
+first_bodies number router = type_words router.levels ∷ style_words ∷ distance_words ∷ later_words router
+
+abbrev pub process_bodies : ℕ → SettledRouter → List (List Word)
+process_bodies number router = title_words router.area number ∷ first_bodies number router
+
+abbrev pub process_head_words : List Word
+process_head_words = codes "router" ∷ codes "isis" ∷ []
+
+leaks_spaced : (leak : Bool) → map spaced (leak_words leak) ≡ leak_lines leak
+leaks_spaced true = refl
+leaks_spaced false = refl
+
+one_passive_spaced : (i : SettledInterface) → map spaced (passive_words i) ≡ passive_lines i
+one_passive_spaced i = by_passive i.passive
+  where
+    by_passive : (t : Bool) → map spaced (cond t ((codes "passive-interface" ∷ i.name ∷ []) ∷ []) []) ≡ cond t
+        (spaced (codes "passive-interface" ∷ i.name ∷ []) ∷ []) []
+    by_passive true = refl
+    by_passive false = refl
+
+passives_spaced : (is : List SettledInterface) → map spaced (flat_map passive_words is) ≡ flat_map passive_lines is
+passives_spaced [] = refl
+passives_spaced (i ∷ is) =
+    map-append spaced (passive_words i) (flat_map passive_words is)
+    ∙ ap (λ (l : List (List ℕ)). l ++ map spaced (flat_map passive_words is)) (one_passive_spaced i)
+    ∙ ap (λ (l : List (List ℕ)). passive_lines i ++ l) (passives_spaced is)
+
+later_spaced : (router : SettledRouter) → map spaced (later_words router) ≡ leak_lines router.leak ++ flat_map passive_lines router.interfaces
+later_spaced router =
+    map-append spaced (leak_words router.leak) (flat_map passive_words router.interfaces)
+    ∙ ap (λ (l : List (List ℕ)). l ++ map spaced (flat_map passive_words router.interfaces)) (leaks_spaced router.leak)
+    ∙ ap (λ (l : List (List ℕ)). leak_lines router.leak ++ l) (passives_spaced router.interfaces)
+
+pub process_written : (number : ℕ) (router : SettledRouter) → process_lines number router ≡ joined process_head_words ∷ map spaced
+    (process_bodies number router)
+process_written number router =
+    ap (λ (l : List (List ℕ)). joined process_head_words ∷ title_line router.area number ∷ type_line
+    router.levels ∷ style_line ∷ distance_line ∷ l) (sym (later_spaced router))
+
+-- what they say
+abbrev pub leak_says : Bool → List IsisLine
+leak_says leak = cond leak (Leak ∷ []) []
+
+abbrev pub passive_says : SettledInterface → List IsisLine
+passive_says i = cond i.passive (Passive (record { name = i.name; passive = true }) ∷ []) []
+
+abbrev pub later_says : SettledRouter → List IsisLine
+later_says router = leak_says router.leak ++ flat_map passive_says router.interfaces
+
+abbrev pub process_says : ℕ → SettledRouter → List IsisLine
+process_says number router =
+    Net (Some (record { area = router.area; system = system_id number })) ∷ LevelsLine (Ok router.levels) ∷ MetricStyle true ∷ Distance
+    (Ok MOST_DISTANCE) ∷ later_says router
+
+leaks_read : (leak : Bool) → map isis_line (leak_words leak) ≡ leak_says leak
+leaks_read true = refl
+leaks_read false = refl
+
+-- each of these has the name of an interface
+abbrev pub AreNamed : List SettledInterface → Type 0
+AreNamed [] = Unit {0}
+AreNamed (i ∷ is) = (is_interface_name i.name ≡ true) × AreNamed is
+
+one_passive_read : (i : SettledInterface) → is_interface_name i.name ≡ true → map isis_line (passive_words i) ≡ passive_says i
+one_passive_read i is = by_passive i.passive
+  where
+    named : isis_line (codes "passive-interface" ∷ i.name ∷ []) ≡ Passive (record { name = i.name; passive = true })
+    named =
+        ap (λ (b : Bool). cond b Skipped
+        (cond (bytes_eq i.name (codes "default")) (Faulty Unsupported) (Passive (record { name = i.name; passive = true })))) (name_word i.name is).there
+        ∙ ap (λ (b : Bool). cond b (Faulty Unsupported) (Passive (record { name = i.name; passive = true }))) (name_word i.name is).no_default
+
+    by_passive : (t : Bool) → map isis_line (cond t ((codes "passive-interface" ∷ i.name ∷ []) ∷ []) []) ≡ cond t
+        (Passive (record { name = i.name; passive = true }) ∷ []) []
+    by_passive true = ap (λ (l : IsisLine). l ∷ []) named
+    by_passive false = refl
+
+passives_read : (is : List SettledInterface) → AreNamed is → map isis_line (flat_map passive_words is) ≡ flat_map passive_says is
+passives_read [] named = refl
+passives_read (i ∷ is) named =
+    map-append isis_line (passive_words i) (flat_map passive_words is)
+    ∙ ap (λ (l : List IsisLine). l ++ map isis_line (flat_map passive_words is)) (one_passive_read i named.0)
+    ∙ ap (λ (l : List IsisLine). passive_says i ++ l) (passives_read is named.1)
+
+distance_read : isis_line distance_words ≡ Distance (Ok MOST_DISTANCE)
+distance_read =
+    ap (λ o. Distance (isis_distance (at_least 1 BadDistance o)))
+    (number-some MOST_DISTANCE MOST_DISTANCE (decimal MOST_DISTANCE) (numbers_read_back MOST_DISTANCE MOST_DISTANCE (omega arith) (omega arith)).1.stands)
+
+pub process_read : (number : ℕ) (router : SettledRouter) → is_area router.area ≡ true → AreNamed router.interfaces →
+    map isis_line (process_bodies number router) ≡ process_says number router
+process_read number router area named =
+    let later : map isis_line (later_words router) ≡ later_says router =
+    map-append isis_line (leak_words router.leak) (flat_map passive_words router.interfaces)
+    ∙ ap (λ (l : List IsisLine). l ++ map isis_line (flat_map passive_words router.interfaces)) (leaks_read router.leak)
+    ∙ ap (λ (l : List IsisLine). leak_says router.leak ++ l) (passives_read router.interfaces named) in
+    let its : Option Title = Some (record { area = router.area; system = system_id number }) in
+    ap (λ t. Net t ∷ LevelsLine (levels_of (level_word router.levels)) ∷ MetricStyle true ∷ isis_line distance_words ∷ map isis_line
+    (later_words router)) (router_title router.area number area)
+    ∙ ap (λ r. Net its ∷ LevelsLine r ∷ MetricStyle true ∷ isis_line distance_words ∷ map isis_line (later_words router)) (levels_read router.levels)
+    ∙ ap (λ d. Net its ∷ LevelsLine (Ok router.levels) ∷ MetricStyle true ∷ d ∷ map isis_line (later_words router)) distance_read
+    ∙ ap (λ (l : List IsisLine). Net its ∷ LevelsLine (Ok router.levels) ∷ MetricStyle true ∷ Distance (Ok MOST_DISTANCE) ∷ l) later
+
+-- they are lines of a section
+leaks_fine : (leak : Bool) → list_all is_fine_line (leak_words leak) ≡ true
+leaks_fine true = refl
+leaks_fine false = refl
+
+passives_fine : (is : List SettledInterface) → AreNamed is → list_all is_fine_line (flat_map passive_words is) ≡ true
+passives_fine [] named = refl
+passives_fine (i ∷ is) named = both_fine (passive_words i) (flat_map passive_words is) (by_passive i.passive) (passives_fine is named.1)
+  where
+    by_passive : (t : Bool) → list_all is_fine_line (cond t ((codes "passive-interface" ∷ i.name ∷ []) ∷ []) []) ≡ true
+    by_passive true = ap (λ (b : Bool). ((b && true) && true && true && true) && true) (name_word i.name named.0).fine
+    by_passive false = refl
+
+type_fine : (levels : Levels) → is_fine_line (type_words levels) ≡ true
+type_fine One = refl
+type_fine Two = refl
+type_fine Both = refl
+
+pub process_bodies_fine : (number : ℕ) (router : SettledRouter) → is_area router.area ≡ true → AreNamed router.interfaces →
+    list_all is_fine_line (process_bodies number router) ≡ true
+process_bodies_fine number router area named =
+    and_from (is_fine_line (title_words router.area number)) (list_all is_fine_line (first_bodies number router))
+    (ap (λ (b : Bool). (b && true) && true && true && true) (title_fine router.area number area))
+    (and_from (is_fine_line (type_words router.levels)) (list_all is_fine_line (style_words ∷ distance_words ∷ later_words router)) (type_fine router.levels)
+    (and_from (is_fine_line distance_words) (list_all is_fine_line (later_words router))
+    (ap (λ (b : Bool). (b && true) && true && true && true) (number_fine MOST_DISTANCE (omega arith)))
+    (both_fine (leak_words router.leak) (flat_map passive_words router.interfaces) (leaks_fine router.leak) (passives_fine router.interfaces named))))

@@ -1,0 +1,12 @@
+ghost use Rattle.isis_writer.specs.PreparedConfigurations.{PreparedBeforeLaw, PreparedTextLaw, PreparedTextsLaw};
+
+/// The laws of prepared texts.
+///
+/// A prepared text reads as the configurations of the text, each with the IS-IS that is settled for its router and all else
+/// as it was. With a line feed at its end another text may stand behind it, so that several prepared texts, one after the
+/// other, read as the configurations of all of them.
+pub fn prepared_laws()
+    ensures prepared_text { PreparedTextLaw }
+    ensures before_others { PreparedBeforeLaw }
+    ensures prepared_texts { PreparedTextsLaw }
+{}
