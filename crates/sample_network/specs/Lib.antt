@@ -1,0 +1,2 @@
+pub mod SampleLinks
+pub mod SampleTexts
