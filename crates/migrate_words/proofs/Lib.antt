@@ -7,5 +7,6 @@ mod PlainLaws
 mod FullRows
 mod TakenWalk
 pub mod TakenLaws
+pub mod Ranges
 pub mod OneRequest
 mod AnswerFacts

@@ -50,7 +50,7 @@ none_missing name arguments words taken =
     let fills = second_none (settle_fault line.rules line.args_override_self end) _ ends in
     cond_none _ _ (second_none (defaults_fault (settled line.rules end).rows line.rules) _ fills)
 
-abbrev row_named : Text → Row → Bool
+abbrev pub row_named : Text → Row → Bool
 row_named id r = bytes_eq r.id id
 
 given_row : (id : Text) (rows : List Row) → is_given id rows ≡ true → (r : Row) × (find (row_named id) rows ≡ Some r)
@@ -60,7 +60,7 @@ given_row id rows given = go (find (row_named id) rows) given
     go None e = absurd (true≢false (sym e))
     go (Some r) e = (r, refl)
 
-found_full : (test : Row → Bool) (rows : List Row) (r : Row) → Full rows → find test rows ≡ Some r → HasSome r.values
+pub found_full : (test : Row → Bool) (rows : List Row) (r : Row) → Full rows → find test rows ≡ Some r → HasSome r.values
 found_full test [] r full found = absurd (true≢false (sym (ap is_some found)))
 found_full test (x ∷ rest) r full found = go (found_full test rest r full.1) (test x) found
   where
@@ -188,11 +188,11 @@ sample_follows words rest taken nothing takes entered =
 
 -- ---- the one that is entered
 
-abbrev EachHit : (Shape → Type 0) → (Shape → Bool) → List Shape → Type 0
+abbrev pub EachHit : (Shape → Type 0) → (Shape → Bool) → List Shape → Type 0
 EachHit P test [] = Unit {0}
 EachHit P test (line ∷ rest) = (test line ≡ true → P line) × EachHit P test rest
 
-found_hit : (P : Shape → Type 0) (test : Shape → Bool) (lines : List Shape) (line : Shape) → EachHit P test lines → find test lines ≡ Some line → P line
+pub found_hit : (P : Shape → Type 0) (test : Shape → Bool) (lines : List Shape) (line : Shape) → EachHit P test lines → find test lines ≡ Some line → P line
 found_hit P test [] line each found = absurd (true≢false (sym (ap is_some found)))
 found_hit P test (x ∷ rest) line each found = go (found_hit P test rest line each.1) (test x) refl found
   where
@@ -201,7 +201,7 @@ found_hit P test (x ∷ rest) line each found = go (found_hit P test rest line e
     go later false hit e = later e
 
 -- the subcommand `help` isn't entered
-not_help : (name : Text) → bytes_eq name (codes "help") ≡ false → (bytes_eq (codes "help") name || false) ≡ true → ⊥
+pub not_help : (name : Text) → bytes_eq name (codes "help") ≡ false → (bytes_eq (codes "help") name || false) ≡ true → ⊥
 not_help name other hit = go (bytes_eq (codes "help") name) refl hit
   where
     go : (b : Bool) → bytes_eq (codes "help") name ≡ b → (b || false) ≡ true → ⊥

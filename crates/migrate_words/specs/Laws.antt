@@ -1,13 +1,17 @@
 -- The laws of the words of a call.
 use Rattle.std.specs.Prelude.{◌≡◌, List}
 use Rattle.clap.specs.Words.{Text}
-use Rattle.migrate_words.specs.Requests.{Request}
+use Rattle.migrate_words.specs.Requests.{IsInRange, Request}
 use Rattle.migrate_words.specs.Asked.{AreTaken, Asks, HasNumberOff}
 use Rattle.migrate_words.specs.PlainWords.{AsksPlainly}
 
 -- words ask for one request
 abbrev pub OneRequestLaw : Type 0
 OneRequestLaw = (words : List Text) (request other : Request) → Asks words request → Asks words other → request ≡ other
+
+-- what words ask for is within the ranges of the command line
+abbrev pub RangesLaw : Type 0
+RangesLaw = (words : List Text) (request : Request) → Asks words request → IsInRange request
 
 -- plain words are taken, with just their values
 abbrev pub PlainWordsLaw : Type 0
