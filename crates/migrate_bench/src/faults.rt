@@ -1,7 +1,8 @@
-ghost use Rattle.std.specs.Prelude.{◌≡◌, length};
-ghost use Rattle.order_core.specs.Orders.{IsOrder};
+ghost use Rattle.std.specs.Prelude.{◌≡◌, ◌<◌, ◌^◌, All, length};
+ghost use Rattle.order_core.specs.Rankings.{IsRanking};
 
 use crate::configurations::{FILE_MOST, Reading, read_all};
+use crate::exchanges::exchanged_lists;
 use crate::reading::print_refused;
 use crate::seconds::print_seconds;
 use crate::texts::{FileText, read_texts};
@@ -9,6 +10,7 @@ use anyhow::{Context, Result, bail, ensure};
 use isis_routes::IsisRoutes;
 use loop_finder::{Fault, Finder};
 use net_model::Net;
+use order_core::Waves;
 use ospf_routes::OspfRoutes;
 use rib_mix::Mixed;
 use route_core::RouteSource;
@@ -17,10 +19,24 @@ use std::time::Instant;
 use step_scripts::{OrderRefusal, read_waves};
 use store_edge::RealFiles;
 
-/// Measures what is found of the order that the first file names, wave by wave, over the network of the others.
+/// How often the finder is asked besides the first time.
+const TIMES: u32 = 1000;
+
+/// What the finder is asked for.
+#[derive(Clone, Copy)]
+pub enum Asked {
+    /// The fault of an order.
+    Orders,
+    /// The fault of a wave list.
+    WaveLists,
+}
+
+/// Measures what is found of the wave list that the first file names, over the network of the others, and of lists in
+/// which two routers are exchanged.
 pub fn measure(
     rt: &(impl AllocGlobal + Clock + Eprint + Files + Print),
     files: Vec<String>,
+    asked: Asked,
 ) -> Result<()> {
     let alloc = rt.alloc();
     let texts = read_texts(alloc, &mut RealFiles::new(rt, alloc), files)?;
@@ -28,17 +44,18 @@ pub fn measure(
     match read_all(alloc, configurations)? {
         Reading::Refused { file, line, kind } => print_refused(rt, file.as_str(), line, kind),
         Reading::Configurations(configs) => match Net::build(alloc, configs) {
-            Ok(net) => measure_net(rt, order, &net),
+            Ok(net) => measure_net(rt, order, &net, asked),
             Err(refusal) => bail!("the network is refused: {refusal}"),
         },
     }
 }
 
-/// Measures what is found of the flat run of the wave list that a text names.
+/// Measures what is found of the wave list that a text names.
 fn measure_net(
     rt: &(impl AllocGlobal + Clock + Eprint + Print),
     text: &FileText,
     net: &Net,
+    asked: Asked,
 ) -> Result<()> {
     let alloc = rt.alloc();
     let bytes = text.bytes.as_slice();
@@ -48,26 +65,28 @@ fn measure_net(
         Ok(read) => {
             let old = OspfRoutes::build(alloc, net)?;
             let new = IsisRoutes::build(alloc, net)?;
-            measure_order(rt, net, &old, &new, read.waves.flat())
+            measure_waves(rt, net, &old, &new, &read.waves, asked)
         }
         Err(OrderRefusal::Bad { line, .. }) => { bail!("{} is refused at line {line}", text.name) }
         Err(OrderRefusal::OutOfMemory) => bail!("out of memory"),
     }
 }
 
-/// Measures mixed forwarding, the finder, and what it finds of an order.
-fn measure_order<O: RouteSource, N: RouteSource>(
+/// Measures mixed forwarding, the finder, and what it finds of a wave list and of others.
+fn measure_waves<O: RouteSource, N: RouteSource>(
     rt: &(impl AllocGlobal + Clock + Eprint + Print),
     net: &Net,
     old: &O,
     new: &N,
-    order: &[u32],
+    waves: &Waves,
+    asked: Asked,
 ) -> Result<()>
     requires old_routers { O.routers old.now ≡ length net.now }
     requires new_routers { N.routers new.now ≡ length net.now }
-    requires order { IsOrder (length net.now) order.now }
+    requires waves { length waves.now ≡ length net.now }
 {
     let alloc = rt.alloc();
+    let others = exchanged_lists(alloc, waves.ranks(), TIMES)?;
     let start = Instant::now(rt)?;
     let mixed = Mixed::build(alloc, net, old, new)?;
     print_seconds(rt, "mixed forwarding", mixed.atoms().count(), start)?;
@@ -75,20 +94,57 @@ fn measure_order<O: RouteSource, N: RouteSource>(
     let mut finder = Finder::new(alloc, &mixed)?;
     print_seconds(rt, "finder", u64::from(net.routers()), start)?;
     let start = Instant::now(rt)?;
-    let found = finder.order_fault(order);
-    print_seconds(rt, "order", u64::from(net.routers()), start)?;
-    report(rt, found)
+    let found = find(&mut finder, waves, asked);
+    print_seconds(rt, "first", u64::from(net.routers()), start)?;
+    report(rt, found)?;
+    let start = Instant::now(rt)?;
+    let safe = count_safe(&mut finder, others.as_slice(), asked);
+    print_seconds(rt, "others", u64::from(TIMES), start)?;
+    println!(rt; "{safe} of {TIMES} others are safe")?;
+    Ok(())
 }
 
-/// Prints what was found of an order.
+/// How many of some wave lists are safe.
+fn count_safe<O: RouteSource, N: RouteSource>(
+    finder: &mut Finder<'_, O, N>,
+    lists: &[Waves],
+    asked: Asked,
+) -> u64
+    requires { All (λ waves. length waves ≡ length finder.old.mixture.net) lists.now }
+{
+    let mut safe = 0u64;
+    for waves in lists {
+        if find(finder, waves, asked).is_none() {
+            safe = safe.saturating_add(1);
+        }
+    }
+    safe
+}
+
+/// What is found of a wave list, or of its flat run as an order.
+fn find<O: RouteSource, N: RouteSource>(
+    finder: &mut Finder<'_, O, N>,
+    waves: &Waves,
+    asked: Asked,
+) -> Option<(u32, Fault)>
+    requires { length waves.now ≡ length finder.old.mixture.net }
+    ensures { finder.new.mixture ≡ finder.old.mixture }
+{
+    match asked {
+        Asked::Orders => finder.order_fault(waves.flat()),
+        Asked::WaveLists => finder.waves_fault(waves.ranks()),
+    }
+}
+
+/// Prints what was found.
 fn report(rt: &impl Print, found: Option<(u32, Fault)>) -> Result<()> {
     match found {
-        None => println!(rt; "the order is safe")?,
-        Some((state, Fault::Loop { address })) => {
-            println!(rt; "state {state}: a loop for {address}")?;
+        None => println!(rt; "safe")?,
+        Some((number, Fault::Loop { address })) => {
+            println!(rt; "unsafe {number}: a loop for {address}")?;
         }
-        Some((state, Fault::Missing { address, router })) => {
-            println!(rt; "state {state}: router {router} lacks a step for {address}")?;
+        Some((number, Fault::Missing { address, router })) => {
+            println!(rt; "unsafe {number}: router {router} lacks a step for {address}")?;
         }
     }
     Ok(())

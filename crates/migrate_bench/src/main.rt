@@ -8,17 +8,26 @@
 //! - `migrate_bench tables FILE...`: the route tables of both protocols of the network of these files, and
 //!   the least walks that they take.
 //! - `migrate_bench check ORDER FILE...`: mixed forwarding over the network of these files, the finder of its
-//!   faults, and what that finds of the order of the file ORDER.
+//!   faults, what that finds of the order of the file ORDER, and of 1,000 orders that are this one with two routers
+//!   exchanged.
+//! - `migrate_bench waves ORDER FILE...`: the same of the wave list of the file ORDER, and of 1,000 wave lists that are
+//!   this one with the ranks of two routers exchanged.
 //! - `migrate_bench refute TREE FILE...`: mixed forwarding over the network of these files, and what is found of the
 //!   tree of the file TREE.
+//! - `migrate_bench prepare DESIGN FILE...`: the reading of the configurations of these files, and the writing of their
+//!   prepared texts by the design of the file DESIGN.
+//! - `migrate_bench plan FILE...`: mixed forwarding over the network of these files, and its plan.
 #![tactic(auto)]
 
 mod areas;
 mod ascending;
 mod configurations;
 mod entries;
+mod exchanges;
 mod faults;
 mod mesh;
+mod plans;
+mod preparations;
 mod reading;
 mod refutations;
 mod searches;
@@ -30,6 +39,7 @@ mod texts;
 mod walks;
 
 use anyhow::Result;
+use faults::Asked;
 use std::env;
 use std::rt::{Clock, Env, Files};
 use task::Task;
@@ -47,7 +57,10 @@ fn run(rt: &(impl AllocGlobal + Clock + Env + Eprint + Files + Print)) -> Result
         Task::Search { size, budget } => searches::measure(rt, size, budget),
         Task::Read { files } => reading::measure(rt, files),
         Task::Tables { files } => tables::measure(rt, files),
-        Task::Check { files } => faults::measure(rt, files),
+        Task::Check { files } => faults::measure(rt, files, Asked::Orders),
+        Task::Waves { files } => faults::measure(rt, files, Asked::WaveLists),
         Task::Refute { files } => refutations::measure(rt, files),
+        Task::Prepare { files } => preparations::measure(rt, files),
+        Task::Plan { files } => plans::measure(rt, files),
     }
 }

@@ -17,11 +17,11 @@ pub fn measure(
     let start = Instant::now(rt)?;
     let found = search(rt.alloc(), &mut oracle, budget)?;
     print_seconds(rt, "search", u64::from(size), start)?;
-    report(rt, &found)
+    report_found(rt, &found)
 }
 
 /// Prints what was found, and with how many branches.
-fn report(rt: &impl Print, found: &Found) -> Result<()> {
+pub(crate) fn report_found(rt: &impl Print, found: &Found) -> Result<()> {
     match found {
         Found::Waves { waves, trail, .. } => {
             println!(rt;

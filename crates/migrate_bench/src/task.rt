@@ -3,7 +3,7 @@ use std::alloc::Global;
 use std::env::Args;
 
 const USAGE: &str =
-    "usage: migrate_bench walks SIZE | search SIZE BUDGET | read FILE... | tables FILE... | check ORDER FILE... | refute TREE FILE...";
+    "usage: migrate_bench walks SIZE | search SIZE BUDGET | read FILE... | tables FILE... | check ORDER FILE... | waves ORDER FILE... | refute TREE FILE... | prepare DESIGN FILE... | plan FILE...";
 
 /// What is to be measured.
 #[derive(Drop)]
@@ -16,10 +16,16 @@ pub enum Task {
     Read { files: Vec<String> },
     /// The route tables of the network of files.
     Tables { files: Vec<String> },
-    /// What is found of the order of the first file, over the network of the others.
+    /// What is found of the order of the first file and of others like it, over the network of the others.
     Check { files: Vec<String> },
+    /// What is found of the wave list of the first file and of others like it, over the network of the others.
+    Waves { files: Vec<String> },
     /// What is found of the tree of the first file, over the network of the others.
     Refute { files: Vec<String> },
+    /// The prepared texts of the network of the other files, by the design of the first file.
+    Prepare { files: Vec<String> },
+    /// What is planned of the network of files.
+    Plan { files: Vec<String> },
 }
 
 impl Task {
@@ -43,7 +49,16 @@ impl Task {
             "check" => Task::Check {
                 files: read_files(alloc, &mut words)?,
             },
+            "waves" => Task::Waves {
+                files: read_files(alloc, &mut words)?,
+            },
             "refute" => Task::Refute {
+                files: read_files(alloc, &mut words)?,
+            },
+            "prepare" => Task::Prepare {
+                files: read_files(alloc, &mut words)?,
+            },
+            "plan" => Task::Plan {
                 files: read_files(alloc, &mut words)?,
             },
             _ => bail!(USAGE),

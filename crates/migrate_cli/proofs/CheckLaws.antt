@@ -1,5 +1,5 @@
 -- An order file and a network have one verdict of `check`.
-use Rattle.std.proofs.Common.{◌≡◌, ℕ, ◌+◌, List, refl, sym, subst, arith}
+use Rattle.std.proofs.Common.{◌≡◌, ℕ, ◌+◌, List, refl, sym, subst}
 use Rattle.igp_theory.specs.Isis.{IsisEntry}
 use Rattle.igp_theory.specs.Ospf.{OspfEntry}
 use Rattle.igp_theory.specs.Routes.{Tables}
@@ -16,7 +16,7 @@ use Rattle.migration_report.specs.Texts.{faulty_text, unsafe_text, waves_unsafe_
 use Rattle.migrate_cli.specs.CheckVerdict.{IsCheckVerdict, IsOrderVerdict, IsWavesVerdict}
 use Rattle.migrate_cli.specs.CheckVerdict.IsOrderVerdict.{safe, unsafe}
 use Rattle.migrate_cli.specs.CheckVerdict.IsWavesVerdict.{safe_waves, unsafe_wave}
-use Rattle.migrate_cli.specs.CheckVerdict.IsCheckVerdict.{no_router, faulty_order, of_order, of_waves}
+use Rattle.migrate_cli.specs.CheckVerdict.IsCheckVerdict.{faulty_order, of_order, of_waves}
 use Rattle.migrate_cli.specs.declared.status.Status.{Status}
 use Rattle.migrate_cli.proofs.SameAnswers.{AreSame, NoFault}
 
@@ -41,32 +41,25 @@ one_waves_verdict {net} (unsafe_wave _ _ _ first) (unsafe_wave _ _ _ again) =
 -- and so has an order file
 pub one_check_verdict : (file text : List ℕ) (net : Network) {s z : Status} {t w : List ℕ} → NamesAscend net → IsCheckVerdict file text net s t
     → IsCheckVerdict file text net z w → AreSame s t z w
-one_check_verdict file text net ascending (no_router _) (no_router _) = (refl, refl)
-one_check_verdict file text net ascending (no_router none) (faulty_order _ _ some _) = absurd (omega (arith, none, some))
-one_check_verdict file text net ascending (no_router none) (of_order _ _ _ some _ _) = absurd (omega (arith, none, some))
-one_check_verdict file text net ascending (no_router none) (of_waves _ _ _ some _ _) = absurd (omega (arith, none, some))
-one_check_verdict file text net ascending (faulty_order _ _ some _) (no_router none) = absurd (omega (arith, none, some))
-one_check_verdict file text net ascending (of_order _ _ _ some _ _) (no_router none) = absurd (omega (arith, none, some))
-one_check_verdict file text net ascending (of_waves _ _ _ some _ _) (no_router none) = absurd (omega (arith, none, some))
-one_check_verdict file text net ascending (faulty_order n k _ one) (faulty_order m j _ other) =
+one_check_verdict file text net ascending (faulty_order n k one) (faulty_order m j other) =
     let same = one_faulty_line net text n m k j one other in (refl, λ i. faulty_text file (same.0 i) (order_kind_name (same.1 i)))
-one_check_verdict file text net ascending (faulty_order n k _ least) (of_order ranks _ _ _ names _) =
+one_check_verdict file text net ascending (faulty_order n k least) (of_order ranks _ _ names _) =
     absurd (no_fault net text One ranks n k ascending names least.faulty)
-one_check_verdict file text net ascending (faulty_order n k _ least) (of_waves ranks _ _ _ names _) =
+one_check_verdict file text net ascending (faulty_order n k least) (of_waves ranks _ _ names _) =
     absurd (no_fault net text Two ranks n k ascending names least.faulty)
-one_check_verdict file text net ascending (of_order ranks _ _ _ names _) (faulty_order n k _ least) =
+one_check_verdict file text net ascending (of_order ranks _ _ names _) (faulty_order n k least) =
     absurd (no_fault net text One ranks n k ascending names least.faulty)
-one_check_verdict file text net ascending (of_waves ranks _ _ _ names _) (faulty_order n k _ least) =
+one_check_verdict file text net ascending (of_waves ranks _ _ names _) (faulty_order n k least) =
     absurd (no_fault net text Two ranks n k ascending names least.faulty)
-one_check_verdict file text net {z = z} {w = w} ascending (of_order one _ _ _ names verdict) (of_order other _ _ _ again judged) =
+one_check_verdict file text net {z = z} {w = w} ascending (of_order one _ _ names verdict) (of_order other _ _ again judged) =
     let same : one ≡ other = (one_wave_list net text One One one other ascending names again).1 in
     one_order_verdict verdict (subst (λ ranks. IsOrderVerdict net (OspfEntry net) (IsisEntry net) (flat_of ranks) z w) (sym same) judged)
-one_check_verdict file text net {z = z} {w = w} ascending (of_waves one _ _ _ names verdict) (of_waves other _ _ _ again judged) =
+one_check_verdict file text net {z = z} {w = w} ascending (of_waves one _ _ names verdict) (of_waves other _ _ again judged) =
     let same : one ≡ other = (one_wave_list net text Two Two one other ascending names again).1 in
     one_waves_verdict verdict (subst (λ ranks. IsWavesVerdict net (OspfEntry net) (IsisEntry net) ranks z w) (sym same) judged)
-one_check_verdict file text net ascending (of_order one _ _ _ names _) (of_waves other _ _ _ again _) =
+one_check_verdict file text net ascending (of_order one _ _ names _) (of_waves other _ _ again _) =
     absurd (let same = (one_wave_list net text One Two one other ascending names again).0 in cc)
-one_check_verdict file text net ascending (of_waves one _ _ _ names _) (of_order other _ _ _ again _) =
+one_check_verdict file text net ascending (of_waves one _ _ names _) (of_order other _ _ again _) =
     absurd (let same = (one_wave_list net text Two One one other ascending names again).0 in cc)
 
 -- no verdict is a fault of reading or of writing
@@ -81,7 +74,6 @@ waves_verdict_no_fault (safe_waves _) = (λ e. Prim.cc e, λ e. Prim.cc e)
 waves_verdict_no_fault (unsafe_wave _ _ _ _) = (λ e. Prim.cc e, λ e. Prim.cc e)
 
 pub check_no_fault : {file text : List ℕ} {net : Network} {status : Status} {answer : List ℕ} → IsCheckVerdict file text net status answer → NoFault status
-check_no_fault (no_router _) = (λ e. Prim.cc e, λ e. Prim.cc e)
-check_no_fault (faulty_order _ _ _ _) = (λ e. Prim.cc e, λ e. Prim.cc e)
-check_no_fault (of_order _ _ _ _ _ verdict) = order_verdict_no_fault verdict
-check_no_fault (of_waves _ _ _ _ _ verdict) = waves_verdict_no_fault verdict
+check_no_fault (faulty_order _ _ _) = (λ e. Prim.cc e, λ e. Prim.cc e)
+check_no_fault (of_order _ _ _ _ verdict) = order_verdict_no_fault verdict
+check_no_fault (of_waves _ _ _ _ verdict) = waves_verdict_no_fault verdict

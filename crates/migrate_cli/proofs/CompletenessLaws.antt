@@ -12,7 +12,7 @@ use Rattle.step_scripts.proofs.WaveFileLaws.{no_fault}
 use Rattle.migrate_cli.specs.Answers.{IsAnswer}
 use Rattle.migrate_cli.specs.Calls.{Call}
 use Rattle.migrate_cli.specs.CheckVerdict.{IsCheckVerdict, IsOrderVerdict, IsWavesVerdict}
-use Rattle.migrate_cli.specs.CheckVerdict.IsCheckVerdict.{no_router, faulty_order, of_order, of_waves}
+use Rattle.migrate_cli.specs.CheckVerdict.IsCheckVerdict.{faulty_order, of_order, of_waves}
 use Rattle.migrate_cli.specs.CheckVerdict.IsOrderVerdict.{safe, unsafe}
 use Rattle.migrate_cli.specs.CheckVerdict.IsWavesVerdict.{safe_waves, unsafe_wave}
 use Rattle.migrate_cli.specs.CommandFiles.{NeedsStart, config_texts, files_of, own_texts}
@@ -20,9 +20,9 @@ use Rattle.migrate_cli.specs.CommandVerdicts.{Input, IsCommandVerdict}
 use Rattle.migrate_cli.specs.RefuteVerdict.{IsRefuteVerdict}
 use Rattle.migrate_cli.specs.ReplayVerdict.{IsJournalVerdict, IsReplayVerdict}
 use Rattle.migrate_cli.specs.ReplayVerdict.IsJournalVerdict.{reached, departs}
-use Rattle.migrate_cli.specs.ReplayVerdict.IsReplayVerdict.{no_router as none_replayed, faulty_waves as faulty_replay, of_waves as replay_of}
+use Rattle.migrate_cli.specs.ReplayVerdict.IsReplayVerdict.{faulty_waves as faulty_replay, of_waves as replay_of}
 use Rattle.migrate_cli.specs.ScriptsVerdict.{IsScriptsVerdict}
-use Rattle.migrate_cli.specs.ScriptsVerdict.IsScriptsVerdict.{no_router as none_scripted, faulty_waves as faulty_scripts, of_waves as script_of}
+use Rattle.migrate_cli.specs.ScriptsVerdict.IsScriptsVerdict.{faulty_waves as faulty_scripts, of_waves as script_of}
 use Rattle.migrate_cli.specs.Completeness.{AcceptsCheck, AcceptsRefute, AcceptsReplay, AcceptsScripts, Decides, DecidesTree, IsAccepted, Writes}
 use Rattle.migrate_cli.specs.Completeness.Decides.{yes, no}
 use Rattle.migrate_cli.specs.Completeness.Writes.{written}
@@ -52,11 +52,10 @@ waves_decide (unsafe_wave _ _ _ _) = no
 -- an order file that names a wave list has no other verdict
 check_of_waves : {file text answer : List ℕ} {version : Version} {ranks : List ℕ} {net : Network} {status : Status} → NamesAscend net → NamesWaves net text version ranks
     → IsCheckVerdict file text net status answer → Decides status
-check_of_waves ascending names (no_router _) = yes
-check_of_waves {text = text} {version = version} {ranks = ranks} {net = net} ascending names (faulty_order n k _ least) =
+check_of_waves {text = text} {version = version} {ranks = ranks} {net = net} ascending names (faulty_order n k least) =
     absurd (no_fault net text version ranks n k ascending names least.faulty)
-check_of_waves ascending names (of_order _ _ _ _ _ verdict) = order_decides verdict
-check_of_waves ascending names (of_waves _ _ _ _ _ verdict) = waves_decide verdict
+check_of_waves ascending names (of_order _ _ _ _ verdict) = order_decides verdict
+check_of_waves ascending names (of_waves _ _ _ _ verdict) = waves_decide verdict
 
 -- texts give one network
 one_network : (texts : List (List ℕ)) (net other : Network) → GiveNetwork texts net → GiveNetwork texts other → net ≡ other
@@ -118,10 +117,9 @@ check_decides call it asked status answer no_fault one =
 -- a wave list has a script
 scripts_of_waves : {file text : List ℕ} {net : Network} {status : Status} {answer : List ℕ} {version : Version} {ranks : List ℕ} → NamesAscend net → NamesWaves net text version ranks
     → IsScriptsVerdict file text net status answer → Writes status
-scripts_of_waves ascending names (none_scripted _) = written
-scripts_of_waves {text = text} {net = net} {version = version} {ranks = ranks} ascending names (faulty_scripts n k _ least) =
+scripts_of_waves {text = text} {net = net} {version = version} {ranks = ranks} ascending names (faulty_scripts n k least) =
     absurd (no_fault net text version ranks n k ascending names least.faulty)
-scripts_of_waves ascending names (script_of _ _ _ _) = written
+scripts_of_waves ascending names (script_of _ _ _) = written
 
 pub scripts_write : (call : Call) → AcceptsScripts call → (asked : List (List ℕ)) (status : Status) (answer : List ℕ) → status ≢ ReadFault → IsAnswer call asked status answer → Writes status
 scripts_write call it asked status answer no_fault one =
@@ -137,10 +135,9 @@ journal_decides (departs _ _ _) = no
 
 replay_of_waves : {file text journal : List ℕ} {net : Network} {status : Status} {answer : List ℕ} {version : Version} {ranks : List ℕ} → NamesAscend net → NamesWaves net text version ranks
     → IsReplayVerdict file text journal net status answer → Decides status
-replay_of_waves ascending names (none_replayed _) = yes
-replay_of_waves {text = text} {net = net} {version = version} {ranks = ranks} ascending names (faulty_replay n k _ least) =
+replay_of_waves {text = text} {net = net} {version = version} {ranks = ranks} ascending names (faulty_replay n k least) =
     absurd (no_fault net text version ranks n k ascending names least.faulty)
-replay_of_waves ascending names (replay_of _ _ _ _ _ _ verdict) = journal_decides verdict
+replay_of_waves ascending names (replay_of _ _ _ _ _ verdict) = journal_decides verdict
 
 pub replay_decides : (call : Call) → AcceptsReplay call → (asked : List (List ℕ)) (status : Status) (answer : List ℕ) → status ≢ ReadFault → IsAnswer call asked status answer → Decides status
 replay_decides call it asked status answer no_fault one =

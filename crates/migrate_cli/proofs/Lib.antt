@@ -8,6 +8,10 @@ mod FaultFacts
 mod OrderFacts
 mod CheckLaws
 mod NextFacts
+mod PrepareFacts
+mod PrepareLaws
+mod PlanTables
+mod PlanLaws
 mod RefuteLaws
 mod ReplayLaws
 mod ScriptsLaws
@@ -18,3 +22,8 @@ mod VerdictLaws
 mod StopLaws
 mod CallLaws
 mod CompletenessLaws
+mod PrepareCompleteness
+mod NetworkFacts
+mod PlanCompletenessLaws
+mod PlanClaimLaws
+mod PrepareReadBack

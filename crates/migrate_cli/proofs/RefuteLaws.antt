@@ -6,7 +6,7 @@ use Rattle.igp_theory.specs.Isis.{IsisEntry}
 use Rattle.igp_theory.specs.Laws.{HaveSameTables}
 use Rattle.igp_theory.specs.Ospf.{OspfEntry}
 use Rattle.igp_theory.specs.Routes.{Tables}
-use Rattle.refutation_check.specs.Verdicts.{IsClosedText, IsVerdict, RefutesWhereClosed}
+use Rattle.refutation_check.specs.Verdicts.{IsVerdict, RefutesWhereClosed}
 use Rattle.refutation_check.specs.declared.verdict.Verdict.{Verdict}
 use Rattle.refutation_check.specs.declared.verdict.Verdict.TheVariants.{Closed, Unfinished, Wrong}
 use Rattle.refutation_check.specs.declared.verdict.WrongKind.{WrongKind}

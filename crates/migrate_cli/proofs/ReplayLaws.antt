@@ -1,5 +1,5 @@
 -- An order file, a journal and a network have one verdict of `replay`.
-use Rattle.std.proofs.Common.{◌≡◌, ℕ, ◌<◌, ◌*◌, List, length, get_or, Option, Some, None, refl, sym, ap, subst, ◌∙◌, arith}
+use Rattle.std.proofs.Common.{◌≡◌, ℕ, ◌<◌, ◌*◌, List, length, get_or, Option, Some, None, refl, sym, ap, subst, ◌∙◌}
 use Rattle.std.proofs.lemmas.List.{same_lists, get_or_default}
 use Rattle.igp_theory.specs.Waves.{Change}
 use Rattle.net_model.specs.Network.{Network}
@@ -7,7 +7,6 @@ use Rattle.net_model.specs.Refusals.{NamesAscend}
 use Rattle.net_model.specs.RouterNames.{names_of}
 use Rattle.state_replay.specs.Journals.{AreCounts, BeginRun, IsNextOn}
 use Rattle.state_replay.specs.declared.half.Half.{Half}
-use Rattle.state_replay.specs.declared.place.Place.{Place}
 use Rattle.state_replay.specs.declared.place.Place.TheVariants.{Reached, Departs}
 use Rattle.state_replay.proofs.Places.{one_place}
 use Rattle.step_scripts.proofs.WaveFileLaws.{no_fault, one_faulty_line, one_wave_list}
@@ -16,7 +15,7 @@ use Rattle.migration_report.specs.Kinds.{order_kind_name}
 use Rattle.migration_report.specs.Texts.{faulty_text}
 use Rattle.migrate_cli.specs.ReplayVerdict.{AreNext, IsJournalVerdict, IsReplayVerdict}
 use Rattle.migrate_cli.specs.ReplayVerdict.IsJournalVerdict.{reached, departs}
-use Rattle.migrate_cli.specs.ReplayVerdict.IsReplayVerdict.{no_router, faulty_waves, of_waves}
+use Rattle.migrate_cli.specs.ReplayVerdict.IsReplayVerdict.{faulty_waves, of_waves}
 use Rattle.migrate_cli.specs.declared.status.Status.{Status}
 use Rattle.migrate_cli.proofs.SameAnswers.{AreSame, NoFault}
 
@@ -63,18 +62,13 @@ one_journal_verdict net ranks journal ascending each (departs line done place) (
 -- and so have an order file and a journal
 pub one_replay_verdict : (file order journal : List ℕ) (net : Network) {s z : Status} {t w : List ℕ} → NamesAscend net
     → IsReplayVerdict file order journal net s t → IsReplayVerdict file order journal net z w → AreSame s t z w
-one_replay_verdict file order journal net ascending (no_router _) (no_router _) = (refl, refl)
-one_replay_verdict file order journal net ascending (no_router none) (faulty_waves _ _ some _) = absurd (omega (arith, none, some))
-one_replay_verdict file order journal net ascending (no_router none) (of_waves _ _ _ _ some _ _) = absurd (omega (arith, none, some))
-one_replay_verdict file order journal net ascending (faulty_waves _ _ some _) (no_router none) = absurd (omega (arith, none, some))
-one_replay_verdict file order journal net ascending (of_waves _ _ _ _ some _ _) (no_router none) = absurd (omega (arith, none, some))
-one_replay_verdict file order journal net ascending (faulty_waves n k _ one) (faulty_waves m j _ other) =
+one_replay_verdict file order journal net ascending (faulty_waves n k one) (faulty_waves m j other) =
     let same = one_faulty_line net order n m k j one other in (refl, λ i. faulty_text file (same.0 i) (order_kind_name (same.1 i)))
-one_replay_verdict file order journal net ascending (faulty_waves n k _ least) (of_waves version ranks _ _ _ names _) =
+one_replay_verdict file order journal net ascending (faulty_waves n k least) (of_waves version ranks _ _ names _) =
     absurd (no_fault net order version ranks n k ascending names least.faulty)
-one_replay_verdict file order journal net ascending (of_waves version ranks _ _ _ names _) (faulty_waves n k _ least) =
+one_replay_verdict file order journal net ascending (of_waves version ranks _ _ names _) (faulty_waves n k least) =
     absurd (no_fault net order version ranks n k ascending names least.faulty)
-one_replay_verdict file order journal net {z = z} {w = w} ascending (of_waves version one _ _ _ names verdict) (of_waves its other _ _ _ again judged) =
+one_replay_verdict file order journal net {z = z} {w = w} ascending (of_waves version one _ _ names verdict) (of_waves its other _ _ again judged) =
     let same : one ≡ other = (one_wave_list net order version its one other ascending names again).1 in
     one_journal_verdict net one journal ascending names.are.each verdict (subst (λ ranks. IsJournalVerdict net ranks journal z w) (sym same) judged)
 
@@ -85,6 +79,5 @@ journal_no_fault (departs _ _ _) = (λ e. Prim.cc e, λ e. Prim.cc e)
 
 pub replay_no_fault : {file order journal : List ℕ} {net : Network} {status : Status} {text : List ℕ} → IsReplayVerdict file order journal net status text
     → NoFault status
-replay_no_fault (no_router _) = (λ e. Prim.cc e, λ e. Prim.cc e)
-replay_no_fault (faulty_waves _ _ _ _) = (λ e. Prim.cc e, λ e. Prim.cc e)
-replay_no_fault (of_waves _ _ _ _ _ _ verdict) = journal_no_fault verdict
+replay_no_fault (faulty_waves _ _ _) = (λ e. Prim.cc e, λ e. Prim.cc e)
+replay_no_fault (of_waves _ _ _ _ _ verdict) = journal_no_fault verdict

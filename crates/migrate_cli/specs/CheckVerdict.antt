@@ -1,5 +1,5 @@
 -- What `check` answers to an order file and a network that is at its start.
-use Rattle.std.specs.Prelude.{◌≡◌, ℕ, ◌+◌, ◌*◌, ◌<◌, List, length}
+use Rattle.std.specs.Prelude.{ℕ, ◌+◌, ◌*◌, List, length}
 use Rattle.net_model.specs.Network.{Network}
 use Rattle.igp_theory.specs.Isis.{IsisEntry}
 use Rattle.igp_theory.specs.Loops.{Fault, IsFirstFault}
@@ -36,12 +36,11 @@ pub data IsWavesVerdict (net : Network) (old new : Tables) (ranks : List ℕ) : 
       IsWavesVerdict net old new ranks Negative (waves_unsafe_text (names_of net) (wave + 1) fault)
 
 -- the order file has a faulty line; or it is of version 1, and its routers are switched one after the other; or it is of
--- version 2, and they are switched wave by wave. In a network without routers there is nothing to switch
+-- version 2, and they are switched wave by wave
 pub data IsCheckVerdict (file text : List ℕ) (net : Network) : Status → List ℕ → Type 0 where
-  no_router : length net ≡ 0 → IsCheckVerdict file text net Done (safe_text 0)
-  faulty_order : (number : ℕ) (kind : OrderKind) → 0 < length net → IsLeastFaultyLine net text number kind →
+  faulty_order : (number : ℕ) (kind : OrderKind) → IsLeastFaultyLine net text number kind →
       IsCheckVerdict file text net Refused (faulty_text file number (order_kind_name kind))
-  of_order : (ranks : List ℕ) (status : Status) (answer : List ℕ) → 0 < length net → NamesWaves net text One ranks →
+  of_order : (ranks : List ℕ) (status : Status) (answer : List ℕ) → NamesWaves net text One ranks →
       IsOrderVerdict net (OspfEntry net) (IsisEntry net) (flat_of ranks) status answer → IsCheckVerdict file text net status answer
-  of_waves : (ranks : List ℕ) (status : Status) (answer : List ℕ) → 0 < length net → NamesWaves net text Two ranks →
+  of_waves : (ranks : List ℕ) (status : Status) (answer : List ℕ) → NamesWaves net text Two ranks →
       IsWavesVerdict net (OspfEntry net) (IsisEntry net) ranks status answer → IsCheckVerdict file text net status answer

@@ -51,6 +51,8 @@ config_texts request texts = drop (length (own_files request)) texts
 -- the commands that there are so far
 abbrev pub HasLanded : Request → Type 0
 HasLanded (check order configs) = Unit {0}
+HasLanded (prepare design configs) = Unit {0}
+HasLanded (plan budget configs) = Unit {0}
 HasLanded (refute tree configs) = Unit {0}
 HasLanded (scripts order configs) = Unit {0}
 HasLanded (replay order journal configs) = Unit {0}

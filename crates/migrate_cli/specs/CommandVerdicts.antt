@@ -1,8 +1,10 @@
 -- The verdict of each command, in a file of its own.
 use Rattle.std.specs.Prelude.{◌≡◌, ℕ, List, [], ◌∷◌}
 use Rattle.net_model.specs.Network.{Network}
-use Rattle.migrate_words.specs.Requests.{Request, check, refute, scripts, replay}
+use Rattle.migrate_words.specs.Requests.{Request, check, prepare, refute, scripts, replay, plan}
 use Rattle.migrate_cli.specs.CheckVerdict.{IsCheckVerdict}
+use Rattle.migrate_cli.specs.PrepareVerdict.{IsPrepareVerdict}
+use Rattle.migrate_cli.specs.PlanVerdict.{IsPlanVerdict}
 use Rattle.migrate_cli.specs.RefuteVerdict.{IsRefuteVerdict}
 use Rattle.migrate_cli.specs.ReplayVerdict.{IsReplayVerdict}
 use Rattle.migrate_cli.specs.ScriptsVerdict.{IsScriptsVerdict}
@@ -17,6 +19,9 @@ pub record Input : Type 0 where
 -- the status and the text that answer a command
 abbrev pub IsCommandVerdict : Request → Input → Status → List ℕ → Type 0
 IsCommandVerdict (check file _) input status text = (order : List ℕ) × (input.own ≡ order ∷ []) × IsCheckVerdict file order input.net status text
+IsCommandVerdict (prepare file _) input status text =
+    (design : List ℕ) × (input.own ≡ design ∷ []) × IsPrepareVerdict file design input.configs input.net status text
+IsCommandVerdict (plan budget _) input status text = (input.own ≡ []) × IsPlanVerdict budget input.net status text
 IsCommandVerdict (refute _ _) input status text = (tree : List ℕ) × (input.own ≡ tree ∷ []) × IsRefuteVerdict tree input.net status text
 IsCommandVerdict (scripts file _) input status text = (order : List ℕ) × (input.own ≡ order ∷ []) × IsScriptsVerdict file order input.net status text
 IsCommandVerdict (replay file _ _) input status text =

@@ -9,6 +9,9 @@ pub mod Configurations
 pub mod Unread
 pub mod RefusalStatus
 pub mod CheckVerdict
+pub mod PrepareVerdict
+pub mod PlannedAnswers
+pub mod PlanVerdict
 pub mod RefuteVerdict
 pub mod ReplayVerdict
 pub mod ScriptsVerdict
@@ -17,4 +20,8 @@ pub mod Verdicts
 pub mod Answers
 pub mod AnswerLaws
 pub mod Completeness
+pub mod PrepareCompleteness
+pub mod PlanCompleteness
+pub mod PlanClaim
+pub mod PrepareReadBack
 pub mod Faults

@@ -1,5 +1,5 @@
 -- What `replay` answers to an order file, a journal and a network that is at its start.
-use Rattle.std.specs.Prelude.{◌≡◌, ℕ, ◌*◌, ◌<◌, List, [], length, slice_index_or, Option, None}
+use Rattle.std.specs.Prelude.{◌≡◌, ℕ, ◌*◌, ◌<◌, List, length, slice_index_or, Option, None}
 use Rattle.net_model.specs.Network.{Network}
 use Rattle.net_model.specs.RouterNames.{names_of}
 use Rattle.state_replay.specs.Journals.{IsNextOn, IsPlace}
@@ -28,10 +28,9 @@ pub data IsJournalVerdict (net : Network) (ranks journal : List ℕ) : Status �
   departs : (line : ℕ) (done : List ℕ) → IsPlace net ranks journal (Departs line) done →
       IsJournalVerdict net ranks journal Negative (departs_text line)
 
--- the order file has a faulty line, or names a wave list of the routers. In a network without routers all is done
+-- the order file has a faulty line, or names a wave list of the routers
 pub data IsReplayVerdict (file order journal : List ℕ) (net : Network) : Status → List ℕ → Type 0 where
-  no_router : length net ≡ 0 → IsReplayVerdict file order journal net Done (reached_text (names_of net) 0 (2 * length net) [] (length net))
-  faulty_waves : (number : ℕ) (kind : OrderKind) → 0 < length net → IsLeastFaultyLine net order number kind →
+  faulty_waves : (number : ℕ) (kind : OrderKind) → IsLeastFaultyLine net order number kind →
       IsReplayVerdict file order journal net Refused (faulty_text file number (order_kind_name kind))
-  of_waves : (version : Version) (ranks : List ℕ) (status : Status) (text : List ℕ) → 0 < length net → NamesWaves net order version ranks →
+  of_waves : (version : Version) (ranks : List ℕ) (status : Status) (text : List ℕ) → NamesWaves net order version ranks →
       IsJournalVerdict net ranks journal status text → IsReplayVerdict file order journal net status text

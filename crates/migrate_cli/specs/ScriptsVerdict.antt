@@ -1,5 +1,5 @@
 -- What `scripts` answers to an order file and a network that is at its start.
-use Rattle.std.specs.Prelude.{◌≡◌, ℕ, ◌<◌, List, [], length}
+use Rattle.std.specs.Prelude.{ℕ, List}
 use Rattle.net_model.specs.Network.{Network}
 use Rattle.step_scripts.specs.FaultyLines.{IsLeastFaultyLine}
 use Rattle.step_scripts.specs.Scripts.{script_text}
@@ -11,11 +11,9 @@ use Rattle.migration_report.specs.Texts.{faulty_text}
 use Rattle.migrate_cli.specs.declared.status.Status.{Status}
 use Rattle.migrate_cli.specs.declared.status.Status.TheVariants.{Done, Refused}
 
--- the order file has a faulty line, or names a wave list of the routers: then its script, in the version of the file. In a
--- network without routers there is nothing to switch
+-- the order file has a faulty line, or names a wave list of the routers: then its script, in the version of the file
 pub data IsScriptsVerdict (file order : List ℕ) (net : Network) : Status → List ℕ → Type 0 where
-  no_router : length net ≡ 0 → IsScriptsVerdict file order net Done []
-  faulty_waves : (number : ℕ) (kind : OrderKind) → 0 < length net → IsLeastFaultyLine net order number kind →
+  faulty_waves : (number : ℕ) (kind : OrderKind) → IsLeastFaultyLine net order number kind →
       IsScriptsVerdict file order net Refused (faulty_text file number (order_kind_name kind))
-  of_waves : (version : Version) (ranks : List ℕ) → 0 < length net → NamesWaves net order version ranks →
+  of_waves : (version : Version) (ranks : List ℕ) → NamesWaves net order version ranks →
       IsScriptsVerdict file order net Done (script_text version net ranks)

@@ -1,4 +1,4 @@
-ghost use Rattle.std.specs.Prelude.{◌≡◌, ◌≤◌, ◌*◌, ℕ, IfOk, length};
+ghost use Rattle.std.specs.Prelude.{◌≡◌, ◌<◌, ◌≤◌, ◌*◌, ℕ, IfOk, length};
 ghost use Rattle.igp_theory.specs.Isis.{IsisEntry};
 ghost use Rattle.igp_theory.specs.Loops.{IsFault};
 ghost use Rattle.igp_theory.specs.Ospf.{OspfEntry};
@@ -27,19 +27,17 @@ use route_core::RouteSource;
 use std::alloc::{AllocError, Global};
 use step_scripts::{OrderRefusal, Version, read_waves};
 
-/// The answer to the text of an order file and a network.
+/// The answer to the text of an order file and a network with a router.
 pub fn judge_check(
     alloc: Global,
     file: &str,
     text: &Bytes,
     net: &Net,
 ) -> Result<Answer, OutOfMemory>
-    requires { length text.now ≤ FILE_MOST }
+    requires short { length text.now ≤ FILE_MOST }
+    requires some { 0 < length net.now }
     ensures { IfOk result (λ answer. IsCheckVerdict file.now text.now net.now answer.status answer.text) }
 {
-    if net.routers() == 0 {
-        return safe(alloc, net);
-    }
     let read = match read_waves(alloc, net, text.as_slice()) {
         Ok(read) => read,
         Err(OrderRefusal::OutOfMemory) => return Err(AllocError),

@@ -1,5 +1,5 @@
-ghost use Rattle.std.specs.Prelude.{◌≡◌, ◌↔◌, ℕ, List, IfOk, IsTrue};
-ghost use Rattle.migrate_words.specs.Requests.{request_of};
+ghost use Rattle.std.specs.Prelude.{◌≤◌, ◌↔◌, All, IfOk, IsTrue, length, ◌<◌};
+ghost use Rattle.migrate_words.specs.Requests.{request_of, IsInRange};
 ghost use Rattle.migrate_cli.specs.CommandFiles.{HasLanded, NeedsStart, own_files};
 ghost use Rattle.migrate_cli.specs.CommandVerdicts.{IsCommandVerdict};
 ghost use Rattle.migrate_cli.specs.Reading.{AreShort};
@@ -7,6 +7,9 @@ ghost use Rattle.migrate_cli.specs.Reading.{AreShort};
 use crate::OutOfMemory;
 use crate::answer::Answer;
 use crate::check::judge_check;
+use crate::files::FILE_MOST;
+use crate::plan::judge_plan;
+use crate::prepare::judge_prepare;
 use crate::refute::judge_refute;
 use crate::replay::judge_replay;
 use crate::scripts::judge_scripts;
@@ -21,6 +24,8 @@ pub fn has_landed(command: &Command<'_>) -> bool
 {
     match command {
         Command::Check { .. }
+        | Command::Prepare { .. }
+        | Command::Plan { .. }
         | Command::Refute { .. }
         | Command::Scripts { .. }
         | Command::Replay { .. } => true,
@@ -35,19 +40,25 @@ pub fn needs_start(command: &Command<'_>) -> bool
     !matches!(command, Command::Prepare { .. })
 }
 
-/// The answer of a command to the texts of its own files and a network.
+/// The answer of a command to the texts of its own files, those of configurations, and the network that these make.
 pub fn judge_command(
     alloc: Global,
     command: &Command<'_>,
     own: &[Bytes],
+    configs: &[Bytes],
     net: &Net,
 ) -> Result<Answer, OutOfMemory>
     requires landed { HasLanded (request_of command.now) }
+    requires range { IsInRange (request_of command.now) }
+    requires some { 0 < length net.now }
     requires own { AreShort (own_files (request_of command.now)) own.now }
-    ensures { IfOk result (λ answer. (configs : List (List ℕ)) → IsCommandVerdict (request_of command.now) (record { own = own.now; configs = configs; net = net.now }) answer.status answer.text) }
+    requires configs { All (λ text. length text ≤ FILE_MOST) configs.now }
+    ensures { IfOk result (λ answer. IsCommandVerdict (request_of command.now) (record { own = own.now; configs = configs.now; net = net.now }) answer.status answer.text) }
 {
     match command {
         Command::Check { order, .. } => judge_check(alloc, order, &own[0], net),
+        Command::Prepare { design, .. } => judge_prepare(alloc, design, &own[0], configs, net),
+        Command::Plan { budget, .. } => judge_plan(alloc, *budget, net),
         Command::Refute { .. } => judge_refute(alloc, &own[0], net),
         Command::Scripts { order, .. } => judge_scripts(alloc, order, &own[0], net),
         Command::Replay { order, .. } => judge_replay(alloc, order, &own[0], &own[1], net),

@@ -1,7 +1,7 @@
-ghost use Rattle.std.specs.Prelude.{◌≡◌, ℕ, List, IfOk, MatchOption, length};
+ghost use Rattle.std.specs.Prelude.{◌≡◌, ◌≤◌, All, IfOk, MatchOption, length, ◌<◌};
 ghost use Rattle.net_model.specs.OffStarts.{IsLowestOffStart};
 ghost use Rattle.net_model.specs.declared.refusal.NetRefusal.{NetRefusal};
-ghost use Rattle.migrate_words.specs.Requests.{request_of};
+ghost use Rattle.migrate_words.specs.Requests.{IsInRange, request_of};
 ghost use Rattle.migrate_cli.specs.CommandFiles.{HasLanded, NeedsStart, config_texts, files_of, own_files, own_texts};
 ghost use Rattle.migrate_cli.specs.Configurations.{GiveNetwork, IsAtStart};
 ghost use Rattle.migrate_cli.specs.Reading.{AreShort};
@@ -12,7 +12,7 @@ ghost use Rattle.migrate_cli.specs.Verdicts.{IsVerdict};
 use crate::answer::{Answer, refuse};
 use crate::commands::{judge_command, needs_start};
 use crate::configurations::{Unread, read_all};
-use crate::files::config_names;
+use crate::files::{FILE_MOST, config_names};
 use crate::{OutOfMemory, Status};
 use migrate_words::Command;
 use migration_report::Refusal;
@@ -23,6 +23,7 @@ use std::alloc::{AllocError, Global};
 /// The answer of a command to the texts of its files.
 pub fn judge(alloc: Global, command: &Command<'_>, texts: &[Bytes]) -> Result<Answer, OutOfMemory>
     requires landed { HasLanded (request_of command.now) }
+    requires range { IsInRange (request_of command.now) }
     requires short { AreShort (files_of (request_of command.now)) texts.now }
     ensures { IfOk result (λ answer. let request = request_of command.now in IsVerdict request (own_texts request texts.now) (config_texts request texts.now) answer.status answer.text) }
 {
@@ -33,7 +34,7 @@ pub fn judge(alloc: Global, command: &Command<'_>, texts: &[Bytes]) -> Result<An
         Err(unread) => return refuse_unread(alloc, unread),
     };
     let refusal = match Net::build(alloc, configs) {
-        Ok(net) => return judge_network(alloc, command, own, &net),
+        Ok(net) => return judge_network(alloc, command, own, rest, &net),
         Err(refusal) => refusal,
     };
     let Some(status) = status_of(&refusal) else {
@@ -66,23 +67,27 @@ fn status_of(refusal: &NetRefusal) -> Option<Status>
     }
 }
 
-/// The answer of a command to the texts of its own files and the network of its configurations.
+/// The answer of a command to the texts of its own files, those of its configurations, and the network of these.
 fn judge_network(
     alloc: Global,
     command: &Command<'_>,
     own: &[Bytes],
+    configs: &[Bytes],
     net: &Net,
 ) -> Result<Answer, OutOfMemory>
     requires landed { HasLanded (request_of command.now) }
+    requires range { IsInRange (request_of command.now) }
+    requires some { 0 < length net.now }
     requires own { AreShort (own_files (request_of command.now)) own.now }
-    ensures { IfOk result (λ answer. (configs : List (List ℕ)) → GiveNetwork configs net.now → IsVerdict (request_of command.now) own.now configs answer.status answer.text) }
+    requires configs { All (λ text. length text ≤ FILE_MOST) configs.now }
+    ensures { IfOk result (λ answer. GiveNetwork configs.now net.now → IsVerdict (request_of command.now) own.now configs.now answer.status answer.text) }
 {
     match off_start(command, net) {
         Some(router) => {
             let name = &net.config(router).name;
             refuse(alloc, Status::Refused, &Refusal::OffStart { name })
         }
-        None => judge_command(alloc, command, own, net),
+        None => judge_command(alloc, command, own, configs, net),
     }
 }
 

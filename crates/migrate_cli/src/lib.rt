@@ -11,6 +11,8 @@ mod configurations;
 mod files;
 mod judging;
 mod laws;
+mod plan;
+mod prepare;
 mod reading;
 mod refute;
 mod replay;

@@ -12,7 +12,7 @@ use state_replay::{Half, Place, next_change, replay};
 use std::alloc::{AllocError, Global};
 use step_scripts::{OrderRefusal, read_waves};
 
-/// The answer to the text of an order file, a journal and a network.
+/// The answer to the text of an order file, a journal and a network with a router.
 pub fn judge_replay(
     alloc: Global,
     file: &str,
@@ -20,16 +20,10 @@ pub fn judge_replay(
     journal: &Bytes,
     net: &Net,
 ) -> Result<Answer, OutOfMemory>
-    requires { length order.now ≤ FILE_MOST }
+    requires short { length order.now ≤ FILE_MOST }
+    requires some { 0 < length net.now }
     ensures { IfOk result (λ answer. IsReplayVerdict file.now order.now journal.now net.now answer.status answer.text) }
 {
-    if net.routers() == 0 {
-        let text = reached_text(alloc, net, 0, &[])?;
-        return Ok(Answer {
-            status: Status::Done,
-            text,
-        });
-    }
     let waves = match read_waves(alloc, net, order.as_slice()) {
         Ok(file) => file.waves,
         Err(OrderRefusal::OutOfMemory) => return Err(AllocError),

@@ -1,12 +1,16 @@
 ghost use Rattle.std.specs.Prelude.{◌≡◌, ◌≢◌, ℕ, List, IfOk, map, string_bytes};
 ghost use Rattle.store_edge.specs.Faults.{Rose};
 ghost use Rattle.migrate_words.specs.Asked.{Asks};
-ghost use Rattle.migrate_words.specs.Requests.{request_of};
+ghost use Rattle.migrate_words.specs.Requests.{IsInRange, request_of};
 ghost use Rattle.migration_report.specs.Texts.{words_refused_text};
 ghost use Rattle.migrate_cli.specs.AnswerLaws.{EndsByAnswer};
 ghost use Rattle.migrate_cli.specs.Answers.{Answers, FaultsAgree, HasAnswer, RefusalAnswer, StopAnswer};
 ghost use Rattle.migrate_cli.specs.Calls.{Call, Outside};
 ghost use Rattle.migrate_cli.specs.Completeness.{CheckDecides, RefuteDecides, ReplayDecides, ScriptsWrites};
+ghost use Rattle.migrate_cli.specs.PrepareCompleteness.{PrepareWrites};
+ghost use Rattle.migrate_cli.specs.PlanClaim.{PlanPromises};
+ghost use Rattle.migrate_cli.specs.PlanCompleteness.{PlanDecides};
+ghost use Rattle.migrate_cli.specs.PrepareReadBack.{PrepareReadsBack};
 
 use crate::answer::{Answer, refuse};
 use crate::commands::has_landed;
@@ -34,6 +38,14 @@ pub fn run<F: Files, S: Sink>(alloc: Global, words: &[String], files: &mut F, ou
         Answers call before after result }
     ensures exact { let call : Call = record { words = map string_bytes words.now; content = F.content files.old } in
         EndsByAnswer call result }
+    ensures plan_promises { let call : Call = record { words = map string_bytes words.now; content = F.content files.old } in
+        let before : Outside = record { asked = F.asked files.old; file_faults = F.faults files.old; written = S.written out.old; sink_faults = S.faults out.old } in
+        let after : Outside = record { asked = F.asked files.new; file_faults = F.faults files.new; written = S.written out.new; sink_faults = S.faults out.new } in
+        PlanPromises call before after result }
+    ensures plan_decides { let call : Call = record { words = map string_bytes words.now; content = F.content files.old } in
+        let before : Outside = record { asked = F.asked files.old; file_faults = F.faults files.old; written = S.written out.old; sink_faults = S.faults out.old } in
+        let after : Outside = record { asked = F.asked files.new; file_faults = F.faults files.new; written = S.written out.new; sink_faults = S.faults out.new } in
+        PlanDecides call before after result }
     ensures check_decides { let call : Call = record { words = map string_bytes words.now; content = F.content files.old } in
         let before : Outside = record { asked = F.asked files.old; file_faults = F.faults files.old; written = S.written out.old; sink_faults = S.faults out.old } in
         let after : Outside = record { asked = F.asked files.new; file_faults = F.faults files.new; written = S.written out.new; sink_faults = S.faults out.new } in
@@ -50,6 +62,14 @@ pub fn run<F: Files, S: Sink>(alloc: Global, words: &[String], files: &mut F, ou
         let before : Outside = record { asked = F.asked files.old; file_faults = F.faults files.old; written = S.written out.old; sink_faults = S.faults out.old } in
         let after : Outside = record { asked = F.asked files.new; file_faults = F.faults files.new; written = S.written out.new; sink_faults = S.faults out.new } in
         ScriptsWrites call before after result }
+    ensures prepare_writes { let call : Call = record { words = map string_bytes words.now; content = F.content files.old } in
+        let before : Outside = record { asked = F.asked files.old; file_faults = F.faults files.old; written = S.written out.old; sink_faults = S.faults out.old } in
+        let after : Outside = record { asked = F.asked files.new; file_faults = F.faults files.new; written = S.written out.new; sink_faults = S.faults out.new } in
+        PrepareWrites call before after result }
+    ensures prepare_reads_back { let call : Call = record { words = map string_bytes words.now; content = F.content files.old } in
+        let before : Outside = record { asked = F.asked files.old; file_faults = F.faults files.old; written = S.written out.old; sink_faults = S.faults out.old } in
+        let after : Outside = record { asked = F.asked files.new; file_faults = F.faults files.new; written = S.written out.new; sink_faults = S.faults out.new } in
+        PrepareReadsBack call before after result }
     ensures read_fault { result ≡ Status.ReadFault → Rose (F.faults files.old) (F.faults files.new) }
     ensures write_fault { result ≡ Status.WriteFault → Rose (S.faults out.old) (S.faults out.new) }
     ensures unless_write_fault { result ≢ Status.WriteFault → S.faults out.new ≡ S.faults out.old }
@@ -102,6 +122,7 @@ fn answer_command<F: Files>(
     command: &Command<'_>,
     files: &mut F,
 ) -> Result<Answer, OutOfMemory>
+    requires { IsInRange (request_of command.now) }
     ensures answer { (words : List (List ℕ)) → Asks words (request_of command.now) → HasAnswer (record { words = words; content = F.content files.old }) (F.asked files.old) (F.asked files.new) result }
     ensures faults { IfOk result (λ answer. FaultsAgree answer.status (F.faults files.old) (F.faults files.new)) }
 {

@@ -1,4 +1,4 @@
-ghost use Rattle.std.specs.Prelude.{◌≤◌, IfOk, length};
+ghost use Rattle.std.specs.Prelude.{◌<◌, ◌≤◌, IfOk, length};
 ghost use Rattle.migrate_cli.specs.ScriptsVerdict.{IsScriptsVerdict};
 
 use crate::answer::{Answer, refuse};
@@ -10,22 +10,17 @@ use net_model::Net;
 use std::alloc::{AllocError, Global};
 use step_scripts::{OrderRefusal, read_waves, script_text};
 
-/// The answer to the text of an order file and a network: the script of its wave list.
+/// The answer to the text of an order file and a network with a router: the script of its wave list.
 pub fn judge_scripts(
     alloc: Global,
     file: &str,
     order: &Bytes,
     net: &Net,
 ) -> Result<Answer, OutOfMemory>
-    requires { length order.now ≤ FILE_MOST }
+    requires short { length order.now ≤ FILE_MOST }
+    requires some { 0 < length net.now }
     ensures { IfOk result (λ answer. IsScriptsVerdict file.now order.now net.now answer.status answer.text) }
 {
-    if net.routers() == 0 {
-        return Ok(Answer {
-            status: Status::Done,
-            text: Bytes::from_vec(Vec::new(alloc)),
-        });
-    }
     let read = match read_waves(alloc, net, order.as_slice()) {
         Ok(read) => read,
         Err(OrderRefusal::OutOfMemory) => return Err(AllocError),

@@ -1,9 +1,9 @@
 /// How a call ended.
 #[derive(Clone, Copy, Debug, PartialEq, Eq)]
 pub enum Status {
-    /// The order is safe.
+    /// The answer is yes, or what was asked for is written.
     Done,
-    /// The order isn't safe.
+    /// The answer is no: the order isn't safe, there is none that is, the tree isn't closed, the journal fits no run.
     Negative,
     /// The words are refused.
     Words,
@@ -15,6 +15,10 @@ pub enum Status {
     Refused,
     /// A number passes its limit.
     Limit,
+    /// An end of the migration isn't sound.
+    Unsound,
+    /// The budget of branches was spent.
+    Spent,
     /// There was no memory. Nothing is written.
     Memory,
 }
@@ -35,6 +39,8 @@ impl Status {
             Status::WriteFault => 4,
             Status::Refused => 5,
             Status::Limit => 6,
+            Status::Unsound => 7,
+            Status::Spent => 8,
             Status::Memory => 9,
         }
     }

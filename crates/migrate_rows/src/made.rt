@@ -6,16 +6,23 @@ use std::alloc::Global;
 /// How many bytes a file has at most, 16 MiB.
 const FILE_MOST: usize = 16_777_216;
 
+/// How many bytes a design has at most, 1 MiB.
+const DESIGN_MOST: usize = 1_048_576;
+
 /// The bytes of a file that is made since it would be long, None where the name isn't that of one.
 pub fn made(alloc: Global, name: &str) -> Result<Option<Vec<u8>>> {
     let text = match name {
-        "made/16-mib.cfg" => comment(alloc, FILE_MOST)?,
-        "made/16-mib-and-a-byte.cfg" => comment(alloc, FILE_MOST + 1)?,
+        "made/16-mib.cfg" => comment(alloc, "!", FILE_MOST)?,
+        "made/16-mib-and-a-byte.cfg" => comment(alloc, "!", FILE_MOST + 1)?,
+        "made/1-mib.toml" => comment(alloc, "#", DESIGN_MOST)?,
+        "made/1-mib-and-a-byte.toml" => comment(alloc, "#", DESIGN_MOST + 1)?,
         "made/2000-loopbacks.cfg" => loopbacks(alloc, 2000)?,
         "made/2001-loopbacks.cfg" => loopbacks(alloc, 2001)?,
         "made/4097-ranges.cfg" => ranges(alloc, 4097)?,
         "made/ring-of-20.cfg" => ring(alloc, 20)?,
         "made/halves-of-20.txt" => halves(alloc, 20)?,
+        "made/ring-of-200.cfg" => ring(alloc, 200)?,
+        "made/halves-of-200.txt" => halves(alloc, 200)?,
         "made/ring-of-60.cfg" => ring(alloc, 60)?,
         "made/ascending-60.txt" => ascending(alloc, 60)?,
         "made/20000-branches-and-open.txt" => branches(alloc, 20_000, "open\n")?,
@@ -26,9 +33,9 @@ pub fn made(alloc: Global, name: &str) -> Result<Option<Vec<u8>>> {
     Ok(Some(text.into_bytes()))
 }
 
-/// One line of a comment, of so many bytes.
-fn comment(alloc: Global, length: usize) -> Result<String> {
-    Ok("!".repeat(alloc, length)?)
+/// One line of a comment, of so many bytes that begin one.
+fn comment(alloc: Global, mark: &str, length: usize) -> Result<String> {
+    Ok(mark.repeat(alloc, length)?)
 }
 
 /// A router with so many up loopbacks and nothing else, at most 65,536.
@@ -57,9 +64,9 @@ fn ranges(alloc: Global, count: u32) -> Result<String> {
     Ok(text)
 }
 
-/// A ring of so many routers, from 3 to 99, whose last link is dear for OSPF and whose middle one is dear for IS-IS.
+/// A ring of so many routers, from 3 to 254, whose last link is dear for OSPF and whose middle one is dear for IS-IS.
 fn ring(alloc: Global, count: u32) -> Result<String>
-    requires { count < 100 }
+    requires { count < 255 }
 {
     let mut text = String::new(alloc);
     for i in 1..count + 1 {
@@ -67,7 +74,7 @@ fn ring(alloc: Global, count: u32) -> Result<String>
         let first = end_of_link(alloc, count, 0, i, 1)?;
         let second = end_of_link(alloc, count, 1, before, 2)?;
         let router = format!(in alloc;
-            "hostname S{i:02}\ninterface Loopback0\n ip address 10.0.0.{i} 255.255.255.255\n ip router isis\n{first}{second}router ospf 1\n network 10.0.0.0 0.255.255.255 area 0\nrouter isis\n net 49.0001.0000.0000.00{i:02}.00\n is-type level-2-only\n metric-style wide\n distance 255\nend\n"
+            "hostname S{i:02}\ninterface Loopback0\n ip address 10.0.0.{i} 255.255.255.255\n ip router isis\n{first}{second}router ospf 1\n network 10.0.0.0 0.255.255.255 area 0\nrouter isis\n net 49.0001.0000.0000.{i:04}.00\n is-type level-2-only\n metric-style wide\n distance 255\nend\n"
         )?;
         text.push_str(router.as_str())?;
     }
@@ -83,9 +90,9 @@ fn end_of_link(alloc: Global, count: u32, number: u32, link: u32, address: u32) 
     )?)
 }
 
-/// An order of the routers of a ring of at most 99: those before the dear link of IS-IS ascending, then the others descending.
+/// An order of the routers of a ring of at most 254: those before the dear link of IS-IS ascending, then the others descending.
 fn halves(alloc: Global, count: u32) -> Result<String>
-    requires { count < 100 }
+    requires { count < 255 }
 {
     let mut text = String::from_str(alloc, "order 1\n")?;
     let half = count / 2;

@@ -3,3 +3,5 @@ pub mod Kinds
 pub mod Texts
 pub mod JournalTexts
 pub mod TreeVerdictTexts
+pub mod DesignTexts
+pub mod EndTexts

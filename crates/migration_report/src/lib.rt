@@ -1,7 +1,9 @@
-//! The texts that the planner prints: what it found of an order, where a journal stands, what is found of a tree, and
-//! why it refused its input.
+//! The texts that the planner prints: what it found of an order, why an end of a migration isn't sound, where a journal
+//! stands, what is found of a tree, and why it refused its input.
 #![tactic(auto)]
 
+mod design;
+mod ends;
 mod journal;
 mod kinds;
 mod network;
@@ -9,6 +11,8 @@ mod refusal;
 mod report;
 mod tree;
 
+pub use design::refused_design_text;
+pub use ends::{End, unsound_text};
 pub use journal::{departs_text, reached_text};
 pub use refusal::{Refusal, refusal_text};
 pub use report::{Report, report_text};

@@ -75,7 +75,7 @@ pub fn report_text(alloc: Global, net: &Net, report: &Report<'_>) -> Result<Byte
 }
 
 /// The line with the words for a fault more.
-fn fault_words(
+pub(crate) fn fault_words(
     line: LineBuilder,
     net: &Net,
     fault: Fault,

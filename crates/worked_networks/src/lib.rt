@@ -23,8 +23,14 @@ mod orders;
 #[cfg(test)]
 mod ospf_tables;
 #[cfg(test)]
+mod plans;
+#[cfg(test)]
 mod prepared;
 #[cfg(test)]
+mod samples;
+#[cfg(test)]
 mod trees;
+#[cfg(test)]
+mod waves;
 #[cfg(test)]
 mod zones;

@@ -1,4 +1,4 @@
-use Rattle.std.proofs.Common.{◌≡◌, ◌∙◌, ◌*◌, ◌<◌, ℕ, List, length, sym, subst, arith}
+use Rattle.std.proofs.Common.{ℕ, List, length, sym, subst}
 use Rattle.std.proofs.lemmas.Result.{IfOk-weaker}
 use Rattle.igp_theory.specs.Isis.{IsisEntry}
 use Rattle.igp_theory.specs.Ospf.{OspfEntry}
@@ -8,30 +8,21 @@ use Rattle.order_core.proofs.WaveLists.{flat_is_order}
 use Rattle.step_scripts.specs.FaultyLines.{IsLeastFaultyLine, RefusesWaves}
 use Rattle.step_scripts.specs.WaveFiles.{NamesWaves}
 use Rattle.migration_report.specs.Kinds.{order_kind_name}
-use Rattle.migration_report.specs.Texts.{faulty_text, safe_text}
+use Rattle.migration_report.specs.Texts.{faulty_text}
 use Rattle.migrate_cli.specs.CheckVerdict.{IsCheckVerdict, IsOrderVerdict, IsWavesVerdict}
-use Rattle.migrate_cli.specs.CheckVerdict.IsCheckVerdict.{no_router, faulty_order, of_order, of_waves}
-use Rattle.migrate_cli.specs.declared.status.Status.{Status}
-use Rattle.migrate_cli.specs.declared.status.Status.TheVariants.{Done, Refused}
+use Rattle.migrate_cli.specs.CheckVerdict.IsCheckVerdict.{faulty_order, of_order, of_waves}
+use Rattle.migrate_cli.specs.declared.status.Status.TheVariants.{Refused}
 use Rattle.migrate_cli.proofs.AnswerFacts.{from_refusal}
 use Rattle.migrate_cli.proofs.check.judge_check.Goals as goal
-
-pub returns-then-routers-eq0 : goal.returns-then-routers-eq0
-returns-then-routers-eq0 c =
-    let none : length c.args.net.now ≡ 0 = sym c.routers.ensures.count ∙ c.if-routers-eq0.true in
-    let Q : Status → List ℕ → Type 0 = λ s t. IsCheckVerdict c.args.file.now c.args.text.now c.args.net.now s t in
-    from_refusal c.safe.result Done (safe_text (2 * length c.args.net.now)) Q c.safe.ensures.status c.safe.ensures.text
-    (subst (λ n. Q Done (safe_text (2 * n))) (sym none) (no_router none))
 
 pub returns-in-Err-Bad : goal.returns-in-Err-Bad
 returns-in-Err-Bad c =
     let net = c.args.net.now in
     let line = c.in-Err-Bad.line in
     let kind = c.in-Err-Bad.kind in
-    let some : 0 < length net = omega (arith, c.if-routers-eq0.false, c.routers.ensures.count) in
     from_refusal c.refuse.result Refused (faulty_text c.args.file.now line (order_kind_name kind)) (λ s t. IsCheckVerdict c.args.file.now c.args.text.now net s t)
     c.refuse.ensures.status c.refuse.ensures.text
-    (faulty_order line kind some
+    (faulty_order line kind
     (subst (λ text. IsLeastFaultyLine net text line kind) c.as_slice.ensures
     (subst (RefusesWaves net c.as_slice.result.now) c.in-Err-Bad.field-0-is c.in-Err-Bad.ensures.err)))
 
@@ -48,11 +39,10 @@ returns-in-One c =
     let net = c.args.net.now in
     let text = c.args.text.now in
     let ranks = c.in-Ok.read.waves in
-    let some : 0 < length net = omega (arith, c.if-routers-eq0.false, c.routers.ensures.count) in
     let names = subst (λ version. NamesWaves net text version ranks) c.in-One.is (subst (λ t. NamesWaves net t c.in-Ok.read.version ranks) c.as_slice.ensures c.in-Ok.ensures.ok) in
     IfOk-weaker c.judge_order.result (λ a. IsOrderVerdict net (OspfEntry net) (IsisEntry net) c.flat.result.now a.status a.text)
     (λ a. IsCheckVerdict c.args.file.now text net a.status a.text)
-    (λ a verdict. of_order ranks a.status a.text some names
+    (λ a verdict. of_order ranks a.status a.text names
     (subst (λ (order : List ℕ). IsOrderVerdict net (OspfEntry net) (IsisEntry net) order a.status a.text) c.flat.ensures verdict))
     c.judge_order.ensures
 
@@ -61,9 +51,8 @@ returns c =
     let net = c.args.net.now in
     let text = c.args.text.now in
     let ranks = c.in-Ok.read.waves in
-    let some : 0 < length net = omega (arith, c.if-routers-eq0.false, c.routers.ensures.count) in
     let names = subst (λ version. NamesWaves net text version ranks) c.in-Two.is (subst (λ t. NamesWaves net t c.in-Ok.read.version ranks) c.as_slice.ensures c.in-Ok.ensures.ok) in
     IfOk-weaker c.judge_waves.result (λ a. IsWavesVerdict net (OspfEntry net) (IsisEntry net) ranks a.status a.text)
     (λ a. IsCheckVerdict c.args.file.now text net a.status a.text)
-    (λ a verdict. of_waves ranks a.status a.text some names verdict)
+    (λ a verdict. of_waves ranks a.status a.text names verdict)
     c.judge_waves.ensures

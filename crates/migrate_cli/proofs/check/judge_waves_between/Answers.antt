@@ -1,11 +1,10 @@
-use Rattle.std.proofs.Common.{◌∙◌, ◌+◌, ◌*◌, ℕ, List, length, refl, ap, sym, subst}
+use Rattle.std.proofs.Common.{◌∙◌, ◌*◌, ℕ, List, length, refl, ap, sym, subst}
 use Rattle.igp_theory.specs.WaveFaults.{IsWavesFault}
 use Rattle.igp_theory.specs.Waves.{AreSeamlessWaves, IsStateOfWave}
 use Rattle.igp_theory.proofs.WaveFaultLaws.{waves_fault_unsound}
 use Rattle.loop_finder.specs.Faults.{told_fault}
-use Rattle.loop_finder.specs.WaveLists.{IsNumberedWavesFault}
 use Rattle.net_model.specs.RouterNames.{names_of}
-use Rattle.order_core.specs.Rankings.{IsRanking, wave_count}
+use Rattle.order_core.specs.Rankings.{IsRanking}
 use Rattle.route_core.specs.Tables.{HasEntry}
 use Rattle.migration_report.specs.Texts.{waves_safe_text, waves_unsafe_text}
 use Rattle.migrate_cli.specs.Faults.{NamesRouters}

@@ -13,6 +13,7 @@ use Rattle.migrate_cli.specs.Verdicts.{IsVerdict}
 use Rattle.migrate_cli.specs.Verdicts.IsVerdict.{no_network}
 use Rattle.migrate_cli.proofs.AnswerFacts.{from_refusal, unread_verdict}
 use Rattle.migrate_cli.proofs.FileFacts.{own_count, short_configs, short_front, short_rest}
+use Rattle.migrate_cli.proofs.NetworkFacts.{net_has_router}
 use Rattle.migrate_cli.proofs.judging.judge.Goals as goal
 
 pub overflow_sub-texts : goal.overflow_sub-texts
@@ -25,7 +26,8 @@ overflow_sub-texts c =
 
 pub read_all-requires-clause-lengths : goal.read_all-requires-clause-lengths
 read_all-requires-clause-lengths c =
-    let back : length c.split_at.result.1.now + (length c.args.texts.now - length c.config_names-names.result.now) ≡ length c.args.texts.now = c.split_at.ensures.back_len in
+    let back : length c.split_at.result.1.now + (length c.args.texts.now - length c.config_names-names.result.now) ≡ length c.args.texts.now =
+    c.split_at.ensures.back_len in
     let names = c.config_names-names.result.now in
     let bytes : Bor (List ℕ) → List ℕ = λ name. name.now in
     let count : length names ≡ length (config_names (request_of c.args.command.now)) = sym (length-map names bytes) ∙ ap length c.config_names-names.ensures in
@@ -43,7 +45,8 @@ read_all-requires-clause-short c =
     let place : length texts - length names ≡ length (own_files request) = omega (arith, all) in
     let rest : c.split_at.result.1.now ≡ config_texts request texts = c.split_at.ensures.back ∙ ap (λ n. drop n texts) place in
     subst (All (λ (text : List ℕ). length text ≤ 16777216)) (sym rest)
-    (short_configs (config_names request) (config_texts request texts) (short_rest (own_files request) (map config_file (config_names request)) texts c.requires.short))
+    (short_configs (config_names request) (config_texts request texts)
+    (short_rest (own_files request) (map config_file (config_names request)) texts c.requires.short))
 
 pub returns-in-Err : goal.returns-in-Err
 returns-in-Err c =
@@ -71,6 +74,33 @@ judge_network-requires-clause-own c =
     let front : c.split_at.result.0.now ≡ own_texts request texts = c.split_at.ensures.front ∙ ap (λ n. take n texts) place in
     subst (AreShort (own_files request)) (sym front) (short_front (own_files request) (map config_file (config_names request)) texts c.requires.short)
 
+pub judge_network-requires-clause-configs : goal.judge_network-requires-clause-configs
+judge_network-requires-clause-configs c =
+    let request = request_of c.args.command.now in
+    let texts = c.args.texts.now in
+    let names = c.config_names-names.result.now in
+    let bytes : Bor (List ℕ) → List ℕ = λ name. name.now in
+    let count : length names ≡ length (config_names request) = sym (length-map names bytes) ∙ ap length c.config_names-names.ensures in
+    let all = own_count request texts (length names) count c.requires.short in
+    let place : length texts - length names ≡ length (own_files request) = omega (arith, all) in
+    let rest : c.split_at.result.1.now ≡ config_texts request texts = c.split_at.ensures.back ∙ ap (λ n. drop n texts) place in
+    subst (All (λ (text : List ℕ). length text ≤ 16777216)) (sym rest)
+    (short_configs (config_names request) (config_texts request texts)
+    (short_rest (own_files request) (map config_file (config_names request)) texts c.requires.short))
+
+pub judge_network-requires-clause-some : goal.judge_network-requires-clause-some
+judge_network-requires-clause-some c =
+    let request = request_of c.args.command.now in
+    let texts = c.args.texts.now in
+    let names = c.config_names-names.result.now in
+    let bytes : Bor (List ℕ) → List ℕ = λ name. name.now in
+    let count : length names ≡ length (config_names request) = sym (length-map names bytes) ∙ ap length c.config_names-names.ensures in
+    let all = own_count request texts (length names) count c.requires.short in
+    let place : length texts - length names ≡ length (own_files request) = omega (arith, all) in
+    let rest : c.split_at.result.1.now ≡ config_texts request texts = c.split_at.ensures.back ∙ ap (λ n. drop n texts) place in
+    net_has_router request texts c.in-Ok.configs c.in-Ok-build.net c.requires.landed c.requires.range c.requires.short
+    (subst (λ some. ReadsTexts some c.in-Ok.configs) rest c.in-Ok.ensures.ok) c.in-Ok-build.ensures.ok
+
 pub returns-in-Ok-build : goal.returns-in-Ok-build
 returns-in-Ok-build c =
     let request = request_of c.args.command.now in
@@ -85,9 +115,11 @@ returns-in-Ok-build c =
     let read = subst (λ some. ReadsTexts some c.in-Ok.configs) rest c.in-Ok.ensures.ok in
     let net = c.in-Ok-build.net in
     let gives : GiveNetwork (config_texts request texts) net = record { configs = c.in-Ok.configs; read = read; make = c.in-Ok-build.ensures.ok } in
-    IfOk-weaker c.judge_network.result (λ a. (configs : List (List ℕ)) → GiveNetwork configs net → IsVerdict request c.split_at.result.0.now configs a.status a.text)
+    IfOk-weaker c.judge_network.result
+    (λ a. GiveNetwork c.split_at.result.1.now net → IsVerdict request c.split_at.result.0.now c.split_at.result.1.now a.status a.text)
     (λ a. IsVerdict request (own_texts request texts) (config_texts request texts) a.status a.text)
-    (λ a verdict. subst (λ own. IsVerdict request own (config_texts request texts) a.status a.text) front (verdict (config_texts request texts) gives))
+    (λ a verdict. subst (λ own. IsVerdict request own (config_texts request texts) a.status a.text) front
+    (subst (λ some. GiveNetwork some net → IsVerdict request c.split_at.result.0.now some a.status a.text) rest verdict gives))
     c.judge_network.ensures
 
 pub refuse-requires : goal.refuse-requires

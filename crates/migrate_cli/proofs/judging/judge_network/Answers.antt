@@ -1,4 +1,4 @@
-use Rattle.std.proofs.Common.{ℕ, List, ap, sym, subst}
+use Rattle.std.proofs.Common.{ap, sym, subst}
 use Rattle.std.proofs.lemmas.Result.{IfOk-weaker}
 use Rattle.net_model.specs.Configuration.{Configuration}
 use Rattle.migrate_words.specs.Requests.{request_of}
@@ -16,11 +16,12 @@ returns-in-Some c =
     let net = c.args.net.now in
     let request = request_of c.args.command.now in
     let own = c.args.own.now in
+    let configs = c.args.configs.now in
     let config = c.config.result.now in
     let same = ap (λ (some : Configuration). some.name) c.behind-net.view_is in
     from_refusal c.refuse.result Refused (off_start_text c.behind-net.inside.name)
-    (λ s t. (configs : List (List ℕ)) → GiveNetwork configs net → IsVerdict request own configs s t) c.refuse.ensures.status c.refuse.ensures.text
-    (λ configs gives. subst (λ name. IsVerdict request own configs Refused (off_start_text name)) (sym same)
+    (λ s t. GiveNetwork configs net → IsVerdict request own configs s t) c.refuse.ensures.status c.refuse.ensures.text
+    (λ gives. subst (λ name. IsVerdict request own configs Refused (off_start_text name)) (sym same)
     (off_start net c.in-Some.router config gives c.in-Some.ensures.0 c.in-Some.ensures.1 c.config.ensures.router))
 
 pub returns-in-None : goal.returns-in-None
@@ -28,8 +29,9 @@ returns-in-None c =
     let net = c.args.net.now in
     let request = request_of c.args.command.now in
     let own = c.args.own.now in
+    let configs = c.args.configs.now in
     IfOk-weaker c.judge_command.result
-    (λ a. (configs : List (List ℕ)) → IsCommandVerdict request (record { own = own; configs = configs; net = net }) a.status a.text)
-    (λ a. (configs : List (List ℕ)) → GiveNetwork configs net → IsVerdict request own configs a.status a.text)
-    (λ a verdict configs gives. of_command net a.status a.text gives c.in-None.ensures (verdict configs))
+    (λ a. IsCommandVerdict request (record { own = own; configs = configs; net = net }) a.status a.text)
+    (λ a. GiveNetwork configs net → IsVerdict request own configs a.status a.text)
+    (λ a verdict gives. of_command net a.status a.text gives c.in-None.ensures verdict)
     c.judge_command.ensures

@@ -1,4 +1,4 @@
-use Rattle.std.proofs.Common.{◌∙◌, ℕ, List, ap, subst, sym}
+use Rattle.std.proofs.Common.{ℕ, List, subst}
 use Rattle.net_model.specs.Refusals.{IsNetwork}
 use Rattle.route_core.specs.Tables.{HasEntry}
 use Rattle.refutation_check.specs.Verdicts.{IsVerdict, RefutesWhereClosed}

@@ -1,30 +1,24 @@
-use Rattle.std.proofs.Common.{◌≡◌, ◌<◌, ◌*◌, ◌∙◌, ℕ, List, [], length, sym, subst, arith}
+use Rattle.std.proofs.Common.{sym, subst}
 use Rattle.std.proofs.lemmas.Result.{IfOk-weaker}
 use Rattle.step_scripts.specs.FaultyLines.{IsLeastFaultyLine, RefusesWaves}
 use Rattle.step_scripts.specs.WaveFiles.{NamesWaves}
 use Rattle.migration_report.specs.Kinds.{order_kind_name}
 use Rattle.migration_report.specs.Texts.{faulty_text}
 use Rattle.migrate_cli.specs.ReplayVerdict.{IsJournalVerdict, IsReplayVerdict}
-use Rattle.migrate_cli.specs.ReplayVerdict.IsReplayVerdict.{no_router, faulty_waves, of_waves}
-use Rattle.migrate_cli.specs.declared.status.Status.TheVariants.{Done, Refused}
+use Rattle.migrate_cli.specs.ReplayVerdict.IsReplayVerdict.{faulty_waves, of_waves}
+use Rattle.migrate_cli.specs.declared.status.Status.TheVariants.{Refused}
 use Rattle.migrate_cli.proofs.AnswerFacts.{from_refusal}
 use Rattle.migrate_cli.proofs.replay.judge_replay.Goals as goal
-
-pub returns-then-routers-eq0 : goal.returns-then-routers-eq0
-returns-then-routers-eq0 c =
-    subst (λ (text : List ℕ). IsReplayVerdict c.args.file.now c.args.order.now c.args.journal.now c.args.net.now Done text) (sym c.in_ok-text.ensures)
-    (no_router (sym c.routers.ensures.count ∙ c.if-routers-eq0.true))
 
 pub returns-in-Err-Bad : goal.returns-in-Err-Bad
 returns-in-Err-Bad c =
     let net = c.args.net.now in
     let line = c.in-Err-Bad.line in
     let kind = c.in-Err-Bad.kind in
-    let some : 0 < length net = omega (arith, c.if-routers-eq0.false, c.routers.ensures.count) in
     from_refusal c.refuse.result Refused (faulty_text c.args.file.now line (order_kind_name kind))
     (λ s t. IsReplayVerdict c.args.file.now c.args.order.now c.args.journal.now net s t)
     c.refuse.ensures.status c.refuse.ensures.text
-    (faulty_waves line kind some
+    (faulty_waves line kind
     (subst (λ text. IsLeastFaultyLine net text line kind) c.as_slice.ensures
     (subst (RefusesWaves net c.as_slice.result.now) c.in-Err-Bad.field-0-is c.in-Err-Bad.ensures.err)))
 
@@ -32,10 +26,9 @@ pub returns : goal.returns
 returns c =
     let net = c.args.net.now in
     let file = c.in-Ok.file in
-    let some : 0 < length net = omega (arith, c.if-routers-eq0.false, c.routers.ensures.count) in
     IfOk-weaker c.judge_journal.result (λ a. IsJournalVerdict net c.ranks.result.now c.args.journal.now a.status a.text)
     (λ a. IsReplayVerdict c.args.file.now c.args.order.now c.args.journal.now net a.status a.text)
-    (λ a verdict. of_waves file.version c.ranks.result.now a.status a.text some
+    (λ a verdict. of_waves file.version c.ranks.result.now a.status a.text
     (subst (NamesWaves net c.args.order.now file.version) (sym c.ranks.ensures.ranks)
     (subst (λ text. NamesWaves net text file.version file.waves) c.as_slice.ensures c.in-Ok.ensures.ok)) verdict)
     c.judge_journal.ensures

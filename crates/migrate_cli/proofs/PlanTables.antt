@@ -1,0 +1,114 @@
+-- Over tables with the same entries at the routers of the network `plan` answers the same.
+use Rattle.std.proofs.Common.{ℕ, List, []}
+use Rattle.net_model.specs.Network.{Network}
+use Rattle.igp_theory.specs.Laws.{HaveSameTables}
+use Rattle.igp_theory.specs.LoopLaws.{AreSoundEnds}
+use Rattle.igp_theory.specs.Routes.{Tables}
+use Rattle.igp_theory.proofs.SameTables.{fault_over, loop_over, same_tables_sym, sound_over}
+use Rattle.igp_theory.proofs.WaveFaultLaws.{seamless_waves_over, waves_fault_over}
+use Rattle.order_core.specs.Pairs.{Pair}
+use Rattle.order_core.specs.declared.turn.Turn.{Turn}
+use Rattle.order_search.specs.Answers.{AreFoundWaves, IsFoundNode, IsRefutation, IsSpent}
+use Rattle.order_search.specs.Meanings.{Meaning}
+use Rattle.order_search.specs.Places.{IsEarned, StandsAt}
+use Rattle.order_search.specs.Trees.{IsTreeNode, Place}
+use Rattle.order_search.specs.declared.tree.Node.{Node}
+use Rattle.order_search.specs.declared.tree.Node.TheVariants.{Branch, Leaf, Unvisited}
+use Rattle.order_search.proofs.Fills.{Fill-weaker}
+use Rattle.plan_theory.specs.WavesMeaning.{IsPickedFault, waves_meaning}
+use Rattle.migrate_cli.specs.PlanVerdict.{IsPlanOver}
+use Rattle.migrate_cli.specs.PlanVerdict.IsPlanOver.{unsound_old, unsound_new, waves, refuted, spent}
+use Rattle.migrate_cli.specs.declared.status.Status.{Status}
+
+module _ (net : Network) (old new old' new' : Tables) (same : HaveSameTables net old new old' new') where
+  abbrev m : Meaning
+  m = waves_meaning net old new
+
+  abbrev m' : Meaning
+  m' = waves_meaning net old' new'
+
+  -- the same loop is told of a wave list
+  picked_over : (ranks : List ℕ) (a : ℕ) (turns : List Turn) → IsPickedFault net old new ranks a turns → IsPickedFault net old' new' ranks a turns
+  picked_over ranks a turns picked = record { wave = picked.wave; is_fault = waves_fault_over same picked.is_fault }
+
+  tree_node_over : (place : Place) (node : Node) → IsTreeNode m.real place node → IsTreeNode m'.real place node
+  tree_node_over place (Branch a turns) is = (loop_over same is.0, is.1)
+  tree_node_over place (Leaf cycle) is = is
+  tree_node_over place Unvisited is = is
+
+  earned_over : (place : Place) (node : Node) → IsEarned m.picked m.size place node → IsEarned m'.picked m'.size place node
+  earned_over place (Branch a turns) earned =
+      record { ranks = earned.ranks; layered = earned.layered; pick = picked_over earned.ranks a turns earned.pick }
+  earned_over place (Leaf cycle) earned = tt
+  earned_over place Unvisited earned = tt
+
+  -- so the search makes the same nodes
+  found_node_over : (place : Place) (node : Node) → IsFoundNode m place node → IsFoundNode m' place node
+  found_node_over place node is = record {
+    is_node = tree_node_over place node is.is_node;
+    earned = earned_over place node is.earned;
+    least_cycle = is.least_cycle;
+  }
+
+  stands_over : {place : Place} {ranks : List ℕ} {before : List Node} {later : List Place} → StandsAt (IsFoundNode m) m place ranks before later →
+      StandsAt (IsFoundNode m') m' place ranks before later
+  stands_over {before = before} stands = record {
+    visited = stands.visited;
+    fills = Fill-weaker (IsFoundNode m) (IsFoundNode m') found_node_over _ _ before stands.fills;
+    layered = stands.layered;
+  }
+
+  -- and finds the same
+  found_waves_over : {budget : ℕ} {ranks chain : List ℕ} {pairs : List Pair} {trail : List Node} → AreFoundWaves m budget ranks pairs chain trail →
+      AreFoundWaves m' budget ranks pairs chain trail
+  found_waves_over found = record {
+    is_good = seamless_waves_over same found.is_good;
+    leads = record {
+      before = found.leads.before;
+      later = found.leads.later;
+      ends = found.leads.ends;
+      stands = stands_over found.leads.stands;
+    };
+    within = found.within;
+    chained = found.chained;
+    fewest = found.fewest;
+    neighbours = found.neighbours;
+    turned = found.turned;
+  }
+
+  refutation_over : {budget : ℕ} {tree : List Node} → IsRefutation m budget tree → IsRefutation m' budget tree
+  refutation_over {tree = tree} refutes = record {
+    closed = record {
+      tree = Fill-weaker (IsFoundNode m) (IsFoundNode m') found_node_over _ _ tree refutes.closed.tree;
+      visited = refutes.closed.visited;
+    };
+    within = refutes.within;
+  }
+
+  spent_over : {budget : ℕ} {tree : List Node} → IsSpent m budget tree → IsSpent m' budget tree
+  spent_over is =
+      let stopped = is.stopped in
+      record {
+        stopped = record {
+          before = stopped.before;
+          place = stopped.place;
+          later = stopped.later;
+          ranks = stopped.ranks;
+          ends = stopped.ends;
+          stands = stands_over stopped.stands;
+          bad = λ good. stopped.bad (seamless_waves_over (same_tables_sym same) good);
+          spent = stopped.spent;
+        };
+        path = is.path;
+      }
+
+  ends_over : AreSoundEnds net old new → AreSoundEnds net old' new'
+  ends_over ends = record { first = sound_over same ends.first; last = sound_over same ends.last }
+
+  pub plan_over : {budget : ℕ} {status : Status} {text : List ℕ} → IsPlanOver net old new budget status text → IsPlanOver net old' new' budget status text
+  plan_over (unsound_old fault unsound is) = unsound_old fault (λ sound. unsound (sound_over (same_tables_sym same) sound)) (fault_over same is)
+  plan_over (unsound_new fault first unsound is) =
+      unsound_new fault (sound_over same first) (λ sound. unsound (sound_over (same_tables_sym same) sound)) (fault_over same is)
+  plan_over (waves ranks pairs chain trail ends found) = waves ranks pairs chain trail (ends_over ends) (found_waves_over found)
+  plan_over (refuted tree ends refutes) = refuted tree (ends_over ends) (refutation_over refutes)
+  plan_over (spent tree ends is) = spent tree (ends_over ends) (spent_over is)

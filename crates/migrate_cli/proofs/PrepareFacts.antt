@@ -1,0 +1,70 @@
+-- The prepared texts of some texts, one after the other.
+use Rattle.std.proofs.Common.{◌≡◌, ◌∙◌, ◌+◌, ◌-◌, ◌<◌, ◌++◌, ◌∷◌, [], ℕ, zero, suc, Bool, true, List, Option, Some, None}
+use Rattle.std.proofs.Common.{Result, Ok, Err, IfOk, ap, append-nil, append_assoc, arith, get_or, length, refl, subst, sym, take}
+use Rattle.std.specs.Prelude.{slice_get}
+use Rattle.std.specs.declared.alloc.AllocError.{AllocError}
+use Rattle.net_addr.specs.JoinedLines.{is_of_whole_lines}
+use Rattle.net_addr.specs.Lines.{is_line_feed}
+use Rattle.net_model.specs.Network.{Network}
+use Rattle.design_file.specs.Answers.{RefusesDesign, RefusesText, SaysDesign}
+use Rattle.design_file.specs.declared.design.Design.{Design}
+use Rattle.design_file.specs.declared.refusal.DesignRefusal.{DesignRefusal}
+use Rattle.design_file.specs.declared.refusal.DesignRefusal.TheVariants.{Bad, OutOfMemory}
+use Rattle.design_file.specs.declared.settled.SettledRouter.{SettledRouter}
+use Rattle.isis_writer.specs.Prepared.{prepared_text}
+use Rattle.isis_writer.specs.PreparedConfigurations.{prepared_texts, with_last_feed}
+use Rattle.migrate_cli.specs.PrepareVerdict.{DesignAnswer, IsPrepareVerdict}
+use Rattle.migrate_cli.specs.PrepareVerdict.IsPrepareVerdict.{no_design, unsettled}
+use Rattle.migrate_cli.specs.declared.answer.Answer.{Answer}
+use Rattle.migrate_cli.specs.declared.status.Status.{Status}
+use Rattle.migrate_cli.specs.declared.status.Status.TheVariants.{Refused}
+
+-- whether a text whose last byte is this one is of whole lines
+abbrev pub ends_whole : Option ℕ → Bool
+ends_whole None = true
+ends_whole (Some byte) = is_line_feed byte
+
+-- by its last byte
+pub whole_by_last : (text : List ℕ) → is_of_whole_lines text ≡ ends_whole (slice_get text (length text - 1))
+whole_by_last [] = refl
+whole_by_last (b ∷ []) = refl
+whole_by_last (b ∷ next ∷ more) =
+    let place : suc (length more) ≡ length (b ∷ next ∷ more) - 1 = omega arith in
+    let before : length (next ∷ more) - 1 ≡ length more = omega arith in
+    whole_by_last (next ∷ more) ∙ ap (λ n. ends_whole (slice_get (next ∷ more) n)) before
+    ∙ ap (λ n. ends_whole (slice_get (b ∷ next ∷ more) n)) place
+
+-- one more text
+pub prepared_more : (net : Network) (settled : List SettledRouter) (texts : List (List ℕ)) (i : ℕ) (text : List ℕ) →
+    i < length texts → text ≡ get_or texts i text →
+    prepared_texts net settled (take (i + 1) texts) ≡ prepared_texts net settled (take i texts) ++ with_last_feed (prepared_text text net settled)
+prepared_more net settled [] i text within at = absurd (omega arith)
+prepared_more net settled (t ∷ texts) zero text within at =
+    append-nil (with_last_feed (prepared_text t net settled)) ∙ ap (λ (x : List ℕ). with_last_feed (prepared_text x net settled)) (sym at)
+prepared_more net settled (t ∷ texts) (suc i) text within at =
+    let next : suc i + 1 ≡ suc (i + 1) = omega arith in
+    ap (λ n. prepared_texts net settled (take n (t ∷ texts))) next
+    ∙ ap (λ (x : List ℕ). with_last_feed (prepared_text t net settled) ++ x) (prepared_more net settled texts i text (omega arith) at)
+    ∙ sym (append_assoc (with_last_feed (prepared_text t net settled)) (prepared_texts net settled (take i texts))
+    (with_last_feed (prepared_text text net settled)))
+
+-- ---- the answers to a design that is refused ----
+
+pub text_refused : (file design : List ℕ) (configs : List (List ℕ)) (net : Network) (refusal : DesignRefusal) (r : Result Answer AllocError) →
+    RefusesText design refusal → IfOk r (λ (a : Answer). DesignAnswer file refusal a.status a.text) →
+    IfOk r (λ (a : Answer). IsPrepareVerdict file design configs net a.status a.text)
+text_refused file design configs net (Bad kind path) (Ok a) refuses answer =
+    subst (λ (s : Status). IsPrepareVerdict file design configs net s a.text) (sym answer.0)
+    (subst (IsPrepareVerdict file design configs net Refused) (sym answer.1) (no_design kind path refuses))
+text_refused file design configs net OutOfMemory (Ok a) refuses answer = absurd answer
+text_refused file design configs net refusal (Err e) refuses answer = tt
+
+pub design_refused : (file design : List ℕ) (configs : List (List ℕ)) (net : Network) (said : Design) (refusal : DesignRefusal)
+    (r : Result Answer AllocError) →
+    SaysDesign design said → RefusesDesign said net refusal → IfOk r (λ (a : Answer). DesignAnswer file refusal a.status a.text) →
+    IfOk r (λ (a : Answer). IsPrepareVerdict file design configs net a.status a.text)
+design_refused file design configs net said (Bad kind path) (Ok a) says refuses answer =
+    subst (λ (s : Status). IsPrepareVerdict file design configs net s a.text) (sym answer.0)
+    (subst (IsPrepareVerdict file design configs net Refused) (sym answer.1) (unsettled said kind path says refuses))
+design_refused file design configs net said OutOfMemory (Ok a) says refuses answer = absurd answer
+design_refused file design configs net said refusal (Err e) says refuses answer = tt

@@ -1,0 +1,30 @@
+-- What `prepare` answers to a design, the texts of some configurations and the network that these make.
+use Rattle.std.specs.Prelude.{◌≡◌, ℕ, List}
+use Rattle.net_model.specs.Network.{Network}
+use Rattle.design_file.specs.Answers.{RefusesDesign, RefusesText, SaysDesign, Settles}
+use Rattle.design_file.specs.Settling.{Fits}
+use Rattle.design_file.specs.declared.design.Design.{Design}
+use Rattle.design_file.specs.declared.refusal.DesignKind.{DesignKind}
+use Rattle.design_file.specs.declared.refusal.DesignRefusal.{DesignRefusal}
+use Rattle.design_file.specs.declared.refusal.DesignRefusal.TheVariants.{Bad, OutOfMemory}
+use Rattle.design_file.specs.declared.settled.SettledRouter.{SettledRouter}
+use Rattle.isis_writer.specs.PreparedConfigurations.{prepared_texts}
+use Rattle.migration_report.specs.DesignTexts.{refused_design_text}
+use Rattle.migrate_cli.specs.declared.status.Status.{Status}
+use Rattle.migrate_cli.specs.declared.status.Status.TheVariants.{Done, Refused}
+
+-- the file is refused as a design, by the lowest kind of what is wrong in it and the least path of this kind; or it says one
+-- that is refused so for the network, in which case its own text has no fault; or it says one that is settled for the
+-- network, and the texts are prepared
+pub data IsPrepareVerdict (file design : List ℕ) (configs : List (List ℕ)) (net : Network) : Status → List ℕ → Type 0 where
+  no_design : (kind : DesignKind) (path : List ℕ) → RefusesText design (Bad kind path) →
+      IsPrepareVerdict file design configs net Refused (refused_design_text file path kind)
+  unsettled : (said : Design) (kind : DesignKind) (path : List ℕ) → SaysDesign design said → RefusesDesign said net (Bad kind path) →
+      IsPrepareVerdict file design configs net Refused (refused_design_text file path kind)
+  prepared : (said : Design) (settled : List SettledRouter) → SaysDesign design said → Settles said net settled → Fits net settled →
+      IsPrepareVerdict file design configs net Done (prepared_texts net settled configs)
+
+-- the answer that a design is refused
+abbrev pub DesignAnswer : List ℕ → DesignRefusal → Status → List ℕ → Type 0
+DesignAnswer file (Bad kind path) status text = (status ≡ Refused) × (text ≡ refused_design_text file path kind)
+DesignAnswer file OutOfMemory status text = ⊥

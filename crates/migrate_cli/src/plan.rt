@@ -1,0 +1,94 @@
+ghost use Rattle.std.specs.Prelude.{◌≡◌, ◌<◌, ◌≤◌, IfOk, length};
+ghost use Rattle.net_model.specs.RouterNames.{names_of};
+ghost use Rattle.plan_theory.specs.Plans.{fault_told};
+ghost use Rattle.route_core.specs.Tables.{HasEntry};
+ghost use Rattle.migration_report.specs.EndTexts.{EndFaultBelow, unsound_text};
+ghost use Rattle.migrate_cli.specs.PlanVerdict.{IsPlanOver, IsPlanVerdict};
+ghost use Rattle.migrate_cli.specs.PlannedAnswers.{HasText, found_status, plan_status, plan_text};
+
+use crate::answer::Answer;
+use crate::{OutOfMemory, Status};
+use isis_routes::IsisRoutes;
+use migration_report::{End, unsound_text};
+use net_model::Net;
+use order_search::Found;
+use ospf_routes::OspfRoutes;
+use plan_theory::{EndFault, Planned};
+use planned_texts::planned_text;
+use rib_mix::Mixed;
+use route_core::RouteSource;
+use std::alloc::Global;
+use wave_oracle::plan_waves;
+
+/// The answer to a network, by the routes of OSPF and of IS-IS: what is planned with a budget of so many branches.
+pub fn judge_plan(alloc: Global, budget: u32, net: &Net) -> Result<Answer, OutOfMemory>
+    requires budget { 1 ≤ budget }
+    requires some { 0 < length net.now }
+    ensures { IfOk result (λ answer. IsPlanVerdict budget net.now answer.status answer.text) }
+{
+    let routers = net.routers();
+    prove!(routers > 0);
+    let old = OspfRoutes::build(alloc, net)?;
+    let new = IsisRoutes::build(alloc, net)?;
+    judge_between(alloc, budget, net, &old, &new)
+}
+
+/// The answer to a network, by the tables of two sources.
+fn judge_between<O: RouteSource, N: RouteSource>(
+    alloc: Global,
+    budget: u32,
+    net: &Net,
+    old: &O,
+    new: &N,
+) -> Result<Answer, OutOfMemory>
+    requires budget { 1 ≤ budget }
+    requires some { 0 < length net.now }
+    requires old_routers { O.routers old.now ≡ length net.now }
+    requires new_routers { N.routers new.now ≡ length net.now }
+    ensures { IfOk result (λ answer. IsPlanOver net.now (HasEntry (O.table old.now)) (HasEntry (N.table new.now)) budget answer.status answer.text) }
+{
+    let mixed = Mixed::build(alloc, net, old, new)?;
+    let planned = plan_waves(alloc, &mixed, budget)?;
+    planned_answer(alloc, net, &planned)
+}
+
+/// The answer that this is planned.
+fn planned_answer(alloc: Global, net: &Net, planned: &Planned) -> Result<Answer, OutOfMemory>
+    requires { HasText net.now planned.now }
+    ensures status { IfOk result (λ answer. answer.status ≡ plan_status planned.now) }
+    ensures text { IfOk result (λ answer. answer.text ≡ plan_text (names_of net.now) planned.now) }
+{
+    match planned {
+        Planned::UnsoundOld { fault } => unsound_end(alloc, net, End::Old, fault),
+        Planned::UnsoundNew { fault } => unsound_end(alloc, net, End::New, fault),
+        Planned::Searched { found } => {
+            let text = planned_text(alloc, net, found)?;
+            let status = found_status(found);
+            Ok(Answer { status, text })
+        }
+    }
+}
+
+/// The answer that an end isn't sound.
+fn unsound_end(alloc: Global, net: &Net, end: End, fault: &EndFault) -> Result<Answer, OutOfMemory>
+    requires { EndFaultBelow (length net.now) fault.now }
+    ensures status { IfOk result (λ answer. answer.status ≡ Status.Unsound) }
+    ensures text { IfOk result (λ answer. answer.text ≡ unsound_text end (names_of net.now) (fault_told fault.now)) }
+{
+    let text = unsound_text(alloc, net, end, fault)?;
+    Ok(Answer {
+        status: Status::Unsound,
+        text,
+    })
+}
+
+/// How a call ends that found this between sound ends.
+fn found_status(found: &Found) -> Status
+    ensures { result ≡ found_status found.now }
+{
+    match found {
+        Found::Waves { .. } => Status::Done,
+        Found::Refuted { .. } => Status::Negative,
+        Found::Spent { .. } => Status::Spent,
+    }
+}

@@ -1,0 +1,96 @@
+ghost use Rattle.std.specs.Prelude.{◌≡◌, ◌≤◌, ◌++◌, All, IfOk, OnOk, length};
+ghost use Rattle.net_addr.specs.JoinedLines.{is_of_whole_lines};
+ghost use Rattle.isis_writer.specs.PreparedConfigurations.{prepared_texts, with_last_feed};
+ghost use Rattle.migrate_cli.specs.PrepareVerdict.{DesignAnswer, IsPrepareVerdict};
+
+use crate::answer::Answer;
+use crate::files::FILE_MOST;
+use crate::{OutOfMemory, Status};
+use design_file::{DesignRefusal, Settled, read_design, settle};
+use isis_writer::prepared_text;
+use migration_report::refused_design_text;
+use net_addr::Bytes;
+use net_model::Net;
+use std::alloc::{AllocError, Global};
+
+/// The answer to the text of a design, the texts of configurations and the network that they make: the texts with the
+/// IS-IS lines of the design.
+pub fn judge_prepare(
+    alloc: Global,
+    file: &str,
+    design: &Bytes,
+    configs: &[Bytes],
+    net: &Net,
+) -> Result<Answer, OutOfMemory>
+    requires { All (λ text. length text ≤ FILE_MOST) configs.now }
+    ensures { IfOk result (λ answer. IsPrepareVerdict file.now design.now configs.now net.now answer.status answer.text) }
+{
+    let design = match read_design(alloc, design.as_slice()) {
+        Ok(design) => design,
+        Err(refusal) => return refuse_design(alloc, file, refusal),
+    };
+    let settled = match settle(alloc, &design, net) {
+        Ok(settled) => settled,
+        Err(refusal) => return refuse_design(alloc, file, refusal),
+    };
+    let text = prepared_texts(alloc, configs, net, &settled)?;
+    Ok(Answer {
+        status: Status::Done,
+        text,
+    })
+}
+
+/// The answer that a design is refused.
+fn refuse_design(alloc: Global, file: &str, refusal: DesignRefusal) -> Result<Answer, OutOfMemory>
+    ensures { IfOk result (λ answer. DesignAnswer file.now refusal answer.status answer.text) }
+{
+    match refusal {
+        DesignRefusal::Bad { kind, path } => {
+            let text = refused_design_text(alloc, file, path.as_slice(), kind)?;
+            Ok(Answer {
+                status: Status::Refused,
+                text,
+            })
+        }
+        DesignRefusal::OutOfMemory => Err(AllocError),
+    }
+}
+
+/// The prepared texts of some texts, one after the other.
+fn prepared_texts(
+    alloc: Global,
+    texts: &[Bytes],
+    net: &Net,
+    settled: &Settled,
+) -> Result<Bytes, OutOfMemory>
+    requires { All (λ text. length text ≤ FILE_MOST) texts.now }
+    ensures { IfOk result (λ all. all ≡ prepared_texts net.now settled.now texts.now) }
+{
+    let mut all = Vec::new(alloc);
+    for text in texts {
+        let prepared = prepared_text(alloc, text.as_slice(), net, settled)?;
+        add_with_last_feed(&mut all, prepared.as_slice())?;
+    }
+    Ok(Bytes::from_vec(all))
+}
+
+/// Adds a text, and a line feed where it doesn't end with one.
+fn add_with_last_feed(all: &mut Vec<u8>, text: &[u8]) -> Result<(), OutOfMemory>
+    ensures { OnOk result (all.new.items ≡ all.old.items ++ with_last_feed text.now) }
+{
+    all.extend_from_slice(text)?;
+    if !is_of_whole_lines(text) {
+        all.push(b'\n')?;
+    }
+    Ok(())
+}
+
+/// Whether each line of a text is ended by a line feed.
+fn is_of_whole_lines(text: &[u8]) -> bool
+    ensures { result ≡ is_of_whole_lines text.now }
+{
+    match text.last() {
+        Some(byte) => *byte == b'\n',
+        None => true,
+    }
+}
