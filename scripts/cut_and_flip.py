@@ -1,81 +1,297 @@
 #!/usr/bin/env python3
-"""Runs the built program on thousands of damaged configurations.
+"""Runs the built program on thousands of damaged files.
 
-Usage: scripts/cut_and_flip.py PROGRAM COUNT ORDER CONFIG...
+Usage: scripts/cut_and_flip.py [--skip-missing] [--seconds N] PROGRAM COUNT [WORD...]
 
-Each run damages one of the files at random: it cuts it, flips a byte, doubles a line, or drops one. Every run has to
-end by itself with status 0, 1, 5 or 6, with exactly one line on standard output and nothing on standard error. The
-first run that doesn't is kept in the folder `damaged` and stops the script. PROGRAM is crates/migrate/out/migrate once
-it is built. It isn't part of the gate.
+The words are those of one call that is answered, as `check ORDER CONFIG...`. Each run damages one of its files at
+random: it cuts it, flips a byte, puts a byte in, doubles a line, drops one, moves one, takes one from another file, or
+writes an odd word for a word. A call without a file, as `sample 3`, has its number damaged. Without words all seven
+commands are run, COUNT times each, on calls of the examples beside this script.
+
+Every run has to end by itself within the seconds (10 unless given), with a status that its command has for files that
+can be read, with the text that belongs to this status on standard output, and with nothing on standard error. The first
+run that doesn't is kept in the folder `damaged` and ends the script with 1. A command that isn't there yet refuses its
+undamaged call with status 2: that ends the script too, unless `--skip-missing` passes it over. PROGRAM is
+crates/migrate/out/migrate once it is built. It isn't part of the gate.
 """
 
+import argparse
+import collections
 import pathlib
 import random
+import re
 import subprocess
 import sys
 import tempfile
+import time
 
-STATUSES = (0, 1, 5, 6)
-SECONDS = 60
+EXAMPLES = pathlib.Path(__file__).resolve().parent.parent / "examples"
+
+NAME = rb"[A-Za-z0-9._-]{1,63}"
+NAMES = rb"(?: " + NAME + rb")+"
+ADDRESS = rb"(?:\d{1,3}\.){3}\d{1,3}"
+NUMBER = rb"\d+"
+KIND = rb"[A-Z][A-Za-z]+"
+FAULT = ADDRESS + rb" (?:loop" + NAMES + rb"|missing " + NAME + rb")\n"
+TURNS = rb"(?: " + NAME + rb":[ONB]){2,}"
+BRANCH = rb"branch " + ADDRESS + TURNS + rb"\n"
+LEAF = rb"leaf " + NAME + NAMES + rb"\n"
+CLOSED_TREE = rb"tree 1\n(?:" + BRANCH + rb"|" + LEAF + rb")+"
+OPEN_TREE = rb"tree 1\n(?:" + BRANCH + rb"|" + LEAF + rb")*(?:open\n)+"
+WAVES = rb"order 2\n(?:wave" + NAMES + rb"\n)+chain" + NAMES + rb"\n"
+SCRIPT = (
+    rb"(?:! \d+ " + NAME + rb"\n|! wave \d+\n|! end\n|router isis(?: [!-~]+)?\n|router ospf \d+\n| distance (?:115|255)\n)*"
+)
+SUMMARY = (
+    rb"sample \d+\nprefixes \d+\nbranches \d+\nwaves \d+\nfirst " + NAME + rb"\nlast " + NAME + rb"\n"
+)
+NETWORK = (
+    rb"refused network (?:TwoNames " + NAME
+    + rb"|(?:BorderWithoutBackbone|NotAtStart) " + NAME
+    + rb"|AddressTwice " + NAME + rb" " + NAME + rb" " + ADDRESS
+    + rb"|PrefixInTwoAreas " + NAME + rb" " + NAME + rb" " + ADDRESS + rb"/\d+"
+    + rb"|SystemIdTwice " + NAME + rb" " + NAME
+    + rb"|StubMismatch " + NAME + rb" " + NAME + rb" \d+"
+    + rb"|(?:OspfCostSum|IsisMetricSum) \d+)\n"
+)
+LIMIT = rb"limit (?:files|total|routers|interfaces|prefixes) \d+\n|limit bytes FILE\n"
+LINE_REFUSED = rb"refused FILE \d+ " + KIND + rb"\n|" + NETWORK
+
+# What each command may print, by its status. FILE stands for the name of a file of the call.
+TEXTS = {
+    "check": {
+        0: rb"safe \d+(?: waves \d+)?\n",
+        1: rb"unsafe (?:\d+|wave \d+) " + FAULT,
+        5: LINE_REFUSED,
+        6: LIMIT,
+    },
+    "prepare": {
+        0: rb"(?s:.*\n)",
+        5: LINE_REFUSED + rb"|refused FILE [^\n]+ " + KIND + rb"\n",
+        6: LIMIT,
+    },
+    "plan": {
+        0: WAVES,
+        1: CLOSED_TREE,
+        5: LINE_REFUSED,
+        6: LIMIT,
+        7: rb"unsound (?:old|new) " + FAULT,
+        8: OPEN_TREE,
+    },
+    "refute": {
+        0: rb"closed \d+ \d+\n",
+        1: rb"open \d+\n|wrong \d+ \d (?:Form|Router|Address|Originator|Step|OneSided|NotAssumed)\n",
+        5: LINE_REFUSED,
+        6: LIMIT,
+    },
+    "scripts": {0: SCRIPT, 5: LINE_REFUSED, 6: LIMIT},
+    "replay": {
+        0: rb"at \d+ of \d+\n(?:done\n|(?:next " + NAME + rb" [12]\n)+)",
+        1: rb"departs \d+\n",
+        5: LINE_REFUSED,
+        6: LIMIT,
+    },
+    "sample": {0: SUMMARY, 2: rb"(?s:words refused\n.*)"},
+}
+
+# Words that stand at the edge of what a line, an order, a tree or a design takes.
+ODD_WORDS = (
+    b"0", b"1", b"255", b"256", b"65535", b"65536", b"4294967295", b"4294967296", b"99999999999999999999", b"-1",
+    b"0.0.0.0", b"255.255.255.255", b"255.255.255.253", b"1.2.3", b"R1", b"R2", b"R9", b"R1:O", b"R2:N", b"R1:B", b":",
+    b"end", b"!", b"^C", b"banner", b"hostname", b"interface", b"router", b"ospf", b"isis", b"area", b"wave", b"chain",
+    b"order", b"journal", b"tree", b"branch", b"leaf", b"open", b"true", b"[[", b"]]", b"\"", b"=", b"\xc3", b"\x00",
+)
 
 
-def damaged(text, chance):
-    """The text with one damage."""
-    if not text:
-        return text
-    how = chance.randrange(4)
+def example(folder, *names):
+    """The files of an example."""
+    return [str(EXAMPLES / folder / name) for name in names]
+
+
+def calls_of_examples():
+    """A call of each command."""
+    triangle = ("r1.cfg", "r2.cfg", "r3.cfg")
+    square = ("r1.cfg", "r2.cfg", "r3.cfg", "r4.cfg")
+    design = next(iter(sorted(EXAMPLES.glob("*/design.toml"))), None)
+    prepared = sorted(design.parent.glob("*.cfg")) if design else []
+    return [
+        ["check", *example("border", "safe.txt", *square)],
+        ["check", *example("triangle", "waves.txt", *triangle)],
+        ["prepare", str(design), *map(str, prepared)] if design else ["prepare"],
+        ["plan", *example("levels", *square)],
+        ["plan", "--budget", "5", *example("square", *square)],
+        ["refute", *example("square", "tree.txt", *square)],
+        ["scripts", *example("triangle", "waves.txt", *triangle)],
+        ["replay", *example("triangle", "waves.txt", "journal.txt", *triangle)],
+        ["sample", "12"],
+    ]
+
+
+def damaged_words(line, chance):
+    """The line with an odd word for one of its words."""
+    words = line.split(b" ")
+    words[chance.randrange(len(words))] = chance.choice(ODD_WORDS)
+    return b" ".join(words)
+
+
+def damaged(text, others, chance):
+    """The text with one damage; a line may come from one of the others."""
+    how = chance.randrange(9)
+    place = chance.randrange(len(text) + 1)
     if how == 0:
-        return text[: chance.randrange(len(text))]
+        return text[:place]
     if how == 1:
-        place = chance.randrange(len(text))
         return text[:place] + bytes([chance.randrange(256)]) + text[place + 1 :]
-    lines = text.splitlines(keepends=True)
-    place = chance.randrange(len(lines))
     if how == 2:
-        return b"".join(lines[: place + 1] + lines[place:])
-    return b"".join(lines[:place] + lines[place + 1 :])
+        return text[:place] + bytes([chance.randrange(256)]) + text[place:]
+    lines = text.splitlines(keepends=True) or [b""]
+    place = chance.randrange(len(lines))
+    line = lines[place]
+    if how == 3:
+        lines.insert(place, line)
+    elif how == 4:
+        del lines[place]
+    elif how == 5:
+        lines.insert(chance.randrange(len(lines)), lines.pop(place))
+    elif how == 6:
+        lines.insert(place, chance.choice(chance.choice(others).splitlines(keepends=True) or [b""]))
+    else:
+        feed = b"\n" if line.endswith(b"\n") else b""
+        lines[place] = damaged_words(line.rstrip(b"\n"), chance) + feed
+    return b"".join(lines)
 
 
-def complaint(run):
+def often_damaged(text, others, chance):
+    """The text with one to three damages."""
+    for _ in range(chance.randrange(1, 4)):
+        text = damaged(text, others, chance)
+    return text
+
+
+def complaint(command, names, run):
     """What is wrong with a run, or None."""
-    if run.returncode not in STATUSES:
+    if run.returncode not in TEXTS[command]:
         return f"status {run.returncode}"
     if run.stderr:
         return "something on standard error"
-    if run.stdout.count(b"\n") != 1 or not run.stdout.endswith(b"\n"):
-        return "not one line on standard output"
+    file = b"(?:" + b"|".join(re.escape(name.encode()) for name in names) + b")"
+    if not re.fullmatch(TEXTS[command][run.returncode].replace(b"FILE", file), run.stdout):
+        return f"another text with status {run.returncode}"
+    return None
+
+
+def case_of(run):
+    """The status, and the word by which runs are counted."""
+    words = run.stdout.split(b"\n")[0].split()
+    if run.returncode == 5:
+        words = words[:1] + [word for word in words if re.fullmatch(KIND, word) and len(word) > 3][:1]
+    return run.returncode, b" ".join(words[:2] if run.returncode == 5 else words[:1]).decode(errors="replace")
+
+
+class Tries:
+    """Damaged runs of one call."""
+
+    def __init__(self, program, words, seconds, folder):
+        self.program, self.command, self.seconds, self.folder = program, words[0], seconds, pathlib.Path(folder)
+        self.words, self.texts = [], {}
+        for word in words[1:]:
+            path = pathlib.Path(word)
+            if path.is_file():
+                name = f"{len(self.texts)}{path.suffix}"
+                self.texts[name] = path.read_bytes()
+                (self.folder / name).write_bytes(self.texts[name])
+                word = name
+            self.words.append(word)
+        self.seen = collections.Counter()
+        self.longest = 0.0
+
+    def answer(self, words):
+        """One run with these words behind the command."""
+        begun = time.monotonic()
+        run = subprocess.run(
+            [self.program, self.command, *words],
+            cwd=self.folder,
+            capture_output=True,
+            stdin=subprocess.DEVNULL,
+            timeout=self.seconds,
+            check=False,
+        )
+        self.longest = max(self.longest, time.monotonic() - begun)
+        return run
+
+    def is_missing(self):
+        """Whether the undamaged call is refused for its words."""
+        return self.answer(self.words).returncode == 2
+
+    def one(self, chance):
+        """One damaged run, and what is wrong with it."""
+        words, name = list(self.words), None
+        if self.texts:
+            name = chance.choice(list(self.texts))
+            text = often_damaged(self.texts[name], list(self.texts.values()), chance)
+            (self.folder / name).write_bytes(text)
+        else:
+            place = chance.randrange(len(words))
+            damage = often_damaged(words[place].encode(), [b"60\n"], chance).replace(b"\x00", b"")
+            words[place] = damage.decode(errors="ignore") if chance.randrange(3) else str(chance.randrange(1, 70))
+        try:
+            run = self.answer(words)
+            self.seen[case_of(run)] += 1
+            wrong = complaint(self.command, self.texts, run)
+        except subprocess.TimeoutExpired:
+            wrong = f"still running after {self.seconds} seconds"
+        if wrong:
+            return f"{wrong}: {self.command} {' '.join(words)}"
+        if name:
+            (self.folder / name).write_bytes(self.texts[name])
+        return None
+
+    def keep(self):
+        """Keeps the files of the last run."""
+        kept = pathlib.Path("damaged")
+        kept.mkdir(exist_ok=True)
+        for name in self.texts:
+            (kept / name).write_bytes((self.folder / name).read_bytes())
+        return kept
+
+    def tell(self, count):
+        """Prints how often each answer came."""
+        print(f"{self.command}: {count} runs, the longest {self.longest:.3f} seconds")
+        for (status, word), times in sorted(self.seen.items(), key=lambda item: -item[1]):
+            print(f"  {times} ended with {status}, {word}", flush=True)
+
+
+def try_call(given, words):
+    """Runs a call often; the exit text where a run is wrong."""
+    with tempfile.TemporaryDirectory() as folder:
+        tries = Tries(given.program, words, given.seconds, folder)
+        if tries.is_missing():
+            if given.skip_missing:
+                print(f"{words[0]}: isn't there yet")
+                return None
+            return f"{words[0]} refuses the words of its undamaged call"
+        chance = random.Random(" ".join(words[:1]))
+        for number in range(given.count):
+            wrong = tries.one(chance)
+            if wrong:
+                return f"run {number}: {wrong}; its files are in {tries.keep()}"
+        tries.tell(given.count)
     return None
 
 
 def main():
-    program, count, *names = sys.argv[1:]
-    texts = [pathlib.Path(name).read_bytes() for name in names]
-    chance = random.Random(1)
-    seen = {}
-    with tempfile.TemporaryDirectory() as folder:
-        paths = [pathlib.Path(folder) / f"{place}.txt" for place in range(len(texts))]
-        for number in range(int(count)):
-            place = chance.randrange(len(texts))
-            for path, text in zip(paths, texts):
-                path.write_bytes(text)
-            text = texts[place]
-            for _ in range(chance.randrange(1, 4)):
-                text = damaged(text, chance)
-            paths[place].write_bytes(text)
-            words = [program, "check", *map(str, paths)]
-            run = subprocess.run(words, capture_output=True, timeout=SECONDS, check=False)
-            wrong = complaint(run)
-            if wrong:
-                kept = pathlib.Path("damaged")
-                kept.mkdir(exist_ok=True)
-                for path in paths:
-                    (kept / path.name).write_bytes(path.read_bytes())
-                sys.exit(f"run {number}: {wrong}; its files are in {kept}")
-            words = run.stdout.split()
-            case = b" ".join(words[:1] + words[-1:]) if run.returncode == 5 else words[0]
-            seen[case] = seen.get(case, 0) + 1
-    for case, times in sorted(seen.items(), key=lambda item: -item[1]):
-        print(times, case.decode(errors="replace"))
+    reader = argparse.ArgumentParser(usage=__doc__.split("\n\n")[1].removeprefix("Usage: "))
+    reader.add_argument("--skip-missing", action="store_true")
+    reader.add_argument("--seconds", type=float, default=10)
+    reader.add_argument("program", type=lambda name: str(pathlib.Path(name).resolve()))
+    reader.add_argument("count", type=int)
+    reader.add_argument("words", nargs=argparse.REMAINDER)
+    given = reader.parse_args()
+    calls = [given.words] if given.words else calls_of_examples()
+    for words in calls:
+        wrong = try_call(given, words)
+        if wrong:
+            sys.exit(wrong)
 
 
 if __name__ == "__main__":
