@@ -6,7 +6,7 @@
 OURS is the built program (`crates/migrate/out/migrate`), OTHER a program that takes the same words, BENCH a folder with
 `isp-200` and `ring-200` (their `*.cfg`, `order.txt`, `reversed.txt`). Each call is run N times by each program (9 unless
 said), by turns; the table has the medians of the wall and the processor time of the whole process, the greatest peak
-memory, and the ratios. Where the two write different bytes or end with different codes, the row says so. The growth
+memory, and the ratios (a peak below that of this script, some 16 MB, shows as that). Where the two write different bytes or end with different codes, the row says so. The growth
 networks (rings, one LAN, areas) are made in a temporary folder. `--plan` adds the calls of `plan`.
 """
 
