@@ -6,7 +6,7 @@ use borrow.Author.Count.{below_more}
 use Rattle.walk_core.specs.declared.hops.Departure.{Departure}
 use Rattle.walk_core.specs.Walks.{Arcs, FirstHop}
 use Rattle.walk_core.specs.Distances.{distance_at, distance_between, AreDistances, KnowsEnds}
-use Rattle.walk_core.specs.Departures.{LeavesTo, AreDepartures, Begins, BeginsAt}
+use Rattle.walk_core.specs.steps.Departures.{LeavesTo, AreDepartures, Begins, BeginsAt}
 use Rattle.walk_core.proofs.HopLaws.{BeginsLeast, begins_least_from_first_hop, first_hop_from_begins_least}
 
 pub departs_more : (arc : Arcs) (root : ℕ) (ds : List Departure) (d : Departure) →

@@ -5,3 +5,9 @@ pub mod DepartureLaws
 pub mod ReachLaws
 pub mod OfferLaws
 mod HopLists
+pub mod ListParts
+pub mod CheapestLaws
+pub mod LoopLaws
+pub mod FloodLaws
+pub mod SegmentHopLaws
+pub mod SegmentSteps

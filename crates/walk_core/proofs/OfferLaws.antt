@@ -1,5 +1,6 @@
 -- The best of a list of offers, element by element, and what it is over all walks.
-use Rattle.std.proofs.Common.{◌≡◌, ℕ, ◌⊎◌, ◌↔◌, ◌+◌, ◌^◌, ◌<◌, ◌≤◌, List, [], ◌∷◌, ◌++◌, Option, Some, None, min, MatchOption, inl, inr, refl, sym, ap, subst, ◌∙◌, arith, length, take, get_or}
+use Rattle.std.proofs.Common.{◌≡◌, ℕ, ◌⊎◌, ◌↔◌, ◌+◌, ◌^◌, ◌<◌, ◌≤◌, List, [], ◌∷◌, ◌++◌, Option, Some, None, min, MatchOption, inl, inr, refl, sym, ap, subst}
+use Rattle.std.proofs.Common.{◌∙◌, arith, length, take, get_or}
 use Rattle.std.specs.List.{Contains, All}
 use Rattle.std.proofs.lemmas.Bool.{cases_lt}
 use Rattle.std.proofs.lemmas.List.Elements.{Contains-append_left, Contains-push, Contains-push_cases}
@@ -8,7 +9,8 @@ use Rattle.std.specs.List.Sorted.{IsStrictlyIncreasing}
 use Rattle.walk_core.specs.Walks.{Arcs}
 use Rattle.walk_core.specs.Offers.{Offers, OfferCosts, BestCost, BestHop}
 use Rattle.walk_core.specs.Reach.{Reach, distance_of, HasHop, AreLeastWalks, AreNear}
-use Rattle.walk_core.specs.BestOffers.{ListsOffer, total_with, total_of, HasTotal, NoneTotals, IsBestTotal, least_cost_of, IsHopOver, IsHopTowards, AreHopsTowards, AreInRange}
+use Rattle.walk_core.specs.BestOffers.{ListsOffer, total_with, total_of, HasTotal, NoneTotals, IsBestTotal, least_cost_of, IsHopOver, IsHopTowards}
+use Rattle.walk_core.specs.BestOffers.{AreHopsTowards, AreInRange}
 use Rattle.walk_core.specs.declared.offers.Offer.{Offer}
 use Rattle.walk_core.proofs.WalkLaws.{best_cost_unique}
 
@@ -100,7 +102,8 @@ total_is_cost arc u reach offer offers c walks same = (there, back)
         record {
           offer = listed.offer;
           among = listed.among;
-          total = ap (λ (d : Option ℕ). total_with d listed.offer.asks) far_here ∙ ap (λ (a : ℕ). Some (costs.walk + a)) listed.asked ∙ ap (λ (a : ℕ). Some a) costs.costs;
+          total = ap (λ (d : Option ℕ). total_with d listed.offer.asks) far_here ∙ ap (λ (a : ℕ). Some (costs.walk + a)) listed.asked ∙
+              ap (λ (a : ℕ). Some a) costs.costs;
         }
 
 -- the best total of listed offers is the best cost of these offers
@@ -144,11 +147,13 @@ hop_towards_is_best_hop arc u reach offer offers c h walks same best = (there, b
         let costs : OfferCosts arc offer u hop.at c = subst (λ (x : ℕ). OfferCosts arc offer u hop.at x) same_cost hop.attained in
         let listed : ListsOffer offers hop.at costs.asks = (same hop.at costs.asks).1 costs.offered in
         let here : HasHop reach listed.offer.at h = subst (λ (a : ℕ). HasHop reach a h) (sym listed.made) ((walks.hops hop.at h).1 hop.hop) in
-        let far : distance_of reach listed.offer.at ≡ Some costs.walk = ap (λ (a : ℕ). distance_of reach a) listed.made ∙ (walks.distances hop.at costs.walk).1 costs.reached in
+        let far : distance_of reach listed.offer.at ≡ Some costs.walk = ap (λ (a : ℕ). distance_of reach a) listed.made ∙
+        (walks.distances hop.at costs.walk).1 costs.reached in
         record {
           offer = listed.offer;
           among = listed.among;
-          total = ap (λ (d : Option ℕ). total_with d listed.offer.asks) far ∙ ap (λ (a : ℕ). Some (costs.walk + a)) listed.asked ∙ ap (λ (a : ℕ). Some a) costs.costs;
+          total = ap (λ (d : Option ℕ). total_with d listed.offer.asks) far ∙ ap (λ (a : ℕ). Some (costs.walk + a)) listed.asked ∙
+              ap (λ (a : ℕ). Some a) costs.costs;
           hop = here;
         }
 

@@ -1,6 +1,8 @@
 -- The rows of first hops, one vertex after another, and what they come to with the distances.
-use Rattle.std.proofs.Common.{◌≡◌, ℕ, ◌+◌, ◌<◌, ◌≤◌, ◌↔◌, ◌⊎◌, List, [], ◌∷◌, ◌++◌, Option, Some, None, length, length-append, get_or, set, get_or-set_same, get_or-set_other, Contains, sym, ap, subst, ◌∙◌, arith, inl, inr}
+use Rattle.std.proofs.Common.{◌≡◌, ℕ, ◌+◌, ◌<◌, ◌≤◌, ◌↔◌, ◌⊎◌, List, [], ◌∷◌, ◌++◌, Option, Some, None, length, length-append, get_or, set, get_or-set_same}
+use Rattle.std.proofs.Common.{get_or-set_other, Contains, sym, ap, subst, ◌∙◌, arith, inl, inr}
 use Rattle.std.specs.List.{slice_get}
+use Rattle.std.specs.List.Sorted.{IsStrictlyIncreasing}
 use Rattle.std.proofs.Math.ListN.{get_or-eq_default}
 use Rattle.std.proofs.lemmas.Bool.{cases_lt, cases_eq}
 use Rattle.std.proofs.lemmas.List.{get_or_append_left, get_or_push}
@@ -8,9 +10,9 @@ use Rattle.std.proofs.lemmas.Option.{slice_get_within, slice_get-get_or, same_So
 use borrow.Author.Count.{below_more}
 use Rattle.walk_core.specs.declared.hops.Departure.{Departure}
 use Rattle.walk_core.specs.Walks.{Arcs, FirstHop, walk_cost}
-use Rattle.walk_core.specs.Distances.{distance_at, AreDistances, KnowsEnds, IsRow, AreRows}
-use Rattle.walk_core.specs.Departures.{AreDepartures, BeginsAt}
-use Rattle.walk_core.specs.Reach.{Reach, AreLeastWalks, AreNear, AreWalksBelow}
+use Rattle.walk_core.specs.Distances.{distance_at, AreDistances, KnowsEnds, IsDistanceRow, AreDistanceRows}
+use Rattle.walk_core.specs.steps.Departures.{AreDepartures, BeginsAt}
+use Rattle.walk_core.specs.Reach.{Reach, AreAscending, AreLeastWalks, AreNear, AreWalksBelow}
 use Rattle.walk_core.proofs.WalkLaws.{first_hop_has_least_cost}
 use Rattle.walk_core.proofs.DepartureLaws.{begins_at_is_first_hop}
 
@@ -29,11 +31,11 @@ each_more {X} P rows v row long before last =
     subst (λ (r : List X). P v r) (sym new) last)
 
 -- the distances from one more vertex
-pub rows_more : (arc : Arcs) (count n : ℕ) (rows : List (List (Option ℕ))) (row : List (Option ℕ)) → AreRows arc count n rows →
-    IsRow arc count n row → AreRows arc count (n + 1) (rows ++ row ∷ [])
+pub rows_more : (arc : Arcs) (count n : ℕ) (rows : List (List (Option ℕ))) (row : List (Option ℕ)) → AreDistanceRows arc count n rows →
+    IsDistanceRow arc count n row → AreDistanceRows arc count (n + 1) (rows ++ row ∷ [])
 rows_more arc count n rows row are is = record {
   long = omega (arith, length-append rows (row ∷ []), are.long);
-  each = each_more (IsRow arc count) rows n row are.long are.each is;
+  each = each_more (IsDistanceRow arc count) rows n row are.long are.each is;
 }
 
 -- the rows of the first ends, and of one more
@@ -97,6 +99,19 @@ are_least_walks arc root count ds rows reach departures ends least long listed h
       | inr alone ↦
           let at = (begins_at_is_first_hop arc root ds rows reach.distances v h departures ends least).1 first in
           omega (arith, at.among.1)
+    ]
+
+-- one more list that ascends
+pub ascending_more : (lists : List (List ℕ)) (list : List ℕ) → AreAscending lists → IsStrictlyIncreasing list → AreAscending (lists ++ list ∷ [])
+ascending_more lists list are is v =
+    elim (cases_lt v (length lists)) [
+      | inl earlier ↦ subst IsStrictlyIncreasing (sym (get_or_append_left lists (list ∷ []) [] v earlier)) (are v)
+      | inr later ↦ elim (cases_eq v (length lists)) [
+        | inl here ↦ subst IsStrictlyIncreasing (sym (get_or_push lists list [] v (sym here))) is
+        | inr past ↦
+            let none : get_or (lists ++ list ∷ []) v [] ≡ [] = get_or-eq_default (lists ++ list ∷ []) [] (omega (arith, length-append lists (list ∷ []))) in
+            subst IsStrictlyIncreasing (sym none) (λ k short. absurd (omega arith))
+      ]
     ]
 
 -- the walks from one more vertex

@@ -1,5 +1,6 @@
 -- Relaxing keeps what is known of distances, and ends at the least costs.
-use Rattle.std.proofs.Common.{◌≡◌, ◌≢◌, ℕ, ◌+◌, ◌^◌, ◌<◌, ◌≤◌, zero, suc, Bool, true, false, ◌||◌, cond, IsTrue, ◌↔◌, List, [], ◌∷◌, ◌++◌, Option, Some, None, length, length-set, set, replicate, get_or-set_same, get_or-set_other, refl, sym, ◌∙◌, ap, subst, arith, inl, inr, ◌⊎◌}
+use Rattle.std.proofs.Common.{◌≡◌, ◌≢◌, ℕ, ◌+◌, ◌^◌, ◌<◌, ◌≤◌, zero, suc, Bool, true, false, ◌||◌, cond, IsTrue, ◌↔◌, List, [], ◌∷◌, ◌++◌, Option, Some, None}
+use Rattle.std.proofs.Common.{length, length-set, set, replicate, get_or-set_same, get_or-set_other, refl, sym, ◌∙◌, ap, subst, arith, inl, inr, ◌⊎◌}
 use Rattle.std.specs.Bool.{OnFalse}
 use Rattle.std.proofs.lemmas.Bool.{cases_eq}
 use Rattle.std.proofs.lemmas.List.{length-replicate}
@@ -7,7 +8,7 @@ use borrow.Author.Count.{below_more}
 use Rattle.walk_core.specs.Walks.{Arcs, Leg, Walks, walk_cost, LeastCost}
 use Rattle.walk_core.specs.Distances.{distance_at, AreDistances}
 use Rattle.walk_core.proofs.WalkLaws.{least_cost_from, least_cost_unique}
-use Rattle.walk_core.specs.Relaxing.{WalkCosts, AreWalked, IsAtMost, IsTightFrom, missing, HaveRoom, weight_of, total_weight, Relaxes}
+use Rattle.walk_core.specs.steps.Relaxing.{WalkCosts, AreWalked, IsAtMost, IsTightFrom, missing, HaveRoom, weight_of, total_weight, Relaxes}
 
 -- a walk goes on over one more arc
 pub walks_on : (arc : Arcs) (u : ℕ) (legs : List Leg) (v : ℕ) (leg : Leg) → Walks arc u legs v →

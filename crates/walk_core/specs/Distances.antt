@@ -16,15 +16,15 @@ abbrev pub distance_between : List (List (Option ℕ)) → ℕ → ℕ → Optio
 distance_between rows u v = distance_at (slice_index_or rows u []) v
 
 -- the distances from u in a graph of this many vertices, none above the cost of one arc for each of them
-pub record IsRow (arc : Arcs) (count u : ℕ) (distances : List (Option ℕ)) : Type 0 where
+pub record IsDistanceRow (arc : Arcs) (count u : ℕ) (distances : List (Option ℕ)) : Type 0 where
   pub least : AreDistances arc u distances
   pub whole : length distances ≡ count
   pub near : (v d : ℕ) → distance_at distances v ≡ Some d → d < count * 2 ^ 32
 
 -- the distances from each vertex below n
-pub record AreRows (arc : Arcs) (count n : ℕ) (rows : List (List (Option ℕ))) : Type 0 where
+pub record AreDistanceRows (arc : Arcs) (count n : ℕ) (rows : List (List (Option ℕ))) : Type 0 where
   pub long : length rows ≡ n
-  pub each : (u : ℕ) → u < n → IsRow arc count u (slice_index_or rows u [])
+  pub each : (u : ℕ) → u < n → IsDistanceRow arc count u (slice_index_or rows u [])
 
 -- the rows of the vertices that arcs from the root lead to are their distances
 abbrev pub KnowsEnds : Arcs → ℕ → List (List (Option ℕ)) → Type 0

@@ -1,63 +1,11 @@
-ghost use Rattle.std.specs.Prelude.{◌≡◌, ◌↔◌, ◌<◌, IfOk, IsTrue};
-ghost use Rattle.walk_core.specs.Departures.{AreDepartures, Begins};
+ghost use Rattle.std.specs.Prelude.{◌≡◌, ◌↔◌, ◌<◌, ℕ, IfOk, OnOk, IsTrue, Contains};
+ghost use Rattle.std.specs.List.Sorted.{IsStrictlyIncreasing};
+ghost use Rattle.walk_core.specs.steps.Departures.{AreDepartures, Begins, BeginsAt};
 
 use crate::rows::{Distances, distance_between};
+use crate::union::put_in_order;
 use crate::{CostGraph, OutOfMemory};
 use std::alloc::Global;
-use std::marker::Model;
-
-/// The first hops towards one vertex, by number.
-#[derive(Debug, Drop)]
-pub struct FirstHops {
-    all: Vec<u32>,
-}
-
-impl Model for FirstHops {
-    ghost use Rattle.std.specs.Prelude.{List, ℕ};
-
-    ghost Value = { List ℕ };
-
-    ghost view = { λ x. x.all.items };
-}
-
-impl FirstHops {
-    ghost use Rattle.std.specs.Prelude.{◌≡◌, ◌↔◌, ℕ, IfOk, IsTrue, Contains};
-    ghost use Rattle.walk_core.specs.Departures.{BeginsAt};
-
-    /// The first hops towards v, which is at this distance from the root.
-    pub fn towards(
-        alloc: Global,
-        departures: &[Departure],
-        rows: &[Distances],
-        v: u32,
-        distance: Option<u64>,
-    ) -> Result<FirstHops, OutOfMemory>
-        ensures { IfOk result (λ hops. (h : ℕ) →
-            Contains hops h ↔ BeginsAt departures.now rows.now v distance h) }
-    {
-        let mut all = Vec::new(alloc);
-        for departure in departures {
-            if begins(*departure, rows, v, distance) {
-                all.push(departure.to)?;
-            }
-        }
-        Ok(FirstHops { all })
-    }
-
-    /// Whether h is among them.
-    pub fn contains(&self, h: u32) -> bool
-        ensures { IsTrue result ↔ Contains self.now h }
-    {
-        self.all.contains(&h)
-    }
-
-    /// The hops as a slice.
-    pub fn as_slice(&self) -> &[u32]
-        ensures { result.now ≡ self.now }
-    {
-        self.all.as_slice()
-    }
-}
 
 /// An arc from the root: where it leads, and what it costs.
 #[derive(Clone, Copy, Debug)]
@@ -81,6 +29,28 @@ pub fn departures_from<G: CostGraph>(
         departures.push(Departure { to, cost })?;
     }
     Ok(departures)
+}
+
+/// Finds the first hops towards v, which is at this distance from the root, in ascending order.
+pub fn find_first_hops(
+    found: &mut Vec<u32>,
+    departures: &[Departure],
+    rows: &[Distances],
+    v: u32,
+    distance: Option<u64>,
+) -> Result<(), OutOfMemory>
+    ensures exact { OnOk result ((h : ℕ) →
+        Contains found.new.items h ↔ BeginsAt departures.now rows.now v distance h) }
+    ensures ascending { OnOk result (IsStrictlyIncreasing found.new.items) }
+{
+    found.clear();
+    for departure in departures {
+        if begins(*departure, rows, v, distance) {
+            found.push(departure.to)?;
+        }
+    }
+    put_in_order(found);
+    Ok(())
 }
 
 /// Whether a least walk to v, which is at this distance from the root, begins with the departure.

@@ -1,16 +1,52 @@
 //! Least-cost walks over any graph: the route calculation that OSPF and IS-IS share.
+//!
+//! There are two kinds of graphs. A `CostGraph` has arcs, and `least_walks` finds the walks from one root. `Segment`s
+//! join vertices as LANs and links join routers, each standing for the arcs between all its ports, and `segment_walks`
+//! finds the walks from every vertex. What is found are `LeastWalks`: how far each vertex is and with which first hops
+//! one goes there (RFC 2328, section 16.1, its stages (1) and (2); RFC 1195, annex C). A route is the best of some
+//! `Offer`s over them.
+//!
+//! | File | What it holds |
+//! |---|---|
+//! | `graph`, `segment` | the two kinds of graphs |
+//! | `walks`, `offers`, `number_lists` | what is known of the walks from a root, and the best of offers |
+//! | `relax`, `rows`, `hops` | over arcs: distances by relaxing, and first hops by the distances from where arcs lead |
+//! | `flood`, `outlets`, `over_segments` | over segments: the same, one segment at a time in place of its arcs |
+//! | `union` | numbers below a bound, and in order |
+//!
+//! A segment of n ports is relaxed in time n, and not in that of its n(n - 1) arcs: from its least entry, the least
+//! distance of a vertex and the cost of its port, no other one of them gains. So all roots of n vertices with p ports
+//! take time n p for each sweep that lets distances fall, and n p once for the vertices of each segment that are nearest
+//! to each vertex; the first hops of a root are then read, not searched. A caller that is proved: `ZoneWalks::build` of
+//! `zone_graph`.
 #![tactic(auto)]
 
+// graphs
 mod graph;
-mod hops;
+mod segment;
+
+// what is known of the walks from a root
+mod number_lists;
 mod offers;
+mod walks;
+
+// walks over arcs
+mod hops;
 mod relax;
 mod rows;
+
+// walks over segments
+mod flood;
+mod outlets;
+mod over_segments;
+
+// numbers
 mod union;
-mod walks;
 
 pub use graph::CostGraph;
 pub use offers::Offer;
+pub use over_segments::segment_walks;
+pub use segment::{Port, Segment};
 pub use std::alloc::AllocError as OutOfMemory;
 pub use union::{push_below, put_in_order};
-pub use walks::{LeastWalks, all_least_walks, least_walks};
+pub use walks::{LeastWalks, least_walks};

@@ -65,10 +65,7 @@ impl LeastWalks {
         if total != cost {
             return Ok(());
         }
-        match self.hops.get(offer.at as usize) {
-            Some(towards) => push_below(hops, towards.as_slice(), count),
-            None => Ok(()),
-        }
+        push_below(hops, self.hops_to(offer.at), count)
     }
 
     /// What an offer costs at the root in all, and `None` where it isn't reached.
@@ -82,7 +79,7 @@ impl LeastWalks {
 }
 
 /// The least of two costs, of which either may be missing.
-fn least_of(one: Option<u64>, other: Option<u64>) -> Option<u64>
+pub fn least_of(one: Option<u64>, other: Option<u64>) -> Option<u64>
     ensures { result ≡ least_cost_of one other }
 {
     match (one, other) {

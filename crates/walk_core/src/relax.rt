@@ -1,7 +1,7 @@
 ghost use Rattle.std.specs.Prelude.{◌≡◌, ◌+◌, ◌*◌, ◌^◌, ◌<◌, ◌≤◌, ◌↔◌, ℕ, length, IsTrue, Some, slice_set, if◌then◌else◌, IfOk};
 ghost use Rattle.std.specs.Bool.{OnTrue, OnFalse};
 ghost use Rattle.walk_core.specs.Distances.{distance_at, AreDistances};
-ghost use Rattle.walk_core.specs.Relaxing.{weight_of, HaveRoom, IsTightFrom, Relaxes};
+ghost use Rattle.walk_core.specs.steps.Relaxing.{weight_of, HaveRoom, IsTightFrom, Relaxes};
 
 use crate::rows::Distances;
 use crate::{CostGraph, OutOfMemory};
@@ -69,7 +69,7 @@ fn relax_from<G: CostGraph>(graph: &G, u: u32, distances: &mut [Option<u64>]) ->
 }
 
 /// Notes that some walk to v costs `found`: whether none that was known cost as little.
-fn relax(distances: &mut [Option<u64>], v: u32, found: u64) -> bool
+pub fn relax(distances: &mut [Option<u64>], v: u32, found: u64) -> bool
     requires { v < length distances.old }
     ensures falls { IsTrue result ↔ (found < weight_of (distance_at distances.old v)) }
     ensures after { distances.new ≡

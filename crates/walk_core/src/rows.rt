@@ -1,5 +1,5 @@
-ghost use Rattle.std.specs.Prelude.{◌≡◌, ◌<◌, ◌*◌, ◌^◌, ℕ, length, slice_index_or, [], IfOk};
-ghost use Rattle.walk_core.specs.Distances.{distance_at, distance_between, AreRows, IsRow, KnowsEnds};
+ghost use Rattle.std.specs.Prelude.{◌≡◌, ◌<◌, length, IfOk};
+ghost use Rattle.walk_core.specs.Distances.{distance_at, distance_between, KnowsEnds};
 
 use crate::relax::{distance_at, distances_from};
 use crate::{CostGraph, OutOfMemory};
@@ -66,17 +66,6 @@ pub fn distance_between(rows: &[Distances], u: u32, v: u32) -> Option<u64>
         Some(row) => row.at(v),
         None => None,
     }
-}
-
-/// The distances from every vertex.
-pub fn all_rows<G: CostGraph>(alloc: Global, graph: &G) -> Result<Vec<Distances>, OutOfMemory>
-    ensures { IfOk result (λ rows. AreRows (G.has_arc graph.now) (G.vertex_count graph.now) (G.vertex_count graph.now) rows.items) }
-{
-    let mut rows = Vec::new(alloc);
-    for u in 0..graph.vertices() {
-        rows.push(distances_from(alloc, graph, u)?)?;
-    }
-    Ok(rows)
 }
 
 /// The distances from each vertex that an arc from the root leads to.

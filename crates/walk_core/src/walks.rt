@@ -1,10 +1,11 @@
 ghost use Rattle.std.specs.Prelude.{◌≡◌, ◌<◌, ◌⊎◌, length, IfOk};
-ghost use Rattle.walk_core.specs.Distances.{IsRow, KnowsEnds};
-ghost use Rattle.walk_core.specs.Reach.{AreLeastWalks, AreNear, AreWalksBelow};
+ghost use Rattle.walk_core.specs.Distances.{IsDistanceRow, KnowsEnds};
+ghost use Rattle.walk_core.specs.Reach.{AreLeastWalks, AreNear};
 
-use crate::hops::{Departure, FirstHops, departures_from};
+use crate::hops::{Departure, departures_from, find_first_hops};
+use crate::number_lists::NumberLists;
 use crate::relax::distances_from;
-use crate::rows::{Distances, all_rows, rows_beyond};
+use crate::rows::{Distances, rows_beyond};
 use crate::{CostGraph, OutOfMemory};
 use std::alloc::Global;
 use std::marker::Model;
@@ -13,16 +14,18 @@ use std::marker::Model;
 /// which first hops one goes there.
 #[derive(Debug, Drop)]
 pub struct LeastWalks {
-    distances: Distances,
-    pub(crate) hops: Vec<FirstHops>,
+    pub(crate) distances: Distances,
+    pub(crate) hops: NumberLists,
 }
 
 impl Model for LeastWalks {
-    ghost use Rattle.walk_core.specs.Reach.{Reach};
+    ghost use Rattle.walk_core.specs.Reach.{Reach, AreAscending};
 
     ghost Value = { Reach };
 
-    ghost view = { λ w. record { distances = w.distances; hops = w.hops.items } };
+    ghost view = { λ w. record { distances = w.distances; hops = w.hops } };
+
+    ghost invariant = { λ w. AreAscending w.hops };
 }
 
 /// The least-cost walks from the root, over walks of any length. In the graph
@@ -51,23 +54,6 @@ pub fn least_walks<G: CostGraph>(
     walks_over(alloc, graph, root, distances, rows.as_slice())
 }
 
-/// The least-cost walks from every vertex, in the order of their numbers. The distances from each are found once, and
-/// the first hops of one are found by the distances from the others.
-pub fn all_least_walks<G: CostGraph>(
-    alloc: Global,
-    graph: &G,
-) -> Result<Vec<LeastWalks>, OutOfMemory>
-    ensures { IfOk result (λ all. AreWalksBelow (G.has_arc graph.now) (G.vertex_count graph.now) (G.vertex_count graph.now) all.items) }
-{
-    let rows = all_rows(alloc, graph)?;
-    let mut all = Vec::new(alloc);
-    for root in 0..graph.vertices() {
-        let distances = rows[root as usize].copied()?;
-        all.push(walks_over(alloc, graph, root, distances, rows.as_slice())?)?;
-    }
-    Ok(all)
-}
-
 /// The least-cost walks from the root, by its distances and those from where its arcs lead.
 fn walks_over<G: CostGraph>(
     alloc: Global,
@@ -77,17 +63,17 @@ fn walks_over<G: CostGraph>(
     rows: &[Distances],
 ) -> Result<LeastWalks, OutOfMemory>
     requires root { root < G.vertex_count graph.now }
-    requires row { IsRow (G.has_arc graph.now) (G.vertex_count graph.now) root distances }
+    requires row { IsDistanceRow (G.has_arc graph.now) (G.vertex_count graph.now) root distances }
     requires ends { KnowsEnds (G.has_arc graph.now) root rows.now }
     ensures least { IfOk result (AreLeastWalks (G.has_arc graph.now) root) }
     ensures near { IfOk result (AreNear (G.vertex_count graph.now)) }
 {
     let departures = departures_from(alloc, graph, root)?;
-    let mut hops = Vec::new(alloc);
+    let mut hops = NumberLists::none(alloc);
+    let mut found = Vec::new(alloc);
     for v in 0..most_ends(departures.as_slice(), graph.vertices()) {
-        let distance = distances.at(v);
-        let towards = FirstHops::towards(alloc, departures.as_slice(), rows, v, distance)?;
-        hops.push(towards)?;
+        find_first_hops(&mut found, departures.as_slice(), rows, v, distances.at(v))?;
+        hops.push(found.as_slice())?;
     }
     Ok(LeastWalks { distances, hops })
 }
@@ -101,7 +87,8 @@ fn most_ends(departures: &[Departure], vertices: u32) -> u32
 
 impl LeastWalks {
     ghost use Rattle.std.specs.Prelude.{◌≡◌, ◌↔◌, IsTrue};
-    ghost use Rattle.walk_core.specs.Reach.{distance_of, HasHop};
+    ghost use Rattle.std.specs.List.Sorted.{IsStrictlyIncreasing};
+    ghost use Rattle.walk_core.specs.Reach.{distance_of, listed_hops_of, HasHop};
 
     /// The least cost of a walk from the root to v, and None where no walk leads there.
     pub fn distance(&self, v: u32) -> Option<u64>
@@ -115,9 +102,15 @@ impl LeastWalks {
     pub fn first_hop(&self, v: u32, h: u32) -> bool
         ensures { IsTrue result ↔ HasHop self.now v h }
     {
-        match self.hops.get(v as usize) {
-            Some(hops) => hops.contains(h),
-            None => false,
-        }
+        self.hops_to(v).contains(&h)
+    }
+
+    /// The first hops towards v, in ascending order: those with which the least-cost walks to v begin. There are none
+    /// towards the root itself, nor where no walk leads.
+    pub fn hops_to(&self, v: u32) -> &[u32]
+        ensures hops { result.now ≡ listed_hops_of self.now v }
+        ensures ascending { IsStrictlyIncreasing result.now }
+    {
+        self.hops.at(v as usize)
     }
 }

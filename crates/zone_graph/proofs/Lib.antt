@@ -1,3 +1,4 @@
 pub mod LinkFacts
-pub mod AdjacencyFacts
-pub mod RowFacts
+pub mod AttachmentFacts
+pub mod RunFacts
+pub mod WalkFacts

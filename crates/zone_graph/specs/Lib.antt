@@ -1,4 +1,2 @@
-pub mod LinkLists
-pub mod Graphs
 pub mod Walks
-pub mod GraphFacts
+pub mod steps

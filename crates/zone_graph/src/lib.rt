@@ -1,9 +1,26 @@
-//! The adjacencies of one zone of a network, and the least walks over them from every router.
+//! The adjacencies of one zone of a network, an OSPF area or a level of IS-IS, and the least walks over them from every
+//! router (RFC 2328, section 16.1; RFC 1195).
+//!
+//! Routers are adjacent where both have an interface on one subnet that forms adjacencies in the zone. So a subnet is a
+//! segment, with a port for each such interface, and a LAN of n routers takes n ports in place of n(n - 1) arcs:
+//!
+//! ```text
+//!   R1    R2    R3
+//!   |5    |7    |7      R1 reaches R2 and R3 at 5, R2 and R3 reach the others at 7
+//!   '-----+-----'
+//! ```
+//!
+//! | File | What it holds |
+//! |---|---|
+//! | `links` | the interfaces of a router that may take part in an adjacency |
+//! | `attachments` | those of all routers, in the order of their subnets; level 1 joins the routers of one IS-IS area |
+//! | `segments` | the segments that they make, which stand for the adjacencies (`AreZoneSegments`) |
+//! | `zone_walks` | the least walks over them |
 #![tactic(auto)]
 
-mod arcs;
+mod attachments;
 mod links;
-mod zone_graph;
+mod segments;
 mod zone_walks;
 
 pub use std::alloc::AllocError as OutOfMemory;

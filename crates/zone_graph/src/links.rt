@@ -1,19 +1,19 @@
-ghost use Rattle.std.specs.Prelude.{◌≡◌, ◌↔◌, Any, IfOk, IsTrue, length};
+ghost use Rattle.std.specs.Prelude.{◌≡◌, ◌↔◌, IsTrue};
 ghost use Rattle.net_model.specs.Links.{IsLink};
 ghost use Rattle.net_model.specs.Network.{RunsIn};
-ghost use Rattle.zone_graph.specs.LinkLists.{AreAllLinks, IsLinkAt};
+ghost use Rattle.zone_graph.specs.steps.LinkLists.{IsLinkAt};
 
 use crate::OutOfMemory;
 use net_addr::Prefix;
-use net_model::{Interface, Net, Zone, cost_in};
+use net_model::{Interface, Zone, cost_in};
 use std::alloc::Global;
 use std::marker::Model;
 
 /// An interface that may take part in an adjacency of a zone: its subnet, and what it costs to send on it.
 #[derive(Clone, Copy, Debug)]
 pub(crate) struct Link {
-    subnet: Prefix,
-    cost: u32,
+    pub(crate) subnet: Prefix,
+    pub(crate) cost: u32,
 }
 
 /// The interfaces of a router that may take part in an adjacency of a zone.
@@ -32,9 +32,8 @@ impl Model for Links {
 }
 
 impl Links {
-    ghost use Rattle.std.specs.Prelude.{◌≡◌, ◌+◌, ◌≤◌, IfOk, OnOk, count_by, length, vec_len};
-    ghost use Rattle.zone_graph.specs.Graphs.{AddsArcs};
-    ghost use Rattle.zone_graph.specs.LinkLists.{AreLinksOf, MeetAt};
+    ghost use Rattle.std.specs.Prelude.{◌≡◌, IfOk};
+    ghost use Rattle.zone_graph.specs.steps.LinkLists.{AreLinksOf};
 
     /// Those of these interfaces that may take part in an adjacency of the zone.
     pub(crate) fn among(
@@ -42,8 +41,7 @@ impl Links {
         zone: Zone,
         interfaces: &[Interface],
     ) -> Result<Links, OutOfMemory>
-        ensures exact { IfOk result (AreLinksOf zone interfaces.now) }
-        ensures few { IfOk result (λ links. length links ≤ count_by (λ i. i.up) interfaces.now) }
+        ensures { IfOk result (AreLinksOf zone interfaces.now) }
     {
         let mut all = Vec::new(alloc);
         for interface in interfaces {
@@ -54,42 +52,12 @@ impl Links {
         Ok(Links { all })
     }
 
-    /// Adds an arc to `v` for each of the links that shares its subnet with one of the others.
-    pub(crate) fn push_arcs(
-        &self,
-        arcs: &mut Vec<(u32, u32)>,
-        others: &Links,
-        v: u32,
-    ) -> Result<(), OutOfMemory>
-        ensures adds { OnOk result (AddsArcs arcs.old.items arcs.new.items v (MeetAt self.now others.now)) }
-        ensures few { OnOk result (vec_len arcs.new ≤ vec_len arcs.old + length self.now) }
+    /// The links as a slice.
+    pub(crate) fn as_slice(&self) -> &[Link]
+        ensures { result.now ≡ self.now }
     {
-        for near in &self.all {
-            if meets_some(*near, others.all.as_slice()) {
-                arcs.push((v, near.cost))?;
-            }
-        }
-        Ok(())
+        self.all.as_slice()
     }
-}
-
-/// The links of every router, by its number.
-pub(crate) fn all_links(alloc: Global, net: &Net, zone: Zone) -> Result<Vec<Links>, OutOfMemory>
-    ensures { IfOk result (λ links. AreAllLinks net.now zone (length net.now) links.items) }
-{
-    let mut all = Vec::new(alloc);
-    for u in 0..net.routers() {
-        let config = net.config(u);
-        all.push(Links::among(alloc, zone, config.interfaces.as_slice())?)?;
-    }
-    Ok(all)
-}
-
-/// Whether one of the others has the link's subnet.
-fn meets_some(near: Link, others: &[Link]) -> bool
-    ensures { IsTrue result ↔ Any (λ far. near.subnet ≡ far.subnet) others.now }
-{
-    others.iter().any(|far| near.subnet == far.subnet)
 }
 
 /// The interface as a link, where it may take part in an adjacency of the zone (RFC 2328, section 16.1; RFC 1195).

@@ -4,11 +4,11 @@ ghost use Rattle.net_model.specs.Network.{Adjacent};
 ghost use Rattle.zone_graph.specs.Walks.{AreZoneWalks};
 
 use crate::OutOfMemory;
-use crate::zone_graph::ZoneGraph;
+use crate::segments::zone_segments;
 use net_model::{Net, Zone};
 use std::alloc::Global;
 use std::marker::Model;
-use walk_core::{LeastWalks, all_least_walks};
+use walk_core::{LeastWalks, segment_walks};
 
 /// The least walks of one zone of a network, from every router.
 #[derive(Debug, Drop)]
@@ -30,8 +30,8 @@ impl ZoneWalks {
     pub fn build(alloc: Global, net: &Net, zone: Zone) -> Result<ZoneWalks, OutOfMemory>
         ensures { IfOk result (AreZoneWalks net.now zone) }
     {
-        let graph = ZoneGraph::build(alloc, net, zone)?;
-        let all = all_least_walks(alloc, &graph)?;
+        let segments = zone_segments(alloc, net, zone)?;
+        let all = segment_walks(alloc, segments.as_slice(), net.routers())?;
         Ok(ZoneWalks { all })
     }
 

@@ -1,6 +1,6 @@
 use Rattle.std.proofs.Common.{◌<◌, ℕ, Contains}
 use Rattle.walk_core.specs.declared.hops.Departure.{Departure}
-use Rattle.walk_core.specs.Departures.{LeavesTo}
+use Rattle.walk_core.specs.steps.Departures.{LeavesTo}
 use Rattle.walk_core.proofs.hops.departures_from.Given as goal
 
 abbrev pub invariant-loop-i : goal.invariant-loop-i

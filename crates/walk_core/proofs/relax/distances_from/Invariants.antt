@@ -1,5 +1,5 @@
 use Rattle.std.proofs.Common.{◌≡◌, length}
-use Rattle.walk_core.specs.Relaxing.{AreWalked, HaveRoom, total_weight}
+use Rattle.walk_core.specs.steps.Relaxing.{AreWalked, HaveRoom, total_weight}
 use Rattle.walk_core.proofs.relax.distances_from.Given as goal
 
 abbrev pub invariant-loop : goal.invariant-loop

@@ -1,6 +1,6 @@
 use Rattle.std.proofs.Common.{◌<◌, ℕ}
 use Rattle.std.specs.Bool.{OnFalse}
-use Rattle.walk_core.specs.Relaxing.{IsTightFrom, Relaxes}
+use Rattle.walk_core.specs.steps.Relaxing.{IsTightFrom, Relaxes}
 use Rattle.walk_core.proofs.relax.relax_all.Given as goal
 
 abbrev pub invariant-loop-u : goal.invariant-loop-u

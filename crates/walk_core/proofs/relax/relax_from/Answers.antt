@@ -1,6 +1,6 @@
 use Rattle.std.proofs.Common.{◌≡◌, ◌+◌, ◌<◌, ℕ, ◌||◌, Some, length, sym, ◌∙◌, subst, arith, IsTrue, ◌↔◌, cond, set}
 use Rattle.walk_core.specs.Distances.{distance_at}
-use Rattle.walk_core.specs.Relaxing.{weight_of}
+use Rattle.walk_core.specs.steps.Relaxing.{weight_of}
 use Rattle.walk_core.proofs.RelaxLaws.{IsRelaxed, relaxed, relaxes_on, tight_more}
 use Rattle.walk_core.proofs.relax.relax_from.Goals as goal
 use Rattle.walk_core.proofs.relax.relax_from.Goals.{then-relax, else-relax}
@@ -21,7 +21,11 @@ loop-i-preserved g c =
     let P : ℕ × ℕ → Type 0 = λ p. arc c.args.u p.0 p.1 in
     subst P (sym e) listed
     in
-    let end : c.arc-v.result.0 < length now = omega (arith, laws.end_is_vertex c.args.graph.now c.args.u c.arc-v.result.0 c.arc-v.result.1 c.requires.vertex over) in
+    let end : c.arc-v.result.0 < length now = omega (
+      arith,
+      laws.end_is_vertex c.args.graph.now c.args.u c.arc-v.result.0 c.arc-v.result.1 c.requires.vertex
+          over,
+    ) in
     let falls : IsTrue c.relax.result ↔ (c.in-Some.near + c.arc-v.result.1 < weight_of (distance_at now c.arc-v.result.0)) =
     rw cost at c.relax.ensures.falls
     in

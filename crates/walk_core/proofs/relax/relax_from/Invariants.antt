@@ -1,7 +1,7 @@
 use Rattle.std.proofs.Common.{◌≡◌, ◌+◌, ◌<◌, ℕ, Some}
 use Rattle.std.specs.Bool.{OnFalse}
 use Rattle.walk_core.specs.Distances.{distance_at}
-use Rattle.walk_core.specs.Relaxing.{IsAtMost, Relaxes}
+use Rattle.walk_core.specs.steps.Relaxing.{IsAtMost, Relaxes}
 use Rattle.walk_core.proofs.relax.relax_from.Given as goal
 
 abbrev pub invariant-loop-i : goal.invariant-loop-i

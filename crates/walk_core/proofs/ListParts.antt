@@ -1,0 +1,52 @@
+-- Spans of one list of numbers as lists.
+use Rattle.std.proofs.Common.{◌≡◌, ℕ, ◌-◌, ◌≤◌, List, [], ◌∷◌, ◌++◌, length, length-append, take, drop, refl, sym, ap, ◌∙◌, arith}
+use Rattle.std.proofs.lemmas.List.{drop-append-le, drop_at, take-append-le, take_all, map-append, length-drop}
+use Rattle.std.proofs.lemmas.List.Elements.{All-head, All-tail, All-append, All-cons, All-nil, All-weaker}
+use Rattle.walk_core.specs.steps.NumberLists.{part_of, lists_of, IsWithin, AreSpansWithin}
+use Rattle.walk_core.specs.declared.number_lists.Span.{Span}
+
+-- more numbers behind the others change no span
+pub part_stays : (numbers more : List ℕ) (span : Span) → IsWithin numbers span → part_of (numbers ++ more) span ≡ part_of numbers span
+part_stays numbers more span is =
+    let inside : span.start ≤ length numbers = omega (arith, is.ordered, is.within) in
+    let left : drop span.start (numbers ++ more) ≡ drop span.start numbers ++ more = drop-append-le span.start numbers more inside in
+    let long : span.end - span.start ≤ length (drop span.start numbers) = omega (arith, length-drop span.start numbers, is.ordered, is.within) in
+    ap (take (span.end - span.start)) left ∙ take-append-le (span.end - span.start) (drop span.start numbers) more long
+
+pub lists_stay : (numbers more : List ℕ) (spans : List Span) → AreSpansWithin numbers spans → lists_of (numbers ++ more) spans ≡ lists_of numbers spans
+lists_stay numbers more [] are = refl
+lists_stay numbers more (span ∷ spans) are =
+    ap (λ (l : List ℕ). l ∷ lists_of (numbers ++ more) spans) (part_stays numbers more span (All-head (IsWithin numbers) span spans are))
+    ∙ ap (λ (l : List (List ℕ)). part_of numbers span ∷ l) (lists_stay numbers more spans (All-tail (IsWithin numbers) span spans are))
+
+-- the span of the last numbers is the list that came
+pub part_behind : (numbers more : List ℕ) (span : Span) → span.start ≡ length numbers → span.end ≡ length (numbers ++ more) →
+    part_of (numbers ++ more) span ≡ more
+part_behind numbers more span starts ends =
+    let rest : drop span.start (numbers ++ more) ≡ more = drop_at numbers more span.start (sym starts) in
+    let long : length more ≤ span.end - span.start = omega (arith, starts, ends, length-append numbers more) in
+    ap (take (span.end - span.start)) rest ∙ take_all (span.end - span.start) more long
+
+pub lists_more : (numbers more : List ℕ) (spans : List Span) (span : Span) → AreSpansWithin numbers spans → span.start ≡ length numbers →
+    span.end ≡ length (numbers ++ more) → lists_of (numbers ++ more) (spans ++ span ∷ []) ≡ lists_of numbers spans ++ more ∷ []
+lists_more numbers more spans span are starts ends =
+    map-append (part_of (numbers ++ more)) spans (span ∷ [])
+    ∙ ap (λ (l : List (List ℕ)). l ++ part_of (numbers ++ more) span ∷ []) (lists_stay numbers more spans are)
+    ∙ ap (λ (l : List ℕ). lists_of numbers spans ++ l ∷ []) (part_behind numbers more span starts ends)
+
+-- spans stay within when numbers come behind
+pub within_more : (numbers more : List ℕ) (spans : List Span) → AreSpansWithin numbers spans → AreSpansWithin (numbers ++ more) spans
+within_more numbers more spans are =
+    All-weaker (IsWithin numbers) (IsWithin (numbers ++ more)) (λ span is. record {
+      ordered = is.ordered;
+      within = omega (arith, length-append numbers more, is.within);
+    }) spans are
+
+pub within_push : (numbers more : List ℕ) (spans : List Span) (span : Span) → AreSpansWithin numbers spans → span.start ≡ length numbers →
+    span.end ≡ length (numbers ++ more) → AreSpansWithin (numbers ++ more) (spans ++ span ∷ [])
+within_push numbers more spans span are starts ends =
+    All-append (IsWithin (numbers ++ more)) spans (span ∷ []) (within_more numbers more spans are)
+    (All-cons (IsWithin (numbers ++ more)) span [] (record {
+      ordered = omega (arith, length-append numbers more);
+      within = omega (arith);
+    }) (All-nil (IsWithin (numbers ++ more))))

@@ -1,0 +1,23 @@
+use Rattle.std.proofs.Common.{◌≡◌, ℕ, List, Option, subst}
+use Rattle.walk_core.specs.steps.Cheapest.{IsCheapest, NoneHasCost}
+use Rattle.walk_core.specs.steps.Flooding.{cost_onto, segment_at}
+use Rattle.walk_core.specs.declared.segment.Port.{Port}
+use Rattle.walk_core.proofs.FloodLaws.{level_lowered, level_unreached, ports_are}
+use Rattle.walk_core.proofs.flood.flood.Goals as goal
+
+pub returns-in-Some-clause-level : goal.returns-in-Some-clause-level
+returns-in-Some-clause-level c =
+    let old : List (Option ℕ) = c.args.distances.now in
+    let segment : List Port = segment_at c.args.segments.now c.args.place in
+    let ports : c.as_slice.result.now ≡ segment = ports_are c.args.segments.now c.args.place c.index-segments-place.result c.as_slice.result.now
+    c.requires.place c.index-segments-place.is c.as_slice.ensures in
+    level_lowered segment old c.lower.new.distances c.in-Some.found c.lower.result
+    (subst (λ (l : List Port). IsCheapest (cost_onto old) l c.in-Some.found) ports c.in-Some.ensures) c.lower.ensures.relaxes.same c.lower.ensures.lowered
+
+pub returns-in-None-clause-level : goal.returns-in-None-clause-level
+returns-in-None-clause-level c =
+    let old : List (Option ℕ) = c.args.distances.now in
+    let segment : List Port = segment_at c.args.segments.now c.args.place in
+    let ports : c.as_slice.result.now ≡ segment = ports_are c.args.segments.now c.args.place c.index-segments-place.result c.as_slice.result.now
+    c.requires.place c.index-segments-place.is c.as_slice.ensures in
+    level_unreached segment old (subst (λ (l : List Port). NoneHasCost (cost_onto old) l) ports c.in-None.ensures)

@@ -1,0 +1,6 @@
+pub mod NumberLists
+pub mod Relaxing
+pub mod Departures
+pub mod Cheapest
+pub mod Flooding
+pub mod SegmentWalks

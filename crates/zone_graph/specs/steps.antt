@@ -1,0 +1,3 @@
+pub mod LinkLists
+pub mod Attachments
+pub mod Runs
