@@ -1,3 +1,4 @@
 mod MatchSteps
 pub mod TableLaws
+pub mod RowLaws
 pub mod HopLaws

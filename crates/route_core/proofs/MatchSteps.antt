@@ -5,7 +5,7 @@ use Rattle.net_addr.specs.Addresses.{Block, ContainsAddress, IsBlock}
 use Rattle.net_addr.specs.LongestMatches.{IsMatch, TakesLonger}
 use Rattle.net_addr.specs.declared.matches.Match.{Match}
 use Rattle.net_addr.proofs.LongestMatchLaws.{IsMatch-out, IsMatch-in}
-use Rattle.route_core.specs.Matches.{AreBlocks}
+use Rattle.route_core.specs.steps.Matches.{AreBlocks}
 
 -- what the search does with the next prefix, at its place in the list
 abbrev pub Step : ℕ → ℕ → Option Match → Block → Option Match → Type 0

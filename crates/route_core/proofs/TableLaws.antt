@@ -9,7 +9,7 @@ use Rattle.net_addr.specs.Addresses.{Block}
 use Rattle.net_addr.specs.LongestMatches.{IsLongestMatch, LongestAt}
 use Rattle.route_core.specs.declared.entry.Entry.{Entry}
 use Rattle.route_core.specs.Tables.{HasDistinctPrefixes, IsListed, LongestEntry, table_prefixes}
-use Rattle.route_core.specs.Matches.{AreBlocks}
+use Rattle.route_core.specs.steps.Matches.{AreBlocks}
 
 -- what stands at a place of a list is in the list
 pub Contains-from_place : {X : Type 0} (xs : List X) (i : ℕ) (x : X) → slice_get xs i ≡ Some x → Contains xs x
@@ -18,11 +18,6 @@ Contains-from_place xs i x h = (i, slice_get_within xs i x h, get_or_from_slice_
 -- what is in a list stands at some place of it
 pub place_from_Contains : {X : Type 0} (xs : List X) (x : X) → Contains xs x → (i : ℕ) × (slice_get xs i ≡ Some x)
 place_from_Contains xs x h = (h.0, slice_get-get_or xs h.0 x h.1 ∙ ap Some h.2)
-
--- what was read at a place stands there
-pub place_read : {X : Type 0} (items xs : List X) (i : ℕ) (x : X) → items ≡ xs → i < length xs → x ≡ get_or items i x → slice_get xs i ≡ Some x
-place_read items xs i x same below read =
-    slice_get-get_or xs i x below ∙ ap Some (sym (read ∙ ap (λ ys. get_or ys i x) same))
 
 -- an empty table has no prefix twice
 pub HasDistinctPrefixes-nil : HasDistinctPrefixes []

@@ -1,3 +1,4 @@
 pub mod Hops
 pub mod Tables
-pub mod Matches
+pub mod Rows
+pub mod steps

@@ -1,20 +1,20 @@
 ghost use Rattle.std.specs.Prelude.{◌≡◌, ◌⊎◌, MatchOption};
 ghost use Rattle.net_addr.specs.Addresses.{ContainsAddress, IsBlock};
 ghost use Rattle.net_addr.specs.LongestMatches.{IsMatch, TakesLonger};
-ghost use Rattle.route_core.specs.Tables.{table_prefixes};
-ghost use Rattle.route_core.specs.Matches.{AreBlocks};
+ghost use Rattle.route_core.specs.steps.Matches.{AreBlocks};
+ghost use Rattle.route_core.specs.Rows.{row_prefixes};
 
-use crate::entry::Entry;
+use crate::row::Row;
 use net_addr::{Match, Prefix};
 
-/// The longest match of the address `a` among the prefixes of these entries.
-pub fn longest_match(entries: &[(Prefix, Entry)], a: u32) -> Option<Match>
-    ensures cases { IsMatch (table_prefixes entries.now) a result }
-    ensures blocks { AreBlocks (table_prefixes entries.now) a }
+/// The longest match of the address `a` among the prefixes of these rows.
+pub fn longest_match(rows: &[Row], a: u32) -> Option<Match>
+    ensures cases { IsMatch (row_prefixes rows.now) a result }
+    ensures blocks { AreBlocks (row_prefixes rows.now) a }
 {
     let mut best = None;
-    for (place, entry) in entries.iter().enumerate() {
-        best = longer(best, place, entry.0, a);
+    for (place, row) in rows.iter().enumerate() {
+        best = longer(best, place, row.dest, a);
     }
     best
 }

@@ -4,41 +4,50 @@ ghost use Rattle.route_core.specs.declared.entry.Entry.{Entry};
 ghost use Rattle.net_addr.specs.LongestMatches.{HasNoMatch, LongestAt};
 ghost use Rattle.route_core.specs.Tables.{HasDistinctPrefixes, IsListed, LongestEntry, table_prefixes};
 
+use crate::OutOfMemory;
+use crate::builder::TableBuilder;
 use crate::entries::Entries;
 use crate::entry::Entry;
 use crate::matches::longest_match;
+use crate::row::Row;
 use net_addr::Prefix;
-use std::alloc::{AllocError as OutOfMemory, Global};
+use std::alloc::Global;
 use std::marker::Model;
 
-/// The route table of one router: entries for prefixes, no two for the same prefix.
+/// The route table of one router: entries for prefixes, no two for the same prefix. Prefixes may share an entry, which
+/// is kept once.
 #[derive(Debug, Drop)]
 pub struct Table {
-    all: Vec<(Prefix, Entry)>,
+    pub(crate) entries: Vec<Entry>,
+    pub(crate) rows: Vec<Row>,
 }
 
 impl Model for Table {
     ghost use Rattle.std.specs.Prelude.{List};
     ghost use Rattle.net_addr.specs.Addresses.{Block};
     ghost use Rattle.route_core.specs.declared.entry.Entry.{Entry};
-    ghost use Rattle.route_core.specs.Tables.{HasDistinctPrefixes};
+    ghost use Rattle.route_core.specs.Rows.{AreTableRows, listed_rows};
 
     ghost Value = { List (Block × Entry) };
 
-    ghost view = { λ x. x.all.items };
+    ghost view = { λ x. listed_rows x.entries.items x.rows.items };
 
-    ghost invariant = { λ x. HasDistinctPrefixes x.all.items };
+    ghost invariant = { λ x. AreTableRows x.entries.items x.rows.items };
 }
 
 impl Table {
     /// The table of these entries, in their order.
-    pub fn from_entries(_alloc: Global, entries: Entries) -> Result<Table, OutOfMemory>
+    pub fn from_entries(alloc: Global, entries: Entries) -> Result<Table, OutOfMemory>
         requires { HasDistinctPrefixes entries }
         ensures { IfOk result (λ table. table ≡ entries) }
     {
-        Ok(Table {
-            all: entries.into_vec(),
-        })
+        let all = entries.into_vec();
+        let mut builder = TableBuilder::with_capacity(alloc, all.len())?;
+        for (dest, entry) in all {
+            let number = builder.keep(entry)?;
+            builder.add(dest, number)?;
+        }
+        Ok(builder.finish())
     }
 
     /// How many entries there are.
@@ -46,7 +55,7 @@ impl Table {
         ensures count { result ≡ length self.now }
         ensures distinct { HasDistinctPrefixes self.now }
     {
-        self.all.len()
+        self.rows.len()
     }
 
     /// The prefix of an entry.
@@ -54,7 +63,7 @@ impl Table {
         requires { i < length self.now }
         ensures { (entry : Entry) × (slice_get self.now i ≡ Some (result, entry)) }
     {
-        self.all[i].0
+        self.rows[i].dest
     }
 
     /// What an entry says.
@@ -62,7 +71,7 @@ impl Table {
         requires { i < length self.now }
         ensures { (dest : Block) × (slice_get self.now i ≡ Some (dest, result.now)) }
     {
-        &self.all[i].1
+        &self.entries[self.rows[i].number as usize]
     }
 
     /// The entry with the longest prefix that contains the address `a` (RFC 1812, section 5.2.4.3).
@@ -73,7 +82,7 @@ impl Table {
             LongestEntry (IsListed self.now) a dest entry → slice_get self.now i ≡ Some (dest, entry)) }
         ensures within { IfSome result (λ i. i < length self.now) }
     {
-        let found = longest_match(self.all.as_slice(), a)?;
+        let found = longest_match(self.rows.as_slice(), a)?;
         Some(found.place)
     }
 }

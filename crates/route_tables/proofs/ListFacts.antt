@@ -56,7 +56,8 @@ adds_same old new before after adds same = λ x. (
   λ either. (adds x).1 (⊎_elim (λ earlier. inl earlier) (λ now. inr ((same x).1 now)) either),
 )
 
-pub adds_both : {X : Type 0} (old mid new : List X) (one other both : X → Type 0) → Adds old mid one → Adds mid new other → ((x : X) → both x ↔ (one x ⊎ other x)) → Adds old new both
+pub adds_both : {X : Type 0} (old mid new : List X) (one other both : X → Type 0) → Adds old mid one → Adds mid new other →
+    ((x : X) → both x ↔ (one x ⊎ other x)) → Adds old new both
 adds_both old mid new one other both first second same = λ x. (
   λ has. ⊎_elim
       (λ earlier. ⊎_elim (λ older. inl older) (λ now. inr ((same x).1 (inl now))) ((first x).0 earlier))
@@ -99,18 +100,22 @@ adds_more {X} {Y} gives old mid new ys i y within is before adds =
     )))
 
 -- one more element, which gives at most one thing
-pub adds_step : {X Y : Type 0} (gives : X → Y → Type 0) (old mid new : List X) (ys : List Y) (i : ℕ) (y : Y) (one : Option X) → i < length ys → y ≡ get_or ys i y →
-    Adds old mid (λ x. Any (gives x) (take i ys)) → Adds mid new (λ x. one ≡ Some x) → ((x : X) → (one ≡ Some x) ↔ gives x y) → Adds old new (λ x. Any (gives x) (take (i + 1) ys))
+pub adds_step : {X Y : Type 0} (gives : X → Y → Type 0) (old mid new : List X) (ys : List Y) (i : ℕ) (y : Y) (one : Option X) → i < length ys →
+    y ≡ get_or ys i y →
+    Adds old mid (λ x. Any (gives x) (take i ys)) → Adds mid new (λ x. one ≡ Some x) → ((x : X) → (one ≡ Some x) ↔ gives x y) →
+    Adds old new (λ x. Any (gives x) (take (i + 1) ys))
 adds_step gives old mid new ys i y one within is before adds found =
     adds_more gives old mid new ys i y within is before (adds_same mid new (λ x. one ≡ Some x) (λ x. gives x y) adds found)
 
 -- the same, where the element is read with a default
 pub adds_at : {X Y : Type 0} (gives : X → Y → Type 0) (old mid new : List X) (ys : List Y) (i : ℕ) (d : Y) (one : Option X) → i < length ys →
-    Adds old mid (λ x. Any (gives x) (take i ys)) → Adds mid new (λ x. one ≡ Some x) → ((x : X) → (one ≡ Some x) ↔ gives x (get_or ys i d)) → Adds old new (λ x. Any (gives x) (take (i + 1) ys))
+    Adds old mid (λ x. Any (gives x) (take i ys)) → Adds mid new (λ x. one ≡ Some x) → ((x : X) → (one ≡ Some x) ↔ gives x (get_or ys i d)) →
+    Adds old new (λ x. Any (gives x) (take (i + 1) ys))
 adds_at gives old mid new ys i d one within before adds found =
     adds_step gives old mid new ys i (get_or ys i d) one within (get_or_default ys i d (get_or ys i d) within) before adds found
 
-pub adds_end : {X Y : Type 0} (gives : X → Y → Type 0) (old new : List X) (ys : List Y) (i : ℕ) → length ys ≤ i → Adds old new (λ x. Any (gives x) (take i ys)) → Adds old new (λ x. Any (gives x) ys)
+pub adds_end : {X Y : Type 0} (gives : X → Y → Type 0) (old new : List X) (ys : List Y) (i : ℕ) → length ys ≤ i →
+    Adds old new (λ x. Any (gives x) (take i ys)) → Adds old new (λ x. Any (gives x) ys)
 adds_end {X} {Y} gives old new ys i past adds = subst (λ (l : List Y). Adds old new (λ x. Any (gives x) l)) (take_all i ys past) adds
 
 -- Router by router
@@ -127,7 +132,8 @@ below_start gives old = adds_nothing old (AnyBelow gives 0) (λ x any. omega (ar
 pub at_most : (k m : ℕ) → k < m + 1 → (k < m) ⊎ (k ≡ m)
 at_most k m h = elim (cases_lt k m) [ inl less ↦ inl less | inr more ↦ inr (omega arith) ]
 
-pub below_step : {X : Type 0} (gives : ℕ → X → Type 0) (old mid new : List X) (n : ℕ) → Adds old mid (AnyBelow gives n) → Adds mid new (gives n) → Adds old new (AnyBelow gives (n + 1))
+pub below_step : {X : Type 0} (gives : ℕ → X → Type 0) (old mid new : List X) (n : ℕ) → Adds old mid (AnyBelow gives n) → Adds mid new (gives n) →
+    Adds old new (AnyBelow gives (n + 1))
 below_step {X} gives old mid new n before adds =
     adds_both old mid new (AnyBelow gives n) (gives n) (AnyBelow gives (n + 1)) before adds
     (λ x. (
@@ -154,7 +160,8 @@ all_at P ys i y all within is = subst P (sym is) (all i y within)
 -- Lists of lists
 
 -- what holds of each list so far and of one more holds of all of them
-pub each_more : {X : Type 0} (R : ℕ → List X → Type 0) (all : List (List X)) (n : ℕ) (next : List X) → length all ≡ n → ((u : ℕ) → u < n → R u (get_or all u [])) → R n next → (u : ℕ) → u < n + 1 → R u (get_or (all ++ next ∷ []) u [])
+pub each_more : {X : Type 0} (R : ℕ → List X → Type 0) (all : List (List X)) (n : ℕ) (next : List X) → length all ≡ n →
+    ((u : ℕ) → u < n → R u (get_or all u [])) → R n next → (u : ℕ) → u < n + 1 → R u (get_or (all ++ next ∷ []) u [])
 each_more {X} R all n next long before here u below =
     elim (at_most u n below) [
       | inl less ↦ subst (R u) (sym (get_or_append_left all (next ∷ []) [] u (omega arith))) (before u less)
@@ -164,7 +171,8 @@ each_more {X} R all n next long before here u below =
     ]
 
 -- what holds of each element so far and of the next
-pub within_more : {Y : Type 0} (P : Y → Type 0) (ys : List Y) (i : ℕ) (y : Y) → i < length ys → y ≡ get_or ys i y → AllWithin P ys 0 i → P y → AllWithin P ys 0 (i + 1)
+pub within_more : {Y : Type 0} (P : Y → Type 0) (ys : List Y) (i : ℕ) (y : Y) → i < length ys → y ≡ get_or ys i y → AllWithin P ys 0 i → P y →
+    AllWithin P ys 0 (i + 1)
 within_more P ys i y within is before here k d low below = elim (at_most k i below) [
   | inl less ↦ before k d low less
   | inr same ↦

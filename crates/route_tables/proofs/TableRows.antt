@@ -27,7 +27,8 @@ rows_none entry = record {
 }
 
 -- a prefix without an entry adds no row
-pub rows_no_more : (entry : Block → Entry → Type 0) (dests : List Block) (rows : List (Block × Entry)) (p : Block) → AreRows entry dests rows → ((e : Entry) → entry p e → ⊥) → AreRows entry (dests ++ p ∷ []) rows
+pub rows_no_more : (entry : Block → Entry → Type 0) (dests : List Block) (rows : List (Block × Entry)) (p : Block) → AreRows entry dests rows →
+    ((e : Entry) → entry p e → ⊥) → AreRows entry (dests ++ p ∷ []) rows
 rows_no_more entry dests rows p are none = record {
   distinct = are.distinct;
   exact = λ q e. (
@@ -40,7 +41,8 @@ rows_no_more entry dests rows p are none = record {
 }
 
 -- a new prefix with an entry adds its row
-pub rows_more : (entry : Block → Entry → Type 0) (dests : List Block) (rows : List (Block × Entry)) (p : Block) (e : Entry) → ((q : Block) (one other : Entry) → entry q one → entry q other → one ≡ other) → AreRows entry dests rows → (Contains dests p → ⊥) → entry p e →
+pub rows_more : (entry : Block → Entry → Type 0) (dests : List Block) (rows : List (Block × Entry)) (p : Block) (e : Entry) →
+    ((q : Block) (one other : Entry) → entry q one → entry q other → one ≡ other) → AreRows entry dests rows → (Contains dests p → ⊥) → entry p e →
     AreRows entry (dests ++ p ∷ []) (rows ++ (p, e) ∷ [])
 rows_more entry dests rows p e single are new is = record {
   distinct = HasDistinctPrefixes-push rows (p, e) are.distinct (λ f has. new ((are.exact p f).0 has).0);
@@ -68,8 +70,10 @@ rows_more entry dests rows p e single are new is = record {
     pair_same x y a b e f = λ i. (e i, f i)
 
 -- one more row, where there is an entry
-pub rows_step : (entry : Block → Entry → Type 0) (dests : List Block) (rows new : List (Block × Entry)) (p : Block) (found : Option Entry) → ((q : Block) (one other : Entry) → entry q one → entry q other → one ≡ other) → AreRows entry dests rows → (Contains dests p → ⊥) →
-    MatchOption found ((e : Entry) → entry p e → ⊥) (entry p) → MatchOption found (new ≡ rows) (λ e. new ≡ rows ++ (p, e) ∷ []) → AreRows entry (dests ++ p ∷ []) new
+pub rows_step : (entry : Block → Entry → Type 0) (dests : List Block) (rows new : List (Block × Entry)) (p : Block) (found : Option Entry) →
+    ((q : Block) (one other : Entry) → entry q one → entry q other → one ≡ other) → AreRows entry dests rows → (Contains dests p → ⊥) →
+    MatchOption found ((e : Entry) → entry p e → ⊥) (entry p) → MatchOption found (new ≡ rows) (λ e. new ≡ rows ++ (p, e) ∷ []) →
+    AreRows entry (dests ++ p ∷ []) new
 rows_step entry dests rows new p None single are fresh none same =
     subst (λ (l : List (Block × Entry)). AreRows entry (dests ++ p ∷ []) l) (sym same) (rows_no_more entry dests rows p are none)
 rows_step entry dests rows new p (Some e) single are fresh is same =
@@ -87,8 +91,10 @@ not_before dests k apart within has =
     apart has.0 k p before within (read ∙ sym here)
 
 -- the row of the prefix at the next place
-pub rows_at : (entry : Block → Entry → Type 0) (dests : List Block) (k : ℕ) (rows new : List (Block × Entry)) (p : Block) (found : Option Entry) → ((q : Block) (one other : Entry) → entry q one → entry q other → one ≡ other) → AreDistinct dests → k < length dests → p ≡ prefix_at dests k →
-    AreRows entry (take k dests) rows → MatchOption found ((e : Entry) → entry (prefix_at dests k) e → ⊥) (entry (prefix_at dests k)) → MatchOption found (new ≡ rows) (λ e. new ≡ rows ++ (p, e) ∷ []) → AreRows entry (take (k + 1) dests) new
+pub rows_at : (entry : Block → Entry → Type 0) (dests : List Block) (k : ℕ) (rows new : List (Block × Entry)) (p : Block) (found : Option Entry) →
+    ((q : Block) (one other : Entry) → entry q one → entry q other → one ≡ other) → AreDistinct dests → k < length dests → p ≡ prefix_at dests k →
+    AreRows entry (take k dests) rows → MatchOption found ((e : Entry) → entry (prefix_at dests k) e → ⊥) (entry (prefix_at dests k)) →
+    MatchOption found (new ≡ rows) (λ e. new ≡ rows ++ (p, e) ∷ []) → AreRows entry (take (k + 1) dests) new
 rows_at entry dests k rows new p found single apart within here are is same =
     let at : Block = prefix_at dests k in
     let step : AreRows entry (take k dests ++ at ∷ []) new =
@@ -97,7 +103,8 @@ rows_at entry dests k rows new p found single apart within here are is same =
     subst (λ (l : List Block). AreRows entry l new) (sym (take_more dests k all_addresses within)) step
 
 -- the rows for all candidates are the table
-pub rows_are_table : (entry : Block → Entry → Type 0) (dests : List Block) (k : ℕ) (rows : List (Block × Entry)) → length dests ≤ k → AreRows entry (take k dests) rows → ((p : Block) (e : Entry) → entry p e → Contains dests p) → IsTableOf entry rows
+pub rows_are_table : (entry : Block → Entry → Type 0) (dests : List Block) (k : ℕ) (rows : List (Block × Entry)) → length dests ≤ k →
+    AreRows entry (take k dests) rows → ((p : Block) (e : Entry) → entry p e → Contains dests p) → IsTableOf entry rows
 rows_are_table entry dests k rows past are every =
     let all : AreRows entry dests rows = subst (λ (l : List Block). AreRows entry l rows) (take_all k dests past) are in
     record {
@@ -113,7 +120,8 @@ rows_are_table entry dests k rows past are every =
 pub tables_none : (entry : ℕ → Block → Entry → Type 0) → AreTablesBelow entry 0 []
 tables_none entry = record { count = refl; each = λ u below. absurd (omega arith) }
 
-pub tables_more : (entry : ℕ → Block → Entry → Type 0) (n : ℕ) (tables : List (List (Block × Entry))) (next : List (Block × Entry)) → AreTablesBelow entry n tables → IsTableOf (entry n) next → AreTablesBelow entry (n + 1) (tables ++ next ∷ [])
+pub tables_more : (entry : ℕ → Block → Entry → Type 0) (n : ℕ) (tables : List (List (Block × Entry))) (next : List (Block × Entry)) →
+    AreTablesBelow entry n tables → IsTableOf (entry n) next → AreTablesBelow entry (n + 1) (tables ++ next ∷ [])
 tables_more entry n tables next are is = record {
   count = let long = length-append tables (next ∷ []) in omega (arith, are.count);
   each = each_more (λ (u : ℕ). IsTableOf (entry u)) tables n next are.count are.each is;
@@ -122,7 +130,8 @@ tables_more entry n tables next are is = record {
 pub neighbors_none : (neighbor : ℕ → ℕ → Type 0) → AreNeighborsBelow neighbor 0 []
 neighbors_none neighbor = record { count = refl; each = λ u below. absurd (omega arith) }
 
-pub neighbors_more : (neighbor : ℕ → ℕ → Type 0) (n : ℕ) (all : List (List ℕ)) (next : List ℕ) → AreNeighborsBelow neighbor n all → AreNeighborsOf (neighbor n) next → AreNeighborsBelow neighbor (n + 1) (all ++ next ∷ [])
+pub neighbors_more : (neighbor : ℕ → ℕ → Type 0) (n : ℕ) (all : List (List ℕ)) (next : List ℕ) → AreNeighborsBelow neighbor n all →
+    AreNeighborsOf (neighbor n) next → AreNeighborsBelow neighbor (n + 1) (all ++ next ∷ [])
 neighbors_more neighbor n all next are is = record {
   count = let long = length-append all (next ∷ []) in omega (arith, are.count);
   each = each_more (λ (u : ℕ). AreNeighborsOf (neighbor u)) all n next are.count are.each is;
@@ -158,7 +167,8 @@ near_no_more neighbor n all are none v = (
       (at_most v n both.0),
 )
 
-pub near_all : (neighbor : ℕ → Type 0) (routers n : ℕ) (all : List ℕ) → ((v : ℕ) → neighbor v → v < routers) → routers ≤ n → AreNearBelow neighbor n all → AreNeighborsOf neighbor all
+pub near_all : (neighbor : ℕ → Type 0) (routers n : ℕ) (all : List ℕ) → ((v : ℕ) → neighbor v → v < routers) → routers ≤ n → AreNearBelow neighbor n all →
+    AreNeighborsOf neighbor all
 near_all neighbor routers n all inside count are v = (
   λ has. ((are v).0 has).1,
   λ is. (are v).1 (let within : v < routers = inside v is in omega arith, is),
@@ -167,7 +177,8 @@ near_all neighbor routers n all inside count are v = (
 -- The source of tables
 
 -- what a protocol gives the routers is what every source of tables promises
-pub are_lawful : (routers : ℕ) (entry : ℕ → Block → Entry → Type 0) (neighbor : ℕ → ℕ → Type 0) (tables : List (List (Block × Entry))) (neighbors : List (List ℕ)) → IsLawful routers entry neighbor → AreTablesBelow entry routers tables → AreNeighborsBelow neighbor routers neighbors →
+pub are_lawful : (routers : ℕ) (entry : ℕ → Block → Entry → Type 0) (neighbor : ℕ → ℕ → Type 0) (tables : List (List (Block × Entry)))
+    (neighbors : List (List ℕ)) → IsLawful routers entry neighbor → AreTablesBelow entry routers tables → AreNeighborsBelow neighbor routers neighbors →
     AreLawful (record { tables = tables; neighbors = neighbors })
 are_lawful routers entry neighbor tables neighbors lawful are near = record {
   few = let few = lawful.few in omega (arith, are.count);
@@ -188,7 +199,8 @@ are_lawful routers entry neighbor tables neighbors lawful are near = record {
 }
 
 -- and they are those of the protocol
-pub are_routes : (routers : ℕ) (entry : ℕ → Block → Entry → Type 0) (neighbor : ℕ → ℕ → Type 0) (tables : List (List (Block × Entry))) (neighbors : List (List ℕ)) → AreTablesBelow entry routers tables → AreNeighborsBelow neighbor routers neighbors →
+pub are_routes : (routers : ℕ) (entry : ℕ → Block → Entry → Type 0) (neighbor : ℕ → ℕ → Type 0) (tables : List (List (Block × Entry)))
+    (neighbors : List (List ℕ)) → AreTablesBelow entry routers tables → AreNeighborsBelow neighbor routers neighbors →
     AreRoutes routers entry neighbor (record { tables = tables; neighbors = neighbors })
 are_routes routers entry neighbor tables neighbors are near = record {
   routers = are.count;

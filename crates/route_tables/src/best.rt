@@ -1,11 +1,38 @@
-ghost use Rattle.std.specs.Prelude.{◌≡◌, IfOk, MatchOption};
-ghost use Rattle.walk_core.specs.BestOffers.{AreInRange, NoneTotals};
-ghost use Rattle.route_tables.specs.BestRoutes.{AreBestHops};
+ghost use Rattle.std.specs.Prelude.{◌≡◌, ◌∷◌, ◌++◌, [], List, IfOk, MatchOption};
+ghost use Rattle.walk_core.specs.BestOffers.{AreInRange, FitsTotal, NoneTotals, total_of};
+ghost use Rattle.walk_core.specs.Reach.{Reach};
+ghost use Rattle.walk_core.specs.declared.offers.Offer.{Offer as OfferValue};
+ghost use Rattle.route_tables.specs.BestRoutes.{AreBestHops, IsBestRoute};
+ghost use Rattle.route_tables.specs.steps.BestSoFar.{IsBestAt, IsBestSoFar, IsBetterOf};
 
 use crate::OutOfMemory;
+use crate::route::{Route, Target};
 use route_core::Hops;
 use std::alloc::Global;
 use walk_core::{LeastWalks, Offer};
+
+/// The route to the best of some offers, over the least walks of a zone, and `None` where no offer is reached. The hops
+/// are routers below `count`; where one vertex alone makes all best offers, they are the first hops towards it. It takes
+/// time of the offers, and memory only where several vertices make best offers.
+pub fn best_route(
+    alloc: Global,
+    walks: &LeastWalks,
+    zone: usize,
+    offers: &[Offer],
+    count: u32,
+) -> Result<Option<Route>, OutOfMemory>
+    requires { AreInRange walks.now offers.now }
+    ensures { IfOk result (λ found. MatchOption found (NoneTotals walks.now offers.now) (IsBestRoute walks.now offers.now zone count)) }
+{
+    let Some(best) = best_of(walks, offers) else {
+        return Ok(None);
+    };
+    if best.alone {
+        return Ok(Some(Route::Towards(Target { zone, at: best.at })));
+    }
+    let hops = walks.hops_towards(alloc, offers, best.cost, count)?;
+    Ok(Some(Route::Through(Hops::from_vec(hops))))
+}
 
 /// The first hops below `count` of all least-cost routes to the best of some offers, and `None` where
 /// no offer is reached.
@@ -24,5 +51,70 @@ pub fn best_hops(
             Ok(Some(Hops::from_vec(hops)))
         }
         None => Ok(None),
+    }
+}
+
+/// The best of some offers: what it costs, a vertex that makes it, and whether that vertex alone makes offers at this cost.
+#[derive(Clone, Copy, Debug)]
+struct BestAt {
+    cost: u64,
+    at: u32,
+    alone: bool,
+}
+
+/// The best of some offers.
+fn best_of(walks: &LeastWalks, offers: &[Offer]) -> Option<BestAt>
+    requires { AreInRange walks.now offers.now }
+    ensures { IsBestSoFar walks.now offers.now result }
+{
+    let mut best = None;
+    for offer in offers {
+        best = better(best, total(walks, *offer), offer.at);
+    }
+    best
+}
+
+/// What an offer costs at the root in all, and `None` where it isn't reached.
+fn total(walks: &LeastWalks, offer: Offer) -> Option<u64>
+    requires { FitsTotal walks.now offer }
+    ensures { result ≡ total_of walks.now offer }
+{
+    let distance = walks.distance(offer.at)?;
+    Some(distance + offer.asks)
+}
+
+/// The best of the offers so far and of one more, of this total, which is made at this vertex.
+fn better(best: Option<BestAt>, total: Option<u64>, at: u32) -> Option<BestAt>
+    ensures { (reach : Reach) (offers : List OfferValue) (o : OfferValue) → o.at ≡ at → total_of reach o ≡ total →
+        IsBestSoFar reach offers best → IsBestSoFar reach (offers ++ o ∷ []) result }
+{
+    let Some(cost) = total else {
+        return best;
+    };
+    let next = BestAt {
+        cost,
+        at,
+        alone: true,
+    };
+    match best {
+        Some(known) => Some(better_of(known, next)),
+        None => Some(next),
+    }
+}
+
+/// The better of two bests, and both together where they cost the same.
+fn better_of(known: BestAt, next: BestAt) -> BestAt
+    ensures { IsBetterOf known next result }
+{
+    if next.cost < known.cost {
+        return next;
+    }
+    if known.cost < next.cost {
+        return known;
+    }
+    BestAt {
+        cost: known.cost,
+        at: known.at,
+        alone: known.alone && known.at == next.at,
     }
 }

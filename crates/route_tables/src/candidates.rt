@@ -1,4 +1,4 @@
-ghost use Rattle.std.specs.Prelude.{◌≡◌, ◌↔◌, ◌∷◌, [], Some, IfOk, IsTrue, OnOk};
+ghost use Rattle.std.specs.Prelude.{◌≡◌, ◌↔◌, ◌∷◌, [], Some, IfOk, IsTrue, OnOk, OnErr};
 ghost use Rattle.route_tables.specs.Lists.{Adds};
 ghost use Rattle.route_tables.specs.Prefixes.{AreDistinct, all_addresses};
 
@@ -37,7 +37,8 @@ impl Candidates {
 
     /// Adds a prefix, unless it is there.
     pub fn add(&mut self, dest: Prefix) -> Result<(), OutOfMemory>
-        ensures { OnOk result (Adds self.old self.new (λ p. dest ≡ p)) }
+        ensures ok { OnOk result (Adds self.old self.new (λ p. dest ≡ p)) }
+        ensures err { OnErr result (self.new ≡ self.old) }
     {
         if self.all.contains(&dest) {
             return Ok(());
@@ -47,7 +48,8 @@ impl Candidates {
 
     /// Adds a prefix where there is one, unless it is there.
     pub fn add_option(&mut self, dest: Option<Prefix>) -> Result<(), OutOfMemory>
-        ensures { OnOk result (Adds self.old self.new (λ p. dest ≡ Some p)) }
+        ensures ok { OnOk result (Adds self.old self.new (λ p. dest ≡ Some p)) }
+        ensures err { OnErr result (self.new ≡ self.old) }
     {
         match dest {
             Some(dest) => self.add(dest),

@@ -1,5 +1,13 @@
 //! Route tables of all routers: the prefixes and routes that they are made of, and the tables and neighbors that a
 //! protocol gives.
+//!
+//! - `protocol.rt`: what a protocol says of a network: candidates, zones with their least walks, the route of each router
+//!   for each candidate, neighbors.
+//! - `route.rt`, `best.rt`: a route before it is an entry, and the route to the best of some offers, in one pass over them;
+//!   where one router makes all best offers, the route says that router and takes no memory.
+//! - `sharing.rt`, `table.rt`: the table of a router, of which all routes towards one router share an entry, made once.
+//! - `candidates.rt`, `lists.rt`: prefixes, each once (each is looked for among those before), and lists that grow.
+//! - `neighbors.rt`, `routes.rt`: neighbors by asking all pairs; tables and neighbors together as a source of tables.
 #![tactic(auto)]
 
 mod best;
@@ -7,12 +15,15 @@ mod candidates;
 mod lists;
 mod neighbors;
 mod protocol;
+mod route;
 mod routes;
+mod sharing;
 mod table;
 
-pub use best::best_hops;
+pub use best::{best_hops, best_route};
 pub use candidates::{Candidates, is_all_addresses};
 pub use lists::push_option;
 pub use protocol::Protocol;
+pub use route::{Route, Target};
 pub use routes::RouteTables;
 pub use std::alloc::AllocError as OutOfMemory;

@@ -1,13 +1,16 @@
 ghost use Rattle.std.specs.Prelude.{◌≡◌, ◌↔◌, ◌<◌, ℕ, List, length, Contains, IfOk, IsTrue, MatchOption};
 ghost use Rattle.net_addr.specs.Addresses.{Block};
+ghost use Rattle.walk_core.specs.Reach.{Reach};
 ghost use Rattle.route_core.specs.declared.entry.Entry.{Entry};
 ghost use Rattle.route_tables.specs.Entries.{IsLawful};
+ghost use Rattle.route_tables.specs.Routings.{IsRouteFor};
 ghost use Rattle.route_tables.specs.Prefixes.{AreDistinct, prefix_at};
 
 use crate::OutOfMemory;
+use crate::route::Route;
 use net_addr::Prefix;
-use route_core::Entry;
 use std::alloc::Global;
+use walk_core::LeastWalks;
 
 /// A routing protocol on a network: what it gives each router.
 ///
@@ -25,6 +28,12 @@ pub trait Protocol {
     /// The prefixes that it may give entries for.
     ghost candidates: { Self → List Block };
 
+    /// How many zones its routes go over.
+    ghost zones: { Self → ℕ };
+
+    /// The least walks from a router in a zone.
+    ghost reach: { Self → ℕ → ℕ → Reach };
+
     /// How many routers there are. They are numbered from 0.
     fn routers(&self) -> u32
         ensures count { result ≡ routers self.now }
@@ -41,13 +50,20 @@ pub trait Protocol {
         requires { place < length (candidates self.now) }
         ensures { result ≡ prefix_at (candidates self.now) place };
 
-    /// The entry that it gives a router for the prefix of this number.
-    fn entry(&self, alloc: Global, place: usize, router: u32) -> Result<Option<Entry>, OutOfMemory>
+    /// The route that it gives a router for the prefix of this number.
+    fn route(&self, alloc: Global, place: usize, router: u32) -> Result<Option<Route>, OutOfMemory>
         requires place { place < length (candidates self.now) }
         requires router { router < routers self.now }
         ensures { IfOk result (λ found. MatchOption found
             ((e : Entry) → entry self.now router (prefix_at (candidates self.now) place) e → ⊥)
-            (entry self.now router (prefix_at (candidates self.now) place))) };
+            (IsRouteFor (reach self.now router) (zones self.now) (routers self.now)
+            (entry self.now router (prefix_at (candidates self.now) place)))) };
+
+    /// The least walks from a router in the zone of this number.
+    fn walks(&self, router: u32, zone: usize) -> &LeastWalks
+        requires router { router < routers self.now }
+        requires zone { zone < zones self.now }
+        ensures { result.now ≡ reach self.now router zone };
 
     /// Whether a router has another one as its neighbor.
     fn is_neighbor(&self, router: u32, other: u32) -> bool

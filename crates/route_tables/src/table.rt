@@ -1,10 +1,10 @@
-ghost use Rattle.std.specs.Prelude.{◌≡◌, ◌<◌, ◌∷◌, ◌++◌, [], IfOk, MatchOption, OnOk};
+ghost use Rattle.std.specs.Prelude.{◌<◌, IfOk};
 ghost use Rattle.route_tables.specs.Entries.{AreTablesBelow, IsLawful, IsTableOf};
 
 use crate::OutOfMemory;
 use crate::protocol::Protocol;
-use net_addr::Prefix;
-use route_core::{Entries, Entry, Table};
+use crate::sharing::{SharedRows, add_row};
+use route_core::Table;
 use std::alloc::Global;
 
 /// The tables of all routers.
@@ -25,27 +25,11 @@ fn table_of<P: Protocol>(alloc: Global, protocol: &P, router: u32) -> Result<Tab
     requires lawful { IsLawful (P.routers protocol.now) (P.entry protocol.now) (P.neighbor protocol.now) }
     ensures { IfOk result (IsTableOf (P.entry protocol.now router)) }
 {
-    let mut entries = Vec::with_capacity(alloc, protocol.candidates())?;
+    let mut shared = SharedRows::with_capacity(alloc, protocol.candidates(), protocol.routers())?;
     for place in 0..protocol.candidates() {
         let dest = protocol.candidate(place);
-        let entry = protocol.entry(alloc, place, router)?;
-        push_entry(&mut entries, dest, entry)?;
+        let route = protocol.route(alloc, place, router)?;
+        add_row(alloc, protocol, router, &mut shared, dest, route)?;
     }
-    Table::from_entries(alloc, Entries::from_vec(entries))
-}
-
-/// Adds the entry of a prefix, if there is one.
-fn push_entry(
-    entries: &mut Vec<(Prefix, Entry)>,
-    dest: Prefix,
-    entry: Option<Entry>,
-) -> Result<(), OutOfMemory>
-    ensures { OnOk result (MatchOption entry
-        (entries.new.items ≡ entries.old.items)
-        (λ e. entries.new.items ≡ entries.old.items ++ (dest, e) ∷ [])) }
-{
-    match entry {
-        Some(entry) => Ok(entries.push((dest, entry))?),
-        None => Ok(()),
-    }
+    Ok(shared.builder.finish())
 }

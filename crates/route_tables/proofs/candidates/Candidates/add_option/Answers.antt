@@ -5,10 +5,10 @@ use Rattle.net_addr.specs.Addresses.{Block}
 use Rattle.route_tables.proofs.ListFacts.{adds_same}
 use Rattle.route_tables.proofs.candidates.Candidates.add_option.Goals as goal
 
-pub returns-in-Some : goal.returns-in-Some
-returns-in-Some c =
+pub returns-in-Some-clause-ok : goal.returns-in-Some-clause-ok
+returns-in-Some-clause-ok c =
     let p : Block = c.in-Some.dest in
     on_ok_weaker c.add.result
     (λ adds. adds_same c.args.self.now c.add.new.self (λ q. p ≡ q) (λ q. c.args.dest ≡ Some q) adds
     (λ q. (λ same. c.in-Some.is ∙ ap Some same, λ is. same_Some p q (sym c.in-Some.is ∙ is))))
-    c.add.ensures
+    c.add.ensures.ok

@@ -22,4 +22,5 @@ loop-other-preserved g c =
 pub returns : goal.returns
 returns g c =
     near_all (g.P.Protocol.neighbor c.args.protocol.now c.args.router) (g.P.Protocol.routers c.args.protocol.now) c.loop-other.other c.loop-other.all.items
-    (c.routers-other-end.ensures.lawful.within c.args.router) (omega (arith, c.loop-other-test.false, c.routers-other-end.ensures.count)) c.loop-other.invariant
+    (c.routers-other-end.ensures.lawful.within c.args.router) (omega (arith, c.loop-other-test.false, c.routers-other-end.ensures.count))
+    c.loop-other.invariant
