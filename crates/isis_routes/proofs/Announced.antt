@@ -13,7 +13,7 @@ use Rattle.walk_core.specs.BestOffers.{ListsOffer}
 use Rattle.walk_core.specs.declared.offers.Offer.{Offer}
 use Rattle.igp_theory.specs.Ospf.{OfOthers}
 use Rattle.igp_theory.specs.Isis.{RunsTwo, OffersTwo, OneCost, LevelTwoAnnouncement, own, of_level_one}
-use Rattle.isis_routes.specs.Offered.{AddsOffers, AreOffers}
+use Rattle.isis_routes.specs.steps.Offered.{AddsOffers, AreOffers}
 use Rattle.isis_routes.proofs.OfferLists.{adds_nothing, adds_push, adds_both}
 
 -- a cost that there is, and none
@@ -25,12 +25,14 @@ cost_added old w asks =
 pub cost_not_added : (old : List Offer) (w : ℕ) → AddsOffers old old w (λ k. ◌≡◌ {A = Option ℕ} None (Some k))
 cost_not_added old w = adds_nothing old w (λ k. ◌≡◌ {A = Option ℕ} None (Some k)) (λ k is. none-some k is)
 
-parts_of : (net : Network) (p : Block) (b : ℕ) (cost : Option ℕ) → ((c : ℕ) → (cost ≡ Some c) ↔ OneCost net p b c) → (c : ℕ) → LevelTwoAnnouncement net p b c → OffersTwo net p b c ⊎ (cost ≡ Some c)
+parts_of : (net : Network) (p : Block) (b : ℕ) (cost : Option ℕ) → ((c : ℕ) → (cost ≡ Some c) ↔ OneCost net p b c) → (c : ℕ) →
+    LevelTwoAnnouncement net p b c → OffersTwo net p b c ⊎ (cost ≡ Some c)
 parts_of net p b cost is c (own runs offers) = inl offers
 parts_of net p b cost is c (of_level_one runs costs) = inr ((is c).1 costs)
 
 -- a router of level 2 announces its own subnets, and then what it reaches by level 1
-pub announced_both : (net : Network) (p : Block) (b : ℕ) (old mid new : List Offer) (cost : Option ℕ) → RunsTwo net b → AddsOffers old mid b (OffersTwo net p b) → AddsOffers mid new b (λ k. cost ≡ Some k) →
+pub announced_both : (net : Network) (p : Block) (b : ℕ) (old mid new : List Offer) (cost : Option ℕ) → RunsTwo net b →
+    AddsOffers old mid b (OffersTwo net p b) → AddsOffers mid new b (λ k. cost ≡ Some k) →
     ((c : ℕ) → (cost ≡ Some c) ↔ OneCost net p b c) → AddsOffers old new b (LevelTwoAnnouncement net p b)
 announced_both net p b old mid new cost runs first second is =
     adds_both old mid new b (OffersTwo net p b) (λ k. cost ≡ Some k) (LevelTwoAnnouncement net p b) first second
@@ -57,7 +59,8 @@ from_filter p xs x c = (
   All-contains (λ y. p y ≡ true) (filter p xs) x (filter_passes p xs) c,
 )
 
-in_step : (p : Offer → Bool) (y : Offer) (kept : List Offer) (x : Offer) (b : Bool) → p y ≡ b → p x ≡ true → (y ≡ x) ⊎ Contains kept x → Contains (cond b (y ∷ kept) kept) x
+in_step : (p : Offer → Bool) (y : Offer) (kept : List Offer) (x : Offer) (b : Bool) → p y ≡ b → p x ≡ true → (y ≡ x) ⊎ Contains kept x →
+    Contains (cond b (y ∷ kept) kept) x
 in_step p y kept x true is passes (inl same) = subst (λ (z : Offer). Contains (y ∷ kept) z) same (Contains-first y kept)
 in_step p y kept x true is passes (inr rest) = Contains-rest y kept x rest
 in_step p y kept x false is passes (inl same) = let both : p y ≡ p x = ap p same in cc
@@ -93,14 +96,16 @@ others_are offers others u is at asks = (
       let apart : l.offer.at ≢ u = subst (λ (k : ℕ). k ≢ u) (sym l.made) both.0 in
       record {
         offer = l.offer;
-        among = subst (λ (xs : List Offer). Contains xs l.offer) (sym is) (in_filter (is_of_other u) offers l.offer l.among (apart_test l.offer.at u (l.offer.at == u) refl apart));
+        among = subst (λ (xs : List Offer). Contains xs l.offer) (sym is)
+            (in_filter (is_of_other u) offers l.offer l.among (apart_test l.offer.at u (l.offer.at == u) refl apart));
         made = l.made;
         asked = l.asked;
       },
 )
 
 -- they are the offers of others
-pub others_of_are : (offer : Offers) (offers given others : List Offer) (u : ℕ) → AreOffers offer offers → given ≡ offers → others ≡ filter (is_of_other u) given → AreOffers (OfOthers offer u) others
+pub others_of_are : (offer : Offers) (offers given others : List Offer) (u : ℕ) → AreOffers offer offers → given ≡ offers →
+    others ≡ filter (is_of_other u) given → AreOffers (OfOthers offer u) others
 others_of_are offer offers given others u are same kept at asks =
     let listed : AreOffers offer given = subst (λ (l : List Offer). AreOffers offer l) (sym same) are in (
       λ l. let both = (others_are given others u kept at asks).0 l in record { other = both.0; offered = (listed at asks).0 both.1 },

@@ -10,19 +10,21 @@ use Rattle.net_model.specs.declared.zone.Zone.TheVariants.{Two}
 use Rattle.walk_core.specs.Reach.{Reach, distance_of, AreLeastWalks}
 use Rattle.walk_core.specs.declared.offers.Offer.{Offer}
 use Rattle.igp_theory.specs.Isis.{RunsOne, RunsTwo, IsAttached, OffersDefault}
-use Rattle.isis_routes.specs.Attached.{LeadsOutside, LeavesArea}
-use Rattle.isis_routes.specs.Offered.{AddsOffers}
+use Rattle.isis_routes.specs.steps.Attached.{LeadsOutside, LeavesArea}
+use Rattle.isis_routes.specs.steps.Offered.{AddsOffers}
 use Rattle.isis_routes.proofs.OfferLists.{adds_nothing, adds_push}
 
 -- a router of the same area isn't outside
-pub not_outside : (net : Network) (u v : ℕ) (near far : Configuration) → HasConfiguration net u near → HasConfiguration net v far → near.isis_area ≡ far.isis_area → LeadsOutside net u v → ⊥
+pub not_outside : (net : Network) (u v : ℕ) (near far : Configuration) → HasConfiguration net u near → HasConfiguration net v far →
+    near.isis_area ≡ far.isis_area → LeadsOutside net u v → ⊥
 not_outside net u v near far here there same out =
     let is_near : out.near ≡ near = HasConfiguration-unique net u out.near near out.near_router here in
     let is_far : out.far ≡ far = HasConfiguration-unique net v out.far far out.far_router there in
     out.other_area (ap (λ (c : Configuration). c.isis_area) is_near ∙ same ∙ sym (ap (λ (c : Configuration). c.isis_area) is_far))
 
 -- a router of another area is outside where it is reached
-pub outside_by_distance : (net : Network) (u v : ℕ) (near far : Configuration) (reach : Reach) → HasConfiguration net u near → HasConfiguration net v far → (near.isis_area ≡ far.isis_area → ⊥) → AreLeastWalks (Adjacent net Two) u reach →
+pub outside_by_distance : (net : Network) (u v : ℕ) (near far : Configuration) (reach : Reach) → HasConfiguration net u near → HasConfiguration net v far →
+    (near.isis_area ≡ far.isis_area → ⊥) → AreLeastWalks (Adjacent net Two) u reach →
     (distance : Option ℕ) → distance ≡ distance_of reach v → IsTrue (is_some distance) ↔ LeadsOutside net u v
 outside_by_distance net u v near far reach here there apart walks None is = (
   λ no. absurd (false≢true no),
@@ -59,11 +61,20 @@ attached_from net u one two leaves =
 pub attached_leaves : (net : Network) (u : ℕ) → IsAttached net u → LeavesArea net u
 attached_leaves net u is = record {
   far = is.far;
-  outside = record { legs = is.legs; walk = is.walk; near = is.runs_two.config; far = is.config; near_router = is.runs_two.router; far_router = is.router; other_area = is.other_area };
+  outside = record {
+    legs = is.legs;
+    walk = is.walk;
+    near = is.runs_two.config;
+    far = is.config;
+    near_router = is.runs_two.router;
+    far_router = is.router;
+    other_area = is.other_area;
+  };
 }
 
 -- one more attached router, and one that isn't
-pub attached_added : (net : Network) (u : ℕ) (old : List Offer) → IsAttached net u → AddsOffers old (old ++ record { at = u; asks = 0 } ∷ []) u (OffersDefault net u)
+pub attached_added : (net : Network) (u : ℕ) (old : List Offer) → IsAttached net u →
+    AddsOffers old (old ++ record { at = u; asks = 0 } ∷ []) u (OffersDefault net u)
 attached_added net u old is =
     adds_push old old u 0 (λ _. ⊥) (OffersDefault net u) (adds_nothing old u (λ _. ⊥) (λ k none. none))
     (λ k. (λ offers. inr offers.costs, ⊎_elim (λ none. absurd none) (λ same. record { attached = is; costs = same })))

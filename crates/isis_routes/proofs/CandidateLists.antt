@@ -11,7 +11,7 @@ use Rattle.net_model.specs.declared.interface.Interface.{Interface}
 use Rattle.igp_theory.specs.Ospf.{default_prefix}
 use Rattle.route_tables.proofs.ListFacts.{any_of}
 use Rattle.route_tables.specs.Lists.{Adds}
-use Rattle.isis_routes.specs.Candidates.{HasSubnet, IsCandidate}
+use Rattle.isis_routes.specs.steps.Candidates.{HasSubnet, IsCandidate}
 
 -- the candidates of the routers below n are there
 pub record AreCandidatesBelow (net : Network) (n : ℕ) (dests : List Block) : Type 0 where
@@ -25,7 +25,8 @@ candidates_none net dests is = record {
 }
 
 -- one more router
-pub candidates_more : (net : Network) (n : ℕ) (config : Configuration) (old new : List Block) → HasConfiguration net n config → AreCandidatesBelow net n old → Adds old new (λ p. Any (HasSubnet p) config.interfaces) → AreCandidatesBelow net (n + 1) new
+pub candidates_more : (net : Network) (n : ℕ) (config : Configuration) (old new : List Block) → HasConfiguration net n config →
+    AreCandidatesBelow net n old → Adds old new (λ p. Any (HasSubnet p) config.interfaces) → AreCandidatesBelow net (n + 1) new
 candidates_more net n config old new router before adds = record {
   all = (adds default_prefix).1 (inl before.all);
   subnets = λ w i p below up has. elim (cases_lt w n) [
@@ -39,7 +40,8 @@ candidates_more net n config old new router before adds = record {
 }
 
 -- all candidates are there
-pub candidates_all : (net : Network) (n : ℕ) (dests : List Block) → length net ≡ n → AreCandidatesBelow net n dests → (p : Block) → IsCandidate net p → Contains dests p
+pub candidates_all : (net : Network) (n : ℕ) (dests : List Block) → length net ≡ n → AreCandidatesBelow net n dests → (p : Block) → IsCandidate net p →
+    Contains dests p
 candidates_all net n dests count are p (inl same) = subst (λ (x : Block). Contains dests x) (sym same) are.all
 candidates_all net n dests count are p (inr is) =
     let within : is.router < length net = UpInterface-within net is.router is.interface is.up in

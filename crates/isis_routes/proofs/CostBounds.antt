@@ -14,8 +14,8 @@ use Rattle.walk_core.specs.declared.offers.Offer.{Offer}
 use Rattle.igp_theory.specs.Isis.{OffersOne, OneCost, OffersTwo, LevelTwoAnnouncement, own, of_level_one, TwoCost, DownAnnouncement, OffersDefault}
 use Rattle.zone_graph.specs.Walks.{AreZoneWalks}
 use Rattle.route_tables.proofs.BestRoutes.{offers_in_range}
-use Rattle.isis_routes.specs.Offered.{AreOffers}
-use Rattle.isis_routes.specs.Routing.{AreLevelWalks}
+use Rattle.isis_routes.specs.steps.Offered.{AreOffers}
+use Rattle.isis_routes.specs.steps.Routing.{AreLevelWalks}
 use Rattle.isis_routes.specs.declared.level_walks.LevelWalks.{LevelWalks}
 
 -- offers that ask less than 2^42 are in range over distances of at most 200 arcs
@@ -43,7 +43,8 @@ no_walks : Reach
 no_walks = record { distances = []; hops = [] }
 
 -- a level 1 cost is at most 200 arcs and a metric
-pub one_cost_is_small : (net : Network) (p : Block) (u cost : ℕ) (walks : List Reach) → IsNetwork net → AreZoneWalks net ZoneOne walks → OneCost net p u cost → cost < 2 ^ 41
+pub one_cost_is_small : (net : Network) (p : Block) (u cost : ℕ) (walks : List Reach) → IsNetwork net → AreZoneWalks net ZoneOne walks →
+    OneCost net p u cost → cost < 2 ^ 41
 one_cost_is_small net p u cost walks network are costs =
     let within : u < length net = HasConfiguration-within net u costs.runs.config costs.runs.router in
     let inside : u < length walks = omega (arith, are.routers) in
@@ -57,27 +58,31 @@ one_cost_is_small net p u cost walks network are costs =
     omega arith
 
 -- so is what is announced into level 2
-pub announcement_is_small : (net : Network) (p : Block) (b cost : ℕ) (walks : List Reach) → IsNetwork net → AreZoneWalks net ZoneOne walks → LevelTwoAnnouncement net p b cost → cost < 2 ^ 41
+pub announcement_is_small : (net : Network) (p : Block) (b cost : ℕ) (walks : List Reach) → IsNetwork net → AreZoneWalks net ZoneOne walks →
+    LevelTwoAnnouncement net p b cost → cost < 2 ^ 41
 announcement_is_small net p b cost walks network are (own runs offers) =
     let small : cost < 2 ^ 24 = two_is_small net p b cost network offers in omega arith
 announcement_is_small net p b cost walks network are (of_level_one runs costs) =
     one_cost_is_small net p b cost walks network are costs
 
 -- a level 2 cost is at most 200 arcs more than an announcement, and what is leaked is a level 2 cost
-two_cost_is_small : (net : Network) (p : Block) (u cost : ℕ) (walks : LevelWalks) → IsNetwork net → AreLevelWalks net walks → TwoCost net p u cost → cost < 2 ^ 42
+two_cost_is_small : (net : Network) (p : Block) (u cost : ℕ) (walks : LevelWalks) → IsNetwork net → AreLevelWalks net walks → TwoCost net p u cost →
+    cost < 2 ^ 42
 two_cost_is_small net p u cost walks network are costs =
     let within : u < length net = HasConfiguration-within net u costs.runs.config costs.runs.router in
     let inside : u < length walks.two = omega (arith, are.two.routers) in
     let reach : Reach = get_or walks.two u no_walks in
     let here = slice_get-get_or walks.two u no_walks inside in
     let attained = costs.best.attained in
-    let far : distance_of reach costs.best.at ≡ Some attained.walk = ((are.two.least u reach here).distances costs.best.at attained.walk).1 attained.reached in
+    let far : distance_of reach costs.best.at ≡ Some attained.walk =
+    ((are.two.least u reach here).distances costs.best.at attained.walk).1 attained.reached in
     let near : attained.walk < 200 * 2 ^ 32 = are.two.near u reach here costs.best.at attained.walk far in
     let small : attained.asks < 2 ^ 41 = announcement_is_small net p costs.best.at attained.asks walks.one network are.one attained.offered.offered in
     let sum : attained.walk + attained.asks ≡ cost = attained.costs in
     omega arith
 
-pub leaked_is_small : (net : Network) (p : Block) (b cost : ℕ) (walks : LevelWalks) → IsNetwork net → AreLevelWalks net walks → DownAnnouncement net p b cost → cost < 2 ^ 42
+pub leaked_is_small : (net : Network) (p : Block) (b cost : ℕ) (walks : LevelWalks) → IsNetwork net → AreLevelWalks net walks →
+    DownAnnouncement net p b cost → cost < 2 ^ 42
 leaked_is_small net p b cost walks network are announces = two_cost_is_small net p b cost walks network are announces.costs
 
 pub default_is_small : (net : Network) (b cost : ℕ) → OffersDefault net b cost → cost < 2 ^ 42

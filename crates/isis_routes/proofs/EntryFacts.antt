@@ -5,8 +5,8 @@ use Rattle.net_model.specs.Network.{Network, Connected}
 use Rattle.route_core.specs.declared.entry.Entry.{Entry}
 use Rattle.route_core.specs.declared.entry.Entry.TheVariants.{Via}
 use Rattle.igp_theory.specs.Isis.{RunsOne, RunsTwo, OffersOne, OneCost, IsOne, LevelTwoAnnouncement, own, of_level_one, TwoCost, IsTwo, IsDown, IsisEntry, level_one, level_two, down, default_route}
-use Rattle.isis_routes.specs.Candidates.{IsCandidate}
-use Rattle.isis_routes.specs.Routing.{IsLevelOneRoute, IsLevelTwoRoute, IsDownRoute, IsDefaultRoute, NoDefaultRoute}
+use Rattle.isis_routes.specs.steps.Candidates.{IsCandidate}
+use Rattle.isis_routes.specs.steps.Routing.{IsLevelOneRoute, IsLevelTwoRoute, IsDownRoute, IsDefaultRoute, NoDefaultRoute}
 
 -- a connected prefix has no entry
 pub connected_has_none : (net : Network) (u : ℕ) (p : Block) → Connected net u p → (e : Entry) → IsisEntry net u p e → ⊥
@@ -18,7 +18,8 @@ connected_has_none net u p is e (default_route away _ _ _ _ _ _ _) = away is
 pub entry_by_one : (net : Network) (u : ℕ) (p : Block) (hops : List ℕ) → (Connected net u p → ⊥) → IsLevelOneRoute net p u hops → IsisEntry net u p (Via hops)
 entry_by_one net u p hops away route = level_one away route.is route.hops_are
 
-pub entry_by_two : (net : Network) (u : ℕ) (p : Block) (hops : List ℕ) → (Connected net u p → ⊥) → (IsOne net p u → ⊥) → IsLevelTwoRoute net p u hops → IsisEntry net u p (Via hops)
+pub entry_by_two : (net : Network) (u : ℕ) (p : Block) (hops : List ℕ) → (Connected net u p → ⊥) → (IsOne net p u → ⊥) → IsLevelTwoRoute net p u hops →
+    IsisEntry net u p (Via hops)
 entry_by_two net u p hops away no_one route = level_two away no_one route.is route.hops_are
 
 pub entry_by_down : (net : Network) (u : ℕ) (p : Block) (hops : List ℕ) → (Connected net u p → ⊥) → (IsOne net p u → ⊥) → (IsTwo net p u → ⊥) →
@@ -53,11 +54,21 @@ no_down net p u idle is = idle is.costs.runs
 one_is_candidate : (net : Network) (p : Block) (u cost : ℕ) → OneCost net p u cost → IsCandidate net p
 one_is_candidate net p u cost costs =
     let offers : OffersOne net p costs.best.at costs.best.attained.asks = costs.best.attained.offered in
-    inr (record { router = costs.best.at; interface = offers.interface; up = offers.up; has = record { up = offers.up.up; runs = inl offers.level; subnet = offers.subnet } })
+    inr (record {
+      router = costs.best.at;
+      interface = offers.interface;
+      up = offers.up;
+      has = record { up = offers.up.up; runs = inl offers.level; subnet = offers.subnet };
+    })
 
 announced_is_candidate : (net : Network) (p : Block) (b cost : ℕ) → LevelTwoAnnouncement net p b cost → IsCandidate net p
 announced_is_candidate net p b cost (own runs offers) =
-    inr (record { router = b; interface = offers.interface; up = offers.up; has = record { up = offers.up.up; runs = inr offers.level; subnet = offers.subnet } })
+    inr (record {
+      router = b;
+      interface = offers.interface;
+      up = offers.up;
+      has = record { up = offers.up.up; runs = inr offers.level; subnet = offers.subnet };
+    })
 announced_is_candidate net p b cost (of_level_one runs costs) = one_is_candidate net p b cost costs
 
 two_is_candidate : (net : Network) (p : Block) (u cost : ℕ) → TwoCost net p u cost → IsCandidate net p

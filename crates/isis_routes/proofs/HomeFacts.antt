@@ -1,5 +1,5 @@
 -- The routers at which a prefix is connected, interface by interface.
-use Rattle.std.proofs.Common.{◌≡◌, ℕ, ◌<◌, ◌↔◌, List, length, Some, refl, sym, ap, subst, ◌∙◌, arith}
+use Rattle.std.proofs.Common.{◌≡◌, ℕ, ◌<◌, ◌↔◌, List, length, refl, sym, subst, arith}
 use Rattle.std.specs.List.{Contains, Any}
 use Rattle.net_addr.specs.Addresses.{Block}
 use Rattle.net_model.proofs.Adjacency.{UpInterface-among}
@@ -9,8 +9,8 @@ use Rattle.net_model.specs.Network.{Network, HasConfiguration, Connected}
 use Rattle.net_model.specs.declared.interface.Interface.{Interface}
 use Rattle.route_tables.specs.Lists.{Exactly}
 use Rattle.route_tables.proofs.ListFacts.{AnyBelow, any_of, any_in, exactly_same}
-use Rattle.isis_routes.specs.Homes.{IsOwnSubnet, IsHomeOf, AreHomes, AreRoutersAt}
-use Rattle.isis_routes.specs.Offered.{OffersIn}
+use Rattle.isis_routes.specs.steps.Homes.{IsOwnSubnet, IsHomeOf, AreHomes, AreRoutersAt}
+use Rattle.isis_routes.specs.steps.Offered.{OffersIn}
 use Rattle.isis_routes.specs.declared.homes.Home.{Home}
 use Rattle.isis_routes.specs.declared.level.Level.{Level}
 use Rattle.isis_routes.specs.declared.level.Level.TheVariants.{One, Two}
@@ -19,7 +19,8 @@ use Rattle.isis_routes.specs.declared.level.Level.TheVariants.{One, Two}
 abbrev pub RouterHome : Network → ℕ → Home → Type 0
 RouterHome net w h = (h.router ≡ w) × Connected net h.router h.dest
 
-pub router_home_is : (net : Network) (w : ℕ) (config : Configuration) (given : List Interface) → HasConfiguration net w config → given ≡ config.interfaces → (h : Home) →
+pub router_home_is : (net : Network) (w : ℕ) (config : Configuration) (given : List Interface) → HasConfiguration net w config → given ≡ config.interfaces →
+    (h : Home) →
     Any (λ (i : Interface). IsOwnSubnet i w h) given ↔ RouterHome net w h
 router_home_is net w config given router are h = (
   λ any.
@@ -44,7 +45,8 @@ home_below net n count h connected =
     record { source = h.router; below = omega arith; given = (refl, connected) }
 
 -- the routers that the homes of a prefix name are those at which it is connected
-pub routers_are : (net : Network) (p : Block) (homes given : List Home) (routers : List ℕ) → AreHomes net homes → given ≡ homes → Exactly (λ (u : ℕ). Any (λ (h : Home). IsHomeOf p h u) given) routers →
+pub routers_are : (net : Network) (p : Block) (homes given : List Home) (routers : List ℕ) → AreHomes net homes → given ≡ homes →
+    Exactly (λ (u : ℕ). Any (λ (h : Home). IsHomeOf p h u) given) routers →
     AreRoutersAt net p routers
 routers_are net p homes given routers are same exactly =
     exactly_same routers (λ (u : ℕ). Any (λ (h : Home). IsHomeOf p h u) given) (λ (u : ℕ). Connected net u p) exactly
@@ -55,7 +57,8 @@ routers_are net p homes given routers are same exactly =
           subst (λ (k : ℕ). Connected net k p) f.holds.router (subst (λ (q : Block). Connected net f.item.router q) f.holds.dest connected),
       λ connected.
           let h : Home = record { dest = p; router = u } in
-          any_of (λ (x : Home). IsHomeOf p x u) given h (subst (λ (l : List Home). Contains l h) (sym same) ((are h).1 connected)) (record { dest = refl; router = refl }),
+          any_of (λ (x : Home). IsHomeOf p x u) given h (subst (λ (l : List Home). Contains l h) (sym same) ((are h).1 connected))
+          (record { dest = refl; router = refl }),
     ))
 
 -- a router offers only what is connected there

@@ -7,8 +7,8 @@ use Rattle.net_model.proofs.NetworkFacts.{HasConfiguration-within}
 use Rattle.net_model.specs.Network.{Network, Connected}
 use Rattle.walk_core.specs.declared.offers.Offer.{Offer}
 use Rattle.igp_theory.specs.Isis.{OneCost, IsOne, TwoCost, Leaks, DownAnnouncement}
-use Rattle.isis_routes.specs.Offered.{AddsOffers}
-use Rattle.isis_routes.specs.Routing.{MayLeak}
+use Rattle.isis_routes.specs.steps.Offered.{AddsOffers}
+use Rattle.isis_routes.specs.steps.Routing.{MayLeak}
 use Rattle.isis_routes.proofs.OfferLists.{adds_nothing, adds_same}
 
 -- a router that may leak a prefix announces its level 2 cost

@@ -9,3 +9,4 @@ mod LeakedOffers
 mod DestinationFacts
 mod ProtocolFacts
 mod HomeFacts
+mod LevelRoutes

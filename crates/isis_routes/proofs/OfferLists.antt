@@ -13,7 +13,7 @@ use Rattle.net_model.specs.declared.interface.Interface.{Interface}
 use Rattle.walk_core.specs.Offers.{Offers}
 use Rattle.walk_core.specs.BestOffers.{ListsOffer}
 use Rattle.walk_core.specs.declared.offers.Offer.{Offer}
-use Rattle.isis_routes.specs.Offered.{Asks, AskedBy, OffersIn, AddsOffers, AreOffers, AreOffersBelow, others_than}
+use Rattle.isis_routes.specs.steps.Offered.{Asks, AskedBy, OffersIn, AddsOffers, AreOffers, AreOffersBelow, others_than}
 use Rattle.isis_routes.specs.declared.level.Level.{Level}
 use Rattle.isis_routes.specs.declared.level.Level.TheVariants.{One, Two}
 
@@ -37,7 +37,8 @@ lists_none at asks l = absurd (omega (arith, l.among.1))
 -- What is added
 
 -- nothing more is asked, so nothing more is added
-pub adds_same : (old new : List Offer) (w : ℕ) (before after : ℕ → Type 0) → AddsOffers old new w before → ((c : ℕ) → before c ↔ after c) → AddsOffers old new w after
+pub adds_same : (old new : List Offer) (w : ℕ) (before after : ℕ → Type 0) → AddsOffers old new w before → ((c : ℕ) → before c ↔ after c) →
+    AddsOffers old new w after
 adds_same old new w before after adds same = record {
   kept = adds.kept;
   added = λ asks now. adds.added asks ((same asks).1 now);
@@ -52,7 +53,8 @@ adds_nothing old w asked none = record {
 }
 
 -- one more cost is asked
-pub adds_push : (old mid : List Offer) (w asks : ℕ) (before after : ℕ → Type 0) → AddsOffers old mid w before → ((c : ℕ) → after c ↔ (before c ⊎ (c ≡ asks))) → AddsOffers old (mid ++ record { at = w; asks = asks } ∷ []) w after
+pub adds_push : (old mid : List Offer) (w asks : ℕ) (before after : ℕ → Type 0) → AddsOffers old mid w before →
+    ((c : ℕ) → after c ↔ (before c ⊎ (c ≡ asks))) → AddsOffers old (mid ++ record { at = w; asks = asks } ∷ []) w after
 adds_push old mid w asks before after adds same =
     let o : Offer = record { at = w; asks = asks } in
     record {
@@ -68,7 +70,8 @@ adds_push old mid w asks before after adds same =
     }
 
 -- what is added first, and what then
-pub adds_both : (old mid new : List Offer) (w : ℕ) (one other both : ℕ → Type 0) → AddsOffers old mid w one → AddsOffers mid new w other → ((c : ℕ) → both c ↔ (one c ⊎ other c)) → AddsOffers old new w both
+pub adds_both : (old mid new : List Offer) (w : ℕ) (one other both : ℕ → Type 0) → AddsOffers old mid w one → AddsOffers mid new w other →
+    ((c : ℕ) → both c ↔ (one c ⊎ other c)) → AddsOffers old new w both
 adds_both old mid new w one other both first second same = record {
   kept = λ at c l. second.kept at c (first.kept at c l);
   added = λ c now. ⊎_elim (λ a. second.kept w c (first.added c a)) (λ b. second.added c b) ((same c).0 now);
@@ -83,7 +86,8 @@ adds_both old mid new w one other both first second same = record {
 pub offers_none : (offer : Offers) → AreOffersBelow offer 0 []
 offers_none offer at asks = (λ l. lists_none at asks l, λ o. absurd (omega (arith, o.0)))
 
-pub offers_more : (offer : Offers) (n : ℕ) (old new : List Offer) → AreOffersBelow offer n old → AddsOffers old new n (offer n) → AreOffersBelow offer (n + 1) new
+pub offers_more : (offer : Offers) (n : ℕ) (old new : List Offer) → AreOffersBelow offer n old → AddsOffers old new n (offer n) →
+    AreOffersBelow offer (n + 1) new
 offers_more offer n old new below adds at asks = (
   λ l. ⊎_elim
       (λ earlier. let is = (below at asks).0 earlier in (omega (arith, is.0), is.1))
@@ -105,13 +109,15 @@ offers_all offer n xs below within at asks =
 
 -- Interfaces
 
-asked_cases : (level : Level) (p : Block) (front : List Interface) (i : Interface) (cost : ℕ) → AskedBy level p (front ++ i ∷ []) cost → AskedBy level p front cost ⊎ Asks level p i cost
+asked_cases : (level : Level) (p : Block) (front : List Interface) (i : Interface) (cost : ℕ) → AskedBy level p (front ++ i ∷ []) cost →
+    AskedBy level p front cost ⊎ Asks level p i cost
 asked_cases level p front i cost asked = elim (Contains-push_cases front i asked.interface asked.among) [
   | inl among ↦ inl (record { interface = asked.interface; among = among; asks = asked.asks })
   | inr same ↦ inr (subst (λ (x : Interface). Asks level p x cost) (sym same) asked.asks)
 ]
 
-asked_kept : (level : Level) (p : Block) (front : List Interface) (i : Interface) (cost : ℕ) → AskedBy level p front cost → AskedBy level p (front ++ i ∷ []) cost
+asked_kept : (level : Level) (p : Block) (front : List Interface) (i : Interface) (cost : ℕ) → AskedBy level p front cost →
+    AskedBy level p (front ++ i ∷ []) cost
 asked_kept level p front i cost asked =
     record { interface = asked.interface; among = Contains-append_left front (i ∷ []) asked.interface asked.among; asks = asked.asks }
 
@@ -119,7 +125,8 @@ asked_here : (level : Level) (p : Block) (front : List Interface) (i : Interface
 asked_here level p front i cost asks = record { interface = i; among = Contains-push front i; asks = asks }
 
 -- one more interface, which asks this
-pub asked_more : (level : Level) (p : Block) (front : List Interface) (i : Interface) (old mid : List Offer) (w asks : ℕ) → AddsOffers old mid w (AskedBy level p front) → Asks level p i asks →
+pub asked_more : (level : Level) (p : Block) (front : List Interface) (i : Interface) (old mid : List Offer) (w asks : ℕ) →
+    AddsOffers old mid w (AskedBy level p front) → Asks level p i asks →
     AddsOffers old (mid ++ record { at = w; asks = asks } ∷ []) w (AskedBy level p (front ++ i ∷ []))
 asked_more level p front i old mid w asks adds here =
     adds_push old mid w asks (AskedBy level p front) (AskedBy level p (front ++ i ∷ [])) adds
@@ -130,7 +137,8 @@ asked_more level p front i old mid w asks adds here =
     ))
 
 -- one more interface, which asks nothing
-pub asked_no_more : (level : Level) (p : Block) (front : List Interface) (i : Interface) (old mid : List Offer) (w : ℕ) → AddsOffers old mid w (AskedBy level p front) → ((c : ℕ) → Asks level p i c → ⊥) →
+pub asked_no_more : (level : Level) (p : Block) (front : List Interface) (i : Interface) (old mid : List Offer) (w : ℕ) →
+    AddsOffers old mid w (AskedBy level p front) → ((c : ℕ) → Asks level p i c → ⊥) →
     AddsOffers old mid w (AskedBy level p (front ++ i ∷ []))
 asked_no_more level p front i old mid w adds none =
     adds_same old mid w (AskedBy level p front) (AskedBy level p (front ++ i ∷ [])) adds
@@ -143,7 +151,8 @@ asked_none level p old w = adds_nothing old w (AskedBy level p []) (λ c asked. 
 same_config : (net : Network) (w : ℕ) (c d : Configuration) → HasConfiguration net w c → HasConfiguration net w d → c ≡ d
 same_config net w c d one other = let e : Some c ≡ Some d = sym one ∙ other in cc
 
-pub asked_is_offered : (net : Network) (level : Level) (p : Block) (w : ℕ) (config : Configuration) → HasConfiguration net w config → (cost : ℕ) → AskedBy level p config.interfaces cost → OffersIn net level p w cost
+pub asked_is_offered : (net : Network) (level : Level) (p : Block) (w : ℕ) (config : Configuration) → HasConfiguration net w config → (cost : ℕ) →
+    AskedBy level p config.interfaces cost → OffersIn net level p w cost
 asked_is_offered net One p w config router cost asked = record {
   interface = asked.interface;
   up = record { config = config; router = router; among = asked.among; up = asked.asks.up };
@@ -159,15 +168,18 @@ asked_is_offered net Two p w config router cost asked = record {
   costs = asked.asks.costs;
 }
 
-pub offered_is_asked : (net : Network) (level : Level) (p : Block) (w : ℕ) (config : Configuration) → HasConfiguration net w config → (cost : ℕ) → OffersIn net level p w cost → AskedBy level p config.interfaces cost
+pub offered_is_asked : (net : Network) (level : Level) (p : Block) (w : ℕ) (config : Configuration) → HasConfiguration net w config → (cost : ℕ) →
+    OffersIn net level p w cost → AskedBy level p config.interfaces cost
 offered_is_asked net One p w config router cost offers = record {
   interface = offers.interface;
-  among = subst (λ (c : Configuration). Contains c.interfaces offers.interface) (same_config net w offers.up.config config offers.up.router router) offers.up.among;
+  among = subst (λ (c : Configuration). Contains c.interfaces offers.interface) (same_config net w offers.up.config config offers.up.router router)
+      offers.up.among;
   asks = record { up = offers.up.up; subnet = offers.subnet; runs = offers.level; costs = offers.costs };
 }
 offered_is_asked net Two p w config router cost offers = record {
   interface = offers.interface;
-  among = subst (λ (c : Configuration). Contains c.interfaces offers.interface) (same_config net w offers.up.config config offers.up.router router) offers.up.among;
+  among = subst (λ (c : Configuration). Contains c.interfaces offers.interface) (same_config net w offers.up.config config offers.up.router router)
+      offers.up.among;
   asks = record { up = offers.up.up; subnet = offers.subnet; runs = offers.level; costs = offers.costs };
 }
 

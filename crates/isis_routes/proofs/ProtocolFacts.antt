@@ -27,11 +27,13 @@ neighbor_is_router net u v is = elim is.adjacent [
 ]
 
 -- two routers are neighbors where some arc leads from one to the other in either level
-pub neighbor_by_one : (net : Network) (u v : ℕ) (one : Option ℕ) → MatchOption one ((c : ℕ) → Adjacent net ZoneOne u v c → ⊥) (LeastArc net ZoneOne u v) → IsTrue (is_some one) → IsIsisNeighbor net u v
+pub neighbor_by_one : (net : Network) (u v : ℕ) (one : Option ℕ) → MatchOption one ((c : ℕ) → Adjacent net ZoneOne u v c → ⊥) (LeastArc net ZoneOne u v) →
+    IsTrue (is_some one) → IsIsisNeighbor net u v
 neighbor_by_one net u v None none wrong = absurd (false≢true wrong)
 neighbor_by_one net u v (Some c) least _ = record { cost = c; adjacent = inl least.adjacent }
 
-pub neighbor_by_two : (net : Network) (u v : ℕ) (one two : Option ℕ) → MatchOption one ((c : ℕ) → Adjacent net ZoneOne u v c → ⊥) (LeastArc net ZoneOne u v) → is_some one ≡ false →
+pub neighbor_by_two : (net : Network) (u v : ℕ) (one two : Option ℕ) →
+    MatchOption one ((c : ℕ) → Adjacent net ZoneOne u v c → ⊥) (LeastArc net ZoneOne u v) → is_some one ≡ false →
     MatchOption two ((c : ℕ) → Adjacent net ZoneTwo u v c → ⊥) (LeastArc net ZoneTwo u v) → IsTrue (is_some two) ↔ IsIsisNeighbor net u v
 neighbor_by_two net u v (Some c) two least wrong found = absurd (false≢true (sym wrong))
 neighbor_by_two net u v None None no_one _ no_two = (

@@ -1,7 +1,2 @@
-pub mod Homes
-pub mod Offered
-pub mod Attached
-pub mod Candidates
-pub mod Routing
-pub mod Domain
 pub mod RouteTables
+pub mod steps

@@ -2,8 +2,8 @@ ghost use Rattle.std.specs.Prelude.{◌<◌, length, IfOk, OnOk};
 ghost use Rattle.net_model.specs.declared.zone.Zone.TheVariants.{One as ZoneOne};
 ghost use Rattle.igp_theory.specs.Isis.{OffersOne, LevelTwoAnnouncement};
 ghost use Rattle.zone_graph.specs.Walks.{AreZoneWalks};
-ghost use Rattle.isis_routes.specs.Homes.{AreRoutersAt};
-ghost use Rattle.isis_routes.specs.Offered.{AddsOffers, AreOffers};
+ghost use Rattle.isis_routes.specs.steps.Homes.{AreRoutersAt};
+ghost use Rattle.isis_routes.specs.steps.Offered.{AddsOffers, AreOffers};
 
 use crate::OutOfMemory;
 use crate::level::Level;

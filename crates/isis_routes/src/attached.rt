@@ -2,8 +2,8 @@ ghost use Rattle.std.specs.Prelude.{◌≡◌, ◌<◌, ◌↔◌, ℕ, length, 
 ghost use Rattle.net_model.specs.declared.zone.Zone.TheVariants.{Two as ZoneTwo};
 ghost use Rattle.igp_theory.specs.Isis.{IsAttached, OffersDefault};
 ghost use Rattle.zone_graph.specs.Walks.{AreZoneWalks};
-ghost use Rattle.isis_routes.specs.Attached.{LeavesArea, LeadsOutside};
-ghost use Rattle.isis_routes.specs.Offered.{AreOffers};
+ghost use Rattle.isis_routes.specs.steps.Attached.{LeavesArea, LeadsOutside};
+ghost use Rattle.isis_routes.specs.steps.Offered.{AreOffers};
 
 use crate::OutOfMemory;
 use crate::runs::{runs_one, runs_two};

@@ -1,7 +1,7 @@
 ghost use Rattle.std.specs.Prelude.{◌≡◌, ◌<◌, ◌↔◌, ℕ, length, Some, Any, Contains, IfOk, OnOk};
 ghost use Rattle.net_addr.specs.Addresses.{Block};
 ghost use Rattle.route_tables.specs.Lists.{Adds};
-ghost use Rattle.isis_routes.specs.Candidates.{HasSubnet, IsCandidate};
+ghost use Rattle.isis_routes.specs.steps.Candidates.{HasSubnet, IsCandidate};
 
 use crate::OutOfMemory;
 use net_addr::Prefix;

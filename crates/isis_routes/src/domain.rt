@@ -1,7 +1,7 @@
 ghost use Rattle.std.specs.Prelude.{◌≡◌, All, IfOk};
-ghost use Rattle.isis_routes.specs.Domain.{AreAnnounced, AreDestinations, IsDomain, dests_of};
-ghost use Rattle.isis_routes.specs.Homes.{AreRoutersAt};
-ghost use Rattle.isis_routes.specs.Routing.{AreLevelWalks};
+ghost use Rattle.isis_routes.specs.steps.Domain.{AreAnnounced, AreDestinations, IsDomain, dests_of};
+ghost use Rattle.isis_routes.specs.steps.Homes.{AreRoutersAt};
+ghost use Rattle.isis_routes.specs.steps.Routing.{AreLevelWalks};
 
 use crate::OutOfMemory;
 use crate::announcements::announcements;

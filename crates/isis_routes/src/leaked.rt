@@ -2,8 +2,8 @@ ghost use Rattle.std.specs.Prelude.{◌≡◌, ◌<◌, ◌↔◌, ℕ, length, 
 ghost use Rattle.net_model.specs.declared.zone.Zone.TheVariants.{One as ZoneOne};
 ghost use Rattle.igp_theory.specs.Isis.{OffersOne, LevelTwoAnnouncement, TwoCost, DownAnnouncement};
 ghost use Rattle.zone_graph.specs.Walks.{AreZoneWalks};
-ghost use Rattle.isis_routes.specs.Offered.{AddsOffers, AreOffers};
-ghost use Rattle.isis_routes.specs.Routing.{AreLevelWalks, MayLeak};
+ghost use Rattle.isis_routes.specs.steps.Offered.{AddsOffers, AreOffers};
+ghost use Rattle.isis_routes.specs.steps.Routing.{AreLevelWalks, MayLeak};
 
 use crate::OutOfMemory;
 use crate::level_one::LevelOne;

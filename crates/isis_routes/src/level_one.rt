@@ -2,8 +2,8 @@ ghost use Rattle.std.specs.Prelude.{◌≡◌, ◌<◌, ◌↔◌, ℕ, length, 
 ghost use Rattle.net_model.specs.declared.zone.Zone.TheVariants.{One as ZoneOne};
 ghost use Rattle.igp_theory.specs.Isis.{OffersOne, OneCost};
 ghost use Rattle.zone_graph.specs.Walks.{AreZoneWalks};
-ghost use Rattle.isis_routes.specs.Homes.{AreRoutersAt};
-ghost use Rattle.isis_routes.specs.Offered.{AreOffers};
+ghost use Rattle.isis_routes.specs.steps.Homes.{AreRoutersAt};
+ghost use Rattle.isis_routes.specs.steps.Offered.{AreOffers};
 
 use crate::OutOfMemory;
 use crate::level::Level;

@@ -1,7 +1,7 @@
 ghost use Rattle.std.specs.Prelude.{◌≡◌, ◌==◌, ◌<◌, ◌↔◌, ℕ, length, Some, Contains, IfOk, IsTrue, OnOk, filter, not};
 ghost use Rattle.net_model.specs.Network.{Network};
-ghost use Rattle.isis_routes.specs.Homes.{AreRoutersAt};
-ghost use Rattle.isis_routes.specs.Offered.{Asks, AskedBy, OffersIn, AddsOffers, AreOffers};
+ghost use Rattle.isis_routes.specs.steps.Homes.{AreRoutersAt};
+ghost use Rattle.isis_routes.specs.steps.Offered.{Asks, AskedBy, OffersIn, AddsOffers, AreOffers};
 
 use crate::OutOfMemory;
 use crate::level::Level;

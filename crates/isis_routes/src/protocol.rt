@@ -2,13 +2,13 @@ ghost use Rattle.std.specs.Prelude.{◌≡◌, IfOk};
 
 use crate::OutOfMemory;
 use crate::domain::Domain;
-use crate::entry::entry_of;
+use crate::entry::route_of;
 use net_addr::Prefix;
 use net_model::{Net, Zone};
-use route_core::Entry;
-use route_tables::Protocol;
+use route_tables::{Protocol, Route};
 use std::alloc::Global;
 use std::marker::Model;
+use walk_core::LeastWalks;
 
 /// IS-IS on a network, with what its routers know.
 #[derive(Drop)]
@@ -18,7 +18,7 @@ pub struct Isis<'a> {
 }
 
 impl<'a> Model for Isis<'a> {
-    ghost use Rattle.isis_routes.specs.Domain.{IsDomain, IsisNetwork};
+    ghost use Rattle.isis_routes.specs.steps.Domain.{IsDomain, IsisNetwork};
 
     ghost Value = { IsisNetwork };
 
@@ -41,7 +41,8 @@ impl<'a> Protocol for Isis<'a> {
     ghost use Rattle.std.specs.Prelude.{length};
     ghost use Rattle.igp_theory.specs.Isis.{IsisEntry};
     ghost use Rattle.igp_theory.specs.Laws.{IsIsisNeighbor};
-    ghost use Rattle.isis_routes.specs.Domain.{dests_of};
+    ghost use Rattle.isis_routes.specs.steps.Domain.{dests_of};
+    ghost use Rattle.isis_routes.specs.steps.LevelReach.{level_reach};
 
     ghost routers = { λ isis. length isis.net };
 
@@ -50,6 +51,10 @@ impl<'a> Protocol for Isis<'a> {
     ghost neighbor = { λ isis. IsIsisNeighbor isis.net };
 
     ghost candidates = { λ isis. dests_of isis.domain.destinations.items };
+
+    ghost zones = { λ _. 2 };
+
+    ghost reach = { λ isis. level_reach isis.domain.walks };
 
     fn routers(&self) -> u32 {
         self.net.routers()
@@ -63,14 +68,18 @@ impl<'a> Protocol for Isis<'a> {
         self.domain.destinations[place].one.dest
     }
 
-    fn entry(
+    fn route(
         &self,
         alloc: Global,
         place: usize,
         router: u32,
-    ) -> Result<Option<Entry>, OutOfMemory> {
+    ) -> Result<Option<Route>, OutOfMemory> {
         let destination = &self.domain.destinations[place];
-        entry_of(alloc, self.net, &self.domain, destination, router)
+        route_of(alloc, self.net, &self.domain, destination, router)
+    }
+
+    fn walks(&self, router: u32, zone: usize) -> &LeastWalks {
+        self.domain.walks.from_router(router, zone)
     }
 
     fn is_neighbor(&self, router: u32, other: u32) -> bool {

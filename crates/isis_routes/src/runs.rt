@@ -1,7 +1,7 @@
 ghost use Rattle.std.specs.Prelude.{◌<◌, ◌↔◌, length, IsTrue};
 ghost use Rattle.net_model.specs.Refusals.{IsNetwork};
 ghost use Rattle.igp_theory.specs.Isis.{RunsOne, RunsTwo, Leaks};
-ghost use Rattle.isis_routes.specs.Routing.{RunsOneAlone};
+ghost use Rattle.isis_routes.specs.steps.Routing.{RunsOneAlone};
 
 use net_model::Net;
 

@@ -1,5 +1,6 @@
 -- Areas: which there are, who is in them, who is a border router and who listens to whom.
-use Rattle.std.proofs.Common.{◌≡◌, ◌≢◌, ℕ, ◌+◌, ◌<◌, ◌↔◌, inl, inr, ⊎_elim, List, [], ◌∷◌, ◌++◌, length, Option, Some, None, MatchOption, Bool, true, false, not, ◌==◌, IsTrue, refl, sym, ap, subst, ◌∙◌, arith}
+use Rattle.std.proofs.Common.{◌≡◌, ◌≢◌, ℕ, ◌+◌, ◌<◌, ◌↔◌, inl, inr, ⊎_elim, List, [], ◌∷◌, ◌++◌, length, Option, Some, None, MatchOption, Bool, true, false}
+use Rattle.std.proofs.Common.{not, ◌==◌, IsTrue, refl, sym, ap, subst, ◌∙◌, arith}
 use Rattle.std.specs.List.{Contains, Any}
 use Rattle.std.proofs.lemmas.Bool.{eqb-true, eqb-false, cases_eq, cases_lt, false≢true}
 use Rattle.std.proofs.lemmas.Option.{none-some, same_Some}
@@ -15,14 +16,15 @@ use Rattle.walk_core.specs.Reach.{Reach}
 use Rattle.zone_graph.specs.Walks.{AreZoneWalks}
 use Rattle.igp_theory.specs.Ospf.{ListensTo, backbone, one_area}
 use Rattle.igp_theory.proofs.TableLaws.{listens_to_one_area}
-use Rattle.ospf_routes.specs.Areas.{RunsArea, RunsOther, HasArea, HasWalks, AreNumbered, AreAreas, IsReach}
+use Rattle.ospf_routes.specs.steps.Areas.{RunsArea, RunsOther, HasArea, HasWalks, AreNumbered, AreAreas, IsReach}
 use Rattle.ospf_routes.specs.Lists.{Adds}
 use Rattle.ospf_routes.specs.declared.areas.AreaWalks.{AreaWalks}
 use Rattle.route_tables.proofs.ListFacts.{any_of, any_in}
 use Rattle.std.specs.List.{slice_get}
 
 -- a router is in an area where one of its interfaces runs it
-pub inside_is : (net : Network) (u n : ℕ) (config : Configuration) (given : List Interface) → HasConfiguration net u config → given ≡ config.interfaces → Any (RunsArea n) given ↔ InArea net u n
+pub inside_is : (net : Network) (u n : ℕ) (config : Configuration) (given : List Interface) → HasConfiguration net u config → given ≡ config.interfaces →
+    Any (RunsArea n) given ↔ InArea net u n
 inside_is net u n config given router are = (
   λ any.
       let f = any_in (RunsArea n) given any in
@@ -44,7 +46,8 @@ has_area_left areas a n has = record { area = has.area; among = Contains-append_
 pub numbered_none : (net : Network) → AreNumbered net [] []
 numbered_none net = record { walks = λ k d within. absurd (omega arith); every = λ n has. absurd (omega (arith, has.1)) }
 
-pub numbered_more : (net : Network) (numbers : List ℕ) (areas : List AreaWalks) (a : AreaWalks) → AreNumbered net numbers areas → AreZoneWalks net (Area a.number) a.walks → AreNumbered net (numbers ++ a.number ∷ []) (areas ++ a ∷ [])
+pub numbered_more : (net : Network) (numbers : List ℕ) (areas : List AreaWalks) (a : AreaWalks) → AreNumbered net numbers areas →
+    AreZoneWalks net (Area a.number) a.walks → AreNumbered net (numbers ++ a.number ∷ []) (areas ++ a ∷ [])
 numbered_more net numbers areas a before walks = record {
   walks = All-push (λ (x : AreaWalks). AreZoneWalks net (Area x.number) x.walks) areas a before.walks walks;
   every = λ n has. ⊎_elim
@@ -53,7 +56,8 @@ numbered_more net numbers areas a before walks = record {
       (Contains-push_cases numbers a.number n has);
 }
 
-pub areas_of_numbers : (net : Network) (numbers given : List ℕ) (areas : List AreaWalks) → IsNetwork net → given ≡ numbers → Contains numbers 0 → ((u n : ℕ) → InArea net u n → Contains numbers n) → AreNumbered net given areas → AreAreas net areas
+pub areas_of_numbers : (net : Network) (numbers given : List ℕ) (areas : List AreaWalks) → IsNetwork net → given ≡ numbers → Contains numbers 0 →
+    ((u n : ℕ) → InArea net u n → Contains numbers n) → AreNumbered net given areas → AreAreas net areas
 areas_of_numbers net numbers given areas network same zero every are = record {
   network = network;
   walks = are.walks;
@@ -73,7 +77,8 @@ numbers_start net numbers z is = record {
   every = λ u n below. absurd (omega arith);
 }
 
-pub numbers_more : (net : Network) (m : ℕ) (config : Configuration) (given : List Interface) (old new : List ℕ) → HasConfiguration net m config → given ≡ config.interfaces → HaveNumbers net m old →
+pub numbers_more : (net : Network) (m : ℕ) (config : Configuration) (given : List Interface) (old new : List ℕ) → HasConfiguration net m config →
+    given ≡ config.interfaces → HaveNumbers net m old →
     Adds old new (λ n. Any (RunsArea n) given) → HaveNumbers net (m + 1) new
 numbers_more net m config given old new router are before adds = record {
   backbone = (adds 0).1 (inl before.backbone);
@@ -98,7 +103,8 @@ area_there old m has = λ n. (
 
 -- Border routers
 
-pub border_by_other : (net : Network) (u n : ℕ) (config : Configuration) (given : List Interface) → HasConfiguration net u config → given ≡ config.interfaces → Any (RunsArea n) given → Any (RunsOther n) given ↔ IsBorderRouter net u
+pub border_by_other : (net : Network) (u n : ℕ) (config : Configuration) (given : List Interface) → HasConfiguration net u config →
+    given ≡ config.interfaces → Any (RunsArea n) given → Any (RunsOther n) given ↔ IsBorderRouter net u
 border_by_other net u n config given router are here = (
   λ any.
       let f = any_in (RunsOther n) given any in
@@ -120,7 +126,8 @@ border_by_other net u n config given router are here = (
         let f = any_in (RunsArea m) given ((inside_is net u m config given router are).1 inside) in
         any_of (RunsOther n) given f.item f.among (record { area = m; other = apart; runs = f.holds })
 
-pub no_area_no_border : (net : Network) (u : ℕ) (config : Configuration) (given : List Interface) → HasConfiguration net u config → given ≡ config.interfaces → ((n : ℕ) → Any (RunsArea n) given → ⊥) → IsTrue false ↔ IsBorderRouter net u
+pub no_area_no_border : (net : Network) (u : ℕ) (config : Configuration) (given : List Interface) → HasConfiguration net u config →
+    given ≡ config.interfaces → ((n : ℕ) → Any (RunsArea n) given → ⊥) → IsTrue false ↔ IsBorderRouter net u
 no_area_no_border net u config given router are none = (
   λ no. absurd (false≢true no),
   λ border. absurd (none border.one ((inside_is net u border.one config given router are).1 border.in_one)),
@@ -134,7 +141,8 @@ border_listens net u n border = (
   λ listens. ap Some (listens_to_one_area (backbone border) listens),
 )
 
-pub inner_listens : (net : Network) (u : ℕ) (config : Configuration) (given : List Interface) (found : Option ℕ) → HasConfiguration net u config → given ≡ config.interfaces → (IsBorderRouter net u → ⊥) →
+pub inner_listens : (net : Network) (u : ℕ) (config : Configuration) (given : List Interface) (found : Option ℕ) → HasConfiguration net u config →
+    given ≡ config.interfaces → (IsBorderRouter net u → ⊥) →
     MatchOption found ((n : ℕ) → Any (RunsArea n) given → ⊥) (λ n. Any (RunsArea n) given) → (n : ℕ) → (found ≡ Some n) ↔ ListensTo net u n
 inner_listens net u config given None router are inner none n = (
   λ no. absurd (none-some n no),
@@ -152,17 +160,21 @@ inner_listens net u config given (Some m) router are inner here n =
 
 -- The least walks of an area
 
-pub reach_is : (net : Network) (areas : List AreaWalks) (n u : ℕ) (walks : List Reach) (reach : Reach) → AreAreas net areas → HasWalks areas n walks → slice_get walks u ≡ Some reach → IsReach net n u reach
+pub reach_is : (net : Network) (areas : List AreaWalks) (n u : ℕ) (walks : List Reach) (reach : Reach) → AreAreas net areas → HasWalks areas n walks →
+    slice_get walks u ≡ Some reach → IsReach net n u reach
 reach_is net areas n u walks reach are has here =
-    let all : AreZoneWalks net (Area has.area.number) has.area.walks = All-contains (λ (a : AreaWalks). AreZoneWalks net (Area a.number) a.walks) areas has.area are.walks has.among in
+    let all : AreZoneWalks net (Area has.area.number) has.area.walks = All-contains (λ (a : AreaWalks). AreZoneWalks net (Area a.number) a.walks)
+    areas has.area are.walks has.among in
     let of_n : AreZoneWalks net (Area n) walks =
     subst (λ (m : ℕ). AreZoneWalks net (Area m) walks) has.number (subst (λ (w : List Reach). AreZoneWalks net (Area has.area.number) w) has.walks_are all) in
     record { least = of_n.least u reach here; near = of_n.near u reach here }
 
 -- as many walks as routers
-pub reach_within : (net : Network) (areas : List AreaWalks) (n u : ℕ) (walks : List Reach) → AreAreas net areas → HasWalks areas n walks → u < length net → u < length walks
+pub reach_within : (net : Network) (areas : List AreaWalks) (n u : ℕ) (walks : List Reach) → AreAreas net areas → HasWalks areas n walks → u < length net →
+    u < length walks
 reach_within net areas n u walks are has within =
-    let all : AreZoneWalks net (Area has.area.number) has.area.walks = All-contains (λ (a : AreaWalks). AreZoneWalks net (Area a.number) a.walks) areas has.area are.walks has.among in
+    let all : AreZoneWalks net (Area has.area.number) has.area.walks = All-contains (λ (a : AreaWalks). AreZoneWalks net (Area a.number) a.walks)
+    areas has.area are.walks has.among in
     let same : length has.area.walks ≡ length walks = ap length has.walks_are in
     omega (arith, all.routers, same)
 

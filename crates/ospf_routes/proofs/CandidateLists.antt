@@ -11,7 +11,7 @@ use Rattle.net_model.specs.declared.interface.Interface.{Interface}
 use Rattle.igp_theory.specs.Ospf.{default_prefix}
 use Rattle.route_tables.proofs.ListFacts.{any_of}
 use Rattle.route_tables.specs.Lists.{Adds}
-use Rattle.ospf_routes.specs.Candidates.{HasSubnet, IsRangeOf, IsCandidate, all, subnet, range}
+use Rattle.ospf_routes.specs.steps.Candidates.{HasSubnet, IsRangeOf, IsCandidate, all, subnet, range}
 
 -- the candidates of the routers below n are there
 pub record AreCandidatesBelow (net : Network) (n : ℕ) (dests : List Block) : Type 0 where
@@ -27,7 +27,9 @@ candidates_none net dests is = record {
 }
 
 -- one more router: its subnets first, then its ranges
-pub candidates_more : (net : Network) (n : ℕ) (config : Configuration) (old mid new : List Block) → HasConfiguration net n config → AreCandidatesBelow net n old → Adds old mid (λ p. Any (HasSubnet p) config.interfaces) → Adds mid new (λ p. Any (IsRangeOf p) config.ranges) → AreCandidatesBelow net (n + 1) new
+pub candidates_more : (net : Network) (n : ℕ) (config : Configuration) (old mid new : List Block) → HasConfiguration net n config →
+    AreCandidatesBelow net n old → Adds old mid (λ p. Any (HasSubnet p) config.interfaces) → Adds mid new (λ p. Any (IsRangeOf p) config.ranges) →
+    AreCandidatesBelow net (n + 1) new
 candidates_more net n config old mid new router before first second =
     let keep : (p : Block) → Contains old p → Contains new p = λ p has. (second p).1 (inl ((first p).1 (inl has))) in
     record {
@@ -38,7 +40,8 @@ candidates_more net n config old mid new router before first second =
             let same : w ≡ n = omega arith in
             let up_here : UpInterface net n i = subst (λ (k : ℕ). UpInterface net k i) same up in
             let is : up_here.config ≡ config = HasConfiguration-unique net n up_here.config config up_here.router router in
-            (second p).1 (inl ((first p).1 (inr (any_of (HasSubnet p) config.interfaces i (subst (λ (c : Configuration). Contains c.interfaces i) is up_here.among) has))))
+            (second p).1 (inl ((first p).1 (inr (any_of (HasSubnet p) config.interfaces i
+            (subst (λ (c : Configuration). Contains c.interfaces i) is up_here.among) has))))
       ];
       ranges = λ w other p below has have. elim (cases_lt w n) [
         | inl less ↦ keep p (before.ranges w other p less has have)
@@ -50,7 +53,8 @@ candidates_more net n config old mid new router before first second =
     }
 
 -- all candidates are there
-pub candidates_all : (net : Network) (n : ℕ) (dests : List Block) → length net ≡ n → AreCandidatesBelow net n dests → (p : Block) → IsCandidate net p → Contains dests p
+pub candidates_all : (net : Network) (n : ℕ) (dests : List Block) → length net ≡ n → AreCandidatesBelow net n dests → (p : Block) → IsCandidate net p →
+    Contains dests p
 candidates_all net n dests count are p (all same) = subst (λ (x : Block). Contains dests x) (sym same) are.all
 candidates_all net n dests count are p (subnet is) =
     let within : is.router < length net = UpInterface-within net is.router is.interface is.up in

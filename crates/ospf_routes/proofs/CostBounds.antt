@@ -15,16 +15,18 @@ use Rattle.walk_core.specs.Reach.{Reach, AreNear}
 use Rattle.walk_core.specs.BestOffers.{AreInRange, ListsOffer}
 use Rattle.walk_core.specs.declared.offers.Offer.{Offer}
 use Rattle.zone_graph.specs.Walks.{AreZoneWalks}
-use Rattle.igp_theory.specs.Ospf.{OffersSubnet, IntraAreaCost, RangeCost, stated, least, greatest, BackboneSummary, AreaSummary, BorderCost, Summary, into_backbone, into_area}
+use Rattle.igp_theory.specs.Ospf.{OffersSubnet, IntraAreaCost, RangeCost, stated, least, greatest, BackboneSummary, AreaSummary, BorderCost, Summary}
+use Rattle.igp_theory.specs.Ospf.{into_backbone, into_area}
 use Rattle.net_model.specs.declared.area.Range.{Range}
-use Rattle.ospf_routes.specs.Areas.{AreAreas, HasArea}
+use Rattle.ospf_routes.specs.steps.Areas.{AreAreas, HasArea}
 use Rattle.route_tables.proofs.BestRoutes.{offers_in_range}
-use Rattle.ospf_routes.specs.Offered.{AreOffers}
+use Rattle.ospf_routes.specs.steps.Offered.{AreOffers}
 use Rattle.ospf_routes.specs.declared.areas.AreaWalks.{AreaWalks}
 
 -- Lists of offers
 
-pub lists_from : (offer : Offers) (offers given : List Offer) → AreOffers offer offers → given ≡ offers → (at asks : ℕ) → ListsOffer given at asks ↔ offer at asks
+pub lists_from : (offer : Offers) (offers given : List Offer) → AreOffers offer offers → given ≡ offers → (at asks : ℕ) →
+    ListsOffer given at asks ↔ offer at asks
 lists_from offer offers given are same at asks =
     let listed : AreOffers offer given = subst (λ (l : List Offer). AreOffers offer l) (sym same) are in (
       λ l. subst (λ (w : ℕ). offer w asks) l.made (subst (λ (c : ℕ). offer l.offer.at c) l.asked ((listed l.offer).0 l.among)),
@@ -40,9 +42,11 @@ no_walks : Reach
 no_walks = record { distances = []; hops = [] }
 
 -- a least walk costs less than one arc of 2^32 for each of 200 routers
-pub walk_is_near : (net : Network) (areas : List AreaWalks) (n u v d : ℕ) → AreAreas net areas → HasArea areas n → u < length net → LeastCost (Adjacent net (Area n)) u v d → d < 200 * 2 ^ 32
+pub walk_is_near : (net : Network) (areas : List AreaWalks) (n u v d : ℕ) → AreAreas net areas → HasArea areas n → u < length net →
+    LeastCost (Adjacent net (Area n)) u v d → d < 200 * 2 ^ 32
 walk_is_near net areas n u v d are has within far =
-    let all : AreZoneWalks net (Area has.area.number) has.area.walks = All-contains (λ (a : AreaWalks). AreZoneWalks net (Area a.number) a.walks) areas has.area are.walks has.among in
+    let all : AreZoneWalks net (Area has.area.number) has.area.walks = All-contains (λ (a : AreaWalks). AreZoneWalks net (Area a.number) a.walks)
+    areas has.area are.walks has.among in
     let of_n : AreZoneWalks net (Area n) has.area.walks = subst (λ (m : ℕ). AreZoneWalks net (Area m) has.area.walks) has.number all in
     let inside : u < length has.area.walks = omega (arith, of_n.routers) in
     let reach : Reach = get_or has.area.walks u no_walks in
@@ -56,10 +60,12 @@ subnet_is_small net n p w cost network offers =
     let is : offers.interface.cost ≡ cost = offers.costs in
     omega arith
 
-pub intra_is_small : (net : Network) (areas : List AreaWalks) (n : ℕ) (p : Block) (u cost : ℕ) → AreAreas net areas → IntraAreaCost net n p u cost → cost < 2 ^ 41
+pub intra_is_small : (net : Network) (areas : List AreaWalks) (n : ℕ) (p : Block) (u cost : ℕ) → AreAreas net areas → IntraAreaCost net n p u cost →
+    cost < 2 ^ 41
 intra_is_small net areas n p u cost are costs =
     let attained = costs.best.attained in
-    let near : attained.walk < 200 * 2 ^ 32 = walk_is_near net areas n u costs.best.at attained.walk are (are.every u n costs.inside) (InArea-within net u n costs.inside) attained.reached in
+    let near : attained.walk < 200 * 2 ^ 32 = walk_is_near net areas n u costs.best.at attained.walk are (are.every u n costs.inside)
+    (InArea-within net u n costs.inside) attained.reached in
     let small : attained.asks < 2 ^ 24 = subnet_is_small net n p costs.best.at attained.asks are.network attained.offered in
     let sum : attained.walk + attained.asks ≡ cost = attained.costs in
     omega arith
@@ -84,7 +90,8 @@ backbone_is_small net areas p b cost are (BackboneSummary.of_range s) = range_is
 pub border_is_small : (net : Network) (areas : List AreaWalks) (p : Block) (u cost : ℕ) → AreAreas net areas → BorderCost net p u cost → cost < 2 ^ 42
 border_is_small net areas p u cost are costs =
     let attained = costs.best.attained in
-    let near : attained.walk < 200 * 2 ^ 32 = walk_is_near net areas 0 u costs.best.at attained.walk are are.backbone (InArea-within net u costs.border.one costs.border.in_one) attained.reached in
+    let near : attained.walk < 200 * 2 ^ 32 = walk_is_near net areas 0 u costs.best.at attained.walk are are.backbone
+    (InArea-within net u costs.border.one costs.border.in_one) attained.reached in
     let small : attained.asks < 2 ^ 41 = backbone_is_small net areas p costs.best.at attained.asks are attained.offered.offered in
     let sum : attained.walk + attained.asks ≡ cost = attained.costs in
     omega arith

@@ -4,10 +4,11 @@ use Rattle.net_addr.specs.Addresses.{Block}
 use Rattle.net_model.specs.Network.{Network, Connected}
 use Rattle.route_core.specs.declared.entry.Entry.{Entry}
 use Rattle.route_core.specs.declared.entry.Entry.TheVariants.{Via, Discard}
-use Rattle.igp_theory.specs.Ospf.{IsIntraArea, IsActiveRange, SummarizesSubnet, SummarizesRange, BackboneSummary, BorderCost, AreaSummary, Summary, into_backbone, into_area, InterAreaCost, OspfEntry, intra_area, discard, inter_area}
+use Rattle.igp_theory.specs.Ospf.{IsIntraArea, IsActiveRange, SummarizesSubnet, SummarizesRange, BackboneSummary, BorderCost, AreaSummary, Summary}
+use Rattle.igp_theory.specs.Ospf.{into_backbone, into_area, InterAreaCost, OspfEntry, intra_area, discard, inter_area}
 use Rattle.route_tables.proofs.ListFacts.{any_of}
-use Rattle.ospf_routes.specs.Candidates.{IsCandidate, IsRangeOf, all, range}
-use Rattle.ospf_routes.specs.Routing.{IsIntraRoute, IsListenedRoute, ListenedCost}
+use Rattle.ospf_routes.specs.steps.Candidates.{IsCandidate, IsRangeOf, all, range}
+use Rattle.ospf_routes.specs.steps.Routing.{IsIntraRoute, IsListenedRoute, ListenedCost}
 use Rattle.ospf_routes.proofs.RangeFacts.{intra_is_candidate, range_cost_active}
 
 -- a connected prefix has no entry
@@ -19,20 +20,32 @@ connected_has_none net u p is e (inter_area away _ _ _) = away is
 pub entry_by_intra : (net : Network) (u : ℕ) (p : Block) (hops : List ℕ) → (Connected net u p → ⊥) → IsIntraRoute net p u hops → OspfEntry net u p (Via hops)
 entry_by_intra net u p hops away route = intra_area away route.is route.hops_are
 
-pub entry_by_discard : (net : Network) (u : ℕ) (p : Block) → (Connected net u p → ⊥) → (IsIntraArea net p u → ⊥) → IsActiveRange net p u → OspfEntry net u p Discard
+pub entry_by_discard : (net : Network) (u : ℕ) (p : Block) → (Connected net u p → ⊥) → (IsIntraArea net p u → ⊥) → IsActiveRange net p u →
+    OspfEntry net u p Discard
 entry_by_discard net u p away no_intra is = discard away no_intra is refl
 
-inter_cost_of : (net : Network) (u : ℕ) (p : Block) (cost : ℕ) → (IsIntraArea net p u → ⊥) → (IsActiveRange net p u → ⊥) → ListenedCost net p u cost → InterAreaCost net p u cost
-inter_cost_of net u p cost no_intra no_range costs = record { no_intra = no_intra; no_range = no_range; area = costs.area; listens = costs.listens; best = costs.best }
+inter_cost_of : (net : Network) (u : ℕ) (p : Block) (cost : ℕ) → (IsIntraArea net p u → ⊥) → (IsActiveRange net p u → ⊥) → ListenedCost net p u cost →
+    InterAreaCost net p u cost
+inter_cost_of net u p cost no_intra no_range costs = record {
+  no_intra = no_intra;
+  no_range = no_range;
+  area = costs.area;
+  listens = costs.listens;
+  best = costs.best;
+}
 
-pub entry_by_inter : (net : Network) (u : ℕ) (p : Block) (hops : List ℕ) → (Connected net u p → ⊥) → (IsIntraArea net p u → ⊥) → (IsActiveRange net p u → ⊥) → IsListenedRoute net p u hops → OspfEntry net u p (Via hops)
-entry_by_inter net u p hops away no_intra no_range route = inter_area away route.cost (inter_cost_of net u p route.cost no_intra no_range route.costs) route.hops_are
+pub entry_by_inter : (net : Network) (u : ℕ) (p : Block) (hops : List ℕ) → (Connected net u p → ⊥) → (IsIntraArea net p u → ⊥) →
+    (IsActiveRange net p u → ⊥) → IsListenedRoute net p u hops → OspfEntry net u p (Via hops)
+entry_by_inter net u p hops away no_intra no_range route = inter_area away route.cost (inter_cost_of net u p route.cost no_intra no_range route.costs)
+    route.hops_are
 
 -- without a route there is no entry
-pub no_route_no_entry : (net : Network) (u : ℕ) (p : Block) → (IsIntraArea net p u → ⊥) → (IsActiveRange net p u → ⊥) → ((cost : ℕ) → ListenedCost net p u cost → ⊥) → (e : Entry) → OspfEntry net u p e → ⊥
+pub no_route_no_entry : (net : Network) (u : ℕ) (p : Block) → (IsIntraArea net p u → ⊥) → (IsActiveRange net p u → ⊥) →
+    ((cost : ℕ) → ListenedCost net p u cost → ⊥) → (e : Entry) → OspfEntry net u p e → ⊥
 no_route_no_entry net u p no_intra no_range none e (intra_area _ is _) = no_intra is
 no_route_no_entry net u p no_intra no_range none e (discard _ _ is _) = no_range is
-no_route_no_entry net u p no_intra no_range none e (inter_area _ cost costs _) = none cost (record { area = costs.area; listens = costs.listens; best = costs.best })
+no_route_no_entry net u p no_intra no_range none e (inter_area _ cost costs _) = none cost
+    (record { area = costs.area; listens = costs.listens; best = costs.best })
 
 -- Every prefix with an entry is a candidate
 
@@ -45,7 +58,8 @@ subnet_summary_is_candidate : (net : Network) (n : ℕ) (p : Block) (b cost : �
 subnet_summary_is_candidate net n p b cost s = intra_is_candidate net s.area p b cost s.costs
 
 range_summary_is_candidate : (net : Network) (n : ℕ) (p : Block) (b cost : ℕ) → SummarizesRange net n p b cost → IsCandidate net p
-range_summary_is_candidate net n p b cost s = active_is_candidate net b p (record { range = s.range; active = range_cost_active net b s.range cost s.costs; dest = s.dest })
+range_summary_is_candidate net n p b cost s = active_is_candidate net b p
+    (record { range = s.range; active = range_cost_active net b s.range cost s.costs; dest = s.dest })
 
 backbone_is_candidate : (net : Network) (p : Block) (b cost : ℕ) → BackboneSummary net p b cost → IsCandidate net p
 backbone_is_candidate net p b cost (BackboneSummary.of_subnet s) = subnet_summary_is_candidate net 0 p b cost s

@@ -1,8 +1,9 @@
 -- What the interfaces of each area offer of a prefix, and its intra-area costs.
-use Rattle.std.proofs.Common.{◌≡◌, ℕ, ◌<◌, ◌↔◌, ◌⊎◌, ⊎_elim, get_or, List, [], ◌∷◌, ◌++◌, length, Option, Some, None, MatchOption, refl, sym, ap, subst, ◌∙◌, arith}
+use Rattle.std.proofs.Common.{◌≡◌, ℕ, ◌<◌, ◌↔◌, ◌⊎◌, ⊎_elim, get_or, List, [], ◌∷◌, ◌++◌, length, Option, Some, None, MatchOption, refl, sym, ap, subst, ◌∙◌}
+use Rattle.std.proofs.Common.{arith}
 use Rattle.std.specs.List.{Contains, Any, All}
 use Rattle.std.proofs.lemmas.Option.{none-some}
-use Rattle.std.proofs.lemmas.List.Elements.{All-push, All-weaker, All-contains, Contains-append_left, Contains-get_or, Contains-push, Contains-push_cases}
+use Rattle.std.proofs.lemmas.List.Elements.{All-weaker, All-contains, Contains-append_left, Contains-get_or, Contains-push, Contains-push_cases}
 use Rattle.net_addr.specs.Addresses.{Block}
 use Rattle.net_model.proofs.Adjacency.{UpInterface-among}
 use Rattle.net_model.proofs.NetworkFacts.{UpInterface-within}
@@ -14,11 +15,11 @@ use Rattle.walk_core.specs.Reach.{Reach}
 use Rattle.walk_core.specs.BestOffers.{NoneTotals, IsBestTotal}
 use Rattle.walk_core.specs.declared.offers.Offer.{Offer}
 use Rattle.igp_theory.specs.Ospf.{OffersSubnet, IntraAreaCost, IsIntraArea}
-use Rattle.ospf_routes.specs.Areas.{AreAreas, HasArea, IsInside}
+use Rattle.ospf_routes.specs.steps.Areas.{AreAreas, HasArea, IsInside}
 use Rattle.ospf_routes.specs.declared.areas.AreaWalks.{AreaWalks}
-use Rattle.ospf_routes.specs.Destinations.{AddsPart, HasPart, IsDestination, IsPartOf}
+use Rattle.ospf_routes.specs.steps.Destinations.{AddsPart, HasPart, IsDestination, IsPartOf}
 use Rattle.ospf_routes.specs.Lists.{Exactly}
-use Rattle.ospf_routes.specs.Offered.{AreOffers, InsideOf, IsSubnetRoute}
+use Rattle.ospf_routes.specs.steps.Offered.{AreOffers, InsideOf, IsSubnetRoute}
 use Rattle.ospf_routes.specs.declared.intra_area.AreaOffers.{AreaOffers}
 use Rattle.ospf_routes.specs.declared.intra_area.Destination.{Destination}
 use Rattle.ospf_routes.specs.declared.subnets.AreaRoute.{AreaRoute}
@@ -32,7 +33,8 @@ use Rattle.route_tables.proofs.ListFacts.{AnyBelow, any_of, any_in, exactly_same
 abbrev pub RouterSubnet : Network → Block → ℕ → AreaRoute → Type 0
 RouterSubnet net p w r = (r.at ≡ w) × OffersSubnet net r.area p r.at r.asks
 
-pub router_subnet_is : (net : Network) (p : Block) (w : ℕ) (config : Configuration) (given : List Interface) → HasConfiguration net w config → given ≡ config.interfaces → (r : AreaRoute) →
+pub router_subnet_is : (net : Network) (p : Block) (w : ℕ) (config : Configuration) (given : List Interface) → HasConfiguration net w config →
+    given ≡ config.interfaces → (r : AreaRoute) →
     Any (λ (i : Interface). IsSubnetRoute i p w r) given ↔ RouterSubnet net p w r
 router_subnet_is net p w config given router are r = (
   λ any.
@@ -53,7 +55,8 @@ router_subnet_is net p w config given router are r = (
       (record { up = offers.up.up; subnet = offers.subnet; area = offers.area; at = both.0; costs = offers.costs }),
 )
 
-pub subnet_below : (net : Network) (p : Block) (n : ℕ) → length net ≡ n → (r : AreaRoute) → OffersSubnet net r.area p r.at r.asks → AnyBelow (RouterSubnet net p) n r
+pub subnet_below : (net : Network) (p : Block) (n : ℕ) → length net ≡ n → (r : AreaRoute) → OffersSubnet net r.area p r.at r.asks →
+    AnyBelow (RouterSubnet net p) n r
 subnet_below net p n count r offers =
     let within : r.at < length net = UpInterface-within net r.at offers.interface offers.up in
     record { source = r.at; below = omega arith; given = (refl, offers) }
@@ -67,18 +70,22 @@ pub has_part_here : (parts : List AreaOffers) (part : AreaOffers) → HasPart (p
 has_part_here parts part = record { part = part; among = Contains-push parts part; area = refl }
 
 -- what is offered in an area
-pub part_offers : (net : Network) (p : Block) (routes given : List AreaRoute) (part : AreaOffers) → Exactly (λ (r : AreaRoute). OffersSubnet net r.area p r.at r.asks) routes → given ≡ routes → IsPartOf given part →
+pub part_offers : (net : Network) (p : Block) (routes given : List AreaRoute) (part : AreaOffers) →
+    Exactly (λ (r : AreaRoute). OffersSubnet net r.area p r.at r.asks) routes → given ≡ routes → IsPartOf given part →
     AreOffers (OffersSubnet net part.area p) part.offers.items
 part_offers net p routes given part are same is =
-    exactly_same part.offers.items (λ (o : Offer). Any (λ (r : AreaRoute). InsideOf part.area r o) given) (λ (o : Offer). OffersSubnet net part.area p o.at o.asks) is
+    exactly_same part.offers.items (λ (o : Offer). Any (λ (r : AreaRoute). InsideOf part.area r o) given)
+    (λ (o : Offer). OffersSubnet net part.area p o.at o.asks) is
     (λ o. (
       λ any.
           let f = any_in (λ (r : AreaRoute). InsideOf part.area r o) given any in
-          let offers : OffersSubnet net f.item.area p f.item.at f.item.asks = (are f.item).0 (subst (λ (l : List AreaRoute). Contains l f.item) same f.among) in
+          let offers : OffersSubnet net f.item.area p f.item.at f.item.asks = (are f.item).0 (subst (λ (l : List AreaRoute). Contains l f.item) same f.among)
+          in
           moved f.item o f.holds offers,
       λ offers.
           let r : AreaRoute = record { area = part.area; at = o.at; asks = o.asks } in
-          any_of (λ (x : AreaRoute). InsideOf part.area x o) given r (subst (λ (l : List AreaRoute). Contains l r) (sym same) ((are r).1 offers)) (record { area = refl; at = refl; asks = refl }),
+          any_of (λ (x : AreaRoute). InsideOf part.area x o) given r (subst (λ (l : List AreaRoute). Contains l r) (sym same) ((are r).1 offers))
+          (record { area = refl; at = refl; asks = refl }),
     ))
   where
     moved : (r : AreaRoute) (o : Offer) → InsideOf part.area r o → OffersSubnet net r.area p r.at r.asks → OffersSubnet net part.area p o.at o.asks
@@ -87,10 +94,13 @@ part_offers net p routes given part are same is =
         (subst (λ (w : ℕ). OffersSubnet net part.area p w r.asks) (sym inside.at)
         (subst (λ (n : ℕ). OffersSubnet net n p r.at r.asks) inside.area offers))
 
-pub destination_is : (net : Network) (areas : List AreaWalks) (routes given : List AreaRoute) (d : Destination) → AreAreas net areas → Exactly (λ (r : AreaRoute). OffersSubnet net r.area d.dest r.at r.asks) routes → given ≡ routes →
-    All (IsPartOf given) d.parts.items → ((n : ℕ) (o : Offer) → HasArea areas n → Any (λ (r : AreaRoute). InsideOf n r o) given → HasPart d.parts.items n) → IsDestination net d
+pub destination_is : (net : Network) (areas : List AreaWalks) (routes given : List AreaRoute) (d : Destination) → AreAreas net areas →
+    Exactly (λ (r : AreaRoute). OffersSubnet net r.area d.dest r.at r.asks) routes → given ≡ routes →
+    All (IsPartOf given) d.parts.items → ((n : ℕ) (o : Offer) → HasArea areas n → Any (λ (r : AreaRoute). InsideOf n r o) given → HasPart d.parts.items n) →
+    IsDestination net d
 destination_is net areas routes given d are exact same parts every = record {
-  exact = All-weaker (IsPartOf given) (λ (part : AreaOffers). AreOffers (OffersSubnet net part.area d.dest) part.offers.items) (λ part is. part_offers net d.dest routes given part exact same is) d.parts.items parts;
+  exact = All-weaker (IsPartOf given) (λ (part : AreaOffers). AreOffers (OffersSubnet net part.area d.dest) part.offers.items)
+      (λ part is. part_offers net d.dest routes given part exact same is) d.parts.items parts;
   every = λ n w cost offers.
       let r : AreaRoute = record { area = n; at = w; asks = cost } in
       let among : Contains given r = subst (λ (l : List AreaRoute). Contains l r) (sym same) ((exact r).1 offers) in
@@ -107,7 +117,8 @@ pub record PartsSoFar (wanted : ℕ → Offer → Type 0) (front : List AreaWalk
 pub parts_none : (wanted : ℕ → Offer → Type 0) → PartsSoFar wanted [] []
 parts_none wanted = record { exact = λ k d within. absurd (omega arith); every = λ n o has is. absurd (omega (arith, has.among.1)) }
 
-pub parts_more : (wanted : ℕ → Offer → Type 0) (front : List AreaWalks) (a : AreaWalks) (old new : List AreaOffers) (part : AreaOffers) → PartsSoFar wanted front old → part.area ≡ a.number →
+pub parts_more : (wanted : ℕ → Offer → Type 0) (front : List AreaWalks) (a : AreaWalks) (old new : List AreaOffers) (part : AreaOffers) →
+    PartsSoFar wanted front old → part.area ≡ a.number →
     Exactly (wanted part.area) part.offers.items → AddsPart old new part → PartsSoFar wanted (front ++ a ∷ []) new
 parts_more wanted front a old new part before area is adds = record {
   exact = λ k d within. one (get_or new k d) (adds.each (get_or new k d) (Contains-get_or new k d within));
@@ -133,13 +144,16 @@ parts_more wanted front a old new part before area is adds = record {
 
 -- Intra-area costs
 
-pub no_intra_cost : (net : Network) (n : ℕ) (p : Block) (u : ℕ) → ((cost : ℕ) → IntraAreaCost net n p u cost → ⊥) → (cost : ℕ) → (◌≡◌ {A = Option ℕ} None (Some cost)) ↔ IntraAreaCost net n p u cost
+pub no_intra_cost : (net : Network) (n : ℕ) (p : Block) (u : ℕ) → ((cost : ℕ) → IntraAreaCost net n p u cost → ⊥) → (cost : ℕ) →
+    (◌≡◌ {A = Option ℕ} None (Some cost)) ↔ IntraAreaCost net n p u cost
 no_intra_cost net n p u none cost = (λ is. absurd (none-some cost is), λ costs. absurd (none cost costs))
 
-pub no_intra_part : (net : Network) (d : Destination) (n u : ℕ) → IsDestination net d → (HasPart d.parts.items n → ⊥) → (cost : ℕ) → IntraAreaCost net n d.dest u cost → ⊥
+pub no_intra_part : (net : Network) (d : Destination) (n u : ℕ) → IsDestination net d → (HasPart d.parts.items n → ⊥) → (cost : ℕ) →
+    IntraAreaCost net n d.dest u cost → ⊥
 no_intra_part net d n u is none cost costs = none (is.every n costs.best.at costs.best.attained.asks costs.best.attained.offered)
 
-pub no_intra_anywhere : (net : Network) (d : Destination) (given : List AreaOffers) (u : ℕ) → IsDestination net d → given ≡ d.parts.items → All (λ (part : AreaOffers). (c : ℕ) → IntraAreaCost net part.area d.dest u c → ⊥) given → IsIntraArea net d.dest u → ⊥
+pub no_intra_anywhere : (net : Network) (d : Destination) (given : List AreaOffers) (u : ℕ) → IsDestination net d → given ≡ d.parts.items →
+    All (λ (part : AreaOffers). (c : ℕ) → IntraAreaCost net part.area d.dest u c → ⊥) given → IsIntraArea net d.dest u → ⊥
 no_intra_anywhere net d given u is same none intra =
     let best = intra.costs.best in
     let has = is.every intra.area best.at best.attained.asks best.attained.offered in
@@ -147,16 +161,22 @@ no_intra_anywhere net d given u is same none intra =
     All-contains (λ (part : AreaOffers). (c : ℕ) → IntraAreaCost net part.area d.dest u c → ⊥) given has.part none among intra.cost
     (subst (λ (n : ℕ). IntraAreaCost net n d.dest u intra.cost) (sym has.area) intra.costs)
 
-pub no_intra_given : (net : Network) (d : Destination) (given : List AreaOffers) (n u : ℕ) → IsDestination net d → given ≡ d.parts.items → (HasPart given n → ⊥) → (cost : ℕ) → IntraAreaCost net n d.dest u cost → ⊥
+pub no_intra_given : (net : Network) (d : Destination) (given : List AreaOffers) (n u : ℕ) → IsDestination net d → given ≡ d.parts.items →
+    (HasPart given n → ⊥) → (cost : ℕ) → IntraAreaCost net n d.dest u cost → ⊥
 no_intra_given net d given n u is same none = no_intra_part net d n u is (subst (λ (l : List AreaOffers). HasPart l n → ⊥) same none)
 
-pub part_is : (net : Network) (d : Destination) (given : List AreaOffers) (part : AreaOffers) (n : ℕ) → IsDestination net d → given ≡ d.parts.items → Contains given part → part.area ≡ n → AreOffers (OffersSubnet net n d.dest) part.offers.items
+pub part_is : (net : Network) (d : Destination) (given : List AreaOffers) (part : AreaOffers) (n : ℕ) → IsDestination net d → given ≡ d.parts.items →
+    Contains given part → part.area ≡ n → AreOffers (OffersSubnet net n d.dest) part.offers.items
 part_is net d given part n is same among area =
     subst (λ (m : ℕ). AreOffers (OffersSubnet net m d.dest) part.offers.items) area
-    (All-contains (λ (x : AreaOffers). AreOffers (OffersSubnet net x.area d.dest) x.offers.items) d.parts.items part is.exact (subst (λ (l : List AreaOffers). Contains l part) same among))
+    (All-contains (λ (x : AreaOffers). AreOffers (OffersSubnet net x.area d.dest) x.offers.items) d.parts.items part is.exact
+    (subst (λ (l : List AreaOffers). Contains l part) same among))
 
-pub intra_cost_is : (net : Network) (n : ℕ) (p : Block) (u : ℕ) (reach : Reach) (offers given : List Offer) → IsInside net n u reach → AreOffers (OffersSubnet net n p) offers → given ≡ offers →
-    (found : Option ℕ) → MatchOption found (NoneTotals reach given) (IsBestTotal reach given) → (cost : ℕ) → (found ≡ Some cost) ↔ IntraAreaCost net n p u cost
+pub intra_cost_is : (net : Network) (n : ℕ) (p : Block) (u : ℕ) (reach : Reach) (offers given : List Offer) → IsInside net n u reach →
+    AreOffers (OffersSubnet net n p) offers → given ≡ offers →
+    (found : Option ℕ) → MatchOption found (NoneTotals reach given) (IsBestTotal reach given) → (cost : ℕ) →
+    (found ≡ Some cost) ↔ IntraAreaCost net n p u cost
 intra_cost_is net n p u reach offers given inside are same found best cost =
-    let is = best_cost_is (Adjacent net (Area n)) u reach (OffersSubnet net n p) given inside.reach_is.least (lists_from (OffersSubnet net n p) offers given are same) found best cost in
+    let is = best_cost_is (Adjacent net (Area n)) u reach (OffersSubnet net n p) given inside.reach_is.least
+    (lists_from (OffersSubnet net n p) offers given are same) found best cost in
     (λ e. record { inside = inside.inside; best = is.0 e }, λ costs. is.1 costs.best)

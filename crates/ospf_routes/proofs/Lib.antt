@@ -8,3 +8,5 @@ mod RouteFacts
 mod EntryFacts
 mod ProtocolFacts
 mod DestinationFacts
+mod ZoneRoutes
+mod BorderLists

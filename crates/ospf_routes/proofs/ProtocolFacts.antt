@@ -16,7 +16,7 @@ use Rattle.igp_theory.specs.Ospf.{OspfEntry, intra_area, discard, inter_area}
 use Rattle.igp_theory.specs.Laws.{IsOspfNeighbor, Forwards}
 use Rattle.igp_theory.proofs.TableLaws.{ospf_entry_unique, ospf_entry_forwards, ospf_hop_is_neighbor}
 use Rattle.route_tables.specs.Entries.{IsLawful}
-use Rattle.ospf_routes.specs.Areas.{AreAreas}
+use Rattle.ospf_routes.specs.steps.Areas.{AreAreas}
 use Rattle.ospf_routes.specs.declared.areas.AreaWalks.{AreaWalks}
 
 -- Neighbors
@@ -26,15 +26,18 @@ neighbor_is_router : (net : Network) (u v : ℕ) → IsOspfNeighbor net u v → 
 neighbor_is_router net u v is = Adjacent-to_within net (Area is.area) u v is.cost is.adjacent
 
 -- two routers are neighbors where some arc leads from one to the other in one of the areas
-pub neighbor_by : (net : Network) (u v n : ℕ) (arc : Option ℕ) → MatchOption arc ((c : ℕ) → Adjacent net (Area n) u v c → ⊥) (LeastArc net (Area n) u v) → IsTrue (is_some arc) → IsOspfNeighbor net u v
+pub neighbor_by : (net : Network) (u v n : ℕ) (arc : Option ℕ) → MatchOption arc ((c : ℕ) → Adjacent net (Area n) u v c → ⊥) (LeastArc net (Area n) u v) →
+    IsTrue (is_some arc) → IsOspfNeighbor net u v
 neighbor_by net u v n None none wrong = absurd (false≢true wrong)
 neighbor_by net u v n (Some c) least _ = record { area = n; cost = c; adjacent = least.adjacent }
 
-pub no_arc : (net : Network) (u v n : ℕ) (arc : Option ℕ) → MatchOption arc ((c : ℕ) → Adjacent net (Area n) u v c → ⊥) (LeastArc net (Area n) u v) → is_some arc ≡ false → (c : ℕ) → Adjacent net (Area n) u v c → ⊥
+pub no_arc : (net : Network) (u v n : ℕ) (arc : Option ℕ) → MatchOption arc ((c : ℕ) → Adjacent net (Area n) u v c → ⊥) (LeastArc net (Area n) u v) →
+    is_some arc ≡ false → (c : ℕ) → Adjacent net (Area n) u v c → ⊥
 no_arc net u v n None none _ = none
 no_arc net u v n (Some c) least wrong = absurd (false≢true (sym wrong))
 
-pub no_neighbor : (net : Network) (areas : List AreaWalks) (u v : ℕ) → AreAreas net areas → All (λ (a : AreaWalks). (c : ℕ) → Adjacent net (Area a.number) u v c → ⊥) areas → IsOspfNeighbor net u v → ⊥
+pub no_neighbor : (net : Network) (areas : List AreaWalks) (u v : ℕ) → AreAreas net areas →
+    All (λ (a : AreaWalks). (c : ℕ) → Adjacent net (Area a.number) u v c → ⊥) areas → IsOspfNeighbor net u v → ⊥
 no_neighbor net areas u v are none is =
     let has = are.every u is.area (Adjacent-in_area net is.area u v is.cost is.adjacent).0 in
     All-contains (λ (a : AreaWalks). (c : ℕ) → Adjacent net (Area a.number) u v c → ⊥) areas has.area none has.among is.cost

@@ -1,5 +1,6 @@
 -- Components and active ranges.
-use Rattle.std.proofs.Common.{◌≡◌, ℕ, ◌+◌, ◌<◌, ◌≤◌, ◌↔◌, inl, inr, ⊎_elim, List, [], ◌∷◌, ◌++◌, length, get_or, Option, Some, None, MatchOption, Bool, true, false, refl, sym, ap, subst, ◌∙◌, arith, length-append}
+use Rattle.std.proofs.Common.{◌≡◌, ℕ, ◌+◌, ◌<◌, ◌≤◌, ◌↔◌, inl, inr, ⊎_elim, List, [], ◌∷◌, ◌++◌, length, get_or, Option, Some, None, MatchOption, Bool, true}
+use Rattle.std.proofs.Common.{false, refl, sym, ap, subst, ◌∙◌, arith, length-append}
 use Rattle.std.specs.List.{Contains, Any, All}
 use Rattle.std.proofs.lemmas.Bool.{cases_lt, false≢true}
 use Rattle.std.proofs.lemmas.Option.{none-some, same_Some}
@@ -13,10 +14,10 @@ use Rattle.net_model.specs.Configuration.{Configuration}
 use Rattle.net_model.specs.Network.{Network, HasConfiguration, IsBorderRouter}
 use Rattle.net_model.specs.declared.area.Range.{Range}
 use Rattle.igp_theory.specs.Ospf.{IntraAreaCost, HasRange, IsComponent, IsActive, IsActiveRange, IsCompatible, RangeCost, stated, least, greatest}
-use Rattle.ospf_routes.specs.Candidates.{IsCandidate, subnet}
-use Rattle.ospf_routes.specs.Destinations.{dests_of}
+use Rattle.ospf_routes.specs.steps.Candidates.{IsCandidate, subnet}
+use Rattle.ospf_routes.specs.steps.Destinations.{dests_of}
 use Rattle.ospf_routes.specs.Lists.{Exactly, Adds}
-use Rattle.ospf_routes.specs.Ranges.{IsLonger, HasComponentCost, IsComponentOfSome, IsPicked, IsActiveAt, HasActive, AreActiveRanges, AreRangesBelow}
+use Rattle.ospf_routes.specs.steps.Ranges.{IsLonger, HasComponentCost, IsComponentOfSome, IsPicked, IsActiveAt, HasActive, AreActiveRanges, AreRangesBelow}
 use Rattle.ospf_routes.specs.declared.intra_area.Destination.{Destination}
 use Rattle.ospf_routes.specs.declared.ranges.ActiveRange.{ActiveRange}
 use Rattle.route_tables.proofs.ListFacts.{any_of, any_in, exactly_same, each_more}
@@ -24,62 +25,77 @@ use Rattle.route_tables.proofs.ListFacts.{any_of, any_in, exactly_same, each_mor
 -- Components
 
 -- a range of the router is one of its configuration
-pub range_among : (net : Network) (b : ℕ) (config : Configuration) (given : List Range) (r : Range) → HasConfiguration net b config → given ≡ config.ranges → HasRange net b r → Contains given r
+pub range_among : (net : Network) (b : ℕ) (config : Configuration) (given : List Range) (r : Range) → HasConfiguration net b config → given ≡ config.ranges →
+    HasRange net b r → Contains given r
 range_among net b config given r router are has =
     subst (λ (l : List Range). Contains l r) (sym are)
     (subst (λ (c : Configuration). Contains c.ranges r) (HasConfiguration-unique net b has.config config has.router router) has.among)
 
-pub range_at : (net : Network) (b : ℕ) (config : Configuration) (given : List Range) (r : Range) → IsBorderRouter net b → HasConfiguration net b config → given ≡ config.ranges → Contains given r → HasRange net b r
+pub range_at : (net : Network) (b : ℕ) (config : Configuration) (given : List Range) (r : Range) → IsBorderRouter net b → HasConfiguration net b config →
+    given ≡ config.ranges → Contains given r → HasRange net b r
 range_at net b config given r border router are among =
     record { border = border; config = config; router = router; among = subst (λ (l : List Range). Contains l r) are among }
 
-pub component_is : (net : Network) (b : ℕ) (config : Configuration) (given : List Range) (r : Range) (p : Block) (cost : ℕ) → HasRange net b r → HasConfiguration net b config → given ≡ config.ranges →
+pub component_is : (net : Network) (b : ℕ) (config : Configuration) (given : List Range) (r : Range) (p : Block) (cost : ℕ) → HasRange net b r →
+    HasConfiguration net b config → given ≡ config.ranges →
     Covers r.dest p → (Any (IsLonger r p) given → ⊥) → IntraAreaCost net r.area p b cost → IsComponent net b r p cost
 component_is net b config given r p cost has router are covers none reached = record {
   range = has;
   covered = covers;
   reached = reached;
   longest = λ other also area over. elim (cases_lt r.dest.len other.dest.len) [
-    | inl longer ↦ absurd (none (any_of (IsLonger r p) given other (range_among net b config given other router are also) (record { area = area; covers = over; longer = longer })))
+    | inl longer ↦ absurd (none (any_of (IsLonger r p) given other (range_among net b config given other router are also)
+        (record { area = area; covers = over; longer = longer })))
     | inr short ↦ omega arith
   ];
 }
 
-pub no_component_past_longer : (net : Network) (b : ℕ) (config : Configuration) (given : List Range) (r : Range) (p : Block) (cost : ℕ) → HasRange net b r → HasConfiguration net b config → given ≡ config.ranges →
+pub no_component_past_longer : (net : Network) (b : ℕ) (config : Configuration) (given : List Range) (r : Range) (p : Block) (cost : ℕ) → HasRange net b r →
+    HasConfiguration net b config → given ≡ config.ranges →
     Any (IsLonger r p) given → IsComponent net b r p cost → ⊥
 no_component_past_longer net b config given r p cost has router are any component =
     let f = any_in (IsLonger r p) given any in
-    let short : f.item.dest.len ≤ r.dest.len = component.longest f.item (range_at net b config given f.item has.border router are f.among) f.holds.area f.holds.covers in
+    let short : f.item.dest.len ≤ r.dest.len = component.longest f.item (range_at net b config given f.item has.border router are f.among)
+    f.holds.area f.holds.covers in
     let longer : r.dest.len < f.item.dest.len = f.holds.longer in
     omega arith
 
-pub no_component : (net : Network) (b : ℕ) (r : Range) (p : Block) → ((cost : ℕ) → IsComponent net b r p cost → ⊥) → (cost : ℕ) → (◌≡◌ {A = Option ℕ} None (Some cost)) ↔ IsComponent net b r p cost
+pub no_component : (net : Network) (b : ℕ) (r : Range) (p : Block) → ((cost : ℕ) → IsComponent net b r p cost → ⊥) → (cost : ℕ) →
+    (◌≡◌ {A = Option ℕ} None (Some cost)) ↔ IsComponent net b r p cost
 no_component net b r p none cost = (λ no. absurd (none-some cost no), λ is. absurd (none cost is))
 
 -- a prefix with an intra-area cost is a subnet
 pub intra_is_candidate : (net : Network) (n : ℕ) (p : Block) (u cost : ℕ) → IntraAreaCost net n p u cost → IsCandidate net p
 intra_is_candidate net n p u cost costs =
     let offers = costs.best.attained.offered in
-    subnet (record { router = costs.best.at; interface = offers.interface; up = offers.up; has = record { up = offers.up.up; runs = some_area offers.interface.area n offers.area; subnet = offers.subnet } })
+    subnet (record {
+      router = costs.best.at;
+      interface = offers.interface;
+      up = offers.up;
+      has = record { up = offers.up.up; runs = some_area offers.interface.area n offers.area; subnet = offers.subnet };
+    })
   where
     some_area : (o : Option ℕ) (m : ℕ) → o ≡ Some m → IsSome o
     some_area None m is = absurd (none-some m is)
     some_area (Some k) m is = refl
 
 -- each candidate is the prefix of a destination
-pub destination_of : (net : Network) (ds : List Destination) (p : Block) → Contains (dests_of ds) p → (P : Block → Type 0) → P p → Any (λ (d : Destination). P d.dest) ds
+pub destination_of : (net : Network) (ds : List Destination) (p : Block) → Contains (dests_of ds) p → (P : Block → Type 0) → P p →
+    Any (λ (d : Destination). P d.dest) ds
 destination_of net ds p has P holds =
     let given = Contains-map (λ (d : Destination). d.dest) ds p has in
     any_of (λ (d : Destination). P d.dest) ds given.item given.among (subst P (sym given.gives) holds)
 
 -- the costs of the components, over all destinations
-pub component_costs_are : (net : Network) (b : ℕ) (r : Range) (ds : List Destination) (costs : List ℕ) → ((p : Block) → IsCandidate net p → Contains (dests_of ds) p) →
+pub component_costs_are : (net : Network) (b : ℕ) (r : Range) (ds : List Destination) (costs : List ℕ) →
+    ((p : Block) → IsCandidate net p → Contains (dests_of ds) p) →
     Exactly (λ c. Any (λ (d : Destination). IsComponent net b r d.dest c) ds) costs → Exactly (HasComponentCost net b r) costs
 component_costs_are net b r ds costs every are =
     exactly_same costs (λ c. Any (λ (d : Destination). IsComponent net b r d.dest c) ds) (HasComponentCost net b r) are
     (λ c. (
       λ any. let f = any_in (λ (d : Destination). IsComponent net b r d.dest c) ds any in record { dest = f.item.dest; component = f.holds },
-      λ has. destination_of net ds has.dest (every has.dest (intra_is_candidate net r.area has.dest b c has.component.reached)) (λ (p : Block). IsComponent net b r p c) has.component,
+      λ has. destination_of net ds has.dest (every has.dest (intra_is_candidate net r.area has.dest b c has.component.reached))
+          (λ (p : Block). IsComponent net b r p c) has.component,
     ))
 
 -- Range costs
@@ -106,11 +122,13 @@ range_cost_unique net b r c d (greatest _ _ p one upper) (greatest _ _ q other a
 range_cost_unique net b r c d (least _ old _ _ _) (greatest _ new _ _ _) = absurd (compatible_one net b old new)
 range_cost_unique net b r c d (greatest _ new _ _ _) (least _ old _ _ _) = absurd (compatible_one net b old new)
 
-compatible_says : (net : Network) (b : ℕ) (config : Configuration) (says : Bool) → HasConfiguration net b config → config.rfc1583 ≡ says → IsCompatible net b says
+compatible_says : (net : Network) (b : ℕ) (config : Configuration) (says : Bool) → HasConfiguration net b config → config.rfc1583 ≡ says →
+    IsCompatible net b says
 compatible_says net b config says router is = record { config = config; router = router; says = is }
 
 -- what is picked from the costs of the components is the range's cost
-pub range_cost_is : (net : Network) (b : ℕ) (config : Configuration) (r : Range) (costs given : List ℕ) (cost : ℕ) → HasConfiguration net b config → Exactly (HasComponentCost net b r) costs → given ≡ costs →
+pub range_cost_is : (net : Network) (b : ℕ) (config : Configuration) (r : Range) (costs given : List ℕ) (cost : ℕ) → HasConfiguration net b config →
+    Exactly (HasComponentCost net b r) costs → given ≡ costs →
     IsPicked r config.rfc1583 given cost → RangeCost net b r cost
 range_cost_is net b config r costs given cost router are same picked = go picked
   where
@@ -124,13 +142,16 @@ range_cost_is net b config r costs given cost router are same picked = go picked
         stated is (record { dest = has.dest; cost = c; component = has.component })
     go (IsPicked.least unsaid old is) =
         let has : HasComponentCost net b r cost = (listed cost).0 is.among in
-        least unsaid (compatible_says net b config true router old) has.dest has.component (λ q other component. is.least other ((listed other).1 (record { dest = q; component = component })))
+        least unsaid (compatible_says net b config true router old) has.dest has.component
+        (λ q other component. is.least other ((listed other).1 (record { dest = q; component = component })))
     go (IsPicked.greatest unsaid new is) =
         let has : HasComponentCost net b r cost = (listed cost).0 is.among in
-        greatest unsaid (compatible_says net b config false router new) has.dest has.component (λ q other component. is.greatest other ((listed other).1 (record { dest = q; component = component })))
+        greatest unsaid (compatible_says net b config false router new) has.dest has.component
+        (λ q other component. is.greatest other ((listed other).1 (record { dest = q; component = component })))
 
 -- without components the range isn't active
-pub not_active : (net : Network) (b : ℕ) (r : Range) (costs given : List ℕ) → Exactly (HasComponentCost net b r) costs → given ≡ costs → length given ≡ 0 → IsActive net b r → ⊥
+pub not_active : (net : Network) (b : ℕ) (r : Range) (costs given : List ℕ) → Exactly (HasComponentCost net b r) costs → given ≡ costs → length given ≡ 0 →
+    IsActive net b r → ⊥
 not_active net b r costs given are same none active =
     let has : Contains costs active.cost = (are active.cost).1 (record { dest = active.dest; component = active.component }) in
     let e : length given ≡ length costs = ap length same in
@@ -146,7 +167,8 @@ pub record ActivesSoFar (net : Network) (b : ℕ) (front : List Range) (actives 
 pub actives_none : (net : Network) (b : ℕ) → ActivesSoFar net b [] []
 actives_none net b = record { exact = λ a has. absurd (omega (arith, has.1)); every = λ r has. absurd (omega (arith, has.1)) }
 
-pub actives_more : (net : Network) (b : ℕ) (front : List Range) (r : Range) (old new : List ActiveRange) (found : Option ActiveRange) → ActivesSoFar net b front old →
+pub actives_more : (net : Network) (b : ℕ) (front : List Range) (r : Range) (old new : List ActiveRange) (found : Option ActiveRange) →
+    ActivesSoFar net b front old →
     MatchOption found (IsActive net b r → ⊥) (IsActiveAt net b r) → Adds old new (λ a. found ≡ Some a) → ActivesSoFar net b (front ++ r ∷ []) new
 actives_more net b front r old new None before none adds = record {
   exact = λ a has. ⊎_elim (λ older. before.exact a older) (λ no. absurd (none-some a no)) ((adds a).0 has);
@@ -169,7 +191,8 @@ actives_more net b front r old new (Some x) before is adds = record {
 active_same : (a x : ActiveRange) → x.range ≡ a.range → x.cost ≡ a.cost → x ≡ a
 active_same a x e f = λ i. record { range = e i; cost = f i }
 
-pub actives_all : (net : Network) (b : ℕ) (config : Configuration) (given : List Range) (actives : List ActiveRange) → HasConfiguration net b config → given ≡ config.ranges → ActivesSoFar net b given actives → AreActiveRanges net b actives
+pub actives_all : (net : Network) (b : ℕ) (config : Configuration) (given : List Range) (actives : List ActiveRange) → HasConfiguration net b config →
+    given ≡ config.ranges → ActivesSoFar net b given actives → AreActiveRanges net b actives
 actives_all net b config given actives router are so_far = record {
   exact = λ a. (
     so_far.exact a,
@@ -177,7 +200,8 @@ actives_all net b config given actives router are so_far = record {
         let active : IsActive net b a.range = range_cost_active net b a.range a.cost costs in
         let h = every a.range active in
         let here : RangeCost net b h.active.range h.active.cost = so_far.exact h.active h.among in
-        let same : h.active.cost ≡ a.cost = range_cost_unique net b a.range h.active.cost a.cost (subst (λ (r : Range). RangeCost net b r h.active.cost) h.range here) costs in
+        let same : h.active.cost ≡ a.cost = range_cost_unique net b a.range h.active.cost a.cost
+        (subst (λ (r : Range). RangeCost net b r h.active.cost) h.range here) costs in
         subst (λ (x : ActiveRange). Contains actives x) (active_same a h.active h.range same) h.among,
   );
   every = every;
@@ -194,7 +218,8 @@ no_actives net b inner = record {
 }
 
 -- the prefix of an active range
-pub active_range_is : (net : Network) (u : ℕ) (p : Block) (actives : List ActiveRange) → AreActiveRanges net u actives → Any (λ (a : ActiveRange). a.range.dest ≡ p) actives ↔ IsActiveRange net p u
+pub active_range_is : (net : Network) (u : ℕ) (p : Block) (actives : List ActiveRange) → AreActiveRanges net u actives →
+    Any (λ (a : ActiveRange). a.range.dest ≡ p) actives ↔ IsActiveRange net p u
 active_range_is net u p actives are = (
   λ any.
       let f = any_in (λ (a : ActiveRange). a.range.dest ≡ p) actives any in
@@ -209,20 +234,23 @@ active_range_is net u p actives are = (
 pub ranges_below_none : (net : Network) → AreRangesBelow net 0 []
 ranges_below_none net = record { count = refl; each = λ b below. absurd (omega arith) }
 
-pub ranges_below_more : (net : Network) (n : ℕ) (all : List (List ActiveRange)) (next : List ActiveRange) → AreRangesBelow net n all → AreActiveRanges net n next → AreRangesBelow net (n + 1) (all ++ next ∷ [])
+pub ranges_below_more : (net : Network) (n : ℕ) (all : List (List ActiveRange)) (next : List ActiveRange) → AreRangesBelow net n all →
+    AreActiveRanges net n next → AreRangesBelow net (n + 1) (all ++ next ∷ [])
 ranges_below_more net n all next are is = record {
   count = let long = length-append all (next ∷ []) in omega (arith, are.count);
   each = each_more (AreActiveRanges net) all n next are.count are.each is;
 }
 
 -- the ranges of a router, as they are read
-pub ranges_of : (net : Network) (all : List (List ActiveRange)) (b : ℕ) (here : List ActiveRange) → AreRangesBelow net (length net) all → b < length net → here ≡ get_or all b here → AreActiveRanges net b here
+pub ranges_of : (net : Network) (all : List (List ActiveRange)) (b : ℕ) (here : List ActiveRange) → AreRangesBelow net (length net) all → b < length net →
+    here ≡ get_or all b here → AreActiveRanges net b here
 ranges_of net all b here are within is =
     subst (AreActiveRanges net b) (sym (is ∙ get_or_default all b here [] (omega (arith, are.count)))) (are.each b within)
 
 -- No component
 
-pub component_of_some : (net : Network) (b : ℕ) (config : Configuration) (given : List Range) (p : Block) → HasConfiguration net b config → given ≡ config.ranges →
+pub component_of_some : (net : Network) (b : ℕ) (config : Configuration) (given : List Range) (p : Block) → HasConfiguration net b config →
+    given ≡ config.ranges →
     All (λ (r : Range). (c : ℕ) → IsComponent net b r p c → ⊥) given → IsComponentOfSome net b p → ⊥
 component_of_some net b config given p router are none is =
     let among : Contains given is.range = range_among net b config given is.range router are is.component.range in

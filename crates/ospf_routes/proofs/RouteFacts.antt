@@ -1,11 +1,12 @@
 -- The routes of a router within and between areas.
-use Rattle.std.proofs.Common.{◌≡◌, ℕ, ◌+◌, ◌<◌, ◌≤◌, ◌↔◌, ◌⊎◌, inl, inr, ⊎_elim, List, [], ◌∷◌, ◌++◌, length, take, get_or, Option, Some, None, MatchOption, refl, sym, ap, subst, ◌∙◌, arith}
+use Rattle.std.proofs.Common.{◌≡◌, ℕ, ◌+◌, ◌<◌, ◌≤◌, ◌↔◌, ◌⊎◌, inl, inr, ⊎_elim, List, [], ◌∷◌, ◌++◌, length, take, get_or, Option, Some, None, MatchOption}
+use Rattle.std.proofs.Common.{refl, sym, ap, subst, ◌∙◌, arith}
 use Rattle.std.specs.List.{Contains, Any}
 use Rattle.std.specs.List.Sorted.{IsStrictlyIncreasing}
 use Rattle.std.proofs.lemmas.Option.{none-some, same_Some}
 use Rattle.std.proofs.lemmas.List.{take_all}
 use Rattle.std.proofs.lemmas.List.Quantifiers.{Any-push}
-use Rattle.std.proofs.lemmas.List.Elements.{All-contains, Contains-append_left, Contains-get_or, Contains-push, Contains-push_cases}
+use Rattle.std.proofs.lemmas.List.Elements.{All-contains, Contains-get_or, Contains-push_cases}
 use Rattle.net_addr.specs.Addresses.{Block}
 use Rattle.net_model.proofs.NetworkFacts.{Adjacent-to_within}
 use Rattle.net_model.specs.Network.{Network, Adjacent}
@@ -19,15 +20,15 @@ use Rattle.walk_core.proofs.OfferLaws.{best_total_is_best_cost, none_totals_no_b
 use Rattle.walk_core.proofs.WalkLaws.{best_hop_is_arc}
 use Rattle.igp_theory.specs.Ospf.{OffersSubnet, IntraAreaCost, IntraAreaHop, IsIntraArea, ListensTo, backbone, one_area, OfOthers, Summary, InterAreaHop}
 use Rattle.igp_theory.proofs.TableLaws.{listens_to_one_area}
-use Rattle.ospf_routes.specs.Areas.{AreAreas, HasArea, IsInside, IsReach}
-use Rattle.ospf_routes.specs.Offered.{AreOffers}
+use Rattle.ospf_routes.specs.steps.Areas.{AreAreas, HasArea, IsInside, IsReach}
+use Rattle.ospf_routes.specs.steps.Offered.{AreOffers}
 use Rattle.ospf_routes.specs.Lists.{Adds}
 use Rattle.route_tables.proofs.BestRoutes.{best_hops_are, hops_same}
 use Rattle.route_tables.specs.BestRoutes.{AreBestHops}
-use Rattle.ospf_routes.specs.Routing.{AreUnited, AreSomeUnited, IsAreaRoute, AreAreaRoutes, IsIntraRoute, ListenedCost, IsListenedRoute}
-use Rattle.ospf_routes.specs.Destinations.{HasPart, IsDestination}
+use Rattle.ospf_routes.specs.steps.Routing.{AreUnited, AreSomeUnited, IsAreaRoute, AreAreaRoutes, IsIntraRoute, ListenedCost, IsListenedRoute}
+use Rattle.ospf_routes.specs.steps.Destinations.{HasPart, IsDestination}
 use Rattle.ospf_routes.specs.declared.intra_area.Destination.{Destination}
-use Rattle.ospf_routes.specs.Summarized.{AreSummaries, IsSummaryOf}
+use Rattle.ospf_routes.specs.steps.Summarized.{AreSummaries, IsSummaryOf}
 use Rattle.ospf_routes.specs.declared.areas.AreaWalks.{AreaWalks}
 use Rattle.ospf_routes.specs.declared.intra_area.AreaOffers.{AreaOffers}
 use Rattle.ospf_routes.specs.declared.summaries.Summaries.{Summaries}
@@ -37,18 +38,24 @@ use Rattle.route_tables.proofs.ListFacts.{any_of, any_in, any_left, any_cases, o
 
 -- Within an area
 
-pub area_route_is : (net : Network) (n : ℕ) (p : Block) (u : ℕ) (reach : Reach) (offers given : List Offer) → IsInside net n u reach → AreOffers (OffersSubnet net n p) offers → given ≡ offers →
+pub area_route_is : (net : Network) (n : ℕ) (p : Block) (u : ℕ) (reach : Reach) (offers given : List Offer) → IsInside net n u reach →
+    AreOffers (OffersSubnet net n p) offers → given ≡ offers →
     (count : ℕ) → count ≡ length net → (found : Option (List ℕ)) → MatchOption found (NoneTotals reach given) (AreBestHops reach given count) →
     MatchOption found ((cost : ℕ) → IntraAreaCost net n p u cost → ⊥) (IsAreaRoute net n p u)
 area_route_is net n p u reach offers given inside are same count is None none = λ cost costs.
-    none_totals_no_best (Adjacent net (Area n)) u reach (OffersSubnet net n p) given inside.reach_is.least (lists_from (OffersSubnet net n p) offers given are same) none cost costs.best
+    none_totals_no_best (Adjacent net (Area n)) u reach (OffersSubnet net n p) given inside.reach_is.least
+    (lists_from (OffersSubnet net n p) offers given are same) none cost costs.best
 area_route_is net n p u reach offers given inside are same count is (Some hops) best =
     let arc : Arcs = Adjacent net (Area n) in
     let listed = lists_from (OffersSubnet net n p) offers given are same in
     record {
       inside = inside.inside;
       cost = best.cost;
-      costs = record { inside = inside.inside; best = (best_total_is_best_cost arc u reach (OffersSubnet net n p) given best.cost inside.reach_is.least listed).0 best.best };
+      costs = record {
+        inside = inside.inside;
+        best = (best_total_is_best_cost arc u reach (OffersSubnet net n p)
+            given best.cost inside.reach_is.least listed).0 best.best;
+      };
       hops_are = best_hops_are arc u reach (OffersSubnet net n p) given count hops inside.reach_is.least listed
           (λ h c over. subst (λ (m : ℕ). h < m) (sym is) (Adjacent-to_within net (Area n) u h c over)) best;
     }
@@ -67,8 +74,10 @@ part_cases front a n has = ⊎_elim
     (λ same. inr (ap (λ (x : AreaOffers). x.area) same ∙ has.area))
     (Contains-push_cases front a has.part has.among)
 
-pub area_lists_more : (net : Network) (p : Block) (u : ℕ) (front : List AreaOffers) (a : AreaOffers) (old new : List (List ℕ)) (found : Option (List ℕ)) → AreaListsSoFar net p u front old →
-    MatchOption found ((cost : ℕ) → IntraAreaCost net a.area p u cost → ⊥) (IsAreaRoute net a.area p u) → Adds old new (λ x. found ≡ Some x) → AreaListsSoFar net p u (front ++ a ∷ []) new
+pub area_lists_more : (net : Network) (p : Block) (u : ℕ) (front : List AreaOffers) (a : AreaOffers) (old new : List (List ℕ)) (found : Option (List ℕ)) →
+    AreaListsSoFar net p u front old →
+    MatchOption found ((cost : ℕ) → IntraAreaCost net a.area p u cost → ⊥) (IsAreaRoute net a.area p u) → Adds old new (λ x. found ≡ Some x) →
+    AreaListsSoFar net p u (front ++ a ∷ []) new
 area_lists_more net p u front a old new None before none adds = record {
   each = λ hops has. ⊎_elim (λ older. before.each hops older) (λ no. absurd (none-some hops no)) ((adds hops).0 has);
   every = λ n cost has costs. ⊎_elim
@@ -87,7 +96,8 @@ area_lists_more net p u front a old new (Some x) before route adds = record {
       (part_cases front a n has);
 }
 
-pub area_lists_all : (net : Network) (d : Destination) (given : List AreaOffers) (u : ℕ) (lists : List (List ℕ)) → IsDestination net d → given ≡ d.parts.items → AreaListsSoFar net d.dest u given lists →
+pub area_lists_all : (net : Network) (d : Destination) (given : List AreaOffers) (u : ℕ) (lists : List (List ℕ)) → IsDestination net d →
+    given ≡ d.parts.items → AreaListsSoFar net d.dest u given lists →
     AreAreaRoutes net d.dest u lists
 area_lists_all net d given u lists is same so_far = record {
   each = so_far.each;
@@ -107,7 +117,8 @@ pub some_of_none : (lists : List (List ℕ)) (n : ℕ) → AreSomeOf (take 0 lis
 some_of_none lists n h = (λ has. absurd (omega (arith, has.1)), λ both. absurd (omega (arith, both.1.2)))
 
 -- the hops of one more list
-pub some_of_more : (lists : List (List ℕ)) (i : ℕ) (list given : List ℕ) (n : ℕ) (old new : List ℕ) → i < length lists → list ≡ get_or lists i list → given ≡ list → AreSomeOf (take i lists) n old →
+pub some_of_more : (lists : List (List ℕ)) (i : ℕ) (list given : List ℕ) (n : ℕ) (old new : List ℕ) → i < length lists → list ≡ get_or lists i list →
+    given ≡ list → AreSomeOf (take i lists) n old →
     ((h : ℕ) → Contains new h ↔ (Contains old h ⊎ ((h < n) × Contains given h))) → AreSomeOf (take (i + 1) lists) n new
 some_of_more lists i list given n old new within is same before adds =
     subst (λ (l : List (List ℕ)). AreSomeOf l n new) (one_more lists i list within is) (λ h. (
@@ -122,7 +133,8 @@ some_of_more lists i list given n old new within is same before adds =
     ))
 
 -- the hops of all lists, in order
-pub united_of_all : (lists : List (List ℕ)) (i n : ℕ) (hops sorted : List ℕ) → length lists ≤ i → AreSomeOf (take i lists) n hops → IsStrictlyIncreasing sorted →
+pub united_of_all : (lists : List (List ℕ)) (i n : ℕ) (hops sorted : List ℕ) → length lists ≤ i → AreSomeOf (take i lists) n hops →
+    IsStrictlyIncreasing sorted →
     ((h : ℕ) → Contains sorted h ↔ Contains hops h) → AreUnited lists n sorted
 united_of_all lists i n hops sorted past some ascending kept =
     let all : AreSomeOf lists n hops = subst (λ (l : List (List ℕ)). AreSomeOf l n hops) (take_all i lists past) some in
@@ -139,7 +151,8 @@ no_lists net p u lists are empty is =
     let inside : Contains lists e.0 = e.1 in
     omega (arith, inside.1)
 
-pub united_route : (net : Network) (p : Block) (u : ℕ) (lists given : List (List ℕ)) (count : ℕ) (hops : List ℕ) → AreAreaRoutes net p u lists → given ≡ lists → (length lists ≡ 0 → ⊥) → count ≡ length net → AreUnited given count hops →
+pub united_route : (net : Network) (p : Block) (u : ℕ) (lists given : List (List ℕ)) (count : ℕ) (hops : List ℕ) → AreAreaRoutes net p u lists →
+    given ≡ lists → (length lists ≡ 0 → ⊥) → count ≡ length net → AreUnited given count hops →
     IsIntraRoute net p u hops
 united_route net p u lists given count hops are same some is united =
     record {
@@ -167,10 +180,12 @@ united_route net p u lists given count hops are same some is united =
         let route = all.every hop.area hop.best.cost (record { inside = hop.inside; best = hop.best.best }) in
         (united.exact h).1 (omega arith, any_of (λ (l : List ℕ). Contains l h) given route.0 route.1 ((in_area route.2).1 hop.best))
       where
-        in_area : {list : List ℕ} → IsAreaRoute net hop.area p u list → Contains list h ↔ BestHop (Adjacent net (Area hop.area)) (OffersSubnet net hop.area p) u h
+        in_area : {list : List ℕ} → IsAreaRoute net hop.area p u list →
+            Contains list h ↔ BestHop (Adjacent net (Area hop.area)) (OffersSubnet net hop.area p) u h
         in_area route = route.hops_are.exact h
 
-pub intra_route_is : (net : Network) (p : Block) (u : ℕ) (lists given : List (List ℕ)) (count : ℕ) → AreAreaRoutes net p u lists → given ≡ lists → count ≡ length net → (found : Option (List ℕ)) →
+pub intra_route_is : (net : Network) (p : Block) (u : ℕ) (lists given : List (List ℕ)) (count : ℕ) → AreAreaRoutes net p u lists → given ≡ lists →
+    count ≡ length net → (found : Option (List ℕ)) →
     MatchOption found (length given ≡ 0) (AreSomeUnited given count) → MatchOption found (IsIntraArea net p u → ⊥) (IsIntraRoute net p u)
 intra_route_is net p u lists given count are same counted None none =
     let e : length given ≡ length lists = ap length same in no_lists net p u lists are (omega arith)
@@ -182,25 +197,30 @@ intra_route_is net p u lists given count are same counted (Some hops) some =
 -- Between areas
 
 pub listened_route_is : (net : Network) (n : ℕ) (p : Block) (u : ℕ) (reach : Reach) (others given : List Offer) → ListensTo net u n → IsReach net n u reach →
-    AreOffers (OfReached (Adjacent net (Area n)) (OfOthers (Summary net p n) u) u) others → given ≡ others → (count : ℕ) → count ≡ length net → (found : Option (List ℕ)) → MatchOption found (NoneTotals reach given) (AreBestHops reach given count) →
+    AreOffers (OfReached (Adjacent net (Area n)) (OfOthers (Summary net p n) u) u) others → given ≡ others → (count : ℕ) → count ≡ length net →
+    (found : Option (List ℕ)) → MatchOption found (NoneTotals reach given) (AreBestHops reach given count) →
     MatchOption found ((cost : ℕ) → ListenedCost net p u cost → ⊥) (IsListenedRoute net p u)
 listened_route_is net n p u reach others given listens is are same count counted None none = λ cost costs.
     let arc : Arcs = Adjacent net (Area n) in
     let offer : Offers = OfOthers (Summary net p n) u in
-    let here : BestCost arc offer u cost = subst (λ (m : ℕ). BestCost (Adjacent net (Area m)) (OfOthers (Summary net p m) u) u cost) (listens_to_one_area costs.listens listens) costs.best in
-    none_totals_no_best arc u reach (OfReached arc offer u) given is.least (lists_from (OfReached arc offer u) others given are same) none cost ((reached_best arc offer u cost).1 here)
+    let here : BestCost arc offer u cost = subst (λ (m : ℕ). BestCost (Adjacent net (Area m)) (OfOthers (Summary net p m) u) u cost)
+    (listens_to_one_area costs.listens listens) costs.best in
+    none_totals_no_best arc u reach (OfReached arc offer u) given is.least (lists_from (OfReached arc offer u) others given are same) none cost
+    ((reached_best arc offer u cost).1 here)
 listened_route_is net n p u reach others given listens is are same count counted (Some hops) best =
     let arc : Arcs = Adjacent net (Area n) in
     let offer : Offers = OfOthers (Summary net p n) u in
     let listed = lists_from (OfReached arc offer u) others given are same in
-    let costs : BestCost arc (OfReached arc offer u) u best.cost = (best_total_is_best_cost arc u reach (OfReached arc offer u) given best.cost is.least listed).0 best.best in
+    let costs : BestCost arc (OfReached arc offer u) u best.cost =
+    (best_total_is_best_cost arc u reach (OfReached arc offer u) given best.cost is.least listed).0 best.best in
     record {
       cost = best.cost;
       costs = record { area = n; listens = listens; best = (reached_best arc offer u best.cost).0 costs };
       hops_are = hops_same (BestHop arc (OfReached arc offer u) u) (InterAreaHop net p u) hops
           (λ h. (
             λ hop. record { area = n; listens = listens; best = (reached_hop arc offer u h).0 hop },
-            λ hop. (reached_hop arc offer u h).1 (subst (λ (m : ℕ). BestHop (Adjacent net (Area m)) (OfOthers (Summary net p m) u) u h) (listens_to_one_area hop.listens listens) hop.best),
+            λ hop. (reached_hop arc offer u h).1 (subst (λ (m : ℕ). BestHop (Adjacent net (Area m)) (OfOthers (Summary net p m) u) u h)
+                (listens_to_one_area hop.listens listens) hop.best),
           ))
           (best_hops_are arc u reach (OfReached arc offer u) given count hops is.least listed
           (λ h c over. subst (λ (m : ℕ). h < m) (sym counted) (Adjacent-to_within net (Area n) u h c over)) best);
@@ -208,7 +228,8 @@ listened_route_is net n p u reach others given listens is are same count counted
 
 -- The announcements into an area
 
-pub summary_part_is : (net : Network) (areas : List AreaWalks) (s : Summaries) (given : List AreaOffers) (part : AreaOffers) (n : ℕ) → AreSummaries net areas s → given ≡ s.parts.items → Contains given part → part.area ≡ n → AreOffers (Summary net s.dest n) part.offers.items
+pub summary_part_is : (net : Network) (areas : List AreaWalks) (s : Summaries) (given : List AreaOffers) (part : AreaOffers) (n : ℕ) →
+    AreSummaries net areas s → given ≡ s.parts.items → Contains given part → part.area ≡ n → AreOffers (Summary net s.dest n) part.offers.items
 summary_part_is net areas s given part n are same among area =
     subst (λ (m : ℕ). AreOffers (Summary net s.dest m) part.offers.items) area
     (All-contains (IsSummaryOf net s.dest) s.parts.items part are.exact (subst (λ (l : List AreaOffers). Contains l part) same among))
@@ -218,7 +239,8 @@ pub listened_area : (net : Network) (areas : List AreaWalks) (n u : ℕ) → Are
 listened_area net areas _ u are (backbone border) = are.backbone
 listened_area net areas n u are (one_area _ inside) = are.every u n inside
 
-pub summary_part_there : (net : Network) (areas : List AreaWalks) (s : Summaries) (given : List AreaOffers) (n u : ℕ) → AreAreas net areas → AreSummaries net areas s → given ≡ s.parts.items → ListensTo net u n →
+pub summary_part_there : (net : Network) (areas : List AreaWalks) (s : Summaries) (given : List AreaOffers) (n u : ℕ) → AreAreas net areas →
+    AreSummaries net areas s → given ≡ s.parts.items → ListensTo net u n →
     (HasPart given n → ⊥) → (cost : ℕ) → ListenedCost net s.dest u cost → ⊥
 summary_part_there net areas s given n u are summaries same listens none cost costs =
     let best : BestCost (Adjacent net (Area n)) (OfOthers (Summary net s.dest n) u) u cost =
@@ -227,7 +249,9 @@ summary_part_there net areas s given n u are summaries same listens none cost co
     (summaries.every n best.at best.attained.asks (listened_area net areas n u are listens) best.attained.offered.offered))
 
 -- without announcements nothing is listened to
-pub no_summaries : (net : Network) (areas : List AreaWalks) (s : Summaries) (u : ℕ) → AreAreas net areas → AreSummaries net areas s → length s.parts.items ≡ 0 → (cost : ℕ) → ListenedCost net s.dest u cost → ⊥
+pub no_summaries : (net : Network) (areas : List AreaWalks) (s : Summaries) (u : ℕ) → AreAreas net areas → AreSummaries net areas s →
+    length s.parts.items ≡ 0 → (cost : ℕ) → ListenedCost net s.dest u cost → ⊥
 no_summaries net areas s u are summaries empty cost costs =
-    let has = summaries.every costs.area costs.best.at costs.best.attained.asks (listened_area net areas costs.area u are costs.listens) costs.best.attained.offered.offered in
+    let has = summaries.every costs.area costs.best.at costs.best.attained.asks (listened_area net areas costs.area u are costs.listens)
+    costs.best.attained.offered.offered in
     omega (arith, empty, has.among.1)

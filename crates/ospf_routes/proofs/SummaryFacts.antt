@@ -1,5 +1,6 @@
 -- What border routers summarize of a prefix, and announce into each area.
-use Rattle.std.proofs.Common.{◌≡◌, ◌≢◌, ℕ, ◌<◌, ◌↔◌, ◌⊎◌, inl, inr, ⊎_elim, List, [], length, get_or, Option, Some, None, MatchOption, IsTrue, refl, sym, ap, subst, ◌∙◌, arith}
+use Rattle.std.proofs.Common.{◌≡◌, ◌≢◌, ℕ, ◌<◌, ◌↔◌, ◌⊎◌, inl, inr, ⊎_elim, List, [], length, get_or, Option, Some, None, MatchOption, IsTrue, refl, sym, ap}
+use Rattle.std.proofs.Common.{subst, ◌∙◌, arith}
 use Rattle.std.specs.List.{Contains, Any, All}
 use Rattle.std.proofs.lemmas.Option.{none-some, same_Some}
 use Rattle.std.proofs.lemmas.List.Elements.{Contains-get_or}
@@ -16,13 +17,15 @@ use Rattle.walk_core.specs.Reach.{Reach, AreLeastWalks}
 use Rattle.walk_core.specs.BestOffers.{NoneTotals, IsBestTotal}
 use Rattle.walk_core.specs.declared.offers.Offer.{Offer}
 use Rattle.walk_core.proofs.WalkLaws.{best_cost_unique}
-use Rattle.igp_theory.specs.Ospf.{IntraAreaCost, IsIntraArea, IsActiveRange, BackboneSummary, AreaSummary, BorderCost, RangeCost, HasStub, IsTotallyStubby, Summary, into_backbone, into_area, OfOthers, default_prefix}
-use Rattle.ospf_routes.specs.Areas.{AreAreas, IsReach}
+use Rattle.igp_theory.specs.Ospf.{IntraAreaCost, IsIntraArea, IsActiveRange, BackboneSummary, AreaSummary, BorderCost, RangeCost, HasStub, IsTotallyStubby}
+use Rattle.igp_theory.specs.Ospf.{Summary, into_backbone, into_area, OfOthers, default_prefix}
+use Rattle.ospf_routes.specs.steps.Areas.{AreAreas, IsReach}
 use Rattle.ospf_routes.specs.Lists.{Exactly, Adds}
-use Rattle.ospf_routes.specs.Offered.{AreOffers, OutsideOf}
-use Rattle.ospf_routes.specs.Ranges.{IsComponentOfSome, AreActiveRanges}
-use Rattle.ospf_routes.specs.Routing.{IsReachedOther}
-use Rattle.ospf_routes.specs.Summarized.{IsSubnetSummary, SummarizedSubnet, IsRangeRoute, SummarizedRange, SummarizedFrom, AreSummarized, OutsideSummary, IsBorderOffer, IsAllowed, IsAlone, IsDefault, RouterDefault, HasDefault}
+use Rattle.ospf_routes.specs.steps.Offered.{AreOffers, OutsideOf}
+use Rattle.ospf_routes.specs.steps.Ranges.{IsComponentOfSome, AreActiveRanges}
+use Rattle.ospf_routes.specs.steps.Routing.{IsReachedOther}
+use Rattle.ospf_routes.specs.steps.Summarized.{IsSubnetSummary, SummarizedSubnet, IsRangeRoute, SummarizedRange, SummarizedFrom, AreSummarized, OutsideSummary}
+use Rattle.ospf_routes.specs.steps.Summarized.{IsBorderOffer, IsAllowed, IsAlone, IsDefault, RouterDefault, HasDefault}
 use Rattle.ospf_routes.specs.declared.areas.AreaWalks.{AreaWalks}
 use Rattle.ospf_routes.specs.declared.ranges.ActiveRange.{ActiveRange}
 use Rattle.ospf_routes.specs.declared.subnets.AreaRoute.{AreaRoute}
@@ -33,7 +36,8 @@ use Rattle.ospf_routes.proofs.RangeFacts.{range_cost_active}
 
 -- What one router summarizes
 
-pub subnet_summary_some : (net : Network) (p : Block) (n b asks : ℕ) → IntraAreaCost net n p b asks → (r : AreaRoute) → (Some (record { area = n; at = b; asks = asks }) ≡ Some r) ↔ IsSubnetSummary net p n b r
+pub subnet_summary_some : (net : Network) (p : Block) (n b asks : ℕ) → IntraAreaCost net n p b asks → (r : AreaRoute) →
+    (Some (record { area = n; at = b; asks = asks }) ≡ Some r) ↔ IsSubnetSummary net p n b r
 subnet_summary_some net p n b asks costs r =
     let one : AreaRoute = record { area = n; at = b; asks = asks } in (
       λ same. subst (λ (x : AreaRoute). IsSubnetSummary net p n b x) (same_Some one r same) (record { area = refl; at = refl; costs = costs }),
@@ -45,14 +49,17 @@ subnet_summary_some net p n b asks costs r =
         let e : asks ≡ r.asks = best_cost_unique costs.best is.costs.best in
         λ i. record { area = (sym is.area) i; at = (sym is.at) i; asks = e i }
 
-pub subnet_summary_none : (net : Network) (p : Block) (n b : ℕ) → ((cost : ℕ) → (◌≡◌ {A = Option ℕ} None (Some cost)) ↔ IntraAreaCost net n p b cost) → (r : AreaRoute) → (◌≡◌ {A = Option AreaRoute} None (Some r)) ↔ IsSubnetSummary net p n b r
+pub subnet_summary_none : (net : Network) (p : Block) (n b : ℕ) → ((cost : ℕ) → (◌≡◌ {A = Option ℕ} None (Some cost)) ↔ IntraAreaCost net n p b cost) →
+    (r : AreaRoute) → (◌≡◌ {A = Option AreaRoute} None (Some r)) ↔ IsSubnetSummary net p n b r
 subnet_summary_none net p n b none r = (λ no. absurd (none-some r no), λ is. absurd (none-some r.asks ((none r.asks).1 is.costs)))
 
-pub subnets_nothing : (net : Network) (p : Block) (b : ℕ) (old : List AreaRoute) → (IsBorderRouter net b → IsComponentOfSome net b p) → Adds old old (SummarizedSubnet net p b)
+pub subnets_nothing : (net : Network) (p : Block) (b : ℕ) (old : List AreaRoute) → (IsBorderRouter net b → IsComponentOfSome net b p) →
+    Adds old old (SummarizedSubnet net p b)
 subnets_nothing net p b old blocked =
     adds_nothing old (SummarizedSubnet net p b) (λ r s. let is = blocked s.border in s.alone is.range is.cost is.component)
 
-pub subnets_are : (net : Network) (areas : List AreaWalks) (p : Block) (b : ℕ) → AreAreas net areas → IsBorderRouter net b → (IsComponentOfSome net b p → ⊥) → (r : AreaRoute) →
+pub subnets_are : (net : Network) (areas : List AreaWalks) (p : Block) (b : ℕ) → AreAreas net areas → IsBorderRouter net b →
+    (IsComponentOfSome net b p → ⊥) → (r : AreaRoute) →
     Any (λ (a : AreaWalks). IsSubnetSummary net p a.number b r) areas ↔ SummarizedSubnet net p b r
 subnets_are net areas p b are border alone r = (
   λ any.
@@ -69,17 +76,20 @@ subnets_are net areas p b are border alone r = (
       (record { area = sym has.number; at = s.at; costs = subst (λ (n : ℕ). IntraAreaCost net n p b r.asks) (sym has.number) s.costs }),
 )
 
-pub range_route_some : (a : ActiveRange) (p : Block) (b : ℕ) → a.range.dest ≡ p → IsTrue a.range.advertise → (r : AreaRoute) → (Some (record { area = a.range.area; at = b; asks = a.cost }) ≡ Some r) ↔ IsRangeRoute a p b r
+pub range_route_some : (a : ActiveRange) (p : Block) (b : ℕ) → a.range.dest ≡ p → IsTrue a.range.advertise → (r : AreaRoute) →
+    (Some (record { area = a.range.area; at = b; asks = a.cost }) ≡ Some r) ↔ IsRangeRoute a p b r
 range_route_some a p b dest advertised r =
     let one : AreaRoute = record { area = a.range.area; at = b; asks = a.cost } in (
-      λ same. subst (λ (x : AreaRoute). IsRangeRoute a p b x) (same_Some one r same) (record { dest = dest; advertised = advertised; area = refl; at = refl; costs = refl }),
+      λ same. subst (λ (x : AreaRoute). IsRangeRoute a p b x) (same_Some one r same)
+          (record { dest = dest; advertised = advertised; area = refl; at = refl; costs = refl }),
       λ is. ap Some (same_route is),
     )
   where
     same_route : IsRangeRoute a p b r → ◌≡◌ {A = AreaRoute} (record { area = a.range.area; at = b; asks = a.cost }) r
     same_route is = λ i. record { area = (sym is.area) i; at = (sym is.at) i; asks = (sym is.costs) i }
 
-pub ranges_are : (net : Network) (p : Block) (b : ℕ) (actives given : List ActiveRange) → AreActiveRanges net b actives → given ≡ actives → (r : AreaRoute) → Any (λ (a : ActiveRange). IsRangeRoute a p b r) given ↔ SummarizedRange net p b r
+pub ranges_are : (net : Network) (p : Block) (b : ℕ) (actives given : List ActiveRange) → AreActiveRanges net b actives → given ≡ actives → (r : AreaRoute) →
+    Any (λ (a : ActiveRange). IsRangeRoute a p b r) given ↔ SummarizedRange net p b r
 ranges_are net p b actives given are same r =
     let listed : AreActiveRanges net b given = subst (AreActiveRanges net b) (sym same) are in (
       λ any.
@@ -100,21 +110,23 @@ ranges_are net p b actives given are same r =
           (record { dest = s.dest; advertised = s.advertised; area = sym s.area; at = s.at; costs = refl }),
     )
 
-pub summarized_both : (net : Network) (p : Block) (b : ℕ) (r : AreaRoute) → SummarizedFrom net p b r ↔ (SummarizedSubnet net p b r ⊎ SummarizedRange net p b r)
+pub summarized_both : (net : Network) (p : Block) (b : ℕ) (r : AreaRoute) →
+    SummarizedFrom net p b r ↔ (SummarizedSubnet net p b r ⊎ SummarizedRange net p b r)
 summarized_both net p b r = (there, ⊎_elim (λ s. SummarizedFrom.of_subnet s) (λ s. SummarizedFrom.of_range s))
   where
     there : SummarizedFrom net p b r → SummarizedSubnet net p b r ⊎ SummarizedRange net p b r
     there (SummarizedFrom.of_subnet s) = inl s
     there (SummarizedFrom.of_range s) = inr s
 
-summarized_at : (net : Network) (p : Block) (b : ℕ) (r : AreaRoute) → SummarizedFrom net p b r → (r.at ≡ b) × IsBorderRouter net b
+pub summarized_at : (net : Network) (p : Block) (b : ℕ) (r : AreaRoute) → SummarizedFrom net p b r → (r.at ≡ b) × IsBorderRouter net b
 summarized_at net p b r (SummarizedFrom.of_subnet s) = (s.at, s.border)
 summarized_at net p b r (SummarizedFrom.of_range s) = (s.at, s.has.border)
 
 border_within : (net : Network) (b : ℕ) → IsBorderRouter net b → b < length net
 border_within net b border = InArea-within net b border.one border.in_one
 
-pub summarized_below : (net : Network) (p : Block) (n : ℕ) → length net ≡ n → (r : AreaRoute) → SummarizedFrom net p r.at r → AnyBelow (SummarizedFrom net p) n r
+pub summarized_below : (net : Network) (p : Block) (n : ℕ) → length net ≡ n → (r : AreaRoute) → SummarizedFrom net p r.at r →
+    AnyBelow (SummarizedFrom net p) n r
 summarized_below net p n count r from =
     let within : r.at < length net = border_within net r.at (summarized_at net p r.at r from).1 in
     record { source = r.at; below = omega arith; given = from }
@@ -125,8 +137,10 @@ summarized_back net p b r from = subst (λ (k : ℕ). SummarizedFrom net p k r) 
 -- What goes out of the other areas
 
 outside_of : (net : Network) (n : ℕ) (p : Block) (r : AreaRoute) → r.area ≢ n → SummarizedFrom net p r.at r → OutsideSummary net n p r.at r.asks
-outside_of net n p r other (SummarizedFrom.of_subnet s) = OutsideSummary.of_subnet (record { border = s.border; area = r.area; other = other; costs = s.costs; alone = s.alone })
-outside_of net n p r other (SummarizedFrom.of_range s) = OutsideSummary.of_range (record { range = s.range; has = s.has; dest = s.dest; other = λ same. other (sym s.area ∙ same); advertised = s.advertised; costs = s.costs })
+outside_of net n p r other (SummarizedFrom.of_subnet s) = OutsideSummary.of_subnet
+    (record { border = s.border; area = r.area; other = other; costs = s.costs; alone = s.alone })
+outside_of net n p r other (SummarizedFrom.of_range s) = OutsideSummary.of_range
+    (record { range = s.range; has = s.has; dest = s.dest; other = λ same. other (sym s.area ∙ same); advertised = s.advertised; costs = s.costs })
 
 -- a route that is summarized
 record Outgoing (net : Network) (n : ℕ) (p : Block) (b cost : ℕ) : Type 0 where
@@ -138,9 +152,15 @@ outgoing_of : (net : Network) (n : ℕ) (p : Block) (b cost : ℕ) → OutsideSu
 outgoing_of net n p b cost (OutsideSummary.of_subnet s) =
     record { area = s.area; other = s.other; from = SummarizedFrom.of_subnet (record { at = refl; border = s.border; costs = s.costs; alone = s.alone }) }
 outgoing_of net n p b cost (OutsideSummary.of_range s) =
-    record { area = s.range.area; other = s.other; from = SummarizedFrom.of_range (record { at = refl; range = s.range; has = s.has; dest = s.dest; area = refl; advertised = s.advertised; costs = s.costs }) }
+    record {
+      area = s.range.area;
+      other = s.other;
+      from = SummarizedFrom.of_range
+          (record { at = refl; range = s.range; has = s.has; dest = s.dest; area = refl; advertised = s.advertised; costs = s.costs });
+    }
 
-pub outside_are : (net : Network) (n : ℕ) (p : Block) (routes given : List AreaRoute) (offers : List Offer) → AreSummarized net p routes → given ≡ routes → Exactly (λ (o : Offer). Any (λ (r : AreaRoute). OutsideOf n r o) given) offers →
+pub outside_are : (net : Network) (n : ℕ) (p : Block) (routes given : List AreaRoute) (offers : List Offer) → AreSummarized net p routes → given ≡ routes →
+    Exactly (λ (o : Offer). Any (λ (r : AreaRoute). OutsideOf n r o) given) offers →
     AreOffers (OutsideSummary net n p) offers
 outside_are net n p routes given offers are same listed =
     exactly_same offers (λ (o : Offer). Any (λ (r : AreaRoute). OutsideOf n r o) given) (λ (o : Offer). OutsideSummary net n p o.at o.asks) listed
@@ -169,12 +189,14 @@ backbone_is net p b cost = (there, back)
     back (BackboneSummary.of_subnet s) = OutsideSummary.of_subnet s
     back (BackboneSummary.of_range s) = OutsideSummary.of_range s
 
-pub backbone_are : (net : Network) (p : Block) (offers given : List Offer) → AreOffers (OutsideSummary net 0 p) offers → given ≡ offers → AreOffers (BackboneSummary net p) given
+pub backbone_are : (net : Network) (p : Block) (offers given : List Offer) → AreOffers (OutsideSummary net 0 p) offers → given ≡ offers →
+    AreOffers (BackboneSummary net p) given
 backbone_are net p offers given are same =
     exactly_same given (λ (o : Offer). OutsideSummary net 0 p o.at o.asks) (λ (o : Offer). BackboneSummary net p o.at o.asks)
     (subst (λ (l : List Offer). AreOffers (OutsideSummary net 0 p) l) (sym same) are) (λ o. backbone_is net p o.at o.asks)
 
-pub summaries_into_backbone : (net : Network) (p : Block) (n : ℕ) (offers : List Offer) → n ≡ 0 → AreOffers (OutsideSummary net n p) offers → AreOffers (Summary net p n) offers
+pub summaries_into_backbone : (net : Network) (p : Block) (n : ℕ) (offers : List Offer) → n ≡ 0 → AreOffers (OutsideSummary net n p) offers →
+    AreOffers (Summary net p n) offers
 summaries_into_backbone net p n offers zero are =
     subst (λ (m : ℕ). AreOffers (Summary net p m) offers) (sym zero)
     (exactly_same offers (λ (o : Offer). OutsideSummary net 0 p o.at o.asks) (λ (o : Offer). Summary net p 0 o.at o.asks)
@@ -185,7 +207,8 @@ summaries_into_backbone net p n offers zero are =
     of_zero _ b c (into_backbone s) is = s
     of_zero m b c (into_area other s) is = absurd (other is)
 
-pub summaries_into_area : (net : Network) (p : Block) (n : ℕ) (offers : List Offer) → n ≢ 0 → AreOffers (AreaSummary net n p) offers → AreOffers (Summary net p n) offers
+pub summaries_into_area : (net : Network) (p : Block) (n : ℕ) (offers : List Offer) → n ≢ 0 → AreOffers (AreaSummary net n p) offers →
+    AreOffers (Summary net p n) offers
 summaries_into_area net p n offers other are =
     exactly_same offers (λ (o : Offer). AreaSummary net n p o.at o.asks) (λ (o : Offer). Summary net p n o.at o.asks) are
     (λ o. (λ s. into_area other s, λ s. of_area n o.at o.asks s other))
@@ -202,7 +225,8 @@ pub record OfReached (arc : Arcs) (offer : Offers) (u : ℕ) (at asks : ℕ) : T
   pub walk : ℕ
   pub reached : LeastCost arc u at walk
 
-pub reached_are : (arc : Arcs) (u : ℕ) (reach : Reach) (offer : Offers) (offers given others : List Offer) → AreLeastWalks arc u reach → AreOffers offer offers → given ≡ offers →
+pub reached_are : (arc : Arcs) (u : ℕ) (reach : Reach) (offer : Offers) (offers given others : List Offer) → AreLeastWalks arc u reach →
+    AreOffers offer offers → given ≡ offers →
     Exactly (λ (o : Offer). Any (IsReachedOther reach u o) given) others → AreOffers (OfReached arc (OfOthers offer u) u) others
 reached_are arc u reach offer offers given others walks are same listed =
     let all : AreOffers offer given = subst (λ (l : List Offer). AreOffers offer l) (sym same) are in
@@ -223,7 +247,13 @@ reached_are arc u reach offer offers given others walks are same listed =
 reached_costs : {arc : Arcs} {offer : Offers} {u at cost : ℕ} → OfferCosts arc (OfReached arc offer u) u at cost ↔ OfferCosts arc offer u at cost
 reached_costs = (
   λ c. record { asks = c.asks; walk = c.walk; offered = c.offered.offered; reached = c.reached; costs = c.costs },
-  λ c. record { asks = c.asks; walk = c.walk; offered = record { offered = c.offered; walk = c.walk; reached = c.reached }; reached = c.reached; costs = c.costs },
+  λ c. record {
+    asks = c.asks;
+    walk = c.walk;
+    offered = record { offered = c.offered; walk = c.walk; reached = c.reached };
+    reached = c.reached;
+    costs = c.costs;
+  },
 )
 
 pub reached_best : (arc : Arcs) (offer : Offers) (u cost : ℕ) → BestCost arc (OfReached arc offer u) u cost ↔ BestCost arc offer u cost
@@ -234,22 +264,38 @@ reached_best arc offer u cost = (
 
 pub reached_hop : (arc : Arcs) (offer : Offers) (u h : ℕ) → BestHop arc (OfReached arc offer u) u h ↔ BestHop arc offer u h
 reached_hop arc offer u h = (
-  λ hop. record { cost = hop.cost; best = (reached_best arc offer u hop.cost).0 hop.best; at = hop.at; attained = reached_costs.0 hop.attained; hop = hop.hop },
-  λ hop. record { cost = hop.cost; best = (reached_best arc offer u hop.cost).1 hop.best; at = hop.at; attained = reached_costs.1 hop.attained; hop = hop.hop },
+  λ hop. record {
+    cost = hop.cost;
+    best = (reached_best arc offer u hop.cost).0 hop.best;
+    at = hop.at;
+    attained = reached_costs.0 hop.attained;
+    hop = hop.hop;
+  },
+  λ hop. record {
+    cost = hop.cost;
+    best = (reached_best arc offer u hop.cost).1 hop.best;
+    at = hop.at;
+    attained = reached_costs.1 hop.attained;
+    hop = hop.hop;
+  },
 )
 
 -- Border routers
 
-pub no_border_cost : (net : Network) (p : Block) (u : ℕ) → (IsBorderRouter net u → (IsIntraArea net p u → ⊥) → (IsActiveRange net p u → ⊥) → ⊥) → (cost : ℕ) → (◌≡◌ {A = Option ℕ} None (Some cost)) ↔ BorderCost net p u cost
+pub no_border_cost : (net : Network) (p : Block) (u : ℕ) → (IsBorderRouter net u → (IsIntraArea net p u → ⊥) → (IsActiveRange net p u → ⊥) → ⊥) →
+    (cost : ℕ) → (◌≡◌ {A = Option ℕ} None (Some cost)) ↔ BorderCost net p u cost
 no_border_cost net p u none cost = (λ no. absurd (none-some cost no), λ costs. absurd (none costs.border costs.no_intra costs.no_range))
 
-pub border_cost_is : (net : Network) (p : Block) (u : ℕ) (reach : Reach) (others given_others : List Offer) → IsBorderRouter net u → (IsIntraArea net p u → ⊥) → (IsActiveRange net p u → ⊥) → IsReach net 0 u reach →
+pub border_cost_is : (net : Network) (p : Block) (u : ℕ) (reach : Reach) (others given_others : List Offer) → IsBorderRouter net u →
+    (IsIntraArea net p u → ⊥) → (IsActiveRange net p u → ⊥) → IsReach net 0 u reach →
     AreOffers (OfReached (Adjacent net (Area 0)) (OfOthers (BackboneSummary net p) u) u) others → given_others ≡ others →
-    (found : Option ℕ) → MatchOption found (NoneTotals reach given_others) (IsBestTotal reach given_others) → (cost : ℕ) → (found ≡ Some cost) ↔ BorderCost net p u cost
+    (found : Option ℕ) → MatchOption found (NoneTotals reach given_others) (IsBestTotal reach given_others) → (cost : ℕ) →
+    (found ≡ Some cost) ↔ BorderCost net p u cost
 border_cost_is net p u reach others given_others border no_intra no_range is are same found best cost =
     let arc : Arcs = Adjacent net (Area 0) in
     let offer : Offers = OfOthers (BackboneSummary net p) u in
-    let listed = best_cost_is arc u reach (OfReached arc offer u) given_others is.least (lists_from (OfReached arc offer u) others given_others are same) found best cost in (
+    let listed = best_cost_is arc u reach (OfReached arc offer u) given_others is.least (lists_from (OfReached arc offer u) others given_others are same)
+    found best cost in (
       λ e. record { border = border; no_intra = no_intra; no_range = no_range; best = (reached_best arc offer u cost).0 (listed.0 e) },
       λ costs. listed.1 ((reached_best arc offer u cost).1 costs.best),
     )
@@ -258,7 +304,8 @@ border_cost_is net p u reach others given_others border no_intra no_range is are
 abbrev pub BorderOfRouter : Network → Block → ℕ → Offer → Type 0
 BorderOfRouter net p u o = (o.at ≡ u) × BorderCost net p o.at o.asks
 
-pub border_of_router : (net : Network) (p : Block) (u : ℕ) (cost : Option ℕ) (one : Option Offer) → ((c : ℕ) → (cost ≡ Some c) ↔ BorderCost net p u c) → ((o : Offer) → (one ≡ Some o) ↔ IsBorderOffer u cost o) →
+pub border_of_router : (net : Network) (p : Block) (u : ℕ) (cost : Option ℕ) (one : Option Offer) → ((c : ℕ) → (cost ≡ Some c) ↔ BorderCost net p u c) →
+    ((o : Offer) → (one ≡ Some o) ↔ IsBorderOffer u cost o) →
     (o : Offer) → (one ≡ Some o) ↔ BorderOfRouter net p u o
 border_of_router net p u cost one costs offers o = (
   λ same.
@@ -284,23 +331,28 @@ border_offer_some u asks o =
 
 -- Into an area other than the backbone
 
-pub outside_routers : (net : Network) (n : ℕ) (p : Block) (offers given : List Offer) → AreOffers (OutsideSummary net n p) offers → given ≡ offers → All (λ (o : Offer). o.at < length net) given
+pub outside_routers : (net : Network) (n : ℕ) (p : Block) (offers given : List Offer) → AreOffers (OutsideSummary net n p) offers → given ≡ offers →
+    All (λ (o : Offer). o.at < length net) given
 outside_routers net n p offers given are same k d within =
     let o : Offer = get_or given k d in
-    let out : OutsideSummary net n p o.at o.asks = (subst (λ (l : List Offer). AreOffers (OutsideSummary net n p) l) (sym same) are o).0 (Contains-get_or given k d within) in
+    let out : OutsideSummary net n p o.at o.asks = (subst (λ (l : List Offer). AreOffers (OutsideSummary net n p) l) (sym same) are o).0
+    (Contains-get_or given k d within) in
     border_within net o.at (border_of out)
   where
     border_of : {b c : ℕ} → OutsideSummary net n p b c → IsBorderRouter net b
     border_of (OutsideSummary.of_subnet s) = s.border
     border_of (OutsideSummary.of_range s) = s.has.border
 
-pub border_routers : (net : Network) (p : Block) (offers given : List Offer) → AreOffers (BorderCost net p) offers → given ≡ offers → All (λ (o : Offer). o.at < length net) given
+pub border_routers : (net : Network) (p : Block) (offers given : List Offer) → AreOffers (BorderCost net p) offers → given ≡ offers →
+    All (λ (o : Offer). o.at < length net) given
 border_routers net p offers given are same k d within =
     let o : Offer = get_or given k d in
-    let costs : BorderCost net p o.at o.asks = (subst (λ (l : List Offer). AreOffers (BorderCost net p) l) (sym same) are o).0 (Contains-get_or given k d within) in
+    let costs : BorderCost net p o.at o.asks = (subst (λ (l : List Offer). AreOffers (BorderCost net p) l) (sym same) are o).0
+    (Contains-get_or given k d within) in
     border_within net o.at costs.border
 
-allowed_is : (net : Network) (n : ℕ) (offer : Offers) (offers given : List Offer) → AreOffers offer offers → given ≡ offers → (o : Offer) → Any (IsAllowed net n o) given ↔ ((IsTotallyStubby net o.at n → ⊥) × offer o.at o.asks)
+allowed_is : (net : Network) (n : ℕ) (offer : Offers) (offers given : List Offer) → AreOffers offer offers → given ≡ offers → (o : Offer) →
+    Any (IsAllowed net n o) given ↔ ((IsTotallyStubby net o.at n → ⊥) × offer o.at o.asks)
 allowed_is net n offer offers given are same o =
     let listed : AreOffers offer given = subst (λ (l : List Offer). AreOffers offer l) (sym same) are in (
       λ any.
@@ -309,10 +361,13 @@ allowed_is net n offer offers given are same o =
       λ both. any_of (IsAllowed net n o) given o ((listed o).1 both.1) (record { same = refl; allowed = both.0 }),
     )
 
-pub area_summaries_are : (net : Network) (n : ℕ) (p : Block) (outside given_outside borders given_borders none first second third : List Offer) → AreOffers (OutsideSummary net n p) outside → given_outside ≡ outside →
-    AreOffers (BorderCost net p) borders → given_borders ≡ borders → none ≡ [] → Adds none first (λ o. Any (IsAllowed net n o) given_outside) → Adds first second (λ o. Any (IsAllowed net n o) given_borders) →
+pub area_summaries_are : (net : Network) (n : ℕ) (p : Block) (outside given_outside borders given_borders none first second third : List Offer) →
+    AreOffers (OutsideSummary net n p) outside → given_outside ≡ outside →
+    AreOffers (BorderCost net p) borders → given_borders ≡ borders → none ≡ [] → Adds none first (λ o. Any (IsAllowed net n o) given_outside) →
+    Adds first second (λ o. Any (IsAllowed net n o) given_borders) →
     Adds second third (HasDefault net n p) → AreOffers (AreaSummary net n p) third
-area_summaries_are net n p outside given_outside borders given_borders none first second third are_outside same_outside are_borders same_borders empty one two three =
+area_summaries_are net n p outside given_outside borders given_borders none first second third are_outside same_outside are_borders
+    same_borders empty one two three =
     let Outside : Offer → Type 0 = λ o. Any (IsAllowed net n o) given_outside in
     let Borders : Offer → Type 0 = λ o. Any (IsAllowed net n o) given_borders in
     let Both : Offer → Type 0 = λ o. Outside o ⊎ Borders o in
@@ -327,20 +382,29 @@ area_summaries_are net n p outside given_outside borders given_borders none firs
     from_outside o allowed (OutsideSummary.of_subnet s) = AreaSummary.of_subnet allowed s
     from_outside o allowed (OutsideSummary.of_range s) = AreaSummary.of_range allowed s
 
-    there : (o : Offer) → (Any (IsAllowed net n o) given_outside ⊎ Any (IsAllowed net n o) given_borders) ⊎ HasDefault net n p o → AreaSummary net n p o.at o.asks
-    there o (inl (inl any)) = let both = (allowed_is net n (OutsideSummary net n p) outside given_outside are_outside same_outside o).0 any in from_outside o both.0 both.1
-    there o (inl (inr any)) = let both = (allowed_is net n (BorderCost net p) borders given_borders are_borders same_borders o).0 any in AreaSummary.of_route both.0 both.1
+    there : (o : Offer) → (Any (IsAllowed net n o) given_outside ⊎ Any (IsAllowed net n o) given_borders) ⊎ HasDefault net n p o →
+        AreaSummary net n p o.at o.asks
+    there o (inl (inl any)) = let both = (allowed_is net n (OutsideSummary net n p) outside given_outside are_outside same_outside o).0 any in
+        from_outside o both.0 both.1
+    there o (inl (inr any)) = let both = (allowed_is net n (BorderCost net p) borders given_borders are_borders same_borders o).0 any in
+        AreaSummary.of_route both.0 both.1
     there o (inr has) = AreaSummary.of_stub has.default.border has.all has.default.stub has.default.has has.default.costs
 
-    back : (o : Offer) → AreaSummary net n p o.at o.asks → (Any (IsAllowed net n o) given_outside ⊎ Any (IsAllowed net n o) given_borders) ⊎ HasDefault net n p o
-    back o (AreaSummary.of_subnet allowed s) = inl (inl ((allowed_is net n (OutsideSummary net n p) outside given_outside are_outside same_outside o).1 (allowed, OutsideSummary.of_subnet s)))
-    back o (AreaSummary.of_range allowed s) = inl (inl ((allowed_is net n (OutsideSummary net n p) outside given_outside are_outside same_outside o).1 (allowed, OutsideSummary.of_range s)))
-    back o (AreaSummary.of_route allowed s) = inl (inr ((allowed_is net n (BorderCost net p) borders given_borders are_borders same_borders o).1 (allowed, s)))
-    back o (AreaSummary.of_stub border all s has is) = inr (record { all = all; default = record { at = refl; border = border; stub = s; has = has; costs = is } })
+    back : (o : Offer) → AreaSummary net n p o.at o.asks →
+        (Any (IsAllowed net n o) given_outside ⊎ Any (IsAllowed net n o) given_borders) ⊎ HasDefault net n p o
+    back o (AreaSummary.of_subnet allowed s) = inl (inl
+        ((allowed_is net n (OutsideSummary net n p) outside given_outside are_outside same_outside o).1 (allowed, OutsideSummary.of_subnet s)))
+    back o (AreaSummary.of_range allowed s) = inl (inl
+        ((allowed_is net n (OutsideSummary net n p) outside given_outside are_outside same_outside o).1 (allowed, OutsideSummary.of_range s)))
+    back o (AreaSummary.of_route allowed s) = inl (inr
+        ((allowed_is net n (BorderCost net p) borders given_borders are_borders same_borders o).1 (allowed, s)))
+    back o (AreaSummary.of_stub border all s has is) = inr
+        (record { all = all; default = record { at = refl; border = border; stub = s; has = has; costs = is } })
 
 -- Stub areas
 
-pub totally_stubby_is : (net : Network) (b n : ℕ) (config : Configuration) (given : List Stub) → HasConfiguration net b config → given ≡ config.stubs → Any (IsAlone n) given ↔ IsTotallyStubby net b n
+pub totally_stubby_is : (net : Network) (b n : ℕ) (config : Configuration) (given : List Stub) → HasConfiguration net b config → given ≡ config.stubs →
+    Any (IsAlone n) given ↔ IsTotallyStubby net b n
 totally_stubby_is net b n config given router are = (
   λ any.
       let f = any_in (IsAlone n) given any in
@@ -352,12 +416,14 @@ totally_stubby_is net b n config given router are = (
   λ is. any_of (IsAlone n) given is.stub (stub_among net b n config given is.stub router are is.has) (record { area = is.has.area; alone = is.alone }),
 )
   where
-    stub_among : (net : Network) (b n : ℕ) (config : Configuration) (given : List Stub) (s : Stub) → HasConfiguration net b config → given ≡ config.stubs → HasStub net b n s → Contains given s
+    stub_among : (net : Network) (b n : ℕ) (config : Configuration) (given : List Stub) (s : Stub) → HasConfiguration net b config → given ≡ config.stubs →
+        HasStub net b n s → Contains given s
     stub_among net b n config given s router are has =
         subst (λ (l : List Stub). Contains l s) (sym are)
         (subst (λ (c : Configuration). Contains c.stubs s) (HasConfiguration-unique net b has.config config has.router router) has.among)
 
-pub router_default_is : (net : Network) (n b : ℕ) (config : Configuration) (given : List Stub) → IsBorderRouter net b → HasConfiguration net b config → given ≡ config.stubs → (o : Offer) → Any (IsDefault n b o) given ↔ RouterDefault net n b o
+pub router_default_is : (net : Network) (n b : ℕ) (config : Configuration) (given : List Stub) → IsBorderRouter net b → HasConfiguration net b config →
+    given ≡ config.stubs → (o : Offer) → Any (IsDefault n b o) given ↔ RouterDefault net n b o
 router_default_is net n b config given border router are o = (
   λ any.
       let f = any_in (IsDefault n b o) given any in
@@ -380,7 +446,8 @@ no_router_default net n b old inner = adds_nothing old (RouterDefault net n b) (
 pub no_default : (net : Network) (n : ℕ) (p : Block) (old : List Offer) → (p ≡ default_prefix → ⊥) → Adds old old (HasDefault net n p)
 no_default net n p old other = adds_nothing old (HasDefault net n p) (λ o is. other is.all)
 
-pub defaults_are : (net : Network) (n : ℕ) (p : Block) (m : ℕ) (old new : List Offer) → length net ≡ m → p ≡ default_prefix → Adds old new (AnyBelow (RouterDefault net n) m) → Adds old new (HasDefault net n p)
+pub defaults_are : (net : Network) (n : ℕ) (p : Block) (m : ℕ) (old new : List Offer) → length net ≡ m → p ≡ default_prefix →
+    Adds old new (AnyBelow (RouterDefault net n) m) → Adds old new (HasDefault net n p)
 defaults_are net n p m old new count all adds =
     adds_same old new (AnyBelow (RouterDefault net n) m) (HasDefault net n p) adds
     (λ o. (

@@ -1,11 +1,3 @@
 pub mod Lists
-pub mod Areas
-pub mod Candidates
-pub mod Offered
-pub mod Destinations
-pub mod Domain
-pub mod Ranges
-pub mod Summarized
-pub mod Networks
-pub mod Routing
 pub mod RouteTables
+pub mod steps

@@ -2,8 +2,9 @@ ghost use Rattle.std.specs.Prelude.{◌≡◌, ◌<◌, ◌↔◌, ℕ, length, 
 ghost use Rattle.net_model.specs.Network.{InArea, IsBorderRouter};
 ghost use Rattle.net_model.specs.Refusals.{IsNetwork};
 ghost use Rattle.igp_theory.specs.Ospf.{ListensTo};
-ghost use Rattle.ospf_routes.specs.Areas.{AreAreas, AreNumbered, HasArea, HasWalks, IsReach, IsInside, RunsArea, RunsOther};
-ghost use Rattle.ospf_routes.specs.Lists.{Adds};
+ghost use Rattle.ospf_routes.specs.steps.Areas.{AreAreas, AreNumbered, HasArea, HasWalks, IsReach, IsInside, RunsArea, RunsOther};
+ghost use Rattle.ospf_routes.specs.steps.AreaReach.{IsThisBorder, IsZoneReach};
+ghost use Rattle.ospf_routes.specs.Lists.{Adds, Exactly};
 
 use crate::OutOfMemory;
 use net_model::{Interface, Net, Zone};
@@ -147,6 +148,25 @@ pub fn is_border(net: &Net, u: u32) -> bool
     }
 }
 
+/// The border routers (RFC 2328, section 3.3).
+pub fn border_routers(alloc: Global, net: &Net) -> Result<Vec<u32>, OutOfMemory>
+    ensures { IfOk result (λ borders. Exactly (IsBorderRouter net.now) borders.items) }
+{
+    let mut borders = Vec::new(alloc);
+    for u in 0..net.routers() {
+        push_option(&mut borders, border_router(net, u))?;
+    }
+    Ok(borders)
+}
+
+/// The router, where it is a border router.
+fn border_router(net: &Net, u: u32) -> Option<u32>
+    requires { u < length net.now }
+    ensures { (v : ℕ) → (result ≡ Some v) ↔ IsThisBorder net.now u v }
+{
+    if is_border(net, u) { Some(u) } else { None }
+}
+
 /// The area whose announcements the router listens to: the backbone at a border router, else its one
 /// area (RFC 2328, section 16.2).
 pub fn listens_to(net: &Net, u: u32) -> Option<u32>
@@ -167,6 +187,38 @@ fn walks_of(areas: &[AreaWalks], number: u32) -> Option<&ZoneWalks>
     for area in areas {
         if area.number == number {
             return Some(&area.walks);
+        }
+    }
+    None
+}
+
+/// The least walks from a router in an area, and the place of the area among all, its number as a zone of routes.
+#[derive(Clone, Copy, Debug)]
+pub struct ZoneReach<'a> {
+    /// The place of the area.
+    pub zone: usize,
+    /// The least walks.
+    pub walks: &'a LeastWalks,
+}
+
+/// The least walks from the router in an area, with the place of the area.
+pub fn zone_reach<'a>(
+    net: &Net,
+    areas: &'a [AreaWalks],
+    number: u32,
+    u: u32,
+) -> Option<ZoneReach<'a>>
+    requires router { u < length net.now }
+    requires areas { AreAreas net.now areas.now }
+    ensures none { IfNone result (HasArea areas.now number → ⊥) }
+    ensures some { IfSome result (λ found. IsZoneReach net.now areas.now number u found.zone found.walks.now) }
+{
+    for (zone, area) in areas.iter().enumerate() {
+        if area.number == number {
+            return Some(ZoneReach {
+                zone,
+                walks: area.walks.from_router(u),
+            });
         }
     }
     None

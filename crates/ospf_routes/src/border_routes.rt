@@ -1,11 +1,13 @@
 ghost use Rattle.std.specs.Prelude.{◌≡◌, ◌<◌, ◌↔◌, ℕ, length, Some, IfOk};
 ghost use Rattle.igp_theory.specs.Ospf.{BackboneSummary, BorderCost};
 ghost use Rattle.walk_core.specs.declared.offers.Offer.{Offer as OfferValue};
-ghost use Rattle.ospf_routes.specs.Areas.{AreAreas};
-ghost use Rattle.ospf_routes.specs.Destinations.{IsDestination};
-ghost use Rattle.ospf_routes.specs.Offered.{AreOffers};
-ghost use Rattle.ospf_routes.specs.Ranges.{AreActiveRanges, AreRangesBelow};
-ghost use Rattle.ospf_routes.specs.Summarized.{IsBorderOffer};
+ghost use Rattle.ospf_routes.specs.steps.Areas.{AreAreas};
+ghost use Rattle.ospf_routes.specs.steps.Destinations.{IsDestination};
+ghost use Rattle.net_model.specs.Network.{IsBorderRouter};
+ghost use Rattle.ospf_routes.specs.Lists.{Exactly};
+ghost use Rattle.ospf_routes.specs.steps.Offered.{AreOffers};
+ghost use Rattle.ospf_routes.specs.steps.Ranges.{AreActiveRanges, AreRangesBelow};
+ghost use Rattle.ospf_routes.specs.steps.Summarized.{IsBorderOffer};
 
 use crate::OutOfMemory;
 use crate::areas::{AreaWalks, is_border, reach};
@@ -22,10 +24,12 @@ pub fn border_offers(
     alloc: Global,
     net: &Net,
     areas: &[AreaWalks],
+    borders: &[u32],
     ranges: &[ActiveRanges],
     destination: &Destination,
     backbone: &[Offer],
 ) -> Result<Vec<Offer>, OutOfMemory>
+    requires borders { Exactly (IsBorderRouter net.now) borders.now }
     requires areas { AreAreas net.now areas.now }
     requires ranges { AreRangesBelow net.now (length net.now) ranges.now }
     requires destination { IsDestination net.now destination.now }
@@ -33,17 +37,10 @@ pub fn border_offers(
     ensures { IfOk result (λ offers. AreOffers (BorderCost net.now destination.now.dest) offers.items) }
 {
     let mut offers = Vec::new(alloc);
-    for u in 0..net.routers() {
-        let cost = border_cost(
-            alloc,
-            net,
-            areas,
-            &ranges[u as usize],
-            destination,
-            backbone,
-            u,
-        )?;
-        push_option(&mut offers, border_offer(u, cost))?;
+    for u in borders {
+        let active = &ranges[*u as usize];
+        let cost = border_cost(alloc, net, areas, active, destination, backbone, *u)?;
+        push_option(&mut offers, border_offer(*u, cost))?;
     }
     Ok(offers)
 }

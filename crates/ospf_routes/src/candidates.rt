@@ -1,6 +1,6 @@
 ghost use Rattle.std.specs.Prelude.{◌≡◌, ◌<◌, ◌↔◌, ℕ, length, Some, Any, Contains, IfOk, OnOk};
 ghost use Rattle.net_addr.specs.Addresses.{Block};
-ghost use Rattle.ospf_routes.specs.Candidates.{HasSubnet, IsCandidate, IsRangeOf};
+ghost use Rattle.ospf_routes.specs.steps.Candidates.{HasSubnet, IsCandidate, IsRangeOf};
 ghost use Rattle.ospf_routes.specs.Lists.{Adds};
 
 use crate::OutOfMemory;

@@ -1,7 +1,7 @@
 ghost use Rattle.std.specs.Prelude.{◌≡◌, All, IfOk};
-ghost use Rattle.ospf_routes.specs.Areas.{AreAreas};
-ghost use Rattle.ospf_routes.specs.Destinations.{AreDestinations, IsDestination, dests_of};
-ghost use Rattle.ospf_routes.specs.Domain.{IsDomain};
+ghost use Rattle.ospf_routes.specs.steps.Areas.{AreAreas};
+ghost use Rattle.ospf_routes.specs.steps.Destinations.{AreDestinations, IsDestination, dests_of};
+ghost use Rattle.ospf_routes.specs.steps.Domain.{IsDomain};
 
 use crate::OutOfMemory;
 use crate::areas::{AreaWalks, all_areas};

@@ -1,26 +1,28 @@
-ghost use Rattle.std.specs.Prelude.{◌≡◌, ◌<◌, ℕ, length, IfOk, MatchOption};
+ghost use Rattle.std.specs.Prelude.{◌≡◌, ◌<◌, ℕ, length, Contains, IfOk, MatchOption};
 ghost use Rattle.igp_theory.specs.Ospf.{IntraAreaCost, IsIntraArea, ListensTo, OspfEntry};
 ghost use Rattle.route_core.specs.declared.entry.Entry.{Entry};
-ghost use Rattle.ospf_routes.specs.Areas.{AreAreas};
-ghost use Rattle.ospf_routes.specs.Destinations.{IsDestination};
-ghost use Rattle.ospf_routes.specs.Ranges.{AreActiveRanges};
-ghost use Rattle.ospf_routes.specs.Routing.{AreAreaRoutes, IsAreaRoute, IsIntraRoute, IsListenedRoute, ListenedCost};
-ghost use Rattle.ospf_routes.specs.Summarized.{AreSummaries};
+ghost use Rattle.route_tables.specs.Routings.{ForwardsBy, IsRouteFor};
+ghost use Rattle.ospf_routes.specs.steps.AreaReach.{area_reach};
+ghost use Rattle.ospf_routes.specs.steps.Areas.{AreAreas};
+ghost use Rattle.ospf_routes.specs.steps.Destinations.{IsDestination};
+ghost use Rattle.ospf_routes.specs.steps.Ranges.{AreActiveRanges};
+ghost use Rattle.ospf_routes.specs.steps.Routing.{AreAreaRoutes, IsAreaRoute, IsIntraRoute, IsListenedRoute, ListenedCost};
+ghost use Rattle.ospf_routes.specs.steps.Summarized.{AreSummaries};
 
 use crate::OutOfMemory;
-use crate::areas::{AreaWalks, listens_to, reach, reach_inside};
-use crate::intra_area::{Destination, part_of};
+use crate::areas::{AreaWalks, in_area, listens_to, reach_inside, zone_reach};
+use crate::intra_area::{AreaOffers, Destination, part_of};
 use crate::ranges::ActiveRanges;
-use crate::route::{reached_others, united_some};
+use crate::route::{best_of_others, united_some};
 use crate::summaries::Summaries;
 use net_model::Net;
-use route_core::{Entry, Hops};
-use route_tables::{best_hops, push_option};
+use route_core::Hops;
+use route_tables::{Route, best_hops, best_route, push_option};
 use std::alloc::Global;
 
-/// The entry of router `u` for a prefix: the intra-area route, else a discard of an active range, else
+/// The route of router `u` for a prefix: the intra-area route, else a discard of an active range, else
 /// the inter-area route (RFC 2328, sections 11.1 and 16). There is none for a connected prefix.
-pub fn entry_of(
+pub fn route_of(
     alloc: Global,
     net: &Net,
     areas: &[AreaWalks],
@@ -28,7 +30,7 @@ pub fn entry_of(
     destination: &Destination,
     summaries: &Summaries,
     u: u32,
-) -> Result<Option<Entry>, OutOfMemory>
+) -> Result<Option<Route>, OutOfMemory>
     requires router { u < length net.now }
     requires areas { AreAreas net.now areas.now }
     requires ranges { AreActiveRanges net.now u ranges.now }
@@ -37,21 +39,76 @@ pub fn entry_of(
     requires dest { summaries.now.dest ≡ destination.now.dest }
     ensures { IfOk result (λ found. MatchOption found
         ((e : Entry) → OspfEntry net.now u destination.now.dest e → ⊥)
-        (OspfEntry net.now u destination.now.dest)) }
+        (IsRouteFor (area_reach areas.now u) (length areas.now) (length net.now) (OspfEntry net.now u destination.now.dest))) }
 {
     if net.originates(u, destination.dest) {
         return Ok(None);
     }
-    if let Some(hops) = intra_hops(alloc, net, areas, destination, u)? {
-        return Ok(Some(Entry::Via(hops)));
+    if let Some(route) = intra_route(alloc, net, areas, destination, u)? {
+        return Ok(Some(route));
     }
     if ranges.contains(destination.dest) {
-        return Ok(Some(Entry::Discard));
+        return Ok(Some(Route::Drops));
     }
-    if let Some(hops) = inter_hops(alloc, net, areas, summaries, u)? {
-        return Ok(Some(Entry::Via(hops)));
+    if let Some(route) = inter_route(alloc, net, areas, summaries, u)? {
+        return Ok(Some(route));
     }
     Ok(None)
+}
+
+/// The intra-area route, of all areas that the router is in (RFC 2328, section 16.1). Mostly one area alone offers a
+/// prefix.
+fn intra_route(
+    alloc: Global,
+    net: &Net,
+    areas: &[AreaWalks],
+    destination: &Destination,
+    u: u32,
+) -> Result<Option<Route>, OutOfMemory>
+    requires router { u < length net.now }
+    requires areas { AreAreas net.now areas.now }
+    requires destination { IsDestination net.now destination.now }
+    ensures { IfOk result (λ found. MatchOption found
+        (IsIntraArea net.now destination.now.dest u → ⊥)
+        (IsRouteFor (area_reach areas.now u) (length areas.now) (length net.now) (ForwardsBy (IsIntraRoute net.now destination.now.dest u)))) }
+{
+    if destination.parts.len() == 1 {
+        return area_route(alloc, net, areas, destination, &destination.parts[0], u);
+    }
+    match intra_hops(alloc, net, areas, destination, u)? {
+        Some(hops) => Ok(Some(Route::Through(hops))),
+        None => Ok(None),
+    }
+}
+
+/// The intra-area route in the one area that offers the prefix.
+fn area_route(
+    alloc: Global,
+    net: &Net,
+    areas: &[AreaWalks],
+    destination: &Destination,
+    part: &AreaOffers,
+    u: u32,
+) -> Result<Option<Route>, OutOfMemory>
+    requires router { u < length net.now }
+    requires areas { AreAreas net.now areas.now }
+    requires destination { IsDestination net.now destination.now }
+    requires one { length destination.now.parts.items ≡ 1 }
+    requires part { Contains destination.now.parts.items part.now }
+    ensures { IfOk result (λ found. MatchOption found
+        (IsIntraArea net.now destination.now.dest u → ⊥)
+        (IsRouteFor (area_reach areas.now u) (length areas.now) (length net.now) (ForwardsBy (IsIntraRoute net.now destination.now.dest u)))) }
+{
+    if !in_area(net, u, part.area) {
+        return Ok(None);
+    }
+    match zone_reach(net, areas, part.area, u) {
+        Some(found) => {
+            let offers = part.offers.as_slice();
+            best_route(alloc, found.walks, found.zone, offers, net.routers())
+        }
+        None => Ok(None),
+    }
 }
 
 /// The hops of the intra-area routes, of all areas that the router is in (RFC 2328, section 16.1).
@@ -119,55 +176,52 @@ fn area_hops(
     }
 }
 
-/// The hops of the inter-area route, over what others announce into the area that the router listens to
-/// (RFC 2328, section 16.2).
-fn inter_hops(
+/// The inter-area route, over what others announce into the area that the router listens to (RFC 2328, section 16.2).
+fn inter_route(
     alloc: Global,
     net: &Net,
     areas: &[AreaWalks],
     summaries: &Summaries,
     u: u32,
-) -> Result<Option<Hops>, OutOfMemory>
+) -> Result<Option<Route>, OutOfMemory>
     requires router { u < length net.now }
     requires areas { AreAreas net.now areas.now }
     requires summaries { AreSummaries net.now areas.now summaries.now }
     ensures { IfOk result (λ found. MatchOption found
         ((cost : ℕ) → ListenedCost net.now summaries.now.dest u cost → ⊥)
-        (IsListenedRoute net.now summaries.now.dest u)) }
+        (IsRouteFor (area_reach areas.now u) (length areas.now) (length net.now) (ForwardsBy (IsListenedRoute net.now summaries.now.dest u)))) }
 {
     if summaries.parts.as_slice().is_empty() {
         return Ok(None);
     }
     match listens_to(net, u) {
-        Some(area) => listened_hops(alloc, net, areas, summaries, area, u),
+        Some(area) => listened_route(alloc, net, areas, summaries, area, u),
         None => Ok(None),
     }
 }
 
-/// The hops of the inter-area route, over what others announce into this area.
-fn listened_hops(
+/// The inter-area route, over what others announce into this area.
+fn listened_route(
     alloc: Global,
     net: &Net,
     areas: &[AreaWalks],
     summaries: &Summaries,
     area: u32,
     u: u32,
-) -> Result<Option<Hops>, OutOfMemory>
+) -> Result<Option<Route>, OutOfMemory>
     requires router { u < length net.now }
     requires listens { ListensTo net.now u area }
     requires areas { AreAreas net.now areas.now }
     requires summaries { AreSummaries net.now areas.now summaries.now }
     ensures { IfOk result (λ found. MatchOption found
         ((cost : ℕ) → ListenedCost net.now summaries.now.dest u cost → ⊥)
-        (IsListenedRoute net.now summaries.now.dest u)) }
+        (IsRouteFor (area_reach areas.now u) (length areas.now) (length net.now) (ForwardsBy (IsListenedRoute net.now summaries.now.dest u)))) }
 {
-    match reach(net, areas, area, u) {
-        Some(walks) => match part_of(summaries.parts.as_slice(), area) {
+    match zone_reach(net, areas, area, u) {
+        Some(found) => match part_of(summaries.parts.as_slice(), area) {
             Some(part) => {
                 let offers = part.offers.as_slice();
-                let others = reached_others(alloc, walks, offers, u)?;
-                let reached = others.as_slice();
-                best_hops(alloc, walks, reached, net.routers())
+                best_of_others(alloc, found.walks, found.zone, offers, u, net.routers())
             }
             None => Ok(None),
         },

@@ -1,8 +1,8 @@
 ghost use Rattle.std.specs.Prelude.{◌≡◌, ◌<◌, ◌↔◌, ℕ, length, Some, All, Any, Contains, IfOk, IfNone, IfSome, IsTrue, OnOk};
 ghost use Rattle.igp_theory.specs.Ospf.{IntraAreaCost, IsIntraArea};
-ghost use Rattle.ospf_routes.specs.Areas.{AreAreas, HasArea};
-ghost use Rattle.ospf_routes.specs.Destinations.{AddsPart, HasPart, IsDestination, IsPartOf};
-ghost use Rattle.ospf_routes.specs.Offered.{InsideOf};
+ghost use Rattle.ospf_routes.specs.steps.Areas.{AreAreas, HasArea};
+ghost use Rattle.ospf_routes.specs.steps.Destinations.{AddsPart, HasPart, IsDestination, IsPartOf};
+ghost use Rattle.ospf_routes.specs.steps.Offered.{InsideOf};
 ghost use Rattle.walk_core.specs.declared.offers.Offer.{Offer as OfferValue};
 
 use crate::OutOfMemory;

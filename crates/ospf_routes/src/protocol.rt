@@ -1,22 +1,24 @@
 ghost use Rattle.std.specs.Prelude.{◌≡◌, ◌<◌, ◌↔◌, length, IfOk, IsTrue};
 ghost use Rattle.igp_theory.specs.Laws.{IsOspfNeighbor};
-ghost use Rattle.ospf_routes.specs.Areas.{AreAreas};
-ghost use Rattle.ospf_routes.specs.Domain.{IsDomain};
-ghost use Rattle.ospf_routes.specs.Ranges.{AreRangesBelow};
-ghost use Rattle.ospf_routes.specs.Summarized.{AreAnnounced};
+ghost use Rattle.ospf_routes.specs.steps.Areas.{AreAreas};
+ghost use Rattle.net_model.specs.Network.{IsBorderRouter};
+ghost use Rattle.ospf_routes.specs.steps.Domain.{IsDomain};
+ghost use Rattle.ospf_routes.specs.Lists.{Exactly};
+ghost use Rattle.ospf_routes.specs.steps.Ranges.{AreRangesBelow};
+ghost use Rattle.ospf_routes.specs.steps.Summarized.{AreAnnounced};
 
 use crate::OutOfMemory;
-use crate::areas::AreaWalks;
+use crate::areas::{AreaWalks, border_routers};
 use crate::domain::Domain;
-use crate::entry::entry_of;
+use crate::entry::route_of;
 use crate::ranges::{ActiveRanges, all_ranges};
 use crate::summaries::Summaries;
 use net_addr::Prefix;
 use net_model::{Net, Zone};
-use route_core::Entry;
-use route_tables::Protocol;
+use route_tables::{Protocol, Route};
 use std::alloc::Global;
 use std::marker::Model;
+use walk_core::LeastWalks;
 
 /// OSPF on a network, with what its routers know, the active ranges of border routers, and what they announce
 /// of each prefix.
@@ -29,7 +31,7 @@ pub struct Ospf<'a> {
 }
 
 impl<'a> Model for Ospf<'a> {
-    ghost use Rattle.ospf_routes.specs.Networks.{IsOspf, OspfNetwork};
+    ghost use Rattle.ospf_routes.specs.steps.Networks.{IsOspf, OspfNetwork};
 
     ghost Value = { OspfNetwork };
 
@@ -45,7 +47,8 @@ impl<'a> Ospf<'a> {
     {
         let domain = Domain::build(alloc, net)?;
         let ranges = all_ranges(alloc, net, &domain)?;
-        let summaries = all_summaries(alloc, net, &domain, ranges.as_slice())?;
+        let borders = border_routers(alloc, net)?;
+        let summaries = all_summaries(alloc, net, &domain, borders.as_slice(), ranges.as_slice())?;
         Ok(Ospf {
             net,
             domain,
@@ -59,7 +62,8 @@ impl<'a> Protocol for Ospf<'a> {
     ghost use Rattle.std.specs.Prelude.{length};
     ghost use Rattle.igp_theory.specs.Ospf.{OspfEntry};
     ghost use Rattle.igp_theory.specs.Laws.{IsOspfNeighbor};
-    ghost use Rattle.ospf_routes.specs.Destinations.{dests_of};
+    ghost use Rattle.ospf_routes.specs.steps.AreaReach.{area_reach};
+    ghost use Rattle.ospf_routes.specs.steps.Destinations.{dests_of};
 
     ghost routers = { λ ospf. length ospf.net };
 
@@ -68,6 +72,10 @@ impl<'a> Protocol for Ospf<'a> {
     ghost neighbor = { λ ospf. IsOspfNeighbor ospf.net };
 
     ghost candidates = { λ ospf. dests_of ospf.domain.destinations.items };
+
+    ghost zones = { λ ospf. length ospf.domain.areas.items };
+
+    ghost reach = { λ ospf. area_reach ospf.domain.areas.items };
 
     fn routers(&self) -> u32 {
         self.net.routers()
@@ -81,17 +89,17 @@ impl<'a> Protocol for Ospf<'a> {
         self.domain.destinations[place].dest
     }
 
-    fn entry(
+    fn route(
         &self,
         alloc: Global,
         place: usize,
         router: u32,
-    ) -> Result<Option<Entry>, OutOfMemory> {
+    ) -> Result<Option<Route>, OutOfMemory> {
         let areas = self.domain.areas.as_slice();
         let ranges = &self.ranges[router as usize];
         let destination = &self.domain.destinations[place];
         let summaries = &self.summaries[place];
-        entry_of(
+        route_of(
             alloc,
             self.net,
             areas,
@@ -100,6 +108,10 @@ impl<'a> Protocol for Ospf<'a> {
             summaries,
             router,
         )
+    }
+
+    fn walks(&self, router: u32, zone: usize) -> &LeastWalks {
+        self.domain.areas[zone].walks.from_router(router)
     }
 
     fn is_neighbor(&self, router: u32, other: u32) -> bool {
@@ -112,8 +124,10 @@ fn all_summaries(
     alloc: Global,
     net: &Net,
     domain: &Domain,
+    borders: &[u32],
     ranges: &[ActiveRanges],
 ) -> Result<Vec<Summaries>, OutOfMemory>
+    requires borders { Exactly (IsBorderRouter net.now) borders.now }
     requires domain { IsDomain net.now domain.now }
     requires ranges { AreRangesBelow net.now (length net.now) ranges.now }
     ensures { IfOk result (λ summaries. AreAnnounced net.now domain.now summaries.items) }
@@ -121,7 +135,8 @@ fn all_summaries(
     let areas = domain.areas.as_slice();
     let mut all = Vec::new(alloc);
     for destination in &domain.destinations {
-        all.push(Summaries::build(alloc, net, areas, ranges, destination)?)?;
+        let summaries = Summaries::build(alloc, net, areas, borders, ranges, destination)?;
+        all.push(summaries)?;
     }
     Ok(all)
 }

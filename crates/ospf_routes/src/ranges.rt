@@ -1,11 +1,12 @@
 ghost use Rattle.std.specs.Prelude.{◌≡◌, ◌<◌, ◌≤◌, ◌↔◌, ℕ, length, Some, All, Any, Contains, IfOk, IfNone, IfSome, IsTrue, MatchOption};
 ghost use Rattle.net_model.specs.Network.{IsBorderRouter};
 ghost use Rattle.igp_theory.specs.Ospf.{HasRange, IsActive, IsActiveRange, IsComponent, RangeCost};
-ghost use Rattle.ospf_routes.specs.Areas.{AreAreas};
-ghost use Rattle.ospf_routes.specs.Destinations.{IsDestination};
-ghost use Rattle.ospf_routes.specs.Domain.{IsDomain};
+ghost use Rattle.ospf_routes.specs.steps.Areas.{AreAreas};
+ghost use Rattle.ospf_routes.specs.steps.Destinations.{IsDestination};
+ghost use Rattle.ospf_routes.specs.steps.Domain.{IsDomain};
 ghost use Rattle.ospf_routes.specs.Lists.{Exactly};
-ghost use Rattle.ospf_routes.specs.Ranges.{AreActiveRanges, AreRangesBelow, HasComponentCost, IsActiveAt, IsComponentOfSome, IsGreatestOf, IsLeastOf, IsLonger, IsPicked};
+ghost use Rattle.ospf_routes.specs.steps.Ranges.{AreActiveRanges, AreRangesBelow, HasComponentCost, IsActiveAt, IsComponentOfSome, IsGreatestOf, IsLeastOf};
+ghost use Rattle.ospf_routes.specs.steps.Ranges.{IsLonger, IsPicked};
 
 use crate::OutOfMemory;
 use crate::areas::{AreaWalks, is_border};

@@ -1,13 +1,49 @@
-ghost use Rattle.std.specs.Prelude.{◌≡◌, ◌↔◌, length, Some, Any, IfOk, MatchOption};
+ghost use Rattle.std.specs.Prelude.{◌≡◌, ◌↔◌, length, Some, All, Any, IfOk, IsTrue, MatchOption};
+ghost use Rattle.walk_core.specs.BestOffers.{AreInRange};
+ghost use Rattle.ospf_routes.specs.steps.AreaReach.{IsBestOfOthers};
 ghost use Rattle.walk_core.specs.declared.offers.Offer.{Offer as OfferValue};
 ghost use Rattle.ospf_routes.specs.Lists.{Exactly};
-ghost use Rattle.ospf_routes.specs.Routing.{AreSomeUnited, AreUnited, IsReachedOther};
+ghost use Rattle.ospf_routes.specs.steps.Routing.{AreSomeUnited, AreUnited, IsReachedOther};
 
 use crate::OutOfMemory;
 use route_core::Hops;
-use route_tables::push_option;
+use route_tables::{Route, best_route, push_option};
 use std::alloc::Global;
 use walk_core::{LeastWalks, Offer, push_below, put_in_order};
+
+/// The route to the best of the offers that other routers than `u` make and that are reached, over the least walks of a
+/// zone.
+pub fn best_of_others(
+    alloc: Global,
+    walks: &LeastWalks,
+    zone: usize,
+    offers: &[Offer],
+    u: u32,
+    count: u32,
+) -> Result<Option<Route>, OutOfMemory>
+    requires { AreInRange walks.now offers.now }
+    ensures { IfOk result (IsBestOfOthers walks.now offers.now u zone count) }
+{
+    if are_reached_others(walks, offers, u) {
+        return best_route(alloc, walks, zone, offers, count);
+    }
+    let others = reached_others(alloc, walks, offers, u)?;
+    best_route(alloc, walks, zone, others.as_slice(), count)
+}
+
+/// Whether other routers than `u` make all offers, and all are reached.
+fn are_reached_others(walks: &LeastWalks, offers: &[Offer], u: u32) -> bool
+    ensures { IsTrue result ↔ All (λ o. IsReachedOther walks.now u o o) offers.now }
+{
+    offers.iter().all(|o| is_reached_other(walks, *o, u))
+}
+
+/// Whether another router than `u` makes the offer and it is reached.
+fn is_reached_other(walks: &LeastWalks, offer: Offer, u: u32) -> bool
+    ensures { IsTrue result ↔ IsReachedOther walks.now u offer offer }
+{
+    offer.at != u && walks.distance(offer.at).is_some()
+}
 
 /// The offers that other routers than `u` make and that are reached.
 pub fn reached_others(
@@ -29,7 +65,7 @@ pub fn reached_others(
 fn reached_other(walks: &LeastWalks, offer: Offer, u: u32) -> Option<Offer>
     ensures { (o : OfferValue) → (result ≡ Some o) ↔ IsReachedOther walks.now u o offer }
 {
-    if offer.at != u && walks.distance(offer.at).is_some() {
+    if is_reached_other(walks, offer, u) {
         Some(offer)
     } else {
         None

@@ -2,7 +2,7 @@ ghost use Rattle.std.specs.Prelude.{◌≡◌, ◌<◌, ◌↔◌, length, Some,
 ghost use Rattle.igp_theory.specs.Ospf.{IsTotallyStubby};
 ghost use Rattle.walk_core.specs.declared.offers.Offer.{Offer as OfferValue};
 ghost use Rattle.ospf_routes.specs.Lists.{Adds};
-ghost use Rattle.ospf_routes.specs.Summarized.{HasDefault, IsAlone, IsDefault, RouterDefault};
+ghost use Rattle.ospf_routes.specs.steps.Summarized.{HasDefault, IsAlone, IsDefault, RouterDefault};
 
 use crate::OutOfMemory;
 use crate::areas::is_border;

@@ -1,7 +1,7 @@
 ghost use Rattle.std.specs.Prelude.{◌≡◌, ◌<◌, ◌↔◌, length, Some, Any, IfOk, OnOk};
 ghost use Rattle.igp_theory.specs.Ospf.{OffersSubnet};
 ghost use Rattle.ospf_routes.specs.Lists.{Adds, Exactly};
-ghost use Rattle.ospf_routes.specs.Offered.{IsSubnetRoute, InsideOf, OutsideOf, IsInsideOffer, IsOutsideOffer};
+ghost use Rattle.ospf_routes.specs.steps.Offered.{IsSubnetRoute, InsideOf, OutsideOf, IsInsideOffer, IsOutsideOffer};
 ghost use Rattle.ospf_routes.specs.declared.subnets.AreaRoute.{AreaRoute as Route};
 
 use crate::OutOfMemory;

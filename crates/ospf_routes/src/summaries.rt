@@ -1,12 +1,13 @@
 ghost use Rattle.std.specs.Prelude.{◌≡◌, ◌<◌, ◌↔◌, ℕ, length, Some, All, Any, IfOk, OnOk};
 ghost use Rattle.igp_theory.specs.Ospf.{AreaSummary, BorderCost, Summary};
 ghost use Rattle.walk_core.specs.declared.offers.Offer.{Offer as OfferValue};
-ghost use Rattle.ospf_routes.specs.Areas.{AreAreas, HasArea};
-ghost use Rattle.ospf_routes.specs.Destinations.{HasPart, IsDestination};
-ghost use Rattle.ospf_routes.specs.Lists.{Adds};
-ghost use Rattle.ospf_routes.specs.Offered.{AreOffers};
-ghost use Rattle.ospf_routes.specs.Ranges.{AreRangesBelow};
-ghost use Rattle.ospf_routes.specs.Summarized.{AreSummaries, AreSummarized, IsAllowed, IsSummaryOf, OutsideSummary};
+ghost use Rattle.ospf_routes.specs.steps.Areas.{AreAreas, HasArea};
+ghost use Rattle.ospf_routes.specs.steps.Destinations.{HasPart, IsDestination};
+ghost use Rattle.net_model.specs.Network.{IsBorderRouter};
+ghost use Rattle.ospf_routes.specs.Lists.{Adds, Exactly};
+ghost use Rattle.ospf_routes.specs.steps.Offered.{AreOffers};
+ghost use Rattle.ospf_routes.specs.steps.Ranges.{AreRangesBelow};
+ghost use Rattle.ospf_routes.specs.steps.Summarized.{AreSummaries, AreSummarized, IsAllowed, IsSummaryOf, OutsideSummary};
 
 use crate::OutOfMemory;
 use crate::areas::AreaWalks;
@@ -38,9 +39,11 @@ impl Summaries {
         alloc: Global,
         net: &Net,
         areas: &[AreaWalks],
+        borders: &[u32],
         ranges: &[ActiveRanges],
         destination: &Destination,
     ) -> Result<Summaries, OutOfMemory>
+        requires borders { Exactly (IsBorderRouter net.now) borders.now }
         requires areas { AreAreas net.now areas.now }
         requires ranges { AreRangesBelow net.now (length net.now) ranges.now }
         requires destination { IsDestination net.now destination.now }
@@ -48,16 +51,24 @@ impl Summaries {
         ensures summaries { IfOk result (λ s. AreSummaries net.now areas.now s) }
     {
         let dest = destination.dest;
-        let routes = summarized(alloc, net, areas, ranges, destination)?;
+        let routes = summarized(alloc, net, areas, borders, ranges, destination)?;
         let backbone = offers_outside(alloc, routes.as_slice(), 0)?;
-        let borders = border_offers(alloc, net, areas, ranges, destination, backbone.as_slice())?;
+        let reached = border_offers(
+            alloc,
+            net,
+            areas,
+            borders,
+            ranges,
+            destination,
+            backbone.as_slice(),
+        )?;
         let parts = area_parts(
             alloc,
             net,
             areas,
             dest,
             routes.as_slice(),
-            borders.as_slice(),
+            reached.as_slice(),
         )?;
         Ok(Summaries { dest, parts })
     }

@@ -1,9 +1,10 @@
 ghost use Rattle.std.specs.Prelude.{◌≡◌, ◌<◌, ◌↔◌, length, Some, Any, IfOk, OnOk};
-ghost use Rattle.ospf_routes.specs.Areas.{AreAreas};
-ghost use Rattle.ospf_routes.specs.Destinations.{IsDestination};
-ghost use Rattle.ospf_routes.specs.Lists.{Adds};
-ghost use Rattle.ospf_routes.specs.Ranges.{AreActiveRanges, AreRangesBelow};
-ghost use Rattle.ospf_routes.specs.Summarized.{AreSummarized, IsRangeRoute, IsSubnetSummary, SummarizedFrom, SummarizedSubnet};
+ghost use Rattle.ospf_routes.specs.steps.Areas.{AreAreas};
+ghost use Rattle.ospf_routes.specs.steps.Destinations.{IsDestination};
+ghost use Rattle.net_model.specs.Network.{IsBorderRouter};
+ghost use Rattle.ospf_routes.specs.Lists.{Adds, Exactly};
+ghost use Rattle.ospf_routes.specs.steps.Ranges.{AreActiveRanges, AreRangesBelow};
+ghost use Rattle.ospf_routes.specs.steps.Summarized.{AreSummarized, IsRangeRoute, IsSubnetSummary, SummarizedFrom, SummarizedSubnet};
 ghost use Rattle.ospf_routes.specs.declared.subnets.AreaRoute.{AreaRoute as Route};
 
 use crate::OutOfMemory;
@@ -21,17 +22,20 @@ pub fn summarized(
     alloc: Global,
     net: &Net,
     areas: &[AreaWalks],
+    borders: &[u32],
     ranges: &[ActiveRanges],
     destination: &Destination,
 ) -> Result<Vec<AreaRoute>, OutOfMemory>
+    requires borders { Exactly (IsBorderRouter net.now) borders.now }
     requires areas { AreAreas net.now areas.now }
     requires ranges { AreRangesBelow net.now (length net.now) ranges.now }
     requires destination { IsDestination net.now destination.now }
     ensures { IfOk result (λ routes. AreSummarized net.now destination.now.dest routes.items) }
 {
     let mut routes = Vec::new(alloc);
-    for b in 0..net.routers() {
-        push_summarized(&mut routes, net, areas, &ranges[b as usize], destination, b)?;
+    for b in borders {
+        let active = &ranges[*b as usize];
+        push_summarized(&mut routes, net, areas, active, destination, *b)?;
     }
     Ok(routes)
 }

@@ -1,5 +1,5 @@
 use Rattle.igp_theory.specs.Isis.{LevelTwoAnnouncement}
-use Rattle.isis_routes.specs.Offered.{AreOffersBelow}
+use Rattle.isis_routes.specs.steps.Offered.{AreOffersBelow}
 use Rattle.isis_routes.proofs.announcements.announcements.Given as goal
 
 abbrev pub invariant-loop-router : goal.invariant-loop-router

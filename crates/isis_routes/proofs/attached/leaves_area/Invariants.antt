@@ -1,5 +1,5 @@
 use Rattle.std.proofs.Common.{ℕ, ◌<◌}
-use Rattle.isis_routes.specs.Attached.{LeadsOutside}
+use Rattle.isis_routes.specs.steps.Attached.{LeadsOutside}
 use Rattle.isis_routes.proofs.attached.leaves_area.Given as goal
 
 abbrev pub invariant-loop-other : goal.invariant-loop-other

@@ -1,7 +1,7 @@
 use Rattle.std.proofs.Common.{take}
 use Rattle.std.specs.List.{Any}
 use Rattle.route_tables.specs.Lists.{Adds}
-use Rattle.isis_routes.specs.Candidates.{HasSubnet}
+use Rattle.isis_routes.specs.steps.Candidates.{HasSubnet}
 use Rattle.isis_routes.proofs.candidates.add_subnets.Given as goal
 
 abbrev pub invariant-loop-interface : goal.invariant-loop-interface

@@ -3,7 +3,7 @@ use Rattle.std.specs.List.{Any}
 use Rattle.net_model.specs.Configuration.{Configuration}
 use Rattle.net_model.specs.declared.interface.Interface.{Interface}
 use Rattle.route_tables.specs.Lists.{Adds}
-use Rattle.isis_routes.specs.Candidates.{HasSubnet}
+use Rattle.isis_routes.specs.steps.Candidates.{HasSubnet}
 use Rattle.isis_routes.proofs.CandidateLists.{candidates_none, candidates_more, candidates_all}
 use Rattle.isis_routes.proofs.candidates.candidates_of.Goals as goal
 

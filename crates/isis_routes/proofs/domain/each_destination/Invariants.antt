@@ -1,5 +1,5 @@
 use Rattle.std.proofs.Common.{◌≡◌, take, All}
-use Rattle.isis_routes.specs.Domain.{AreAnnounced, dests_of}
+use Rattle.isis_routes.specs.steps.Domain.{AreAnnounced, dests_of}
 use Rattle.isis_routes.proofs.domain.each_destination.Given as goal
 
 abbrev pub invariant-loop-dest : goal.invariant-loop-dest

@@ -1,7 +1,7 @@
 use Rattle.std.proofs.Common.{take, ℕ}
 use Rattle.std.specs.List.{Any}
 use Rattle.route_tables.specs.Lists.{Adds}
-use Rattle.isis_routes.specs.Homes.{IsHomeOf}
+use Rattle.isis_routes.specs.steps.Homes.{IsHomeOf}
 use Rattle.isis_routes.specs.declared.homes.Home.{Home}
 use Rattle.isis_routes.proofs.homes.routers_at.Given as goal
 

@@ -2,7 +2,7 @@ use Rattle.std.proofs.Common.{◌^◌, ◌<◌, List, refl, subst, sym, arith}
 use Rattle.walk_core.specs.declared.offers.Offer.{Offer}
 use Rattle.igp_theory.specs.Ospf.{OfOthers}
 use Rattle.igp_theory.specs.Isis.{LevelTwoAnnouncement}
-use Rattle.isis_routes.specs.Offered.{AreOffers}
+use Rattle.isis_routes.specs.steps.Offered.{AreOffers}
 use Rattle.isis_routes.proofs.Announced.{others_of_are}
 use Rattle.isis_routes.proofs.BestRoutes.{two_cost_is}
 use Rattle.isis_routes.proofs.CostBounds.{in_range, announcement_is_small}
@@ -18,7 +18,8 @@ best_cost-requires c =
     (others_of_are (LevelTwoAnnouncement net c.args.dest) c.args.two.now c.args.two.now others u c.requires.two refl c.in_ok-others.ensures)
     c.as_slice.ensures.value
     (λ at asks o.
-    let small : asks < 2 ^ 41 = announcement_is_small net c.args.dest at asks c.args.walks.now.one c.if-not-runs_two.ensures.network c.requires.walks.one o.offered in
+    let small : asks < 2 ^ 41 = announcement_is_small net c.args.dest at asks c.args.walks.now.one c.if-not-runs_two.ensures.network
+    c.requires.walks.one o.offered in
     omega arith)
 
 pub returns : goal.returns

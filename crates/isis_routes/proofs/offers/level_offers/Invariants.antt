@@ -1,4 +1,4 @@
-use Rattle.isis_routes.specs.Offered.{OffersIn, AreOffersBelow}
+use Rattle.isis_routes.specs.steps.Offered.{OffersIn, AreOffersBelow}
 use Rattle.isis_routes.proofs.offers.level_offers.Given as goal
 
 abbrev pub invariant-loop-router : goal.invariant-loop-router

@@ -1,5 +1,5 @@
 use Rattle.std.proofs.Common.{take}
-use Rattle.isis_routes.specs.Offered.{AskedBy, AddsOffers}
+use Rattle.isis_routes.specs.steps.Offered.{AskedBy, AddsOffers}
 use Rattle.isis_routes.proofs.offers.push_offers.Given as goal
 
 abbrev pub invariant-loop-interface : goal.invariant-loop-interface

@@ -2,7 +2,7 @@ use Rattle.std.proofs.Common.{◌≡◌, ℕ, List, Contains, false, true, ap, s
 use Rattle.std.proofs.lemmas.Result.{on_ok_weaker}
 use Rattle.net_model.specs.Configuration.{Configuration}
 use Rattle.net_model.specs.declared.interface.Interface.{Interface}
-use Rattle.isis_routes.specs.Offered.{AskedBy, OffersIn, AddsOffers}
+use Rattle.isis_routes.specs.steps.Offered.{AskedBy, OffersIn, AddsOffers}
 use Rattle.isis_routes.proofs.OfferLists.{adds_nothing, adds_same, asked_is_offered, offered_is_asked}
 use Rattle.isis_routes.proofs.HomeFacts.{offered_is_connected}
 use Rattle.isis_routes.proofs.offers.push_router_offers.Goals as goal
@@ -26,5 +26,6 @@ returns c =
 pub returns-then-not-is_among : goal.returns-then-not-is_among
 returns-then-not-is_among c =
     adds_nothing c.args.offers.now.items c.args.router (OffersIn c.args.net.now c.args.level c.args.dest c.args.router)
-    (λ cost offers. let there : Contains c.args.homes.now c.args.router = (c.requires.homes c.args.router).1 (offered_is_connected c.args.net.now c.args.level c.args.dest c.args.router cost offers) in
+    (λ cost offers. let there : Contains c.args.homes.now c.args.router = (c.requires.homes c.args.router).1
+    (offered_is_connected c.args.net.now c.args.level c.args.dest c.args.router cost offers) in
     let k : false ≡ true = c.if-not-is_among.ensures.1 there in cc)

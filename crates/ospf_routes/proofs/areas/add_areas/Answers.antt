@@ -1,7 +1,7 @@
 use Rattle.std.proofs.Common.{ℕ}
 use Rattle.net_model.specs.declared.interface.Interface.{Interface}
 use Rattle.route_tables.proofs.ListFacts.{adds_start, adds_step, adds_end}
-use Rattle.ospf_routes.specs.Areas.{RunsArea}
+use Rattle.ospf_routes.specs.steps.Areas.{RunsArea}
 use Rattle.ospf_routes.proofs.areas.add_areas.Goals as goal
 
 pub loop-interface-init : goal.loop-interface-init
@@ -10,8 +10,13 @@ loop-interface-init c =
 
 pub loop-interface-preserved : goal.loop-interface-preserved
 loop-interface-preserved c =
-    adds_step (λ (n : ℕ) (i : Interface). RunsArea n i) c.args.numbers.now.items c.loop-interface.numbers.items c.add_area.new.numbers.items c.args.interfaces.now c.loop-interface.interface-index c.interface-item.result c.area_of.result c.loop-interface-test.true c.interface-item.is c.loop-interface.invariant c.in_ok-add_area.ensures c.area_of.ensures
+    adds_step (λ (n : ℕ) (i : Interface). RunsArea n i)
+    c.args.numbers.now.items c.loop-interface.numbers.items c.add_area.new.numbers.items c.args.interfaces.now c.loop-interface.interface-index
+    c.interface-item.result c.area_of.result c.loop-interface-test.true c.interface-item.is c.loop-interface.invariant c.in_ok-add_area.ensures
+    c.area_of.ensures
 
 pub returns : goal.returns
 returns c =
-    adds_end (λ (n : ℕ) (i : Interface). RunsArea n i) c.args.numbers.now.items c.loop-interface.numbers.items c.args.interfaces.now c.loop-interface.interface-index c.loop-interface-test.false c.loop-interface.invariant
+    adds_end (λ (n : ℕ) (i : Interface). RunsArea n i)
+    c.args.numbers.now.items c.loop-interface.numbers.items c.args.interfaces.now c.loop-interface.interface-index c.loop-interface-test.false
+    c.loop-interface.invariant

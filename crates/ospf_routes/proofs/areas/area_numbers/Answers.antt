@@ -9,7 +9,9 @@ loop-u-init c =
 
 pub loop-u-preserved : goal.loop-u-preserved
 loop-u-preserved c =
-    numbers_more c.args.net.now c.loop-u.u c.config.result.now c.as_slice.result.now c.loop-u.numbers.items c.add_areas.new.numbers.items c.config.ensures.router (c.as_slice.ensures ∙ ap (λ (d : Configuration). d.interfaces) c.behind-net.view_is) c.loop-u.invariant c.in_ok-add_areas.ensures
+    numbers_more c.args.net.now c.loop-u.u c.config.result.now c.as_slice.result.now c.loop-u.numbers.items c.add_areas.new.numbers.items
+    c.config.ensures.router (c.as_slice.ensures ∙ ap (λ (d : Configuration). d.interfaces) c.behind-net.view_is)
+    c.loop-u.invariant c.in_ok-add_areas.ensures
 
 pub returns-clause-backbone : goal.returns-clause-backbone
 returns-clause-backbone c = c.loop-u.invariant.backbone

@@ -6,4 +6,5 @@ use Rattle.ospf_routes.proofs.areas.in_area.Goals as goal
 
 pub returns : goal.returns
 returns c =
-    iff_then c.some_runs.ensures (inside_is c.args.net.now c.args.u c.args.number c.config.result.now c.as_slice.result.now c.config.ensures.router (c.as_slice.ensures ∙ ap (λ (d : Configuration). d.interfaces) c.behind-net.view_is))
+    iff_then c.some_runs.ensures (inside_is c.args.net.now c.args.u c.args.number c.config.result.now c.as_slice.result.now c.config.ensures.router
+    (c.as_slice.ensures ∙ ap (λ (d : Configuration). d.interfaces) c.behind-net.view_is))

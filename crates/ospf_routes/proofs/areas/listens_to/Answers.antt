@@ -10,4 +10,6 @@ returns-then-is_border c =
 
 pub returns : goal.returns
 returns c =
-    inner_listens c.args.net.now c.args.u c.config.result.now c.as_slice.result.now c.first_area.result c.config.ensures.router (c.as_slice.ensures ∙ ap (λ (d : Configuration). d.interfaces) c.behind-net.view_is) (λ is. false≢true (c.if-is_border.ensures.1 is)) c.first_area.ensures
+    inner_listens c.args.net.now c.args.u c.config.result.now c.as_slice.result.now c.first_area.result c.config.ensures.router
+    (c.as_slice.ensures ∙ ap (λ (d : Configuration). d.interfaces) c.behind-net.view_is) (λ is. false≢true (c.if-is_border.ensures.1 is))
+    c.first_area.ensures

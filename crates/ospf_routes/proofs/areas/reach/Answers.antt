@@ -7,4 +7,5 @@ from_router-requires c =
 
 pub returns-in-Some-clause-some : goal.returns-in-Some-clause-some
 returns-in-Some-clause-some c =
-    reach_is c.args.net.now c.args.areas.now c.args.number c.args.u c.in-Some.walks.now c.from_router.result.now c.requires.areas c.in-Some.ensures.some c.from_router.ensures
+    reach_is c.args.net.now c.args.areas.now c.args.number c.args.u c.in-Some.walks.now c.from_router.result.now c.requires.areas c.in-Some.ensures.some
+    c.from_router.ensures

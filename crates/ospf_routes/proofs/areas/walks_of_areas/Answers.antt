@@ -1,7 +1,7 @@
 use Rattle.std.proofs.Common.{◌+◌, ◌∷◌, ◌++◌, [], subst, List, sym, ℕ, get_or, take}
 use Rattle.std.proofs.lemmas.List.{take_more, take_all}
 use Rattle.ospf_routes.proofs.AreaFacts.{numbered_none, numbered_more}
-use Rattle.ospf_routes.specs.Areas.{AreNumbered}
+use Rattle.ospf_routes.specs.steps.Areas.{AreNumbered}
 use Rattle.ospf_routes.specs.declared.areas.AreaWalks.{AreaWalks}
 use Rattle.ospf_routes.proofs.areas.walks_of_areas.Goals as goal
 
@@ -20,4 +20,5 @@ loop-number-preserved c =
 
 pub returns : goal.returns
 returns c =
-    subst (λ (l : List ℕ). AreNumbered c.args.net.now l c.loop-number.areas.items) (take_all c.loop-number.number-index c.args.numbers.now c.loop-number-test.false) c.loop-number.invariant
+    subst (λ (l : List ℕ). AreNumbered c.args.net.now l c.loop-number.areas.items)
+    (take_all c.loop-number.number-index c.args.numbers.now c.loop-number-test.false) c.loop-number.invariant

@@ -1,5 +1,5 @@
 use Rattle.std.proofs.Common.{take}
-use Rattle.ospf_routes.specs.Areas.{AreNumbered}
+use Rattle.ospf_routes.specs.steps.Areas.{AreNumbered}
 use Rattle.ospf_routes.proofs.areas.walks_of_areas.Given as goal
 
 abbrev pub invariant-loop-number : goal.invariant-loop-number

@@ -1,5 +1,5 @@
 use Rattle.route_tables.proofs.ListFacts.{adds_start, adds_more, adds_end}
-use Rattle.ospf_routes.specs.Candidates.{IsRangeOf}
+use Rattle.ospf_routes.specs.steps.Candidates.{IsRangeOf}
 use Rattle.ospf_routes.proofs.candidates.add_ranges.Goals as goal
 
 pub loop-range-init : goal.loop-range-init
@@ -8,7 +8,7 @@ loop-range-init c = adds_start IsRangeOf c.args.dests.now c.args.ranges.now
 pub loop-range-preserved : goal.loop-range-preserved
 loop-range-preserved c =
     adds_more IsRangeOf c.args.dests.now c.loop-range.dests c.add.new.self c.args.ranges.now c.loop-range.range-index c.range-item.result
-    c.loop-range-test.true c.range-item.is c.loop-range.invariant c.in_ok-add.ensures
+    c.loop-range-test.true c.range-item.is c.loop-range.invariant c.in_ok-add.ensures.ok
 
 pub returns : goal.returns
 returns c =

@@ -1,7 +1,7 @@
 use Rattle.std.proofs.Common.{take}
 use Rattle.std.specs.List.{Any}
 use Rattle.route_tables.specs.Lists.{Adds}
-use Rattle.ospf_routes.specs.Candidates.{IsRangeOf}
+use Rattle.ospf_routes.specs.steps.Candidates.{IsRangeOf}
 use Rattle.ospf_routes.proofs.candidates.add_ranges.Given as goal
 
 abbrev pub invariant-loop-range : goal.invariant-loop-range

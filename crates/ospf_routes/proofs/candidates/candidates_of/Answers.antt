@@ -4,7 +4,7 @@ use Rattle.net_model.specs.Configuration.{Configuration}
 use Rattle.net_model.specs.declared.area.Range.{Range}
 use Rattle.net_model.specs.declared.interface.Interface.{Interface}
 use Rattle.route_tables.specs.Lists.{Adds}
-use Rattle.ospf_routes.specs.Candidates.{HasSubnet, IsRangeOf}
+use Rattle.ospf_routes.specs.steps.Candidates.{HasSubnet, IsRangeOf}
 use Rattle.ospf_routes.proofs.CandidateLists.{candidates_none, candidates_more, candidates_all}
 use Rattle.ospf_routes.proofs.candidates.candidates_of.Goals as goal
 
@@ -15,8 +15,10 @@ pub loop-router-preserved : goal.loop-router-preserved
 loop-router-preserved c =
     let config : Configuration = c.config-config.result.now in
     let are : c.as_slice.result.now ≡ config.interfaces = c.as_slice.ensures ∙ ap (λ (d : Configuration). d.interfaces) c.config.view_is in
-    let ranges_are : c.as_slice-in-loop-router.result.now ≡ config.ranges = c.as_slice-in-loop-router.ensures ∙ ap (λ (d : Configuration). d.ranges) c.config.view_is in
-    candidates_more c.args.net.now c.loop-router.router config c.loop-router.dests c.add_subnets.new.dests c.add_ranges.new.dests c.config-config.ensures.router c.loop-router.invariant
+    let ranges_are : c.as_slice-in-loop-router.result.now ≡ config.ranges = c.as_slice-in-loop-router.ensures
+    ∙ ap (λ (d : Configuration). d.ranges) c.config.view_is in
+    candidates_more c.args.net.now c.loop-router.router config c.loop-router.dests c.add_subnets.new.dests c.add_ranges.new.dests
+    c.config-config.ensures.router c.loop-router.invariant
     (subst (λ (l : List Interface). Adds c.loop-router.dests c.add_subnets.new.dests (λ p. Any (HasSubnet p) l)) are c.in_ok-add_subnets.ensures)
     (subst (λ (l : List Range). Adds c.add_subnets.new.dests c.add_ranges.new.dests (λ p. Any (IsRangeOf p) l)) ranges_are c.in_ok-add_ranges.ensures)
 

@@ -1,5 +1,5 @@
 use Rattle.std.proofs.Common.{◌≡◌, ◌∙◌, All}
-use Rattle.ospf_routes.specs.Destinations.{IsDestination, AreDestinations, dests_of}
+use Rattle.ospf_routes.specs.steps.Destinations.{IsDestination, AreDestinations, dests_of}
 use Rattle.route_tables.proofs.DestinationLists.{if_ok_both}
 use Rattle.ospf_routes.proofs.DestinationFacts.{are_destinations}
 use Rattle.ospf_routes.proofs.domain.destinations.Goals as goal
@@ -7,6 +7,8 @@ use Rattle.ospf_routes.proofs.domain.destinations.Goals as goal
 pub returns : goal.returns
 returns c =
     if_ok_both c.each_destination.result
-    (λ all. dests_of all.items ≡ c.as_slice.result.now) (λ all. All (IsDestination c.args.net.now) all.items) (λ all. AreDestinations c.args.net.now all.items)
-    (λ all same each. are_destinations c.args.net.now all.items c.in_ok-dests.dests (same ∙ c.as_slice.ensures.value) each c.as_slice.ensures.distinct c.in_ok-dests.ensures)
+    (λ all. dests_of all.items ≡ c.as_slice.result.now) (λ all. All (IsDestination c.args.net.now) all.items)
+    (λ all. AreDestinations c.args.net.now all.items)
+    (λ all same each. are_destinations c.args.net.now all.items c.in_ok-dests.dests (same ∙ c.as_slice.ensures.value)
+    each c.as_slice.ensures.distinct c.in_ok-dests.ensures)
     c.each_destination.ensures.dests c.each_destination.ensures.each

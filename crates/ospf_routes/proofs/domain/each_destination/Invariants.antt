@@ -1,6 +1,6 @@
 use Rattle.std.proofs.Common.{◌≡◌, take}
 use Rattle.std.specs.List.{All}
-use Rattle.ospf_routes.specs.Destinations.{IsDestination, dests_of}
+use Rattle.ospf_routes.specs.steps.Destinations.{IsDestination, dests_of}
 use Rattle.ospf_routes.proofs.domain.each_destination.Given as goal
 
 abbrev pub invariant-loop-dest : goal.invariant-loop-dest

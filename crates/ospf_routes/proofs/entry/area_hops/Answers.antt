@@ -6,14 +6,17 @@ use Rattle.ospf_routes.proofs.CostBounds.{in_range, subnet_is_small}
 use Rattle.ospf_routes.proofs.IntraFacts.{part_is, no_intra_given}
 use Rattle.ospf_routes.proofs.RouteFacts.{area_route_is}
 use Rattle.route_tables.specs.BestRoutes.{AreBestHops}
-use Rattle.ospf_routes.specs.Routing.{IsAreaRoute}
+use Rattle.ospf_routes.specs.steps.Routing.{IsAreaRoute}
 use Rattle.ospf_routes.proofs.entry.area_hops.Goals as goal
 
 pub best_hops-requires : goal.best_hops-requires
 best_hops-requires c =
-    in_range c.in-Some-reach_inside.walks.now (OffersSubnet c.args.net.now c.args.area c.args.destination.now.dest) c.in-Some.part.now.offers.items c.as_slice-in-Some-reach_inside.result.now c.in-Some-reach_inside.ensures.some.reach_is.near
-    (part_is c.args.net.now c.args.destination.now c.as_slice.result.now c.in-Some.part.now c.args.area c.requires.destination c.as_slice.ensures.value c.in-Some.ensures.among c.in-Some.ensures.area) c.as_slice-in-Some-reach_inside.ensures.value
-    (λ at asks offers. let small : asks < 2 ^ 24 = subnet_is_small c.args.net.now c.args.area c.args.destination.now.dest at asks c.requires.areas.network offers in omega arith)
+    in_range c.in-Some-reach_inside.walks.now (OffersSubnet c.args.net.now c.args.area c.args.destination.now.dest)
+    c.in-Some.part.now.offers.items c.as_slice-in-Some-reach_inside.result.now c.in-Some-reach_inside.ensures.some.reach_is.near
+    (part_is c.args.net.now c.args.destination.now c.as_slice.result.now c.in-Some.part.now c.args.area c.requires.destination c.as_slice.ensures.value
+    c.in-Some.ensures.among c.in-Some.ensures.area) c.as_slice-in-Some-reach_inside.ensures.value
+    (λ at asks offers. let small : asks < 2 ^ 24 = subnet_is_small c.args.net.now c.args.area c.args.destination.now.dest at asks
+    c.requires.areas.network offers in omega arith)
 
 pub returns-in-Some-reach_inside : goal.returns-in-Some-reach_inside
 returns-in-Some-reach_inside c =
@@ -21,10 +24,15 @@ returns-in-Some-reach_inside c =
     let given = c.as_slice-in-Some-reach_inside.result.now in
     IfOk-weaker c.best_hops.result
     (λ (found : Option (List ℕ)). MatchOption found (NoneTotals reach given) (AreBestHops reach given c.routers.result))
-    (λ (found : Option (List ℕ)). MatchOption found ((cost : ℕ) → IntraAreaCost c.args.net.now c.args.area c.args.destination.now.dest c.args.u cost → ⊥) (IsAreaRoute c.args.net.now c.args.area c.args.destination.now.dest c.args.u))
-    (λ found best. area_route_is c.args.net.now c.args.area c.args.destination.now.dest c.args.u reach c.in-Some.part.now.offers.items given c.in-Some-reach_inside.ensures.some (part_is c.args.net.now c.args.destination.now c.as_slice.result.now c.in-Some.part.now c.args.area c.requires.destination c.as_slice.ensures.value c.in-Some.ensures.among c.in-Some.ensures.area) c.as_slice-in-Some-reach_inside.ensures.value c.routers.result c.routers.ensures.count found best)
+    (λ (found : Option (List ℕ)). MatchOption found ((cost : ℕ) → IntraAreaCost c.args.net.now c.args.area c.args.destination.now.dest c.args.u cost → ⊥)
+    (IsAreaRoute c.args.net.now c.args.area c.args.destination.now.dest c.args.u))
+    (λ found best. area_route_is c.args.net.now c.args.area c.args.destination.now.dest c.args.u reach c.in-Some.part.now.offers.items given
+    c.in-Some-reach_inside.ensures.some (part_is c.args.net.now c.args.destination.now c.as_slice.result.now c.in-Some.part.now c.args.area
+    c.requires.destination c.as_slice.ensures.value c.in-Some.ensures.among c.in-Some.ensures.area)
+    c.as_slice-in-Some-reach_inside.ensures.value c.routers.result c.routers.ensures.count found best)
     c.best_hops.ensures
 
 pub returns-in-None : goal.returns-in-None
 returns-in-None c =
-    no_intra_given c.args.net.now c.args.destination.now c.as_slice.result.now c.args.area c.args.u c.requires.destination c.as_slice.ensures.value c.in-None.ensures.none
+    no_intra_given c.args.net.now c.args.destination.now c.as_slice.result.now c.args.area c.args.u c.requires.destination c.as_slice.ensures.value
+    c.in-None.ensures.none

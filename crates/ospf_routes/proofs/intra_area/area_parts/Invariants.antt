@@ -1,7 +1,7 @@
 use Rattle.std.proofs.Common.{take}
 use Rattle.std.specs.List.{Any}
 use Rattle.ospf_routes.proofs.IntraFacts.{PartsSoFar}
-use Rattle.ospf_routes.specs.Offered.{InsideOf}
+use Rattle.ospf_routes.specs.steps.Offered.{InsideOf}
 use Rattle.ospf_routes.proofs.intra_area.area_parts.Given as goal
 
 abbrev pub invariant-loop-area : goal.invariant-loop-area

@@ -6,16 +6,22 @@ use Rattle.ospf_routes.proofs.intra_area.intra_cost.Goals as goal
 
 pub best_cost-requires : goal.best_cost-requires
 best_cost-requires c =
-    in_range c.in-Some-reach_inside.walks.now (OffersSubnet c.args.net.now c.args.area c.args.destination.now.dest) c.in-Some.part.now.offers.items c.as_slice-in-Some-reach_inside.result.now c.in-Some-reach_inside.ensures.some.reach_is.near
-    (part_is c.args.net.now c.args.destination.now c.as_slice.result.now c.in-Some.part.now c.args.area c.requires.destination c.as_slice.ensures.value c.in-Some.ensures.among c.in-Some.ensures.area) c.as_slice-in-Some-reach_inside.ensures.value
-    (λ at asks offers. let small : asks < 2 ^ 24 = subnet_is_small c.args.net.now c.args.area c.args.destination.now.dest at asks c.requires.areas.network offers in omega arith)
+    in_range c.in-Some-reach_inside.walks.now (OffersSubnet c.args.net.now c.args.area c.args.destination.now.dest)
+    c.in-Some.part.now.offers.items c.as_slice-in-Some-reach_inside.result.now c.in-Some-reach_inside.ensures.some.reach_is.near
+    (part_is c.args.net.now c.args.destination.now c.as_slice.result.now c.in-Some.part.now c.args.area c.requires.destination c.as_slice.ensures.value
+    c.in-Some.ensures.among c.in-Some.ensures.area) c.as_slice-in-Some-reach_inside.ensures.value
+    (λ at asks offers. let small : asks < 2 ^ 24 = subnet_is_small c.args.net.now c.args.area c.args.destination.now.dest at asks
+    c.requires.areas.network offers in omega arith)
 
 pub returns-in-Some-reach_inside : goal.returns-in-Some-reach_inside
 returns-in-Some-reach_inside c =
-    intra_cost_is c.args.net.now c.args.area c.args.destination.now.dest c.args.u c.in-Some-reach_inside.walks.now c.in-Some.part.now.offers.items c.as_slice-in-Some-reach_inside.result.now c.in-Some-reach_inside.ensures.some
-    (part_is c.args.net.now c.args.destination.now c.as_slice.result.now c.in-Some.part.now c.args.area c.requires.destination c.as_slice.ensures.value c.in-Some.ensures.among c.in-Some.ensures.area) c.as_slice-in-Some-reach_inside.ensures.value c.best_cost.result c.best_cost.ensures
+    intra_cost_is c.args.net.now c.args.area c.args.destination.now.dest c.args.u c.in-Some-reach_inside.walks.now c.in-Some.part.now.offers.items
+    c.as_slice-in-Some-reach_inside.result.now c.in-Some-reach_inside.ensures.some
+    (part_is c.args.net.now c.args.destination.now c.as_slice.result.now c.in-Some.part.now c.args.area c.requires.destination c.as_slice.ensures.value
+    c.in-Some.ensures.among c.in-Some.ensures.area) c.as_slice-in-Some-reach_inside.ensures.value c.best_cost.result c.best_cost.ensures
 
 pub returns-in-None : goal.returns-in-None
 returns-in-None c =
     no_intra_cost c.args.net.now c.args.area c.args.destination.now.dest c.args.u
-    (no_intra_given c.args.net.now c.args.destination.now c.as_slice.result.now c.args.area c.args.u c.requires.destination c.as_slice.ensures.value c.in-None.ensures.none)
+    (no_intra_given c.args.net.now c.args.destination.now c.as_slice.result.now c.args.area c.args.u c.requires.destination c.as_slice.ensures.value
+    c.in-None.ensures.none)

@@ -1,7 +1,7 @@
 use Rattle.std.proofs.Common.{map, ◌≡◌, take}
 use Rattle.std.specs.List.{All}
-use Rattle.ospf_routes.specs.Destinations.{dests_of}
-use Rattle.ospf_routes.specs.Summarized.{AreSummaries}
+use Rattle.ospf_routes.specs.steps.Destinations.{dests_of}
+use Rattle.ospf_routes.specs.steps.Summarized.{AreSummaries}
 use Rattle.ospf_routes.specs.declared.summaries.Summaries.{Summaries}
 use Rattle.ospf_routes.proofs.protocol.all_summaries.Given as goal
 

@@ -16,14 +16,23 @@ arc-arc-requires-clause-walks c =
     (contains_at c.args.areas.now c.loop-area.area-index a c.loop-area-test.true c.area-item.is)
 
 pub returns-then-is_some : goal.returns-then-is_some
-returns-then-is_some c =
-    (λ _. neighbor_by c.args.net.now c.args.router c.args.other c.area-item.result.number c.arc-arc.result c.arc-arc.ensures (sym c.is_some.ensures ∙ c.if-is_some.true), λ _. refl)
+returns-then-is_some c = (
+  λ _. neighbor_by c.args.net.now c.args.router c.args.other c.area-item.result.number c.arc-arc.result c.arc-arc.ensures
+      (sym c.is_some.ensures ∙ c.if-is_some.true),
+  λ _. refl,
+)
 
 pub loop-area-preserved : goal.loop-area-preserved
 loop-area-preserved c =
-    within_more (λ (a : AreaWalks). (k : ℕ) → Adjacent c.args.net.now (Area a.number) c.args.router c.args.other k → ⊥) c.args.areas.now c.loop-area.area-index c.area-item.result c.loop-area-test.true c.area-item.is c.loop-area.invariant
-    (no_arc c.args.net.now c.args.router c.args.other c.area-item.result.number c.arc-arc.result c.arc-arc.ensures (sym c.is_some.ensures ∙ c.if-is_some.false))
+    within_more (λ (a : AreaWalks). (k : ℕ) → Adjacent c.args.net.now (Area a.number) c.args.router c.args.other k → ⊥)
+    c.args.areas.now c.loop-area.area-index c.area-item.result c.loop-area-test.true c.area-item.is c.loop-area.invariant
+    (no_arc c.args.net.now c.args.router c.args.other c.area-item.result.number c.arc-arc.result c.arc-arc.ensures
+    (sym c.is_some.ensures ∙ c.if-is_some.false))
 
 pub returns : goal.returns
-returns c =
-    (λ e. absurd (false≢true e), λ is. absurd (no_neighbor c.args.net.now c.args.areas.now c.args.router c.args.other c.requires.areas (all_passed (λ (a : AreaWalks). (k : ℕ) → Adjacent c.args.net.now (Area a.number) c.args.router c.args.other k → ⊥) c.args.areas.now c.loop-area.area-index c.loop-area-test.false c.loop-area.invariant) is))
+returns c = (
+  λ e. absurd (false≢true e),
+  λ is. absurd (no_neighbor c.args.net.now c.args.areas.now c.args.router c.args.other c.requires.areas
+      (all_passed (λ (a : AreaWalks). (k : ℕ) → Adjacent c.args.net.now (Area a.number) c.args.router c.args.other k → ⊥)
+      c.args.areas.now c.loop-area.area-index c.loop-area-test.false c.loop-area.invariant) is),
+)

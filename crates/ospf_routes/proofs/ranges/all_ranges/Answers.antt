@@ -1,6 +1,6 @@
 use Rattle.std.proofs.Common.{◌+◌, subst, List, sym}
 use Rattle.ospf_routes.proofs.RangeFacts.{ranges_below_none, ranges_below_more}
-use Rattle.ospf_routes.specs.Ranges.{AreRangesBelow}
+use Rattle.ospf_routes.specs.steps.Ranges.{AreRangesBelow}
 use Rattle.ospf_routes.specs.declared.ranges.ActiveRange.{ActiveRange}
 use Rattle.ospf_routes.proofs.ranges.all_ranges.Goals as goal
 

@@ -1,4 +1,4 @@
-use Rattle.ospf_routes.specs.Ranges.{AreRangesBelow}
+use Rattle.ospf_routes.specs.steps.Ranges.{AreRangesBelow}
 use Rattle.ospf_routes.proofs.ranges.all_ranges.Given as goal
 
 abbrev pub invariant-loop-b : goal.invariant-loop-b

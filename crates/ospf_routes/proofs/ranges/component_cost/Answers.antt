@@ -7,7 +7,9 @@ use Rattle.ospf_routes.proofs.ranges.component_cost.Goals as goal
 pub returns : goal.returns
 returns c =
     λ cost. (
-      λ e. component_is c.args.net.now c.args.b c.config.result.now c.as_slice-ranges.result.now c.args.range.now c.args.destination.now.dest cost c.requires.has c.config.ensures.router (c.as_slice-ranges.ensures ∙ ap (λ (d : Configuration). d.ranges) c.behind-net.view_is) (c.if-not-covers.ensures.0 refl)
+      λ e. component_is c.args.net.now c.args.b c.config.result.now c.as_slice-ranges.result.now c.args.range.now c.args.destination.now.dest cost
+          c.requires.has c.config.ensures.router (c.as_slice-ranges.ensures ∙ ap (λ (d : Configuration). d.ranges) c.behind-net.view_is)
+          (c.if-not-covers.ensures.0 refl)
           (λ any. false≢true (c.if-has_longer.ensures.1 any)) ((c.intra_cost.ensures cost).0 e),
       λ component. (c.intra_cost.ensures cost).1 component.reached,
     )

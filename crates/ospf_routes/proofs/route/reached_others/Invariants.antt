@@ -2,7 +2,7 @@ use Rattle.std.proofs.Common.{take}
 use Rattle.std.specs.List.{Any}
 use Rattle.walk_core.specs.declared.offers.Offer.{Offer}
 use Rattle.ospf_routes.specs.Lists.{Adds}
-use Rattle.ospf_routes.specs.Routing.{IsReachedOther}
+use Rattle.ospf_routes.specs.steps.Routing.{IsReachedOther}
 use Rattle.ospf_routes.proofs.route.reached_others.Given as goal
 
 abbrev pub invariant-loop-offer : goal.invariant-loop-offer

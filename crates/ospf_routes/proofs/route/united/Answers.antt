@@ -1,6 +1,6 @@
 use Rattle.std.proofs.Common.{ℕ, List, take, sym, subst}
 use Rattle.ospf_routes.proofs.RouteFacts.{AreSomeOf, some_of_none, some_of_more, united_of_all}
-use Rattle.ospf_routes.specs.Routing.{AreUnited}
+use Rattle.ospf_routes.specs.steps.Routing.{AreUnited}
 use Rattle.ospf_routes.proofs.route.united.Goals as goal
 
 pub loop-list-init : goal.loop-list-init
@@ -9,8 +9,9 @@ loop-list-init c =
 
 pub loop-list-preserved : goal.loop-list-preserved
 loop-list-preserved c =
-    some_of_more c.args.lists.now c.loop-list.list-index c.list-item.result c.as_slice.result.now c.args.count c.loop-list.hops.items c.push_below.new.numbers.items
-    c.loop-list-test.true c.list-item.is c.as_slice.ensures c.loop-list.invariant c.in_ok-push_below.ensures
+    some_of_more c.args.lists.now c.loop-list.list-index c.list-item.result c.as_slice.result.now c.args.count c.loop-list.hops.items
+    c.push_below.new.numbers.items
+    c.loop-list-test.true c.list-item.is c.as_slice.ensures c.loop-list.invariant c.in_ok-push_below.ensures.ok
 
 pub returns : goal.returns
 returns c =

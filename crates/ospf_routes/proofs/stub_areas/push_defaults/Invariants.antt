@@ -1,5 +1,5 @@
 use Rattle.ospf_routes.specs.Lists.{Adds}
-use Rattle.ospf_routes.specs.Summarized.{RouterDefault}
+use Rattle.ospf_routes.specs.steps.Summarized.{RouterDefault}
 use Rattle.route_tables.proofs.ListFacts.{AnyBelow}
 use Rattle.ospf_routes.proofs.stub_areas.push_defaults.Given as goal
 

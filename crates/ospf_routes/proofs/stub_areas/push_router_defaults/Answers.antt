@@ -6,7 +6,7 @@ use Rattle.net_model.specs.Configuration.{Configuration}
 use Rattle.walk_core.specs.declared.offers.Offer.{Offer}
 use Rattle.route_tables.proofs.ListFacts.{adds_same}
 use Rattle.ospf_routes.proofs.SummaryFacts.{no_router_default, router_default_is}
-use Rattle.ospf_routes.specs.Summarized.{IsDefault, RouterDefault}
+use Rattle.ospf_routes.specs.steps.Summarized.{IsDefault, RouterDefault}
 use Rattle.ospf_routes.proofs.stub_areas.push_router_defaults.Goals as goal
 
 pub returns-then-not-is_border : goal.returns-then-not-is_border
@@ -16,6 +16,8 @@ returns-then-not-is_border c =
 pub returns : goal.returns
 returns c =
     on_ok_weaker c.push_stub_defaults.result
-    (λ adds. adds_same c.args.offers.now.items c.push_stub_defaults.new.offers.items (λ (o : Offer). Any (IsDefault c.args.area c.args.b o) c.as_slice.result.now) (RouterDefault c.args.net.now c.args.area c.args.b) adds
-    (router_default_is c.args.net.now c.args.area c.args.b c.config.result.now c.as_slice.result.now (c.if-not-is_border.ensures.0 refl) c.config.ensures.router (c.as_slice.ensures ∙ ap (λ (d : Configuration). d.stubs) c.behind-net.view_is)))
+    (λ adds. adds_same c.args.offers.now.items c.push_stub_defaults.new.offers.items
+    (λ (o : Offer). Any (IsDefault c.args.area c.args.b o) c.as_slice.result.now) (RouterDefault c.args.net.now c.args.area c.args.b) adds
+    (router_default_is c.args.net.now c.args.area c.args.b c.config.result.now c.as_slice.result.now (c.if-not-is_border.ensures.0 refl)
+    c.config.ensures.router (c.as_slice.ensures ∙ ap (λ (d : Configuration). d.stubs) c.behind-net.view_is)))
     c.push_stub_defaults.ensures

@@ -1,11 +1,10 @@
-use Rattle.std.proofs.Common.{◌+◌, [], subst, List, sym, take, refl, ℕ}
-use Rattle.std.specs.List.{Any}
+use Rattle.std.proofs.Common.{[], subst, List, sym, take, refl, ℕ}
 use Rattle.std.proofs.lemmas.List.{take_all}
 use Rattle.walk_core.specs.declared.offers.Offer.{Offer}
 use Rattle.ospf_routes.proofs.IntraFacts.{PartsSoFar, parts_none, parts_more}
 use Rattle.route_tables.proofs.ListFacts.{one_more}
-use Rattle.ospf_routes.specs.Areas.{HasArea}
-use Rattle.ospf_routes.specs.Destinations.{HasPart}
+use Rattle.ospf_routes.specs.steps.Areas.{HasArea}
+use Rattle.ospf_routes.specs.steps.Destinations.{HasPart}
 use Rattle.ospf_routes.specs.declared.areas.AreaWalks.{AreaWalks}
 use Rattle.ospf_routes.specs.declared.intra_area.AreaOffers.{AreaOffers}
 use Rattle.igp_theory.specs.Ospf.{Summary}
@@ -21,8 +20,10 @@ loop-area-preserved c =
     let wanted : ℕ → Offer → Type 0 = λ n o. Summary c.args.net.now c.args.dest n o.at o.asks in
     let a : AreaWalks = c.area-item.result in
     let part : AreaOffers = record { area = a.number; offers = c.in_ok-offers.offers } in
-    subst (λ (l : List AreaWalks). PartsSoFar wanted l c.push_part.new.parts.items) (one_more c.args.areas.now c.loop-area.area-index a c.loop-area-test.true c.area-item.is)
-    (parts_more wanted (take c.loop-area.area-index c.args.areas.now) a c.loop-area.parts.items c.push_part.new.parts.items part c.loop-area.invariant refl c.in_ok-offers.ensures c.in_ok-push_part.ensures)
+    subst (λ (l : List AreaWalks). PartsSoFar wanted l c.push_part.new.parts.items)
+    (one_more c.args.areas.now c.loop-area.area-index a c.loop-area-test.true c.area-item.is)
+    (parts_more wanted (take c.loop-area.area-index c.args.areas.now)
+    a c.loop-area.parts.items c.push_part.new.parts.items part c.loop-area.invariant refl c.in_ok-offers.ensures c.in_ok-push_part.ensures)
 
 pub returns-clause-exact : goal.returns-clause-exact
 returns-clause-exact c = c.loop-area.invariant.exact
@@ -31,5 +32,6 @@ pub returns-clause-every : goal.returns-clause-every
 returns-clause-every c =
     let wanted : ℕ → Offer → Type 0 = λ n o. Summary c.args.net.now c.args.dest n o.at o.asks in
     let all : (n : ℕ) (o : Offer) → HasArea c.args.areas.now n → wanted n o → HasPart c.loop-area.parts.items n =
-    subst (λ (l : List AreaWalks). (n : ℕ) (o : Offer) → HasArea l n → wanted n o → HasPart c.loop-area.parts.items n) (take_all c.loop-area.area-index c.args.areas.now c.loop-area-test.false) c.loop-area.invariant.every in
+    subst (λ (l : List AreaWalks). (n : ℕ) (o : Offer) → HasArea l n → wanted n o → HasPart c.loop-area.parts.items n)
+    (take_all c.loop-area.area-index c.args.areas.now c.loop-area-test.false) c.loop-area.invariant.every in
     λ n at asks has is. all n (record { at = at; asks = asks }) has is

@@ -12,4 +12,6 @@ push_allowed-requires-2 c =
 
 pub returns : goal.returns
 returns c =
-    area_summaries_are c.args.net.now c.args.area c.args.dest c.args.outside.now c.args.outside.now c.args.borders.now c.args.borders.now c.new-offers.result.items c.push_allowed.new.offers.items c.push_allowed-2.new.offers.items c.push_defaults.new.offers.items c.requires.outside refl c.requires.borders refl c.new-offers.ensures.items c.in_ok-push_allowed.ensures c.in_ok-push_allowed-2.ensures c.in_ok-push_defaults.ensures
+    area_summaries_are c.args.net.now c.args.area c.args.dest c.args.outside.now c.args.outside.now c.args.borders.now c.args.borders.now
+    c.new-offers.result.items c.push_allowed.new.offers.items c.push_allowed-2.new.offers.items c.push_defaults.new.offers.items c.requires.outside refl
+    c.requires.borders refl c.new-offers.ensures.items c.in_ok-push_allowed.ensures c.in_ok-push_allowed-2.ensures c.in_ok-push_defaults.ensures

@@ -1,6 +1,6 @@
 use Rattle.walk_core.specs.declared.offers.Offer.{Offer}
 use Rattle.route_tables.proofs.ListFacts.{adds_start, adds_at, adds_end}
-use Rattle.ospf_routes.specs.Summarized.{IsAllowed}
+use Rattle.ospf_routes.specs.steps.Summarized.{IsAllowed}
 use Rattle.ospf_routes.proofs.summaries.push_allowed.Goals as goal
 
 pub loop-other-init : goal.loop-other-init
@@ -9,8 +9,11 @@ loop-other-init c =
 
 pub loop-other-preserved : goal.loop-other-preserved
 loop-other-preserved c =
-    adds_at (λ (o x : Offer). IsAllowed c.args.net.now c.args.area o x) c.args.offers.now.items c.loop-other.offers.items c.push_option.new.all.items c.args.others.now c.loop-other.other-index _ c.allowed.result c.loop-other-test.true c.loop-other.invariant c.in_ok-push_option.ensures c.allowed.ensures
+    adds_at (λ (o x : Offer). IsAllowed c.args.net.now c.args.area o x)
+    c.args.offers.now.items c.loop-other.offers.items c.push_option.new.all.items c.args.others.now c.loop-other.other-index _ c.allowed.result
+    c.loop-other-test.true c.loop-other.invariant c.in_ok-push_option.ensures.ok c.allowed.ensures
 
 pub returns : goal.returns
 returns c =
-    adds_end (λ (o x : Offer). IsAllowed c.args.net.now c.args.area o x) c.args.offers.now.items c.loop-other.offers.items c.args.others.now c.loop-other.other-index c.loop-other-test.false c.loop-other.invariant
+    adds_end (λ (o x : Offer). IsAllowed c.args.net.now c.args.area o x)
+    c.args.offers.now.items c.loop-other.offers.items c.args.others.now c.loop-other.other-index c.loop-other-test.false c.loop-other.invariant

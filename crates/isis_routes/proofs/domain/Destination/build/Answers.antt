@@ -1,6 +1,6 @@
 use Rattle.std.proofs.Common.{sym, subst}
 use Rattle.net_addr.specs.Addresses.{Block}
-use Rattle.isis_routes.specs.Homes.{AreRoutersAt}
+use Rattle.isis_routes.specs.steps.Homes.{AreRoutersAt}
 use Rattle.isis_routes.proofs.domain.Destination.build.Goals as goal
 
 pub announcements-requires-clause-homes : goal.announcements-requires-clause-homes

@@ -17,4 +17,5 @@ pub returns : goal.returns
 returns c =
     let one = c.args.self.now in
     one_cost_is c.args.net.now one.dest c.args.router c.from_router.result.now one.offers.items c.as_slice.result.now (c.if-not-runs_one.ensures.runs.0 refl)
-    (c.requires.walks.least c.args.router c.from_router.result.now c.from_router.ensures) c.requires.offers c.as_slice.ensures.value c.best_cost.result c.best_cost.ensures
+    (c.requires.walks.least c.args.router c.from_router.result.now c.from_router.ensures)
+    c.requires.offers c.as_slice.ensures.value c.best_cost.result c.best_cost.ensures

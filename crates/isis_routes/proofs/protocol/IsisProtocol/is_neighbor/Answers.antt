@@ -1,6 +1,6 @@
 use Rattle.std.proofs.Common.{◌↔◌, ◌∙◌, Bool, IsTrue, sym, subst}
 use Rattle.igp_theory.specs.Laws.{IsIsisNeighbor}
-use Rattle.isis_routes.specs.Domain.{IsisNetwork}
+use Rattle.isis_routes.specs.steps.Domain.{IsisNetwork}
 use Rattle.isis_routes.proofs.ProtocolFacts.{neighbor_by_one, neighbor_by_two}
 use Rattle.isis_routes.proofs.protocol.IsisProtocol.is_neighbor.Goals as goal
 
@@ -21,4 +21,5 @@ pub returns-else-is_some : goal.returns-else-is_some
 returns-else-is_some c =
     subst (λ (isis : IsisNetwork). IsTrue c.is_some-else-is_some.result ↔ IsIsisNeighbor isis.net c.args.router c.args.other) c.self.view_is
     (subst (λ (b : Bool). IsTrue b ↔ IsIsisNeighbor c.self.inside.net.now c.args.router c.args.other) (sym c.is_some-else-is_some.ensures)
-    (neighbor_by_two c.self.inside.net.now c.args.router c.args.other c.arc.result c.arc-else-is_some.result c.arc.ensures (sym c.is_some.ensures ∙ c.if-is_some.false) c.arc-else-is_some.ensures))
+    (neighbor_by_two c.self.inside.net.now c.args.router c.args.other c.arc.result c.arc-else-is_some.result c.arc.ensures
+    (sym c.is_some.ensures ∙ c.if-is_some.false) c.arc-else-is_some.ensures))

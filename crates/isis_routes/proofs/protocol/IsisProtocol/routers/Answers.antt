@@ -2,7 +2,7 @@ use Rattle.std.proofs.Common.{length, subst}
 use Rattle.igp_theory.specs.Isis.{IsisEntry}
 use Rattle.igp_theory.specs.Laws.{IsIsisNeighbor}
 use Rattle.route_tables.specs.Entries.{IsLawful}
-use Rattle.isis_routes.specs.Domain.{IsisNetwork}
+use Rattle.isis_routes.specs.steps.Domain.{IsisNetwork}
 use Rattle.isis_routes.proofs.ProtocolFacts.{isis_is_lawful}
 use Rattle.isis_routes.proofs.protocol.IsisProtocol.routers.Goals as goal
 

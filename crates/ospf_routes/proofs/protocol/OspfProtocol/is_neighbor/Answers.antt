@@ -1,6 +1,6 @@
 use Rattle.std.proofs.Common.{◌↔◌, IsTrue, subst}
 use Rattle.igp_theory.specs.Laws.{IsOspfNeighbor}
-use Rattle.ospf_routes.specs.Networks.{OspfNetwork}
+use Rattle.ospf_routes.specs.steps.Networks.{OspfNetwork}
 use Rattle.ospf_routes.proofs.protocol.OspfProtocol.is_neighbor.Goals as goal
 
 pub returns : goal.returns

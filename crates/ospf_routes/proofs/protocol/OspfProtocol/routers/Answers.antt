@@ -2,7 +2,7 @@ use Rattle.std.proofs.Common.{length, subst}
 use Rattle.igp_theory.specs.Ospf.{OspfEntry}
 use Rattle.igp_theory.specs.Laws.{IsOspfNeighbor}
 use Rattle.route_tables.specs.Entries.{IsLawful}
-use Rattle.ospf_routes.specs.Networks.{OspfNetwork}
+use Rattle.ospf_routes.specs.steps.Networks.{OspfNetwork}
 use Rattle.ospf_routes.proofs.ProtocolFacts.{ospf_is_lawful}
 use Rattle.ospf_routes.proofs.protocol.OspfProtocol.routers.Goals as goal
 

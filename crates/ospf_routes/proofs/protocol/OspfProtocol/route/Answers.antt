@@ -1,0 +1,68 @@
+use Rattle.std.proofs.Common.{◌≡◌, ◌∙◌, ◌<◌, List, length, map, IfOk, MatchOption, ap, sym, subst}
+use Rattle.net_addr.specs.Addresses.{Block}
+use Rattle.net_model.specs.Network.{Network}
+use Rattle.route_core.specs.declared.entry.Entry.{Entry}
+use Rattle.igp_theory.specs.Ospf.{OspfEntry}
+use Rattle.route_tables.specs.Prefixes.{prefix_at}
+use Rattle.route_tables.proofs.DestinationLists.{element_at, prefix_is}
+use Rattle.ospf_routes.specs.steps.Destinations.{IsDestination, dests_of}
+use Rattle.route_tables.specs.Routings.{IsRouteFor}
+use Rattle.ospf_routes.specs.steps.AreaReach.{area_reach}
+use Rattle.ospf_routes.specs.steps.Networks.{OspfNetwork}
+use Rattle.ospf_routes.specs.steps.Summarized.{AreSummaries}
+use Rattle.ospf_routes.specs.declared.areas.AreaWalks.{AreaWalks}
+use Rattle.ospf_routes.specs.declared.intra_area.Destination.{Destination}
+use Rattle.ospf_routes.specs.declared.summaries.Summaries.{Summaries}
+use Rattle.ospf_routes.proofs.RangeFacts.{ranges_of}
+use Rattle.ospf_routes.proofs.protocol.OspfProtocol.route.Goals as goal
+
+pub route_of-requires-clause-ranges : goal.route_of-requires-clause-ranges
+route_of-requires-clause-ranges c =
+    ranges_of c.self.inside.net.now c.self.inside.ranges.items c.args.router c.index-ranges.result.now c.self.invariant.ranges
+    (subst (λ (ospf : OspfNetwork). c.args.router < length ospf.net) (sym c.self.view_is) c.requires.router) c.index-ranges.ensures
+
+pub route_of-requires-clause-destination : goal.route_of-requires-clause-destination
+route_of-requires-clause-destination c =
+    element_at (λ (d : Destination). d.dest) (IsDestination c.self.inside.net.now)
+    c.self.inside.domain.destinations.items c.args.place c.index-destination.result.now
+    c.self.invariant.domain.destinations.each
+    (subst (λ (ospf : OspfNetwork). c.args.place < length (dests_of ospf.domain.destinations.items)) (sym c.self.view_is) c.requires.place)
+    c.index-destination.ensures
+
+pub route_of-requires-clause-summaries : goal.route_of-requires-clause-summaries
+route_of-requires-clause-summaries c =
+    let ds : List Destination = c.self.inside.domain.destinations.items in
+    let all : List Summaries = c.self.inside.summaries.items in
+    let within : c.args.place < length (dests_of ds) = subst (λ (ospf : OspfNetwork). c.args.place < length (dests_of ospf.domain.destinations.items))
+    (sym c.self.view_is) c.requires.place in
+    subst (λ (l : List AreaWalks). AreSummaries c.self.inside.net.now l c.index-summaries.result.now) (sym c.as_slice-areas.ensures.value)
+    (element_at (λ (s : Summaries). s.dest) (AreSummaries c.self.inside.net.now c.self.inside.domain.areas.items)
+    all c.args.place c.index-summaries.result.now
+    c.self.invariant.announced.each (subst (λ (l : List Block). c.args.place < length l) (sym c.self.invariant.announced.dests) within)
+    c.index-summaries.ensures)
+
+pub route_of-requires-clause-dest : goal.route_of-requires-clause-dest
+route_of-requires-clause-dest c =
+    let ds : List Destination = c.self.inside.domain.destinations.items in
+    let all : List Summaries = c.self.inside.summaries.items in
+    let within : c.args.place < length (dests_of ds) = subst (λ (ospf : OspfNetwork). c.args.place < length (dests_of ospf.domain.destinations.items))
+    (sym c.self.view_is) c.requires.place in
+    let same : dests_of ds ≡ map (λ (s : Summaries). s.dest) all = sym c.self.invariant.announced.dests in
+    prefix_is (λ (s : Summaries). s.dest) all c.args.place c.index-summaries.result.now (subst (λ (l : List Block). c.args.place < length l) same within)
+    c.index-summaries.ensures
+    ∙ ap (λ (l : List Block). prefix_at l c.args.place) (sym same)
+    ∙ sym (prefix_is (λ (d : Destination). d.dest) ds c.args.place c.index-destination.result.now within c.index-destination.ensures)
+
+pub returns : goal.returns
+returns c =
+    let Goal : Network → List AreaWalks → Block → Type 0 =
+    λ net areas p. IfOk c.route_of.result (λ found. MatchOption found ((e : Entry) → OspfEntry net c.args.router p e → ⊥)
+    (IsRouteFor (area_reach areas c.args.router) (length areas) (length net) (OspfEntry net c.args.router p))) in
+    subst (λ (ospf : OspfNetwork). Goal ospf.net ospf.domain.areas.items (prefix_at (dests_of ospf.domain.destinations.items) c.args.place)) c.self.view_is
+    (subst (λ (areas : List AreaWalks). Goal c.self.inside.net.now areas (prefix_at (dests_of c.self.inside.domain.destinations.items) c.args.place))
+    c.as_slice-areas.ensures.value
+    (subst (Goal c.self.inside.net.now c.as_slice-areas.result.now)
+    (prefix_is (λ (d : Destination). d.dest) c.self.inside.domain.destinations.items c.args.place c.index-destination.result.now
+    (subst (λ (ospf : OspfNetwork). c.args.place < length (dests_of ospf.domain.destinations.items)) (sym c.self.view_is) c.requires.place)
+    c.index-destination.ensures)
+    c.route_of.ensures))

@@ -1,0 +1,44 @@
+-- What the interfaces of each area offer of a prefix.
+use Rattle.std.specs.Prelude.{◌≡◌, ◌⊎◌, ℕ, List, map, All, Any, Contains}
+use Rattle.net_addr.specs.Addresses.{Block}
+use Rattle.net_model.specs.Network.{Network}
+use Rattle.walk_core.specs.declared.offers.Offer.{Offer}
+use Rattle.igp_theory.specs.Ospf.{OffersSubnet}
+use Rattle.route_tables.specs.Prefixes.{AreDistinct}
+use Rattle.ospf_routes.specs.steps.Candidates.{IsCandidate}
+use Rattle.ospf_routes.specs.Lists.{Exactly}
+use Rattle.ospf_routes.specs.steps.Offered.{AreOffers, InsideOf}
+use Rattle.ospf_routes.specs.declared.intra_area.AreaOffers.{AreaOffers}
+use Rattle.ospf_routes.specs.declared.intra_area.Destination.{Destination}
+use Rattle.ospf_routes.specs.declared.subnets.AreaRoute.{AreaRoute}
+
+-- these are the routes of the part's area, as offers
+abbrev pub IsPartOf : List AreaRoute → AreaOffers → Type 0
+IsPartOf routes part = Exactly (λ (o : Offer). Any (λ (r : AreaRoute). InsideOf part.area r o) routes) part.offers.items
+
+-- to the parts there comes this one, unless it has no offers
+pub record AddsPart (old new : List AreaOffers) (part : AreaOffers) : Type 0 where
+  pub each : (other : AreaOffers) → Contains new other → Contains old other ⊎ (part ≡ other)
+  pub kept : (other : AreaOffers) → Contains old other → Contains new other
+  pub added : (o : Offer) → Contains part.offers.items o → Contains new part
+
+-- one of the parts is of area n
+pub record HasPart (parts : List AreaOffers) (n : ℕ) : Type 0 where
+  pub part : AreaOffers
+  pub among : Contains parts part
+  pub area : part.area ≡ n
+
+-- each part has what its area offers of the prefix, and each area that offers something is a part
+pub record IsDestination (net : Network) (d : Destination) : Type 0 where
+  pub exact : All (λ (part : AreaOffers). AreOffers (OffersSubnet net part.area d.dest) part.offers.items) d.parts.items
+  pub every : (n w cost : ℕ) → OffersSubnet net n d.dest w cost → HasPart d.parts.items n
+
+-- the prefixes of destinations
+abbrev pub dests_of : List Destination → List Block
+dests_of destinations = map (λ (d : Destination). d.dest) destinations
+
+-- the destinations are distinct prefixes, and each candidate is one
+pub record AreDestinations (net : Network) (destinations : List Destination) : Type 0 where
+  pub each : All (IsDestination net) destinations
+  pub distinct : AreDistinct (dests_of destinations)
+  pub every : (p : Block) → IsCandidate net p → Contains (dests_of destinations) p

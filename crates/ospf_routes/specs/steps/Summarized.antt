@@ -1,0 +1,112 @@
+-- What border routers summarize of a prefix, and announce into each area.
+use Rattle.std.specs.Prelude.{◌≡◌, ℕ, List, map, Option, Some, IsTrue, All}
+use Rattle.net_addr.specs.Addresses.{Block}
+use Rattle.net_model.specs.Network.{Network, IsBorderRouter}
+use Rattle.net_model.specs.declared.area.Range.{Range}
+use Rattle.net_model.specs.declared.area.Stub.{Stub}
+use Rattle.walk_core.specs.declared.offers.Offer.{Offer}
+use Rattle.igp_theory.specs.Ospf.{IntraAreaCost, HasRange, IsComponent, RangeCost, SummarizesSubnet, SummarizesRange, HasStub, IsTotallyStubby, Summary}
+use Rattle.igp_theory.specs.Ospf.{default_prefix}
+use Rattle.ospf_routes.specs.steps.Areas.{HasArea}
+use Rattle.ospf_routes.specs.steps.Destinations.{HasPart, dests_of}
+use Rattle.ospf_routes.specs.Lists.{Exactly}
+use Rattle.ospf_routes.specs.steps.Offered.{AreOffers}
+use Rattle.ospf_routes.specs.declared.areas.AreaWalks.{AreaWalks}
+use Rattle.ospf_routes.specs.declared.domain.Domain.{Domain}
+use Rattle.ospf_routes.specs.declared.intra_area.AreaOffers.{AreaOffers}
+use Rattle.ospf_routes.specs.declared.ranges.ActiveRange.{ActiveRange}
+use Rattle.ospf_routes.specs.declared.subnets.AreaRoute.{AreaRoute}
+use Rattle.ospf_routes.specs.declared.summaries.Summaries.{Summaries}
+
+-- b has an intra-area cost for p in area n, which the route says
+pub record IsSubnetSummary (net : Network) (p : Block) (n b : ℕ) (r : AreaRoute) : Type 0 where
+  pub area : r.area ≡ n
+  pub at : r.at ≡ b
+  pub costs : IntraAreaCost net n p b r.asks
+
+-- b is a border router with an intra-area cost for p in the route's area, and p is no component
+pub record SummarizedSubnet (net : Network) (p : Block) (b : ℕ) (r : AreaRoute) : Type 0 where
+  pub at : r.at ≡ b
+  pub border : IsBorderRouter net b
+  pub costs : IntraAreaCost net r.area p b r.asks
+  pub alone : (range : Range) (c : ℕ) → IsComponent net b range p c → ⊥
+
+-- the active range is of the prefix p and advertised, and the route is that of router b
+pub record IsRangeRoute (a : ActiveRange) (p : Block) (b : ℕ) (r : AreaRoute) : Type 0 where
+  pub dest : a.range.dest ≡ p
+  pub advertised : IsTrue a.range.advertise
+  pub area : r.area ≡ a.range.area
+  pub at : r.at ≡ b
+  pub costs : r.asks ≡ a.cost
+
+-- b has the active range p of the route's area, which it advertises, at the range's cost
+pub record SummarizedRange (net : Network) (p : Block) (b : ℕ) (r : AreaRoute) : Type 0 where
+  pub at : r.at ≡ b
+  pub range : Range
+  pub has : HasRange net b range
+  pub dest : range.dest ≡ p
+  pub area : range.area ≡ r.area
+  pub advertised : IsTrue range.advertise
+  pub costs : RangeCost net b range r.asks
+
+-- router b summarizes p out of the route's area
+pub data SummarizedFrom (net : Network) (p : Block) (b : ℕ) (r : AreaRoute) : Type 0 where
+  of_subnet : SummarizedSubnet net p b r → SummarizedFrom net p b r
+  of_range : SummarizedRange net p b r → SummarizedFrom net p b r
+
+-- these are the subnets and ranges that border routers summarize of p, each as a route of its own area
+abbrev pub AreSummarized : Network → Block → List AreaRoute → Type 0
+AreSummarized net p routes = Exactly (λ (r : AreaRoute). SummarizedFrom net p r.at r) routes
+
+-- b summarizes p out of another area than n
+pub data OutsideSummary (net : Network) (n : ℕ) (p : Block) (b cost : ℕ) : Type 0 where
+  of_subnet : SummarizesSubnet net n p b cost → OutsideSummary net n p b cost
+  of_range : SummarizesRange net n p b cost → OutsideSummary net n p b cost
+
+-- the offer is that of router u at this cost, if there is one
+pub record IsBorderOffer (u : ℕ) (cost : Option ℕ) (o : Offer) : Type 0 where
+  pub at : o.at ≡ u
+  pub costs : cost ≡ Some o.asks
+
+-- the offer is this one, and its router doesn't announce the default route alone into area n
+pub record IsAllowed (net : Network) (n : ℕ) (o other : Offer) : Type 0 where
+  pub same : other ≡ o
+  pub allowed : IsTotallyStubby net o.at n → ⊥
+
+-- the stub area is n, with a default route alone
+pub record IsAlone (n : ℕ) (s : Stub) : Type 0 where
+  pub area : s.area ≡ n
+  pub alone : IsTrue s.no_summary
+
+-- the offer is router b's default route into the stub area, which is n
+pub record IsDefault (n b : ℕ) (o : Offer) (s : Stub) : Type 0 where
+  pub area : s.area ≡ n
+  pub at : o.at ≡ b
+  pub costs : o.asks ≡ s.default_cost
+
+-- the offer is a default route of router b, a border router, into area n
+pub record RouterDefault (net : Network) (n b : ℕ) (o : Offer) : Type 0 where
+  pub at : o.at ≡ b
+  pub border : IsBorderRouter net b
+  pub stub : Stub
+  pub has : HasStub net b n stub
+  pub costs : stub.default_cost ≡ o.asks
+
+-- p is the prefix of all addresses, and the offer a default route into area n
+pub record HasDefault (net : Network) (n : ℕ) (p : Block) (o : Offer) : Type 0 where
+  pub all : p ≡ default_prefix
+  pub default : RouterDefault net n o.at o
+
+-- the part has what is announced of p into its area
+abbrev pub IsSummaryOf : Network → Block → AreaOffers → Type 0
+IsSummaryOf net p part = AreOffers (Summary net p part.area) part.offers.items
+
+-- each part has what is announced into its area, and each area that something is announced into is a part
+pub record AreSummaries (net : Network) (areas : List AreaWalks) (s : Summaries) : Type 0 where
+  pub exact : All (IsSummaryOf net s.dest) s.parts.items
+  pub every : (n at asks : ℕ) → HasArea areas n → Summary net s.dest n at asks → HasPart s.parts.items n
+
+-- what border routers announce of each prefix, in the order of the destinations
+pub record AreAnnounced (net : Network) (domain : Domain) (summaries : List Summaries) : Type 0 where
+  pub dests : map (λ (s : Summaries). s.dest) summaries ≡ dests_of domain.destinations.items
+  pub each : All (AreSummaries net domain.areas.items) summaries
