@@ -1,12 +1,13 @@
 -- What calm parts tell of the waves of a wave list.
-use Rattle.std.proofs.Common.{◌≡◌, ℕ, zero, suc, ◌+◌, ◌<◌, ◌≤◌, Bool, true, cond, leb, List, [], ◌∷◌, length, get_or, set, inl, inr, refl, arith, sym, ap, ◌∙◌, subst, below_more}
+use Rattle.std.proofs.Common.{◌≡◌, ℕ, zero, suc, ◌+◌, ◌<◌, ◌≤◌, Bool, true, cond, leb, List, [], ◌∷◌, length, get_or, set, inl, inr, refl, arith, sym, ap, ◌∙◌}
+use Rattle.std.proofs.Common.{subst, below_more}
 use Rattle.std.specs.Bool.{OnTrue}
 use Rattle.std.proofs.lemmas.Bool.{cases_lt}
 use Rattle.std.proofs.lemmas.Bool.Decides.{eqb_tells, leb_tells}
 use Rattle.std.proofs.lemmas.List.{get_or_default, get_or-replicate, get_or-set_other, get_or-set_same}
 use Rattle.std.proofs.Math.ListN.{length-set, length-replicate, replicate}
 use Rattle.order_core.specs.Rankings.{rank_of}
-use Rattle.igp_theory.specs.States.{State}
+use Rattle.igp_theory.specs.States.{State, all_old}
 use Rattle.igp_theory.specs.Waves.{IsStateOfWave}
 use Rattle.igp_theory.specs.declared.phase.Phase.{Phase}
 use Rattle.igp_theory.specs.declared.phase.Phase.TheVariants.{Old, New}
@@ -14,13 +15,12 @@ use Rattle.igp_theory.proofs.SameTables.{follows_over}
 use Rattle.rib_mix.specs.Mixture.{Mixture}
 use Rattle.loop_finder.specs.Calm.{WaveStep, IsCalmIn, IsCalmBefore, AreCalm, AreLowered}
 use Rattle.loop_finder.specs.Faults.{state_in}
-use Rattle.loop_finder.specs.Orders.{all_old}
 use Rattle.loop_finder.specs.Parts.{ClassPart, IsPart, AreParts}
-use Rattle.loop_finder.specs.Steps.{Listing, sample_of}
+use Rattle.loop_finder.specs.ClassSteps.{Listing, sample_of}
 use Rattle.loop_finder.specs.Verdicts.{SoundAt, Sound, SoundWave, SoundWavesBefore}
 use Rattle.loop_finder.specs.Watches.{IsIdle, ArePlacesOf}
 use Rattle.loop_finder.specs.WaveLists.{AreSwitchedBefore}
-use Rattle.loop_finder.specs.WaveStarts.{AreClearParts, BeginsSound}
+use Rattle.loop_finder.specs.steps.WaveStarts.{AreClearParts, BeginsSound}
 use Rattle.loop_finder.proofs.ClassVerdicts.{sample_in}
 use Rattle.loop_finder.proofs.PartLists.{sound_whole}
 use Rattle.loop_finder.proofs.StateVerdicts.{sound_from_classes}
@@ -44,7 +44,8 @@ calm_sooner part ranks w v most is = record {
 }
 
 -- a wave more
-pub calm_more : (part : ClassPart) (ranks : List ℕ) (w : ℕ) → part.moves ≡ true → IsCalmBefore part ranks w → IsCalmIn part ranks w → IsCalmBefore part ranks (w + 1)
+pub calm_more : (part : ClassPart) (ranks : List ℕ) (w : ℕ) → part.moves ≡ true → IsCalmBefore part ranks w → IsCalmIn part ranks w →
+    IsCalmBefore part ranks (w + 1)
 calm_more part ranks w moves is here = record {
   moves = λ some. moves;
   calm = below_more (IsCalmIn part ranks) w is.calm here;
@@ -79,12 +80,14 @@ calm_with_idle part ranks u rank w idle is = record {
     ]
 
 -- nor does a rank matter before it and the one that it takes the place of
-calm_with_later : (part : ClassPart) (ranks : List ℕ) (u rank w : ℕ) → u < length ranks → w ≤ rank_of ranks u → w ≤ rank → IsCalmBefore part ranks w → IsCalmBefore part (set ranks u rank) w
+calm_with_later : (part : ClassPart) (ranks : List ℕ) (u rank w : ℕ) → u < length ranks → w ≤ rank_of ranks u → w ≤ rank → IsCalmBefore part ranks w →
+    IsCalmBefore part (set ranks u rank) w
 calm_with_later part ranks u rank w inside was now is = record {
   moves = is.moves;
   calm = λ v less x within same h hops follows. elim (eqb_tells x u) [
     | inl this ↦
-        let here : rank_of (set ranks u rank) x ≡ rank = subst (λ (y : ℕ). rank_of (set ranks u rank) y ≡ rank) (sym this.1) (get_or-set_same ranks u rank 0 inside) in
+        let here : rank_of (set ranks u rank) x ≡ rank =
+        subst (λ (y : ℕ). rank_of (set ranks u rank) y ≡ rank) (sym this.1) (get_or-set_same ranks u rank 0 inside) in
         absurd (omega (arith, here, same, less, now))
     | inr apart ↦
         is.calm v less x (omega (arith, within, length-set ranks u rank)) (sym (other_rank ranks u rank x apart.1) ∙ same) h hops
@@ -95,7 +98,8 @@ calm_with_later part ranks u rank w inside was now is = record {
     steps_before : (v : ℕ) → v < w → (y z : ℕ) → WaveStep part (set ranks u rank) v y z → WaveStep part ranks v y z
     steps_before v less y z steps = elim (eqb_tells y u) [
       | inl this ↦
-          let here : rank_of (set ranks u rank) y ≡ rank = subst (λ (x : ℕ). rank_of (set ranks u rank) x ≡ rank) (sym this.1) (get_or-set_same ranks u rank 0 inside) in
+          let here : rank_of (set ranks u rank) y ≡ rank =
+          subst (λ (x : ℕ). rank_of (set ranks u rank) x ≡ rank) (sym this.1) (get_or-set_same ranks u rank 0 inside) in
           let then : w ≤ rank_of ranks y = subst (λ (x : ℕ). w ≤ rank_of ranks x) (sym this.1) was in
           elim steps [ inl one ↦ inl (omega (arith, then, less), one.1) | inr other ↦ absurd (omega (arith, other.0, here, now, less)) ]
       | inr apart ↦
@@ -104,12 +108,14 @@ calm_with_later part ranks u rank w inside was now is = record {
     ]
 
 -- what is kept where a router takes another rank, and less of the parts which that concerns
-pub AreCalm-with_rank : (parts : List ClassPart) (ranks calm lowered places : List ℕ) (u rank most : ℕ) → u < length ranks → most ≤ rank_of ranks u → most ≤ rank → ArePlacesOf parts u places
+pub AreCalm-with_rank : (parts : List ClassPart) (ranks calm lowered places : List ℕ) (u rank most : ℕ) → u < length ranks → most ≤ rank_of ranks u →
+    most ≤ rank → ArePlacesOf parts u places
     → AreLowered places most calm lowered → AreCalm parts ranks calm → AreCalm parts (set ranks u rank) lowered
 AreCalm-with_rank parts ranks calm lowered places u rank most inside was now placed lower are = record {
   many = lower.many ∙ are.many;
   each = λ p d within.
-      let less : IsCalmBefore (get_or parts p d) ranks (get_or lowered p 0) = calm_sooner (get_or parts p d) ranks (get_or calm p 0) (get_or lowered p 0) (lower.each p) (are.each p d within) in
+      let less : IsCalmBefore (get_or parts p d) ranks (get_or lowered p 0) =
+      calm_sooner (get_or parts p d) ranks (get_or calm p 0) (get_or lowered p 0) (lower.each p) (are.each p d within) in
       elim (placed.whole p d within) [
         | inl among ↦
             let few : get_or lowered p 0 ≤ most = lower.these p among in
@@ -119,13 +125,15 @@ AreCalm-with_rank parts ranks calm lowered places u rank most inside was now pla
 }
 
 -- what is kept where one part was looked at
-pub AreCalm-at : (parts : List ClassPart) (ranks calm : List ℕ) (p w : ℕ) (part : ClassPart) → p < length parts → part ≡ get_or parts p part → IsCalmBefore part ranks w
+pub AreCalm-at : (parts : List ClassPart) (ranks calm : List ℕ) (p w : ℕ) (part : ClassPart) → p < length parts → part ≡ get_or parts p part →
+    IsCalmBefore part ranks w
     → AreCalm parts ranks calm → AreCalm parts ranks (set calm p w)
 AreCalm-at parts ranks calm p w part there at one are = record {
   many = length-set calm p w ∙ are.many;
   each = λ q d within. elim (eqb_tells q p) [
     | inl same ↦
-        let now : w ≡ get_or (set calm p w) q 0 = subst (λ (x : ℕ). w ≡ get_or (set calm p w) x 0) (sym same.1) (sym (set_here (omega (arith, there, are.many)))) in
+        let now : w ≡ get_or (set calm p w) q 0 =
+        subst (λ (x : ℕ). w ≡ get_or (set calm p w) x 0) (sym same.1) (sym (set_here (omega (arith, there, are.many)))) in
         let is : part ≡ get_or parts q d = at ∙ get_or_default parts p part d there ∙ ap (λ (x : ℕ). get_or parts x d) (sym same.1) in
         subst (λ (x : ClassPart). IsCalmBefore x ranks (get_or (set calm p w) q 0)) is (subst (λ (v : ℕ). IsCalmBefore part ranks v) now one)
     | inr apart ↦
@@ -137,7 +145,8 @@ AreCalm-at parts ranks calm p w part there at one are = record {
     set_here within = get_or-set_same calm p w 0 within
 
 -- the rank of one router more is taken
-pub taken_more : (ranks kept taken : List ℕ) (n : ℕ) → n < length kept → taken ≡ set kept n (get_or ranks n 0) → ((u : ℕ) → u < n → get_or kept u 0 ≡ get_or ranks u 0)
+pub taken_more : (ranks kept taken : List ℕ) (n : ℕ) → n < length kept → taken ≡ set kept n (get_or ranks n 0) →
+    ((u : ℕ) → u < n → get_or kept u 0 ≡ get_or ranks u 0)
     → (u : ℕ) → u < n + 1 → get_or taken u 0 ≡ get_or ranks u 0
 taken_more ranks kept taken n within is before = subst (λ (xs : List ℕ). (u : ℕ) → u < n + 1 → get_or xs u 0 ≡ get_or ranks u 0) (sym is)
     (below_more (λ (u : ℕ). get_or (set kept n (get_or ranks n 0)) u 0 ≡ get_or ranks u 0) n
@@ -147,14 +156,18 @@ taken_more ranks kept taken n within is before = subst (λ (xs : List ℕ). (u :
 -- Waves
 
 -- where the first state of a wave is sound, its states are sound for the parts that are calm in it
-sound_in_calm : {O N : Type 0} (old : Listing O) (new : Listing N) (m : Mixture O N) (part : ClassPart) (ranks : List ℕ) (c w : ℕ) (first last : List Phase) (state : State)
-    → IsPart old new m part → AreEnds (length m.net) ranks w first last → IsCalmBefore part ranks c → w < c → SoundAt old new m (state_in first) (sample_of m part.atom) → IsStateOfWave (length m.net) ranks w state
+sound_in_calm : {O N : Type 0} (old : Listing O) (new : Listing N) (m : Mixture O N) (part : ClassPart) (ranks : List ℕ) (c w : ℕ)
+    (first last : List Phase) (state : State)
+    → IsPart old new m part → AreEnds (length m.net) ranks w first last → IsCalmBefore part ranks c → w < c →
+    SoundAt old new m (state_in first) (sample_of m part.atom) → IsStateOfWave (length m.net) ranks w state
     → SoundAt old new m state (sample_of m part.atom)
 sound_in_calm old new m part ranks c w first last state is ends calm less begun of_wave =
     part_wave_sound old new m part ranks w first last state is ends (calm.moves (omega (arith, less))) (calm.calm w less) begun of_wave
 
-pub clear_parts : {O N : Type 0} (old : Listing O) (new : Listing N) (m : Mixture O N) (parts : List ClassPart) (ranks calm : List ℕ) (w : ℕ) (first last : List Phase)
-    → AreParts old new m parts (length m.classes.samples) → AreEnds (length m.net) ranks w first last → AreCalm parts ranks calm → Sound old new m (state_in first)
+pub clear_parts : {O N : Type 0} (old : Listing O) (new : Listing N) (m : Mixture O N) (parts : List ClassPart) (ranks calm : List ℕ) (w : ℕ)
+    (first last : List Phase)
+    → AreParts old new m parts (length m.classes.samples) → AreEnds (length m.net) ranks w first last → AreCalm parts ranks calm →
+    Sound old new m (state_in first)
     → AreClearParts old new m parts calm w first last
 clear_parts old new m parts ranks calm w first last are ends calms begun p d within less state between =
     let is : IsPart old new m (get_or parts p d) = are.each p d within in
@@ -191,8 +204,10 @@ switched_before ranks w = record {
 }
 
 -- a wave in which all parts are calm is sound where its first state is
-sound_wave : {O N : Type 0} (old : Listing O) (new : Listing N) (m : Mixture O N) (parts : List ClassPart) (ranks calm : List ℕ) (start w : ℕ) → length ranks ≡ length m.net
-    → AreParts old new m parts (length m.classes.samples) → AreCalm parts ranks calm → ((p : ℕ) → p < length calm → start ≤ get_or calm p 0) → w < start → BeginsSound old new m ranks w
+sound_wave : {O N : Type 0} (old : Listing O) (new : Listing N) (m : Mixture O N) (parts : List ClassPart) (ranks calm : List ℕ) (start w : ℕ) →
+    length ranks ≡ length m.net
+    → AreParts old new m parts (length m.classes.samples) → AreCalm parts ranks calm → ((p : ℕ) → p < length calm → start ≤ get_or calm p 0) → w < start →
+    BeginsSound old new m ranks w
     → SoundWave old new m ranks w
 sound_wave old new m parts ranks calm start w each are calms least less begins state of_wave =
     let first : List Phase = phases_before ranks w in
@@ -203,15 +218,18 @@ sound_wave old new m parts ranks calm start w each are calms least less begins s
     let clear : AreClearParts old new m parts calm w first last = clear_parts old new m parts ranks calm w first last are ends calms begun in
     sound_from_classes old new m state (length m.classes.samples) are.classes (omega arith)
     (λ k below. sound_whole old new m parts (length m.classes.samples) none state are
-    (λ p within. clear p none within (let more : start ≤ get_or calm p 0 = least p (omega (arith, within, calms.many)) in omega (arith, more, less)) state (wave_between state ends of_wave)) k below)
+    (λ p within. clear p none within (let more : start ≤ get_or calm p 0 = least p (omega (arith, within, calms.many)) in omega (arith, more, less)) state
+    (wave_between state ends of_wave)) k below)
 
 -- so the waves before one that no part has a lesser one than are sound
-pub sound_waves_before : {O N : Type 0} (old : Listing O) (new : Listing N) (m : Mixture O N) (parts : List ClassPart) (ranks calm : List ℕ) (begun : Bool) (start : ℕ) → length ranks ≡ length m.net
+pub sound_waves_before : {O N : Type 0} (old : Listing O) (new : Listing N) (m : Mixture O N) (parts : List ClassPart) (ranks calm : List ℕ) (begun : Bool)
+    (start : ℕ) → length ranks ≡ length m.net
     → AreParts old new m parts (length m.classes.samples) → AreCalm parts ranks calm → OnTrue begun (Sound old new m all_old) → (0 < start → begun ≡ true)
     → ((p : ℕ) → p < length calm → start ≤ get_or calm p 0) → (w : ℕ) → w ≤ start → SoundWavesBefore old new m ranks w
 sound_waves_before old new m parts ranks calm begun start each are calms first known least zero most = λ v less. absurd (omega (arith, less))
 sound_waves_before old new m parts ranks calm begun start each are calms first known least (suc w) most =
-    let before : SoundWavesBefore old new m ranks w = sound_waves_before old new m parts ranks calm begun start each are calms first known least w (omega (arith, most)) in
+    let before : SoundWavesBefore old new m ranks w =
+    sound_waves_before old new m parts ranks calm begun start each are calms first known least w (omega (arith, most)) in
     let here : SoundWave old new m ranks w = sound_wave old new m parts ranks calm start w each are calms least (omega (arith, most))
     (begins_sound old new m ranks w begun each first before (inl (known (omega (arith, most))))) in
     λ v less. elim (cases_lt v w) [
@@ -225,5 +243,6 @@ sound_waves_before old new m parts ranks calm begun start each are calms first k
 pub AreCalm-none : (parts : List ClassPart) (ranks calm : List ℕ) → calm ≡ replicate (length parts) 0 → AreCalm parts ranks calm
 AreCalm-none parts ranks calm is = subst (λ (xs : List ℕ). AreCalm parts ranks xs) (sym is) (record {
   many = length-replicate (length parts) 0;
-  each = λ p d within. subst (λ (w : ℕ). IsCalmBefore (get_or parts p d) ranks w) (sym (get_or-replicate (length parts) p 0 0 within)) (IsCalmBefore-zero (get_or parts p d) ranks);
+  each = λ p d within. subst (λ (w : ℕ). IsCalmBefore (get_or parts p d) ranks w) (sym (get_or-replicate (length parts) p 0 0 within))
+      (IsCalmBefore-zero (get_or parts p d) ranks);
 })

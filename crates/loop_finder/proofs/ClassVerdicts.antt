@@ -14,14 +14,18 @@ use Rattle.prefix_atoms.specs.Classes.{Classes, AreClasses, IsInClass, HasTarget
 use Rattle.order_core.specs.Marks.{IsMarked}
 use Rattle.order_core.specs.declared.turn.Turn.{Turn}
 use Rattle.rib_mix.specs.Mixture.{Mixture}
-use Rattle.loop_finder.specs.Steps.{Listing, ClassState, sample_of, AreForwarders, ClassStep}
+use Rattle.loop_finder.specs.ClassSteps.{Listing, ClassState, sample_of, AreForwarders, ClassStep}
 use Rattle.loop_finder.specs.Verdicts.{IsTold}
 
 -- an originated prefix is a block of addresses
 originated_block : (net : Network) (p : Block) → IsNetwork net → IsOriginated net p → IsBlock p
 originated_block net p network o =
     let c : Configuration = o.up.config in
-    let config : IsConfiguration c = All-contains IsConfiguration net c network.configurations (o.router, slice_get_within net o.router c o.up.router, get_or_from_slice_get net o.router c c o.up.router) in
+    let config : IsConfiguration c = All-contains IsConfiguration net c network.configurations (
+      o.router,
+      slice_get_within net o.router c o.up.router,
+      get_or_from_slice_get net o.router c c o.up.router,
+    ) in
     let interface : IsInterface o.interface = All-contains IsInterface c.interfaces o.interface config.interfaces o.up.among in
     subst (λ (s : Option Block). IfSome s IsBlock) o.subnet interface.prefix
 
@@ -39,11 +43,16 @@ forwarders_from net a p forwards network target exact u = (
 )
 
 -- without a target nothing is passed on
-pub told_without : {O N : Type 0} (old : Listing O) (new : Listing N) (m : Mixture O N) (first last : List Phase) (atom : ℕ) (turns : List Turn) → HasTarget m.net (sample_of m atom) None
+pub told_without : {O N : Type 0} (old : Listing O) (new : Listing N) (m : Mixture O N) (first last : List Phase) (atom : ℕ) (turns : List Turn) →
+    HasTarget m.net (sample_of m atom) None
     → IsTold old new m first last atom None turns
 told_without {O} {N} old new m first last atom turns none = record {
   forwards = [];
-  verdict = (λ u. (λ must. absurd (none must.target must.is_target), λ must. absurd (none must.target must.is_target)), λ u h hops follows. nowhere u h follows.0);
+  verdict = (
+    λ u. (λ must. absurd (none must.target must.is_target), λ must. absurd (none must.target must.is_target)),
+    λ u h hops follows.
+        nowhere u h follows.0,
+  );
 }
   where
     c : ClassState O N
@@ -54,7 +63,8 @@ told_without {O} {N} old new m first last atom turns none = record {
     nowhere u h (inr steps) = none steps.must.target steps.must.is_target
 
 -- the least address of a class is in it
-pub sample_in : {net : Network} {old new : Tables} (c : Classes) (atom : ℕ) → AreClasses net old new c → atom < length c.samples → IsInClass c atom (get_or c.samples atom 0)
+pub sample_in : {net : Network} {old new : Tables} (c : Classes) (atom : ℕ) → AreClasses net old new c → atom < length c.samples →
+    IsInClass c atom (get_or c.samples atom 0)
 sample_in c atom are within = record {
   class = within;
   address = are.classing.samples.addresses atom 0 within;
@@ -62,7 +72,8 @@ sample_in c atom are within = record {
 }
 
 -- what is read as the target of a class is the target of its least address
-pub target_at : {net : Network} {old new : Tables} (c d : Classes) (atom : ℕ) (t : Option Block) → AreClasses net old new c → atom < length c.samples → d ≡ c → slice_get d.targets atom ≡ Some t
+pub target_at : {net : Network} {old new : Tables} (c d : Classes) (atom : ℕ) (t : Option Block) → AreClasses net old new c → atom < length c.samples → d ≡ c →
+    slice_get d.targets atom ≡ Some t
     → HasTarget net (get_or c.samples atom 0) t
 target_at c d atom t are within same at =
     are.target atom (get_or c.samples atom 0) t (sample_in c atom are within) (subst (λ (x : Classes). slice_get x.targets atom ≡ Some t) same at)

@@ -22,6 +22,7 @@ none_sound net old new state (Some f) turns sound fault = (λ is. absurd (false�
 pub none_seamless : (net : Network) (old new : Tables) (order : List ℕ) (result : Option (ℕ × Fault)) (turns : List Turn) → IsOrder (length net) order
     → IfNone result (AreFirstStates (IsSound net old new) order (2 * length order + 1)) → IfSome result (λ found. found.0 ≤ 2 * length order)
     → IfSome result (λ found. IsFirstFault net old new order found.0 (told_fault found.1 turns)) → IsNone result ↔ IsSeamless net old new order
-none_seamless net old new order None turns is sound within fault = (λ none. record { lists = is; sound = λ k most. sound k (omega (arith, most)) }, λ seamless. refl)
+none_seamless net old new order None turns is sound within fault =
+    (λ none. record { lists = is; sound = λ k most. sound k (omega (arith, most)) }, λ seamless. refl)
 none_seamless net old new order (Some found) turns is sound within fault =
     (λ none. absurd (false≢true (sym none)), λ seamless. absurd (faulty_not_sound fault.here (seamless.sound found.0 within)))

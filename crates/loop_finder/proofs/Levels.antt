@@ -22,13 +22,16 @@ not_over : (b : Bool) (above layer : ℕ) → OnFalse b (above ≤ layer) → (�
 not_over true above layer over bare = absurd (bare refl)
 not_over false above layer over bare = over
 
-pub AreLevelled-more : (step : ℕ → ℕ → Type 0) (layers : List ℕ) (marks : List Bool) (i above : ℕ) (b : Bool) → AreLevelled step layers marks i → i < length marks
-    → ((h : ℕ) → step i h → layer_in layers h < above) → above ≤ layer_in layers i + 1 → OnFalse b (above ≤ layer_in layers i) → AreLevelled step layers (set marks i b) (i + 1)
+pub AreLevelled-more : (step : ℕ → ℕ → Type 0) (layers : List ℕ) (marks : List Bool) (i above : ℕ) (b : Bool) →
+    AreLevelled step layers marks i → i < length marks
+    → ((h : ℕ) → step i h → layer_in layers h < above) → above ≤ layer_in layers i + 1 → OnFalse b (above ≤ layer_in layers i) →
+    AreLevelled step layers (set marks i b) (i + 1)
 AreLevelled-more step layers marks i above b levelled within hops most over = record {
   no_higher = λ u h below steps. (below_more (λ (v : ℕ). step v h → layer_in layers h ≤ layer_in layers v) i (λ v less. levelled.no_higher v h less)
       (λ step_here. let under : layer_in layers h < above = hops h step_here in omega (arith, under, most))) u below steps;
   lower = λ u h below bare steps. (below_more (λ (v : ℕ). (¬ IsMarked (set marks i b) v) → step v h → layer_in layers h < layer_in layers v) i
-      (λ v less unmarked step_there. levelled.lower v h less (λ marked. unmarked (get_or-set_other marks i v b false (λ same. absurd (omega (arith, same, less))) ∙ marked)) step_there)
+      (λ v less unmarked step_there. levelled.lower v h less (λ marked.
+      unmarked (get_or-set_other marks i v b false (λ same. absurd (omega (arith, same, less))) ∙ marked)) step_there)
       (λ unmarked step_here.
       let under : layer_in layers h < above = hops h step_here in
       let least : above ≤ layer_in layers i = not_over b above (layer_in layers i) over (λ is. unmarked (get_or-set_same marks i b false within ∙ is)) in
@@ -36,6 +39,8 @@ AreLevelled-more step layers marks i above b levelled within hops most over = re
 }
 
 -- once all routers are compared, each router that is returned to is marked
-pub returns_marked : (step : ℕ → ℕ → Type 0) (layers : List ℕ) (marks : List Bool) (i : ℕ) → AreLevelled step layers marks i → ((u h : ℕ) → step u h → u < i) → MarksReturns step marks
+pub returns_marked : (step : ℕ → ℕ → Type 0) (layers : List ℕ) (marks : List Bool) (i : ℕ) → AreLevelled step layers marks i → ((u h : ℕ) → step u h → u < i) →
+    MarksReturns step marks
 returns_marked step layers marks i levelled inside =
-    marks_from_layers step layers marks (λ u h steps. levelled.no_higher u h (inside u h steps) steps) (λ u h bare steps. levelled.lower u h (inside u h steps) bare steps)
+    marks_from_layers step layers marks (λ u h steps. levelled.no_higher u h (inside u h steps) steps) (λ u h bare steps.
+    levelled.lower u h (inside u h steps) bare steps)

@@ -5,8 +5,8 @@ use Rattle.std.proofs.lemmas.List.{get_or_past, length-append}
 use Rattle.igp_theory.specs.Loops.{IsLive}
 use Rattle.igp_theory.specs.States.{Follows}
 use Rattle.order_core.specs.Marks.{IsMarked}
-use Rattle.loop_finder.specs.Live.{marked_count, HasMarkedHop, ArePeeled}
-use Rattle.loop_finder.specs.Walks.{ReturnsNever}
+use Rattle.loop_finder.specs.steps.Live.{marked_count, HasMarkedHop, ArePeeled}
+use Rattle.loop_finder.specs.steps.Walks.{ReturnsNever}
 use Rattle.loop_finder.proofs.LowestSteps.{marked_cases}
 use Rattle.loop_finder.proofs.Peeling.{marked_count-set}
 
@@ -18,7 +18,8 @@ marked_below marks u marked = elim (cases_lt u (length marks)) [
 ]
 
 -- lists of steps, one after the other
-pub follows_append : (step : ℕ → ℕ → Type 0) (u : ℕ) (xs : List ℕ) (v : ℕ) (ys : List ℕ) (w : ℕ) → Follows step u xs v → Follows step v ys w → Follows step u (xs ++ ys) w
+pub follows_append : (step : ℕ → ℕ → Type 0) (u : ℕ) (xs : List ℕ) (v : ℕ) (ys : List ℕ) (w : ℕ) → Follows step u xs v → Follows step v ys w →
+    Follows step u (xs ++ ys) w
 follows_append step u [] v ys w one two = subst (λ (x : ℕ). Follows step x ys w) (sym one) two
 follows_append step u (x ∷ xs) v ys w one two = (one.0, follows_append step x xs v ys w one.1 two)
 
@@ -36,7 +37,8 @@ long_return step u h hops returns (suc k) =
     record {
       hops = (h ∷ hops) ++ rest.hops;
       follows = follows_append step u (h ∷ hops) u rest.hops u returns rest.follows;
-      many = let e : length ((h ∷ hops) ++ rest.hops) ≡ length (h ∷ hops) + length rest.hops = length-append (h ∷ hops) rest.hops in omega (arith, e, rest.many);
+      many = let e : length ((h ∷ hops) ++ rest.hops) ≡ length (h ∷ hops) + length rest.hops = length-append (h ∷ hops) rest.hops in
+          omega (arith, e, rest.many);
     }
 
 -- where no router is marked no list of steps returns
@@ -55,7 +57,8 @@ live_from_marked step marks peeled (suc n) u marked =
     record { hops = first.hop ∷ rest.hops; last = rest.last; many = ap suc rest.many; follows = (first.steps, rest.follows) }
 
 -- where some router is marked each live one is
-pub marked_from_live : (step : ℕ → ℕ → Type 0) (marks : List Bool) (s : ℕ) → ArePeeled step marks → IsMarked marks s → (u : ℕ) → IsLive step (length marks) u → IsMarked marks u
+pub marked_from_live : (step : ℕ → ℕ → Type 0) (marks : List Bool) (s : ℕ) → ArePeeled step marks → IsMarked marks s → (u : ℕ) →
+    IsLive step (length marks) u → IsMarked marks u
 marked_from_live step marks s peeled some u live = elim (marked_cases marks u) [
   | inl marked ↦ marked
   | inr bare ↦

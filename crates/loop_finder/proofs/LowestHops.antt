@@ -1,8 +1,8 @@
 -- The lowest-numbered marked hop, found in two lists.
 use Rattle.std.proofs.Common.{◌≡◌, ℕ, ◌≤◌, ◌↔◌, ◌⊎◌, Bool, List, Option, Some, None, Contains, min, arith, inl, inr, subst}
 use Rattle.std.proofs.lemmas.Bool.{cases_lt}
-use Rattle.loop_finder.specs.Live.{LowestMarked, lower_of}
-use Rattle.loop_finder.specs.Walks.{IsMarkedHop, LowestMarkedHop}
+use Rattle.loop_finder.specs.steps.Live.{LowestMarked, lower_of}
+use Rattle.loop_finder.specs.steps.Walks.{IsMarkedHop, LowestMarkedHop}
 
 -- each of the hops is in one of two lists
 abbrev pub AreHops : (ℕ → ℕ → Type 0) → ℕ → List ℕ → List ℕ → Type 0

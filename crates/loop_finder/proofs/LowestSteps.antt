@@ -1,9 +1,10 @@
 -- The lowest-numbered marked router so far.
-use Rattle.std.proofs.Common.{◌≡◌, ℕ, ◌≤◌, Bool, true, false, List, ◌∷◌, [], ◌++◌, Option, Some, None, get_or, min, arith, refl, sym, ◌∙◌, subst, inl, inr, ◌⊎◌}
+use Rattle.std.proofs.Common.{◌≡◌, ℕ, ◌≤◌, Bool, true, false, List, ◌∷◌, [], ◌++◌, Option, Some, None, get_or, min, arith, refl, sym, ◌∙◌, subst, inl, inr}
+use Rattle.std.proofs.Common.{◌⊎◌}
 use Rattle.std.proofs.lemmas.Bool.{false≢true, cases_lt}
 use Rattle.std.proofs.lemmas.List.Elements.{Contains-append_left, Contains-push, Contains-push_cases}
 use Rattle.order_core.specs.Marks.{IsMarked}
-use Rattle.loop_finder.specs.Live.{IsLowestMarked, LowestMarked, IsLowerMarked}
+use Rattle.loop_finder.specs.steps.Live.{IsLowestMarked, LowestMarked, IsLowerMarked}
 
 -- a router is marked or it isn't
 pub marked_cases : (marks : List Bool) (r : ℕ) → IsMarked marks r ⊎ (¬ IsMarked marks r)
@@ -14,7 +15,8 @@ marked_cases marks r = by_test (get_or marks r false) refl
     by_test false e = inr (λ m. false≢true (sym e ∙ m))
 
 -- a router without a mark changes nothing
-lowest_passed : (marks : List Bool) (xs : List ℕ) (known : Option ℕ) (r : ℕ) → (¬ IsMarked marks r) → LowestMarked xs marks known → LowestMarked (xs ++ r ∷ []) marks known
+lowest_passed : (marks : List Bool) (xs : List ℕ) (known : Option ℕ) (r : ℕ) → (¬ IsMarked marks r) → LowestMarked xs marks known →
+    LowestMarked (xs ++ r ∷ []) marks known
 lowest_passed marks xs None r bare none = λ q among. elim (Contains-push_cases xs r q among) [
   | inl before ↦ none q before
   | inr same ↦ subst (λ (x : ℕ). ¬ IsMarked marks x) same bare
@@ -40,7 +42,8 @@ lowest_only marks xs r marked none = record {
 }
 
 -- else the lower of the two is
-lowest_lower : (marks : List Bool) (xs : List ℕ) (w r : ℕ) → IsMarked marks r → LowestMarked xs marks (Some w) → LowestMarked (xs ++ r ∷ []) marks (Some (min w r))
+lowest_lower : (marks : List Bool) (xs : List ℕ) (w r : ℕ) → IsMarked marks r → LowestMarked xs marks (Some w) →
+    LowestMarked (xs ++ r ∷ []) marks (Some (min w r))
 lowest_lower marks xs w r marked is = elim (cases_lt w r) [
   | inl below ↦
       let e : w ≡ min w r = omega arith in
@@ -65,7 +68,8 @@ lowest_lower marks xs w r marked is = elim (cases_lt w r) [
 ]
 
 -- a marked router more
-lowest_marked_more : (marks : List Bool) (xs : List ℕ) (known : Option ℕ) (r : ℕ) (lower : Option ℕ) → IsMarked marks r → LowestMarked xs marks known → IsLowerMarked marks known r lower
+lowest_marked_more : (marks : List Bool) (xs : List ℕ) (known : Option ℕ) (r : ℕ) (lower : Option ℕ) → IsMarked marks r → LowestMarked xs marks known →
+    IsLowerMarked marks known r lower
     → LowestMarked (xs ++ r ∷ []) marks lower
 lowest_marked_more marks xs None r lower marked was is =
     subst (λ (o : Option ℕ). LowestMarked (xs ++ r ∷ []) marks o) (sym (is.only refl marked)) (lowest_only marks xs r marked was)
@@ -73,7 +77,8 @@ lowest_marked_more marks xs (Some w) r lower marked was is =
     subst (λ (o : Option ℕ). LowestMarked (xs ++ r ∷ []) marks o) (sym (is.least w refl marked)) (lowest_lower marks xs w r marked was)
 
 -- one router more
-pub lowest_more : (marks : List Bool) (xs : List ℕ) (known : Option ℕ) (r : ℕ) (lower : Option ℕ) → LowestMarked xs marks known → IsLowerMarked marks known r lower
+pub lowest_more : (marks : List Bool) (xs : List ℕ) (known : Option ℕ) (r : ℕ) (lower : Option ℕ) → LowestMarked xs marks known →
+    IsLowerMarked marks known r lower
     → LowestMarked (xs ++ r ∷ []) marks lower
 lowest_more marks xs known r lower was is = elim (marked_cases marks r) [
   | inl marked ↦ lowest_marked_more marks xs known r lower marked was is

@@ -1,5 +1,5 @@
 -- What follows where a test fails.
-use Rattle.std.proofs.Common.{Bool, true, false, not}
+use Rattle.std.proofs.Common.{◌≡◌, Bool, true, false, not}
 use Rattle.std.specs.Bool.{OnFalse, OnTrue}
 
 pub on_false : {P Q : Type 0} (b : Bool) → OnFalse b P → (P → Q) → OnFalse b Q
@@ -17,3 +17,11 @@ on_true false p over = tt
 pub on_not : (P : Type 0) (b : Bool) → OnFalse b P → OnTrue (not b) P
 on_not P true p = tt
 on_not P false p = p
+
+pub at_false : {P : Type 0} (b : Bool) → b ≡ false → OnFalse b P → P
+at_false true is p = cc
+at_false false is p = p
+
+pub at_true : {P : Type 0} (b : Bool) → b ≡ true → OnTrue b P → P
+at_true true is p = p
+at_true false is p = cc

@@ -1,5 +1,6 @@
 -- The changes of an order, one after another.
-use Rattle.std.proofs.Common.{◌≡◌, ℕ, zero, suc, ◌+◌, ◌-◌, ◌*◌, ◌/◌, ◌<◌, ◌≤◌, ◌==◌, if◌then◌else◌, List, [], ◌∷◌, ◌++◌, length, get_or, take, Option, Some, None, IfNone, IfSome, MatchOption, Bool, true, false, arith, refl, sym, ap, ◌∙◌, subst, inl, inr}
+use Rattle.std.proofs.Common.{◌≡◌, ℕ, zero, suc, ◌+◌, ◌-◌, ◌*◌, ◌/◌, ◌<◌, ◌≤◌, ◌==◌, if◌then◌else◌, List, [], ◌∷◌, ◌++◌, length, get_or, take, Option, Some}
+use Rattle.std.proofs.Common.{None, IfNone, IfSome, MatchOption, Bool, true, false, arith, refl, sym, ap, ◌∙◌, subst, inl, inr}
 use Rattle.std.proofs.lemmas.Bool.Decides.{eqb_tells}
 use Rattle.std.proofs.lemmas.List.{take_more, take_all}
 use Rattle.igp_theory.specs.States.{State, changes_of, changes_on, phase_after, state_of}
@@ -9,7 +10,7 @@ use Rattle.loop_finder.specs.Faults.{state_in}
 use Rattle.order_core.specs.declared.turn.Turn.{Turn}
 use Rattle.rib_mix.specs.Mixture.{Mixture}
 use Rattle.loop_finder.specs.Orders.{next_phase, IsStateOf, IsAdvanced, AreFirstStates}
-use Rattle.loop_finder.specs.Steps.{Listing}
+use Rattle.loop_finder.specs.ClassSteps.{Listing}
 use Rattle.loop_finder.specs.Verdicts.{Sound, FirstFaulty}
 use Rattle.loop_finder.specs.declared.fault.Fault.{Fault}
 
@@ -41,7 +42,8 @@ counted u v = tally (u == v)
 -- one more change counts for its router
 changes_on-push : (u : ℕ) (changes : List ℕ) (v : ℕ) → changes_on u (changes ++ v ∷ []) ≡ changes_on u changes + counted u v
 changes_on-push u [] v = omega arith
-changes_on-push u (w ∷ changes) v = let e : changes_on u (changes ++ v ∷ []) ≡ changes_on u changes + counted u v = changes_on-push u changes v in omega (arith, e)
+changes_on-push u (w ∷ changes) v = let e : changes_on u (changes ++ v ∷ []) ≡ changes_on u changes + counted u v =
+    changes_on-push u changes v in omega (arith, e)
 
 phase_after-more : (c : ℕ) → phase_after (c + 1) ≡ next_phase (phase_after c)
 phase_after-more zero = refl
@@ -53,7 +55,8 @@ pub state_first : (order : List ℕ) (u : ℕ) → state_of order 0 u ≡ Old
 state_first order u = refl
 
 -- a change more
-state_more : (order : List ℕ) (k u : ℕ) → k < 2 * length order → state_of order (k + 1) u ≡ phase_after (changes_on u (take k (changes_of order)) + counted u (get_or order (k / 2) 0))
+state_more : (order : List ℕ) (k u : ℕ) → k < 2 * length order →
+    state_of order (k + 1) u ≡ phase_after (changes_on u (take k (changes_of order)) + counted u (get_or order (k / 2) 0))
 state_more order k u within =
     let fits : k < length (changes_of order) = omega (arith, within, changes_length order) in
     ap (λ (xs : List ℕ). phase_after (changes_on u xs)) (take_more (changes_of order) k 0 fits)
@@ -61,15 +64,18 @@ state_more order k u within =
     ∙ ap (λ (v : ℕ). phase_after (changes_on u (take k (changes_of order)) + counted u v)) (change_at order k)
 
 -- the phases after change k, which the router at place k / 2 makes
-pub state_advanced : (order : List ℕ) (phases next : List Phase) (k r : ℕ) → k / 2 < length order → r ≡ get_or order (k / 2) 0 → IsAdvanced phases next r → IsStateOf phases order k → IsStateOf next order (k + 1)
+pub state_advanced : (order : List ℕ) (phases next : List Phase) (k r : ℕ) → k / 2 < length order → r ≡ get_or order (k / 2) 0 → IsAdvanced phases next r →
+    IsStateOf phases order k → IsStateOf next order (k + 1)
 state_advanced order phases next k r within at advanced state u = elim (eqb_tells u r) [
   | inl same ↦
       let one : counted u (get_or order (k / 2) 0) ≡ tally true = ap (λ (v : ℕ). counted u v) (sym at) ∙ ap tally same.0 in
-      subst (λ (v : ℕ). state_in next v ≡ next_phase (state_in phases v)) (sym same.1) advanced.here ∙ ap next_phase (state u) ∙ sym (phase_after-more (changes_on u (take k (changes_of order))))
+      subst (λ (v : ℕ). state_in next v ≡ next_phase (state_in phases v)) (sym same.1) advanced.here ∙ ap next_phase (state u)
+      ∙ sym (phase_after-more (changes_on u (take k (changes_of order))))
       ∙ ap (λ (n : ℕ). phase_after (changes_on u (take k (changes_of order)) + n)) (sym one) ∙ sym (state_more order k u (omega (arith, within)))
   | inr apart ↦
       let none : counted u (get_or order (k / 2) 0) ≡ tally false = ap (λ (v : ℕ). counted u v) (sym at) ∙ ap tally apart.0 in
-      let same : changes_on u (take k (changes_of order)) ≡ changes_on u (take k (changes_of order)) + counted u (get_or order (k / 2) 0) = omega (arith, none) in
+      let same : changes_on u (take k (changes_of order)) ≡ changes_on u (take k (changes_of order)) + counted u (get_or order (k / 2) 0) =
+      omega (arith, none) in
       advanced.others u apart.1 ∙ state u ∙ ap phase_after same ∙ sym (state_more order k u (omega (arith, within)))
 ]
 
@@ -77,7 +83,8 @@ state_advanced order phases next k r within at advanced state u = elim (eqb_tell
 pub state_stays : (order : List ℕ) (phases : List Phase) (k : ℕ) → length order ≤ k / 2 → IsStateOf phases order k → IsStateOf phases order (k + 1)
 state_stays order phases k past state u =
     let long : length (changes_of order) ≤ k = omega (arith, changes_length order, past) in
-    state u ∙ ap (λ (xs : List ℕ). phase_after (changes_on u xs)) (take_all k (changes_of order) long ∙ sym (take_all (k + 1) (changes_of order) (omega (arith, long))))
+    state u ∙ ap (λ (xs : List ℕ). phase_after (changes_on u xs)) (take_all k (changes_of order) long
+    ∙ sym (take_all (k + 1) (changes_of order) (omega (arith, long))))
 
 -- Orders that begin alike
 
@@ -96,7 +103,8 @@ same_changes (u ∷ one) (v ∷ other) places (suc (suc k)) many same most =
     ap (λ (x : ℕ). x ∷ x ∷ take k (changes_of other)) head ∙ ap (λ (xs : List ℕ). u ∷ u ∷ xs) rest
 
 -- so they share their first states
-pub same_states : (one other : List ℕ) (places k u : ℕ) → length one ≡ length other → ((j : ℕ) → j < places → get_or other j 0 ≡ get_or one j 0) → k < 2 * places + 1
+pub same_states : (one other : List ℕ) (places k u : ℕ) → length one ≡ length other → ((j : ℕ) → j < places → get_or other j 0 ≡ get_or one j 0) →
+    k < 2 * places + 1
     → state_of other k u ≡ state_of one k u
 same_states one other places k u many same less =
     ap (λ (xs : List ℕ). phase_after (changes_on u xs)) (same_changes one other places k many same (omega (arith, less)))
@@ -104,7 +112,8 @@ same_states one other places k u many same less =
 -- What is known of an order
 
 -- the states before the first unsound one are sound, all of them where there is none
-pub known_after : {O N : Type 0} (old : Listing O) (new : Listing N) (m : Mixture O N) (order : List ℕ) (found : Option (ℕ × Fault)) (turns : List Turn) (count : ℕ)
+pub known_after : {O N : Type 0} (old : Listing O) (new : Listing N) (m : Mixture O N) (order : List ℕ) (found : Option (ℕ × Fault))
+    (turns : List Turn) (count : ℕ)
     → IfNone found (AreFirstStates (Sound old new m) order (2 * length order + 1)) → IfSome found (λ first. FirstFaulty old new m order first.0 first.1 turns)
     → MatchOption found (count ≡ 2 * length order + 1) (λ first. count ≡ first.0) → AreFirstStates (Sound old new m) order count
 known_after old new m order None turns count sound fault is = subst (λ (n : ℕ). AreFirstStates (Sound old new m) order n) (sym is) sound

@@ -15,10 +15,12 @@ use Rattle.order_core.specs.Marks.{IsMarked}
 use Rattle.prefix_atoms.specs.Classes.{HasTarget}
 use Rattle.rib_mix.specs.Mixture.{Mixture}
 use Rattle.loop_finder.specs.Faults.{state_in}
-use Rattle.loop_finder.specs.Parts.{PhaseHops, ClassPart, hops_of, no_hops, part_hops, HaveSameHops, StepsOf, StepsEver, HasStepOf, AllMove, IsPart, PartStep, NeverUnsound, SoundWith, DifferAt}
+use Rattle.loop_finder.specs.Parts.{PhaseHops, ClassPart, hops_of, no_hops, part_hops, HaveSameHops, StepsOf, StepsEver, HasStepOf, AllMove, IsPart, PartStep}
+use Rattle.loop_finder.specs.Parts.{NeverUnsound, SoundWith, DifferAt}
 use Rattle.loop_finder.specs.Returns.{NeverReturnsTo, MarksReturns}
-use Rattle.loop_finder.specs.Steps.{Listing, ClassState, sample_of}
-use Rattle.loop_finder.specs.Verdicts.{SoundAt, IsBetween}
+use Rattle.loop_finder.specs.ClassSteps.{Listing, ClassState, sample_of}
+use Rattle.loop_finder.specs.Verdicts.{SoundAt, IsBetween, IsClearAt}
+use Rattle.loop_finder.specs.steps.Walks.{ReturnsNever}
 use Rattle.loop_finder.proofs.Between.{step_between}
 use Rattle.loop_finder.proofs.Returning.{returning, stays_sound}
 
@@ -27,16 +29,19 @@ abbrev StateStep : {O N : Type 0} → Listing O → Listing N → Mixture O N �
 StateStep old new m atom state u h = StepsOf old new m atom u (state u) h
 
 -- where all move every state gives each router a step
-all_move : {O N : Type 0} (old : Listing O) (new : Listing N) (m : Mixture O N) (atom : ℕ) (state : State) → AllMove old new m atom → (u : ℕ) → MustForward m.net (sample_of m atom) u
+all_move : {O N : Type 0} (old : Listing O) (new : Listing N) (m : Mixture O N) (atom : ℕ) (state : State) → AllMove old new m atom → (u : ℕ) →
+    MustForward m.net (sample_of m atom) u
     → HasStepOf old new m atom u (state u)
 all_move old new m atom state move u must = every_phase_steps (move u must).0 (move u must).1 (state u)
 
 -- the steps of a state are steps of both networks
-state_ever : {O N : Type 0} (old : Listing O) (new : Listing N) (m : Mixture O N) (atom : ℕ) (state : State) (u h : ℕ) → StateStep old new m atom state u h → StepsEver old new m atom u h
+state_ever : {O N : Type 0} (old : Listing O) (new : Listing N) (m : Mixture O N) (atom : ℕ) (state : State) (u h : ℕ) → StateStep old new m atom state u h →
+    StepsEver old new m atom u h
 state_ever old new m atom state u h steps = old_or_new_step (state u) steps
 
 -- where no walk over the steps of both networks returns, every state is sound for the class
-pub never_unsound : {O N : Type 0} (old : Listing O) (new : Listing N) (m : Mixture O N) (atom : ℕ) (marks : List Bool) → AllMove old new m atom → MarksReturns (StepsEver old new m atom) marks
+pub never_unsound : {O N : Type 0} (old : Listing O) (new : Listing N) (m : Mixture O N) (atom : ℕ) (marks : List Bool) → AllMove old new m atom →
+    MarksReturns (StepsEver old new m atom) marks
     → ((u : ℕ) → ¬ IsMarked marks u) → NeverUnsound old new m atom
 never_unsound old new m atom marks move returns bare state = record {
   forwards = λ u must. all_move old new m atom state move u must;
@@ -44,26 +49,32 @@ never_unsound old new m atom marks move returns bare state = record {
 }
 
 -- a walk of a state that returns is one over the part's steps
-in_part : {O N : Type 0} (old : Listing O) (new : Listing N) (m : Mixture O N) (part : ClassPart) (state : State) (u h : ℕ) (hops : List ℕ) → IsPart old new m part
+in_part : {O N : Type 0} (old : Listing O) (new : Listing N) (m : Mixture O N) (part : ClassPart) (state : State) (u h : ℕ) (hops : List ℕ) →
+    IsPart old new m part
     → Follows (StateStep old new m part.atom state) u (h ∷ hops) u → Follows (λ (x y : ℕ). Contains (part_hops part x (state x)) y) u (h ∷ hops) u
 in_part old new m part state u h hops is follows =
     returning (StateStep old new m part.atom state) (StepsEver old new m part.atom) (λ (x y : ℕ). Contains (part_hops part x (state x)) y)
-    (λ x y steps. state_ever old new m part.atom state x y steps) (λ x y rest steps back. is.returns x y rest (state x) steps back) u u [] (h ∷ hops) refl follows
+    (λ x y steps. state_ever old new m part.atom state x y steps) (λ x y rest steps back. is.returns x y rest (state x) steps back) u u []
+    (h ∷ hops) refl follows
 
 -- where two parts have the same hops, a state that is sound for the class of one is sound for that of the other
-pub sound_with : {O N : Type 0} (old : Listing O) (new : Listing N) (m : Mixture O N) (one other : ClassPart) → IsPart old new m one → IsPart old new m other → AllMove old new m other.atom
+pub sound_with : {O N : Type 0} (old : Listing O) (new : Listing N) (m : Mixture O N) (one other : ClassPart) → IsPart old new m one → IsPart old new m other →
+    AllMove old new m other.atom
     → HaveSameHops one other → SoundWith old new m one.atom other.atom
 sound_with old new m one other is_one is_other move same state sound = record {
   forwards = λ u must. all_move old new m other.atom state move u must;
-  returns_never = λ u h hops follows. sound.returns_never u h hops (follows_over (λ x y among. step_of_one x y among) u (h ∷ hops) u (in_part old new m other state u h hops is_other follows));
+  returns_never = λ u h hops follows. sound.returns_never u h hops (follows_over (λ x y among. step_of_one x y among) u (h ∷ hops) u
+      (in_part old new m other state u h hops is_other follows));
 }
   where
     step_of_one : (x y : ℕ) → Contains (part_hops other x (state x)) y → StateStep old new m one.atom state x y
     step_of_one x y among = is_one.steps x y (state x) (subst (λ (hops : List ℕ). Contains hops y) (sym (same x (state x))) among)
 
 -- a walk over the steps of two states that returns is one over the part's steps in both
-in_part_between : {O N : Type 0} (old : Listing O) (new : Listing N) (m : Mixture O N) (part : ClassPart) (first last : List Phase) (state : State) (u h : ℕ) (hops : List ℕ) → IsPart old new m part
-    → IsBetween (length m.net) first last state → Follows (StateStep old new m part.atom state) u (h ∷ hops) u → Follows (PartStep part first last) u (h ∷ hops) u
+in_part_between : {O N : Type 0} (old : Listing O) (new : Listing N) (m : Mixture O N) (part : ClassPart) (first last : List Phase) (state : State) (u h : ℕ)
+    (hops : List ℕ) → IsPart old new m part
+    → IsBetween (length m.net) first last state → Follows (StateStep old new m part.atom state) u (h ∷ hops) u →
+    Follows (PartStep part first last) u (h ∷ hops) u
 in_part_between {O} {N} old new m part first last state u h hops is between follows =
     returning step (StepsEver old new m part.atom) (PartStep part first last) over keeps u u [] (h ∷ hops) refl
     (follows_over (λ x y steps. step_between old new c state x y between steps) u (h ∷ hops) u follows)
@@ -74,16 +85,27 @@ in_part_between {O} {N} old new m part first last state u h hops is between foll
     step : ℕ → ℕ → Type 0
     step x y = StepsOf old new m part.atom x (state_in first x) y ⊎ StepsOf old new m part.atom x (state_in last x) y
 
-    over : (x y : ℕ) → StepsOf old new m part.atom x (state_in first x) y ⊎ StepsOf old new m part.atom x (state_in last x) y → StepsEver old new m part.atom x y
+    over : (x y : ℕ) → StepsOf old new m part.atom x (state_in first x) y ⊎ StepsOf old new m part.atom x (state_in last x) y →
+        StepsEver old new m part.atom x y
     over x y (inl one) = old_or_new_step (state_in first x) one
     over x y (inr other) = old_or_new_step (state_in last x) other
 
-    keeps : (x y : ℕ) (rest : List ℕ) → StepsOf old new m part.atom x (state_in first x) y ⊎ StepsOf old new m part.atom x (state_in last x) y → Follows (StepsEver old new m part.atom) y rest x → PartStep part first last x y
+    keeps : (x y : ℕ) (rest : List ℕ) → StepsOf old new m part.atom x (state_in first x) y ⊎ StepsOf old new m part.atom x (state_in last x) y →
+        Follows (StepsEver old new m part.atom) y rest x → PartStep part first last x y
     keeps x y rest (inl one) back = inl (is.returns x y rest (state_in first x) one back)
     keeps x y rest (inr other) back = inr (is.returns x y rest (state_in last x) other back)
 
+-- where no walk over the part's steps in two states returns, the states between them are sound for the class
+pub clear_part : {O N : Type 0} (old : Listing O) (new : Listing N) (m : Mixture O N) (part : ClassPart) (first last : List Phase)
+    → IsPart old new m part → part.moves ≡ true → ReturnsNever (PartStep part first last) → IsClearAt old new m first last part.atom
+clear_part old new m part first last is moves never state between = record {
+  forwards = λ u must. all_move old new m part.atom state (subst (λ (b : Bool). OnTrue b (AllMove old new m part.atom)) moves is.moves) u must;
+  returns_never = λ u h hops follows. never u h hops (in_part_between old new m part first last state u h hops is between follows);
+}
+
 -- where no walk over the part's steps returns to the router that changes, a sound state stays sound for the class
-pub part_stays_sound : {O N : Type 0} (old : Listing O) (new : Listing N) (m : Mixture O N) (part : ClassPart) (first last : List Phase) (u : ℕ) (before after : State) → IsPart old new m part
+pub part_stays_sound : {O N : Type 0} (old : Listing O) (new : Listing N) (m : Mixture O N) (part : ClassPart) (first last : List Phase) (u : ℕ)
+    (before after : State) → IsPart old new m part
     → part.moves ≡ true → NeverReturnsTo (PartStep part first last) u → DifferAt (length m.net) u before after → IsBetween (length m.net) first last after
     → SoundAt old new m before (sample_of m part.atom) → SoundAt old new m after (sample_of m part.atom)
 part_stays_sound old new m part first last u before after is moves never differ between sound =
@@ -107,7 +129,8 @@ part_inside part first last u h steps = elim (cases_lt u (length part.rows)) [
     gone past phase among = empty phase (subst (λ (row : PhaseHops). Contains (hops_of row phase) h) (get_or_past part.rows u no_hops past) among)
 
 -- without a target nothing is passed on, so every state is sound
-pub never_without : {O N : Type 0} (old : Listing O) (new : Listing N) (m : Mixture O N) (atom : ℕ) → HasTarget m.net (sample_of m atom) None → NeverUnsound old new m atom
+pub never_without : {O N : Type 0} (old : Listing O) (new : Listing N) (m : Mixture O N) (atom : ℕ) → HasTarget m.net (sample_of m atom) None →
+    NeverUnsound old new m atom
 never_without old new m atom none state = record {
   forwards = λ u must. absurd (none must.target must.is_target);
   returns_never = λ u h hops follows. none follows.0.must.target follows.0.must.is_target;

@@ -9,7 +9,7 @@ use Rattle.std.proofs.lemmas.List.Quantifiers.{all_pairs_push}
 use Rattle.igp_theory.specs.States.{State}
 use Rattle.rib_mix.specs.Mixture.{Mixture}
 use Rattle.loop_finder.specs.Parts.{ClassPart, AllMove, HasEarlierHops, IsPart, IsCovered, has_part, never_unsound, as_earlier, AreParts, SoundWith}
-use Rattle.loop_finder.specs.Steps.{Listing, sample_of}
+use Rattle.loop_finder.specs.ClassSteps.{Listing, sample_of}
 use Rattle.loop_finder.specs.Verdicts.{ClassesOf, SoundAt}
 use Rattle.loop_finder.proofs.PartLaws.{sound_with}
 
@@ -17,14 +17,16 @@ use Rattle.loop_finder.proofs.PartLaws.{sound_with}
 
 -- a state that is sound for the parts of the classes below n is sound for all classes below n
 from_covered : {O N : Type 0} (old : Listing O) (new : Listing N) (m : Mixture O N) (parts : List ClassPart) (n k : ℕ) (state : State) → k < n
-    → ((part : ClassPart) → Contains parts part → part.atom < n → SoundAt old new m state (sample_of m part.atom)) → IsCovered old new m parts k → SoundAt old new m state (sample_of m k)
+    → ((part : ClassPart) → Contains parts part → part.atom < n → SoundAt old new m state (sample_of m part.atom)) → IsCovered old new m parts k →
+    SoundAt old new m state (sample_of m k)
 from_covered old new m parts n k state below sound (has_part is) =
     subst (λ (j : ℕ). SoundAt old new m state (sample_of m j)) is.is (sound is.part is.among (let e : is.part.atom ≡ k = is.is in omega (arith, e, below)))
 from_covered old new m parts n k state below sound (never_unsound never) = never state
 from_covered old new m parts n k state below sound (as_earlier part among before with) = with state (sound part among (omega (arith, before, below)))
 
 -- the parts before a place are those of lesser classes
-place_before : (parts : List ClassPart) (p : ℕ) (d part : ClassPart) → AllPairs (λ (one other : ClassPart). one.atom < other.atom) parts → p < length parts → (among : Contains parts part)
+place_before : (parts : List ClassPart) (p : ℕ) (d part : ClassPart) → AllPairs (λ (one other : ClassPart). one.atom < other.atom) parts → p < length parts →
+    (among : Contains parts part)
     → part.atom < (get_or parts p d).atom → among.0 < p
 place_before parts p d part ascending within among less = elim (cases_lt among.0 p) [
   | inl before ↦ before
@@ -33,7 +35,8 @@ place_before parts p d part ascending within among less = elim (cases_lt among.0
         let more : (get_or parts p part).atom < (get_or parts among.0 part).atom = ascending p among.0 part past among.1 in
         let here : get_or parts p part ≡ get_or parts p d = get_or_default parts p part d within in
         let there : get_or parts among.0 part ≡ part = among.2 in
-        let more_here : (get_or parts p d).atom < (get_or parts among.0 part).atom = subst (λ (x : ClassPart). x.atom < (get_or parts among.0 part).atom) here more in
+        let more_here : (get_or parts p d).atom < (get_or parts among.0 part).atom =
+        subst (λ (x : ClassPart). x.atom < (get_or parts among.0 part).atom) here more in
         let more_there : (get_or parts p d).atom < part.atom = subst (λ (x : ClassPart). (get_or parts p d).atom < x.atom) there more_here in
         absurd (omega (arith, more_there, less))
     | inr equal ↦
@@ -45,8 +48,10 @@ place_before parts p d part ascending within among less = elim (cases_lt among.0
 ]
 
 -- so a state that is sound for the parts before a place is sound for the classes before that of the place
-pub sound_before : {O N : Type 0} (old : Listing O) (new : Listing N) (m : Mixture O N) (parts : List ClassPart) (n p : ℕ) (d : ClassPart) (state : State) → AreParts old new m parts n → p < length parts
-    → ((q : ℕ) → q < p → SoundAt old new m state (sample_of m (get_or parts q d).atom)) → (k : ℕ) → k < (get_or parts p d).atom → SoundAt old new m state (sample_of m k)
+pub sound_before : {O N : Type 0} (old : Listing O) (new : Listing N) (m : Mixture O N) (parts : List ClassPart) (n p : ℕ) (d : ClassPart) (state : State) →
+    AreParts old new m parts n → p < length parts
+    → ((q : ℕ) → q < p → SoundAt old new m state (sample_of m (get_or parts q d).atom)) → (k : ℕ) → k < (get_or parts p d).atom →
+    SoundAt old new m state (sample_of m k)
 sound_before old new m parts n p d state are within sound k below =
     let last : (get_or parts p d).atom < n = are.below p d within in
     from_covered old new m parts (get_or parts p d).atom k state below
@@ -57,7 +62,8 @@ sound_before old new m parts n p d state are within sound k below =
     (are.covered k (omega (arith, below, last)))
 
 -- one that is sound for all parts is sound for all classes
-pub sound_whole : {O N : Type 0} (old : Listing O) (new : Listing N) (m : Mixture O N) (parts : List ClassPart) (n : ℕ) (d : ClassPart) (state : State) → AreParts old new m parts n
+pub sound_whole : {O N : Type 0} (old : Listing O) (new : Listing N) (m : Mixture O N) (parts : List ClassPart) (n : ℕ) (d : ClassPart) (state : State) →
+    AreParts old new m parts n
     → ((q : ℕ) → q < length parts → SoundAt old new m state (sample_of m (get_or parts q d).atom)) → (k : ℕ) → k < n → SoundAt old new m state (sample_of m k)
 sound_whole old new m parts n d state are sound k below =
     from_covered old new m parts n k state below
@@ -79,7 +85,8 @@ AreParts-none old new m are = record {
 }
 
 -- the next class has no part of its own
-pub AreParts-more : {O N : Type 0} (old : Listing O) (new : Listing N) (m : Mixture O N) (parts : List ClassPart) (n : ℕ) → AreParts old new m parts n → IsCovered old new m parts n
+pub AreParts-more : {O N : Type 0} (old : Listing O) (new : Listing N) (m : Mixture O N) (parts : List ClassPart) (n : ℕ) → AreParts old new m parts n →
+    IsCovered old new m parts n
     → AreParts old new m parts (n + 1)
 AreParts-more old new m parts n are covered = record {
   classes = are.classes;
@@ -90,14 +97,17 @@ AreParts-more old new m parts n are covered = record {
 }
 
 -- a class stays covered where a part is added
-still_covered : {O N : Type 0} (old : Listing O) (new : Listing N) (m : Mixture O N) (parts : List ClassPart) (more : ClassPart) (k : ℕ) → IsCovered old new m parts k
+still_covered : {O N : Type 0} (old : Listing O) (new : Listing N) (m : Mixture O N) (parts : List ClassPart) (more : ClassPart) (k : ℕ) →
+    IsCovered old new m parts k
     → IsCovered old new m (parts ++ more ∷ []) k
-still_covered old new m parts more k (has_part is) = has_part (record { part = is.part; among = Contains-append_left parts (more ∷ []) is.part is.among; is = is.is })
+still_covered old new m parts more k (has_part is) =
+    has_part (record { part = is.part; among = Contains-append_left parts (more ∷ []) is.part is.among; is = is.is })
 still_covered old new m parts more k (never_unsound never) = never_unsound never
 still_covered old new m parts more k (as_earlier part among before with) = as_earlier part (Contains-append_left parts (more ∷ []) part among) before with
 
 -- a class whose part has the hops of an earlier one
-pub earlier_covers : {O N : Type 0} (old : Listing O) (new : Listing N) (m : Mixture O N) (parts : List ClassPart) (part : ClassPart) (n : ℕ) → AreParts old new m parts n → IsPart old new m part
+pub earlier_covers : {O N : Type 0} (old : Listing O) (new : Listing N) (m : Mixture O N) (parts : List ClassPart) (part : ClassPart) (n : ℕ) →
+    AreParts old new m parts n → IsPart old new m part
     → part.atom ≡ n → part.moves ≡ true → HasEarlierHops parts part → IsCovered old new m parts n
 earlier_covers old new m parts part n are is atom moves has =
     as_earlier has.earlier has.among (All-contains (λ (x : ClassPart). x.atom < n) parts has.earlier are.below has.among)
@@ -106,13 +116,16 @@ earlier_covers old new m parts part n are is atom moves has =
     (subst (λ (b : Bool). OnTrue b (AllMove old new m part.atom)) moves is.moves) has.same))
 
 -- the next class has one
-pub AreParts-push : {O N : Type 0} (old : Listing O) (new : Listing N) (m : Mixture O N) (parts : List ClassPart) (part : ClassPart) (n : ℕ) → AreParts old new m parts n → IsPart old new m part
+pub AreParts-push : {O N : Type 0} (old : Listing O) (new : Listing N) (m : Mixture O N) (parts : List ClassPart) (part : ClassPart) (n : ℕ) →
+    AreParts old new m parts n → IsPart old new m part
     → part.atom ≡ n → AreParts old new m (parts ++ part ∷ []) (n + 1)
 AreParts-push old new m parts part n are is atom = record {
   classes = are.classes;
   each = All-push (IsPart old new m) parts part are.each is;
-  ascending = all_pairs_push (λ (one other : ClassPart). one.atom < other.atom) parts part are.ascending (λ k d within. let less : (get_or parts k d).atom < n = are.below k d within in omega (arith, less, atom));
-  below = All-push (λ (x : ClassPart). x.atom < n + 1) parts part (λ k d within. let less : (get_or parts k d).atom < n = are.below k d within in omega (arith, less)) (omega (arith, atom));
+  ascending = all_pairs_push (λ (one other : ClassPart). one.atom < other.atom) parts part are.ascending (λ k d within.
+      let less : (get_or parts k d).atom < n = are.below k d within in omega (arith, less, atom));
+  below = All-push (λ (x : ClassPart). x.atom < n + 1) parts part (λ k d within. let less : (get_or parts k d).atom < n = are.below k d within in
+      omega (arith, less)) (omega (arith, atom));
   covered = below_more (IsCovered old new m (parts ++ part ∷ [])) n (λ k below. still_covered old new m parts part k (are.covered k below))
       (has_part (record { part = part; among = Contains-push parts part; is = atom }));
 }

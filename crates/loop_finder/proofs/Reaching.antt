@@ -1,5 +1,6 @@
 -- Routers that are reached one after another.
-use Rattle.std.proofs.Common.{◌≡◌, ℕ, suc, ◌+◌, ◌<◌, ◌≤◌, Bool, true, false, cond, List, [], ◌∷◌, ◌++◌, length, get_or, set, Contains, inl, inr, arith, refl, sym, ap, ◌∙◌, subst}
+use Rattle.std.proofs.Common.{◌≡◌, ℕ, suc, ◌+◌, ◌<◌, ◌≤◌, Bool, true, false, cond, List, [], ◌∷◌, ◌++◌, length, get_or, set, Contains, inl, inr, arith, refl}
+use Rattle.std.proofs.Common.{sym, ap, ◌∙◌, subst}
 use Rattle.std.specs.List.{All}
 use Rattle.std.proofs.lemmas.Bool.Decides.{eqb_tells}
 use Rattle.std.proofs.lemmas.List.{get_or-set_other, length-set, length_push, length-append, append-nil, append_assoc, get_or_default}
@@ -8,7 +9,7 @@ use Rattle.std.proofs.lemmas.List.Elements.{All-nil, All-push, Contains-append_l
 use Rattle.std.proofs.lemmas.List.Sums.{sum_by-set, count_by-le-length}
 use Rattle.igp_theory.specs.States.{Follows}
 use Rattle.order_core.specs.Marks.{IsMarked}
-use Rattle.loop_finder.specs.Live.{marked_count}
+use Rattle.loop_finder.specs.steps.Live.{marked_count}
 use Rattle.loop_finder.specs.Returns.{NeverReturnsTo, AreReached, ReachesMore}
 
 -- where no router is marked, none is counted
@@ -34,12 +35,14 @@ one_more marks r within bare =
     omega (arith, sum_by-set one marks r true false within, k)
 
 -- fewer routers are reached than there are
-pub reached_short : (goal : ℕ) (marks : List Bool) (reached : List ℕ) (r : ℕ) → AreReached goal marks reached → r < length marks → get_or marks r false ≡ false → length reached < length marks
+pub reached_short : (goal : ℕ) (marks : List Bool) (reached : List ℕ) (r : ℕ) → AreReached goal marks reached → r < length marks →
+    get_or marks r false ≡ false → length reached < length marks
 reached_short goal marks reached r are within bare =
     omega (arith, are.count, one_more marks r within bare, count_by-le-length (λ (b : Bool). b) (set marks r true), length-set marks r true)
 
 -- a router that isn't the goal is reached
-pub AreReached-more : (goal : ℕ) (marks : List Bool) (reached : List ℕ) (r : ℕ) → AreReached goal marks reached → r < length marks → get_or marks r false ≡ false → (¬ (r ≡ goal))
+pub AreReached-more : (goal : ℕ) (marks : List Bool) (reached : List ℕ) (r : ℕ) → AreReached goal marks reached → r < length marks →
+    get_or marks r false ≡ false → (¬ (r ≡ goal))
     → AreReached goal (set marks r true) (reached ++ r ∷ [])
 AreReached-more goal marks reached r are within bare apart = record {
   listed = λ u marked. elim (eqb_tells u r) [
@@ -47,7 +50,8 @@ AreReached-more goal marks reached r are within bare apart = record {
     | inr other ↦ Contains-append_left reached (r ∷ []) u (are.listed u (sym (get_or-set_other marks r u true false other.1) ∙ marked))
   ];
   within = All-push (λ u. u < length (set marks r true)) reached r
-      (λ k d inside. let less : get_or reached k d < length marks = are.within k d inside in omega (arith, less, length-set marks r true)) (omega (arith, within, length-set marks r true));
+      (λ k d inside. let less : get_or reached k d < length marks = are.within k d inside in omega (arith, less, length-set marks r true))
+      (omega (arith, within, length-set marks r true));
   count = omega (arith, are.count, one_more marks r within bare, length_push reached r);
   apart = λ marked. are.apart (sym (get_or-set_other marks r goal true false (λ same. apart (sym same))) ∙ marked);
 }
@@ -57,7 +61,8 @@ pub ReachesMore-same : (marks : List Bool) (reached : List ℕ) → ReachesMore 
 ReachesMore-same marks reached = record { marked = λ u marked. marked; added = []; listed = sym (append-nil reached) }
 
 -- first some are reached, then others
-pub ReachesMore-then : (marks marks' marks'' : List Bool) (reached reached' reached'' : List ℕ) → ReachesMore marks reached marks' reached' → ReachesMore marks' reached' marks'' reached''
+pub ReachesMore-then : (marks marks' marks'' : List Bool) (reached reached' reached'' : List ℕ) → ReachesMore marks reached marks' reached' →
+    ReachesMore marks' reached' marks'' reached''
     → ReachesMore marks reached marks'' reached''
 ReachesMore-then marks marks' marks'' reached reached' reached'' one two = record {
   marked = λ u marked. two.marked u (one.marked u marked);
@@ -66,7 +71,8 @@ ReachesMore-then marks marks' marks'' reached reached' reached'' one two = recor
 }
 
 -- the routers at the first places stay there
-pub place_stays : (marks marks' : List Bool) (reached reached' : List ℕ) (k : ℕ) → ReachesMore marks reached marks' reached' → k < length reached → get_or reached' k 0 ≡ get_or reached k 0
+pub place_stays : (marks marks' : List Bool) (reached reached' : List ℕ) (k : ℕ) → ReachesMore marks reached marks' reached' → k < length reached →
+    get_or reached' k 0 ≡ get_or reached k 0
 place_stays marks marks' reached reached' k more within = ap (λ (xs : List ℕ). get_or xs k 0) more.listed ∙ get_or-append reached more.added 0 k within
 
 -- the places don't get fewer
@@ -79,18 +85,22 @@ begins_inside step n goal within inside u [] same = omega (arith, within, same)
 begins_inside step n goal within inside u (h ∷ hops) follows = inside u h follows.0
 
 -- from a marked router only marked routers are reached, where each marked router steps to marked ones
-stays_marked : (step : ℕ → ℕ → Type 0) (n goal : ℕ) (marks : List Bool) → goal < n → ((u h : ℕ) → step u h → u < n) → ((u h : ℕ) → IsMarked marks u → step u h → h < n → IsMarked marks h)
+stays_marked : (step : ℕ → ℕ → Type 0) (n goal : ℕ) (marks : List Bool) → goal < n → ((u h : ℕ) → step u h → u < n) →
+    ((u h : ℕ) → IsMarked marks u → step u h → h < n → IsMarked marks h)
     → (u : ℕ) (hops : List ℕ) → IsMarked marks u → Follows step u hops goal → IsMarked marks goal
 stays_marked step n goal marks within inside closed u [] marked same = subst (λ (x : ℕ). IsMarked marks x) same marked
 stays_marked step n goal marks within inside closed u (h ∷ hops) marked follows =
-    stays_marked step n goal marks within inside closed h hops (closed u h marked follows.0 (begins_inside step n goal within inside h hops follows.1)) follows.1
+    stays_marked step n goal marks within inside closed h hops (closed u h marked follows.0 (begins_inside step n goal within inside h hops follows.1))
+    follows.1
 
 -- where the hops of the goal and of all routers reached are marked, no list of steps returns to the goal
-pub never_returns : (step : ℕ → ℕ → Type 0) (n goal : ℕ) (marks : List Bool) (reached : List ℕ) (place : ℕ) → goal < n → length marks ≡ n → ((u h : ℕ) → step u h → u < n)
+pub never_returns : (step : ℕ → ℕ → Type 0) (n goal : ℕ) (marks : List Bool) (reached : List ℕ) (place : ℕ) → goal < n → length marks ≡ n →
+    ((u h : ℕ) → step u h → u < n)
     → AreReached goal marks reached → length reached ≤ place → ((h : ℕ) → step goal h → h < length marks → IsMarked marks h)
     → ((k : ℕ) → k < place → (h : ℕ) → step (get_or reached k 0) h → h < length marks → IsMarked marks h) → NeverReturnsTo step goal
 never_returns step n goal marks reached place within many inside are whole first spread h hops follows =
-    are.apart (stays_marked step n goal marks within inside closed h hops (first h follows.0 (omega (arith, many, begins_inside step n goal within inside h hops follows.1))) follows.1)
+    are.apart (stays_marked step n goal marks within inside closed h hops
+    (first h follows.0 (omega (arith, many, begins_inside step n goal within inside h hops follows.1))) follows.1)
   where
     closed : (u v : ℕ) → IsMarked marks u → step u v → v < n → IsMarked marks v
     closed u v marked steps below =

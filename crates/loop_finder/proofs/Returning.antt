@@ -15,7 +15,8 @@ use Rattle.loop_finder.proofs.LowestSteps.{marked_cases}
 -- Layers
 
 -- along a list of steps of which none leads higher the last router is no higher than the first
-falls : (step : ℕ → ℕ → Type 0) (layers : List ℕ) → ((u h : ℕ) → step u h → layer_in layers h ≤ layer_in layers u) → (u : ℕ) (hops : List ℕ) (v : ℕ) → Follows step u hops v
+falls : (step : ℕ → ℕ → Type 0) (layers : List ℕ) → ((u h : ℕ) → step u h → layer_in layers h ≤ layer_in layers u) →
+    (u : ℕ) (hops : List ℕ) (v : ℕ) → Follows step u hops v
     → layer_in layers v ≤ layer_in layers u
 falls step layers no_higher u [] v same = subst (λ (x : ℕ). layer_in layers x ≤ layer_in layers u) same (omega arith)
 falls step layers no_higher u (h ∷ hops) v follows =
@@ -37,7 +38,8 @@ marks_from_layers step layers marks no_higher lower u h hops follows = elim (mar
 -- Steps that can be returned from
 
 -- in a list of steps that returns each step can be returned from
-pub returning : (step ever kept : ℕ → ℕ → Type 0) → ((x y : ℕ) → step x y → ever x y) → ((x y : ℕ) (hops : List ℕ) → step x y → Follows ever y hops x → kept x y)
+pub returning : (step ever kept : ℕ → ℕ → Type 0) → ((x y : ℕ) → step x y → ever x y) →
+    ((x y : ℕ) (hops : List ℕ) → step x y → Follows ever y hops x → kept x y)
     → (u x : ℕ) (front rest : List ℕ) → Follows step u front x → Follows step x rest u → Follows kept x rest u
 returning step ever kept over keeps u x front [] into out = out
 returning step ever kept over keeps u x front (y ∷ rest) into out = (
@@ -68,7 +70,8 @@ record Passes (step : ℕ → ℕ → Type 0) (u v w : ℕ) : Type 0 where
   pub out : Follows step u (next ∷ back) w
 
 -- a list of steps passes a router, or it is one of another relation that has the steps of the other routers
-passes_or_not : (step other : ℕ → ℕ → Type 0) (u : ℕ) → ((x h : ℕ) → (¬ (x ≡ u)) → step x h → other x h) → (v : ℕ) (hops : List ℕ) (w : ℕ) → Follows step v hops w
+passes_or_not : (step other : ℕ → ℕ → Type 0) (u : ℕ) → ((x h : ℕ) → (¬ (x ≡ u)) → step x h → other x h) →
+    (v : ℕ) (hops : List ℕ) (w : ℕ) → Follows step v hops w
     → Passes step u v w ⊎ Follows other v hops w
 passes_or_not step other u over v [] w follows = inr follows
 passes_or_not step other u over v (h ∷ hops) w follows = elim (eqb_tells v u) [
@@ -82,11 +85,13 @@ passes_or_not step other u over v (h ∷ hops) w follows = elim (eqb_tells v u) 
 -- a state stays sound for an address where one router changes, each router has a step afterwards, and no list of steps
 -- returns to the router that changed
 pub stays_sound : (net : Network) (old new : Tables) (a u : ℕ) (before after : State) → ((v : ℕ) → v < length net → (¬ (v ≡ u)) → after v ≡ before v)
-    → NeverReturnsTo (StepsIn net old new after a) u → ((v : ℕ) → MustForward net a v → HasStep net old new v (after v) a) → IsSoundAt net old new before a → IsSoundAt net old new after a
+    → NeverReturnsTo (StepsIn net old new after a) u → ((v : ℕ) → MustForward net a v → HasStep net old new v (after v) a) → IsSoundAt net old new before a →
+    IsSoundAt net old new after a
 stays_sound net old new a u before after differ never moves sound = record {
   forwards = moves;
   returns_never = λ v h hops follows. elim (passes_or_not (StepsIn net old new after a) (StepsIn net old new before a) u as_before v (h ∷ hops) v follows) [
-    | inl passes ↦ never passes.next (passes.back ++ passes.front) (follows_append (StepsIn net old new after a) u (passes.next ∷ passes.back) v passes.front u passes.out passes.into)
+    | inl passes ↦ never passes.next (passes.back ++ passes.front) (follows_append (StepsIn net old new after a) u (passes.next ∷ passes.back) v passes.front u
+        passes.out passes.into)
     | inr rest ↦ sound.returns_never v h hops rest
   ];
 }

@@ -16,32 +16,37 @@ use Rattle.prefix_atoms.specs.Laws.{ActAlike}
 use Rattle.prefix_atoms.proofs.ClassLaws.{one_class_acts_alike}
 use Rattle.order_core.proofs.DistinctLists.{length-le_from_distinct}
 use Rattle.rib_mix.specs.Mixture.{Mixture}
-use Rattle.loop_finder.specs.Steps.{Listing, sample_of}
+use Rattle.loop_finder.specs.ClassSteps.{Listing, sample_of}
 use Rattle.loop_finder.specs.Verdicts.{ClassesOf, SoundAt, SoundBelow, Sound}
 use Rattle.loop_finder.proofs.ClassVerdicts.{sample_in}
 
 -- the samples ascend
-sample_before : (prefixes : List Block) (samples : List ℕ) (i j : ℕ) → AreSamples prefixes samples → i < j → j < length samples → get_or samples i 0 < get_or samples j 0
+sample_before : (prefixes : List Block) (samples : List ℕ) (i j : ℕ) → AreSamples prefixes samples → i < j → j < length samples →
+    get_or samples i 0 < get_or samples j 0
 sample_before prefixes samples i j are before within = AllPairs-from_increasing samples are.ascending i j 0 before within
 
 -- so their number is one of 32 bits
 pub classes_few : (prefixes : List Block) (samples : List ℕ) → AreSamples prefixes samples → length samples ≤ 2 ^ 32
 classes_few prefixes samples are =
-    let apart : AllPairs (λ u v. u ≢ v) samples = λ i j d before within same. let less : get_or samples i d < get_or samples j d = AllPairs-from_increasing samples are.ascending i j d before within in omega (arith, less, same) in
+    let apart : AllPairs (λ u v. u ≢ v) samples = λ i j d before within same. let less : get_or samples i d < get_or samples j d =
+    AllPairs-from_increasing samples are.ascending i j d before within in omega (arith, less, same) in
     length-le_from_distinct samples (2 ^ 32) apart are.addresses
 
 -- at the routers of the network a source has the entries of its tables
-same_entries : (net : Network) (old new : ℕ → List (Block × Entry)) → HaveSameTables net (HasEntry old) (HasEntry new) (SourceEntry (length net) old) (SourceEntry (length net) new)
+same_entries : (net : Network) (old new : ℕ → List (Block × Entry)) → HaveSameTables net (HasEntry old) (HasEntry new) (SourceEntry (length net) old)
+    (SourceEntry (length net) new)
 same_entries net old new = record {
   same_old = λ u p e within. (λ has. (within, has), λ has. has.1);
   same_new = λ u p e within. (λ has. (within, has), λ has. has.1);
 }
 
 -- a state that is sound for one address of a class is sound for another
-sound_alike : {O N : Type 0} (old : Listing O) (new : Listing N) (m : Mixture O N) (state : State) (k a b : ℕ) → ClassesOf old new m → IsInClass m.classes k a → IsInClass m.classes k b
+sound_alike : {O N : Type 0} (old : Listing O) (new : Listing N) (m : Mixture O N) (state : State) (k a b : ℕ) → ClassesOf old new m →
+    IsInClass m.classes k a → IsInClass m.classes k b
     → SoundAt old new m state a → SoundAt old new m state b
 sound_alike old new m state k a b are in_a in_b sound =
-    let same : HaveSameTables m.net (HasEntry (old m.old)) (HasEntry (new m.new)) (SourceEntry (length m.net) (old m.old)) (SourceEntry (length m.net) (new m.new)) = same_entries m.net (old m.old) (new m.new) in
+    let same : HaveSameTables m.net (HasEntry (old m.old)) (HasEntry (new m.new)) (SourceEntry (length m.net) (old m.old))
+    (SourceEntry (length m.net) (new m.new)) = same_entries m.net (old m.old) (new m.new) in
     let alike : ActAlike m.net (SourceEntry (length m.net) (old m.old)) (SourceEntry (length m.net) (new m.new)) a b =
     one_class_acts_alike m.net (SourceEntry (length m.net) (old m.old)) (SourceEntry (length m.net) (new m.new)) m.classes k a b are in_a in_b in
     sound_at_over (same_tables_sym same) ((alike.sound state).0 (sound_at_over same sound))
@@ -65,16 +70,19 @@ class_of c a are address =
     }
 
 -- where a state is sound for the least addresses of the classes before one, it's sound for all lower addresses
-pub below_from : {O N : Type 0} (old : Listing O) (new : Listing N) (m : Mixture O N) (state : State) (k : ℕ) → ClassesOf old new m → k < length m.classes.samples
+pub below_from : {O N : Type 0} (old : Listing O) (new : Listing N) (m : Mixture O N) (state : State) (k : ℕ) → ClassesOf old new m →
+    k < length m.classes.samples
     → ((j : ℕ) → j < k → SoundAt old new m state (sample_of m j)) → SoundBelow old new m state (sample_of m k)
 below_from old new m state k are within sound b below =
     let address : get_or m.classes.samples k 0 < 2 ^ 32 = are.classing.samples.addresses k 0 within in
     let at : HasClass m.classes b = class_of m.classes b are.classing.samples (omega (arith, address, below)) in
     elim (cases_lt at.class k) [
-      | inl before ↦ sound_alike old new m state at.class (sample_of m at.class) b are (sample_in m.classes at.class are at.inside.class) at.inside (sound at.class before)
+      | inl before ↦ sound_alike old new m state at.class (sample_of m at.class) b are (sample_in m.classes at.class are at.inside.class) at.inside
+          (sound at.class before)
       | inr after ↦ elim (cases_lt k at.class) [
         | inl past ↦
-            let less : get_or m.classes.samples k 0 < get_or m.classes.samples at.class 0 = sample_before m.classes.prefixes m.classes.samples k at.class are.classing.samples past at.inside.class in
+            let less : get_or m.classes.samples k 0 < get_or m.classes.samples at.class 0 =
+            sample_before m.classes.prefixes m.classes.samples k at.class are.classing.samples past at.inside.class in
             absurd (omega (arith, less, below, at.least))
         | inr equal ↦
             let same : at.class ≡ k = omega (arith, after, equal) in
@@ -84,8 +92,10 @@ below_from old new m state k are within sound b below =
     ]
 
 -- where it is for the least addresses of all classes, it's sound
-pub sound_from_classes : {O N : Type 0} (old : Listing O) (new : Listing N) (m : Mixture O N) (state : State) (n : ℕ) → ClassesOf old new m → length m.classes.samples ≤ n
+pub sound_from_classes : {O N : Type 0} (old : Listing O) (new : Listing N) (m : Mixture O N) (state : State) (n : ℕ) → ClassesOf old new m →
+    length m.classes.samples ≤ n
     → ((j : ℕ) → j < n → SoundAt old new m state (sample_of m j)) → Sound old new m state
 sound_from_classes old new m state n are whole sound a address =
     let at : HasClass m.classes a = class_of m.classes a are.classing.samples address in
-    sound_alike old new m state at.class (sample_of m at.class) a are (sample_in m.classes at.class are at.inside.class) at.inside (sound at.class (omega (arith, at.inside.class, whole)))
+    sound_alike old new m state at.class (sample_of m at.class) a are (sample_in m.classes at.class are at.inside.class) at.inside
+    (sound at.class (omega (arith, at.inside.class, whole)))

@@ -7,13 +7,14 @@ use Rattle.igp_theory.proofs.LoopLaws.{old_or_new_step}
 use Rattle.order_core.specs.Turns.{routers_of}
 use Rattle.order_core.specs.declared.turn.Tag.TheVariants as tag
 use Rattle.order_core.specs.declared.turn.Turn.{Turn}
-use Rattle.loop_finder.specs.Rings.{next_in}
+use Rattle.loop_finder.specs.steps.Rings.{next_in}
 use Rattle.loop_finder.specs.Faults.{state_in}
-use Rattle.loop_finder.specs.Steps.{Listing, ClassState, StepsBy, ClassStep, IsTagged}
+use Rattle.loop_finder.specs.ClassSteps.{Listing, ClassState, StepsBy, ClassStep, IsTagged}
 use Rattle.loop_finder.proofs.RingLaws.{each_at, each_to_next_push}
 
 -- a step of one of the states is a step of Old or of New
-pub old_or_new : {O N : Type 0} (old : Listing O) (new : Listing N) (c : ClassState O N) (u h : ℕ) → ClassStep old new c u h → StepsBy old new c u Old h ⊎ StepsBy old new c u New h
+pub old_or_new : {O N : Type 0} (old : Listing O) (new : Listing N) (c : ClassState O N) (u h : ℕ) → ClassStep old new c u h → StepsBy old new c u Old h ⊎
+    StepsBy old new c u New h
 old_or_new old new c u h (inl steps) = old_or_new_step (state_in c.first u) steps
 old_or_new old new c u h (inr steps) = old_or_new_step (state_in c.last u) steps
 
@@ -23,14 +24,16 @@ steps_inside old new c u h (inl steps) = steps.must.router
 steps_inside old new c u h (inr steps) = steps.must.router
 
 -- a router that doesn't step in Old steps in New alone
-pub tagged_new : {O N : Type 0} (old : Listing O) (new : Listing N) (c : ClassState O N) (u h : ℕ) → (StepsBy old new c u Old h → ⊥) → StepsBy old new c u Old h ⊎ StepsBy old new c u New h
+pub tagged_new : {O N : Type 0} (old : Listing O) (new : Listing N) (c : ClassState O N) (u h : ℕ) → (StepsBy old new c u Old h → ⊥) →
+    StepsBy old new c u Old h ⊎ StepsBy old new c u New h
     → IsTagged old new c (record { router = u; tag = tag.New }) h
 tagged_new old new c u h never some = record {
   steps = (never, elim some [ inl steps ↦ absurd (never steps) | inr steps ↦ steps ]);
 }
 
 -- each router of a ring steps to the one after it
-pub ring_step : (step : ℕ → ℕ → Type 0) (routers : List ℕ) (place : ℕ) → AroundRing step routers → place < length routers → step (get_or routers place 0) (next_in routers place)
+pub ring_step : (step : ℕ → ℕ → Type 0) (routers : List ℕ) (place : ℕ) → AroundRing step routers → place < length routers →
+    step (get_or routers place 0) (next_in routers place)
 ring_step step [] place around within = absurd (omega (arith, within))
 ring_step step (r ∷ rest) place around within =
     let e : suc place ≡ place + 1 = omega arith in
@@ -63,18 +66,23 @@ next_by_number old new c f k [] same goes = tt
 next_by_number old new c f k (x ∷ []) same goes = subst (λ (n : ℕ). IsTagged old new c x n) same goes
 next_by_number old new c f k (x ∷ y ∷ rest) same goes = (goes.0, next_by_number old new c f k (y ∷ rest) same goes.1)
 
-pub IsPartRing-more : {O N : Type 0} (old : Listing O) (new : Listing N) (c : ClassState O N) (routers : List ℕ) (turns : List Turn) (place : ℕ) (turn : Turn) → place < length routers
-    → turn.router ≡ get_or routers place 0 → IsTagged old new c turn (next_in routers place) → IsPartRing old new c routers turns place → IsPartRing old new c routers (turns ++ turn ∷ []) (place + 1)
+pub IsPartRing-more : {O N : Type 0} (old : Listing O) (new : Listing N) (c : ClassState O N) (routers : List ℕ) (turns : List Turn) (place : ℕ)
+    (turn : Turn) → place < length routers
+    → turn.router ≡ get_or routers place 0 → IsTagged old new c turn (next_in routers place) → IsPartRing old new c routers turns place →
+    IsPartRing old new c routers (turns ++ turn ∷ []) (place + 1)
 IsPartRing-more old new c routers turns place turn within router tagged part = record {
   routers_are =
       map_push (λ (r : Turn). r.router) turns turn
-      ∙ ap (λ (xs : List ℕ). xs ++ turn.router ∷ []) part.routers_are ∙ ap (λ (n : ℕ). take place routers ++ n ∷ []) router ∙ sym (take_more routers place 0 within);
+      ∙ ap (λ (xs : List ℕ). xs ++ turn.router ∷ []) part.routers_are ∙ ap (λ (n : ℕ). take place routers ++ n ∷ []) router
+      ∙ sym (take_more routers place 0 within);
   tags = each_to_next_push (TagsNext old new c) (numbered (here_in routers (place + 1))) turn turns
-      (next_by_number old new c (numbered (here_in routers place)) turn turns (get_or_default routers place (get_or routers 0 0) 0 within ∙ sym router) part.tags) tagged;
+      (next_by_number old new c (numbered (here_in routers place)) turn turns (get_or_default routers place (get_or routers 0 0) 0 within
+      ∙ sym router) part.tags) tagged;
 }
 
 -- how many turns are written
-pub part_length : {O N : Type 0} (old : Listing O) (new : Listing N) (c : ClassState O N) (routers : List ℕ) (turns : List Turn) (place : ℕ) → place < length routers → IsPartRing old new c routers turns place
+pub part_length : {O N : Type 0} (old : Listing O) (new : Listing N) (c : ClassState O N) (routers : List ℕ) (turns : List Turn) (place : ℕ) →
+    place < length routers → IsPartRing old new c routers turns place
     → length turns ≡ place
 part_length old new c routers turns place within part =
     let e : length (routers_of turns) ≡ length turns = length-map turns (λ (r : Turn). r.router) in
@@ -82,14 +90,16 @@ part_length old new c routers turns place within part =
     sym e ∙ ap length part.routers_are ∙ k
 
 -- all turns of a ring
-pub ring_whole : {O N : Type 0} (old : Listing O) (new : Listing N) (c : ClassState O N) (routers : List ℕ) (turns : List Turn) (place : ℕ) → length routers ≤ place → IsPartRing old new c routers turns place
+pub ring_whole : {O N : Type 0} (old : Listing O) (new : Listing N) (c : ClassState O N) (routers : List ℕ) (turns : List Turn) (place : ℕ) →
+    length routers ≤ place → IsPartRing old new c routers turns place
     → (routers_of turns ≡ routers) × AroundRing (TagsNext old new c) turns
 ring_whole old new c routers turns place whole part = (same, around turns same part.tags)
   where
     same : routers_of turns ≡ routers
     same = part.routers_are ∙ take_all place routers whole
 
-    around : (ring : List Turn) → routers_of ring ≡ routers → EachToNext (TagsNext old new c) (numbered (here_in routers place)) ring → AroundRing (TagsNext old new c) ring
+    around : (ring : List Turn) → routers_of ring ≡ routers → EachToNext (TagsNext old new c) (numbered (here_in routers place)) ring →
+        AroundRing (TagsNext old new c) ring
     around [] is tags = tt
     around (r ∷ rest) is tags =
         let first : get_or (routers_of (r ∷ rest)) 0 0 ≡ get_or routers 0 0 = ap (λ (xs : List ℕ). get_or xs 0 0) is in

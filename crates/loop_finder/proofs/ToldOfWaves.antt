@@ -14,7 +14,7 @@ use Rattle.igp_theory.proofs.LoopWaves.{return_is_unsound}
 use Rattle.igp_theory.proofs.SameTables.{SameHops, found_ring_over}
 use Rattle.rib_mix.specs.Mixture.{Mixture}
 use Rattle.loop_finder.specs.Faults.{state_in}
-use Rattle.loop_finder.specs.Steps.{Listing, ClassState, sample_of, ClassStep, IsStuck, Moves}
+use Rattle.loop_finder.specs.ClassSteps.{Listing, ClassState, sample_of, ClassStep, IsStuck, Moves}
 use Rattle.loop_finder.specs.Verdicts.{Verdict, Told, ClassesOf, SoundAt, SoundWave, FaultyWave, IsBetween}
 use Rattle.loop_finder.specs.WaveLists.{AreSwitchedBefore}
 use Rattle.loop_finder.specs.declared.fault.Fault.{Fault}
@@ -43,16 +43,22 @@ last_of_wave ends = record {
 }
 
 -- a state of the wave is between them
-pub wave_between : {n : ℕ} {ranks : List ℕ} {w : ℕ} {first last : List Phase} (state : State) → AreEnds n ranks w first last → IsStateOfWave n ranks w state → IsBetween n first last state
+pub wave_between : {n : ℕ} {ranks : List ℕ} {w : ℕ} {first last : List Phase} (state : State) → AreEnds n ranks w first last → IsStateOfWave n ranks w state →
+    IsBetween n first last state
 wave_between {ranks = ranks} {w = w} state ends of_wave u within = elim (cases_order (rank_of ranks u) w) [
-  | inl same ↦ inr (ends.begins.others u (omega (arith, within, ends.each)) (omega (arith, same)), ends.ends.switched u (omega (arith, within, ends.each)) (omega (arith, same)))
+  | inl same ↦ inr (
+    ends.begins.others u (omega (arith, within, ends.each)) (omega (arith, same)),
+    ends.ends.switched u (omega (arith, within, ends.each)) (omega (arith, same)),
+  )
   | inr (inl before) ↦ inl (of_wave.earlier u within before ∙ sym (ends.begins.switched u (omega (arith, within, ends.each)) before))
   | inr (inr after) ↦ inl (of_wave.later u within after ∙ sym (ends.begins.others u (omega (arith, within, ends.each)) (omega (arith, after))))
 ]
 
 -- the steps of all states of the wave are those of both
-wave_steps : {O N : Type 0} (old : Listing O) (new : Listing N) (c : ClassState O N) (ranks : List ℕ) (w : ℕ) → AreEnds (length c.mixture.net) ranks w c.first c.last
-    → SameHops (ClassStep old new c) (StepsInSome c.mixture.net (HasEntry (old c.mixture.old)) (HasEntry (new c.mixture.new)) (IsStateOfWave (length c.mixture.net) ranks w) (sample_of c.mixture c.atom))
+wave_steps : {O N : Type 0} (old : Listing O) (new : Listing N) (c : ClassState O N) (ranks : List ℕ) (w : ℕ) →
+    AreEnds (length c.mixture.net) ranks w c.first c.last
+    → SameHops (ClassStep old new c) (StepsInSome c.mixture.net (HasEntry (old c.mixture.old)) (HasEntry (new c.mixture.new))
+    (IsStateOfWave (length c.mixture.net) ranks w) (sample_of c.mixture c.atom))
 wave_steps old new c ranks w ends u h = (
   λ steps. elim steps [
     | inl one ↦ record { state = state_in c.first; among = first_of_wave ends; steps = one }
@@ -62,14 +68,18 @@ wave_steps old new c ranks w ends u h = (
 )
 
 -- a router that moves in both moves in all states of the wave
-steps_in_all : {O N : Type 0} (old : Listing O) (new : Listing N) (c : ClassState O N) (ranks : List ℕ) (w : ℕ) (u : ℕ) → AreEnds (length c.mixture.net) ranks w c.first c.last → Moves old new c u
+steps_in_all : {O N : Type 0} (old : Listing O) (new : Listing N) (c : ClassState O N) (ranks : List ℕ) (w : ℕ) (u : ℕ) →
+    AreEnds (length c.mixture.net) ranks w c.first c.last → Moves old new c u
     → MustForward c.mixture.net (sample_of c.mixture c.atom) u
-    → HasStepsInAll c.mixture.net (HasEntry (old c.mixture.old)) (HasEntry (new c.mixture.new)) (IsStateOfWave (length c.mixture.net) ranks w) (sample_of c.mixture c.atom) u
+    → HasStepsInAll c.mixture.net (HasEntry (old c.mixture.old)) (HasEntry (new c.mixture.new)) (IsStateOfWave (length c.mixture.net) ranks w)
+    (sample_of c.mixture c.atom) u
 steps_in_all old new c ranks w u ends moves must state of_wave = moves_between old new c state u (wave_between state ends of_wave) moves must
 
 -- a router that is stuck in one of both lacks a step in a state of the wave
-lacks_from : {O N : Type 0} (old : Listing O) (new : Listing N) (c : ClassState O N) (ranks : List ℕ) (w : ℕ) (u : ℕ) → AreEnds (length c.mixture.net) ranks w c.first c.last → IsStuck old new c u
-    → LacksStep c.mixture.net (HasEntry (old c.mixture.old)) (HasEntry (new c.mixture.new)) (IsStateOfWave (length c.mixture.net) ranks w) (sample_of c.mixture c.atom) u
+lacks_from : {O N : Type 0} (old : Listing O) (new : Listing N) (c : ClassState O N) (ranks : List ℕ) (w : ℕ) (u : ℕ) →
+    AreEnds (length c.mixture.net) ranks w c.first c.last → IsStuck old new c u
+    → LacksStep c.mixture.net (HasEntry (old c.mixture.old)) (HasEntry (new c.mixture.new)) (IsStateOfWave (length c.mixture.net) ranks w)
+    (sample_of c.mixture c.atom) u
 lacks_from old new c ranks w u ends (inl one) = record {
   must = one.must;
   state = state_in c.first;
@@ -85,20 +95,24 @@ lacks_from old new c ranks w u ends (inr other) = record {
 
 -- at a class for which all lower addresses are sound the fault of the wave is told
 abbrev LeastIn : {O N : Type 0} → Listing O → Listing N → ClassState O N → List ℕ → ℕ → Type 0
-LeastIn old new c ranks w = IsLeastUnsound c.mixture.net (HasEntry (old c.mixture.old)) (HasEntry (new c.mixture.new)) (IsStateOfWave (length c.mixture.net) ranks w) (sample_of c.mixture c.atom)
+LeastIn old new c ranks w = IsLeastUnsound c.mixture.net (HasEntry (old c.mixture.old)) (HasEntry (new c.mixture.new))
+    (IsStateOfWave (length c.mixture.net) ranks w) (sample_of c.mixture c.atom)
 
 abbrev SoundLower : {O N : Type 0} → Listing O → Listing N → ClassState O N → List ℕ → ℕ → Type 0
 SoundLower old new c ranks w =
     (b : ℕ) → b < sample_of c.mixture c.atom → (state : State) → IsStateOfWave (length c.mixture.net) ranks w state → SoundAt old new c.mixture state b
 
-fault_from : {O N : Type 0} (old : Listing O) (new : Listing N) (c : ClassState O N) (ranks : List ℕ) (w : ℕ) (turns : List Turn) (fault : Fault) → AreEnds (length c.mixture.net) ranks w c.first c.last
-    → sample_of c.mixture c.atom < 2 ^ 32 → SoundLower old new c ranks w → Verdict old new c (Some fault) turns → FaultyWave old new c.mixture ranks w fault turns
+fault_from : {O N : Type 0} (old : Listing O) (new : Listing N) (c : ClassState O N) (ranks : List ℕ) (w : ℕ) (turns : List Turn) (fault : Fault) →
+    AreEnds (length c.mixture.net) ranks w c.first c.last
+    → sample_of c.mixture c.atom < 2 ^ 32 → SoundLower old new c ranks w → Verdict old new c (Some fault) turns →
+    FaultyWave old new c.mixture ranks w fault turns
 fault_from old new c ranks w turns (Loop a) ends address below verdict =
     let found = found_ring_over (wave_steps old new c ranks w ends) verdict.found in
     let returns = found_ring_returns found in
     let least : LeastIn old new c ranks w = record {
       address = address;
-      unsound = return_is_unsound c.mixture.net (HasEntry (old c.mixture.old)) (HasEntry (new c.mixture.new)) ranks w (sample_of c.mixture c.atom) found.again returns.hop returns.hops returns.follows;
+      unsound = return_is_unsound c.mixture.net (HasEntry (old c.mixture.old)) (HasEntry (new c.mixture.new)) ranks w (sample_of c.mixture c.atom) found.again
+          returns.hop returns.hops returns.follows;
       below = below;
     } in
     subst (λ (x : ℕ). FaultyWave old new c.mixture ranks w (Loop x) turns) (sym verdict.address)
@@ -114,15 +128,20 @@ fault_from old new c ranks w turns (Missing a u) ends address below verdict =
     (missing_in_one least lack (λ v before must. steps_in_all old new c ranks w v ends (verdict.1.1 v before) must))
 
 -- no fault tells that every state of the wave is sound, a fault tells it
-pub sound_of_told : {O N : Type 0} (old : Listing O) (new : Listing N) (m : Mixture O N) (ranks : List ℕ) (w : ℕ) (first last : List Phase) (result : Option Fault) (turns : List Turn)
+pub sound_of_told : {O N : Type 0} (old : Listing O) (new : Listing N) (m : Mixture O N) (ranks : List ℕ) (w : ℕ) (first last : List Phase)
+    (result : Option Fault) (turns : List Turn)
     → AreEnds (length m.net) ranks w first last → ClassesOf old new m → Told old new m first last result turns → IfNone result (SoundWave old new m ranks w)
 sound_of_told old new m ranks w first last None turns ends are told = λ state of_wave.
     sound_from_classes old new m state (length m.classes.samples) are (omega arith) (λ j below. told j below state (wave_between state ends of_wave))
 sound_of_told old new m ranks w first last (Some fault) turns ends are told = tt
 
-pub fault_of_told : {O N : Type 0} (old : Listing O) (new : Listing N) (m : Mixture O N) (ranks : List ℕ) (w : ℕ) (first last : List Phase) (result : Option Fault) (turns : List Turn)
-    → AreEnds (length m.net) ranks w first last → ClassesOf old new m → Told old new m first last result turns → IfSome result (λ fault. FaultyWave old new m ranks w fault turns)
+pub fault_of_told : {O N : Type 0} (old : Listing O) (new : Listing N) (m : Mixture O N) (ranks : List ℕ) (w : ℕ) (first last : List Phase)
+    (result : Option Fault) (turns : List Turn)
+    → AreEnds (length m.net) ranks w first last → ClassesOf old new m → Told old new m first last result turns →
+    IfSome result (λ fault. FaultyWave old new m ranks w fault turns)
 fault_of_told old new m ranks w first last None turns ends are told = tt
 fault_of_told old new m ranks w first last (Some fault) turns ends are told =
-    fault_from old new (record { mixture = m; first = first; last = last; forwards = told.here.forwards; atom = told.atom }) ranks w turns fault ends (sample_in m.classes told.atom are told.within).address
-    (λ b less state of_wave. below_from old new m state told.atom are told.within (λ j below. told.before j below state (wave_between state ends of_wave)) b less) told.here.verdict
+    fault_from old new (record { mixture = m; first = first; last = last; forwards = told.here.forwards; atom = told.atom }) ranks w turns fault ends
+    (sample_in m.classes told.atom are told.within).address
+    (λ b less state of_wave. below_from old new m state told.atom are told.within (λ j below. told.before j below state (wave_between state ends of_wave)) b
+    less) told.here.verdict

@@ -9,8 +9,8 @@ use Rattle.igp_theory.proofs.SameTables.{each_to_next_over}
 use Rattle.order_core.specs.Marks.{IsMarked}
 use Rattle.order_core.specs.Rings.{IsTurned}
 use Rattle.order_core.proofs.DistinctLists.{length-le_from_distinct}
-use Rattle.loop_finder.specs.Live.{ArePeeled}
-use Rattle.loop_finder.specs.Walks.{IsMarkedHop, IsWalk}
+use Rattle.loop_finder.specs.steps.Live.{ArePeeled}
+use Rattle.loop_finder.specs.steps.Walks.{IsMarkedHop, IsWalk}
 use Rattle.loop_finder.proofs.LiveLaws.{marked_below, live_from_marked, marked_from_live}
 use Rattle.loop_finder.proofs.RingLaws.{each_to_next_push, all_from_each}
 
@@ -41,24 +41,29 @@ IsOnWay-first step marks start marked = record {
 pub on_way_short : (marks : List Bool) (path : List ℕ) (next : ℕ) → AllPairs (λ u v. u ≢ v) path → All (IsMarked marks) path → IsMarked marks next
     → ((k : ℕ) → k < length path → get_or path k 0 ≢ next) → length path < length marks
 on_way_short marks path next distinct marked is fresh =
-    let below : All (λ u. u < length marks) (path ++ next ∷ []) = All-weaker (IsMarked marks) (λ u. u < length marks) (λ u m. marked_below marks u m) (path ++ next ∷ []) (All-push (IsMarked marks) path next marked is) in
-    let apart : AllPairs (λ u v. u ≢ v) (path ++ next ∷ []) = all_pairs_push (λ u v. u ≢ v) path next distinct (λ k d within same. fresh k within (get_or_default path k 0 d within ∙ same)) in
+    let below : All (λ u. u < length marks) (path ++ next ∷ []) = All-weaker (IsMarked marks) (λ u. u < length marks) (λ u m. marked_below marks u m)
+    (path ++ next ∷ []) (All-push (IsMarked marks) path next marked is) in
+    let apart : AllPairs (λ u v. u ≢ v) (path ++ next ∷ []) =
+    all_pairs_push (λ u v. u ≢ v) path next distinct (λ k d within same. fresh k within (get_or_default path k 0 d within ∙ same)) in
     omega (arith, length-le_from_distinct (path ++ next ∷ []) (length marks) apart below, length_push path next)
 
-pub IsOnWay-more : (step : ℕ → ℕ → Type 0) (marks : List Bool) (start : ℕ) (path : List ℕ) (last next : ℕ) → IsOnWay step marks start path last → IsMarkedHop step marks last next
+pub IsOnWay-more : (step : ℕ → ℕ → Type 0) (marks : List Bool) (start : ℕ) (path : List ℕ) (last next : ℕ) → IsOnWay step marks start path last →
+    IsMarkedHop step marks last next
     → ((k : ℕ) → k < length path → get_or path k 0 ≢ next) → IsOnWay step marks start (path ++ next ∷ []) next
 IsOnWay-more step marks start path last next way hop fresh = record {
   visited = way.visited ++ next ∷ [];
   begins = ap (λ (xs : List ℕ). xs ++ next ∷ []) way.begins;
   front = path;
   ends = refl;
-  goes = subst (λ (xs : List ℕ). EachToNext (IsMarkedHop step marks) next xs) (sym way.ends) (each_to_next_push (IsMarkedHop step marks) next last way.front way.goes hop);
+  goes = subst (λ (xs : List ℕ). EachToNext (IsMarkedHop step marks) next xs) (sym way.ends) (each_to_next_push (IsMarkedHop step marks) next last
+      way.front way.goes hop);
   distinct = all_pairs_push (λ u v. u ≢ v) path next way.distinct (λ k d within same. fresh k within (get_or_default path k 0 d within ∙ same));
   marked = All-push (IsMarked marks) path next way.marked hop.marked;
   last_marked = hop.marked;
 }
 
-pub walk_from_way : (step : ℕ → ℕ → Type 0) (marks : List Bool) (start : ℕ) (path : List ℕ) (last next place : ℕ) → IsOnWay step marks start path last → IsMarkedHop step marks last next
+pub walk_from_way : (step : ℕ → ℕ → Type 0) (marks : List Bool) (start : ℕ) (path : List ℕ) (last next place : ℕ) → IsOnWay step marks start path last →
+    IsMarkedHop step marks last next
     → place < length path → get_or path place 0 ≡ next → IsWalk step marks start path place
 walk_from_way step marks start path last next place way hop within same = record {
   visited = way.visited;
@@ -66,7 +71,8 @@ walk_from_way step marks start path last next place way hop within same = record
   within = within;
   distinct = way.distinct;
   goes = subst (λ (n : ℕ). EachToNext (IsMarkedHop step marks) n path) (sym same)
-      (subst (λ (xs : List ℕ). EachToNext (IsMarkedHop step marks) next xs) (sym way.ends) (each_to_next_push (IsMarkedHop step marks) next last way.front way.goes hop));
+      (subst (λ (xs : List ℕ). EachToNext (IsMarkedHop step marks) next xs) (sym way.ends) (each_to_next_push (IsMarkedHop step marks) next last
+      way.front way.goes hop));
 }
 
 -- a list turned to the place of its least element
@@ -79,11 +85,13 @@ turned_from ring low within least = record {
   lowest = get_or ring low 0;
   others = drop (low + 1) ring ++ take low ring;
   first = ap (λ (xs : List ℕ). xs ++ take low ring) (drop_more ring low 0 within);
-  least = All-append (λ u. get_or ring low 0 ≤ u) (drop (low + 1) ring) (take low ring) (All-drop (λ u. get_or ring low 0 ≤ u) (low + 1) ring least) (All-take (λ u. get_or ring low 0 ≤ u) low ring least);
+  least = All-append (λ u. get_or ring low 0 ≤ u) (drop (low + 1) ring) (take low ring) (All-drop (λ u. get_or ring low 0 ≤ u) (low + 1) ring least)
+      (All-take (λ u. get_or ring low 0 ≤ u) low ring least);
 }
 
 -- the lowest-numbered marked hop is the lowest-numbered live one
-live_hop : (step : ℕ → ℕ → Type 0) (marks : List Bool) (n s u h : ℕ) → length marks ≡ n → ArePeeled step marks → IsMarked marks s → IsMarkedHop step marks u h → IsLowestLiveHop step n u h
+live_hop : (step : ℕ → ℕ → Type 0) (marks : List Bool) (n s u h : ℕ) → length marks ≡ n → ArePeeled step marks → IsMarked marks s →
+    IsMarkedHop step marks u h → IsLowestLiveHop step n u h
 live_hop step marks n s u h many peeled some is = record {
   steps = is.steps;
   live = live_from_marked step marks peeled n h is.marked;
@@ -91,7 +99,8 @@ live_hop step marks n s u h many peeled some is = record {
 }
 
 -- the ring that a walk ends in, turned, is the one that is told
-pub found_from_walk : (step : ℕ → ℕ → Type 0) (marks : List Bool) (n start place : ℕ) (path ring : List ℕ) → length marks ≡ n → ArePeeled step marks → IsMarked marks start
+pub found_from_walk : (step : ℕ → ℕ → Type 0) (marks : List Bool) (n start place : ℕ) (path ring : List ℕ) → length marks ≡ n →
+    ArePeeled step marks → IsMarked marks start
     → ((q : ℕ) → IsMarked marks q → start ≤ q) → IsWalk step marks start path place → IsTurned (drop place path) ring → IsFoundRing step n ring
 found_from_walk step marks n start place path ring many peeled some lowest walk turned = record {
   start = start;
@@ -118,14 +127,17 @@ found_from_walk step marks n start place path ring many peeled some lowest walk 
 }
 
 -- what is left when the routers before a place are cut off, turned
-pub turned_to : (path moved kept seen ring : List ℕ) (place low : ℕ) → moved ≡ drop place path ++ take place path → kept ≡ take (length path - place) moved → seen ≡ kept
+pub turned_to : (path moved kept seen ring : List ℕ) (place low : ℕ) → moved ≡ drop place path ++ take place path → kept ≡ take (length path - place) moved →
+    seen ≡ kept
     → ring ≡ drop low kept ++ take low kept → low < length seen → All (λ u. get_or seen low 0 ≤ u) seen → IsTurned (drop place path) ring
 turned_to path moved kept seen ring place low moved_is kept_is seen_is ring_is within least =
     let same : seen ≡ drop place path =
-    seen_is ∙ kept_is ∙ ap (λ (xs : List ℕ). take (length path - place) xs) moved_is ∙ take_at (drop place path) (take place path) (length path - place) (length-drop place path) in
+    seen_is ∙ kept_is ∙ ap (λ (xs : List ℕ). take (length path - place) xs) moved_is ∙ take_at (drop place path) (take place path) (length path - place)
+    (length-drop place path) in
     let kept_same : kept ≡ drop place path = sym seen_is ∙ same in
     subst (λ (xs : List ℕ). IsTurned (drop place path) xs) (sym (ring_is ∙ ap (λ (xs : List ℕ). drop low xs ++ take low xs) kept_same))
-    (turned_from (drop place path) low (subst (λ (xs : List ℕ). low < length xs) same within) (subst (λ (xs : List ℕ). All (λ u. get_or xs low 0 ≤ u) xs) same least))
+    (turned_from (drop place path) low (subst (λ (xs : List ℕ). low < length xs) same within)
+    (subst (λ (xs : List ℕ). All (λ u. get_or xs low 0 ≤ u) xs) same least))
 
 -- the ring is no longer than there are routers
 pub found_short : (step : ℕ → ℕ → Type 0) (n : ℕ) (ring : List ℕ) → ((u h : ℕ) → step u h → u < n) → IsFoundRing step n ring → length ring ≤ n

@@ -1,5 +1,6 @@
 -- The places at which a change of a router is looked at, and what it leaves sound.
-use Rattle.std.proofs.Common.{◌≡◌, ℕ, ◌+◌, ◌<◌, ◌≤◌, Bool, true, List, [], ◌∷◌, ◌++◌, length, get_or, Contains, Option, Some, None, IfNone, IfSome, inl, inr, arith, sym, ◌∙◌, ap, subst, below_more}
+use Rattle.std.proofs.Common.{◌≡◌, ℕ, ◌+◌, ◌<◌, ◌≤◌, Bool, true, List, [], ◌∷◌, ◌++◌, length, get_or, Contains, Option, Some, None, IfNone, IfSome, inl, inr}
+use Rattle.std.proofs.Common.{arith, sym, ◌∙◌, ap, subst, below_more}
 use Rattle.std.proofs.lemmas.Bool.{cases_lt}
 use Rattle.std.proofs.lemmas.List.{get_or_default, length_push}
 use Rattle.std.proofs.lemmas.List.Elements.{All-push, Contains-append_left, Contains-push}
@@ -13,7 +14,7 @@ use Rattle.rib_mix.specs.Mixture.{Mixture}
 use Rattle.loop_finder.specs.Faults.{state_in}
 use Rattle.loop_finder.specs.Parts.{PhaseHops, ClassPart, hops_of, no_hops, PartStep, IsPart, AreParts, DifferAt}
 use Rattle.loop_finder.specs.Returns.{NeverReturnsTo}
-use Rattle.loop_finder.specs.Steps.{Listing, sample_of}
+use Rattle.loop_finder.specs.ClassSteps.{Listing, sample_of}
 use Rattle.loop_finder.specs.Verdicts.{SoundAt, Sound, IsTold, Faulty}
 use Rattle.loop_finder.specs.Watches.{IsIdle, AreFirstPlaces, ArePlacesOf, AddsPlace, IsWatch, StaysSoundAt, StaysSound, TurnsFaulty}
 use Rattle.loop_finder.specs.declared.fault.Fault.{Fault}
@@ -75,7 +76,8 @@ pub IsWatch-more : (parts : List ClassPart) (n : ℕ) (watch longer : List (List
 IsWatch-more parts n watch longer places is are one = subst (λ (xs : List (List ℕ)). IsWatch parts (n + 1) xs) (sym is) (record {
   many = omega (arith, length_push watch places, are.many);
   each = below_more (λ (u : ℕ). ArePlacesOf parts u (get_or (watch ++ places ∷ []) u [])) n
-      (λ u below. subst (λ (x : List ℕ). ArePlacesOf parts u x) (sym (get_or-append watch (places ∷ []) [] u (omega (arith, below, are.many)))) (are.each u below))
+      (λ u below. subst (λ (x : List ℕ). ArePlacesOf parts u x) (sym (get_or-append watch (places ∷ []) [] u (omega (arith, below, are.many))))
+      (are.each u below))
       (subst (λ (k : ℕ). ArePlacesOf parts n (get_or (watch ++ places ∷ []) k [])) are.many
       (subst (λ (x : List ℕ). ArePlacesOf parts n x) (sym (get_or-append_seam watch places [] [])) one));
 })
@@ -90,13 +92,15 @@ idle_never part first last u idle h hops follows = elim follows.0 [
 ]
 
 -- where no walk over a part's steps returns to the router that changed, a sound state stays sound for its class
-pub stays_where_never : {O N : Type 0} (old : Listing O) (new : Listing N) (m : Mixture O N) (part : ClassPart) (phases : List Phase) (u : ℕ) → IsPart old new m part
+pub stays_where_never : {O N : Type 0} (old : Listing O) (new : Listing N) (m : Mixture O N) (part : ClassPart) (phases : List Phase) (u : ℕ) →
+    IsPart old new m part
     → part.moves ≡ true → NeverReturnsTo (PartStep part phases phases) u → StaysSoundAt old new m phases u part.atom
 stays_where_never old new m part phases u is moves never before differ sound =
     part_stays_sound old new m part phases phases u before (state_in phases) is moves never differ (between_itself (length m.net) phases) sound
 
 -- so it does where no fault of the class is told
-pub stays_where_told : {O N : Type 0} (old : Listing O) (new : Listing N) (m : Mixture O N) (phases : List Phase) (u atom a : ℕ) (result : Option Fault) (turns : List Turn) → a ≡ atom
+pub stays_where_told : {O N : Type 0} (old : Listing O) (new : Listing N) (m : Mixture O N) (phases : List Phase) (u atom a : ℕ) (result : Option Fault)
+    (turns : List Turn) → a ≡ atom
     → IsTold old new m phases phases a result turns → IfNone result (StaysSoundAt old new m phases u atom)
 stays_where_told old new m phases u atom a None turns is told = λ before differ sound.
     subst (λ (x : ℕ). SoundAt old new m (state_in phases) (sample_of m x)) is
@@ -109,7 +113,8 @@ StayFirst old new m parts places phases u i =
     (j : ℕ) (d : ClassPart) → j < i → StaysSoundAt old new m phases u (get_or parts (get_or places j 0) d).atom
 
 -- a part that is looked at by then, or not at all
-sound_there : {O N : Type 0} (old : Listing O) (new : Listing N) (m : Mixture O N) (parts : List ClassPart) (places : List ℕ) (phases : List Phase) (u i q : ℕ) (d : ClassPart) (before : State)
+sound_there : {O N : Type 0} (old : Listing O) (new : Listing N) (m : Mixture O N) (parts : List ClassPart) (places : List ℕ) (phases : List Phase) (u i q : ℕ)
+    (d : ClassPart) (before : State)
     → AreParts old new m parts (length m.classes.samples) → ArePlacesOf parts u places → StayFirst old new m parts places phases u i
     → q < length parts → ((among : Contains places q) → among.0 < i) → DifferAt (length m.net) u before (state_in phases) → Sound old new m before
     → SoundAt old new m (state_in phases) (sample_of m (get_or parts q d).atom)
@@ -127,16 +132,20 @@ sound_there old new m parts places phases u i q d before are placed stays within
     ]
 
 -- where all are looked at
-pub stays_sound_at_all : {O N : Type 0} (old : Listing O) (new : Listing N) (m : Mixture O N) (parts : List ClassPart) (places : List ℕ) (phases : List Phase) (u i : ℕ)
-    → AreParts old new m parts (length m.classes.samples) → ArePlacesOf parts u places → length places ≤ i → StayFirst old new m parts places phases u i → StaysSound old new m phases u
+pub stays_sound_at_all : {O N : Type 0} (old : Listing O) (new : Listing N) (m : Mixture O N) (parts : List ClassPart) (places : List ℕ)
+    (phases : List Phase) (u i : ℕ)
+    → AreParts old new m parts (length m.classes.samples) → ArePlacesOf parts u places → length places ≤ i → StayFirst old new m parts places phases u i →
+    StaysSound old new m phases u
 stays_sound_at_all old new m parts places phases u i are placed whole stays before differ sound =
     let none : ClassPart = record { atom = 0; moves = true; rows = [] } in
     sound_from_classes old new m (state_in phases) (length m.classes.samples) are.classes (omega arith)
     (λ k below. sound_whole old new m parts (length m.classes.samples) none (state_in phases) are
-    (λ q within. sound_there old new m parts places phases u i q none before are placed stays within (λ among. let there : among.0 < length places = among.1 in omega (arith, there, whole)) differ sound) k below)
+    (λ q within. sound_there old new m parts places phases u i q none before are placed stays within (λ among. let there : among.0 < length places = among.1 in
+    omega (arith, there, whole)) differ sound) k below)
 
 -- a place below another stands before it
-stands_before : (places : List ℕ) (u i q : ℕ) (parts : List ClassPart) → ArePlacesOf parts u places → i < length places → q < get_or places i 0 → (among : Contains places q) → among.0 < i
+stands_before : (places : List ℕ) (u i q : ℕ) (parts : List ClassPart) → ArePlacesOf parts u places → i < length places → q < get_or places i 0 →
+    (among : Contains places q) → among.0 < i
 stands_before places u i q parts placed within less among = elim (cases_lt among.0 i) [
   | inl before ↦ before
   | inr after ↦
@@ -153,7 +162,8 @@ stands_before places u i q parts placed within less among = elim (cases_lt among
 ]
 
 -- where a fault is told of the part at the next place
-pub turns_faulty_at : {O N : Type 0} (old : Listing O) (new : Listing N) (m : Mixture O N) (parts : List ClassPart) (places : List ℕ) (phases : List Phase) (u i : ℕ) (part : ClassPart) (fault : Fault) (turns : List Turn)
+pub turns_faulty_at : {O N : Type 0} (old : Listing O) (new : Listing N) (m : Mixture O N) (parts : List ClassPart) (places : List ℕ) (phases : List Phase)
+    (u i : ℕ) (part : ClassPart) (fault : Fault) (turns : List Turn)
     → AreParts old new m parts (length m.classes.samples) → ArePlacesOf parts u places → i < length places → part ≡ get_or parts (get_or places i 0) part
     → StayFirst old new m parts places phases u i → IsTold old new m phases phases part.atom (Some fault) turns → TurnsFaulty old new m phases u fault turns
 turns_faulty_at old new m parts places phases u i part fault turns are placed within at stays told before differ sound =
@@ -161,16 +171,20 @@ turns_faulty_at old new m parts places phases u i part fault turns are placed wi
     let is : IsPart old new m part = subst (λ (x : ClassPart). IsPart old new m x) (sym at) (are.each (get_or places i 0) part there) in
     faulty_at old new m phases part.atom turns fault are.classes is.class
     (λ k below. sound_before old new m parts (length m.classes.samples) (get_or places i 0) part (state_in phases) are there
-    (λ q less. sound_there old new m parts places phases u i q part before are placed stays (omega (arith, less, there)) (stands_before places u i q parts placed within less) differ sound) k
+    (λ q less. sound_there old new m parts places phases u i q part before are placed stays (omega (arith, less, there))
+    (stands_before places u i q parts placed within less) differ sound) k
     (subst (λ (a : ℕ). k < a) (ap (λ (x : ClassPart). x.atom) at) below)) told
 
 -- after a change of a sound state
-pub sound_after : {O N : Type 0} (old : Listing O) (new : Listing N) (m : Mixture O N) (phases : List Phase) (u : ℕ) (before : State) (result : Option Fault) → DifferAt (length m.net) u before (state_in phases) → Sound old new m before
+pub sound_after : {O N : Type 0} (old : Listing O) (new : Listing N) (m : Mixture O N) (phases : List Phase) (u : ℕ) (before : State) (result : Option Fault) →
+    DifferAt (length m.net) u before (state_in phases) → Sound old new m before
     → IfNone result (StaysSound old new m phases u) → IfNone result (Sound old new m (state_in phases))
 sound_after old new m phases u before None differ sound stays = stays before differ sound
 sound_after old new m phases u before (Some fault) differ sound stays = tt
 
-pub faulty_after : {O N : Type 0} (old : Listing O) (new : Listing N) (m : Mixture O N) (phases : List Phase) (u : ℕ) (before : State) (result : Option Fault) (turns : List Turn) → DifferAt (length m.net) u before (state_in phases)
-    → Sound old new m before → IfSome result (λ fault. TurnsFaulty old new m phases u fault turns) → IfSome result (λ fault. Faulty old new m (state_in phases) fault turns)
+pub faulty_after : {O N : Type 0} (old : Listing O) (new : Listing N) (m : Mixture O N) (phases : List Phase) (u : ℕ) (before : State) (result : Option Fault)
+    (turns : List Turn) → DifferAt (length m.net) u before (state_in phases)
+    → Sound old new m before → IfSome result (λ fault. TurnsFaulty old new m phases u fault turns) →
+    IfSome result (λ fault. Faulty old new m (state_in phases) fault turns)
 faulty_after old new m phases u before None turns differ sound turned = tt
 faulty_after old new m phases u before (Some fault) turns differ sound turned = turned before differ sound

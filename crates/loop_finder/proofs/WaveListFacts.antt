@@ -13,13 +13,14 @@ use Rattle.igp_theory.proofs.LoopWaves.{seamless_by_waves}
 use Rattle.igp_theory.proofs.WaveFaultLaws.{waves_fault_unsound}
 use Rattle.rib_mix.specs.Mixture.{Mixture}
 use Rattle.loop_finder.specs.Faults.{told_fault}
-use Rattle.loop_finder.specs.Steps.{Listing}
+use Rattle.loop_finder.specs.ClassSteps.{Listing}
 use Rattle.loop_finder.specs.Verdicts.{SoundWavesBefore, SoundWaves}
 use Rattle.loop_finder.specs.WaveLists.{IsNumberedWavesFault}
 use Rattle.loop_finder.specs.declared.fault.Fault.{Fault}
 
 -- before a number that isn't a wave all waves stand
-pub sound_to_last : {O N : Type 0} (old : Listing O) (new : Listing N) (m : Mixture O N) (ranks : List ℕ) (w : ℕ) → IsRanking (length m.net) ranks → (Contains ranks w → ⊥)
+pub sound_to_last : {O N : Type 0} (old : Listing O) (new : Listing N) (m : Mixture O N) (ranks : List ℕ) (w : ℕ) →
+    IsRanking (length m.net) ranks → (Contains ranks w → ⊥)
     → SoundWavesBefore old new m ranks w → SoundWaves old new m ranks
 sound_to_last old new m ranks w ranking none sound state some = elim (cases_lt some.wave w) [
   | inl before ↦ sound some.wave before state some.of_wave
@@ -27,15 +28,20 @@ sound_to_last old new m ranks w ranking none sound state some = elim (cases_lt s
 ]
 
 -- there are no more waves than routers
-pub sound_to_all : {O N : Type 0} (old : Listing O) (new : Listing N) (m : Mixture O N) (ranks : List ℕ) (w : ℕ) → IsRanking (length m.net) ranks → length m.net ≤ w
+pub sound_to_all : {O N : Type 0} (old : Listing O) (new : Listing N) (m : Mixture O N) (ranks : List ℕ) (w : ℕ) →
+    IsRanking (length m.net) ranks → length m.net ≤ w
     → SoundWavesBefore old new m ranks w → SoundWaves old new m ranks
 sound_to_all old new m ranks w ranking whole sound state some =
-    sound some.wave (omega (arith, rank_below_count ranks some.wave some.is_wave, count_le_length (length m.net) ranks ranking, ranking.each, whole)) state some.of_wave
+    sound some.wave (omega (arith, rank_below_count ranks some.wave some.is_wave, count_le_length (length m.net) ranks ranking, ranking.each, whole)) state
+    some.of_wave
 
 -- no fault is told exactly of a seamless wave list
 pub none_seamless : (net : Network) (old new : Tables) (ranks : List ℕ) (result : Option (ℕ × Fault)) (turns : List Turn) → IsRanking (length net) ranks
     → IfNone result ((state : State) → IsStateOfSomeWave (length net) ranks state → IsSound net old new state)
     → IfSome result (λ found. IsNumberedWavesFault net old new ranks found.0 (told_fault found.1 turns)) → IsNone result ↔ AreSeamlessWaves net old new ranks
 none_seamless net old new ranks None turns ranking sound fault = (λ none. seamless_by_waves net old new ranks ranking sound, λ seamless. refl)
-none_seamless net old new ranks (Some found) turns ranking sound fault =
-    (λ none. absurd (false≢true (sym none)), λ seamless. absurd (waves_fault_unsound net old new ranks fault.wave (told_fault found.1 turns) fault.is_fault seamless))
+none_seamless net old new ranks (Some found) turns ranking sound fault = (
+  λ none. absurd (false≢true (sym none)),
+  λ seamless.
+      absurd (waves_fault_unsound net old new ranks fault.wave (told_fault found.1 turns) fault.is_fault seamless),
+)

@@ -1,11 +1,12 @@
 -- A wave is gone through router by router.
-use Rattle.std.proofs.Common.{◌≡◌, ℕ, zero, suc, ◌+◌, ◌-◌, ◌<◌, ◌≤◌, ◌⊎◌, Bool, true, cond, leb, List, ◌∷◌, length, Contains, inl, inr, arith, sym, ap, ◌∙◌, subst}
+use Rattle.std.proofs.Common.{◌≡◌, ℕ, zero, suc, ◌+◌, ◌-◌, ◌<◌, ◌≤◌, ◌⊎◌, Bool, true, cond, leb, List, ◌∷◌, length, Contains, inl, inr, arith, sym, ap, ◌∙◌}
+use Rattle.std.proofs.Common.{subst}
 use Rattle.std.specs.Bool.{OnTrue}
 use Rattle.std.proofs.lemmas.Bool.{cases_lt, cases_order}
 use Rattle.std.proofs.lemmas.Bool.Decides.{leb_tells}
 use Rattle.std.proofs.lemmas.List.{get_or_past}
 use Rattle.order_core.specs.Rankings.{rank_of}
-use Rattle.igp_theory.specs.States.{State}
+use Rattle.igp_theory.specs.States.{State, all_old}
 use Rattle.igp_theory.specs.Waves.{IsStateOfWave}
 use Rattle.igp_theory.specs.declared.phase.Phase.{Phase}
 use Rattle.igp_theory.specs.declared.phase.Phase.TheVariants.{Old, New}
@@ -14,13 +15,12 @@ use Rattle.igp_theory.proofs.SameTables.{follows_over}
 use Rattle.rib_mix.specs.Mixture.{Mixture}
 use Rattle.loop_finder.specs.Calm.{WaveStep}
 use Rattle.loop_finder.specs.Faults.{state_in}
-use Rattle.loop_finder.specs.Orders.{all_old}
 use Rattle.loop_finder.specs.Parts.{ClassPart, part_hops, PartStep, IsPart}
 use Rattle.loop_finder.specs.Returns.{NeverReturnsTo}
-use Rattle.loop_finder.specs.Steps.{Listing, sample_of}
+use Rattle.loop_finder.specs.ClassSteps.{Listing, sample_of}
 use Rattle.loop_finder.specs.Verdicts.{SoundAt, Sound, SoundWavesBefore, IsBetween}
 use Rattle.loop_finder.specs.WaveLists.{AreSwitchedBefore}
-use Rattle.loop_finder.specs.WaveStarts.{BeginsSound}
+use Rattle.loop_finder.specs.steps.WaveStarts.{BeginsSound}
 use Rattle.loop_finder.proofs.OrderStates.{same_state}
 use Rattle.loop_finder.proofs.PartLaws.{part_stays_sound, part_inside}
 use Rattle.loop_finder.proofs.ToldOfWaves.{AreEnds, wave_between}
@@ -49,7 +49,8 @@ mixed_more one other r v apart = elim (cases_lt v r) [
 ]
 
 -- a state between the first and the last one of a wave is one of the wave
-pub state_between : {n : ℕ} {ranks : List ℕ} {w : ℕ} {first last : List Phase} (state : State) → AreEnds n ranks w first last → IsBetween n first last state → IsStateOfWave n ranks w state
+pub state_between : {n : ℕ} {ranks : List ℕ} {w : ℕ} {first last : List Phase} (state : State) → AreEnds n ranks w first last → IsBetween n first last state →
+    IsStateOfWave n ranks w state
 state_between {ranks = ranks} {w = w} {first = first} {last = last} state ends between = record {
   earlier = λ u within before.
       let switched : state_in first u ≡ New = ends.begins.switched u (omega (arith, within, ends.each)) before in
@@ -61,7 +62,8 @@ state_between {ranks = ranks} {w = w} {first = first} {last = last} state ends b
 }
 
 -- the steps of a part in the first and the last state of a wave are those of the wave
-in_wave : (part : ClassPart) (ranks : List ℕ) (w : ℕ) (first last : List Phase) → length part.rows ≡ length ranks → AreSwitchedBefore ranks w first → AreSwitchedBefore ranks (w + 1) last
+in_wave : (part : ClassPart) (ranks : List ℕ) (w : ℕ) (first last : List Phase) → length part.rows ≡ length ranks → AreSwitchedBefore ranks w first →
+    AreSwitchedBefore ranks (w + 1) last
     → (u h : ℕ) → PartStep part first last u h → WaveStep part ranks w u h
 in_wave part ranks w first last rows begins ends u h step =
     let within : u < length ranks = omega (arith, part_inside part first last u h step, rows) in
@@ -72,7 +74,11 @@ in_wave part ranks w first last rows begins ends u h step =
       ]
       | inr (inl before) ↦ elim step [
         | inl one ↦ inr (omega (arith, before), subst (λ (p : Phase). Contains (part_hops part u p) h) (begins.switched u within before) one)
-        | inr other ↦ inr (omega (arith, before), subst (λ (p : Phase). Contains (part_hops part u p) h) (ends.switched u within (omega (arith, before))) other)
+        | inr other ↦ inr (
+          omega (arith, before),
+          subst (λ (p : Phase). Contains (part_hops part u p) h) (ends.switched u within (omega (arith, before)))
+              other,
+        )
       ]
       | inr (inr after) ↦ elim step [
         | inl one ↦ inl (omega (arith, after), subst (λ (p : Phase). Contains (part_hops part u p) h) (begins.others u within (omega (arith, after))) one)
@@ -82,7 +88,8 @@ in_wave part ranks w first last rows begins ends u h step =
 
 -- where no walk over the steps of a part in a wave returns to a router of the wave, and the first state of the wave is
 -- sound for its class, each state of the wave is: the routers change one after another
-pub part_wave_sound : {O N : Type 0} (old : Listing O) (new : Listing N) (m : Mixture O N) (part : ClassPart) (ranks : List ℕ) (w : ℕ) (first last : List Phase) (state : State)
+pub part_wave_sound : {O N : Type 0} (old : Listing O) (new : Listing N) (m : Mixture O N) (part : ClassPart) (ranks : List ℕ) (w : ℕ)
+    (first last : List Phase) (state : State)
     → IsPart old new m part → AreEnds (length m.net) ranks w first last → part.moves ≡ true
     → ((u : ℕ) → u < length ranks → rank_of ranks u ≡ w → NeverReturnsTo (WaveStep part ranks w) u)
     → SoundAt old new m (state_in first) (sample_of m part.atom) → IsStateOfWave (length m.net) ranks w state → SoundAt old new m state (sample_of m part.atom)
@@ -115,7 +122,8 @@ part_wave_sound old new m part ranks w first last state is ends moves never begu
         | inl past ↦ mixed_other state (state_in first) r v above ∙ sym (mixed_other state (state_in first) (suc r) v (omega (arith, past)))
         | inr equal ↦
             let is_r : r ≡ v = omega (arith, above, equal) in
-            mixed_other state (state_in first) r v above ∙ sym (subst (λ (x : ℕ). state x ≡ state_in first x) is_r same) ∙ sym (mixed_one state (state_in first) (suc r) v (omega (arith, equal)))
+            mixed_other state (state_in first) r v above ∙ sym (subst (λ (x : ℕ). state x ≡ state_in first x) is_r same)
+            ∙ sym (mixed_one state (state_in first) (suc r) v (omega (arith, equal)))
       ]
     ]
 
@@ -123,9 +131,12 @@ part_wave_sound old new m part ranks w first last state is ends moves never begu
     sound_to zero most = sound_at_alike (λ u within. sym (mixed_other state (state_in first) zero u (omega arith))) begun
     sound_to (suc r) most = elim (cases_order (rank_of ranks r) w) [
       | inl same ↦ part_stays_sound old new m part first last r (mixed state (state_in first) r) (mixed state (state_in first) (suc r)) is moves
-          (never_between r (omega (arith, most, ends.each)) same) (λ v within apart. mixed_more state (state_in first) r v apart) (between (suc r)) (sound_to r (omega (arith, most)))
-      | inr (inl before) ↦ sound_at_alike (λ u within. unchanged r (as_first r (omega (arith, most)) (λ same. omega (arith, same, before))) u) (sound_to r (omega (arith, most)))
-      | inr (inr after) ↦ sound_at_alike (λ u within. unchanged r (as_first r (omega (arith, most)) (λ same. omega (arith, same, after))) u) (sound_to r (omega (arith, most)))
+          (never_between r (omega (arith, most, ends.each)) same) (λ v within apart. mixed_more state (state_in first) r v apart) (between (suc r))
+          (sound_to r (omega (arith, most)))
+      | inr (inl before) ↦ sound_at_alike (λ u within. unchanged r (as_first r (omega (arith, most)) (λ same. omega (arith, same, before))) u)
+          (sound_to r (omega (arith, most)))
+      | inr (inr after) ↦ sound_at_alike (λ u within. unchanged r (as_first r (omega (arith, most)) (λ same. omega (arith, same, after))) u)
+          (sound_to r (omega (arith, most)))
     ]
 
 -- the first state of a wave is the last one of the wave before, and that of the first wave is the one in which every
@@ -138,7 +149,8 @@ begins_sound old new m ranks w begun each first before known phases many switche
     later = λ u within more. switched.others u (omega (arith, within, each)) (omega (arith, more));
   })
   | inr none ↦ elim known [
-    | inl known_now ↦ subst (λ (s : State). Sound old new m s) (same_state all_old (state_in phases) (λ u. sym (is_old none u))) (subst (λ (b : Bool). OnTrue b (Sound old new m all_old)) known_now first)
+    | inl known_now ↦ subst (λ (s : State). Sound old new m s) (same_state all_old (state_in phases) (λ u. sym (is_old none u)))
+        (subst (λ (b : Bool). OnTrue b (Sound old new m all_old)) known_now first)
     | inr later ↦ absurd (omega (arith, none, later))
   ]
 ]

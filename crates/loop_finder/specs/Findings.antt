@@ -3,10 +3,11 @@ use Rattle.std.specs.Prelude.{◌≡◌, ℕ, Bool, List, length}
 use Rattle.std.specs.Bool.{OnTrue}
 use Rattle.rib_mix.specs.Mixture.{Mixture}
 use Rattle.loop_finder.specs.Calm.{AreCalm}
-use Rattle.loop_finder.specs.Orders.{AreFirstStates, all_old}
+use Rattle.loop_finder.specs.Orders.{AreFirstStates}
+use Rattle.igp_theory.specs.States.{all_old}
 use Rattle.loop_finder.specs.Parts.{ClassPart, AreParts}
 use Rattle.loop_finder.specs.Rooms.{HasRoom}
-use Rattle.loop_finder.specs.Steps.{Listing}
+use Rattle.loop_finder.specs.ClassSteps.{Listing}
 use Rattle.loop_finder.specs.Verdicts.{Sound}
 use Rattle.loop_finder.specs.Watches.{IsWatch}
 use Rattle.loop_finder.specs.declared.room.Room.{Room}

@@ -5,10 +5,6 @@ use Rattle.igp_theory.specs.declared.phase.Phase.{Phase}
 use Rattle.igp_theory.specs.declared.phase.Phase.TheVariants.{Old, Middle, New}
 use Rattle.loop_finder.specs.Faults.{state_in}
 
--- the state in which every router is Old
-abbrev pub all_old : State
-all_old u = Old
-
 -- the phase after the next change
 abbrev pub next_phase : Phase → Phase
 next_phase Old = Middle

@@ -8,7 +8,7 @@ use Rattle.igp_theory.specs.declared.phase.Phase.{Phase}
 use Rattle.igp_theory.specs.declared.phase.Phase.TheVariants.{Old, Middle, New}
 use Rattle.rib_mix.specs.Mixture.{Mixture}
 use Rattle.loop_finder.specs.Faults.{state_in}
-use Rattle.loop_finder.specs.Steps.{Listing, ClassState, sample_of}
+use Rattle.loop_finder.specs.ClassSteps.{Listing, ClassState, sample_of}
 use Rattle.loop_finder.specs.Verdicts.{ClassesOf, SoundAt}
 
 -- Parts
@@ -70,7 +70,8 @@ pub record IsPart {O N : Type 0} (old : Listing O) (new : Listing N) (m : Mixtur
   pub many : length part.rows ≡ length m.net
   pub moves : OnTrue part.moves (AllMove old new m part.atom)
   pub steps : (u h : ℕ) (phase : Phase) → Contains (part_hops part u phase) h → StepsOf old new m part.atom u phase h
-  pub returns : (u h : ℕ) (hops : List ℕ) (phase : Phase) → StepsOf old new m part.atom u phase h → Follows (StepsEver old new m part.atom) h hops u → Contains (part_hops part u phase) h
+  pub returns : (u h : ℕ) (hops : List ℕ) (phase : Phase) → StepsOf old new m part.atom u phase h → Follows (StepsEver old new m part.atom) h hops u →
+      Contains (part_hops part u phase) h
 
 -- the steps of a part in one of two states
 abbrev pub PartStep : ClassPart → List Phase → List Phase → ℕ → ℕ → Type 0
@@ -124,11 +125,6 @@ pub record AreParts {O N : Type 0} (old : Listing O) (new : Listing N) (m : Mixt
   pub ascending : AllPairs (λ (part other : ClassPart). part.atom < other.atom) parts
   pub below : All (λ (part : ClassPart). part.atom < n) parts
   pub covered : (k : ℕ) → k < n → IsCovered old new m parts k
-
--- the states of two ends: every router is Old in the first and New in the last
-pub record TakesBothEnds {O N : Type 0} (c : ClassState O N) : Type 0 where
-  pub begins : (u : ℕ) → state_in c.first u ≡ Old
-  pub ends : (u : ℕ) → u < length c.mixture.net → state_in c.last u ≡ New
 
 -- Changes
 

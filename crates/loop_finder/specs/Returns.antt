@@ -2,7 +2,7 @@
 use Rattle.std.specs.Prelude.{◌≡◌, ℕ, ◌<◌, Bool, List, ◌∷◌, ◌++◌, length, slice_index_or, All, Contains}
 use Rattle.igp_theory.specs.States.{Follows}
 use Rattle.order_core.specs.Marks.{IsMarked}
-use Rattle.loop_finder.specs.Live.{marked_count}
+use Rattle.loop_finder.specs.steps.Live.{marked_count}
 
 -- no non-empty list of steps from router u returns to it
 abbrev pub NeverReturnsTo : (ℕ → ℕ → Type 0) → ℕ → Type 0

@@ -13,8 +13,8 @@ use Rattle.order_core.specs.Turns.{routers_of}
 use Rattle.order_core.specs.declared.turn.Turn.{Turn}
 use Rattle.rib_mix.specs.Mixture.{Mixture}
 use Rattle.loop_finder.specs.Faults.{state_in, told_fault}
-use Rattle.loop_finder.specs.Steps.{Listing, ClassState, sample_of, ClassStep, IsTagged, Moves, FirstStuck}
-use Rattle.loop_finder.specs.Walks.{ReturnsNever}
+use Rattle.loop_finder.specs.ClassSteps.{Listing, ClassState, sample_of, ClassStep, IsTagged, Moves, FirstStuck}
+use Rattle.loop_finder.specs.steps.Walks.{ReturnsNever}
 use Rattle.loop_finder.specs.WaveLists.{IsNumberedWavesFault}
 use Rattle.loop_finder.specs.declared.fault.Fault.{Fault}
 use Rattle.loop_finder.specs.declared.fault.Fault.TheVariants.{Loop, Missing}
@@ -33,7 +33,8 @@ Verdict old new c (Some (Loop a)) turns = IsClassLoop old new c a turns
 Verdict old new c (Some (Missing a u)) turns = (a ≡ sample_of c.mixture c.atom) × FirstStuck old new c (Some u)
 
 -- what is told of the class with this number, whichever routers have to pass packets on
-pub record IsTold {O N : Type 0} (old : Listing O) (new : Listing N) (m : Mixture O N) (first last : List Phase) (atom : ℕ) (result : Option Fault) (turns : List Turn) : Type 0 where
+pub record IsTold {O N : Type 0} (old : Listing O) (new : Listing N) (m : Mixture O N) (first last : List Phase) (atom : ℕ) (result : Option Fault)
+    (turns : List Turn) : Type 0 where
   pub forwards : List Bool
   pub verdict : Verdict old new (record { mixture = m; first = first; last = last; forwards = forwards; atom = atom }) result turns
 
@@ -56,12 +57,17 @@ Sound old new m state = IsSound m.net (HasEntry (old m.old)) (HasEntry (new m.ne
 abbrev pub IsBetween : ℕ → List Phase → List Phase → State → Type 0
 IsBetween n first last state = (u : ℕ) → u < n → (state u ≡ state_in first u) ⊎ ((state_in first u ≡ Old) × (state_in last u ≡ New))
 
+-- the states between two are sound for a class
+abbrev pub IsClearAt : {O N : Type 0} → Listing O → Listing N → Mixture O N → List Phase → List Phase → ℕ → Type 0
+IsClearAt old new m first last atom = (state : State) → IsBetween (length m.net) first last state → SoundAt old new m state (sample_of m atom)
+
 -- the states between two are sound for the first n classes
 abbrev pub AreClear : {O N : Type 0} → Listing O → Listing N → Mixture O N → List Phase → List Phase → ℕ → Type 0
 AreClear old new m first last n = (k : ℕ) → k < n → (state : State) → IsBetween (length m.net) first last state → SoundAt old new m state (sample_of m k)
 
 -- the fault of the first class that has one
-pub record IsFirstTold {O N : Type 0} (old : Listing O) (new : Listing N) (m : Mixture O N) (first last : List Phase) (fault : Fault) (turns : List Turn) : Type 0 where
+pub record IsFirstTold {O N : Type 0} (old : Listing O) (new : Listing N) (m : Mixture O N) (first last : List Phase) (fault : Fault)
+    (turns : List Turn) : Type 0 where
   pub atom : ℕ
   pub within : atom < length m.classes.samples
   pub before : AreClear old new m first last atom

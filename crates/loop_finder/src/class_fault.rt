@@ -2,12 +2,11 @@ ghost use Rattle.std.specs.Prelude.{◌≡◌, ◌<◌, ◌≤◌, ◌^◌, ◌�
 ghost use Rattle.std.specs.Bool.{OnFalse, OnTrue};
 ghost use Rattle.std.specs.Vec.{vec_capacity};
 ghost use Rattle.net_model.specs.Network.{Connected};
-ghost use Rattle.net_model.specs.Refusals.{IsNetwork};
 ghost use Rattle.prefix_atoms.specs.Classes.{HasTarget};
 ghost use Rattle.order_core.specs.Marks.{IsMarked};
 ghost use Rattle.loop_finder.specs.Faults.{KeepsRing};
 ghost use Rattle.loop_finder.specs.Rooms.{HasRoom};
-ghost use Rattle.loop_finder.specs.Steps.{AreForwarders, sample_of};
+ghost use Rattle.loop_finder.specs.ClassSteps.{AreForwarders, sample_of};
 ghost use Rattle.loop_finder.specs.Verdicts.{IsTold, Verdict};
 
 use crate::class_steps::ClassSteps;
@@ -16,7 +15,6 @@ use crate::ring::find_ring;
 use crate::room::Room;
 use crate::tags::write_ring;
 use net_addr::Prefix;
-use net_model::Net;
 use order_core::Turn;
 use rib_mix::{Mixed, Phase};
 use route_core::RouteSource;
@@ -64,7 +62,8 @@ pub fn mark_class<O: RouteSource, N: RouteSource>(
 {
     match mixed.atoms().target(atom) {
         Some(target) => {
-            mark_forwarders(mixed.net(), target, forwards);
+            let routers = mixed.net().routers();
+            mark_forwarders(mixed, routers, target, forwards);
             true
         }
         None => false,
@@ -72,13 +71,18 @@ pub fn mark_class<O: RouteSource, N: RouteSource>(
 }
 
 /// Marks the routers at which a prefix isn't connected.
-fn mark_forwarders(net: &Net, target: Prefix, forwards: &mut [bool])
-    requires { length forwards.old ≡ length net.now }
-    ensures marks { (u : ℕ) → IsMarked forwards.new u ↔ ((u < length net.now) × ¬ Connected net.now u target) }
-    ensures network { IsNetwork net.now }
+fn mark_forwarders<O: RouteSource, N: RouteSource>(
+    mixed: &Mixed<'_, O, N>,
+    routers: u32,
+    target: Prefix,
+    forwards: &mut [bool],
+)
+    requires routers { routers ≡ length mixed.now.net }
+    requires many { length forwards.old ≡ routers }
+    ensures { (u : ℕ) → IsMarked forwards.new u ↔ ((u < routers) × ¬ Connected mixed.now.net u target) }
 {
-    for router in 0..net.routers() {
-        forwards[router as usize] = !net.originates(router, target);
+    for router in 0..routers {
+        forwards[router as usize] = !mixed.originates(router, target);
     }
 }
 

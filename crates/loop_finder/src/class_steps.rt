@@ -1,12 +1,12 @@
 ghost use Rattle.std.specs.Prelude.{◌≡◌, ◌<◌, ◌↔◌, ◌^◌, ℕ, Contains, IsTrue, length};
 ghost use Rattle.std.specs.Bool.{OnFalse, OnTrue};
 ghost use Rattle.igp_theory.specs.Forwarding.{MustForward};
-ghost use Rattle.rib_mix.specs.Answers.{NextLeadsTo};
 ghost use Rattle.loop_finder.specs.Faults.{state_in};
-ghost use Rattle.loop_finder.specs.Steps.{AreForwarders, FirstStuck, IsStuck, IsStuckIn, Moves, MovesIn, StepsBy, sample_of};
+ghost use Rattle.loop_finder.specs.ClassSteps.{AreForwarders, FirstStuck, IsStuck, IsStuckIn, Moves, MovesIn, StepsBy, sample_of};
 
+use crate::class_hops::class_hops;
 use crate::graph::StepGraph;
-use rib_mix::{Mixed, Next, Phase};
+use rib_mix::{Mixed, Phase};
 use route_core::RouteSource;
 use std::marker::Model;
 
@@ -21,13 +21,20 @@ pub struct ClassSteps<'s, 'm, O: RouteSource, N: RouteSource> {
 }
 
 impl<'s, 'm, O: RouteSource, N: RouteSource> Model for ClassSteps<'s, 'm, O, N> {
-    ghost use Rattle.loop_finder.specs.Steps.{ClassState, IsClassState};
+    ghost use Rattle.loop_finder.specs.ClassSteps.{ClassState, IsClassState};
 
     ghost Value = { ClassState O N };
 
     ghost view = { λ x. record { mixture = x.mixed.now; first = x.first.now; last = x.last.now; forwards = x.forwards.now; atom = x.atom } };
 
-    ghost invariant = { λ x. IsClassState {O = O} {N = N} (record { mixture = x.mixed.now; first = x.first.now; last = x.last.now; forwards = x.forwards.now; atom = x.atom }) };
+    ghost invariant = { λ x. IsClassState {O = O} {N = N} (record {
+      mixture = x.mixed.now;
+      first = x.first.now;
+      last = x.last.now;
+      forwards =
+          x.forwards.now;
+      atom = x.atom;
+    }) };
 }
 
 impl<'s, 'm, O: RouteSource, N: RouteSource> ClassSteps<'s, 'm, O, N> {
@@ -68,10 +75,7 @@ impl<'s, 'm, O: RouteSource, N: RouteSource> ClassSteps<'s, 'm, O, N> {
         requires { router < length self.now.mixture.net }
         ensures { (h : ℕ) → Contains result.now h ↔ StepsBy O.table N.table self.now router phase h }
     {
-        if !self.must_forward(router) {
-            return &[];
-        }
-        hops_of(self.mixed.hops(router, self.atom, phase))
+        class_hops(self.mixed, self.atom, phase, self.forwards, router)
     }
 
     /// Whether a router steps to another in a phase.
@@ -143,7 +147,7 @@ impl<'s, 'm, O: RouteSource, N: RouteSource> ClassSteps<'s, 'm, O, N> {
 
 impl<'s, 'm, O: RouteSource, N: RouteSource> StepGraph for ClassSteps<'s, 'm, O, N> {
     ghost use Rattle.std.specs.Prelude.{length};
-    ghost use Rattle.loop_finder.specs.Steps.{ClassStep};
+    ghost use Rattle.loop_finder.specs.ClassSteps.{ClassStep};
 
     ghost size = { λ s. length s.mixture.net };
 
@@ -157,16 +161,6 @@ impl<'s, 'm, O: RouteSource, N: RouteSource> StepGraph for ClassSteps<'s, 'm, O,
         let first = self.hops_in(router, self.first_phase(router));
         let last = self.hops_in(router, self.last_phase(router));
         (first, last)
-    }
-}
-
-/// The hops of an answer.
-fn hops_of(next: Next<'_>) -> &[u32]
-    ensures { (h : ℕ) → Contains result.now h ↔ NextLeadsTo next.entry h }
-{
-    match next {
-        Next::Via(hops) => hops.as_slice(),
-        Next::Discard | Next::Connected | Next::Absent => &[],
     }
 }
 

@@ -59,7 +59,18 @@ impl<'a, O: RouteSource, N: RouteSource> Model for Finder<'a, O, N> {
 
     ghost view = { λ x. record { mixture = x.mixed.now; ring = x.room.ring.items } };
 
-    ghost invariant = { λ x. IsFinding O.table N.table x.mixed.now (record { parts = x.parts.items; watch = x.watch.items; ranks = x.ranks.items; calm = x.calm.items; order = x.order.items; sound = x.sound; begun = x.begun; phases = vec_len x.phases; later = vec_len x.later }) x.room };
+    ghost invariant = { λ x. IsFinding O.table N.table x.mixed.now (record {
+      parts = x.parts.items;
+      watch = x.watch.items;
+      ranks = x.ranks.items;
+      calm =
+          x.calm.items;
+      order = x.order.items;
+      sound = x.sound;
+      begun = x.begun;
+      phases = vec_len x.phases;
+      later = vec_len x.later;
+    }) x.room };
 }
 
 impl<'a, O: RouteSource, N: RouteSource> Finder<'a, O, N> {
@@ -100,7 +111,8 @@ impl<'a, O: RouteSource, N: RouteSource> Finder<'a, O, N> {
         ensures sound { IsNone result
             ↔ IsSound self.old.mixture.net (HasEntry (O.table self.old.mixture.old)) (HasEntry (N.table self.old.mixture.new)) (state_in phases.now) }
         ensures fault { IfSome result (λ fault.
-            IsFault self.old.mixture.net (HasEntry (O.table self.old.mixture.old)) (HasEntry (N.table self.old.mixture.new)) (state_in phases.now) (told_fault fault self.new.ring)) }
+            IsFault self.old.mixture.net (HasEntry (O.table self.old.mixture.old)) (HasEntry (N.table self.old.mixture.new)) (state_in phases.now)
+            (told_fault fault self.new.ring)) }
         ensures ring { KeepsRing result self.old.ring self.new.ring }
         ensures mixture { self.new.mixture ≡ self.old.mixture }
     {
@@ -115,7 +127,8 @@ impl<'a, O: RouteSource, N: RouteSource> Finder<'a, O, N> {
             ↔ IsSeamless self.old.mixture.net (HasEntry (O.table self.old.mixture.old)) (HasEntry (N.table self.old.mixture.new)) order.now }
         ensures within { IfSome result (λ found. found.0 ≤ 2 * length order.now) }
         ensures fault { IfSome result (λ found.
-            IsFirstFault self.old.mixture.net (HasEntry (O.table self.old.mixture.old)) (HasEntry (N.table self.old.mixture.new)) order.now found.0 (told_fault found.1 self.new.ring)) }
+            IsFirstFault self.old.mixture.net (HasEntry (O.table self.old.mixture.old)) (HasEntry (N.table self.old.mixture.new)) order.now found.0
+            (told_fault found.1 self.new.ring)) }
         ensures ring { KeepsRing (told result) self.old.ring self.new.ring }
         ensures mixture { self.new.mixture ≡ self.old.mixture }
     {
@@ -142,7 +155,8 @@ impl<'a, O: RouteSource, N: RouteSource> Finder<'a, O, N> {
         ensures seamless { IsNone result
             ↔ AreSeamlessWaves self.old.mixture.net (HasEntry (O.table self.old.mixture.old)) (HasEntry (N.table self.old.mixture.new)) ranks.now }
         ensures fault { IfSome result (λ found.
-            IsNumberedWavesFault self.old.mixture.net (HasEntry (O.table self.old.mixture.old)) (HasEntry (N.table self.old.mixture.new)) ranks.now found.0 (told_fault found.1 self.new.ring)) }
+            IsNumberedWavesFault self.old.mixture.net (HasEntry (O.table self.old.mixture.old)) (HasEntry (N.table self.old.mixture.new)) ranks.now found.0
+            (told_fault found.1 self.new.ring)) }
         ensures ring { KeepsRing (told result) self.old.ring self.new.ring }
         ensures mixture { self.new.mixture ≡ self.old.mixture }
     {

@@ -4,10 +4,12 @@ ghost use Rattle.std.specs.Vec.{vec_capacity};
 ghost use Rattle.loop_finder.specs.Parts.{PartStep};
 ghost use Rattle.loop_finder.specs.Returns.{NeverReturnsTo};
 ghost use Rattle.loop_finder.specs.Rooms.{HasRoom};
+ghost use Rattle.loop_finder.specs.steps.Walks.{ReturnsNever};
 
 use crate::graph::StepGraph;
 use crate::part::Part;
 use crate::returns::may_return;
+use crate::ring::find_ring;
 use crate::room::Room;
 use rib_mix::Phase;
 use std::marker::Model;
@@ -93,4 +95,22 @@ pub fn passes_part_never(
     }
     let steps = PartSteps::new(part, first, last, routers);
     !may_return(&steps, router, &mut room.live, &mut room.path)
+}
+
+/// Whether all routers move, and no walk over the steps of a part in two states returns.
+pub fn is_clear(part: &Part, first: &[Phase], last: &[Phase], routers: u32, room: &mut Room) -> bool
+    requires rows { length part.now.rows ≡ routers }
+    requires first { length first.now ≡ routers }
+    requires last { length last.now ≡ routers }
+    requires room { HasRoom routers room.old }
+    ensures moves { OnTrue result (part.now.moves ≡ true) }
+    ensures never { OnTrue result (ReturnsNever (PartStep part.now first.now last.now)) }
+    ensures room { HasRoom routers room.new }
+    ensures ring { room.new.ring.items ≡ room.old.ring.items }
+{
+    if !part.moves() {
+        return false;
+    }
+    let steps = PartSteps::new(part, first, last, routers);
+    !find_ring(&steps, &mut room.live, &mut room.path)
 }

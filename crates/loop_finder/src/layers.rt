@@ -77,7 +77,8 @@ impl Layers {
 /// Marks the routers that a step leads from and that stays in the layer; false where some step leads higher.
 pub fn mark_level<G: StepGraph>(graph: &G, layers: &[u32], marks: &mut [bool]) -> bool
     requires { length marks.old ≡ G.size graph.now }
-    ensures { OnTrue result (MarksReturns (G.step graph.now) marks.new) }
+    ensures returns { OnTrue result (MarksReturns (G.step graph.now) marks.new) }
+    ensures inside { (u h : ℕ) → G.step graph.now u h → u < G.size graph.now }
 {
     for router in 0..graph.size() {
         let layer = u64::from(layer_in(layers, router));

@@ -4,12 +4,16 @@
 mod calm;
 mod change;
 mod class_fault;
+mod class_hops;
 mod class_steps;
 mod classes_fault;
+mod end_lists;
+mod end_steps;
 mod fault;
 mod finder;
 mod follow;
 mod graph;
+mod hop_lists;
 mod known;
 mod layers;
 mod live;

@@ -2,7 +2,8 @@ ghost use Rattle.std.specs.Prelude.{◌≡◌, ◌+◌, ◌*◌, ◌≤◌, ◌<
 ghost use Rattle.std.specs.Bool.{OnTrue};
 ghost use Rattle.order_core.specs.Orders.{IsOrder};
 ghost use Rattle.loop_finder.specs.Faults.{KeepsRing, told, state_in};
-ghost use Rattle.loop_finder.specs.Orders.{AreFirstStates, IsAdvanced, IsStateOf, all_old, next_phase};
+ghost use Rattle.loop_finder.specs.Orders.{AreFirstStates, IsAdvanced, IsStateOf, next_phase};
+ghost use Rattle.igp_theory.specs.States.{all_old};
 ghost use Rattle.loop_finder.specs.Parts.{AreParts};
 ghost use Rattle.loop_finder.specs.Rooms.{HasRoom};
 ghost use Rattle.loop_finder.specs.Verdicts.{Faulty, FirstFaulty, Sound};

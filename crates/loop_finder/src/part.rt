@@ -1,21 +1,27 @@
-ghost use Rattle.std.specs.Prelude.{◌≡◌, ◌<◌, ℕ, Contains, IfOk, OnOk, length, slice_index_or};
+ghost use Rattle.std.specs.Prelude.{◌≡◌, ◌<◌, ◌^◌, ℕ, Contains, IfNone, IfOk, OnOk, length, slice_index_or};
 ghost use Rattle.std.specs.Bool.{OnTrue};
 ghost use Rattle.igp_theory.specs.declared.phase.Phase.{Phase};
 ghost use Rattle.order_core.specs.Marks.{IsMarked};
-ghost use Rattle.loop_finder.specs.PartRows.{AreKept, AreRowsOf, IsRowOf, KeepsOne};
-ghost use Rattle.loop_finder.specs.Parts.{AllMove, HasPart, HaveSameHops, TakesBothEnds, hops_of, no_hops, part_hops};
+ghost use Rattle.loop_finder.specs.steps.Ends.{AreClearEnds, AreEnds};
+ghost use Rattle.loop_finder.specs.steps.PartRows.{AreKept, AreRowsOf, IsRowOf, KeepsOne};
+ghost use Rattle.loop_finder.specs.Parts.{HasPart, HaveSameHops, hops_of, no_hops, part_hops};
 ghost use Rattle.loop_finder.specs.Returns.{MarksReturns};
-ghost use Rattle.loop_finder.specs.Steps.{ClassStep};
+ghost use Rattle.loop_finder.specs.ClassSteps.{AreForwarders, sample_of};
 ghost use Rattle.loop_finder.specs.Watches.{IsIdle};
 
-use crate::class_steps::ClassSteps;
+use crate::class_hops::class_hops;
+use crate::end_steps::EndSteps;
 use crate::graph::StepGraph;
+use crate::hop_lists::are_same;
 use crate::layers::{Layers, mark_level};
 use crate::live::{is_marked, mark_all};
-use rib_mix::{OutOfMemory, Phase};
+use rib_mix::{Mixed, OutOfMemory, Phase};
 use route_core::RouteSource;
 use std::alloc::Global;
 use std::marker::Model;
+
+/// What digests are multiplied by: an odd number whose bits look like chance (2 to the power of 64 by the golden ratio).
+const DIGEST_FACTOR: u64 = 0x9e37_79b9_7f4a_7c15;
 
 /// The hops of a router by which a walk may return to it, in each phase.
 #[derive(Drop)]
@@ -79,6 +85,8 @@ impl Row {
 pub struct Part {
     atom: u32,
     moves: bool,
+    /// A number that parts with the same hops share, so that most others are told apart at once.
+    digest: u64,
     rows: Vec<Row>,
 }
 
@@ -94,24 +102,32 @@ impl Part {
     /// The part of a class; none where no state is unsound for it.
     pub fn build<O: RouteSource, N: RouteSource>(
         alloc: Global,
-        steps: &ClassSteps<'_, '_, O, N>,
+        mixed: &Mixed<'_, O, N>,
+        atom: u32,
+        forwards: &[bool],
+        ends: &EndSteps<'_, '_>,
         layers: &mut Layers,
         marks: &mut [bool],
     ) -> Result<Option<Part>, OutOfMemory>
-        requires atom { steps.now.atom < length steps.now.mixture.classes.samples }
-        requires ends { TakesBothEnds steps.now }
-        requires marks { length marks.old ≡ length steps.now.mixture.net }
-        ensures { IfOk result (HasPart O.table N.table steps.now.mixture steps.now.atom) }
+        requires atom { atom < length mixed.now.classes.samples }
+        requires address { sample_of mixed.now atom < 2 ^ 32 }
+        requires many { length forwards.now ≡ length mixed.now.net }
+        requires forwards { AreForwarders mixed.now.net (sample_of mixed.now atom) forwards.now }
+        requires ends { AreEnds O.table N.table mixed.now atom ends.now }
+        requires marks { length marks.old ≡ length mixed.now.net }
+        ensures part { IfOk result (HasPart O.table N.table mixed.now atom) }
+        ensures clear { IfOk result (λ part. IfNone part (AreClearEnds ends.now forwards.now)) }
     {
-        mark_returns(steps, layers, marks)?;
-        let moves = all_move(steps);
+        mark_returns(ends, layers, marks)?;
+        let moves = ends.each_moves(forwards);
         if moves && none_marked(marks) {
             return Ok(None);
         }
-        let rows = rows_of(alloc, steps, marks)?;
+        let rows = rows_of(alloc, mixed, atom, forwards, marks)?;
         Ok(Some(Part {
-            atom: steps.atom(),
+            atom,
             moves,
+            digest: digest_of(rows.as_slice()),
             rows,
         }))
     }
@@ -151,7 +167,7 @@ impl Part {
         requires { length self.now.rows ≡ length other.now.rows }
         ensures { OnTrue result (HaveSameHops self.now other.now) }
     {
-        same_rows(self.rows.as_slice(), other.rows.as_slice())
+        self.digest == other.digest && same_rows(self.rows.as_slice(), other.rows.as_slice())
     }
 }
 
@@ -168,15 +184,26 @@ fn same_rows(one: &[Row], other: &[Row]) -> bool
     true
 }
 
-/// Whether every router that has to pass packets on has a step in both networks.
-fn all_move<O: RouteSource, N: RouteSource>(steps: &ClassSteps<'_, '_, O, N>) -> bool
-    requires { TakesBothEnds steps.now }
-    ensures { OnTrue result (AllMove O.table N.table steps.now.mixture steps.now.atom) }
-{
-    match steps.first_stuck() {
-        Some(_) => false,
-        None => true,
+/// A number made of the hops of some rows.
+fn digest_of(rows: &[Row]) -> u64 {
+    let mut digest = 0;
+    for row in rows {
+        digest = digest_with(digest, row.old.as_slice());
+        digest = digest_with(digest, row.middle.as_slice());
+        digest = digest_with(digest, row.new.as_slice());
     }
+    digest
+}
+
+/// A number made of another and of some hops.
+fn digest_with(digest: u64, hops: &[u32]) -> u64 {
+    let mut digest = digest.wrapping_mul(DIGEST_FACTOR).wrapping_add(1);
+    for hop in hops {
+        digest = digest
+            .wrapping_mul(DIGEST_FACTOR)
+            .wrapping_add(u64::from(*hop) + 2);
+    }
+    digest
 }
 
 /// Whether no router is marked.
@@ -189,38 +216,52 @@ fn none_marked(marks: &[bool]) -> bool
     true
 }
 
-/// Marks the routers to which a walk over the steps may return. The layers that were chosen for the class before are kept
-/// where they tell that there is none.
-fn mark_returns<O: RouteSource, N: RouteSource>(
-    steps: &ClassSteps<'_, '_, O, N>,
+/// Marks the routers to which a walk over the steps may return. The layers that were chosen before are kept where they tell
+/// that there is none.
+fn mark_returns<G: StepGraph>(
+    graph: &G,
     layers: &mut Layers,
     marks: &mut [bool],
 ) -> Result<(), OutOfMemory>
-    requires { length marks.old ≡ length steps.now.mixture.net }
-    ensures { OnOk result (MarksReturns (ClassStep O.table N.table steps.now) marks.new) }
+    requires { length marks.old ≡ G.size graph.now }
+    ensures { OnOk result (MarksReturns (G.step graph.now) marks.new) }
 {
-    if mark_level(steps, layers.numbers(), marks) && none_marked(marks) {
+    if mark_level(graph, layers.numbers(), marks) && none_marked(marks) {
         return Ok(());
     }
-    layers.choose(steps)?;
-    if !mark_level(steps, layers.numbers(), marks) {
-        mark_all(marks);
-    }
+    layers.choose(graph)?;
+    mark_by_layers(graph, layers.numbers(), marks);
     Ok(())
 }
 
-/// The hops between marked routers, for each router.
+/// Marks the routers to which a walk over the steps may return, as layers tell: all of them where some step leads higher.
+fn mark_by_layers<G: StepGraph>(graph: &G, layers: &[u32], marks: &mut [bool])
+    requires { length marks.old ≡ G.size graph.now }
+    ensures { MarksReturns (G.step graph.now) marks.new }
+{
+    if !mark_level(graph, layers, marks) {
+        mark_all(marks);
+    }
+}
+
+/// The hops between marked routers, for each router and the addresses of a class.
 fn rows_of<O: RouteSource, N: RouteSource>(
     alloc: Global,
-    steps: &ClassSteps<'_, '_, O, N>,
+    mixed: &Mixed<'_, O, N>,
+    atom: u32,
+    forwards: &[bool],
     marks: &[bool],
 ) -> Result<Vec<Row>, OutOfMemory>
-    requires { length marks.now ≡ length steps.now.mixture.net }
-    ensures { IfOk result (λ rows. AreRowsOf O.table N.table steps.now marks.now rows.items) }
+    requires atom { atom < length mixed.now.classes.samples }
+    requires address { sample_of mixed.now atom < 2 ^ 32 }
+    requires many { length forwards.now ≡ length mixed.now.net }
+    requires forwards { AreForwarders mixed.now.net (sample_of mixed.now atom) forwards.now }
+    requires marks { length marks.now ≡ length mixed.now.net }
+    ensures { IfOk result (λ rows. AreRowsOf O.table N.table mixed.now atom marks.now rows.items) }
 {
     let mut rows = Vec::with_capacity(alloc, marks.len())?;
-    for router in 0..steps.size() {
-        let row = row_of(alloc, steps, router, marks)?;
+    for router in 0..mixed.net().routers() {
+        let row = row_of(alloc, mixed, atom, forwards, router, marks)?;
         rows.push(row)?;
     }
     Ok(rows)
@@ -229,20 +270,30 @@ fn rows_of<O: RouteSource, N: RouteSource>(
 /// The hops from a router to marked routers, none where it isn't marked itself.
 fn row_of<O: RouteSource, N: RouteSource>(
     alloc: Global,
-    steps: &ClassSteps<'_, '_, O, N>,
+    mixed: &Mixed<'_, O, N>,
+    atom: u32,
+    forwards: &[bool],
     router: u32,
     marks: &[bool],
 ) -> Result<Row, OutOfMemory>
-    requires { router < length steps.now.mixture.net }
-    ensures { IfOk result (IsRowOf O.table N.table steps.now marks.now router) }
+    requires atom { atom < length mixed.now.classes.samples }
+    requires address { sample_of mixed.now atom < 2 ^ 32 }
+    requires many { length forwards.now ≡ length mixed.now.net }
+    requires forwards { AreForwarders mixed.now.net (sample_of mixed.now atom) forwards.now }
+    requires router { router < length mixed.now.net }
+    ensures { IfOk result (IsRowOf O.table N.table mixed.now atom marks.now router) }
 {
     if !is_marked(marks, router) {
         return Ok(Row::empty(alloc));
     }
-    let old = kept(alloc, steps.hops_in(router, Phase::Old), marks)?;
-    let middle = kept(alloc, steps.hops_in(router, Phase::Middle), marks)?;
-    let new = kept(alloc, steps.hops_in(router, Phase::New), marks)?;
-    Ok(Row { old, middle, new })
+    let olds = class_hops(mixed, atom, Phase::Old, forwards, router);
+    let middles = class_hops(mixed, atom, Phase::Middle, forwards, router);
+    let news = class_hops(mixed, atom, Phase::New, forwards, router);
+    Ok(Row {
+        old: kept(alloc, olds, marks)?,
+        middle: kept(alloc, middles, marks)?,
+        new: kept(alloc, news, marks)?,
+    })
 }
 
 /// The marked ones of some routers.
@@ -264,11 +315,4 @@ fn keep_one(kept: &mut Vec<u32>, marks: &[bool], router: u32) -> Result<(), OutO
         kept.push(router)?;
     }
     Ok(())
-}
-
-/// Whether two lists of routers are the same.
-fn are_same(one: &[u32], other: &[u32]) -> bool
-    ensures { OnTrue result (one.now ≡ other.now) }
-{
-    one == other
 }

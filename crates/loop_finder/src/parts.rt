@@ -1,42 +1,40 @@
-ghost use Rattle.std.specs.Prelude.{◌≡◌, ◌+◌, ◌<◌, ◌^◌, ℕ, All, IfOk, OnOk, length};
+ghost use Rattle.std.specs.Prelude.{◌≡◌, ◌+◌, ◌<◌, ◌^◌, ℕ, All, IfNone, IfOk, OnOk, length, vec_len};
 ghost use Rattle.std.specs.Bool.{OnTrue};
-ghost use Rattle.loop_finder.specs.Making.{IsMaking};
+ghost use Rattle.loop_finder.specs.steps.Ends.{AreClearEnds};
+ghost use Rattle.loop_finder.specs.steps.Making.{IsMaking, IsRead, ends_of};
 ghost use Rattle.loop_finder.specs.Parts.{AreParts, HasEarlierHops, HasPart};
 
-use crate::class_fault::mark_class;
-use crate::class_steps::ClassSteps;
+use crate::end_lists::{EndLists, read_class};
+use crate::end_steps::EndSteps;
 use crate::layers::Layers;
 use crate::part::Part;
-use rib_mix::{Mixed, OutOfMemory, Phase};
+use rib_mix::{Mixed, OutOfMemory};
 use route_core::RouteSource;
 use std::alloc::Global;
+use std::mem;
 
 /// What parts are made with.
 #[derive(Drop)]
-pub struct Making {
-    /// Every router in its old phase.
-    pub olds: Vec<Phase>,
-    /// Every router in its new phase.
-    pub news: Vec<Phase>,
-    /// For each router whether it has to pass packets on.
-    pub forwards: Vec<bool>,
+pub struct Making<'m> {
+    /// What is read of the class that is looked at.
+    pub latest: EndLists<'m>,
+    /// What was read of a class for which every state is sound.
+    pub clear: EndLists<'m>,
     /// For each router whether a walk may return to it.
     pub marks: Vec<bool>,
     /// The layers of the routers.
     pub layers: Layers,
 }
 
-impl Making {
+impl<'m> Making<'m> {
     /// What the parts of so many routers are made with.
-    fn new(alloc: Global, routers: u32) -> Result<Making, OutOfMemory>
+    fn new(alloc: Global, routers: u32) -> Result<Making<'m>, OutOfMemory>
         ensures { IfOk result (IsMaking routers) }
     {
-        let each = routers as usize;
         Ok(Making {
-            olds: vec![in alloc; Phase::Old; each]?,
-            news: vec![in alloc; Phase::New; each]?,
-            forwards: vec![in alloc; false; each]?,
-            marks: vec![in alloc; false; each]?,
+            latest: EndLists::new(alloc, routers)?,
+            clear: EndLists::new(alloc, routers)?,
+            marks: vec![in alloc; false; routers as usize]?,
             layers: Layers::new(alloc, routers)?,
         })
     }
@@ -61,11 +59,11 @@ pub fn parts_of<O: RouteSource, N: RouteSource>(
 }
 
 /// Adds the part of the next class, where it has one and no earlier one has the same hops.
-fn add_part<O: RouteSource, N: RouteSource>(
+fn add_part<'m, O: RouteSource, N: RouteSource>(
     alloc: Global,
-    mixed: &Mixed<'_, O, N>,
+    mixed: &'m Mixed<'_, O, N>,
     atom: u32,
-    making: &mut Making,
+    making: &mut Making<'m>,
     parts: &mut Vec<Part>,
 ) -> Result<(), OutOfMemory>
     requires atom { atom < length mixed.now.classes.samples }
@@ -85,28 +83,64 @@ fn add_part<O: RouteSource, N: RouteSource>(
 }
 
 /// The part of a class; none where no state is unsound for it.
-fn class_part<O: RouteSource, N: RouteSource>(
+fn class_part<'m, O: RouteSource, N: RouteSource>(
     alloc: Global,
-    mixed: &Mixed<'_, O, N>,
+    mixed: &'m Mixed<'_, O, N>,
     atom: u32,
-    making: &mut Making,
+    making: &mut Making<'m>,
 ) -> Result<Option<Part>, OutOfMemory>
     requires atom { atom < length mixed.now.classes.samples }
     requires making { IsMaking (length mixed.now.net) making.old }
     ensures making { OnOk result (IsMaking (length mixed.now.net) making.new) }
     ensures part { IfOk result (HasPart O.table N.table mixed.now atom) }
 {
-    if !mark_class(mixed, atom, &mut making.forwards) {
+    if !read_class(mixed, atom, &mut making.latest)? {
         return Ok(None);
     }
-    let steps = ClassSteps::new(
+    if making.latest.is_same(&making.clear) {
+        return Ok(None);
+    }
+    let part = read_part(
+        alloc,
         mixed,
-        making.olds.as_slice(),
-        making.news.as_slice(),
-        making.forwards.as_slice(),
         atom,
-    );
-    Part::build(alloc, &steps, &mut making.layers, &mut making.marks)
+        &making.latest,
+        &mut making.layers,
+        &mut making.marks,
+    )?;
+    if part.is_none() {
+        mem::swap(&mut making.latest, &mut making.clear);
+    }
+    Ok(part)
+}
+
+/// The part of a class by what was read of it; none where no state is unsound for it.
+fn read_part<O: RouteSource, N: RouteSource>(
+    alloc: Global,
+    mixed: &Mixed<'_, O, N>,
+    atom: u32,
+    lists: &EndLists<'_>,
+    layers: &mut Layers,
+    marks: &mut [bool],
+) -> Result<Option<Part>, OutOfMemory>
+    requires atom { atom < length mixed.now.classes.samples }
+    requires many { vec_len lists.now.forwards ≡ length mixed.now.net }
+    requires read { IsRead O.table N.table mixed.now atom lists.now }
+    requires marks { length marks.old ≡ length mixed.now.net }
+    ensures part { IfOk result (HasPart O.table N.table mixed.now atom) }
+    ensures clear { IfOk result (λ part. IfNone part
+        (AreClearEnds (ends_of lists.now (length mixed.now.net)) lists.now.forwards.items)) }
+{
+    let ends = EndSteps::new(&lists.olds, &lists.news, mixed.net().routers());
+    Part::build(
+        alloc,
+        mixed,
+        atom,
+        lists.forwards.as_slice(),
+        &ends,
+        layers,
+        marks,
+    )
 }
 
 /// Whether one of some parts has the same hops as another.

@@ -4,8 +4,8 @@ ghost use Rattle.std.specs.Vec.{vec_capacity};
 ghost use Rattle.igp_theory.specs.Loops.{IsFoundRing};
 ghost use Rattle.order_core.specs.Marks.{IsMarked};
 ghost use Rattle.order_core.specs.Rings.{IsTurned};
-ghost use Rattle.loop_finder.specs.Live.{ArePeeled};
-ghost use Rattle.loop_finder.specs.Walks.{IsMarkedHop, IsWalk, PlaceOf, ReturnsNever};
+ghost use Rattle.loop_finder.specs.steps.Live.{ArePeeled};
+ghost use Rattle.loop_finder.specs.steps.Walks.{IsMarkedHop, IsWalk, PlaceOf, ReturnsNever};
 
 use crate::graph::StepGraph;
 use crate::live::{first_marked, lowest_marked_hop, mark_live};

@@ -3,8 +3,8 @@ ghost use Rattle.std.specs.Vec.{vec_capacity};
 ghost use Rattle.igp_theory.specs.Loops.{AroundRing};
 ghost use Rattle.order_core.specs.Turns.{routers_of};
 ghost use Rattle.order_core.specs.declared.turn.Turn.{Turn};
-ghost use Rattle.loop_finder.specs.Rings.{next_in};
-ghost use Rattle.loop_finder.specs.Steps.{ClassStep, IsTagged, StepsBy};
+ghost use Rattle.loop_finder.specs.steps.Rings.{next_in};
+ghost use Rattle.loop_finder.specs.ClassSteps.{ClassStep, IsTagged, StepsBy};
 
 use crate::class_steps::ClassSteps;
 use order_core::{Tag, Turn};

@@ -3,12 +3,12 @@ ghost use Rattle.std.specs.Bool.{OnTrue};
 ghost use Rattle.order_core.specs.Rankings.{IsRanking};
 ghost use Rattle.loop_finder.specs.Calm.{AreCalm};
 ghost use Rattle.loop_finder.specs.Faults.{KeepsRing, told};
-ghost use Rattle.loop_finder.specs.Orders.{all_old};
+ghost use Rattle.igp_theory.specs.States.{all_old};
 ghost use Rattle.loop_finder.specs.Parts.{AreParts};
 ghost use Rattle.loop_finder.specs.Rooms.{HasRoom};
 ghost use Rattle.loop_finder.specs.Verdicts.{FaultyWave, FaultyWaves, Sound, SoundWave, SoundWaves, Told};
 ghost use Rattle.loop_finder.specs.WaveLists.{AreSwitchedBefore};
-ghost use Rattle.loop_finder.specs.WaveStarts.{AreClearParts, BeginsSound};
+ghost use Rattle.loop_finder.specs.steps.WaveStarts.{AreClearParts, BeginsSound};
 
 use crate::calm::least_of;
 use crate::class_fault::class_fault;

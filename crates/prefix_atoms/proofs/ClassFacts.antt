@@ -1,5 +1,6 @@
 -- Why intervals between cuts tell classes apart, and why numbers by the longest prefix number the classes.
-use Rattle.std.proofs.Common.{◌≡◌, ◌≢◌, ℕ, zero, suc, ◌+◌, ◌^◌, ◌<◌, ◌≤◌, List, length, get_or, map, Option, Some, None, All, AllPairs, Contains, slice_get, ⊎_elim, arith, refl, sym, ap, subst, ◌∙◌}
+use Rattle.std.proofs.Common.{◌≡◌, ◌≢◌, ℕ, zero, suc, ◌+◌, ◌^◌, ◌<◌, ◌≤◌, List, length, get_or, map, Option, Some, None, All, AllPairs, Contains, slice_get}
+use Rattle.std.proofs.Common.{⊎_elim, arith, refl, sym, ap, subst, ◌∙◌}
 use Rattle.std.proofs.lemmas.Bool.{cases_lt}
 use Rattle.std.proofs.lemmas.List.{get_or_default, get_or-map, length-map}
 use Rattle.std.proofs.lemmas.List.Elements.{All-contains}
@@ -94,7 +95,8 @@ longest_alike prefixes a b (Some found) blocks one two p member =
         ContainsAddress-covers p q b block (Covers-common p q a block (longest.longest p in_p inside) inside longest.contains) at_b
 
 -- no prefix of a list without repeats stands at two places
-one_place : (prefixes : List Block) (i j : ℕ) (p : Block) → AllPairs (λ p q. p ≢ q) prefixes → slice_get prefixes i ≡ Some p → slice_get prefixes j ≡ Some p → i ≡ j
+one_place : (prefixes : List Block) (i j : ℕ) (p : Block) → AllPairs (λ p q. p ≢ q) prefixes → slice_get prefixes i ≡ Some p →
+    slice_get prefixes j ≡ Some p → i ≡ j
 one_place prefixes i j p apart at_i at_j =
     let is_i : get_or prefixes i p ≡ p = get_or_from_slice_get prefixes i p p at_i in
     let is_j : get_or prefixes j p ≡ p = get_or_from_slice_get prefixes j p p at_j in
@@ -191,7 +193,8 @@ numbers_classes prefixes cuts found keys numbers firsts blocks apart longest key
           let f : ℕ = get_or firsts (get_or numbers j 0) 0 in
           let in_keys : j < length keys = omega arith in
           let in_f : f < length cuts = omega (arith, numbering.within (get_or numbers j 0) (numbering.numbered j in_keys)) in
-          let one : get_or found f None ≡ get_or found j None = same_found prefixes (get_or cuts f 0) (get_or cuts j 0) (get_or found f None) (get_or found j None)
+          let one : get_or found f None ≡ get_or found j None =
+          same_found prefixes (get_or cuts f 0) (get_or cuts j 0) (get_or found f None) (get_or found j None)
           (longest.each f in_f) (longest.each j l) (sym (at f in_f) ∙ numbering.same j in_keys ∙ at j l) in
           longest_alike prefixes (get_or cuts f 0) (get_or cuts j 0) (get_or found j None) blocks
           (subst (IsMatch prefixes (get_or cuts f 0)) one (longest.each f in_f)) (longest.each j l);
@@ -278,7 +281,8 @@ samples_made {prefixes} {cuts} {numbers} {firsts} {samples} made = record {
   all = λ a low.
       let start = first_cut prefixes cuts made.cut in
       let at : (i : ℕ) × InInterval cuts i a = each_in_interval cuts a start.0 start.1 in
-      let told : (get_or numbers at.0 0 < length samples) × SameBlocksContain prefixes (get_or samples (get_or numbers at.0 0) 0) a = tell_class at.0 a made at.1 low in
+      let told : (get_or numbers at.0 0 < length samples) × SameBlocksContain prefixes (get_or samples (get_or numbers at.0 0) 0) a =
+      tell_class at.0 a made at.1 low in
       (get_or numbers at.0 0, told.0, told.1);
 }
 
@@ -293,7 +297,8 @@ intervals_tell {prefixes} {cuts} {numbers} {firsts} {samples} c same_prefixes sa
       first = start.1;
       count = made.numbering.count;
       tell = λ i a inside low.
-          let told : (get_or numbers i 0 < length samples) × SameBlocksContain prefixes (get_or samples (get_or numbers i 0) 0) a = tell_class i a made inside low in
+          let told : (get_or numbers i 0 < length samples) × SameBlocksContain prefixes (get_or samples (get_or numbers i 0) 0) a =
+          tell_class i a made inside low in
           record {
             class = subst (λ (xs : List ℕ). get_or numbers i 0 < length xs) (sym same_samples) told.0;
             address = low;
@@ -303,11 +308,13 @@ intervals_tell {prefixes} {cuts} {numbers} {firsts} {samples} c same_prefixes sa
     }
 
 -- the steps, each over slices of its own
-pub made_from : (prefixes p1 p2 : List Block) (cuts c1 c2 numbers firsts f1 samples : List ℕ) → p1 ≡ prefixes → p2 ≡ prefixes → c1 ≡ cuts → c2 ≡ cuts → f1 ≡ firsts
+pub made_from : (prefixes p1 p2 : List Block) (cuts c1 c2 numbers firsts f1 samples : List ℕ) → p1 ≡ prefixes → p2 ≡ prefixes → c1 ≡ cuts →
+    c2 ≡ cuts → f1 ≡ firsts
     → All IsBlock p1 → AreCuts p1 cuts → NumbersClasses p2 c1 numbers firsts → ArePicked c2 f1 samples → Made prefixes cuts numbers firsts samples
 made_from prefixes p1 p2 cuts c1 c2 numbers firsts f1 samples same1 same2 same3 same4 same5 blocks cut numbering picked = record {
   blocks = subst (All IsBlock) same1 blocks;
   cut = subst (λ (ps : List Block). AreCuts ps cuts) same1 cut;
-  numbering = subst (λ (xs : List ℕ). NumbersClasses prefixes xs numbers firsts) same3 (subst (λ (ps : List Block). NumbersClasses ps c1 numbers firsts) same2 numbering);
+  numbering = subst (λ (xs : List ℕ). NumbersClasses prefixes xs numbers firsts) same3
+      (subst (λ (ps : List Block). NumbersClasses ps c1 numbers firsts) same2 numbering);
   picked = subst (λ (xs : List ℕ). ArePicked cuts xs samples) same5 (subst (λ (xs : List ℕ). ArePicked xs f1 samples) same4 picked);
 }

@@ -56,7 +56,8 @@ pub has_target_alike : {net : Network} {old new : Tables} {a b : ℕ} → OccurA
 has_target_alike h (Some p) t = same_target h p t
 has_target_alike h None none = λ p t. none p (same_target (flip h) p t)
 
-same_connected : {net : Network} {old new : Tables} {a b : ℕ} → OccurAlike net old new a b → (u : ℕ) (p : Block) → LongestConnected net u a p → LongestConnected net u b p
+same_connected : {net : Network} {old new : Tables} {a b : ℕ} → OccurAlike net old new a b → (u : ℕ) (p : Block) → LongestConnected net u a p →
+    LongestConnected net u b p
 same_connected {net} {old} {new} {a} {b} h u p t = IsLongestMatch-alike (Connected net u) a b p (alike_both h (Connected net u)
     (λ q on. connected_occurs u on)) t
 

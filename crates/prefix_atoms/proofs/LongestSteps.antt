@@ -1,5 +1,6 @@
 -- The longest prefix of an address, as one prefix more is looked at.
-use Rattle.std.proofs.Common.{◌≡◌, ℕ, ◌+◌, ◌<◌, ◌≤◌, List, [], length, take, get_or, set, Option, Some, None, All, Contains, slice_get, ⊎_elim, arith, sym, ap, subst, ◌∙◌, ◌≢◌, below_more, get_or-set_other, get_or-set_same, replicate}
+use Rattle.std.proofs.Common.{◌≡◌, ℕ, ◌+◌, ◌<◌, ◌≤◌, List, [], length, take, get_or, set, Option, Some, None, All, Contains, slice_get, ⊎_elim, arith, sym, ap}
+use Rattle.std.proofs.Common.{subst, ◌∙◌, ◌≢◌, below_more, get_or-set_other, get_or-set_same, replicate}
 use Rattle.std.proofs.lemmas.Bool.{cases_lt}
 use Rattle.std.proofs.lemmas.List.{length-take-le, length-set, length-replicate, get_or-replicate}
 use Rattle.std.proofs.lemmas.List.Elements.{All-push}

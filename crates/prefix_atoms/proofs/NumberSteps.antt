@@ -1,5 +1,6 @@
 -- Numbering by first appearance, key by key.
-use Rattle.std.proofs.Common.{◌≡◌, ◌≢◌, ℕ, ◌+◌, ◌<◌, ◌≤◌, List, [], ◌∷◌, ◌++◌, length, get_or, set, Option, Some, None, ⊎_elim, arith, refl, sym, ap, subst, ◌∙◌, below_more, length-append, get_or-set_other, get_or-set_same}
+use Rattle.std.proofs.Common.{◌≡◌, ◌≢◌, ℕ, ◌+◌, ◌<◌, ◌≤◌, List, [], ◌∷◌, ◌++◌, length, get_or, set, Option, Some, None, ⊎_elim, arith, refl, sym, ap, subst}
+use Rattle.std.proofs.Common.{◌∙◌, below_more, length-append, get_or-set_other, get_or-set_same}
 use Rattle.std.proofs.lemmas.Bool.{cases_eq, cases_lt}
 use Rattle.std.proofs.lemmas.List.{get_or_append_left, get_or_push, length-set}
 use Rattle.std.specs.List.Sorted.{IsStrictlyIncreasing}
@@ -80,7 +81,8 @@ known_more keys bound n numbers firsts seen k h at below =
           (λ none same. let e : get_or seen x None ≡ Some k = subst (λ (y : ℕ). get_or seen y None ≡ Some k) same at in cc);
     }
 
-fresh_ascends : (firsts : List ℕ) (n : ℕ) → IsStrictlyIncreasing firsts → ((k : ℕ) → k < length firsts → get_or firsts k 0 < n) → IsStrictlyIncreasing (firsts ++ n ∷ [])
+fresh_ascends : (firsts : List ℕ) (n : ℕ) → IsStrictlyIncreasing firsts → ((k : ℕ) → k < length firsts → get_or firsts k 0 < n) →
+    IsStrictlyIncreasing (firsts ++ n ∷ [])
 fresh_ascends firsts n up within k l =
     let long : length (firsts ++ n ∷ []) ≡ length firsts + 1 = length_more firsts n in
     let here : get_or (firsts ++ n ∷ []) k 0 ≡ get_or firsts k 0 = old_at firsts n k (omega arith) in

@@ -1,5 +1,6 @@
 -- The lists that are collected have exactly the prefixes that occur, and those that can be targets.
-use Rattle.std.proofs.Common.{◌≡◌, ℕ, zero, suc, ◌<◌, ◌≤◌, ◌⊎◌, ◌↔◌, inl, inr, Bool, true, false, ◌&&◌, ◌||◌, if◌then◌else◌, List, [], ◌++◌, get_or, map, Option, Some, None, IsTrue, IsSome, is_some, Contains, ⊎_elim, arith, refl, sym, ap, subst, ◌∙◌}
+use Rattle.std.proofs.Common.{◌≡◌, ℕ, zero, suc, ◌<◌, ◌≤◌, ◌⊎◌, ◌↔◌, inl, inr, Bool, true, false, ◌&&◌, ◌||◌, if◌then◌else◌, List, [], ◌++◌, get_or, map}
+use Rattle.std.proofs.Common.{Option, Some, None, IsTrue, IsSome, is_some, Contains, ⊎_elim, arith, refl, sym, ap, subst, ◌∙◌}
 use Rattle.std.specs.List.{slice_get, filter_map}
 use Rattle.std.proofs.lemmas.Bool.{cases_lt}
 use Rattle.std.proofs.lemmas.List.Elements.{Contains-append_left, Contains-append_right, Contains-append_cases}
@@ -11,7 +12,8 @@ use Rattle.net_model.specs.Configuration.{Configuration}
 use Rattle.net_model.specs.DestLists.{subnet_if_up, own_dests, all_dests}
 use Rattle.net_model.specs.Network.{Network, Connected}
 use Rattle.net_model.specs.declared.area.Range.{Range}
-use Rattle.net_model.proofs.Members.{Contains-flat_map, Contains-in_flat_map, Contains-map, Contains-in_map, Contains-filter_map, Contains-in_filter_map, Contains-none}
+use Rattle.net_model.proofs.Members.{Contains-flat_map, Contains-in_flat_map, Contains-map, Contains-in_map, Contains-filter_map, Contains-in_filter_map}
+use Rattle.net_model.proofs.Members.{Contains-none}
 use Rattle.route_core.specs.Tables.{table_prefixes}
 use Rattle.route_core.specs.declared.entry.Entry.{Entry}
 use Rattle.route_core.proofs.TableLaws.{entry_of_prefix}
@@ -98,7 +100,8 @@ range_listed net u p r =
 
 -- Sources
 
-source_entry : (table : ℕ → List (Block × Entry)) (n : ℕ) (p : Block) → Contains (source_prefixes table n) p → (u : ℕ) × (u < n) × (e : Entry) × Contains (table u) (p, e)
+source_entry : (table : ℕ → List (Block × Entry)) (n : ℕ) (p : Block) → Contains (source_prefixes table n) p → (u : ℕ) × (u < n) × (e : Entry) ×
+    Contains (table u) (p, e)
 source_entry table zero p h = absurd (Contains-none p h)
 source_entry table (suc n) p h = ⊎_elim
     (λ l.
@@ -134,11 +137,14 @@ collected_occur net o n old new p = (
     occurring_listed : (net : Network) (o n : ℕ) (old new : ℕ → List (Block × Entry)) (p : Block) → Occurs net (SourceEntry o old) (SourceEntry n new) p
         → Contains ((all_dests net ++ source_prefixes old o) ++ source_prefixes new n) p
     occurring_listed net o n old new p (connected_occurs u c) =
-        Contains-append_left (all_dests net ++ source_prefixes old o) (source_prefixes new n) p (Contains-append_left (all_dests net) (source_prefixes old o) p (connected_listed net u p c))
+        Contains-append_left (all_dests net ++ source_prefixes old o) (source_prefixes new n) p (Contains-append_left (all_dests net) (source_prefixes old o) p
+        (connected_listed net u p c))
     occurring_listed net o n old new p (range_occurs u r) =
-        Contains-append_left (all_dests net ++ source_prefixes old o) (source_prefixes new n) p (Contains-append_left (all_dests net) (source_prefixes old o) p (range_listed net u p r))
+        Contains-append_left (all_dests net ++ source_prefixes old o) (source_prefixes new n) p (Contains-append_left (all_dests net) (source_prefixes old o) p
+        (range_listed net u p r))
     occurring_listed net o n old new p (old_occurs u e h) =
-        Contains-append_left (all_dests net ++ source_prefixes old o) (source_prefixes new n) p (Contains-append_right (all_dests net) (source_prefixes old o) p (source_listed old o u p e h.0 h.1))
+        Contains-append_left (all_dests net ++ source_prefixes old o) (source_prefixes new n) p (Contains-append_right (all_dests net) (source_prefixes old o)
+        p (source_listed old o u p e h.0 h.1))
     occurring_listed net o n old new p (new_occurs u e h) =
         Contains-append_right (all_dests net ++ source_prefixes old o) (source_prefixes new n) p (source_listed new n u p e h.0 h.1)
 
@@ -161,7 +167,8 @@ originated_from_list net p h =
 
 list_from_originated : (net : Network) (p : Block) → IsOriginated net p → Contains (all_originated net) p
 list_from_originated net p o =
-    Contains-in_flat_map (λ (c : Configuration). filter_map originated_subnet c.interfaces) net o.up.config p (member_of_place net o.router o.up.config o.up.router)
+    Contains-in_flat_map (λ (c : Configuration). filter_map originated_subnet c.interfaces) net o.up.config p
+    (member_of_place net o.router o.up.config o.up.router)
     (Contains-in_filter_map originated_subnet o.up.config.interfaces o.interface p o.up.among
     (if_true_back (o.interface.up && (is_some o.interface.area || o.interface.level1 || o.interface.level2)) o.interface.subnet p
     (and_both o.interface.up (is_some o.interface.area || o.interface.level1 || o.interface.level2) o.up.up

@@ -1,6 +1,8 @@
 -- What a list has after a sort and the removal of repeats.
-use Rattle.std.proofs.Common.{◌≡◌, ◌≢◌, ℕ, Bool, true, ◌&&◌, ◌==◌, false, List, get_or, Ordering, Contains, AllPairs, IsPermutation, eqb, eqb-true, refl, sym, subst, ◌↔◌}
-use Rattle.std.specs.Cmp.{IsTotalOrder, IsEquivalence, and_equiv, on_equiv, on_total, then_total, both_tied, tied_itself, nat_cmp_total, nat_eq_equiv, unsigned_ties}
+use Rattle.std.proofs.Common.{◌≡◌, ◌≢◌, ℕ, Bool, true, ◌&&◌, ◌==◌, false, List, get_or, Ordering, Contains, AllPairs, IsPermutation, eqb, eqb-true, refl, sym}
+use Rattle.std.proofs.Common.{subst, ◌↔◌}
+use Rattle.std.specs.Cmp.{IsTotalOrder, IsEquivalence, and_equiv, on_equiv, on_total, then_total, both_tied, tied_itself, nat_cmp_total, nat_eq_equiv}
+use Rattle.std.specs.Cmp.{unsigned_ties}
 use Rattle.std.specs.Ordering.{nat_cmp, ordering_then, eq_by_cmp}
 use Rattle.std.specs.declared.cmp.Ordering.TheVariants.{Less}
 use Rattle.std.specs.List.{dedup}
@@ -24,7 +26,8 @@ block_equiv : IsEquivalence block_eq
 block_equiv = and_equiv (on_equiv (λ (b : Block). b.base) nat_eq_equiv) (on_equiv (λ (b : Block). b.len) nat_eq_equiv)
 
 block_ties : (x y : Block) → block_eq x y ≡ eq_by_cmp block_cmp x y
-block_ties x y = both_tied (x.base == y.base) (x.len == y.len) (nat_cmp x.base y.base) (nat_cmp x.len y.len) (unsigned_ties x.base y.base) (unsigned_ties x.len y.len)
+block_ties x y = both_tied (x.base == y.base) (x.len == y.len) (nat_cmp x.base y.base) (nat_cmp x.len y.len) (unsigned_ties x.base y.base)
+    (unsigned_ties x.len y.len)
 
 both_true : (a b : Bool) → (a && b) ≡ true → (a ≡ true) × (b ≡ true)
 both_true true b e = (refl, e)
@@ -54,7 +57,8 @@ apart_from_sorted zs up i j d l h e =
 
 -- and no two of them are alike
 pub prefixes_apart : (ys zs : List Block) → IsSorted block_cmp ys → zs ≡ dedup block_eq ys → AllPairs (λ (p q : Block). p ≢ q) zs
-prefixes_apart ys zs up is i j d l h e = apart_from_sorted zs (subst (IsStrictlySortedBy block_cmp) (sym is) (IsStrictlySortedBy-dedup block_total block_ties ys up)) i j d l h e
+prefixes_apart ys zs up is i j d l h e =
+    apart_from_sorted zs (subst (IsStrictlySortedBy block_cmp) (sym is) (IsStrictlySortedBy-dedup block_total block_ties ys up)) i j d l h e
 
 pub same_numbers : (xs ys zs : List ℕ) (n : ℕ) → IsPermutation xs ys → zs ≡ dedup eqb ys → Contains zs n ↔ Contains xs n
 same_numbers xs ys zs n moved is = (

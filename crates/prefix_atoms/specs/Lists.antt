@@ -1,5 +1,6 @@
 -- Lists of prefixes: what is added to them, where they begin and end, the longest match of each address.
-use Rattle.std.specs.Prelude.{◌≡◌, ℕ, zero, suc, ◌^◌, ◌<◌, ◌≤◌, if◌then◌else◌, ◌&&◌, ◌||◌, is_some, List, [], ◌++◌, length, slice_index, slice_index_or, slice_get, Option, Some, None, All, Contains}
+use Rattle.std.specs.Prelude.{◌≡◌, ℕ, zero, suc, ◌^◌, ◌<◌, ◌≤◌, if◌then◌else◌, ◌&&◌, ◌||◌, is_some, List, [], ◌++◌, length, slice_index, slice_index_or}
+use Rattle.std.specs.Prelude.{slice_get, Option, Some, None, All, Contains}
 use Rattle.std.specs.List.{filter_map, flat_map}
 use Rattle.std.specs.List.Sorted.{IsStrictlyIncreasing}
 use Rattle.net_addr.specs.Addresses.{Block}

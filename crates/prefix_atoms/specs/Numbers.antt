@@ -19,7 +19,8 @@ pub record NumbersClasses (prefixes : List Block) (cuts numbers firsts : List �
   pub count : length numbers ≡ length cuts
   pub ascending : IsStrictlyIncreasing firsts
   pub within : (k : ℕ) → k < length firsts → slice_index firsts k < length cuts
-  pub first : (k j : ℕ) → k < length firsts → j < slice_index firsts k → SameBlocksContain prefixes (slice_index cuts j) (slice_index cuts (slice_index firsts k)) → ⊥
+  pub first : (k j : ℕ) → k < length firsts → j < slice_index firsts k →
+      SameBlocksContain prefixes (slice_index cuts j) (slice_index cuts (slice_index firsts k)) → ⊥
   pub numbered : (j : ℕ) → j < length cuts → slice_index numbers j < length firsts
   pub same : (j : ℕ) → j < length cuts → SameBlocksContain prefixes (slice_index cuts (slice_index firsts (slice_index numbers j))) (slice_index cuts j)
 

@@ -48,7 +48,8 @@ impl Atoms {
         old: &O,
         new: &N,
     ) -> Result<Atoms, OutOfMemory>
-        ensures { IfOk result (λ atoms. AreClasses net.now (SourceEntry (O.routers old.now) (O.table old.now)) (SourceEntry (N.routers new.now) (N.table new.now)) atoms) }
+        ensures { IfOk result (λ atoms. AreClasses net.now (SourceEntry (O.routers old.now) (O.table old.now))
+            (SourceEntry (N.routers new.now) (N.table new.now)) atoms) }
     {
         let mut prefixes = Vec::new(alloc);
         add_net(&mut prefixes, net)?;

@@ -55,7 +55,10 @@ fn add_table(prefixes: &mut Vec<Prefix>, table: &Table) -> Result<(), OutOfMemor
 }
 
 /// Adds the subnets of interfaces that are up.
-fn add_connected(prefixes: &mut Vec<Prefix>, interfaces: &[Interface]) -> Result<(), OutOfMemory>
+pub fn add_connected(
+    prefixes: &mut Vec<Prefix>,
+    interfaces: &[Interface],
+) -> Result<(), OutOfMemory>
     ensures { OnOk result (prefixes.new.items ≡ prefixes.old.items ++ filter_map subnet_if_up interfaces.now) }
 {
     for interface in interfaces {

@@ -10,6 +10,7 @@ mod longest;
 mod number;
 
 pub use atoms::Atoms;
+pub use collect::add_connected;
 pub use law::one_class_acts_alike;
 pub use longest::longest_of_each;
 pub use route_core::OutOfMemory;

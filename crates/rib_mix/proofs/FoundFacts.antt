@@ -1,12 +1,11 @@
 -- What is found for the sample of a class is found for each of its addresses.
-use Rattle.std.proofs.Common.{◌≡◌, ℕ, ◌<◌, ◌↔◌, List, length, get_or, Option, Some, None, Contains, slice_get, arith, refl, sym, ap, subst}
+use Rattle.std.proofs.Common.{◌≡◌, ℕ, ◌<◌, ◌↔◌, List, length, get_or, Option, Some, None, Contains, slice_get, arith, refl, sym, subst}
 use Rattle.std.proofs.lemmas.Option.{slice_get_read}
 use Rattle.net_addr.specs.Addresses.{Block, ContainsAddress}
 use Rattle.net_addr.specs.LongestMatches.{IsMatch}
 use Rattle.net_addr.specs.declared.matches.Match.{Match}
 use Rattle.net_addr.proofs.LongestMatchLaws.{HasNoMatch-alike, IsLongestMatch-alike, IsMatch-alike}
-use Rattle.net_model.specs.Network.{Network, HasConfiguration, Connected}
-use Rattle.net_model.specs.Configuration.{Configuration}
+use Rattle.net_model.specs.Network.{Network, Connected}
 use Rattle.route_core.specs.declared.entry.Entry.{Entry}
 use Rattle.route_core.proofs.TableLaws.{entry_of_prefix}
 use Rattle.prefix_atoms.specs.Classes.{Classes, AreClasses, SourceEntry, connected_occurs, old_occurs, new_occurs, IsInClass}
@@ -15,7 +14,8 @@ use Rattle.route_core.specs.Tables.{HasEntry, table_prefixes}
 use Rattle.rib_mix.specs.Answers.{IsNext}
 use Rattle.rib_mix.specs.Mixture.{Mixture}
 use Rattle.rib_mix.specs.declared.next.Next.{Next}
-use Rattle.rib_mix.specs.Rows.{IsConnectedLength, IsFound, IsMixed}
+use Rattle.rib_mix.specs.Rows.{IsCell, IsConnectedLength, IsFound, IsMixed}
+use Rattle.rib_mix.specs.declared.cell.Cell.{Cell}
 use Rattle.rib_mix.specs.declared.found.Found.{Found}
 use Rattle.rib_mix.proofs.UsedEntries.{Where, Setting, Lawful}
 
@@ -51,47 +51,49 @@ found_alike net old new c u k a found router are inside h = record {
       (λ p e has. inside.alike p ((are.occur p).1 (new_occurs u e (router, has)))) h.new_match;
 }
 
--- what is known where a router is asked for a class
-pub setting_of : (net : Network) (o n : ℕ) (old new : ℕ → List (Block × Entry)) (c : Classes) (rows : List (List Found)) (u k a ospf : ℕ) (row : List Found) (found : Found) (config : Configuration)
-    → IsMixed net o n old new c rows → u < length net → IsInClass c k a → slice_get rows u ≡ Some row → slice_get row k ≡ Some found
-    → HasConfiguration net u config → config.distances.ospf ≡ ospf → Setting (where_at net old new u a) ospf found
-setting_of net o n old new c rows u k a ospf row found config mixed router inside row_at found_at has is = record {
-  config = config;
-  has = has;
-  ospf_is = is;
-  found_is = found_alike net old new c u k a found router mixed.classes_are inside ((mixed.rows_are.each u row row_at).each k found found_at);
+-- what is known where a router is asked for an address of a class
+pub setting_of : (net : Network) (o n : ℕ) (old new : ℕ → List (Block × Entry)) (c : Classes) (subnets : List (List Block))
+    (rows : List (List Cell)) (u k a : ℕ)
+    (cell : Cell) (is : IsCell net (old u) (new u) u (get_or c.samples k 0) cell) → IsMixed net o n old new c subnets rows → u < length net
+    → IsInClass c k a → Setting (where_at net old new u a) is.ospf is.found
+setting_of net o n old new c subnets rows u k a cell is mixed router inside = record {
+  config = is.distance.config;
+  has = is.distance.has;
+  ospf_is = is.distance.distance_is;
+  found_is = found_alike net old new c u k a is.found router mixed.classes_are inside is.found_is;
 }
 
-pub lawful_of : (net : Network) (o n : ℕ) (old new : ℕ → List (Block × Entry)) (c : Classes) (rows : List (List Found)) (u a : ℕ)
-    → IsMixed net o n old new c rows → u < length net → Lawful (where_at net old new u a)
-lawful_of net o n old new c rows u a mixed router = record {
+-- what was read at the places
+pub cell_at : (net : Network) (o n : ℕ) (old new : ℕ → List (Block × Entry)) (c : Classes) (subnets : List (List Block)) (rows : List (List Cell)) (u k : ℕ)
+    (row : List Cell) (cell : Cell) → IsMixed net o n old new c subnets rows → u < length net → row ≡ get_or rows u row
+    → slice_get row k ≡ Some cell → IsCell net (old u) (new u) u (get_or c.samples k 0) cell
+cell_at net o n old new c subnets rows u k row cell mixed router read at =
+    let within : u < length rows = omega (arith, mixed.rows_are.count) in
+    (mixed.rows_are.each u row (slice_get_read rows (length rows) u row refl within read)).each k cell at
+
+pub lawful_of : (net : Network) (o n : ℕ) (old new : ℕ → List (Block × Entry)) (c : Classes) (subnets : List (List Block)) (rows : List (List Cell)) (u a : ℕ)
+    → IsMixed net o n old new c subnets rows → u < length net → Lawful (where_at net old new u a)
+lawful_of net o n old new c subnets rows u a mixed router = record {
   network = mixed.network;
   old_table = mixed.rows_are.old_lawful u router;
   new_table = mixed.rows_are.new_lawful u router;
 }
 
 -- the sample of a class is in it
-pub sample_inside : (net : Network) (o n : ℕ) (old new : ℕ → List (Block × Entry)) (c : Classes) (rows : List (List Found)) (k : ℕ)
-    → IsMixed net o n old new c rows → k < length c.samples → IsInClass c k (get_or c.samples k 0)
-sample_inside net o n old new c rows k mixed within = record {
+pub sample_inside : (net : Network) (o n : ℕ) (old new : ℕ → List (Block × Entry)) (c : Classes) (subnets : List (List Block))
+    (rows : List (List Cell)) (k : ℕ)
+    → IsMixed net o n old new c subnets rows → k < length c.samples → IsInClass c k (get_or c.samples k 0)
+sample_inside net o n old new c subnets rows k mixed within = record {
   class = within;
   address = mixed.classes_are.classing.samples.addresses k 0 within;
   alike = λ p member. (λ h. h, λ h. h);
 }
 
--- the same, from what was read at the places
-pub setting_at : (net : Network) (o n : ℕ) (old new : ℕ → List (Block × Entry)) (c : Classes) (rows : List (List Found)) (u k a : ℕ) (row : List Found) (found : Found) (view config : Configuration)
-    → IsMixed net o n old new c rows → u < length net → IsInClass c k a → row ≡ get_or rows u row → slice_get row k ≡ Some found
-    → HasConfiguration net u config → view ≡ config → Setting (where_at net old new u a) view.distances.ospf found
-setting_at net o n old new c rows u k a row found view config mixed router inside read found_at has same =
-    let within : u < length rows = omega (arith, mixed.rows_are.count) in
-    setting_of net o n old new c rows u k a view.distances.ospf row found config mixed router inside (slice_get_read rows (length rows) u row refl within read) found_at has
-    (ap (λ (d : Configuration). d.distances.ospf) (sym same))
-
 -- Views
 
 -- what is said of a value's parts is said of the value
-pub answer_along : {O N : Type 0} (old : O → ℕ → List (Block × Entry)) (new : N → ℕ → List (Block × Entry)) (m k : Mixture O N) (u atom : ℕ) (phase : Phase) (next : Next) → m ≡ k
+pub answer_along : {O N : Type 0} (old : O → ℕ → List (Block × Entry)) (new : N → ℕ → List (Block × Entry)) (m k : Mixture O N) (u atom : ℕ)
+    (phase : Phase) (next : Next) → m ≡ k
     → ((a : ℕ) → IsInClass m.classes atom a → IsNext m.net (HasEntry (old m.old)) (HasEntry (new m.new)) u phase a next)
     → (a : ℕ) → IsInClass k.classes atom a → IsNext k.net (HasEntry (old k.old)) (HasEntry (new k.new)) u phase a next
 answer_along {O} {N} old new m k u atom phase next same =

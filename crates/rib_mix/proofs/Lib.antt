@@ -3,3 +3,5 @@ mod FoundFacts
 mod RowSteps
 pub mod NextLaws
 mod MiddleLaws
+mod UseLaws
+mod SubnetFacts

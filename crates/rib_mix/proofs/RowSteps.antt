@@ -1,5 +1,6 @@
 -- Lists that are made place by place.
-use Rattle.std.proofs.Common.{◌≡◌, ℕ, zero, suc, ◌+◌, ◌<◌, ◌≤◌, List, [], ◌∷◌, ◌++◌, length, take, get_or, Option, Some, None, All, slice_get, ⊎_elim, arith, sym, ap, subst, ◌∙◌, length-append}
+use Rattle.std.proofs.Common.{◌≡◌, ℕ, zero, suc, ◌+◌, ◌<◌, ◌≤◌, List, [], ◌∷◌, ◌++◌, length, take, get_or, Option, Some, None, All, slice_get, ⊎_elim, arith}
+use Rattle.std.proofs.Common.{sym, ap, subst, ◌∙◌, length-append}
 use Rattle.std.proofs.lemmas.Bool.{cases_lt}
 use Rattle.std.proofs.lemmas.List.{take_more, map-append, length-map, get_or-map, get_or_default}
 use Rattle.std.proofs.lemmas.Option.{slice_get_within, get_or_from_slice_get}
@@ -53,7 +54,8 @@ entries_all P entries h k d l =
     let at : get_or (table_prefixes entries) k d.0 ≡ (get_or entries k d).0 = get_or-map (λ (x : Block × Entry). x.0) entries k d d.0 l in
     subst P at (h k d.0 (omega (arith, length-map entries (λ (x : Block × Entry). x.0))))
 
-pub lawful_from : (entries : List (Block × Entry)) (prefixes : List Block) → prefixes ≡ table_prefixes entries → All IsBlock prefixes → HasDistinctPrefixes entries → IsLawful entries
+pub lawful_from : (entries : List (Block × Entry)) (prefixes : List Block) → prefixes ≡ table_prefixes entries → All IsBlock prefixes →
+    HasDistinctPrefixes entries → IsLawful entries
 lawful_from entries prefixes same blocks distinct = record {
   blocks = entries_all IsBlock entries (subst (All IsBlock) same blocks);
   distinct = distinct;

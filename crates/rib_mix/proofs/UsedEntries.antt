@@ -1,5 +1,6 @@
 -- The best candidate is the used entry, and there is one used entry.
-use Rattle.std.proofs.Common.{◌≡◌, ◌≢◌, ℕ, ◌≤◌, inl, inr, Bool, true, false, not, ◌==◌, if◌then◌else◌, List, Option, Some, None, IfSome, Contains, slice_get, ⊎_elim, eqb-true, eq-eqb, arith, refl, sym, ap, subst, ◌∙◌}
+use Rattle.std.proofs.Common.{◌≡◌, ◌≢◌, ℕ, ◌≤◌, inl, inr, Bool, true, false, not, ◌==◌, if◌then◌else◌, List, Option, Some, None, IfSome, Contains, slice_get}
+use Rattle.std.proofs.Common.{⊎_elim, eqb-true, eq-eqb, arith, refl, sym, ap, subst, ◌∙◌}
 use Rattle.std.proofs.lemmas.List.Elements.{All-contains}
 use Rattle.std.proofs.lemmas.Option.{same_Some, slice_get_within, get_or_from_slice_get}
 use Rattle.net_addr.specs.Addresses.{Block, ContainsAddress, IsBlock}
@@ -161,7 +162,8 @@ differs n m h = apart (n == m) (λ e. h (eqb-true n m e))
     apart true f = absurd (f refl)
     apart false f = refl
 
-connected_covers : (net : Network) (u a : ℕ) (o : Option ℕ) → IsConnectedLength net u a o → (q : Block) → Connected net u q → ContainsAddress q a → Covers (connected_of o) q.len 0
+connected_covers : (net : Network) (u a : ℕ) (o : Option ℕ) → IsConnectedLength net u a o → (q : Block) → Connected net u q → ContainsAddress q a →
+    Covers (connected_of o) q.len 0
 connected_covers net u a None h q c inside = absurd (h q c inside)
 connected_covers net u a (Some len) h q c inside =
     let le : q.len ≤ h.prefix.len = h.longest.longest q c inside in
@@ -186,8 +188,10 @@ match_covers_new entries a (Some m) h q e has inside =
 old_covers : (phase : Phase) (entries : List (Block × Entry)) (a ospf : ℕ) (o : Option Match) → OldCounts phase → ospf ≢ 255
     → IsMatch (table_prefixes entries) a o
     → (q : Block) (e : Entry) → Contains entries (q, e) → ContainsAddress q a → Covers (old_if_counts phase ospf o) q.len ospf
-old_covers Old entries a ospf o counts set h q e has inside = covers_if (not (ospf == 255)) (old_of ospf o) q.len ospf (differs ospf 255 set) (match_covers_old entries a ospf o h q e has inside)
-old_covers Middle entries a ospf o counts set h q e has inside = covers_if (not (ospf == 255)) (old_of ospf o) q.len ospf (differs ospf 255 set) (match_covers_old entries a ospf o h q e has inside)
+old_covers Old entries a ospf o counts set h q e has inside =
+    covers_if (not (ospf == 255)) (old_of ospf o) q.len ospf (differs ospf 255 set) (match_covers_old entries a ospf o h q e has inside)
+old_covers Middle entries a ospf o counts set h q e has inside =
+    covers_if (not (ospf == 255)) (old_of ospf o) q.len ospf (differs ospf 255 set) (match_covers_old entries a ospf o h q e has inside)
 old_covers New entries a ospf o counts set h q e has inside = absurd counts
 
 new_covers : (phase : Phase) (entries : List (Block × Entry)) (a : ℕ) (o : Option Match) → NewCounts phase → IsMatch (table_prefixes entries) a o
@@ -220,7 +224,8 @@ best_covers w phase ospf found best s b q d x (old_counts {distance = distance} 
     (subst (λ (n : ℕ). Covers (old_if_counts phase ospf found.old) q.len n) at
     (old_covers phase (w.old w.u) w.a ospf found.old counts (λ e. set (sym at ∙ e)) s.found_is.old_match q e entry inside))
 best_covers w phase ospf found best s b q d x (new_counts {e = e} counts entry) inside =
-    better_covers best (new_if_counts phase found.new) q.len 115 b.over_three (new_covers phase (w.new w.u) w.a found.new counts s.found_is.new_match q e entry inside)
+    better_covers best (new_if_counts phase found.new) q.len 115 b.over_three
+    (new_covers phase (w.new w.u) w.a found.new counts s.found_is.new_match q e entry inside)
 
 -- the entry that the best candidate stands for is used
 pub uses_best : (w : Where) (phase : Phase) (ospf : ℕ) (found : Found) (c : Candidate) →
@@ -240,7 +245,8 @@ uses_best w phase ospf found c s b r = record {
 -- One used entry
 
 config_of : (net : Network) (u : ℕ) (c : Configuration) → IsNetwork net → HasConfiguration net u c → IsConfiguration c
-config_of net u c network has = All-contains IsConfiguration net c network.configurations (u, slice_get_within net u c has, get_or_from_slice_get net u c c has)
+config_of net u c network has =
+    All-contains IsConfiguration net c network.configurations (u, slice_get_within net u c has, get_or_from_slice_get net u c c has)
 
 counts_block : (w : Where) (phase : Phase) (p : Block) (d : ℕ) (x : Usable) → Lawful w → CountsAt w phase p d x → IsBlock p
 counts_block w phase p d x lawful (connected_counts h) =

@@ -5,5 +5,6 @@ pub use Rattle.prefix_atoms.specs.Classes
 pub mod Mixture
 pub mod Answers
 pub mod Candidates
+pub mod Cells
 pub mod Rows
 pub mod Laws

@@ -2,11 +2,13 @@
 #![tactic(auto)]
 
 mod candidate;
+mod cell;
 mod found;
 mod law;
 mod mixed;
 mod next;
 mod row;
+mod subnets;
 
 pub use igp_theory::{Phase, middle_is_old_or_new};
 pub use law::steps_are_hops;

@@ -1,16 +1,19 @@
-ghost use Rattle.std.specs.Prelude.{◌≡◌, ◌<◌, IfOk, length};
+ghost use Rattle.std.specs.Prelude.{◌≡◌, ◌<◌, ◌↔◌, IfOk, IsTrue, length};
 ghost use Rattle.std.specs.List.Sorted.{IsStrictlyIncreasing};
+ghost use Rattle.net_model.specs.Network.{Connected};
 ghost use Rattle.net_model.specs.Refusals.{IsNetwork};
 ghost use Rattle.prefix_atoms.specs.Classes.{AreClasses, SourceEntry};
 ghost use Rattle.route_core.specs.Tables.{HasEntry};
 ghost use Rattle.rib_mix.specs.Answers.{IsNextAtAnEnd, IsNextOf, ShowsEntry};
-ghost use Rattle.rib_mix.specs.Candidates.{IsPlaced, ShowsWay};
-ghost use Rattle.rib_mix.specs.Rows.{AreRows};
+ghost use Rattle.rib_mix.specs.Cells.{IsUsePlaced, ShowsUse};
+ghost use Rattle.rib_mix.specs.Rows.{AreAllSubnets, AreRows};
 
-use crate::candidate::{Way, best_of};
+use crate::cell::Used;
 use crate::next::Next;
 use crate::row::{Row, row_of};
+use crate::subnets::Subnets;
 use igp_theory::Phase;
+use net_addr::Prefix;
 use net_model::Net;
 use prefix_atoms::Atoms;
 use route_core::{Entry, OutOfMemory, RouteSource, Table};
@@ -25,6 +28,8 @@ pub struct Mixed<'a, O: RouteSource, N: RouteSource> {
     old: &'a O,
     new: &'a N,
     atoms: Atoms,
+    /// For each router the prefixes that are connected at it.
+    subnets: Vec<Subnets>,
     rows: Vec<Row>,
 }
 
@@ -36,7 +41,8 @@ impl<'a, O: RouteSource, N: RouteSource> Model for Mixed<'a, O, N> {
 
     ghost view = { λ x. record { net = x.net.now; old = x.old.now; new = x.new.now; classes = x.atoms } };
 
-    ghost invariant = { λ x. IsMixed x.net.now (O.routers x.old.now) (N.routers x.new.now) (O.table x.old.now) (N.table x.new.now) x.atoms x.rows.items };
+    ghost invariant = { λ x. IsMixed x.net.now (O.routers x.old.now) (N.routers x.new.now) (O.table x.old.now) (N.table x.new.now) x.atoms
+        x.subnets.items x.rows.items };
 }
 
 impl<'a, O: RouteSource, N: RouteSource> Mixed<'a, O, N> {
@@ -54,12 +60,14 @@ impl<'a, O: RouteSource, N: RouteSource> Mixed<'a, O, N> {
         ensures new { IfOk result (λ mixed. mixed.new ≡ new.now) }
     {
         let atoms = Atoms::build(alloc, net, old, new)?;
-        let rows = rows_of(alloc, net, old, new, atoms.samples())?;
+        let subnets = all_subnets(alloc, net)?;
+        let rows = rows_of(alloc, net, subnets.as_slice(), old, new, atoms.samples())?;
         Ok(Mixed {
             net,
             old,
             new,
             atoms,
+            subnets,
             rows,
         })
     }
@@ -67,7 +75,8 @@ impl<'a, O: RouteSource, N: RouteSource> Mixed<'a, O, N> {
     /// The classes of addresses.
     pub fn atoms(&self) -> &Atoms
         ensures atoms { result.now ≡ self.now.classes }
-        ensures classes { AreClasses self.now.net (SourceEntry (length self.now.net) (O.table self.now.old)) (SourceEntry (length self.now.net) (N.table self.now.new)) self.now.classes }
+        ensures classes { AreClasses self.now.net (SourceEntry (length self.now.net) (O.table self.now.old))
+            (SourceEntry (length self.now.net) (N.table self.now.new)) self.now.classes }
     {
         &self.atoms
     }
@@ -79,6 +88,14 @@ impl<'a, O: RouteSource, N: RouteSource> Mixed<'a, O, N> {
         self.net
     }
 
+    /// Whether a prefix is connected at a router.
+    pub fn originates(&self, router: u32, prefix: Prefix) -> bool
+        requires { router < length self.now.net }
+        ensures { IsTrue result ↔ Connected self.now.net router prefix }
+    {
+        self.subnets[router as usize].has(prefix)
+    }
+
     /// What a router does in a phase with the packets of a class of addresses. In `Middle` that is what it does in
     /// `Old` or what it does in `New`.
     pub fn hops(&self, router: u32, atom: u32, phase: Phase) -> Next<'_>
@@ -88,21 +105,30 @@ impl<'a, O: RouteSource, N: RouteSource> Mixed<'a, O, N> {
         ensures middle { phase ≡ Phase.Middle
             → IsNextAtAnEnd self.now.net (HasEntry (O.table self.now.old)) (HasEntry (N.table self.now.new)) self.now.classes router atom result }
     {
-        let found = self.rows[router as usize].at(atom as usize);
-        let ospf = self.net.config(router).distances.ospf;
+        let cell = self.rows[router as usize].at(atom as usize);
         let old = self.old.table(router);
         let new = self.new.table(router);
-        match best_of(found, phase, ospf) {
-            Some(best) => next_of(old, new, best.way),
-            None => Next::Absent,
-        }
+        next_of(old, new, cell.used(phase))
     }
 }
 
-/// What is found for each router of a network and each of some ascending addresses.
+/// The prefixes that are connected at each router of a network.
+fn all_subnets(alloc: Global, net: &Net) -> Result<Vec<Subnets>, OutOfMemory>
+    ensures { IfOk result (λ v. AreAllSubnets net.now v.items) }
+{
+    let mut all = Vec::with_capacity(alloc, net.routers() as usize)?;
+    for router in 0..net.routers() {
+        let subnets = Subnets::of_router(alloc, net, router)?;
+        all.push(subnets)?;
+    }
+    Ok(all)
+}
+
+/// What each router of a network uses for each of some ascending addresses.
 fn rows_of<O: RouteSource, N: RouteSource>(
     alloc: Global,
     net: &Net,
+    subnets: &[Subnets],
     old: &O,
     new: &N,
     addresses: &[u32],
@@ -110,6 +136,7 @@ fn rows_of<O: RouteSource, N: RouteSource>(
     requires old_routers { O.routers old.now ≡ length net.now }
     requires new_routers { N.routers new.now ≡ length net.now }
     requires ascending { IsStrictlyIncreasing addresses.now }
+    requires subnets { AreAllSubnets net.now subnets.now }
     ensures rows { IfOk result (λ rows. AreRows net.now (O.table old.now) (N.table new.now) addresses.now rows.items) }
     ensures network { IsNetwork net.now }
 {
@@ -119,6 +146,7 @@ fn rows_of<O: RouteSource, N: RouteSource>(
             alloc,
             net,
             router,
+            &subnets[router as usize],
             old.table(router),
             new.table(router),
             addresses,
@@ -128,15 +156,16 @@ fn rows_of<O: RouteSource, N: RouteSource>(
     Ok(rows)
 }
 
-/// What stands where a way leads.
-fn next_of<'a>(old: &'a Table, new: &'a Table, way: Way) -> Next<'a>
-    requires { IsPlaced old.now new.now way }
-    ensures { ShowsWay old.now new.now way result }
+/// What a router does that uses this.
+fn next_of<'a>(old: &'a Table, new: &'a Table, used: Used) -> Next<'a>
+    requires { IsUsePlaced old.now new.now used }
+    ensures { ShowsUse old.now new.now used result }
 {
-    match way {
-        Way::Connected => Next::Connected,
-        Way::Old(place) => shown(old.entry(place)),
-        Way::New(place) => shown(new.entry(place)),
+    match used {
+        Used::Nothing => Next::Absent,
+        Used::Connected => Next::Connected,
+        Used::Old(place) => shown(old.entry(place as usize)),
+        Used::New(place) => shown(new.entry(place as usize)),
     }
 }
 

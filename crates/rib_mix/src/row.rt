@@ -2,9 +2,12 @@ ghost use Rattle.std.specs.Prelude.{◌≡◌, ◌<◌, IfOk, OnOk, Some, length
 ghost use Rattle.std.specs.List.Sorted.{IsStrictlyIncreasing};
 ghost use Rattle.net_addr.specs.LongestMatches.{AreMatches};
 ghost use Rattle.route_core.specs.Tables.{HasDistinctPrefixes, table_prefixes};
-ghost use Rattle.rib_mix.specs.Rows.{IsConnectedLength, IsLawful, IsRow};
+ghost use Rattle.rib_mix.specs.Cells.{AreFoundAt, AreSubnets, length_of};
+ghost use Rattle.rib_mix.specs.Rows.{HasOspfDistance, IsLawful, IsRouterRow};
 
+use crate::cell::{Cell, cell_of};
 use crate::found::Found;
+use crate::subnets::Subnets;
 use net_addr::{Match, Prefix};
 use net_model::Net;
 use prefix_atoms::longest_of_each;
@@ -12,24 +15,24 @@ use route_core::{OutOfMemory, Table};
 use std::alloc::Global;
 use std::marker::Model;
 
-/// What is found for a router and each of some addresses.
+/// What a router uses for each of some addresses.
 #[derive(Drop)]
 pub struct Row {
-    all: Vec<Found>,
+    all: Vec<Cell>,
 }
 
 impl Model for Row {
     ghost use Rattle.std.specs.Prelude.{List};
-    ghost use Rattle.rib_mix.specs.declared.found.Found.{Found};
+    ghost use Rattle.rib_mix.specs.declared.cell.Cell.{Cell};
 
-    ghost Value = { List Found };
+    ghost Value = { List Cell };
 
     ghost view = { λ x. x.all.items };
 }
 
 impl Row {
-    /// What is found for the address at a place.
-    pub fn at(&self, place: usize) -> Found
+    /// What is used for the address at a place.
+    pub fn at(&self, place: usize) -> Cell
         requires { place < length self.now }
         ensures { slice_get self.now place ≡ Some result }
     {
@@ -37,41 +40,69 @@ impl Row {
     }
 }
 
-/// What is found for a router and each of some ascending addresses.
+/// What a router uses for each of some ascending addresses.
 pub fn row_of(
     alloc: Global,
     net: &Net,
     router: u32,
+    subnets: &Subnets,
     old: &Table,
     new: &Table,
     addresses: &[u32],
 ) -> Result<Row, OutOfMemory>
     requires router { router < length net.now }
+    requires subnets { AreSubnets net.now router subnets.now }
     requires ascending { IsStrictlyIncreasing addresses.now }
-    ensures row { IfOk result (λ row. IsRow net.now old.now new.now router addresses.now row) }
+    ensures row { IfOk result (λ row. IsRouterRow net.now old.now new.now router addresses.now row) }
     ensures old_lawful { OnOk result (IsLawful old.now) }
     ensures new_lawful { OnOk result (IsLawful new.now) }
 {
+    let own = longest_of_each(alloc, subnets.as_slice(), addresses)?;
     let olds = matches_of(alloc, old, addresses)?;
     let news = matches_of(alloc, new, addresses)?;
-    let mut row = Vec::new(alloc);
-    for (k, a) in addresses.iter().enumerate() {
-        row.push(Found {
-            connected: connected_length(net, router, *a),
-            old: olds[k],
-            new: news[k],
-        })?;
+    let ospf = ospf_distance(net, router);
+    let mut row = Vec::with_capacity(alloc, addresses.len())?;
+    for k in 0..addresses.len() {
+        let found = found_at(own.as_slice(), olds.as_slice(), news.as_slice(), k);
+        let cell = cell_of(found, ospf)?;
+        row.push(cell)?;
     }
     Ok(Row { all: row })
 }
 
-/// The length of the longest connected prefix that contains an address.
-fn connected_length(net: &Net, router: u32, a: u32) -> Option<u8>
-    requires { router < length net.now }
-    ensures { IsConnectedLength net.now router a result }
+/// What is found at a place of some matches.
+fn found_at(
+    own: &[Option<Match>],
+    olds: &[Option<Match>],
+    news: &[Option<Match>],
+    place: usize,
+) -> Found
+    requires own { place < length own.now }
+    requires olds { place < length olds.now }
+    requires news { place < length news.now }
+    ensures { AreFoundAt own.now olds.now news.now place result }
 {
-    match net.connected(router, a) {
-        Some(prefix) => Some(prefix.len()),
+    Found {
+        connected: length_of(own[place]),
+        old: olds[place],
+        new: news[place],
+    }
+}
+
+/// The OSPF distance of a router.
+fn ospf_distance(net: &Net, router: u32) -> u8
+    requires { router < length net.now }
+    ensures { HasOspfDistance net.now router result }
+{
+    net.config(router).distances.ospf
+}
+
+/// The length of a match.
+fn length_of(found: Option<Match>) -> Option<u8>
+    ensures { result ≡ length_of found }
+{
+    match found {
+        Some(found) => Some(found.len),
         None => None,
     }
 }
@@ -95,7 +126,7 @@ fn prefixes_of(alloc: Global, table: &Table) -> Result<Vec<Prefix>, OutOfMemory>
     ensures prefixes { IfOk result (λ v. v.items ≡ table_prefixes table.now) }
     ensures distinct { HasDistinctPrefixes table.now }
 {
-    let mut prefixes = Vec::new(alloc);
+    let mut prefixes = Vec::with_capacity(alloc, table.len())?;
     for place in 0..table.len() {
         let dest = table.dest(place);
         prefixes.push(dest)?;

@@ -3,7 +3,7 @@ use Rattle.std.proofs.Common.{◌≡◌, ℕ, Option, Some, None, IfSome, IfNone
 use Rattle.route_core.specs.Tables.{HasEntry}
 use Rattle.igp_theory.specs.declared.phase.Phase.TheVariants.{Old, New}
 use Rattle.rib_mix.specs.Mixture.{Mixture}
-use Rattle.loop_finder.specs.Steps.{Listing}
+use Rattle.loop_finder.specs.ClassSteps.{Listing}
 use Rattle.plan_theory.specs.Plans.{IsPlanned}
 use Rattle.plan_theory.specs.declared.planned.EndFault.{EndFault}
 use Rattle.plan_theory.specs.declared.planned.Planned.{Planned}

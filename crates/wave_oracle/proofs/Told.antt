@@ -5,7 +5,7 @@ use Rattle.igp_theory.specs.Loops.{IsLoop}
 use Rattle.igp_theory.specs.WaveFaults.{IsWavesFault}
 use Rattle.rib_mix.specs.Mixture.{Mixture}
 use Rattle.loop_finder.specs.Faults.{told_fault}
-use Rattle.loop_finder.specs.Steps.{Listing}
+use Rattle.loop_finder.specs.ClassSteps.{Listing}
 use Rattle.loop_finder.specs.WaveLists.{IsNumberedWavesFault}
 use Rattle.loop_finder.specs.declared.fault.Fault.{Fault}
 use Rattle.loop_finder.specs.declared.fault.Fault.TheVariants.{Loop, Missing}

@@ -4,7 +4,8 @@ use Rattle.loop_finder.proofs.calm.calm_from.Goals as goal
 
 pub loop-wave-preserved : goal.loop-wave-preserved
 loop-wave-preserved c = record {
-  calm = calm_more c.args.part.now c.args.ranks.now c.loop-wave.wave (sym c.moves.ensures ∙ c.if-not-moves.false) c.loop-wave.invariant.calm c.if-stirs_in.ensures.calm;
+  calm = calm_more c.args.part.now c.args.ranks.now c.loop-wave.wave (sym c.moves.ensures ∙ c.if-not-moves.false) c.loop-wave.invariant.calm
+      c.if-stirs_in.ensures.calm;
   room = c.stirs_in.ensures.room;
   ring = c.stirs_in.ensures.ring ∙ c.loop-wave.invariant.ring;
 }

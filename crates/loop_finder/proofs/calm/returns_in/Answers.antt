@@ -6,4 +6,5 @@ use Rattle.loop_finder.proofs.calm.returns_in.Goals as goal
 
 pub returns-clause-never : goal.returns-clause-never
 returns-clause-never c =
-    subst (λ (x : WaveState). OnFalse c.may_return.result (NeverReturnsTo (WaveStep x.part x.ranks x.wave) c.args.router)) c.new-steps.ensures c.may_return.ensures.never
+    subst (λ (x : WaveState). OnFalse c.may_return.result (NeverReturnsTo (WaveStep x.part x.ranks x.wave) c.args.router)) c.new-steps.ensures
+    c.may_return.ensures.never

@@ -14,7 +14,8 @@ part_fault-requires-clause-part g c =
 pub loop-place-preserved : goal.loop-place-preserved
 loop-place-preserved g c = record {
   stays = λ j d less.
-      below_more (λ (k : ℕ). StaysSoundAt g.O.RouteSource.table g.N.RouteSource.table c.args.mixed.now c.args.phases.now c.args.router (get_or c.args.parts.now (get_or c.args.places.now k 0) d).atom) c.loop-place.place-index
+      below_more (λ (k : ℕ). StaysSoundAt g.O.RouteSource.table g.N.RouteSource.table c.args.mixed.now c.args.phases.now c.args.router
+      (get_or c.args.parts.now (get_or c.args.places.now k 0) d).atom) c.loop-place.place-index
       (λ k below. c.loop-place.invariant.stays k d below)
       (subst (λ (x : ClassPart). StaysSoundAt g.O.RouteSource.table g.N.RouteSource.table c.args.mixed.now c.args.phases.now c.args.router x.atom)
       (c.index-parts-place.is ∙ get_or_default c.args.parts.now (get_or c.args.places.now c.loop-place.place-index 0) c.index-parts-place.result d
@@ -26,11 +27,14 @@ loop-place-preserved g c = record {
 
 pub returns-in-Some-clause-fault : goal.returns-in-Some-clause-fault
 returns-in-Some-clause-fault g c =
-    turns_faulty_at g.O.RouteSource.table g.N.RouteSource.table c.args.mixed.now c.args.parts.now c.args.places.now c.args.phases.now c.args.router c.loop-place.place-index
-    c.index-parts-place.result c.in-Some.fault c.part_fault.new.room.ring.items c.requires.parts c.requires.places c.loop-place-test.true c.index-parts-place.is
+    turns_faulty_at g.O.RouteSource.table g.N.RouteSource.table c.args.mixed.now c.args.parts.now c.args.places.now c.args.phases.now c.args.router
+    c.loop-place.place-index
+    c.index-parts-place.result c.in-Some.fault c.part_fault.new.room.ring.items c.requires.parts c.requires.places
+    c.loop-place-test.true c.index-parts-place.is
     c.loop-place.invariant.stays c.in-Some.ensures.told
 
 pub returns-clause-sound : goal.returns-clause-sound
 returns-clause-sound g c =
-    stays_sound_at_all g.O.RouteSource.table g.N.RouteSource.table c.args.mixed.now c.args.parts.now c.args.places.now c.args.phases.now c.args.router c.loop-place.place-index
+    stays_sound_at_all g.O.RouteSource.table g.N.RouteSource.table c.args.mixed.now c.args.parts.now c.args.places.now c.args.phases.now c.args.router
+    c.loop-place.place-index
     c.requires.parts c.requires.places c.loop-place-test.false c.loop-place.invariant.stays

@@ -13,4 +13,6 @@ may_return-requires-clause-inside c =
 
 pub returns-clause-never : goal.returns-clause-never
 returns-clause-never c =
-    on_not (NeverReturnsTo (PartStep c.args.part.now c.args.first.now c.args.last.now) c.args.router) c.may_return.result (subst (λ (x : PartState). OnFalse c.may_return.result (NeverReturnsTo (PartStep x.part x.first x.last) c.args.router)) c.new-steps.ensures c.may_return.ensures.never)
+    on_not (NeverReturnsTo (PartStep c.args.part.now c.args.first.now c.args.last.now) c.args.router) c.may_return.result
+    (subst (λ (x : PartState). OnFalse c.may_return.result (NeverReturnsTo (PartStep x.part x.first x.last) c.args.router)) c.new-steps.ensures
+    c.may_return.ensures.never)

@@ -1,15 +1,18 @@
 use Rattle.std.proofs.Common.{ℕ, List, take, get_or, subst, sym, arith}
 use Rattle.std.proofs.lemmas.List.{take_more, take_all}
-use Rattle.loop_finder.specs.Live.{LowestMarked}
+use Rattle.loop_finder.specs.steps.Live.{LowestMarked}
 use Rattle.loop_finder.proofs.LowestSteps.{lowest_more}
 use Rattle.loop_finder.proofs.live.lowest_marked.Goals as goal
 
 pub loop-router-preserved : goal.loop-router-preserved
 loop-router-preserved c =
     let xs : List ℕ = take c.loop-router.router-index c.args.routers.now in
-    subst (λ (ys : List ℕ). LowestMarked ys c.args.marks.now c.lower-lowest.result) (sym (take_more c.args.routers.now c.loop-router.router-index 0 (omega arith)))
-    (lowest_more c.args.marks.now xs c.loop-router.lowest (get_or c.args.routers.now c.loop-router.router-index 0) c.lower-lowest.result c.loop-router.invariant c.lower-lowest.ensures)
+    subst (λ (ys : List ℕ). LowestMarked ys c.args.marks.now c.lower-lowest.result)
+    (sym (take_more c.args.routers.now c.loop-router.router-index 0 (omega arith)))
+    (lowest_more c.args.marks.now xs c.loop-router.lowest (get_or c.args.routers.now c.loop-router.router-index 0) c.lower-lowest.result
+    c.loop-router.invariant c.lower-lowest.ensures)
 
 pub returns : goal.returns
 returns c =
-    subst (λ (ys : List ℕ). LowestMarked ys c.args.marks.now c.loop-router.lowest) (take_all c.loop-router.router-index c.args.routers.now c.loop-router-test.false) c.loop-router.invariant
+    subst (λ (ys : List ℕ). LowestMarked ys c.args.marks.now c.loop-router.lowest) (take_all c.loop-router.router-index c.args.routers.now
+    c.loop-router-test.false) c.loop-router.invariant

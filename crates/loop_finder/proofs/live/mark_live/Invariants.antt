@@ -1,4 +1,4 @@
-use Rattle.loop_finder.specs.Live.{AreBounded, marked_count}
+use Rattle.loop_finder.specs.steps.Live.{AreBounded, marked_count}
 use Rattle.loop_finder.proofs.live.mark_live.Given as goal
 
 abbrev pub invariant-loop-live : goal.invariant-loop-live

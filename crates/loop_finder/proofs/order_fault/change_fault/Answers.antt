@@ -13,9 +13,11 @@ use Rattle.loop_finder.proofs.order_fault.change_fault.Goals as goal
 pub advance-requires : goal.advance-requires
 advance-requires g c =
     let within : c.args.k / 2 < length c.args.order.now = c.in-Some.ensures.lookup.3.0 in
-    let read : c.in-Some.router.now ≡ get_or c.args.order.now (c.args.k / 2) 0 = get_or_read c.args.order.now (c.args.k / 2) c.in-Some.router.now within c.in-Some.ensures.lookup.1 0 in
+    let read : c.in-Some.router.now ≡ get_or c.args.order.now (c.args.k / 2) 0 =
+    get_or_read c.args.order.now (c.args.k / 2) c.in-Some.router.now within c.in-Some.ensures.lookup.1 0 in
     let below : c.in-Some.router.now < length c.args.mixed.now.net =
-    c.requires.routers c.in-Some.router.now (subst (λ (u : ℕ). Contains c.args.order.now u) (sym read) (Contains-get_or c.args.order.now (c.args.k / 2) 0 within)) in
+    c.requires.routers c.in-Some.router.now (subst (λ (u : ℕ). Contains c.args.order.now u) (sym read)
+    (Contains-get_or c.args.order.now (c.args.k / 2) 0 within)) in
     omega (arith, below, c.requires.many)
 
 pub returns-in_default-clause-state : goal.returns-in_default-clause-state
@@ -30,9 +32,11 @@ returns-clause-state g c =
 pub turned_fault-requires-clause-places : goal.turned_fault-requires-clause-places
 turned_fault-requires-clause-places g c =
     let place : c.args.k / 2 < length c.args.order.now = c.in-Some.ensures.lookup.3.0 in
-    let read : c.in-Some.router.now ≡ get_or c.args.order.now (c.args.k / 2) 0 = get_or_read c.args.order.now (c.args.k / 2) c.in-Some.router.now place c.in-Some.ensures.lookup.1 0 in
+    let read : c.in-Some.router.now ≡ get_or c.args.order.now (c.args.k / 2) 0 =
+    get_or_read c.args.order.now (c.args.k / 2) c.in-Some.router.now place c.in-Some.ensures.lookup.1 0 in
     let inside : c.in-Some.router.now < length c.args.mixed.now.net =
-    c.requires.routers c.in-Some.router.now (subst (λ (u : ℕ). Contains c.args.order.now u) (sym read) (Contains-get_or c.args.order.now (c.args.k / 2) 0 place)) in
+    c.requires.routers c.in-Some.router.now (subst (λ (u : ℕ). Contains c.args.order.now u) (sym read)
+    (Contains-get_or c.args.order.now (c.args.k / 2) 0 place)) in
     let within : c.in-Some.router.now < length c.args.watch.now = omega (arith, c.requires.watch.many, inside) in
     subst (λ (xs : List ℕ). ArePlacesOf c.args.parts.now c.in-Some.router.now xs)
     (sym (c.as_slice-places.ensures ∙ c.index-watch-router.is ∙ get_or_default c.args.watch.now c.in-Some.router.now c.index-watch-router.result [] within))
@@ -41,17 +45,21 @@ turned_fault-requires-clause-places g c =
 pub turned_fault-requires-clause-router : goal.turned_fault-requires-clause-router
 turned_fault-requires-clause-router g c =
     let within : c.args.k / 2 < length c.args.order.now = c.in-Some.ensures.lookup.3.0 in
-    let read : c.in-Some.router.now ≡ get_or c.args.order.now (c.args.k / 2) 0 = get_or_read c.args.order.now (c.args.k / 2) c.in-Some.router.now within c.in-Some.ensures.lookup.1 0 in
-    c.requires.routers c.in-Some.router.now (subst (λ (u : ℕ). Contains c.args.order.now u) (sym read) (Contains-get_or c.args.order.now (c.args.k / 2) 0 within))
+    let read : c.in-Some.router.now ≡ get_or c.args.order.now (c.args.k / 2) 0 =
+    get_or_read c.args.order.now (c.args.k / 2) c.in-Some.router.now within c.in-Some.ensures.lookup.1 0 in
+    c.requires.routers c.in-Some.router.now (subst (λ (u : ℕ). Contains c.args.order.now u) (sym read)
+    (Contains-get_or c.args.order.now (c.args.k / 2) 0 within))
 
 pub returns-clause-sound : goal.returns-clause-sound
 returns-clause-sound g c =
-    sound_after g.O.RouteSource.table g.N.RouteSource.table c.args.mixed.now c.advance.new.phases c.in-Some.router.now (state_in c.args.phases.now) c.turned_fault.result
+    sound_after g.O.RouteSource.table g.N.RouteSource.table c.args.mixed.now c.advance.new.phases c.in-Some.router.now
+    (state_in c.args.phases.now) c.turned_fault.result
     (λ v within apart. c.advance.ensures.others v apart) c.requires.before c.turned_fault.ensures.sound
 
 pub returns-clause-fault : goal.returns-clause-fault
 returns-clause-fault g c =
-    faulty_after g.O.RouteSource.table g.N.RouteSource.table c.args.mixed.now c.advance.new.phases c.in-Some.router.now (state_in c.args.phases.now) c.turned_fault.result
+    faulty_after g.O.RouteSource.table g.N.RouteSource.table c.args.mixed.now c.advance.new.phases c.in-Some.router.now
+    (state_in c.args.phases.now) c.turned_fault.result
     c.turned_fault.new.room.ring.items (λ v within apart. c.advance.ensures.others v apart) c.requires.before c.turned_fault.ensures.fault
 
 pub returns-then-is_known-clause-state : goal.returns-then-is_known-clause-state

@@ -20,7 +20,8 @@ loop-k-init g c = record {
   sound = λ j less.
       let first : 0 ≡ j = omega (arith, less) in
       subst (λ (state : State). Sound g.O.RouteSource.table g.N.RouteSource.table c.args.mixed.now state)
-      (same_state (state_in c.begin.new.phases) (state_of c.args.order.now j) (λ u. c.begin.ensures u ∙ ap (λ (k : ℕ). state_of c.args.order.now k u) first)) c.in_default.ensures.sound;
+      (same_state (state_in c.begin.new.phases) (state_of c.args.order.now j) (λ u. c.begin.ensures u ∙ ap (λ (k : ℕ). state_of c.args.order.now k u) first))
+      c.in_default.ensures.sound;
   room = c.in_default.ensures.room;
   ring = c.in_default.ensures.ring;
 }
@@ -31,25 +32,36 @@ change_fault-requires-clause-routers g c u among = (c.requires.order.all u).0 am
 pub change_fault-requires-clause-before : goal.change_fault-requires-clause-before
 change_fault-requires-clause-before g c =
     subst (λ (state : State). Sound g.O.RouteSource.table g.N.RouteSource.table c.args.mixed.now state)
-    (sym (same_state (state_in c.loop-k.phases) (state_of c.args.order.now c.loop-k.k) c.loop-k.invariant.state)) (c.loop-k.invariant.sound c.loop-k.k (omega arith))
+    (sym (same_state (state_in c.loop-k.phases) (state_of c.args.order.now c.loop-k.k) c.loop-k.invariant.state))
+    (c.loop-k.invariant.sound c.loop-k.k (omega arith))
 
 pub returns-in-Some-change_fault-clause-within : goal.returns-in-Some-change_fault-clause-within
 returns-in-Some-change_fault-clause-within g c =
-    omega (arith, order_length (length c.args.mixed.now.net) c.args.order.now c.requires.order, c.loop-k-test.true, c.routers-k-end.ensures.count, ap (λ (n : Network). length n) c.net.ensures)
+    omega (
+      arith,
+      order_length (length c.args.mixed.now.net) c.args.order.now c.requires.order,
+      c.loop-k-test.true,
+      c.routers-k-end.ensures.count,
+      ap (λ (n : Network). length n) c.net.ensures,
+    )
 
 pub returns-in-Some-change_fault-clause-fault : goal.returns-in-Some-change_fault-clause-fault
 returns-in-Some-change_fault-clause-fault g c = record {
   before = c.loop-k.invariant.sound;
-  here = subst (λ (state : State). Faulty g.O.RouteSource.table g.N.RouteSource.table c.args.mixed.now state c.in-Some-change_fault.fault c.change_fault.new.room.ring.items)
-      (same_state (state_in c.change_fault.new.phases) (state_of c.args.order.now (c.loop-k.k + 1)) c.change_fault.ensures.state) c.in-Some-change_fault.ensures.fault;
+  here = subst (λ (state : State). Faulty g.O.RouteSource.table g.N.RouteSource.table c.args.mixed.now state c.in-Some-change_fault.fault
+      c.change_fault.new.room.ring.items)
+      (same_state (state_in c.change_fault.new.phases) (state_of c.args.order.now (c.loop-k.k + 1)) c.change_fault.ensures.state)
+      c.in-Some-change_fault.ensures.fault;
 }
 
 pub loop-k-preserved : goal.loop-k-preserved
 loop-k-preserved g c = record {
   state = c.change_fault.ensures.state;
-  sound = below_more (λ (j : ℕ). Sound g.O.RouteSource.table g.N.RouteSource.table c.args.mixed.now (state_of c.args.order.now j)) (c.loop-k.k + 1) c.loop-k.invariant.sound
+  sound = below_more (λ (j : ℕ). Sound g.O.RouteSource.table g.N.RouteSource.table c.args.mixed.now (state_of c.args.order.now j)) (c.loop-k.k + 1)
+      c.loop-k.invariant.sound
       (subst (λ (state : State). Sound g.O.RouteSource.table g.N.RouteSource.table c.args.mixed.now state)
-      (same_state (state_in c.change_fault.new.phases) (state_of c.args.order.now (c.loop-k.k + 1)) c.change_fault.ensures.state) c.in_default-change_fault.ensures.sound);
+      (same_state (state_in c.change_fault.new.phases) (state_of c.args.order.now (c.loop-k.k + 1)) c.change_fault.ensures.state)
+      c.in_default-change_fault.ensures.sound);
   room = c.in_default-change_fault.ensures.room;
   ring = c.in_default-change_fault.ensures.ring ∙ c.loop-k.invariant.ring;
 }
@@ -57,4 +69,11 @@ loop-k-preserved g c = record {
 pub returns-clause-sound : goal.returns-clause-sound
 returns-clause-sound g c = λ j below.
     c.loop-k.invariant.sound j
-    (omega (arith, order_length (length c.args.mixed.now.net) c.args.order.now c.requires.order, c.loop-k-test.false, c.routers-k-end.ensures.count, ap (λ (n : Network). length n) c.net.ensures, below))
+    (omega (
+      arith,
+      order_length (length c.args.mixed.now.net) c.args.order.now c.requires.order,
+      c.loop-k-test.false,
+      c.routers-k-end.ensures.count,
+      ap (λ (n : Network). length n) c.net.ensures,
+      below,
+    ))

@@ -1,7 +1,7 @@
 use Rattle.std.proofs.Common.{◌≡◌, ℕ, ◌≤◌, ◌^◌, List, length, ap, ◌∙◌, arith, sym, subst}
 use Rattle.net_model.specs.Network.{Network}
 use Rattle.prefix_atoms.specs.Classes.{Classes}
-use Rattle.loop_finder.specs.Making.{IsMaking}
+use Rattle.loop_finder.specs.steps.Making.{IsMaking}
 use Rattle.loop_finder.specs.Parts.{ClassPart, AreParts}
 use Rattle.loop_finder.proofs.PartLists.{AreParts-none}
 use Rattle.loop_finder.proofs.StateVerdicts.{classes_few}
@@ -12,22 +12,27 @@ loop-atom-init g c =
     let routers : c.routers.result ≡ length c.args.mixed.now.net = c.routers.ensures.count ∙ ap (λ (n : Network). length n) c.net.ensures in
     record {
       making = subst (λ (n : ℕ). IsMaking n c.in_ok-making.making) routers c.in_ok-making.ensures;
-      parts = subst (λ (xs : List ClassPart). AreParts g.O.RouteSource.table g.N.RouteSource.table c.args.mixed.now xs 0) (sym c.new-parts.ensures.items) (AreParts-none g.O.RouteSource.table g.N.RouteSource.table c.args.mixed.now c.atoms.ensures.classes);
+      parts = subst (λ (xs : List ClassPart). AreParts g.O.RouteSource.table g.N.RouteSource.table c.args.mixed.now xs 0) (sym c.new-parts.ensures.items)
+          (AreParts-none g.O.RouteSource.table g.N.RouteSource.table c.args.mixed.now c.atoms.ensures.classes);
     }
 
 pub overflow_cast-atom : goal.overflow_cast-atom
 overflow_cast-atom g c =
-    let many : c.count-atom-end.result ≡ length c.args.mixed.now.classes.samples = c.count-atom-end.ensures.count ∙ ap (λ (x : Classes). length x.samples) c.atoms.ensures.atoms in
-    let few : length c.args.mixed.now.classes.samples ≤ 2 ^ 32 = classes_few c.args.mixed.now.classes.prefixes c.args.mixed.now.classes.samples c.atoms.ensures.classes.classing.samples in
+    let many : c.count-atom-end.result ≡ length c.args.mixed.now.classes.samples =
+    c.count-atom-end.ensures.count ∙ ap (λ (x : Classes). length x.samples) c.atoms.ensures.atoms in
+    let few : length c.args.mixed.now.classes.samples ≤ 2 ^ 32 =
+    classes_few c.args.mixed.now.classes.prefixes c.args.mixed.now.classes.samples c.atoms.ensures.classes.classing.samples in
     omega (arith, many, few, c.loop-atom-test.true)
 
 pub add_part-requires-clause-atom : goal.add_part-requires-clause-atom
 add_part-requires-clause-atom g c =
-    let many : c.count-atom-end.result ≡ length c.args.mixed.now.classes.samples = c.count-atom-end.ensures.count ∙ ap (λ (x : Classes). length x.samples) c.atoms.ensures.atoms in
+    let many : c.count-atom-end.result ≡ length c.args.mixed.now.classes.samples =
+    c.count-atom-end.ensures.count ∙ ap (λ (x : Classes). length x.samples) c.atoms.ensures.atoms in
     omega (arith, many, c.loop-atom-test.true)
 
 pub returns : goal.returns
 returns g c =
-    let many : c.count-atom-end.result ≡ length c.args.mixed.now.classes.samples = c.count-atom-end.ensures.count ∙ ap (λ (x : Classes). length x.samples) c.atoms.ensures.atoms in
+    let many : c.count-atom-end.result ≡ length c.args.mixed.now.classes.samples =
+    c.count-atom-end.ensures.count ∙ ap (λ (x : Classes). length x.samples) c.atoms.ensures.atoms in
     let all : c.loop-atom.atom ≡ length c.args.mixed.now.classes.samples = omega (arith, many, c.loop-atom-test.false, c.loop-atom.auto.atom-end) in
     subst (λ (n : ℕ). AreParts g.O.RouteSource.table g.N.RouteSource.table c.args.mixed.now c.loop-atom.parts.items n) all c.loop-atom.invariant.parts

@@ -1,5 +1,5 @@
 use Rattle.std.proofs.Common.{length}
-use Rattle.loop_finder.specs.Making.{IsMaking}
+use Rattle.loop_finder.specs.steps.Making.{IsMaking}
 use Rattle.loop_finder.specs.Parts.{AreParts}
 use Rattle.loop_finder.proofs.parts.parts_of.Given as goal
 

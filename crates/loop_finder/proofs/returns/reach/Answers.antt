@@ -17,8 +17,10 @@ pub loop-router-preserved : goal.loop-router-preserved
 loop-router-preserved c = record {
   reached = c.reach_one.ensures.reached;
   more = ReachesMore-then _ _ _ _ _ _ c.loop-router.invariant.more c.reach_one.ensures.more;
-  routers = below_more (λ (k : ℕ). get_or c.args.routers.now k 0 < length c.reach_one.new.seen → IsMarked c.reach_one.new.seen (get_or c.args.routers.now k 0)) c.loop-router.router-index
-      (λ k below within. c.reach_one.ensures.more.marked (get_or c.args.routers.now k 0) (c.loop-router.invariant.routers k below (omega (arith, within, c.reach_one.auto.seen))))
+  routers = below_more (λ (k : ℕ). get_or c.args.routers.now k 0 < length c.reach_one.new.seen → IsMarked c.reach_one.new.seen (get_or c.args.routers.now k 0))
+      c.loop-router.router-index
+      (λ k below within. c.reach_one.ensures.more.marked (get_or c.args.routers.now k 0)
+      (c.loop-router.invariant.routers k below (omega (arith, within, c.reach_one.auto.seen))))
       (λ within. c.reach_one.ensures.router (omega (arith, within, c.reach_one.auto.seen)));
   many = omega (arith, c.loop-router.invariant.many, c.reach_one.auto.seen);
   capacity = omega (arith, c.loop-router.invariant.capacity, c.reach_one.ensures.capacity);
@@ -28,4 +30,5 @@ pub returns-clause-routers : goal.returns-clause-routers
 returns-clause-routers c h among within =
     let is : get_or c.args.routers.now among.0 0 ≡ h = get_or_default c.args.routers.now among.0 0 h among.1 ∙ among.2 in
     subst (λ (x : ℕ). x < length c.args.seen.now → IsMarked c.loop-router.seen x) is
-    (λ below. c.loop-router.invariant.routers among.0 (omega (arith, among.1, c.loop-router-test.false)) (omega (arith, below, c.loop-router.invariant.many))) within
+    (λ below. c.loop-router.invariant.routers among.0 (omega (arith, among.1, c.loop-router-test.false)) (omega (arith, below, c.loop-router.invariant.many)))
+    within

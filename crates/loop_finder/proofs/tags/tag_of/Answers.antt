@@ -10,4 +10,5 @@ returns-in-true-false g c = record {
 
 pub returns-in-false-default : goal.returns-in-false-default
 returns-in-false-default g c =
-    tagged_new g.O.RouteSource.table g.N.RouteSource.table c.args.steps.now c.args.router c.args.next (λ steps. false≢true (c.in-false-default.ensures.1 steps)) c.requires.some
+    tagged_new g.O.RouteSource.table g.N.RouteSource.table c.args.steps.now c.args.router c.args.next (λ steps.
+    false≢true (c.in-false-default.ensures.1 steps)) c.requires.some

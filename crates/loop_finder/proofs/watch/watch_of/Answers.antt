@@ -7,4 +7,5 @@ loop-router-init c = IsWatch-none c.args.parts.now c.in_ok-watch.watch.items (ap
 
 pub loop-router-preserved : goal.loop-router-preserved
 loop-router-preserved c =
-    IsWatch-more c.args.parts.now c.loop-router.router c.loop-router.watch.items _ c.in_ok-places.places c.in_ok-push.ensures.items c.loop-router.invariant c.in_ok-places.ensures
+    IsWatch-more c.args.parts.now c.loop-router.router c.loop-router.watch.items _ c.in_ok-places.places c.in_ok-push.ensures.items
+    c.loop-router.invariant c.in_ok-places.ensures

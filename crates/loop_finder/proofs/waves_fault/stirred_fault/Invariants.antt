@@ -2,7 +2,7 @@ use Rattle.std.proofs.Common.{◌≡◌, ℕ, ◌<◌, length, get_or}
 use Rattle.igp_theory.specs.States.{State}
 use Rattle.loop_finder.specs.Parts.{ClassPart}
 use Rattle.loop_finder.specs.Rooms.{HasRoom}
-use Rattle.loop_finder.specs.Steps.{sample_of}
+use Rattle.loop_finder.specs.ClassSteps.{sample_of}
 use Rattle.loop_finder.specs.Verdicts.{IsBetween, SoundAt}
 use Rattle.loop_finder.proofs.waves_fault.stirred_fault.Given as goal
 

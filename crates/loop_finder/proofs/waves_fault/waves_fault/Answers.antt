@@ -10,7 +10,8 @@ use Rattle.loop_finder.proofs.waves_fault.waves_fault.Goals as goal
 
 pub returns-then-not-is_wave-clause-sound : goal.returns-then-not-is_wave-clause-sound
 returns-then-not-is_wave-clause-sound g c =
-    sound_to_last g.O.RouteSource.table g.N.RouteSource.table c.args.mixed.now c.args.ranks.now c.loop-wave.wave c.requires.ranks (λ among. false≢true (c.if-not-is_wave.ensures.1 among)) c.loop-wave.invariant.sound
+    sound_to_last g.O.RouteSource.table g.N.RouteSource.table c.args.mixed.now c.args.ranks.now c.loop-wave.wave c.requires.ranks (λ among.
+    false≢true (c.if-not-is_wave.ensures.1 among)) c.loop-wave.invariant.sound
 
 pub returns-in-Some-clause-fault : goal.returns-in-Some-clause-fault
 returns-in-Some-clause-fault g c = record {
@@ -21,7 +22,8 @@ returns-in-Some-clause-fault g c = record {
 
 pub loop-wave-preserved : goal.loop-wave-preserved
 loop-wave-preserved g c = record {
-  sound = below_more (SoundWave g.O.RouteSource.table g.N.RouteSource.table c.args.mixed.now c.args.ranks.now) c.loop-wave.wave c.loop-wave.invariant.sound c.in_default.ensures.sound;
+  sound = below_more (SoundWave g.O.RouteSource.table g.N.RouteSource.table c.args.mixed.now c.args.ranks.now) c.loop-wave.wave c.loop-wave.invariant.sound
+      c.in_default.ensures.sound;
   room = c.in_default.ensures.room;
   ring = c.in_default.ensures.ring ∙ c.loop-wave.invariant.ring;
 }
@@ -34,12 +36,15 @@ returns-clause-sound g c =
 pub wave_fault-requires-clause-begun : goal.wave_fault-requires-clause-begun
 wave_fault-requires-clause-begun g c =
     on_true c.begins_sound-known.result c.begins_sound-known.ensures
-    (λ known. begins_sound g.O.RouteSource.table g.N.RouteSource.table c.args.mixed.now c.args.ranks.now c.loop-wave.wave c.args.begun c.requires.ranks.each c.requires.begun c.loop-wave.invariant.sound known)
+    (λ known. begins_sound g.O.RouteSource.table g.N.RouteSource.table c.args.mixed.now c.args.ranks.now c.loop-wave.wave c.args.begun c.requires.ranks.each
+    c.requires.begun c.loop-wave.invariant.sound known)
 
 pub loop-wave-init : goal.loop-wave-init
 loop-wave-init g c = record {
-  sound = sound_waves_before g.O.RouteSource.table g.N.RouteSource.table c.args.mixed.now c.args.parts.now c.args.ranks.now c.args.calm.now c.args.begun c.first_stirred-start.result c.requires.ranks.each
-      c.requires.parts c.requires.calm c.requires.begun c.first_stirred-start.ensures.begun c.first_stirred-start.ensures.calm c.first_stirred-start.result (omega arith);
+  sound = sound_waves_before g.O.RouteSource.table g.N.RouteSource.table c.args.mixed.now c.args.parts.now c.args.ranks.now c.args.calm.now c.args.begun
+      c.first_stirred-start.result c.requires.ranks.each
+      c.requires.parts c.requires.calm c.requires.begun c.first_stirred-start.ensures.begun c.first_stirred-start.ensures.calm
+      c.first_stirred-start.result (omega arith);
   room = c.requires.room;
   ring = refl;
 }

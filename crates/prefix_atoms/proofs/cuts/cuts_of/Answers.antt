@@ -14,7 +14,8 @@ loop-prefix-preserved c = record {
 
 pub returns-clause-cuts : goal.returns-clause-cuts
 returns-clause-cuts c =
-    let all : take c.loop-prefix.prefix-index c.args.prefixes.now ≡ c.args.prefixes.now = take_whole c.args.prefixes.now c.loop-prefix.prefix-index c.loop-prefix-test.false in
+    let all : take c.loop-prefix.prefix-index c.args.prefixes.now ≡ c.args.prefixes.now =
+    take_whole c.args.prefixes.now c.loop-prefix.prefix-index c.loop-prefix-test.false in
     record {
       ascending = c.keep_distinct_numbers.ensures.ascending;
       below = c.keep_distinct_numbers.ensures.below;
@@ -25,5 +26,6 @@ returns-clause-cuts c =
 
 pub returns-clause-blocks : goal.returns-clause-blocks
 returns-clause-blocks c =
-    let all : take c.loop-prefix.prefix-index c.args.prefixes.now ≡ c.args.prefixes.now = take_whole c.args.prefixes.now c.loop-prefix.prefix-index c.loop-prefix-test.false in
+    let all : take c.loop-prefix.prefix-index c.args.prefixes.now ≡ c.args.prefixes.now =
+    take_whole c.args.prefixes.now c.loop-prefix.prefix-index c.loop-prefix-test.false in
     subst (All IsBlock) all c.loop-prefix.invariant.blocks

@@ -45,13 +45,15 @@ loop-i-preserved c =
     let last : c.last-last.result ≡ last_address p = c.last-last.ensures in
     let low : get_or c.args.addresses.now c.loop-i.i 0 ≤ last_address p = omega (arith, c.if-addresses-i.false, last) in
     let within : c.loop-i.i < length c.loop-i.found.items = omega (arith, c.loop-i.invariant.count, c.loop-i-test.true) in
-    let same : get_or c.loop-i.found.items c.loop-i.i None ≡ c.index.result.now = read_none c.loop-i.found.items c.loop-i.i c.index.result.now within c.index.ensures in
+    let same : get_or c.loop-i.found.items c.loop-i.i None ≡ c.index.result.now =
+    read_none c.loop-i.found.items c.loop-i.i c.index.result.now within c.index.ensures in
     let base : c.base-base.result ≡ p.base = c.base-base.ensures.value in
     subst (λ (b : ℕ). Painted c.args.prefixes.now c.args.place c.args.addresses.now (set c.loop-i.found.items c.loop-i.i
     (Some c.or_longer.result)) b (c.loop-i.i + 1)) (sym base)
     (painted_more c.args.prefixes.now c.args.place c.args.addresses.now c.loop-i.found.items p c.loop-i.i c.or_longer.result
     (stands_at c.args.prefixes.now c.args.place p c.requires.place c.index-prefixes-place.is) c.base-base.ensures.block
-    (subst (λ (b : ℕ). Painted c.args.prefixes.now c.args.place c.args.addresses.now c.loop-i.found.items b c.loop-i.i) base c.loop-i.invariant) c.loop-i-test.true low
+    (subst (λ (b : ℕ). Painted c.args.prefixes.now c.args.place c.args.addresses.now c.loop-i.found.items b c.loop-i.i) base c.loop-i.invariant)
+    c.loop-i-test.true low
     (subst (λ (o : Option Match). TakesLonger o (record { place = c.args.place; len = p.len }) c.or_longer.result) (sym same)
     (subst (λ (n : ℕ). TakesLonger c.index.result.now (record { place = c.args.place; len = n }) c.or_longer.result) c.len.ensures.value c.or_longer.ensures)))
 

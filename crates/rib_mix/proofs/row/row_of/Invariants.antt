@@ -1,10 +1,10 @@
 use Rattle.std.proofs.Common.{◌≡◌, ℕ, length, get_or, slice_get, Some}
-use Rattle.rib_mix.specs.Rows.{IsFound}
-use Rattle.rib_mix.specs.declared.found.Found.{Found}
+use Rattle.rib_mix.specs.Rows.{IsCell}
+use Rattle.rib_mix.specs.declared.cell.Cell.{Cell}
 use Rattle.rib_mix.proofs.row.row_of.Given as goal
 
 abbrev pub invariant-loop-k : goal.invariant-loop-k
 invariant-loop-k l = record {
   count : length l.row.items ≡ l.k;
-  each : (j : ℕ) (found : Found) → slice_get l.row.items j ≡ Some found → IsFound l.net l.old l.new l.router (get_or l.addresses j 0) found;
+  each : (j : ℕ) (cell : Cell) → slice_get l.row.items j ≡ Some cell → IsCell l.net l.old l.new l.router (get_or l.addresses j 0) cell;
 }

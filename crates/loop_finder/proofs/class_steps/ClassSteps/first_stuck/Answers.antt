@@ -1,12 +1,13 @@
 use Rattle.std.proofs.Common.{ℕ, ◌<◌, length, ap, arith, below_more}
 use Rattle.net_model.specs.Network.{Network}
 use Rattle.igp_theory.specs.Forwarding.{MustForward}
-use Rattle.loop_finder.specs.Steps.{ClassState, Moves, sample_of}
+use Rattle.loop_finder.specs.ClassSteps.{ClassState, Moves, sample_of}
 use Rattle.loop_finder.proofs.class_steps.ClassSteps.first_stuck.Goals as goal
 
 pub loop-router-preserved : goal.loop-router-preserved
 loop-router-preserved g c =
-    below_more (λ (v : ℕ). Moves g.O.RouteSource.table g.N.RouteSource.table c.args.self.now v) c.loop-router.router c.loop-router.invariant c.if-is_stuck.ensures.moves
+    below_more (λ (v : ℕ). Moves g.O.RouteSource.table g.N.RouteSource.table c.args.self.now v) c.loop-router.router c.loop-router.invariant
+    c.if-is_stuck.ensures.moves
 
 pub returns : goal.returns
 returns g c u =

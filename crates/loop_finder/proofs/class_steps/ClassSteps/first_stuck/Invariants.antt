@@ -1,5 +1,5 @@
 use Rattle.std.proofs.Common.{ℕ, ◌<◌}
-use Rattle.loop_finder.specs.Steps.{Moves}
+use Rattle.loop_finder.specs.ClassSteps.{Moves}
 use Rattle.loop_finder.proofs.class_steps.ClassSteps.first_stuck.Given as goal
 
 abbrev pub invariant-loop-router : goal.invariant-loop-router

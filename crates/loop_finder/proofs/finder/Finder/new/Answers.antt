@@ -9,9 +9,11 @@ pub invariant_of-result : goal.invariant_of-result
 invariant_of-result g c = record {
   parts_are = c.in_ok-parts.ensures;
   watch_is = subst (λ (xs : List ClassPart). IsWatch xs (length c.args.mixed.now.net) c.in_ok-watch.watch.items) c.as_slice.ensures.value
-      (subst (λ (n : ℕ). IsWatch c.as_slice.result.now n c.in_ok-watch.watch.items) (c.routers-routers.ensures.count ∙ ap (λ (n : Network). length n) c.net.ensures) c.in_ok-watch.ensures);
+      (subst (λ (n : ℕ). IsWatch c.as_slice.result.now n c.in_ok-watch.watch.items) (c.routers-routers.ensures.count
+      ∙ ap (λ (n : Network). length n) c.net.ensures) c.in_ok-watch.ensures);
   ranks_many = omega (arith, c.in_ok-ranks.ensures.len, c.routers-routers.ensures.count, ap (λ (n : Network). length n) c.net.ensures);
-  calm_is = subst (λ (xs : List ClassPart). AreCalm xs c.in_ok-ranks.ranks.items c.in_ok-calm.calm.items) c.as_slice-2.ensures.value (c.in_ok-calm.ensures c.in_ok-ranks.ranks.items);
+  calm_is = subst (λ (xs : List ClassPart). AreCalm xs c.in_ok-ranks.ranks.items c.in_ok-calm.calm.items) c.as_slice-2.ensures.value
+      (c.in_ok-calm.ensures c.in_ok-ranks.ranks.items);
   order_many = omega (arith, c.in_ok-order.ensures.len, c.routers-routers.ensures.count, ap (λ (n : Network). length n) c.net.ensures);
   order_is = λ k less. absurd (omega (arith, less));
   begun_is = c.begin_is_sound-begun.ensures.sound;

@@ -8,6 +8,8 @@ use Rattle.loop_finder.proofs.finder.Finder.state_fault.Goals as goal
 pub returns-clause-sound : goal.returns-clause-sound
 returns-clause-sound g c =
     subst (λ (x : Finding g.row.O.Denot g.row.N.Denot). IsNone c.state_fault.result
-    ↔ IsSound x.mixture.net (HasEntry (g.O.RouteSource.table x.mixture.old)) (HasEntry (g.N.RouteSource.table x.mixture.new)) (state_in c.args.phases.now)) c.self.view_is
-    (none_sound c.self.inside.mixed.now.net (HasEntry (g.O.RouteSource.table c.self.inside.mixed.now.old)) (HasEntry (g.N.RouteSource.table c.self.inside.mixed.now.new))
+    ↔ IsSound x.mixture.net (HasEntry (g.O.RouteSource.table x.mixture.old)) (HasEntry (g.N.RouteSource.table x.mixture.new)) (state_in c.args.phases.now))
+    c.self.view_is
+    (none_sound c.self.inside.mixed.now.net (HasEntry (g.O.RouteSource.table c.self.inside.mixed.now.old))
+    (HasEntry (g.N.RouteSource.table c.self.inside.mixed.now.new))
     (state_in c.args.phases.now) c.state_fault.result c.state_fault.new.room.ring.items c.state_fault.ensures.sound c.state_fault.ensures.fault)

@@ -1,18 +1,32 @@
-use Rattle.std.proofs.Common.{ℕ, arith, sym, subst}
-use Rattle.loop_finder.specs.Parts.{IsPart}
-use Rattle.loop_finder.proofs.PartLaws.{never_unsound}
-use Rattle.loop_finder.proofs.PartRows.{part_made, returns_ever}
+use Rattle.std.proofs.Common.{refl, arith}
+use Rattle.loop_finder.proofs.OnFalse.{on_true}
+use Rattle.loop_finder.proofs.PartRows.{all_move_from, clear_ends, clear_from_marks, part_made, returns_ever}
 use Rattle.loop_finder.proofs.part.Part.build.Goals as goal
 
-pub returns-then-none_marked : goal.returns-then-none_marked
-returns-then-none_marked g c =
-    never_unsound g.O.RouteSource.table g.N.RouteSource.table c.args.steps.now.mixture c.args.steps.now.atom c.mark_returns.new.marks c.if-moves.ensures
-    (returns_ever g.O.RouteSource.table g.N.RouteSource.table c.args.steps.now c.mark_returns.new.marks c.requires.ends c.in_ok-mark_returns.ensures) c.if-none_marked.ensures
+pub mark_returns-requires : goal.mark_returns-requires
+mark_returns-requires g c = omega (arith, c.requires.marks, c.requires.ends.routers_many)
 
-pub returns : goal.returns
-returns g c = (
-  subst (λ (a : ℕ). IsPart g.O.RouteSource.table g.N.RouteSource.table c.args.steps.now.mixture (record { atom = a; moves = c.all_move-moves.result; rows = c.in_ok-rows.rows.items })) (sym c.atom.ensures)
-      (part_made g.O.RouteSource.table g.N.RouteSource.table c.args.steps.now c.mark_returns.new.marks c.all_move-moves.result c.in_ok-rows.rows.items c.requires.atom c.requires.ends
-      (omega (arith, c.mark_returns.auto.marks, c.requires.marks)) c.in_ok-mark_returns.ensures c.all_move-moves.ensures c.in_ok-rows.ensures),
-  c.atom.ensures,
+pub returns-then-none_marked-clause-part : goal.returns-then-none_marked-clause-part
+returns-then-none_marked-clause-part g c =
+    clear_ends g.O.RouteSource.table g.N.RouteSource.table c.args.mixed.now c.args.atom c.args.ends.now c.args.forwards.now c.requires.ends
+    c.requires.forwards
+    (clear_from_marks c.args.ends.now c.args.forwards.now c.mark_returns.new.marks c.if-moves.ensures c.in_ok-mark_returns.ensures
+    c.if-none_marked.ensures)
+
+pub returns-then-none_marked-clause-clear : goal.returns-then-none_marked-clause-clear
+returns-then-none_marked-clause-clear g c =
+    clear_from_marks c.args.ends.now c.args.forwards.now c.mark_returns.new.marks c.if-moves.ensures c.in_ok-mark_returns.ensures
+    c.if-none_marked.ensures
+
+pub returns-clause-part : goal.returns-clause-part
+returns-clause-part g c = (
+  part_made g.O.RouteSource.table g.N.RouteSource.table c.args.mixed.now c.args.atom c.mark_returns.new.marks c.each_moves-moves.result
+      c.in_ok-rows.rows.items c.requires.atom (omega (arith, c.mark_returns.auto.marks, c.requires.marks))
+      (returns_ever g.O.RouteSource.table g.N.RouteSource.table c.args.mixed.now c.args.atom c.args.ends.now c.mark_returns.new.marks
+      c.requires.ends c.in_ok-mark_returns.ensures)
+      (on_true c.each_moves-moves.result c.each_moves-moves.ensures
+      (all_move_from g.O.RouteSource.table g.N.RouteSource.table c.args.mixed.now c.args.atom c.args.ends.now c.args.forwards.now
+      c.requires.ends c.requires.forwards))
+      c.in_ok-rows.ensures,
+  refl,
 )

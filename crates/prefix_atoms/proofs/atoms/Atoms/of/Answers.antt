@@ -15,4 +15,5 @@ returns c =
     let inside : InInterval c.self.inside.starts.items c.interval_of.result c.args.a =
     subst (λ (xs : List ℕ). InInterval xs c.interval_of.result c.args.a) c.as_slice.ensures.value c.interval_of.ensures in
     subst (λ (k : Classes). IsInClass k c.index.result.now c.args.a) c.self.view_is
-    (told _ c.self.inside.starts.items c.self.inside.numbers.items c.interval_of.result c.args.a c.index.result.now c.self.invariant.1 inside (omega arith) c.index.ensures)
+    (told _ c.self.inside.starts.items c.self.inside.numbers.items c.interval_of.result c.args.a c.index.result.now c.self.invariant.1 inside
+    (omega arith) c.index.ensures)

@@ -1,0 +1,7 @@
+pub mod Live
+pub mod Walks
+pub mod Rings
+pub mod PartRows
+pub mod Ends
+pub mod Making
+pub mod WaveStarts

@@ -1,0 +1,39 @@
+ghost use Rattle.std.specs.Prelude.{◌≡◌, ◌<◌, ◌↔◌, ◌^◌, ℕ, Contains, length};
+ghost use Rattle.rib_mix.specs.Answers.{NextLeadsTo};
+ghost use Rattle.loop_finder.specs.Parts.{StepsOf};
+ghost use Rattle.loop_finder.specs.ClassSteps.{AreForwarders, sample_of};
+
+use rib_mix::{Mixed, Next, Phase};
+use route_core::RouteSource;
+
+/// The routers that a router steps to in a phase for the addresses of a class, where it's known which routers have to
+/// pass its packets on.
+pub fn class_hops<'m, O: RouteSource, N: RouteSource>(
+    mixed: &'m Mixed<'_, O, N>,
+    atom: u32,
+    phase: Phase,
+    forwards: &[bool],
+    router: u32,
+) -> &'m [u32]
+    requires atom { atom < length mixed.now.classes.samples }
+    requires address { sample_of mixed.now atom < 2 ^ 32 }
+    requires many { length forwards.now ≡ length mixed.now.net }
+    requires forwards { AreForwarders mixed.now.net (sample_of mixed.now atom) forwards.now }
+    requires router { router < length mixed.now.net }
+    ensures { (h : ℕ) → Contains result.now h ↔ StepsOf O.table N.table mixed.now atom router phase h }
+{
+    if !forwards[router as usize] {
+        return &[];
+    }
+    hops_of(mixed.hops(router, atom, phase))
+}
+
+/// The hops of an answer.
+fn hops_of(next: Next<'_>) -> &[u32]
+    ensures { (h : ℕ) → Contains result.now h ↔ NextLeadsTo next.entry h }
+{
+    match next {
+        Next::Via(hops) => hops.as_slice(),
+        Next::Discard | Next::Connected | Next::Absent => &[],
+    }
+}

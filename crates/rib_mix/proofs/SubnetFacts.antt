@@ -1,0 +1,55 @@
+-- The longest connected prefix, found in the list of the connected ones.
+use Rattle.std.proofs.Common.{◌≡◌, ℕ, ◌<◌, ◌↔◌, Bool, true, false, if◌then◌else◌, IsTrue, List, length, get_or, Contains, Option, Some, None, refl, sym, subst}
+use Rattle.std.proofs.Common.{◌∙◌}
+use Rattle.std.specs.List.{filter_map}
+use Rattle.net_model.proofs.Members.{Contains-filter_map, Contains-in_filter_map}
+use Rattle.std.proofs.lemmas.Option.{same_Some}
+use Rattle.net_addr.specs.Addresses.{Block}
+use Rattle.net_addr.specs.LongestMatches.{AreMatches, IsMatch}
+use Rattle.net_addr.specs.declared.matches.Match.{Match}
+use Rattle.net_addr.proofs.LongestMatchLaws.{HasNoMatch-same, IsLongestMatch-same}
+use Rattle.net_model.specs.Configuration.{Configuration}
+use Rattle.net_model.specs.DestLists.{subnet_if_up}
+use Rattle.net_model.specs.Network.{Network, HasConfiguration, Connected}
+use Rattle.rib_mix.specs.Cells.{AreSubnets, length_of}
+use Rattle.rib_mix.specs.Rows.{IsConnectedLength}
+
+-- the length of the longest match among the connected prefixes
+pub connected_length : (net : Network) (u a : ℕ) (subnets : List Block) (found : Option Match) → AreSubnets net u subnets
+    → IsMatch subnets a found → IsConnectedLength net u a (length_of found)
+connected_length net u a subnets None are match = HasNoMatch-same (Contains subnets) (Connected net u) a are match
+connected_length net u a subnets (Some m) are match = record {
+  prefix = match.at.prefix;
+  longest = IsLongestMatch-same (Contains subnets) (Connected net u) a match.at.prefix are match.at.match;
+  len_is = match.len_is;
+}
+
+if_up : (up : Bool) (subnet : Option Block) (p : Block) → (if up then subnet else None) ≡ Some p → IsTrue up × (subnet ≡ Some p)
+if_up true subnet p is = (refl, is)
+if_up false subnet p is = cc
+
+up_subnet : (up : Bool) (subnet : Option Block) (p : Block) → IsTrue up → subnet ≡ Some p → (if up then subnet else None) ≡ Some p
+up_subnet true subnet p up is = is
+up_subnet false subnet p up is = cc
+
+-- the subnets of the interfaces of its configuration that are up are the connected prefixes of a router
+pub are_subnets : (net : Network) (u : ℕ) (config : Configuration) → HasConfiguration net u config
+    → AreSubnets net u (filter_map subnet_if_up config.interfaces)
+are_subnets net u config has p = (
+  λ among.
+      let one = Contains-filter_map subnet_if_up config.interfaces p among in
+      let is = if_up one.item.up one.item.subnet p one.gives in
+      record { interface = one.item; up = record { config = config; router = has; among = one.among; up = is.0 }; subnet = is.1 },
+  λ connected.
+      let same : connected.up.config ≡ config = same_Some connected.up.config config (sym connected.up.router ∙ has) in
+      Contains-in_filter_map subnet_if_up config.interfaces connected.interface p
+      (subst (λ (x : Configuration). Contains x.interfaces connected.interface) same connected.up.among)
+      (up_subnet connected.interface.up connected.interface.subnet p connected.up.up connected.subnet),
+)
+
+-- what was read at a place of the matches
+pub match_read : (prefixes : List Block) (addresses : List ℕ) (matches slice : List (Option Match)) (k : ℕ)
+    → AreMatches prefixes addresses matches → slice ≡ matches → k < length addresses
+    → IsMatch prefixes (get_or addresses k 0) (get_or slice k None)
+match_read prefixes addresses matches slice k are is within =
+    subst (λ (xs : List (Option Match)). IsMatch prefixes (get_or addresses k 0) (get_or xs k None)) (sym is) (are.each k within)

@@ -1,0 +1,20 @@
+use Rattle.std.proofs.Common.{ℕ, List, arith}
+use Rattle.net_addr.specs.Addresses.{Block}
+use Rattle.rib_mix.specs.Cells.{AreSubnets}
+use Rattle.rib_mix.proofs.RowSteps.{count_more, each_more}
+use Rattle.rib_mix.proofs.mixed.all_subnets.Goals as goal
+
+pub loop-router-preserved : goal.loop-router-preserved
+loop-router-preserved c = record {
+  count = count_more c.loop-router.all.items c.push.new.self.items c.in_ok-subnets.subnets c.loop-router.router c.loop-router.invariant.count
+      c.in_ok-push.ensures.items;
+  each = each_more (λ (u : ℕ) (ps : List Block). AreSubnets c.args.net.now u ps) c.loop-router.all.items c.push.new.self.items
+      c.in_ok-subnets.subnets c.loop-router.router c.loop-router.invariant.count c.loop-router.invariant.each c.in_ok-push.ensures.items
+      c.in_ok-subnets.ensures;
+}
+
+pub returns : goal.returns
+returns c = record {
+  count = omega (arith, c.loop-router.invariant.count, c.loop-router-test.false, c.loop-router.auto.router-end, c.routers-router-end.ensures.count);
+  each = c.loop-router.invariant.each;
+}

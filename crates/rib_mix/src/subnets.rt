@@ -1,0 +1,58 @@
+ghost use Rattle.std.specs.Prelude.{◌≡◌, ◌<◌, ◌↔◌, Contains, IfOk, IsTrue, length};
+ghost use Rattle.rib_mix.specs.Cells.{AreSubnets};
+
+use net_addr::Prefix;
+use net_model::Net;
+use prefix_atoms::add_connected;
+use route_core::OutOfMemory;
+use std::alloc::Global;
+use std::marker::Model;
+
+/// Prefixes that are connected at a router.
+#[derive(Drop)]
+pub struct Subnets {
+    all: Vec<Prefix>,
+}
+
+impl Model for Subnets {
+    ghost use Rattle.std.specs.Prelude.{List};
+    ghost use Rattle.net_addr.specs.Addresses.{Block};
+
+    ghost Value = { List Block };
+
+    ghost view = { λ x. x.all.items };
+}
+
+impl Subnets {
+    /// The prefixes that are connected at a router.
+    pub fn of_router(alloc: Global, net: &Net, router: u32) -> Result<Subnets, OutOfMemory>
+        requires { router < length net.now }
+        ensures { IfOk result (AreSubnets net.now router) }
+    {
+        let mut all = Vec::new(alloc);
+        let config = net.config(router);
+        add_connected(&mut all, config.interfaces.as_slice())?;
+        Ok(Subnets { all })
+    }
+
+    /// The prefixes.
+    pub fn as_slice(&self) -> &[Prefix]
+        ensures { result.now ≡ self.now }
+    {
+        self.all.as_slice()
+    }
+
+    /// Whether a prefix is among them.
+    pub fn has(&self, prefix: Prefix) -> bool
+        ensures { IsTrue result ↔ Contains self.now prefix }
+    {
+        is_among(self.all.as_slice(), prefix)
+    }
+}
+
+/// Whether a prefix is among some.
+fn is_among(prefixes: &[Prefix], prefix: Prefix) -> bool
+    ensures { IsTrue result ↔ Contains prefixes.now prefix }
+{
+    prefixes.contains(&prefix)
+}
