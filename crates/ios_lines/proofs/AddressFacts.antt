@@ -1,5 +1,6 @@
 -- Addresses as words: the reader of addresses, as a function of the word.
-use Rattle.std.proofs.Common.{sym, ◌≡◌, ℕ, suc, ◌+◌, ◌*◌, ◌^◌, ◌<◌, ◌≤◌, Bool, true, false, [], ◌∷◌, ◌++◌, length, take, drop, Option, Some, None, refl, ap, subst, ◌∙◌, nat_le, cond, arith, get_or, length-drop, length-append, drop-cons, add-one, append_assoc}
+use Rattle.std.proofs.Common.{sym, ◌≡◌, ℕ, suc, ◌+◌, ◌*◌, ◌^◌, ◌<◌, ◌≤◌, Bool, true, false, [], ◌∷◌, ◌++◌, length, take, drop, Option, Some, None, refl, ap}
+use Rattle.std.proofs.Common.{subst, ◌∙◌, nat_le, cond, arith, get_or, length-drop, length-append, drop-cons, add-one, append_assoc}
 use Rattle.std.specs.List.{before_first, after_first, position_or_len}
 use Rattle.std.proofs.lemmas.Bool.Decides.{nat_tests}
 use Rattle.std.proofs.lemmas.List.{take-append-drop}
@@ -63,7 +64,8 @@ octet_back word n e =
     let stands = number_back 255 n word both.1 in
     (record { numeral = stands.0; short = le_test (length word) 3 both.0 }, stands.1)
 
-joined-some : (a b c d : Option ℕ) (w x y z : ℕ) → a ≡ Some w → b ≡ Some x → c ≡ Some y → d ≡ Some z → joined_octets a b c d ≡ Some (2 ^ 24 * w + 2 ^ 16 * x + 2 ^ 8 * y + z)
+joined-some : (a b c d : Option ℕ) (w x y z : ℕ) → a ≡ Some w → b ≡ Some x → c ≡ Some y → d ≡ Some z → joined_octets a b c d
+    ≡ Some (2 ^ 24 * w + 2 ^ 16 * x + 2 ^ 8 * y + z)
 joined-some a b c d w x y z e f g h = rw (e, f, g, h) refl
 
 record FourOctets (a b c d : Option ℕ) (n : ℕ) : Type 0 where
@@ -78,7 +80,8 @@ record FourOctets (a b c d : Option ℕ) (n : ℕ) : Type 0 where
   value : n ≡ 2 ^ 24 * w + 2 ^ 16 * x + 2 ^ 8 * y + z
 
 joined_back : (a b c d : Option ℕ) (n : ℕ) → joined_octets a b c d ≡ Some n → FourOctets a b c d n
-joined_back (Some w) (Some x) (Some y) (Some z) n e = record { w = w; x = x; y = y; z = z; first = refl; second = refl; third = refl; fourth = refl; value = cc }
+joined_back (Some w) (Some x) (Some y) (Some z) n e = record
+    { w = w; x = x; y = y; z = z; first = refl; second = refl; third = refl; fourth = refl; value = cc }
 joined_back None b c d n e = absurd cc
 joined_back (Some w) None c d n e = absurd cc
 joined_back (Some w) (Some x) None d n e = absurd cc
@@ -88,12 +91,18 @@ pub address-some : (word : Word) (a : ℕ) → IsAddressWord word a → address_
 unfolding address_of
 address-some word a h =
     let second : Word = h.second ++ 46 ∷ (h.third ++ 46 ∷ h.fourth) in
-    let rest1 : after_first is_dot word ≡ h.second ++ 46 ∷ (h.third ++ 46 ∷ h.fourth) = ap (after_first is_dot) h.joined ∙ after_dot h.first (h.second ++ 46 ∷ (h.third ++ 46 ∷ h.fourth)) h.first_octet in
-    let rest2 : after_first is_dot (after_first is_dot word) ≡ h.third ++ 46 ∷ h.fourth = ap (after_first is_dot) rest1 ∙ after_dot h.second (h.third ++ 46 ∷ h.fourth) h.second_octet in
-    let rest3 : after_first is_dot (after_first is_dot (after_first is_dot word)) ≡ h.fourth = ap (after_first is_dot) rest2 ∙ after_dot h.third h.fourth h.third_octet in
-    let part1 : before_first is_dot word ≡ h.first = ap (before_first is_dot) h.joined ∙ before_dot h.first (h.second ++ 46 ∷ (h.third ++ 46 ∷ h.fourth)) h.first_octet in
-    let part2 : before_first is_dot (after_first is_dot word) ≡ h.second = ap (before_first is_dot) rest1 ∙ before_dot h.second (h.third ++ 46 ∷ h.fourth) h.second_octet in
-    let part3 : before_first is_dot (after_first is_dot (after_first is_dot word)) ≡ h.third = ap (before_first is_dot) rest2 ∙ before_dot h.third h.fourth h.third_octet in
+    let rest1 : after_first is_dot word ≡ h.second ++ 46 ∷ (h.third ++ 46 ∷ h.fourth) =
+    ap (after_first is_dot) h.joined ∙ after_dot h.first (h.second ++ 46 ∷ (h.third ++ 46 ∷ h.fourth)) h.first_octet in
+    let rest2 : after_first is_dot (after_first is_dot word) ≡ h.third ++ 46 ∷ h.fourth =
+    ap (after_first is_dot) rest1 ∙ after_dot h.second (h.third ++ 46 ∷ h.fourth) h.second_octet in
+    let rest3 : after_first is_dot (after_first is_dot (after_first is_dot word)) ≡ h.fourth =
+    ap (after_first is_dot) rest2 ∙ after_dot h.third h.fourth h.third_octet in
+    let part1 : before_first is_dot word ≡ h.first = ap (before_first is_dot) h.joined
+    ∙ before_dot h.first (h.second ++ 46 ∷ (h.third ++ 46 ∷ h.fourth)) h.first_octet in
+    let part2 : before_first is_dot (after_first is_dot word) ≡ h.second =
+    ap (before_first is_dot) rest1 ∙ before_dot h.second (h.third ++ 46 ∷ h.fourth) h.second_octet in
+    let part3 : before_first is_dot (after_first is_dot (after_first is_dot word)) ≡ h.third =
+    ap (before_first is_dot) rest2 ∙ before_dot h.third h.fourth h.third_octet in
     joined-some _ _ _ _ (decimal_value h.first) (decimal_value h.second) (decimal_value h.third) (decimal_value h.fourth)
     (ap octet_of part1 ∙ octet-some h.first h.first_octet)
     (ap octet_of part2 ∙ octet-some h.second h.second_octet)
@@ -107,7 +116,8 @@ address_back word a e =
     let second : Word = after_first is_dot word in
     let third : Word = after_first is_dot second in
     let fourth : Word = after_first is_dot third in
-    let four = joined_back (octet_of (before_first is_dot word)) (octet_of (before_first is_dot second)) (octet_of (before_first is_dot third)) (octet_of fourth) a e in
+    let four = joined_back (octet_of (before_first is_dot word)) (octet_of (before_first is_dot second)) (octet_of (before_first is_dot third))
+    (octet_of fourth) a e in
     let one = octet_back (before_first is_dot word) four.w four.first in
     let two = octet_back (before_first is_dot second) four.x four.second in
     let three = octet_back (before_first is_dot third) four.y four.third in
@@ -118,7 +128,8 @@ address_back word a e =
     let cut2 = cut_word second there2 in
     let there1 : 0 < length second = subst (λ (w : Word). 0 < length w) (sym cut2) (omega (arith, length-append (before_first is_dot second) (46 ∷ third))) in
     let cut1 = cut_word word there1 in
-    let from2 : second ≡ before_first is_dot second ++ 46 ∷ (before_first is_dot third ++ 46 ∷ fourth) = cut2 ∙ ap (λ (w : Word). before_first is_dot second ++ 46 ∷ w) cut3 in
+    let from2 : second ≡ before_first is_dot second ++ 46 ∷ (before_first is_dot third ++ 46 ∷ fourth) =
+    cut2 ∙ ap (λ (w : Word). before_first is_dot second ++ 46 ∷ w) cut3 in
     record {
       first = before_first is_dot word;
       second = before_first is_dot second;

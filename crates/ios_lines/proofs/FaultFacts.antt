@@ -1,5 +1,6 @@
 -- The least of some faults, in parts and in a loop.
-use Rattle.std.proofs.Common.{sym, ◌≡◌, ℕ, ◌+◌, ◌<◌, List, [], ◌∷◌, ◌++◌, length, take, get_or, Option, ap, ◌∙◌, append-nil, Bool, true, false, ◌&&◌, ◌||◌, Some, None, refl, cond, nat_eq, nat_lt, arith}
+use Rattle.std.proofs.Common.{sym, ◌≡◌, ℕ, ◌+◌, ◌<◌, List, [], ◌∷◌, ◌++◌, length, take, get_or, Option, ap, ◌∙◌, append-nil, Bool, true, false, ◌&&◌, ◌||◌}
+use Rattle.std.proofs.Common.{Some, None, refl, cond, nat_eq, nat_lt, arith}
 use Rattle.std.specs.Prelude.{flat_map}
 use Rattle.std.proofs.lemmas.List.{take_more}
 use Rattle.std.proofs.lemmas.List.Concat.{flat_map-append}
@@ -17,11 +18,13 @@ before_trans a b c i j k p q = grind (arith, nat_tests)
 after_trans : (a b c i j k : ℕ) → comes_before b j a i ≡ false → comes_before c k b j ≡ false → comes_before c k a i ≡ false
 after_trans a b c i j k p q = grind (arith, nat_tests)
 
-left_shape : (t : Bool) (f g h : Fault) → lesser_fault (cond t (Some g) (Some f)) (Some h) ≡ cond t (cond (is_before h g) (Some h) (Some g)) (cond (is_before h f) (Some h) (Some f))
+left_shape : (t : Bool) (f g h : Fault) → lesser_fault (cond t (Some g) (Some f)) (Some h)
+    ≡ cond t (cond (is_before h g) (Some h) (Some g)) (cond (is_before h f) (Some h) (Some f))
 left_shape true f g h = refl
 left_shape false f g h = refl
 
-right_shape : (u : Bool) (f g h : Fault) → lesser_fault (Some f) (cond u (Some h) (Some g)) ≡ cond u (cond (is_before h f) (Some h) (Some f)) (cond (is_before g f) (Some g) (Some f))
+right_shape : (u : Bool) (f g h : Fault) → lesser_fault (Some f) (cond u (Some h) (Some g))
+    ≡ cond u (cond (is_before h f) (Some h) (Some f)) (cond (is_before g f) (Some g) (Some f))
 right_shape true f g h = refl
 right_shape false f g h = refl
 

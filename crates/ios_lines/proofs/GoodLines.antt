@@ -1,5 +1,6 @@
 -- The values that lines give are in their ranges.
-use Rattle.std.proofs.Common.{◌≡◌, ◌≢◌, ℕ, ◌+◌, ◌-◌, ◌^◌, ◌<◌, ◌≤◌, Bool, true, false, not, ◌&&◌, ◌||◌, List, length, get_or, Option, Some, None, Result, Ok, Err, refl, cond, nat_eq, nat_le, nat_lt, arith, ◌⊎◌, inl, inr}
+use Rattle.std.proofs.Common.{◌≡◌, ◌≢◌, ℕ, ◌+◌, ◌-◌, ◌^◌, ◌<◌, ◌≤◌, Bool, true, false, not, ◌&&◌, ◌||◌, List, length, get_or, Option, Some, None, Result, Ok}
+use Rattle.std.proofs.Common.{Err, refl, cond, nat_eq, nat_le, nat_lt, arith, ◌⊎◌, inl, inr}
 use Rattle.std.specs.Prelude.{IfSome, IfOk, codes}
 use Rattle.std.specs.List.{list_all}
 use Rattle.std.specs.Char.{is_ascii_digit}
@@ -9,10 +10,15 @@ use Rattle.net_addr.specs.Addresses.{IsBlock}
 use Rattle.net_addr.specs.AddressWords.{IsAddressWord}
 use Rattle.net_addr.proofs.Blocks.{IsBlock-around}
 use Rattle.net_model.specs.Configuration.{IsRange}
-use Rattle.ios_lines.specs.Words.{Word, word_at, says, begins_with_two, begins_with_three, lacks, number_of, at_least, number_from, address_of, mask_of, area_of}
-use Rattle.ios_lines.specs.InterfaceLines.{masked_address, address_line, process_area, ospf_of_interface, ip_of_interface, metric_line, isis_of_interface, bandwidth_line, plain_of_interface, interface_line}
-use Rattle.ios_lines.specs.OspfLines.{stub_values, default_cost_values, prefix_of, cost_place, optional_cost, range_cost, range_ends, range_values, range_line, is_unsupported_area, area_line as ospf_area_line, apart_distance, ospf_distance, ospf_passive, is_unsupported_ospf, plain_of_ospf, ospf_line}
-use Rattle.ios_lines.specs.IsisLines.{hex_value, group_value, system_value, system_part, is_title, title_of, isis_distance, isis_passive, is_leak, is_unsupported_isis, plain_of_isis, isis_line}
+use Rattle.ios_lines.specs.Words.{Word, word_at, says, begins_with_two, begins_with_three, lacks, number_of, at_least, number_from, address_of, mask_of}
+use Rattle.ios_lines.specs.Words.{area_of}
+use Rattle.ios_lines.specs.InterfaceLines.{masked_address, address_line, process_area, ospf_of_interface, ip_of_interface, metric_line, isis_of_interface}
+use Rattle.ios_lines.specs.InterfaceLines.{bandwidth_line, plain_of_interface, interface_line}
+use Rattle.ios_lines.specs.OspfLines.{stub_values, default_cost_values, prefix_of, cost_place, optional_cost, range_cost, range_ends, range_values}
+use Rattle.ios_lines.specs.OspfLines.{range_line, is_unsupported_area, area_line as ospf_area_line, apart_distance, ospf_distance, ospf_passive}
+use Rattle.ios_lines.specs.OspfLines.{is_unsupported_ospf, plain_of_ospf, ospf_line}
+use Rattle.ios_lines.specs.IsisLines.{hex_value, group_value, system_value, system_part, is_title, title_of, isis_distance, isis_passive, is_leak}
+use Rattle.ios_lines.specs.IsisLines.{is_unsupported_isis, plain_of_isis, isis_line}
 use Rattle.ios_lines.specs.MaskedAddress.{MaskedAddress}
 use Rattle.ios_lines.specs.declared.kind.ReadKind.{ReadKind}
 use Rattle.ios_lines.specs.declared.kind.ReadKind.TheVariants.{BadCost, BadArea, SecondProcess, Unsupported, BadMetric, BadDistance, DistanceClash}
@@ -41,7 +47,8 @@ pub record IsFrom (least most n : ℕ) : Type 0 where
 number_within : (most : ℕ) (word : Word) → IfSome (number_of most word) (λ n. n ≤ most)
 number_within most word = choice (nat_lt 0 (length word) && list_all is_ascii_digit word && nat_le (decimal_value word) most) refl
   where
-    choice : (t : Bool) → (nat_lt 0 (length word) && list_all is_ascii_digit word && nat_le (decimal_value word) most) ≡ t → IfSome (cond t (Some (decimal_value word)) None) (λ n. n ≤ most)
+    choice : (t : Bool) → (nat_lt 0 (length word) && list_all is_ascii_digit word && nat_le (decimal_value word) most) ≡ t →
+        IfSome (cond t (Some (decimal_value word)) None) (λ n. n ≤ most)
     choice true e = (number_stands most word e).within
     choice false e = tt
 
@@ -57,7 +64,14 @@ pub number_good : (least most : ℕ) (kind : ReadKind) (word : Word) → IfOk (n
 number_good least most kind word = at_least_from least most kind (number_of most word) (number_within most word)
 
 small_address : (word : Word) (a : ℕ) → IsAddressWord word a → a < 2 ^ 32
-small_address word a h = omega (arith, h.value, h.first_octet.numeral.within, h.second_octet.numeral.within, h.third_octet.numeral.within, h.fourth_octet.numeral.within)
+small_address word a h = omega (
+  arith,
+  h.value,
+  h.first_octet.numeral.within,
+  h.second_octet.numeral.within,
+  h.third_octet.numeral.within,
+  h.fourth_octet.numeral.within,
+)
 
 address_within : (word : Word) → IfSome (address_of word) (λ a. a < 2 ^ 32)
 address_within word = by_some (λ (a : ℕ). a < 2 ^ 32) (address_of word) (λ a e. small_address word a (address_back word a e))
@@ -82,7 +96,8 @@ IsGoodInterfaceLine (Metric1 r) = IfOk r (IsFrom 1 16777214)
 IsGoodInterfaceLine (Metric2 r) = IfOk r (IsFrom 1 16777214)
 IsGoodInterfaceLine _ = Unit {0}
 
-masked_good : (a len : Option ℕ) (secondary : Bool) → IfSome a (λ n. n < 2 ^ 32) → IfSome len (λ n. n ≤ 32) → IfOk (masked_address a len secondary) IsGoodAddress
+masked_good : (a len : Option ℕ) (secondary : Bool) → IfSome a (λ n. n < 2 ^ 32) → IfSome len (λ n. n ≤ 32) →
+    IfOk (masked_address a len secondary) IsGoodAddress
 masked_good None len secondary h i = tt
 masked_good (Some a) None secondary h i = tt
 masked_good (Some a) (Some len) true h i = tt
@@ -93,9 +108,11 @@ address_good words =
     by_if (λ (r : Result MaskedAddress ReadKind). IfOk r IsGoodAddress)
     (says words 2 (codes "dhcp") || says words 2 (codes "negotiated"))
     (Err Unsupported) (masked_address (address_of (word_at words 2)) (mask_of (word_at words 3)) (says words 4 (codes "secondary"))) tt
-    (masked_good (address_of (word_at words 2)) (mask_of (word_at words 3)) (says words 4 (codes "secondary")) (address_within (word_at words 2)) (mask_within (word_at words 3)))
+    (masked_good (address_of (word_at words 2)) (mask_of (word_at words 3)) (says words 4 (codes "secondary")) (address_within (word_at words 2))
+    (mask_within (word_at words 3)))
 
-area_good : (area : Option ℕ) (process : Result ℕ ReadKind) → IfOk process (IsFrom 1 65535) → IfOk (process_area area process) (λ (a : ProcessArea). IsFrom 1 65535 a.process)
+area_good : (area : Option ℕ) (process : Result ℕ ReadKind) → IfOk process (IsFrom 1 65535) →
+    IfOk (process_area area process) (λ (a : ProcessArea). IsFrom 1 65535 a.process)
 area_good None process h = tt
 area_good (Some area) (Err kind) h = tt
 area_good (Some area) (Ok process) h = h
@@ -104,7 +121,8 @@ ospf_good : (words : List Word) → IsGoodInterfaceLine (ospf_of_interface words
 ospf_good words =
     by_if IsGoodInterfaceLine (says words 2 (codes "cost")) _ _ (number_good 1 65535 BadCost (word_at words 3))
     (by_if IsGoodInterfaceLine (says words 2 (codes "network")) _ _ tt
-    (by_if IsGoodInterfaceLine (says words 3 (codes "area")) _ _ (area_good (area_of (word_at words 4)) (number_from 1 65535 SecondProcess (word_at words 2)) (number_good 1 65535 SecondProcess (word_at words 2))) tt))
+    (by_if IsGoodInterfaceLine (says words 3 (codes "area")) _ _ (area_good (area_of (word_at words 4)) (number_from 1 65535 SecondProcess (word_at words 2))
+    (number_good 1 65535 SecondProcess (word_at words 2))) tt))
 
 ip_good : (words : List Word) → IsGoodInterfaceLine (ip_of_interface words)
 ip_good words =
@@ -169,7 +187,8 @@ stub_good (Some n) no_summary = choice (nat_eq n 0) refl
     choice true e = tt
     choice false e = not_zero n e
 
-default_good : (cost : Result ℕ ReadKind) (area : Option ℕ) → IfOk cost (IsFrom 0 16777214) → IfOk (default_cost_values cost area) (λ (d : AreaCost). d.cost ≤ 16777214)
+default_good : (cost : Result ℕ ReadKind) (area : Option ℕ) → IfOk cost (IsFrom 0 16777214) →
+    IfOk (default_cost_values cost area) (λ (d : AreaCost). d.cost ≤ 16777214)
 default_good (Err kind) area h = tt
 default_good (Ok cost) None h = tt
 default_good (Ok cost) (Some n) h = h.high
@@ -185,7 +204,8 @@ range_cost_good words k =
     (optional_good (number_from 0 16777214 BadCost (word_at words (k + 1))) (number_good 0 16777214 BadCost (word_at words (k + 1)))) tt
 
 range_values_good : (a len : Option ℕ) (cost : Result (Option ℕ) ReadKind) (area : Option ℕ) (ends advertise : Bool) →
-    IfSome a (λ n. n < 2 ^ 32) → IfSome len (λ n. n ≤ 32) → IfOk cost (λ (c : Option ℕ). IfSome c (λ n. n ≤ 16777214)) → IfOk (range_values a len cost area ends advertise) IsRange
+    IfSome a (λ n. n < 2 ^ 32) → IfSome len (λ n. n ≤ 32) → IfOk cost (λ (c : Option ℕ). IfSome c (λ n. n ≤ 16777214)) →
+    IfOk (range_values a len cost area ends advertise) IsRange
 range_values_good None len cost area ends advertise h i j = tt
 range_values_good (Some a) None cost area ends advertise h i j = tt
 range_values_good (Some a) (Some len) (Err kind) area ends advertise h i j = tt
@@ -202,7 +222,8 @@ range_good words =
 area_line_good : (words : List Word) → IsGoodOspfLine (ospf_area_line words)
 area_line_good words =
     by_if IsGoodOspfLine (says words 2 (codes "stub")) _ _ (stub_good (area_of (word_at words 1)) (says words 3 (codes "no-summary")))
-    (by_if IsGoodOspfLine (says words 2 (codes "default-cost")) _ _ (default_good (number_from 0 16777214 BadCost (word_at words 3)) (area_of (word_at words 1)) (number_good 0 16777214 BadCost (word_at words 3)))
+    (by_if IsGoodOspfLine (says words 2 (codes "default-cost")) _ _ (default_good (number_from 0 16777214 BadCost (word_at words 3))
+    (area_of (word_at words 1)) (number_good 0 16777214 BadCost (word_at words 3)))
     (by_if IsGoodOspfLine (says words 2 (codes "range")) _ _ (range_good words)
     (by_if IsGoodOspfLine (is_unsupported_area (word_at words 2)) _ _ tt tt)))
 

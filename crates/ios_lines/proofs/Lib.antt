@@ -1,4 +1,5 @@
 pub mod NumberFacts
+pub mod WordCuts
 pub mod AddressFacts
 pub mod MaskWordFacts
 pub mod Picked

@@ -24,7 +24,8 @@ last_of-push form (y ∷ ys) x = ap (later (form y)) (last_of-push form ys x) �
 pub last_of_more : {A : Type 0} {B : Type 0} (form : A → Option B) (xs : List A) (i : ℕ) (x : A) → i < length xs → x ≡ get_or xs i x →
     last_of form (take (i + 1) xs) ≡ later (last_of form (take i xs)) (form x)
 last_of_more form xs i x within read =
-    ap (last_of form) (take_more xs i x within) ∙ last_of-push form (take i xs) (get_or xs i x) ∙ ap (λ y. later (last_of form (take i xs)) (form y)) (sym read)
+    ap (last_of form) (take_more xs i x within) ∙ last_of-push form (take i xs) (get_or xs i x)
+    ∙ ap (λ y. later (last_of form (take i xs)) (form y)) (sym read)
 
 -- one more line of a loop that takes some lines in
 pub filter_more : {A : Type 0} {B : Type 0} (form : A → Option B) (xs : List A) (i : ℕ) (x : A) → i < length xs → x ≡ get_or xs i x →
@@ -34,7 +35,8 @@ filter_more form xs i x within read =
     ∙ ap (λ y. filter_map form (take i xs) ++ cons_option (form y) []) (sym read)
 
 -- one more line of a loop that folds what some lines give
-pub fold_more : {A : Type 0} {B : Type 0} {C : Type 0} (step : List C → B → List C) (form : A → Option B) (xs : List A) (i : ℕ) (x : A) → i < length xs → x ≡ get_or xs i x →
+pub fold_more : {A : Type 0} {B : Type 0} {C : Type 0} (step : List C → B → List C) (form : A → Option B) (xs : List A) (i : ℕ) (x : A) → i < length xs → x
+    ≡ get_or xs i x →
     fold step [] (filter_map form (take (i + 1) xs)) ≡ fold step (fold step [] (filter_map form (take i xs))) (cons_option (form x) [])
 fold_more step form xs i x within read =
     ap (fold step []) (filter_more form xs i x within read) ∙ fold-append step [] (filter_map form (take i xs)) (cons_option (form x) [])

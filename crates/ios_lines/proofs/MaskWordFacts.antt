@@ -1,5 +1,6 @@
 -- Masks as words: the reader of masks, as a function of the word.
-use Rattle.std.proofs.Common.{sym, ◌≡◌, ◌≢◌, ℕ, zero, suc, ◌+◌, ◌-◌, ◌^◌, ◌<◌, ◌≤◌, Bool, true, false, Option, Some, None, refl, ap, ◌∙◌, nat_eq, cond, arith, ◌⊎◌, inl, inr}
+use Rattle.std.proofs.Common.{sym, ◌≡◌, ◌≢◌, ℕ, zero, suc, ◌+◌, ◌-◌, ◌^◌, ◌<◌, ◌≤◌, Bool, true, false, Option, Some, None, refl, ap, ◌∙◌, nat_eq, cond, arith}
+use Rattle.std.proofs.Common.{◌⊎◌, inl, inr}
 use Rattle.std.specs.List.{range_with_len}
 use Rattle.std.specs.Prelude.{find, IfSome}
 use Rattle.std.proofs.Math.Pow.{pow-lt, pow_mono}
@@ -18,12 +19,16 @@ nat_eq-decides a b = dec (nat_eq a b) refl
     dec true e = inl (grind (arith, nat_tests))
     dec false e = inr (λ h. grind (arith, nat_tests))
 
-picked : (b : Bool) (start len : ℕ) (rest : Option ℕ) → (start ≢ len → b ≡ false) → (start ≡ len → b ≡ true) → (start ≢ len → rest ≡ Some len) → start ≤ len → cond b (Some start) rest ≡ Some len
-picked true start len rest miss hit later low = elim (nat_eq-decides start len) as (λ _. Some start ≡ Some len) [ inl e ↦ ap Some e | inr n ↦ absurd (let e : true ≡ false = miss n in cc) ]
-picked false start len rest miss hit later low = elim (nat_eq-decides start len) as (λ _. rest ≡ Some len) [ inl e ↦ absurd (let f : false ≡ true = hit e in cc) | inr n ↦ later n ]
+picked : (b : Bool) (start len : ℕ) (rest : Option ℕ) → (start ≢ len → b ≡ false) → (start ≡ len → b ≡ true) → (start ≢ len → rest ≡ Some len) →
+    start ≤ len → cond b (Some start) rest ≡ Some len
+picked true start len rest miss hit later low = elim (nat_eq-decides start len) as
+    (λ _. Some start ≡ Some len) [ inl e ↦ ap Some e | inr n ↦ absurd (let e : true ≡ false = miss n in cc) ]
+picked false start len rest miss hit later low = elim (nat_eq-decides start len) as
+    (λ _. rest ≡ Some len) [ inl e ↦ absurd (let f : false ≡ true = hit e in cc) | inr n ↦ later n ]
 
 -- the first number of a run of numbers that passes
-find_in_run : (p : ℕ → Bool) (n start len : ℕ) → start ≤ len → len < start + n → p len ≡ true → ((k : ℕ) → k < len → p k ≡ false) → find p (range_with_len start n) ≡ Some len
+find_in_run : (p : ℕ → Bool) (n start len : ℕ) → start ≤ len → len < start + n → p len ≡ true → ((k : ℕ) → k < len → p k ≡ false) →
+    find p (range_with_len start n) ≡ Some len
 find_in_run p zero start len low high hit miss = absurd (omega arith)
 find_in_run p (suc n) start len low high hit miss =
     picked (p start) start len (find p (range_with_len (start + 1) n))
@@ -37,7 +42,8 @@ record IsFound (p : ℕ → Bool) (start n len : ℕ) : Type 0 where
   low : start ≤ len
   high : len < start + n
 
-found_first : (p : ℕ → Bool) (n start len : ℕ) (b : Bool) → p start ≡ b → (find p (range_with_len (start + 1) n) ≡ Some len → IsFound p (start + 1) n len) → cond b (Some start) (find p (range_with_len (start + 1) n)) ≡ Some len → IsFound p start (suc n) len
+found_first : (p : ℕ → Bool) (n start len : ℕ) (b : Bool) → p start ≡ b → (find p (range_with_len (start + 1) n) ≡ Some len → IsFound p (start + 1) n len) →
+    cond b (Some start) (find p (range_with_len (start + 1) n)) ≡ Some len → IsFound p start (suc n) len
 found_first p n start len true passes later e =
     let same : start ≡ len = cc in
     record { passes = ap p (sym same) ∙ passes; low = omega arith; high = omega arith }

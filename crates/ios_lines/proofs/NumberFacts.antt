@@ -45,12 +45,18 @@ number-some most n word h =
     let small : nat_le (decimal_value word) most ≡ true = test_le (decimal_value word) most (omega (arith, h.numeral.value, h.within)) in
     rw (some, digits, small) (ap Some h.numeral.value)
 
-pub number_stands : (most : ℕ) (word : Word) → (nat_lt 0 (length word) && list_all is_ascii_digit word && nat_le (decimal_value word) most) ≡ true → IsNumeralUpTo most word (decimal_value word)
+pub number_stands : (most : ℕ) (word : Word) → (nat_lt 0 (length word) && list_all is_ascii_digit word && nat_le (decimal_value word) most) ≡ true →
+    IsNumeralUpTo most word (decimal_value word)
 number_stands most word h =
     let front : (nat_lt 0 (length word) && list_all is_ascii_digit word) ≡ true = and_left _ _ h in
     let passes = AllPass-from_list_all is_ascii_digit word (and_right (nat_lt 0 (length word)) (list_all is_ascii_digit word) front) in
     record {
-      numeral = record { some = lt_test 0 (length word) (and_left _ (list_all is_ascii_digit word) front); digits = λ k d lt. true_digit _ (passes k d lt); value = refl };
+      numeral = record {
+        some = lt_test 0 (length word) (and_left _ (list_all is_ascii_digit word) front);
+        digits = λ k d lt. true_digit _
+            (passes k d lt);
+        value = refl;
+      };
       within = le_test _ _ (and_right (nat_lt 0 (length word) && list_all is_ascii_digit word) _ h);
     }
 

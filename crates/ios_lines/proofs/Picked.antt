@@ -24,19 +24,22 @@ taken_cases Q None ys q r = r
 taken_cases Q (Some y) ys q r = All-cons Q y ys q r
 
 -- the lines of a form
-pub all_taken : {A : Type 0} {B : Type 0} (form : A → Option B) (P : A → Type 0) (Q : B → Type 0) → ((a : A) → P a → IfSome (form a) Q) → (xs : List A) → All P xs → All Q (filter_map form xs)
+pub all_taken : {A : Type 0} {B : Type 0} (form : A → Option B) (P : A → Type 0) (Q : B → Type 0) → ((a : A) → P a → IfSome (form a) Q) → (xs : List A) →
+    All P xs → All Q (filter_map form xs)
 all_taken form P Q keep [] h = All-nil Q
 all_taken form P Q keep (x ∷ xs) h =
     taken_cases Q (form x) (filter_map form xs) (keep x (All-head P x xs h)) (all_taken form P Q keep xs (All-tail P x xs h))
 
 -- the lines of sections
-pub all_flat : {A : Type 0} {B : Type 0} (f : A → List B) (P : A → Type 0) (Q : B → Type 0) → ((a : A) → P a → All Q (f a)) → (xs : List A) → All P xs → All Q (flat_map f xs)
+pub all_flat : {A : Type 0} {B : Type 0} (f : A → List B) (P : A → Type 0) (Q : B → Type 0) → ((a : A) → P a → All Q (f a)) → (xs : List A) → All P xs →
+    All Q (flat_map f xs)
 all_flat f P Q keep [] h = All-nil Q
 all_flat f P Q keep (x ∷ xs) h =
     All-append Q (f x) (flat_map f xs) (keep x (All-head P x xs h)) (all_flat f P Q keep xs (All-tail P x xs h))
 
 -- what each step of a fold keeps
-pub fold_keeps : {A : Type 0} {B : Type 0} (P : B → Type 0) (Q : A → Type 0) (f : B → A → B) → ((b : B) (a : A) → P b → Q a → P (f b a)) → (b : B) (xs : List A) → P b → All Q xs → P (fold f b xs)
+pub fold_keeps : {A : Type 0} {B : Type 0} (P : B → Type 0) (Q : A → Type 0) (f : B → A → B) → ((b : B) (a : A) → P b → Q a → P (f b a)) →
+    (b : B) (xs : List A) → P b → All Q xs → P (fold f b xs)
 fold_keeps P Q f keep b [] p h = p
 fold_keeps P Q f keep b (x ∷ xs) p h = fold_keeps P Q f keep (f b x) xs (keep b x p (All-head Q x xs h)) (All-tail Q x xs h)
 
@@ -45,7 +48,8 @@ later_keeps Q a None p q = p
 later_keeps Q a (Some x) p q = q
 
 -- the last line of a form
-pub last_keeps : {A : Type 0} {B : Type 0} (form : A → Option B) (P : A → Type 0) (Q : B → Type 0) → ((a : A) → P a → IfSome (form a) Q) → (xs : List A) → All P xs → IfSome (last_of form xs) Q
+pub last_keeps : {A : Type 0} {B : Type 0} (form : A → Option B) (P : A → Type 0) (Q : B → Type 0) → ((a : A) → P a → IfSome (form a) Q) → (xs : List A) →
+    All P xs → IfSome (last_of form xs) Q
 last_keeps form P Q keep [] h = tt
 last_keeps form P Q keep (x ∷ xs) h =
     later_keeps Q (form x) (last_of form xs) (keep x (All-head P x xs h)) (last_keeps form P Q keep xs (All-tail P x xs h))
@@ -79,7 +83,8 @@ all_replaced {A} P same (y ∷ ys) x h p =
 
 replaced_cases : {A : Type 0} (R : A → A → Type 0) (same : A → A → Bool) →
     ((y x z : A) → same y x ≡ true → R y z → R x z) → ((y x : A) → same y x ≡ false → R y x) →
-    (t : Bool) (y x : A) (ys : List A) → same y x ≡ t → AllPairs R (y ∷ ys) → AllPairs R (replaced same ys x) → AllPairs R (cond t (x ∷ ys) (y ∷ replaced same ys x))
+    (t : Bool) (y x : A) (ys : List A) → same y x ≡ t → AllPairs R (y ∷ ys) → AllPairs R (replaced same ys x) →
+    AllPairs R (cond t (x ∷ ys) (y ∷ replaced same ys x))
 replaced_cases R same takes apart true y x ys e h later =
     AllPairs-cons R x ys (All-weaker (R y) (R x) (λ z r. takes y x z e r) ys (pairs_head R y ys h)) (pairs_tail R y ys h)
 replaced_cases R same takes apart false y x ys e h later =
@@ -105,5 +110,6 @@ pub names_apart : (ns : List Word) → AllPairs (λ (n m : Word). n ≢ m) (firs
 names_apart [] = pairs_nil (λ (n m : Word). n ≢ m)
 names_apart (n ∷ ns) =
     AllPairs-cons (λ (a b : Word). a ≢ b) n (filter (λ (m : Word). not (bytes_eq n m)) (first_seen ns))
-    (All-weaker (λ (m : Word). not (bytes_eq n m) ≡ true) (λ (m : Word). n ≢ m) (λ m e. other n m e) (filter (λ (m : Word). not (bytes_eq n m)) (first_seen ns)) (filter_passes (λ (m : Word). not (bytes_eq n m)) (first_seen ns)))
+    (All-weaker (λ (m : Word). not (bytes_eq n m) ≡ true) (λ (m : Word). n ≢ m) (λ m e. other n m e)
+    (filter (λ (m : Word). not (bytes_eq n m)) (first_seen ns)) (filter_passes (λ (m : Word). not (bytes_eq n m)) (first_seen ns)))
     (AllPairs-filter (λ (a b : Word). a ≢ b) (λ (m : Word). not (bytes_eq n m)) (first_seen ns) (names_apart ns))

@@ -1,7 +1,8 @@
 -- Faulty lines, and their order.
 use Rattle.std.specs.Prelude.{ℕ, Bool, ◌&&◌, ◌||◌, List, [], ◌∷◌, Option, Some, None, nat_eq, nat_lt, if◌then◌else◌}
 use Rattle.ios_lines.specs.declared.kind.ReadKind.{ReadKind}
-use Rattle.ios_lines.specs.declared.kind.ReadKind.TheVariants.{NoHostname, NoEnd, SecondProcess, Unsupported, LoopbackMask, BadNet, NoBandwidth, BadAddress, BadMask, BadCost, BadArea, BadLevel, BadMetric, BadDistance, DistanceClash}
+use Rattle.ios_lines.specs.declared.kind.ReadKind.TheVariants.{NoHostname, NoEnd, SecondProcess, Unsupported, LoopbackMask, BadNet, NoBandwidth, BadAddress}
+use Rattle.ios_lines.specs.declared.kind.ReadKind.TheVariants.{BadMask, BadCost, BadArea, BadLevel, BadMetric, BadDistance, DistanceClash}
 use Rattle.ios_lines.specs.declared.fault.Fault.{Fault}
 
 -- a line is faulty with a kind

@@ -5,11 +5,13 @@ use Rattle.ios_lines.specs.Words.{Word, word_at, says, begins_with_two, begins_w
 use Rattle.net_model.specs.declared.bounds.TheConstants.{MOST_INTERFACE_COST, MOST_METRIC, MOST_PROCESS}
 use Rattle.ios_lines.specs.declared.bounds.TheConstants.{MOST_BANDWIDTH}
 use Rattle.ios_lines.specs.declared.kind.ReadKind.{ReadKind}
-use Rattle.ios_lines.specs.declared.kind.ReadKind.TheVariants.{BadAddress, BadMask, BadCost, BadArea, SecondProcess, Unsupported, BadLevel, BadMetric, NoBandwidth}
+use Rattle.ios_lines.specs.declared.kind.ReadKind.TheVariants.{BadAddress, BadMask, BadCost, BadArea, SecondProcess, Unsupported, BadLevel, BadMetric}
+use Rattle.ios_lines.specs.declared.kind.ReadKind.TheVariants.{NoBandwidth}
 use Rattle.ios_lines.specs.declared.address.InterfaceAddress.{InterfaceAddress}
 use Rattle.ios_lines.specs.declared.interface_line.ProcessArea.{ProcessArea}
 use Rattle.ios_lines.specs.declared.interface_line.InterfaceLine.{InterfaceLine}
-use Rattle.ios_lines.specs.declared.interface_line.InterfaceLine.TheVariants.{Address, NoAddress, Shutdown, Vrf, Bandwidth, Cost, Area, PointToPoint, Isis, Circuit, Metric, Metric1, Metric2, Faulty, Skipped}
+use Rattle.ios_lines.specs.declared.interface_line.InterfaceLine.TheVariants.{Address, NoAddress, Shutdown, Vrf, Bandwidth, Cost, Area, PointToPoint, Isis}
+use Rattle.ios_lines.specs.declared.interface_line.InterfaceLine.TheVariants.{Circuit, Metric, Metric1, Metric2, Faulty, Skipped}
 use Rattle.std.specs.List.{list_any}
 use Rattle.ios_lines.specs.declared.interface_line.InterfaceStatement.{InterfaceStatement}
 

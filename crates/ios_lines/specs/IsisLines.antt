@@ -1,5 +1,6 @@
 -- The lines of `router isis` that have a meaning, what they say, and why they are faulty.
-use Rattle.std.specs.Prelude.{ℕ, ◌+◌, ◌-◌, ◌*◌, ◌%◌, ◌^◌, Bool, true, false, ◌&&◌, ◌||◌, List, [], ◌∷◌, Option, Some, None, Result, Ok, Err, length, take, drop, codes, if◌then◌else◌, nat_eq, nat_le, bytes_eq, slice_index}
+use Rattle.std.specs.Prelude.{ℕ, ◌+◌, ◌-◌, ◌*◌, ◌%◌, ◌^◌, Bool, true, false, ◌&&◌, ◌||◌, List, [], ◌∷◌, Option, Some, None, Result, Ok, Err, length, take}
+use Rattle.std.specs.Prelude.{drop, codes, if◌then◌else◌, nat_eq, nat_le, bytes_eq, slice_index}
 use Rattle.std.specs.Char.{is_ascii_digit}
 use Rattle.ios_lines.specs.Words.{Word, word_at, says, begins_with_two, begins_with_three, lacks, number_from, levels_of, is_dot}
 use Rattle.ios_lines.specs.InterfaceLines.{fault_in}
@@ -25,7 +26,8 @@ hex_value b =
 -- the four hexadecimal digits from a place on as one number
 abbrev pub group_value : Word → ℕ → ℕ
 group_value word k =
-    4096 * hex_value (slice_index word k) + 256 * hex_value (slice_index word (k + 1)) + 16 * hex_value (slice_index word (k + 2)) + hex_value (slice_index word (k + 3))
+    4096 * hex_value (slice_index word k) + 256 * hex_value (slice_index word (k + 1)) + 16 * hex_value (slice_index word (k + 2))
+    + hex_value (slice_index word (k + 3))
 
 -- a byte at a place of a group: a dot, then four hexadecimal digits
 abbrev pub is_grouped : ℕ → ℕ → Bool

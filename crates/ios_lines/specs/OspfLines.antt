@@ -1,5 +1,6 @@
 -- The lines of `router ospf` that have a meaning, what they say, and why they are faulty.
-use Rattle.std.specs.Prelude.{ℕ, ◌+◌, ◌-◌, ◌*◌, ◌/◌, ◌^◌, Bool, true, false, ◌||◌, List, Option, Some, None, Result, Ok, Err, codes, if◌then◌else◌, nat_eq, bytes_eq, not}
+use Rattle.std.specs.Prelude.{ℕ, ◌+◌, ◌-◌, ◌*◌, ◌/◌, ◌^◌, Bool, true, false, ◌||◌, List, Option, Some, None, Result, Ok, Err, codes, if◌then◌else◌, nat_eq}
+use Rattle.std.specs.Prelude.{bytes_eq, not}
 use Rattle.net_addr.specs.Addresses.{Block, block_at}
 use Rattle.net_model.specs.declared.area.Range.{Range}
 use Rattle.ios_lines.specs.Words.{Word, word_at, says, begins_with_two, begins_with_three, lacks, number_from, address_of, mask_of, area_of}
@@ -12,7 +13,8 @@ use Rattle.ios_lines.specs.declared.ospf_line.NetworkLine.{NetworkLine}
 use Rattle.ios_lines.specs.declared.ospf_line.StubLine.{StubLine}
 use Rattle.ios_lines.specs.declared.ospf_line.DefaultCost.{DefaultCost as AreaCost}
 use Rattle.ios_lines.specs.declared.ospf_line.OspfLine.{OspfLine}
-use Rattle.ios_lines.specs.declared.ospf_line.OspfLine.TheVariants.{Network, Passive, PassiveDefault, Reference, Stub, DefaultCost, Range as RangeLine, Distance, Rfc1583, Faulty, Skipped}
+use Rattle.ios_lines.specs.declared.ospf_line.OspfLine.TheVariants.{Network, Passive, PassiveDefault, Reference, Stub, DefaultCost, Range as RangeLine}
+use Rattle.ios_lines.specs.declared.ospf_line.OspfLine.TheVariants.{Distance, Rfc1583, Faulty, Skipped}
 
 -- the values of a `network` line
 abbrev pub network_values : Option ℕ → Option ℕ → Bool → Option ℕ → Result NetworkLine ReadKind

@@ -1,4 +1,6 @@
-ghost use Rattle.ios_lines.specs.InterfaceLines.{is_vrf, in_vrf, counting, masked_address, address_line, process_area, area_line, network_kind, ospf_of_interface, ip_of_interface, metric_line, isis_of_interface, bandwidth_line, plain_of_interface, interface_line, interface_line_fault};
+ghost use Rattle.ios_lines.specs.InterfaceLines.{is_vrf, in_vrf, counting, masked_address, address_line, process_area, area_line, network_kind};
+ghost use Rattle.ios_lines.specs.InterfaceLines.{ospf_of_interface, ip_of_interface, metric_line, isis_of_interface, bandwidth_line, plain_of_interface};
+ghost use Rattle.ios_lines.specs.InterfaceLines.{interface_line, interface_line_fault};
 ghost use Rattle.std.specs.Prelude.{◌≡◌, ◌≤◌, IfOk, IfSome};
 
 use crate::OutOfMemory;

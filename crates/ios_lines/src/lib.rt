@@ -1,4 +1,17 @@
 //! The lines of configurations as routers print them: what each says, why it is faulty, and the order of faults.
+//!
+//! | File | What it holds |
+//! |---|---|
+//! | `words` | the words of a line, and what a word stands for: a number, an address, the length of a mask, an area, a level |
+//! | `head` | what a line at indent 0 says: the router's name, an interface, a process |
+//! | `interface_line` | what a line of an interface says |
+//! | `ospf_line` | what a line of `router ospf` says |
+//! | `isis_line`, `title` | what a line of `router isis` says; the title of its `net` line (ISO 10589, section 7.1) |
+//! | `kind`, `fault` | why a line is faulty, and which of two faults is told: the earlier line, then the lesser kind |
+//!
+//! What a line says is what its row of `docs/profile.md` says; a line that no row names is skipped. A line is looked at
+//! word by word in its bytes. Each reading of a line takes time of the words that it looks at, at most the first nine
+//! and what stands before them, and memory for names alone.
 #![tactic(auto)]
 
 // The bounds of numbers, words, and why a line is faulty.

@@ -1,5 +1,7 @@
 ghost use Rattle.std.specs.Prelude.{◌≡◌, ◌≤◌, IfOk, IfSome};
-ghost use Rattle.ios_lines.specs.OspfLines.{network_values, network_line, stub_values, stub_line, default_cost_values, default_cost_line, prefix_of, cost_place, range_cost, range_ends, range_values, range_line, is_unsupported_area, area_line, ospf_distance, ospf_passive, is_unsupported_ospf, plain_of_ospf, ospf_line, ospf_line_fault};
+ghost use Rattle.ios_lines.specs.OspfLines.{network_values, network_line, stub_values, stub_line, default_cost_values, default_cost_line, prefix_of};
+ghost use Rattle.ios_lines.specs.OspfLines.{cost_place, range_cost, range_ends, range_values, range_line, is_unsupported_area, area_line, ospf_distance};
+ghost use Rattle.ios_lines.specs.OspfLines.{ospf_passive, is_unsupported_ospf, plain_of_ospf, ospf_line, ospf_line_fault};
 
 use crate::OutOfMemory;
 use crate::bounds::MOST_REFERENCE;

@@ -1,5 +1,8 @@
-ghost use Rattle.std.specs.Prelude.{◌≡◌, ℕ, ◌≤◌, length, IfSome, IfOk, bytes_eq, map};
-ghost use Rattle.ios_lines.specs.Words.{word_at, says, begins_with_two, begins_with_three, lacks, number_of, number_from, address_of, mask_of, area_of, levels_of, is_printable, is_letter};
+ghost use Rattle.std.specs.Prelude.{◌≡◌, ◌+◌, ◌≤◌, drop, length, IfSome, IfOk, bytes_eq};
+ghost use Rattle.std.specs.List.{position_or_len, prefix_len};
+ghost use Rattle.net_addr.specs.Blanks.{is_blank, words_in};
+ghost use Rattle.ios_lines.specs.Words.{without_blanks, words_from, word_at, says, begins_with_two, begins_with_three, lacks, number_of, number_from};
+ghost use Rattle.ios_lines.specs.Words.{address_of, mask_of, area_of, levels_of, is_printable, is_letter};
 
 use crate::OutOfMemory;
 use crate::kind::ReadKind;
@@ -8,35 +11,45 @@ use net_model::Levels;
 use std::alloc::Global;
 use std::marker::Model;
 
-/// The words of a line, in order.
-#[derive(Drop)]
+/// The words of a line, in order. They are looked for in its bytes and take no memory.
+#[derive(Debug, Drop)]
 pub struct Words<'a> {
-    all: Vec<&'a [u8]>,
+    first: &'a [u8],
+    rest: &'a [u8],
 }
 
 impl<'a> Model for Words<'a> {
-    ghost use Rattle.std.specs.Prelude.{List, ℕ, map};
+    ghost use Rattle.std.specs.Prelude.{List, ℕ};
+    ghost use Rattle.ios_lines.specs.Words.{words_from};
 
     ghost Value = { List (List ℕ) };
 
-    ghost view = { λ w. map (λ x. x.now) w.all.items };
+    ghost view = { λ w. words_from w.first.now w.rest.now };
 }
 
 impl<'a> Words<'a> {
-    /// The words of a vector, in its order.
-    pub fn from_vec(all: Vec<&'a [u8]>) -> Words<'a>
-        ensures { result ≡ map (λ x. x.now) all.entry.items }
+    /// The words of a line: the longest pieces without spaces and tabs.
+    pub fn of(line: &'a [u8]) -> Words<'a>
+        ensures { result ≡ words_in line.entry.now }
     {
-        Words { all }
+        let bytes = behind_blanks(line);
+        let len = word_len(bytes);
+        Words {
+            first: &bytes[..len],
+            rest: behind(bytes, len),
+        }
     }
 
     /// The word at a place, empty where the line has fewer words.
+    ///
+    /// The first one is at hand, the others are counted off.
     pub fn at(&self, k: usize) -> &[u8]
         ensures { result.now ≡ word_at self.now k }
     {
-        match self.all.get(k) {
-            Some(word) => word,
-            None => &[],
+        if k == 0 || self.first.is_empty() {
+            self.first
+        } else {
+            nth_word(self.rest, k - 1)
         }
     }
 
@@ -67,6 +80,78 @@ impl<'a> Words<'a> {
     {
         self.at(k).is_empty()
     }
+}
+
+/// Whether the byte is a space or a tab.
+fn is_blank(byte: u8) -> bool
+    ensures { result ≡ is_blank byte }
+{
+    byte == b' ' || byte == b'\t'
+}
+
+/// How many blanks some bytes begin with.
+fn blank_count(bytes: &[u8]) -> usize
+    ensures value { result ≡ prefix_len is_blank bytes.now }
+    ensures bound { result ≤ length bytes.now }
+{
+    bytes.iter().take_while(|byte| is_blank(**byte)).count()
+}
+
+/// The bytes without the blanks that they begin with.
+#[tactic(auto, using(crate::proofs::WordCuts::blanks_cut))]
+fn behind_blanks(bytes: &[u8]) -> &[u8]
+    ensures { result.now ≡ without_blanks bytes.now }
+{
+    &bytes[blank_count(bytes)..]
+}
+
+/// How many bytes stand before the first blank: all of them where there is none.
+fn word_len(bytes: &[u8]) -> usize
+    ensures value { result ≡ position_or_len is_blank bytes.now }
+    ensures bound { result ≤ length bytes.now }
+{
+    bytes.iter().take_while(|byte| !is_blank(**byte)).count()
+}
+
+/// What stands behind the byte at a place; nothing where the bytes end there.
+fn behind(bytes: &[u8], place: usize) -> &[u8]
+    requires { place ≤ length bytes.now }
+    ensures { result.now ≡ drop (place + 1) bytes.now }
+{
+    if place < bytes.len() {
+        &bytes[place + 1..]
+    } else {
+        &bytes[place..]
+    }
+}
+
+/// The first word of some bytes, empty where they have none.
+fn first_word(bytes: &[u8]) -> &[u8]
+    ensures { result.now ≡ word_at (words_in bytes.now) 0 }
+{
+    let bytes = behind_blanks(bytes);
+    &bytes[..word_len(bytes)]
+}
+
+/// What stands behind the first word of some bytes, and the blank after it.
+fn behind_word(bytes: &[u8]) -> &[u8]
+    ensures { words_in result.now ≡ drop 1 (words_in bytes.now) }
+{
+    let bytes = behind_blanks(bytes);
+    behind(bytes, word_len(bytes))
+}
+
+/// The word at a place among those of some bytes, empty where they have fewer.
+fn nth_word(bytes: &[u8], k: usize) -> &[u8]
+    ensures { result.now ≡ word_at (words_in bytes.now) k }
+{
+    let mut rest = bytes;
+    let mut left = k;
+    while left > 0 {
+        rest = behind_word(rest);
+        left -= 1;
+    }
+    first_word(rest)
 }
 
 /// The number for which a word stands, at most `most`.

@@ -1,7 +1,8 @@
 -- What the lines of an interface say, with one more line.
 use Rattle.std.proofs.Common.{sym, ◌≡◌, ℕ, ◌+◌, ◌<◌, List, [], ◌∷◌, ◌++◌, length, take, get_or, refl, ap, ◌∙◌}
 use Rattle.std.proofs.lemmas.List.{take_more}
-use Rattle.ios_reader.specs.InterfaceFacts.{address_in, shut_said, bandwidth_said, cost_said, area_said, point_to_point_said, isis_said, circuit_said, metric_said, metric1_said, metric2_said, facts_of, noted}
+use Rattle.ios_reader.specs.InterfaceFacts.{address_in, shut_said, bandwidth_said, cost_said, area_said, point_to_point_said, isis_said, circuit_said}
+use Rattle.ios_reader.specs.InterfaceFacts.{metric_said, metric1_said, metric2_said, facts_of, noted}
 use Rattle.ios_lines.specs.declared.interface_line.InterfaceStatement.{InterfaceStatement}
 use Rattle.ios_lines.proofs.LineLookups.{last_of-push}
 
@@ -22,6 +23,7 @@ facts_of-push xs x =
     ) refl
 
 -- the same in a loop over the lines
-pub facts_of_more : (xs : List InterfaceStatement) (i : ℕ) (x : InterfaceStatement) → i < length xs → x ≡ get_or xs i x → facts_of (take (i + 1) xs) ≡ noted (facts_of (take i xs)) x
+pub facts_of_more : (xs : List InterfaceStatement) (i : ℕ) (x : InterfaceStatement) → i < length xs → x ≡ get_or xs i x → facts_of (take (i + 1) xs)
+    ≡ noted (facts_of (take i xs)) x
 facts_of_more xs i x within read =
     ap facts_of (take_more xs i x within) ∙ facts_of-push (take i xs) (get_or xs i x) ∙ ap (noted (facts_of (take i xs))) (sym read)

@@ -1,5 +1,6 @@
 -- A configuration whose lines stand further on: it is read as the same, and its faults are further on.
-use Rattle.std.proofs.Common.{◌≡◌, ℕ, ◌+◌, Bool, true, false, not, ◌&&◌, List, [], ◌∷◌, ◌++◌, refl, ap, ◌∙◌, cond, map, nat_eq, Option, Some, None, Result, Ok, Err}
+use Rattle.std.proofs.Common.{◌≡◌, ℕ, ◌+◌, Bool, true, false, not, ◌&&◌, List, [], ◌∷◌, ◌++◌, refl, ap, ◌∙◌, cond, map, nat_eq, Option, Some, None, Result}
+use Rattle.std.proofs.Common.{Ok, Err}
 use Rattle.std.specs.Prelude.{filter_map, flat_map, option_map, is_none, is_some, unwrap_or, fold}
 use Rattle.std.specs.List.{cons_option}
 use Rattle.net_model.specs.Configuration.{Configuration}
@@ -28,14 +29,23 @@ use Rattle.ios_sections.specs.ProcessFaults.{second_processes, ospf_faults, isis
 use Rattle.ios_sections.specs.declared.section.InterfaceSection.{InterfaceSection}
 use Rattle.ios_sections.specs.declared.section.IsisSection.{IsisSection}
 use Rattle.ios_sections.specs.declared.section.Section.{Section}
-use Rattle.ios_sections.proofs.FurtherFacts.{last_of-map, flat_map-map, interface_line_further, ospf_line_further, isis_line_further, fault_further, interface_further, isis_further, section_further, part_further, sections_among-further}
-use Rattle.ios_sections.proofs.FurtherProcesses.{name-further, interfaces-further, isis_sections-further, heads-further, counting-further, process-further, ospf_lines-further, tag-further, isis_lines-further, faults_if-further, faults_at-further, two-further, second_processes-further, ospf_faults-further, isis_faults-further}
+use Rattle.ios_sections.proofs.FurtherFacts.{last_of-map, flat_map-map, interface_line_further, ospf_line_further, isis_line_further, fault_further}
+use Rattle.ios_sections.proofs.FurtherFacts.{interface_further, isis_further, section_further, part_further, sections_among-further}
+use Rattle.ios_sections.proofs.FurtherProcesses.{name-further, interfaces-further, isis_sections-further, heads-further, counting-further, process-further}
+use Rattle.ios_sections.proofs.FurtherProcesses.{ospf_lines-further, tag-further, isis_lines-further, faults_if-further, faults_at-further, two-further}
+use Rattle.ios_sections.proofs.FurtherProcesses.{second_processes-further, ospf_faults-further, isis_faults-further}
 use Rattle.ios_reader.specs.declared.facts.PlacedAddress.{PlacedAddress}
 use Rattle.ios_reader.specs.declared.facts.InterfaceFacts.{InterfaceFacts}
-use Rattle.ios_reader.specs.InterfaceFacts.{address_at, address_in, shut_said, bandwidth_said, cost_said, area_said, point_to_point_said, isis_said, circuit_said, metric_said, metric1_said, metric2_said, facts_of}
-use Rattle.ios_reader.specs.Routers.{Router, router_with, router_of, area_taken, ospf_passive_said, isis_passive_said, passive_default_said, reference_said, levels_said, router_metric_said, title_said, ospf_distance_said, isis_distance_said, leak_said, rfc1583_said, range_said, stub_said, default_cost_said, ranges_in, stub_lines_in, stub_of, stubs_in, is_same_range, is_same_area}
-use Rattle.ios_reader.specs.InterfacesAsRead.{address_given, is_loopback, is_up, area_by, area_with, interface_area, ospf_cost, is_isis_passive, is_ospf_passive, interface_with, interface_as_read, runs_level, level_metric, address_field, subnet_field, cost_field}
-use Rattle.ios_reader.specs.Faults.{membership_fault, statement_faults, interface_line_faults, long_mask, address_mask_faults, is_point_to_point, loopback_faults, bandwidth_faults, interface_faults, section_faults, part_faults}
+use Rattle.ios_reader.specs.InterfaceFacts.{address_at, address_in, shut_said, bandwidth_said, cost_said, area_said, point_to_point_said, isis_said}
+use Rattle.ios_reader.specs.InterfaceFacts.{circuit_said, metric_said, metric1_said, metric2_said, facts_of}
+use Rattle.ios_reader.specs.Routers.{Router, router_with, router_of, area_taken, ospf_passive_said, isis_passive_said, passive_default_said, reference_said}
+use Rattle.ios_reader.specs.Routers.{levels_said, router_metric_said, title_said, ospf_distance_said, isis_distance_said, leak_said, rfc1583_said, range_said}
+use Rattle.ios_reader.specs.Routers.{stub_said, default_cost_said, ranges_in, stub_lines_in, stub_of, stubs_in, is_same_range, is_same_area}
+use Rattle.ios_reader.specs.InterfacesAsRead.{address_given, is_loopback, is_up, area_by, area_with, interface_area, ospf_cost, is_isis_passive}
+use Rattle.ios_reader.specs.InterfacesAsRead.{is_ospf_passive, interface_with, interface_as_read, runs_level, level_metric, address_field, subnet_field}
+use Rattle.ios_reader.specs.InterfacesAsRead.{cost_field}
+use Rattle.ios_reader.specs.Faults.{membership_fault, statement_faults, interface_line_faults, long_mask, address_mask_faults, is_point_to_point}
+use Rattle.ios_reader.specs.Faults.{loopback_faults, bandwidth_faults, interface_faults, section_faults, part_faults}
 use Rattle.ios_reader.specs.Configurations.{configuration_of, title_given, area_in, system_in, tag_in}
 
 -- ---- what the lines of an interface say ----

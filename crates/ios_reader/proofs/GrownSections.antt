@@ -28,7 +28,8 @@ pub both_grow : (ss : List Section) (ends : ℕ) (one two : List ℕ) (first gro
 both_grow ss ends one two first grown begun more =
     let later : ℕ → ℕ = λ count. count + length (lines_in one) in
     let same : (count : ℕ) → ss ++ sections_further_on count (one ++ two) ≡ (ss ++ sections_further_on count one) ++ sections_further_on (later count) two =
-    λ count. ap (λ l. ss ++ l) (block_by_block count one two begun.fits (more count).fits) ∙ sym (append_assoc ss (sections_further_on count one) (sections_further_on (later count) two)) in
+    λ count. ap (λ l. ss ++ l) (block_by_block count one two begun.fits (more count).fits)
+    ∙ sym (append_assoc ss (sections_further_on count one) (sections_further_on (later count) two)) in
     record {
       fits = joined_blocks one two begun.fits (more 0).fits;
       faultless = λ count. ap (λ l. section_faults l ends) (same count) ∙ (more count).faultless (later count);

@@ -1,5 +1,6 @@
 -- Texts joined end to end, and lines put before an `end` line, are read as the law says.
-use Rattle.std.proofs.Common.{sym, ◌≡◌, ℕ, ◌+◌, ◌<◌, Bool, true, false, not, ◌&&◌, ◌||◌, List, [], ◌∷◌, ◌++◌, length, refl, ap, subst, ◌∙◌, cond, map, append-nil, arith, bytes_eq, nat_eq}
+use Rattle.std.proofs.Common.{sym, ◌≡◌, ℕ, ◌+◌, ◌<◌, Bool, true, false, not, ◌&&◌, ◌||◌, List, [], ◌∷◌, ◌++◌, length, refl, ap, subst, ◌∙◌, cond, map}
+use Rattle.std.proofs.Common.{append-nil, arith, bytes_eq, nat_eq}
 use Rattle.std.specs.Prelude.{flat_map, filter, filter_map, codes, slice_index, is_none}
 use Rattle.std.specs.List.{list_any}
 use Rattle.std.proofs.lemmas.Bool.{or_parts}
@@ -14,12 +15,15 @@ use Rattle.ios_lines.specs.Lookups.{last_of}
 use Rattle.ios_lines.specs.FaultOrder.{faults_if}
 use Rattle.ios_lines.specs.declared.fault.Fault.{Fault}
 use Rattle.ios_lines.specs.declared.kind.ReadKind.TheVariants.{NoHostname, NoEnd}
-use Rattle.ios_sections.specs.TextLines.{TextLine, Part, lines_in, counted_lines, counts, is_end, parts_after, rest_after, parts_of, begins_configuration, is_empty, lacks_end, outside_banners, opens_banner, carets, first_indent}
+use Rattle.ios_sections.specs.TextLines.{TextLine, Part, lines_in, counted_lines, counts, is_end, parts_after, rest_after, parts_of, begins_configuration}
+use Rattle.ios_sections.specs.TextLines.{is_empty, lacks_end, outside_banners, opens_banner, carets, first_indent}
 use Rattle.ios_sections.specs.Sections.{sections_in}
 use Rattle.ios_sections.specs.JoinedLines.{further_on, is_in_banner, begins_banner, begins_with_end, sections_among, open_sections, sections_further_on}
 use Rattle.ios_sections.specs.declared.section.Section.{Section}
-use Rattle.ios_sections.proofs.JoinedFacts.{lines_in-append, counted-append, banner-append, banner-none, counted-no_end, parts-append, rest-append, parts-none, rest-none, sections_among-append}
-use Rattle.ios_sections.proofs.FurtherFacts.{list_any-map, first-further, counted-further, banner-further, part_further, parts-further, rest-further, fault_further}
+use Rattle.ios_sections.proofs.JoinedFacts.{lines_in-append, counted-append, banner-append, banner-none, counted-no_end, parts-append, rest-append}
+use Rattle.ios_sections.proofs.JoinedFacts.{parts-none, rest-none, sections_among-append}
+use Rattle.ios_sections.proofs.FurtherFacts.{list_any-map, first-further, counted-further, banner-further, part_further, parts-further, rest-further}
+use Rattle.ios_sections.proofs.FurtherFacts.{fault_further}
 use Rattle.ios_sections.specs.Processes.{as_hostname, as_isis, as_fault, interfaces_in, first_tag}
 use Rattle.ios_sections.specs.ProcessFaults.{second_processes, ospf_faults, isis_faults}
 use Rattle.ios_reader.specs.Routers.{router_of}

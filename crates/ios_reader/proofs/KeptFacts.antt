@@ -1,5 +1,6 @@
 -- What is read keeps the facts of a configuration.
-use Rattle.std.proofs.Common.{◌≡◌, ◌≢◌, ℕ, ◌*◌, ◌/◌, ◌^◌, ◌<◌, ◌≤◌, Bool, true, false, not, ◌&&◌, ◌||◌, List, [], length, get_or, Option, Some, None, Result, Ok, Err, refl, ap, map, nat_eq, nat_le, min, max, arith, inl, inr, ◌⊎◌}
+use Rattle.std.proofs.Common.{◌≡◌, ◌≢◌, ℕ, ◌*◌, ◌/◌, ◌^◌, ◌<◌, ◌≤◌, Bool, true, false, not, ◌&&◌, ◌||◌, List, [], length, get_or, Option, Some, None, Result}
+use Rattle.std.proofs.Common.{Ok, Err, refl, ap, map, nat_eq, nat_le, min, max, arith, inl, inr, ◌⊎◌}
 use Rattle.std.specs.Prelude.{IfSome, IfOk, IsSome, All, AllPairs, is_some, unwrap_or, option_map, filter_map, take_while}
 use Rattle.std.specs.List.{list_all}
 use Rattle.std.specs.Char.{is_ascii_digit}
@@ -19,29 +20,36 @@ use Rattle.ios_lines.specs.Lookups.{last_of, replaced, first_seen, good_value, v
 use Rattle.ios_reader.specs.InterfaceFacts.{address_at, address_in, cost_said, metric_said, metric1_said, metric2_said, facts_of}
 use Rattle.ios_lines.specs.InterfaceLines.{counting}
 use Rattle.ios_sections.specs.Processes.{as_hostname, as_interface, merged, interfaces_in, process_of, ospf_lines, isis_lines}
-use Rattle.ios_reader.specs.Routers.{Router, router_of, range_said, is_same_range, ranges_in, stub_said, is_same_area, stub_lines_in, cost_if, default_cost_said, stub_of, stubs_in, title_said, router_metric_said, ospf_distance_said, isis_distance_said}
-use Rattle.ios_reader.specs.InterfacesAsRead.{address_given, is_loopback, interface_area, default_bandwidth, cost_of_bandwidth, cost_by_bandwidth, default_cost, cost_given, ospf_cost, is_isis_passive, runs_isis, metric_by, level_metric, subnet_field, cost_field, interface_with, interface_as_read}
+use Rattle.ios_reader.specs.Routers.{Router, router_of, range_said, is_same_range, ranges_in, stub_said, is_same_area, stub_lines_in, cost_if}
+use Rattle.ios_reader.specs.Routers.{default_cost_said, stub_of, stubs_in, title_said, router_metric_said, ospf_distance_said, isis_distance_said}
+use Rattle.ios_reader.specs.InterfacesAsRead.{address_given, is_loopback, interface_area, default_bandwidth, cost_of_bandwidth, cost_by_bandwidth}
+use Rattle.ios_reader.specs.InterfacesAsRead.{default_cost, cost_given, ospf_cost, is_isis_passive, runs_isis, metric_by, level_metric, subnet_field}
+use Rattle.ios_reader.specs.InterfacesAsRead.{cost_field, interface_with, interface_as_read}
 use Rattle.ios_reader.specs.Configurations.{title_given, system_in, configuration_of}
 use Rattle.ios_lines.specs.MaskedAddress.{MaskedAddress}
 use Rattle.ios_lines.specs.declared.kind.ReadKind.{ReadKind}
 use Rattle.ios_reader.specs.declared.facts.PlacedAddress.{PlacedAddress}
 use Rattle.ios_lines.specs.declared.interface_line.InterfaceLine.{InterfaceLine}
-use Rattle.ios_lines.specs.declared.interface_line.InterfaceLine.TheVariants.{Address, NoAddress, Shutdown, Vrf, Bandwidth, Cost, Area, PointToPoint, Isis, Circuit, Metric, Metric1, Metric2, Faulty, Skipped}
+use Rattle.ios_lines.specs.declared.interface_line.InterfaceLine.TheVariants.{Address, NoAddress, Shutdown, Vrf, Bandwidth, Cost, Area, PointToPoint, Isis}
+use Rattle.ios_lines.specs.declared.interface_line.InterfaceLine.TheVariants.{Circuit, Metric, Metric1, Metric2, Faulty, Skipped}
 use Rattle.ios_lines.specs.declared.interface_line.InterfaceStatement.{InterfaceStatement}
 use Rattle.ios_lines.specs.declared.ospf_line.StubLine.{StubLine}
 use Rattle.ios_lines.specs.declared.ospf_line.OspfLine.{OspfLine}
-use Rattle.ios_lines.specs.declared.ospf_line.OspfLine.TheVariants.{Network, Passive, PassiveDefault, Reference, Stub as StubSaid, DefaultCost, Range as RangeSaid, Distance, Rfc1583, Faulty as OspfFaulty, Skipped as OspfSkipped}
+use Rattle.ios_lines.specs.declared.ospf_line.OspfLine.TheVariants.{Network, Passive, PassiveDefault, Reference, Stub as StubSaid, DefaultCost}
+use Rattle.ios_lines.specs.declared.ospf_line.OspfLine.TheVariants.{Range as RangeSaid, Distance, Rfc1583, Faulty as OspfFaulty, Skipped as OspfSkipped}
 use Rattle.ios_lines.specs.declared.ospf_line.OspfStatement.{OspfStatement}
 use Rattle.ios_lines.specs.declared.title.Title.{Title}
 use Rattle.ios_lines.specs.declared.isis_line.IsisLine.{IsisLine}
-use Rattle.ios_lines.specs.declared.isis_line.IsisLine.TheVariants.{Net, Levels, MetricStyle, Metric as IsisMetric, Distance as IsisDistance, Passive as IsisPassive, Leak as IsisLeak, Faulty as IsisFaulty, Skipped as IsisSkipped}
+use Rattle.ios_lines.specs.declared.isis_line.IsisLine.TheVariants.{Net, Levels, MetricStyle, Metric as IsisMetric, Distance as IsisDistance}
+use Rattle.ios_lines.specs.declared.isis_line.IsisLine.TheVariants.{Passive as IsisPassive, Leak as IsisLeak, Faulty as IsisFaulty, Skipped as IsisSkipped}
 use Rattle.ios_lines.specs.declared.isis_line.IsisStatement.{IsisStatement}
 use Rattle.ios_sections.specs.declared.section.InterfaceSection.{InterfaceSection}
 use Rattle.ios_sections.specs.declared.section.Section.{Section}
 use Rattle.ios_lines.proofs.NumberFacts.{le_test, and_left, and_right}
 use Rattle.ios_lines.proofs.Picked.{by_if, all_taken, fold_keeps, last_keeps, pairs_map, all_replaced, pairs_replaced, names_apart}
 use Rattle.ios_lines.proofs.GoodLines.{IsFrom, IsGoodAddress, prefix_good, IsGoodInterfaceLine, IsOspfDistance, IsGoodOspfLine, IsIsisDistance, IsGoodIsisLine}
-use Rattle.ios_sections.proofs.GoodSections.{IsGoodStatement, IsGoodOspf, IsGoodIsis, IsGoodInterface, IsGoodSection, as_hostname_good, interfaces_good, counting_good, number_of_process, ospf_good, isis_good}
+use Rattle.ios_sections.proofs.GoodSections.{IsGoodStatement, IsGoodOspf, IsGoodIsis, IsGoodInterface, IsGoodSection, as_hostname_good, interfaces_good}
+use Rattle.ios_sections.proofs.GoodSections.{counting_good, number_of_process, ospf_good, isis_good}
 
 -- ---- the name ----
 
@@ -62,7 +70,8 @@ name_byte : (b : ℕ) → is_name_byte b ≡ true → IsNameByte b
 name_byte b h = four (or_cases (is_letter b || is_ascii_digit b || nat_eq b 45 || nat_eq b 95) (nat_eq b 46) h)
   where
     one : (is_letter b ≡ true) → IsNameByte b
-    one e = elim (or_cases (nat_le 65 b && nat_le b 90) (nat_le 97 b && nat_le b 122) e) as (λ _. IsNameByte b) [ inl f ↦ inr (inl (is_from_tests 65 90 b f)) | inr f ↦ inr (inr (inl (is_from_tests 97 122 b f))) ]
+    one e = elim (or_cases (nat_le 65 b && nat_le b 90) (nat_le 97 b && nat_le b 122) e) as
+        (λ _. IsNameByte b) [ inl f ↦ inr (inl (is_from_tests 65 90 b f)) | inr f ↦ inr (inr (inl (is_from_tests 97 122 b f))) ]
 
     two : (is_letter b ≡ true) ⊎ (is_ascii_digit b ≡ true) → IsNameByte b
     two (inl e) = one e
@@ -82,7 +91,8 @@ name_byte b h = four (or_cases (is_letter b || is_ascii_digit b || nat_eq b 45 |
 
 router_name : (name : Word) → is_router_name name ≡ true → IsRouterName name
 router_name name h =
-    let front : (nat_le 1 (length name) && nat_le (length name) 63) ≡ true = and_left (nat_le 1 (length name) && nat_le (length name) 63) (list_all is_name_byte name) h in
+    let front : (nat_le 1 (length name) && nat_le (length name) 63) ≡ true =
+    and_left (nat_le 1 (length name) && nat_le (length name) 63) (list_all is_name_byte name) h in
     let passes = AllPass-from_list_all is_name_byte name (and_right (nat_le 1 (length name) && nat_le (length name) 63) (list_all is_name_byte name) h) in
     record {
       some = le_test 1 (length name) (and_left (nat_le 1 (length name)) (nat_le (length name) 63) front);
@@ -231,10 +241,12 @@ bandwidth_cost reference None kind = kind_cost reference kind
 
 otherwise_cost : (reference : ℕ) (name : Word) (bandwidth : Option (Result ℕ ReadKind)) → IfSome (default_cost reference name bandwidth) IsCost
 otherwise_cost reference name bandwidth =
-    by_if (λ (o : Option ℕ). IfSome o IsCost) (is_loopback name) (Some 1) (cost_by_bandwidth reference bandwidth (default_bandwidth (take_while is_letter name)))
+    by_if (λ (o : Option ℕ). IfSome o IsCost) (is_loopback name) (Some 1)
+    (cost_by_bandwidth reference bandwidth (default_bandwidth (take_while is_letter name)))
     one_cost (bandwidth_cost reference bandwidth (default_bandwidth (take_while is_letter name)))
 
-given_cost : (own : Option (Result ℕ ReadKind)) (otherwise : Option ℕ) → IfSome own (IsGoodValue 1 65535) → IfSome otherwise IsCost → IfSome (cost_given own otherwise) IsCost
+given_cost : (own : Option (Result ℕ ReadKind)) (otherwise : Option ℕ) → IfSome own (IsGoodValue 1 65535) → IfSome otherwise IsCost →
+    IfSome (cost_given own otherwise) IsCost
 given_cost (Some (Ok cost)) otherwise h i = h
 given_cost (Some (Err _)) otherwise h i = one_cost
 given_cost None otherwise h i = i
@@ -262,11 +274,14 @@ pair : (least most n : ℕ) → IsFrom least most n → (least ≤ n) × (n ≤ 
 pair least most n h = (h.low, h.high)
 
 module _ (router : Router) (name : Word) (lines : List InterfaceStatement) (good : All IsGoodStatement lines) (metric : IsMetric router.metric) where
-  own_metric : (own : Option (Result ℕ ReadKind)) → IfSome own (IsGoodValue 1 16777214) → IsMetric (level_metric router.metric (is_isis_passive router name) (facts_of lines) own)
+  own_metric : (own : Option (Result ℕ ReadKind)) → IfSome own (IsGoodValue 1 16777214) →
+      IsMetric (level_metric router.metric (is_isis_passive router name) (facts_of lines) own)
   own_metric own h =
-      by_if IsMetric (runs_isis (is_isis_passive router name) (facts_of lines)) (metric_by (good_value own) (good_value (facts_of lines).metric) router.metric) 10
+      by_if IsMetric (runs_isis (is_isis_passive router name) (facts_of lines))
+      (metric_by (good_value own) (good_value (facts_of lines).metric) router.metric) 10
       (by_metric (good_value own) (good_value (facts_of lines).metric) router.metric (value_metric own h)
-      (value_metric (facts_of lines).metric (last_keeps (λ (s : InterfaceStatement). metric_said s.says) IsGoodStatement (IsGoodValue 1 16777214) (λ s g. metric_in s.says g) lines good)) metric)
+      (value_metric (facts_of lines).metric (last_keeps (λ (s : InterfaceStatement). metric_said s.says) IsGoodStatement (IsGoodValue 1 16777214)
+      (λ s g. metric_in s.says g) lines good)) metric)
       ten_metric
 
   interface_good : IsInterface (interface_with router name (facts_of lines))
@@ -275,19 +290,26 @@ module _ (router : Router) (name : Word) (lines : List InterfaceStatement) (good
         (given_cost (facts_of lines).cost (default_cost router.reference name (facts_of lines).bandwidth)
         (last_keeps (λ (s : InterfaceStatement). cost_said s.says) IsGoodStatement (IsGoodValue 1 65535) (λ s g. cost_in s.says g) lines good)
         (otherwise_cost router.reference name (facts_of lines).bandwidth)));
-    metric1 = pair 1 16777214 _ (own_metric (facts_of lines).metric1 (last_keeps (λ (s : InterfaceStatement). metric1_said s.says) IsGoodStatement (IsGoodValue 1 16777214) (λ s g. metric1_in s.says g) lines good));
-    metric2 = pair 1 16777214 _ (own_metric (facts_of lines).metric2 (last_keeps (λ (s : InterfaceStatement). metric2_said s.says) IsGoodStatement (IsGoodValue 1 16777214) (λ s g. metric2_in s.says g) lines good));
-    prefix = subnet_good (address_given (facts_of lines).address) (given_good (facts_of lines).address (last_keeps address_in IsGoodStatement IsGoodPlaced (λ s g. placed_in s.line s.says g) lines good));
-    subnet = λ up. subnet_there (address_given (facts_of lines).address) (and_left (is_some (address_given (facts_of lines).address)) (not (unwrap_or (facts_of lines).shut false)) up);
+    metric1 = pair 1 16777214 _ (own_metric (facts_of lines).metric1 (last_keeps (λ (s : InterfaceStatement). metric1_said s.says) IsGoodStatement
+        (IsGoodValue 1 16777214) (λ s g. metric1_in s.says g) lines good));
+    metric2 = pair 1 16777214 _ (own_metric (facts_of lines).metric2 (last_keeps (λ (s : InterfaceStatement). metric2_said s.says) IsGoodStatement
+        (IsGoodValue 1 16777214) (λ s g. metric2_in s.says g) lines good));
+    prefix = subnet_good (address_given (facts_of lines).address) (given_good (facts_of lines).address
+        (last_keeps address_in IsGoodStatement IsGoodPlaced (λ s g. placed_in s.line s.says g) lines good));
+    subnet = λ up. subnet_there (address_given (facts_of lines).address)
+        (and_left (is_some (address_given (facts_of lines).address)) (not (unwrap_or (facts_of lines).shut false)) up);
   }
 
-interfaces_kept : (router : Router) (sections : List InterfaceSection) → IsMetric router.metric → All IsGoodInterface sections → All IsInterface (map (interface_as_read router) sections)
+interfaces_kept : (router : Router) (sections : List InterfaceSection) → IsMetric router.metric → All IsGoodInterface sections →
+    All IsInterface (map (interface_as_read router) sections)
 interfaces_kept router sections metric good =
     All-map IsInterface (interface_as_read router) sections
-    (λ k d lt. interface_good router (get_or sections k d).name (counting (get_or sections k d).lines) (counting_good (get_or sections k d).lines (good k d lt)) metric)
+    (λ k d lt. interface_good router (get_or sections k d).name (counting (get_or sections k d).lines)
+    (counting_good (get_or sections k d).lines (good k d lt)) metric)
 
 -- two interfaces have two names
-apart_interfaces : (router : Router) (parts : List InterfaceSection) (names : List Word) → AllPairs (λ (n m : Word). n ≢ m) names → AllPairs (λ (i j : Interface). i.name ≢ j.name) (map (interface_as_read router) (map (merged parts) names))
+apart_interfaces : (router : Router) (parts : List InterfaceSection) (names : List Word) → AllPairs (λ (n m : Word). n ≢ m) names →
+    AllPairs (λ (i j : Interface). i.name ≢ j.name) (map (interface_as_read router) (map (merged parts) names))
 apart_interfaces router parts names h =
     pairs_map (λ (i j : Interface). i.name ≢ j.name) (interface_as_read router) (map (merged parts) names)
     (pairs_map (λ (s t : InterfaceSection). s.name ≢ t.name) (merged parts) names h)
@@ -366,16 +388,21 @@ ranges_kept lines good =
 
 same_range : (r s : Range) → is_same_range r s ≡ true → (r.area ≡ s.area) × (r.dest ≡ s.dest)
 same_range r s e =
-    let front : (nat_eq r.area s.area && nat_eq r.dest.base s.dest.base) ≡ true = and_left (nat_eq r.area s.area && nat_eq r.dest.base s.dest.base) (nat_eq r.dest.len s.dest.len) e in
+    let front : (nat_eq r.area s.area && nat_eq r.dest.base s.dest.base) ≡ true =
+    and_left (nat_eq r.area s.area && nat_eq r.dest.base s.dest.base) (nat_eq r.dest.len s.dest.len) e in
     let base : r.dest.base ≡ s.dest.base = same_number r.dest.base s.dest.base (and_right (nat_eq r.area s.area) (nat_eq r.dest.base s.dest.base) front) in
-    let len : r.dest.len ≡ s.dest.len = same_number r.dest.len s.dest.len (and_right (nat_eq r.area s.area && nat_eq r.dest.base s.dest.base) (nat_eq r.dest.len s.dest.len) e) in
-    (same_number r.area s.area (and_left (nat_eq r.area s.area) (nat_eq r.dest.base s.dest.base) front), same_parts r.dest.base s.dest.base r.dest.len s.dest.len base len)
+    let len : r.dest.len ≡ s.dest.len = same_number r.dest.len s.dest.len
+    (and_right (nat_eq r.area s.area && nat_eq r.dest.base s.dest.base) (nat_eq r.dest.len s.dest.len) e) in (
+      same_number r.area s.area (and_left (nat_eq r.area s.area) (nat_eq r.dest.base s.dest.base) front),
+      same_parts r.dest.base s.dest.base r.dest.len s.dest.len base len,
+    )
 
 equal_number : (a b : ℕ) → a ≡ b → nat_eq a b ≡ true
 equal_number a b h = grind (arith, nat_tests)
 
 range_same : (r s : Range) → (r.area ≡ s.area) × (r.dest ≡ s.dest) → is_same_range r s ≡ true
-range_same r s h = all_three (equal_number r.area s.area h.0) (equal_number r.dest.base s.dest.base (ap (λ (b : Block). b.base) h.1)) (equal_number r.dest.len s.dest.len (ap (λ (b : Block). b.len) h.1))
+range_same r s h = all_three (equal_number r.area s.area h.0) (equal_number r.dest.base s.dest.base (ap (λ (b : Block). b.base) h.1))
+    (equal_number r.dest.len s.dest.len (ap (λ (b : Block). b.len) h.1))
   where
     all_three : {a b c : Bool} → a ≡ true → b ≡ true → c ≡ true → (a && b && c) ≡ true
     all_three e f g = rw (e, f, g) refl
@@ -392,7 +419,8 @@ ranges_new y x e h = let t : is_same_range y x ≡ true = range_same y x h in le
 
 ranges_apart : (lines : List OspfStatement) → AllPairs AreRangesApart (ranges_in lines)
 ranges_apart lines =
-    fold_keeps (λ (w : List Range). AllPairs AreRangesApart w) (λ (r : Range). Unit {0}) (replaced is_same_range) (λ xs x h p. pairs_replaced AreRangesApart is_same_range ranges_takes ranges_new xs x h)
+    fold_keeps (λ (w : List Range). AllPairs AreRangesApart w) (λ (r : Range). Unit {0}) (replaced is_same_range)
+    (λ xs x h p. pairs_replaced AreRangesApart is_same_range ranges_takes ranges_new xs x h)
     [] (filter_map (λ (s : OspfStatement). range_said s.says) lines) (λ i j d p q. absurd (omega arith)) (λ k d lt. tt)
 
 abbrev AreStubsApart : StubLine → StubLine → Type 0
@@ -406,12 +434,14 @@ stubs_new y x e h = let t : is_same_area y x ≡ true = equal_number y.area x.ar
 
 stub_lines_apart : (lines : List OspfStatement) → AllPairs AreStubsApart (stub_lines_in lines)
 stub_lines_apart lines =
-    fold_keeps (λ (w : List StubLine). AllPairs AreStubsApart w) (λ (r : StubLine). Unit {0}) (replaced is_same_area) (λ xs x h p. pairs_replaced AreStubsApart is_same_area stubs_takes stubs_new xs x h)
+    fold_keeps (λ (w : List StubLine). AllPairs AreStubsApart w) (λ (r : StubLine). Unit {0}) (replaced is_same_area)
+    (λ xs x h p. pairs_replaced AreStubsApart is_same_area stubs_takes stubs_new xs x h)
     [] (filter_map (λ (s : OspfStatement). stub_said s.says) lines) (λ i j d p q. absurd (omega arith)) (λ k d lt. tt)
 
 stub_lines_kept : (lines : List OspfStatement) → All IsGoodOspf lines → All (λ (t : StubLine). 1 ≤ t.area) (stub_lines_in lines)
 stub_lines_kept lines good =
-    fold_keeps (λ (w : List StubLine). All (λ (t : StubLine). 1 ≤ t.area) w) (λ (t : StubLine). 1 ≤ t.area) (replaced is_same_area) (λ xs x h p. all_replaced (λ (t : StubLine). 1 ≤ t.area) is_same_area xs x h p)
+    fold_keeps (λ (w : List StubLine). All (λ (t : StubLine). 1 ≤ t.area) w) (λ (t : StubLine). 1 ≤ t.area) (replaced is_same_area)
+    (λ xs x h p. all_replaced (λ (t : StubLine). 1 ≤ t.area) is_same_area xs x h p)
     [] (filter_map (λ (s : OspfStatement). stub_said s.says) lines) (All-nil (λ (t : StubLine). 1 ≤ t.area))
     (all_taken (λ (s : OspfStatement). stub_said s.says) IsGoodOspf (λ (t : StubLine). 1 ≤ t.area) (λ s g. stub_in s.says g) lines good)
 
@@ -420,8 +450,10 @@ stubs_kept lines good =
     All-map IsStub (stub_of lines) (stub_lines_in lines)
     (λ k d lt. record {
       area = stub_lines_kept lines good k d lt;
-      default_cost = or_default (λ (n : ℕ). n ≤ 16777214) (last_of (λ (s : OspfStatement). default_cost_said (get_or (stub_lines_in lines) k d).area s.says) lines) 1 (omega arith)
-          (last_keeps (λ (s : OspfStatement). default_cost_said (get_or (stub_lines_in lines) k d).area s.says) IsGoodOspf (λ (n : ℕ). n ≤ 16777214) (λ s g. default_in (get_or (stub_lines_in lines) k d).area s.says g) lines good);
+      default_cost = or_default (λ (n : ℕ). n ≤ 16777214) (last_of
+          (λ (s : OspfStatement). default_cost_said (get_or (stub_lines_in lines) k d).area s.says) lines) 1 (omega arith)
+          (last_keeps (λ (s : OspfStatement). default_cost_said (get_or (stub_lines_in lines) k d).area s.says) IsGoodOspf (λ (n : ℕ). n ≤ 16777214)
+          (λ s g. default_in (get_or (stub_lines_in lines) k d).area s.says g) lines good);
     })
 
 -- ---- the IS-IS process ----
@@ -469,33 +501,43 @@ process_kept None h = tt
 process_kept (Some p) h = (h.low, h.high)
 
 -- the configuration of sections that name the router keeps the facts of a configuration
-pub configuration_kept : (sections : List Section) → All IsGoodSection sections → is_some (last_of as_hostname sections) ≡ true → IsConfiguration (configuration_of sections)
+pub configuration_kept : (sections : List Section) → All IsGoodSection sections → is_some (last_of as_hostname sections) ≡ true →
+    IsConfiguration (configuration_of sections)
 configuration_kept sections good named =
     let ospf : All IsGoodOspf (ospf_lines sections) = ospf_good sections good in
     let isis : All IsGoodIsis (isis_lines sections) = isis_good sections good in
-    let metric : IsMetric (router_of sections).metric = value_kept IsMetric (last_of (λ (s : IsisStatement). router_metric_said s.says) (isis_lines sections)) 10 ten_metric
-    (last_keeps (λ (s : IsisStatement). router_metric_said s.says) IsGoodIsis (IsGoodValue 1 16777214) (λ s g. router_metric_in s.says g) (isis_lines sections) isis) in
+    let metric : IsMetric (router_of sections).metric = value_kept IsMetric
+    (last_of (λ (s : IsisStatement). router_metric_said s.says) (isis_lines sections)) 10 ten_metric
+    (last_keeps (λ (s : IsisStatement). router_metric_said s.says) IsGoodIsis (IsGoodValue 1 16777214) (λ s g. router_metric_in s.says g)
+    (isis_lines sections) isis) in
     let distance : IsOspfDistance (value_or (last_of (λ (s : OspfStatement). ospf_distance_said s.says) (ospf_lines sections)) 110) =
     value_kept IsOspfDistance (last_of (λ (s : OspfStatement). ospf_distance_said s.says) (ospf_lines sections)) 110
     (record { some = omega arith; most = omega arith; apart = λ e. omega arith })
-    (last_keeps (λ (s : OspfStatement). ospf_distance_said s.says) IsGoodOspf (λ (r : Result ℕ ReadKind). IfOk r IsOspfDistance) (λ s g. distance_in s.says g) (ospf_lines sections) ospf) in
+    (last_keeps (λ (s : OspfStatement). ospf_distance_said s.says) IsGoodOspf (λ (r : Result ℕ ReadKind). IfOk r IsOspfDistance)
+    (λ s g. distance_in s.says g) (ospf_lines sections) ospf) in
     record {
       name = router_name (unwrap_or (last_of as_hostname sections) [])
-          (there (λ (name : Word). is_router_name name ≡ true) (last_of as_hostname sections) [] named (last_keeps as_hostname IsGoodSection (λ (name : Word). is_router_name name ≡ true) as_hostname_good sections good));
+          (there (λ (name : Word). is_router_name name ≡ true) (last_of as_hostname sections) [] named
+          (last_keeps as_hostname IsGoodSection (λ (name : Word). is_router_name name ≡ true) as_hostname_good sections good));
       interfaces = interfaces_kept (router_of sections) (interfaces_in sections) metric (interfaces_good sections good);
-      interface_names = apart_interfaces (router_of sections) (filter_map as_interface sections) (first_seen (map (λ (s : InterfaceSection). s.name) (filter_map as_interface sections))) (names_apart (map (λ (s : InterfaceSection). s.name) (filter_map as_interface sections)));
+      interface_names = apart_interfaces (router_of sections) (filter_map as_interface sections)
+          (first_seen (map (λ (s : InterfaceSection). s.name) (filter_map as_interface sections)))
+          (names_apart (map (λ (s : InterfaceSection). s.name) (filter_map as_interface sections)));
       process = process_kept (process_of sections) (number_of_process sections good);
       system = system_kept (last_of (λ (s : IsisStatement). title_said s.says) (isis_lines sections))
-          (last_keeps (λ (s : IsisStatement). title_said s.says) IsGoodIsis (λ (o : Option Title). IfSome o (λ (t : Title). t.system < 2 ^ 48)) (λ s g. title_in s.says g) (isis_lines sections) isis);
+          (last_keeps (λ (s : IsisStatement). title_said s.says) IsGoodIsis (λ (o : Option Title). IfSome o (λ (t : Title). t.system < 2 ^ 48))
+          (λ s g. title_in s.says g) (isis_lines sections) isis);
       ranges = ranges_kept (ospf_lines sections) ospf;
       ranges_apart = ranges_apart (ospf_lines sections);
       stubs = stubs_kept (ospf_lines sections) ospf;
-      stubs_apart = pairs_map (λ (s t : Stub). s.area ≢ t.area) (stub_of (ospf_lines sections)) (stub_lines_in (ospf_lines sections)) (stub_lines_apart (ospf_lines sections));
+      stubs_apart = pairs_map (λ (s t : Stub). s.area ≢ t.area) (stub_of (ospf_lines sections)) (stub_lines_in (ospf_lines sections))
+          (stub_lines_apart (ospf_lines sections));
       distances = record {
         some = distance.some;
         most = distance.most;
         apart = distance.apart;
         isis = value_kept IsIsisDistance (last_of (λ (s : IsisStatement). isis_distance_said s.says) (isis_lines sections)) 115 (inl refl)
-            (last_keeps (λ (s : IsisStatement). isis_distance_said s.says) IsGoodIsis (λ (r : Result ℕ ReadKind). IfOk r IsIsisDistance) (λ s g. isis_distance_in s.says g) (isis_lines sections) isis);
+            (last_keeps (λ (s : IsisStatement). isis_distance_said s.says) IsGoodIsis (λ (r : Result ℕ ReadKind). IfOk r IsIsisDistance)
+            (λ s g. isis_distance_in s.says g) (isis_lines sections) isis);
       };
     }

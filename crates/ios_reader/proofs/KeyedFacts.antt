@@ -1,5 +1,6 @@
 -- Tables whose values stand under their keys.
-use Rattle.std.proofs.Common.{sym, ◌≡◌, ℕ, zero, suc, ◌+◌, ◌<◌, Bool, true, false, ◌&&◌, List, [], ◌∷◌, ◌++◌, length, take, get_or, Option, Some, None, refl, ap, ◌∙◌, cond, map, nat_eq, arith, add-one}
+use Rattle.std.proofs.Common.{sym, ◌≡◌, ℕ, zero, suc, ◌+◌, ◌<◌, Bool, true, false, ◌&&◌, List, [], ◌∷◌, ◌++◌, length, take, get_or, Option, Some, None, refl}
+use Rattle.std.proofs.Common.{ap, ◌∙◌, cond, map, nat_eq, arith, add-one}
 use Rattle.std.specs.Prelude.{slice_get}
 use Rattle.std.specs.List.{cons_option}
 use Rattle.std.proofs.lemmas.Bool.{false≢true}
@@ -12,7 +13,7 @@ use Rattle.ios_lines.specs.Lookups.{later, replaced, last_of}
 use Rattle.net_model.specs.declared.area.Range.{Range}
 use Rattle.ios_lines.specs.declared.ospf_line.StubLine.{StubLine}
 use Rattle.ios_reader.specs.Routers.{cost_if, is_same_range}
-use Rattle.ios_reader.specs.Tables.{values_in, AreKeyed, range_key, stub_made}
+use Rattle.ios_reader.specs.steps.Tables.{values_in, AreKeyed, range_key, stub_made}
 use Rattle.ios_lines.proofs.NumberFacts.{and_left, and_right}
 use Rattle.ios_lines.proofs.LineLookups.{last_of_more}
 
@@ -23,8 +24,10 @@ value_cases {K} {V} false false e v es rest more same later = ap (λ (w : List V
 value_cases true false e v es rest more same later = absurd (false≢true (sym same))
 value_cases false true e v es rest more same later = absurd (false≢true same)
 
-keyed_cases : {K : Type 0} {V : Type 0} (key : V → K) (t : Bool) (e : K × V) (v : V) (es rest : List (K × V)) → (t ≡ true → e.0 ≡ key v) → AreKeyed key (e ∷ es) → AreKeyed key rest → AreKeyed key (cond t ((e.0, v) ∷ es) (e ∷ rest))
-keyed_cases {K} {V} key true e v es rest same h later = All-cons (λ (p : K × V). p.0 ≡ key p.1) (e.0, v) es (same refl) (All-tail (λ (p : K × V). p.0 ≡ key p.1) e es h)
+keyed_cases : {K : Type 0} {V : Type 0} (key : V → K) (t : Bool) (e : K × V) (v : V) (es rest : List (K × V)) → (t ≡ true → e.0 ≡ key v) →
+    AreKeyed key (e ∷ es) → AreKeyed key rest → AreKeyed key (cond t ((e.0, v) ∷ es) (e ∷ rest))
+keyed_cases {K} {V} key true e v es rest same h later = All-cons (λ (p : K × V). p.0 ≡ key p.1) (e.0, v) es (same refl)
+    (All-tail (λ (p : K × V). p.0 ≡ key p.1) e es h)
 keyed_cases {K} {V} key false e v es rest same h later = All-cons (λ (p : K × V). p.0 ≡ key p.1) e rest (All-head (λ (p : K × V). p.0 ≡ key p.1) e es h) later
 
 -- a value takes the place of the one with its key, or goes last
@@ -77,7 +80,8 @@ here_cases : (b : Bool) (old v : ℕ) (rest : Option ℕ) → cond b (Some v) re
 here_cases true old v rest = refl
 here_cases false old v rest = refl
 
-there_cases : (b : Bool) (old : ℕ) (rest more new : Option ℕ) → (b ≡ true → new ≡ None) → more ≡ later rest new → cond b (Some old) more ≡ later (cond b (Some old) rest) new
+there_cases : (b : Bool) (old : ℕ) (rest more new : Option ℕ) → (b ≡ true → new ≡ None) → more ≡ later rest new → cond b (Some old) more
+    ≡ later (cond b (Some old) rest) new
 there_cases true old rest more new none later_is = sym (ap (later (Some old)) (none refl))
 there_cases false old rest more new none later_is = later_is
 
@@ -116,7 +120,8 @@ lookup_more form xs i x old new within read before step q =
 -- ---- stub areas ----
 
 -- one more stub area, read by its place
-pub stub_more : (cost : ℕ → Option ℕ) (vs : List StubLine) (i : ℕ) → map (stub_made cost) (take (i + 1) vs) ≡ map (stub_made cost) (take i vs) ++ map (stub_made cost) (cons_option (slice_get vs i) [])
+pub stub_more : (cost : ℕ → Option ℕ) (vs : List StubLine) (i : ℕ) → map (stub_made cost) (take (i + 1) vs) ≡ map (stub_made cost) (take i vs)
+    ++ map (stub_made cost) (cons_option (slice_get vs i) [])
 stub_more cost vs i = ap (map (stub_made cost)) (value_more vs i) ∙ map-append (stub_made cost) (take i vs) (cons_option (slice_get vs i) [])
 
 -- ---- ranges ----

@@ -1,5 +1,6 @@
 -- The least of some faults is on the least faulty line, with the least kind on it.
-use Rattle.std.proofs.Common.{◌≡◌, ℕ, ◌<◌, ◌≤◌, Bool, true, false, ◌&&◌, ◌||◌, List, [], ◌∷◌, Option, Some, None, refl, cond, nat_eq, nat_lt, arith, ◌⊎◌, inl, inr}
+use Rattle.std.proofs.Common.{◌≡◌, ℕ, ◌<◌, ◌≤◌, Bool, true, false, ◌&&◌, ◌||◌, List, [], ◌∷◌, Option, Some, None, refl, cond, nat_eq, nat_lt, arith, ◌⊎◌, inl}
+use Rattle.std.proofs.Common.{inr}
 use Rattle.std.proofs.lemmas.Bool.Decides.{nat_tests}
 use Rattle.ios_lines.specs.FaultOrder.{rank, is_before, lesser_fault, least_fault}
 use Rattle.ios_reader.specs.Configurations.{IsNotAfter}

@@ -9,9 +9,13 @@ pub mod TextLaws
 pub mod ConfigurationFacts
 pub mod PassiveFacts
 pub mod KeyedFacts
+pub mod NetworkFacts
 pub mod FurtherReading
 pub mod InsertedFacts
 pub mod RawLines
 pub mod LinePlaces
 pub mod LookedUp
 pub mod GrownSections
+pub mod PutBlocks
+pub mod PartSteps
+pub mod AreaFacts

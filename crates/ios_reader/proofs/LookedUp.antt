@@ -49,7 +49,8 @@ abbrev pub process_by : List OspfSection → List InterfaceSection → Option �
 process_by ospf interfaces = first_process (mentions_of ospf interfaces)
 
 -- the faults of sections, one sort after the other
-pub record HasNoFault (name : Option Word) (interfaces : List InterfaceSection) (ospf : List OspfSection) (isis : List IsisSection) (heads : List Fault) (ends : ℕ) : Type 0 where
+pub record HasNoFault (name : Option Word) (interfaces : List InterfaceSection) (ospf : List OspfSection) (isis : List IsisSection) (heads : List Fault)
+    (ends : ℕ) : Type 0 where
   pub heads_fine : heads ≡ []
   pub one_process : flat_map (process_faults (process_by ospf interfaces)) (mentions_of ospf interfaces) ≡ []
   pub ospf_fine : flat_map ospf_statement_faults (ospf_lines_by (process_by ospf interfaces) ospf) ≡ []
@@ -58,7 +59,8 @@ pub record HasNoFault (name : Option Word) (interfaces : List InterfaceSection) 
   pub one_title : second_titles (isis_lines_by isis) ≡ []
   pub lacks_none : lacking (first_isis_line isis) (isis_lines_by isis) ≡ []
   pub interfaces_fine :
-      flat_map (interface_faults (router_with (process_by ospf interfaces) (ospf_lines_by (process_by ospf interfaces) ospf) (isis_lines_by isis)) (first_tag isis)) interfaces ≡ []
+      flat_map (interface_faults (router_with (process_by ospf interfaces) (ospf_lines_by (process_by ospf interfaces) ospf) (isis_lines_by isis))
+      (first_tag isis)) interfaces ≡ []
   pub named : faults_if (is_none name) ends NoHostname ≡ []
 
 pub no_fault_from : (ss : List Section) (ends : ℕ) → section_faults ss ends ≡ [] →
@@ -95,8 +97,10 @@ no_fault_to ss ends n =
     n.named
 
 -- sections that are looked up alike have no fault either
-pub no_fault_by : (ss : List Section) (ends : ℕ) (name : Option Word) (interfaces : List InterfaceSection) (ospf : List OspfSection) (isis : List IsisSection) (heads : List Fault) →
-    last_of as_hostname ss ≡ name → interfaces_in ss ≡ interfaces → filter_map as_ospf ss ≡ ospf → filter_map as_isis ss ≡ isis → filter_map as_fault ss ≡ heads →
+pub no_fault_by : (ss : List Section) (ends : ℕ) (name : Option Word) (interfaces : List InterfaceSection) (ospf : List OspfSection)
+    (isis : List IsisSection) (heads : List Fault) →
+    last_of as_hostname ss ≡ name → interfaces_in ss ≡ interfaces → filter_map as_ospf ss ≡ ospf → filter_map as_isis ss ≡ isis → filter_map as_fault ss
+    ≡ heads →
     HasNoFault name interfaces ospf isis heads ends → section_faults ss ends ≡ []
 no_fault_by ss ends name interfaces ospf isis heads a b c d f n =
     no_fault_to ss ends

@@ -1,5 +1,6 @@
 -- The parts of a text, one more line at a time.
-use Rattle.std.proofs.Common.{sym, ◌≡◌, ℕ, ◌+◌, ◌-◌, ◌<◌, ◌≤◌, Bool, true, false, not, ◌||◌, List, [], ◌∷◌, ◌++◌, length, take, drop, get_or, Option, Some, None, Result, Ok, Err, refl, ap, subst, ◌∙◌, cond, map, append-nil, arith}
+use Rattle.std.proofs.Common.{sym, ◌≡◌, ℕ, ◌+◌, ◌-◌, ◌<◌, ◌≤◌, Bool, true, false, not, ◌||◌, List, [], ◌∷◌, ◌++◌, length, take, drop, get_or, Option, Some}
+use Rattle.std.proofs.Common.{None, Result, Ok, Err, refl, ap, subst, ◌∙◌, cond, map, append-nil, arith}
 use Rattle.std.specs.Prelude.{flat_map}
 use Rattle.std.specs.List.{list_any, slice_range}
 use Rattle.std.proofs.lemmas.Grind.{common_steps}
@@ -11,7 +12,7 @@ use Rattle.ios_sections.specs.Sections.{sections_in}
 use Rattle.ios_reader.specs.Faults.{part_faults}
 use Rattle.ios_reader.specs.Configurations.{configuration_of}
 use Rattle.ios_lines.specs.FaultOrder.{lesser_fault, least_fault}
-use Rattle.ios_reader.specs.Parts.{part_at, IsPartRead, fault_read, configurations_read, Reading, IsReadingOf}
+use Rattle.ios_reader.specs.steps.Parts.{part_at, IsPartRead, fault_read, configurations_read, Reading, IsReadingOf}
 use Rattle.ios_lines.specs.declared.fault.Fault.{Fault}
 use Rattle.ios_lines.proofs.FaultFacts.{least_fault-append}
 
@@ -20,7 +21,8 @@ use Rattle.ios_lines.proofs.FaultFacts.{least_fault-append}
 abbrev ended : List TextLine → TextLine → List Part
 ended before x = cond (is_end x) (part_at before x.number ∷ []) []
 
-rest-choice : (t : Bool) (a b : List TextLine) (x : TextLine) → cond t (cond (is_end x) [] (a ++ x ∷ [])) (cond (is_end x) [] (b ++ x ∷ [])) ≡ cond (is_end x) [] (cond t a b ++ x ∷ [])
+rest-choice : (t : Bool) (a b : List TextLine) (x : TextLine) → cond t (cond (is_end x) [] (a ++ x ∷ [])) (cond (is_end x) [] (b ++ x ∷ []))
+    ≡ cond (is_end x) [] (cond t a b ++ x ∷ [])
 rest-choice true a b x = refl
 rest-choice false a b x = refl
 
@@ -31,7 +33,8 @@ cond_two false a b c d p q = q
 rest-push : (before xs : List TextLine) (x : TextLine) → rest_after before (xs ++ x ∷ []) ≡ cond (is_end x) [] (rest_after before xs ++ x ∷ [])
 rest-push before [] x = refl
 rest-push before (y ∷ ys) x =
-    cond_two (is_end y) (rest_after [] (ys ++ x ∷ [])) (rest_after (before ++ y ∷ []) (ys ++ x ∷ [])) _ _ (rest-push [] ys x) (rest-push (before ++ y ∷ []) ys x)
+    cond_two (is_end y) (rest_after [] (ys ++ x ∷ [])) (rest_after (before ++ y ∷ []) (ys ++ x ∷ [])) _ _ (rest-push [] ys x)
+    (rest-push (before ++ y ∷ []) ys x)
     ∙ rest-choice (is_end y) (rest_after [] ys) (rest_after (before ++ y ∷ []) ys) x
 
 parts-choice : (t : Bool) (p : Part) (a b : List Part) (r s : List TextLine) (x : TextLine) →
@@ -44,7 +47,8 @@ parts-push before [] x = refl
 parts-push before (y ∷ ys) x =
     cond_two (is_end y) (part_at before y.number ∷ parts_after [] (ys ++ x ∷ [])) (parts_after (before ++ y ∷ []) (ys ++ x ∷ [])) _ _
     (ap (λ (ps : List Part). part_at before y.number ∷ ps) (parts-push [] ys x)) (parts-push (before ++ y ∷ []) ys x)
-    ∙ parts-choice (is_end y) (part_at before y.number) (parts_after [] ys) (parts_after (before ++ y ∷ []) ys) (rest_after [] ys) (rest_after (before ++ y ∷ []) ys) x
+    ∙ parts-choice (is_end y) (part_at before y.number) (parts_after [] ys) (parts_after (before ++ y ∷ []) ys) (rest_after [] ys)
+    (rest_after (before ++ y ∷ []) ys) x
 
 module _ (lines : List TextLine) (i : ℕ) (x : TextLine) (within : i < length lines) (read : x ≡ get_or lines i x) where
   one_more : take (i + 1) lines ≡ take i lines ++ x ∷ []
@@ -63,7 +67,8 @@ module _ (lines : List TextLine) (i : ℕ) (x : TextLine) (within : i < length l
 pub slice_none : (lines : List TextLine) (i : ℕ) → slice_range lines i i ≡ []
 slice_none lines i = let none : i - i ≡ 0 = omega arith in ap (λ (n : ℕ). take n (drop i lines)) none
 
-pub slice_more : (lines : List TextLine) (start i : ℕ) (x : TextLine) → start ≤ i → i < length lines → x ≡ get_or lines i x → slice_range lines start (i + 1) ≡ slice_range lines start i ++ x ∷ []
+pub slice_more : (lines : List TextLine) (start i : ℕ) (x : TextLine) → start ≤ i → i < length lines → x ≡ get_or lines i x → slice_range lines start (i + 1)
+    ≡ slice_range lines start i ++ x ∷ []
 slice_more lines start i x low within read =
     let count : (i + 1) - start ≡ (i - start) + 1 = omega arith in
     let inside : i - start < length (drop start lines) = grind (arith, common_steps) in
@@ -75,7 +80,8 @@ slice_more lines start i x low within read =
 
 -- ---- what is read ----
 
-least-push : (parts : List Part) (part : Part) → least_fault (flat_map part_faults (parts ++ part ∷ [])) ≡ lesser_fault (least_fault (flat_map part_faults parts)) (least_fault (part_faults part))
+least-push : (parts : List Part) (part : Part) → least_fault (flat_map part_faults (parts ++ part ∷ []))
+    ≡ lesser_fault (least_fault (flat_map part_faults parts)) (least_fault (part_faults part))
 least-push parts part =
     ap least_fault (flat_map-append part_faults parts (part ∷ []))
     ∙ least_fault-append (flat_map part_faults parts) (part_faults part ++ [])
@@ -101,7 +107,8 @@ abbrev made : List Part → List Configuration
 made parts = map (λ (part : Part). configuration_of (sections_in part)) parts
 
 configs_more : (parts : List Part) (part : Part) (r s : Reading) (read : Result Configuration Fault) → IsReadingOf parts r → IsPartRead part read →
-    s.fault ≡ lesser_fault r.fault (fault_read read) → s.configs ≡ r.configs ++ configurations_read read → s.fault ≡ None → s.configs ≡ made (parts ++ part ∷ [])
+    s.fault ≡ lesser_fault r.fault (fault_read read) → s.configs ≡ r.configs ++ configurations_read read → s.fault ≡ None → s.configs
+    ≡ made (parts ++ part ∷ [])
 configs_more parts part r s (Ok configuration) before h f g none =
     let clean : r.fault ≡ None = none_before r.fault (sym f ∙ none) in
     g ∙ ap (λ (w : List Configuration). w ++ configuration ∷ []) (before.configs clean)
@@ -134,12 +141,14 @@ any-push (y ∷ ys) x = or_assoc (begins_configuration y) (list_any begins_confi
     or_assoc true b c e = refl
     or_assoc false b c e = e
 
-any_cases : (t : Bool) (xs : List TextLine) (x : TextLine) → list_any begins_configuration (cond t [] (xs ++ x ∷ [])) ≡ cond t false (list_any begins_configuration xs || begins_configuration x)
+any_cases : (t : Bool) (xs : List TextLine) (x : TextLine) → list_any begins_configuration (cond t [] (xs ++ x ∷ []))
+    ≡ cond t false (list_any begins_configuration xs || begins_configuration x)
 any_cases true xs x = refl
 any_cases false xs x = any-push xs x
 
 pub open_more : (lines : List TextLine) (i : ℕ) (x : TextLine) → i < length lines → x ≡ get_or lines i x →
-    list_any begins_configuration (rest_after [] (take (i + 1) lines)) ≡ cond (is_end x) false (list_any begins_configuration (rest_after [] (take i lines)) || begins_configuration x)
+    list_any begins_configuration (rest_after [] (take (i + 1) lines))
+    ≡ cond (is_end x) false (list_any begins_configuration (rest_after [] (take i lines)) || begins_configuration x)
 open_more lines i x within read =
     ap (list_any begins_configuration) (rest_more lines i x within read) ∙ any_cases (is_end x) (rest_after [] (take i lines)) x
 
@@ -177,21 +186,25 @@ module _ (lines : List TextLine) (i : ℕ) (x : TextLine) (within : i < length l
       ∙ sym (rest_more lines i x within read ∙ ap (λ (b : Bool). cond b [] (rest_after [] (take i lines) ++ x ∷ [])) ends)
 
   -- another line goes behind those that are in no part yet
-  pub rest_on : (start : ℕ) → start ≤ i → slice_range lines start i ≡ rest_after [] (take i lines) → is_end x ≡ false → slice_range lines start (i + 1) ≡ rest_after [] (take (i + 1) lines)
+  pub rest_on : (start : ℕ) → start ≤ i → slice_range lines start i ≡ rest_after [] (take i lines) → is_end x ≡ false → slice_range lines start (i + 1)
+      ≡ rest_after [] (take (i + 1) lines)
   rest_on start low before on =
       slice_more lines start i x low within read
       ∙ ap (λ (w : List TextLine). w ++ x ∷ []) before
       ∙ sym (rest_more lines i x within read ∙ ap (λ (b : Bool). cond b [] (rest_after [] (take i lines) ++ x ∷ [])) on)
 
   -- at an `end` line one more part is read
-  pub read_at_end : (slice : List TextLine) (number : ℕ) (r s : Reading) (part : Result Configuration Fault) → is_end x ≡ true → slice ≡ rest_after [] (take i lines) → number ≡ x.number →
+  pub read_at_end : (slice : List TextLine) (number : ℕ) (r s : Reading) (part : Result Configuration Fault) → is_end x ≡ true → slice
+      ≡ rest_after [] (take i lines) → number ≡ x.number →
       IsReadingOf (parts_after [] (take i lines)) r → IsPartRead (part_at slice number) part →
-      s.fault ≡ lesser_fault r.fault (fault_read part) → s.configs ≡ r.configs ++ configurations_read part → IsReadingOf (parts_after [] (take (i + 1) lines)) s
+      s.fault ≡ lesser_fault r.fault (fault_read part) → s.configs ≡ r.configs ++ configurations_read part →
+      IsReadingOf (parts_after [] (take (i + 1) lines)) s
   read_at_end slice number r s part ends before same was now f g =
       let parts : parts_after [] (take i lines) ++ part_at slice number ∷ [] ≡ parts_after [] (take (i + 1) lines) =
       ap (λ (w : List TextLine). parts_after [] (take i lines) ++ part_at w number ∷ []) before
       ∙ ap (λ (n : ℕ). parts_after [] (take i lines) ++ part_at (rest_after [] (take i lines)) n ∷ []) same
-      ∙ sym (parts_more lines i x within read ∙ ap (λ (b : Bool). parts_after [] (take i lines) ++ cond b (part_at (rest_after [] (take i lines)) x.number ∷ []) []) ends) in
+      ∙ sym (parts_more lines i x within read ∙ ap (λ (b : Bool). parts_after [] (take i lines)
+      ++ cond b (part_at (rest_after [] (take i lines)) x.number ∷ []) []) ends) in
       subst (λ (ps : List Part). IsReadingOf ps s) parts (reading-push (parts_after [] (take i lines)) (part_at slice number) r s part was now f g)
 
   -- at another line nothing more is read
@@ -199,5 +212,6 @@ module _ (lines : List TextLine) (i : ℕ) (x : TextLine) (within : i < length l
   read_on r on was =
       let parts : parts_after [] (take i lines) ≡ parts_after [] (take (i + 1) lines) =
       sym (append-nil (parts_after [] (take i lines)))
-      ∙ sym (parts_more lines i x within read ∙ ap (λ (b : Bool). parts_after [] (take i lines) ++ cond b (part_at (rest_after [] (take i lines)) x.number ∷ []) []) on) in
+      ∙ sym (parts_more lines i x within read ∙ ap (λ (b : Bool). parts_after [] (take i lines)
+      ++ cond b (part_at (rest_after [] (take i lines)) x.number ∷ []) []) on) in
       subst (λ (ps : List Part). IsReadingOf ps r) parts was

@@ -1,11 +1,12 @@
 -- Tables of passive interfaces, against the last line that names an interface.
-use Rattle.std.proofs.Common.{sym, ◌≡◌, ℕ, ◌+◌, ◌<◌, Bool, true, false, List, [], ◌∷◌, length, take, get_or, Option, Some, None, refl, ap, ◌∙◌, cond, map, bytes_eq}
+use Rattle.std.proofs.Common.{sym, ◌≡◌, ℕ, ◌+◌, ◌<◌, Bool, true, false, List, [], ◌∷◌, length, take, get_or, Option, Some, None, refl, ap, ◌∙◌, cond, map}
+use Rattle.std.proofs.Common.{bytes_eq}
 use Rattle.std.proofs.lemmas.Slice.Eq.{bytes_eq-Decides}
 use Rattle.std.specs.Map.{lookup}
 use Rattle.indexmap.specs.IndexMap.{insert_entry}
 use Rattle.ios_lines.specs.Words.{Word}
 use Rattle.ios_lines.specs.Lookups.{later, last_of}
-use Rattle.ios_reader.specs.Passives.{said_of, with_said}
+use Rattle.ios_reader.specs.steps.Passives.{said_of, with_said}
 use Rattle.ios_lines.proofs.LineLookups.{last_of_more}
 
 same_word : (n m : Word) → bytes_eq n m ≡ true → n ≡ m
@@ -27,7 +28,8 @@ here_cases : (b : Bool) (old v : Bool) (rest : Option Bool) → cond b (Some v) 
 here_cases true old v rest = refl
 here_cases false old v rest = refl
 
-there_cases : (b : Bool) (old : Bool) (rest more new : Option Bool) → (b ≡ true → new ≡ None) → more ≡ later rest new → cond b (Some old) more ≡ later (cond b (Some old) rest) new
+there_cases : (b : Bool) (old : Bool) (rest more new : Option Bool) → (b ≡ true → new ≡ None) → more ≡ later rest new → cond b (Some old) more
+    ≡ later (cond b (Some old) rest) new
 there_cases true old rest more new none later_is = sym (ap (later (Some old)) (none refl))
 there_cases false old rest more new none later_is = later_is
 
@@ -46,7 +48,8 @@ said_cases false e es n v name same rest =
     rest
 
 -- what a table says of a name after one more line
-pub said_with : (es : List (Word × Bool)) (n : Word) (v : Bool) (name : Word) → said_of (with_said es n v) name ≡ later (said_of es name) (cond (bytes_eq n name) (Some v) None)
+pub said_with : (es : List (Word × Bool)) (n : Word) (v : Bool) (name : Word) → said_of (with_said es n v) name
+    ≡ later (said_of es name) (cond (bytes_eq n name) (Some v) None)
 said_with [] n v name = ap (λ (b : Bool). cond b (Some v) None) (eq_swap name n) ∙ sym (none_first (cond (bytes_eq n name) (Some v) None))
   where
     none_first : (o : Option Bool) → later None o ≡ o
@@ -65,10 +68,12 @@ module _ {K : Type 0} (items : K → Word) where
   insert_cases true e es rest v more h = refl
   insert_cases false e es rest v more h = ap (λ (w : List (Word × Bool)). (items e.0, e.1) ∷ w) h
 
-  pub table_insert : (es : List (K × Bool)) (k : K) (v : Bool) → shown (insert_entry (λ (a b : K). bytes_eq (items a) (items b)) es k v) ≡ with_said (shown es) (items k) v
+  pub table_insert : (es : List (K × Bool)) (k : K) (v : Bool) → shown (insert_entry (λ (a b : K). bytes_eq (items a) (items b)) es k v)
+      ≡ with_said (shown es) (items k) v
   table_insert [] k v = refl
   table_insert (e ∷ es) k v =
-      insert_cases (bytes_eq (items k) (items e.0)) e es (insert_entry (λ (a b : K). bytes_eq (items a) (items b)) es k v) v (with_said (shown es) (items k) v) (table_insert es k v)
+      insert_cases (bytes_eq (items k) (items e.0)) e es (insert_entry (λ (a b : K). bytes_eq (items a) (items b)) es k v) v
+      (with_said (shown es) (items k) v) (table_insert es k v)
 
   lookup_cases : (t : Bool) (v : Bool) (a b : Option Bool) → a ≡ b → cond t (Some v) a ≡ cond t (Some v) b
   lookup_cases true v a b h = refl
@@ -81,7 +86,8 @@ module _ {K : Type 0} (items : K → Word) where
 -- ---- a loop over the lines of a process ----
 
 -- one more line
-pub table_more : {A : Type 0} (form : Word → A → Option Bool) (xs : List A) (i : ℕ) (x : A) (old new : List (Word × Bool)) → i < length xs → x ≡ get_or xs i x →
+pub table_more : {A : Type 0} (form : Word → A → Option Bool) (xs : List A) (i : ℕ) (x : A) (old new : List (Word × Bool)) → i < length xs → x
+    ≡ get_or xs i x →
     ((name : Word) → said_of old name ≡ last_of (form name) (take i xs)) → ((name : Word) → said_of new name ≡ later (said_of old name) (form name x)) →
     (name : Word) → said_of new name ≡ last_of (form name) (take (i + 1) xs)
 table_more form xs i x old new within read before step name =

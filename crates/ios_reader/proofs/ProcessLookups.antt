@@ -1,8 +1,9 @@
 -- What the lines of a process say, in a loop over them.
 use Rattle.std.proofs.Common.{sym, ◌≡◌, ℕ, ◌+◌, ◌<◌, List, [], ◌∷◌, ◌++◌, length, take, get_or, refl, ap, ◌∙◌}
 use Rattle.std.proofs.lemmas.List.{take_more}
-use Rattle.ios_reader.specs.Routers.{passive_default_said, reference_said, ospf_distance_said, rfc1583_said, levels_said, router_metric_said, isis_distance_said, leak_said}
-use Rattle.ios_reader.specs.ProcessFacts.{ospf_facts_of, ospf_noted, isis_facts_of, isis_noted}
+use Rattle.ios_reader.specs.Routers.{passive_default_said, reference_said, ospf_distance_said, rfc1583_said, levels_said, router_metric_said}
+use Rattle.ios_reader.specs.Routers.{isis_distance_said, leak_said}
+use Rattle.ios_reader.specs.steps.ProcessFacts.{ospf_facts_of, ospf_noted, isis_facts_of, isis_noted}
 use Rattle.ios_lines.specs.declared.ospf_line.OspfStatement.{OspfStatement}
 use Rattle.ios_lines.specs.declared.isis_line.IsisStatement.{IsisStatement}
 use Rattle.ios_lines.proofs.LineLookups.{last_of-push}

@@ -111,10 +111,12 @@ outside_joined : (inside : Bool) (xs ys : List TextLine) →
 outside_joined inside [] ys = refl
 outside_joined inside (x ∷ xs) ys =
     ap (λ l. outside_banner inside x ++ l) (outside_joined (banner_after inside x) xs ys)
-    ∙ sym (append_assoc (outside_banner inside x) (outside_banners (banner_after inside x) xs) (outside_banners (fold banner_after (banner_after inside x) xs) ys))
+    ∙ sym (append_assoc (outside_banner inside x) (outside_banners (banner_after inside x) xs)
+    (outside_banners (fold banner_after (banner_after inside x) xs) ys))
 
 -- the lines that count of some lines and of one more
-counted_more : (xs : List TextLine) (line : TextLine) → counted_lines (xs ++ line ∷ []) ≡ counted_lines xs ++ filter counts (outside_banner (is_in_banner xs) line)
+counted_more : (xs : List TextLine) (line : TextLine) → counted_lines (xs ++ line ∷ []) ≡ counted_lines xs
+    ++ filter counts (outside_banner (is_in_banner xs) line)
 counted_more xs line =
     ap (filter counts) (outside_joined false xs (line ∷ []) ∙ ap (λ l. outside_banners false xs ++ l) (append-nil (outside_banner (is_in_banner xs) line)))
     ∙ filter-append counts (outside_banners false xs) (outside_banner (is_in_banner xs) line)
@@ -133,7 +135,8 @@ pub parts_stay : (xs : List TextLine) (line : TextLine) → (not (is_in_banner x
 parts_stay xs line off =
     ap (parts_after []) (counted_more xs line)
     ∙ parts-append [] (counted_lines xs) (filter counts (outside_banner (is_in_banner xs) line))
-    ∙ ap (λ l. parts_of xs ++ l) (parts-none (rest_after [] (counted_lines xs)) (filter counts (outside_banner (is_in_banner xs) line)) (none_ends (is_in_banner xs) line off))
+    ∙ ap (λ l. parts_of xs ++ l) (parts-none (rest_after [] (counted_lines xs)) (filter counts (outside_banner (is_in_banner xs) line))
+    (none_ends (is_in_banner xs) line off))
     ∙ append-nil (parts_of xs)
 
 -- ---- an `end` line behind a text ----
@@ -145,7 +148,8 @@ end_word line e =
 
 counted_end : (line : TextLine) (ls : List TextLine) → is_end line ≡ true → counted_lines (line ∷ ls) ≡ line ∷ counted_lines ls
 counted_end line ls e =
-    ap (λ (w : Word). cond (not (nat_eq (length w) 0) && not (nat_eq (slice_index w 0) 33)) (line ∷ filter counts (outside_banners (opens_banner line) ls)) (filter counts (outside_banners (opens_banner line) ls)))
+    ap (λ (w : Word). cond (not (nat_eq (length w) 0) && not (nat_eq (slice_index w 0) 33)) (line ∷ filter counts (outside_banners (opens_banner line) ls))
+    (filter counts (outside_banners (opens_banner line) ls)))
     (end_word line e)
     ∙ ap (λ (w : Word). line ∷ filter counts (outside_banners (bytes_eq w (codes "banner") && nat_eq (carets line.bytes) 1) ls)) (end_word line e)
 
@@ -155,14 +159,17 @@ open_lines text = rest_after [] (counted_lines (lines_in text))
 abbrev pub part_with : List TextLine → ℕ → Part
 part_with lines ends = record { lines = lines; ends = ends }
 
-pub parts_at_end : (before after : List ℕ) (line : TextLine) (behind : List TextLine) → IsOutsideBanners before → lines_in after ≡ line ∷ behind → is_end line ≡ true →
+pub parts_at_end : (before after : List ℕ) (line : TextLine) (behind : List TextLine) → IsOutsideBanners before → lines_in after ≡ line ∷ behind →
+    is_end line ≡ true →
     parts_of (lines_in (before ++ after))
-    ≡ parts_of (lines_in before) ++ part_with (open_lines before) (length (lines_in before) + line.number) ∷ parts_after [] (map (further_on (length (lines_in before))) (counted_lines behind))
+    ≡ parts_of (lines_in before) ++ part_with (open_lines before) (length (lines_in before) + line.number) ∷ parts_after []
+    (map (further_on (length (lines_in before))) (counted_lines behind))
 parts_at_end before after line behind outside is e =
     let count : ℕ = length (lines_in before) in
     ap parts_of (lines_in-append before after outside.whole)
     ∙ ap (parts_after []) (counted-append (lines_in before) (map (further_on count) (lines_in after)) outside.outside
-    ∙ ap (λ l. counted_lines (lines_in before) ++ l) (counted-further count (lines_in after) ∙ ap (λ l. map (further_on count) (counted_lines l)) is ∙ ap (map (further_on count)) (counted_end line behind e)))
+    ∙ ap (λ l. counted_lines (lines_in before) ++ l) (counted-further count (lines_in after) ∙ ap (λ l. map (further_on count) (counted_lines l)) is
+    ∙ ap (map (further_on count)) (counted_end line behind e)))
     ∙ parts-append [] (counted_lines (lines_in before)) (further_on count line ∷ map (further_on count) (counted_lines behind))
     ∙ ap (λ (b : Bool). parts_of (lines_in before) ++ cond b
     (part_with (open_lines before) (count + line.number) ∷ parts_after [] (map (further_on count) (counted_lines behind)))
@@ -189,7 +196,8 @@ pub configurations_end : (before raw : List ℕ) (line : TextLine) → IsOutside
     configurations_in (lines_in (before ++ raw)) ≡ configurations_in (lines_in before) ++ configuration_of (open_sections before) ∷ []
 configurations_end before raw line outside is e =
     ap (map (λ (part : Part). configuration_of (sections_in part))) (parts_at_end before raw line [] outside is e)
-    ∙ map-append (λ (part : Part). configuration_of (sections_in part)) (parts_of (lines_in before)) (part_with (open_lines before) (length (lines_in before) + line.number) ∷ [])
+    ∙ map-append (λ (part : Part). configuration_of (sections_in part)) (parts_of (lines_in before))
+    (part_with (open_lines before) (length (lines_in before) + line.number) ∷ [])
 
 none_left : (fs gs : List Fault) → fs ++ gs ≡ [] → fs ≡ []
 none_left [] gs e = refl
@@ -209,8 +217,10 @@ open_fine before after line behind configurations outside is e reads =
     let later : List Part = parts_after [] (map (further_on count) (counted_lines behind)) in
     let all : flat_map part_faults (parts_of (lines_in (before ++ after))) ≡ [] = none_left _ _ reads.faultless in
     let split : flat_map part_faults (parts_of (lines_in before)) ++ flat_map part_faults (part ∷ later) ≡ [] =
-    sym (flat_map-append part_faults (parts_of (lines_in before)) (part ∷ later)) ∙ sym (ap (flat_map part_faults) (parts_at_end before after line behind outside is e)) ∙ all in
-    none_left (part_faults part) (flat_map part_faults later) (none_right (flat_map part_faults (parts_of (lines_in before))) (flat_map part_faults (part ∷ later)) split)
+    sym (flat_map-append part_faults (parts_of (lines_in before)) (part ∷ later))
+    ∙ sym (ap (flat_map part_faults) (parts_at_end before after line behind outside is e)) ∙ all in
+    none_left (part_faults part) (flat_map part_faults later)
+    (none_right (flat_map part_faults (parts_of (lines_in before))) (flat_map part_faults (part ∷ later)) split)
 
 -- lists with one front have one back
 pub same_back : {A : Type 0} (front one two : List A) → front ++ one ≡ front ++ two → one ≡ two

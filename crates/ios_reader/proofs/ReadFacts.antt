@@ -1,5 +1,6 @@
 -- The answer to a text, from what was read of its parts.
-use Rattle.std.proofs.Common.{sym, ◌≡◌, ℕ, ◌+◌, ◌≤◌, Bool, true, false, List, [], ◌∷◌, ◌++◌, length, Option, Some, None, refl, ap, subst, ◌∙◌, cond, map, arith, zero, suc, inl, inr}
+use Rattle.std.proofs.Common.{sym, ◌≡◌, ℕ, ◌+◌, ◌≤◌, Bool, true, false, List, [], ◌∷◌, ◌++◌, length, Option, Some, None, refl, ap, subst, ◌∙◌, cond, map}
+use Rattle.std.proofs.Common.{arith, zero, suc, inl, inr}
 use Rattle.std.specs.Prelude.{flat_map, All, filter_map, is_none, is_some, unwrap_or}
 use Rattle.std.specs.List.{slice_split}
 use Rattle.std.proofs.lemmas.List.{length-map}
@@ -11,7 +12,8 @@ use Rattle.net_model.specs.Configuration.{Configuration, IsConfiguration}
 use Rattle.ios_lines.specs.Words.{Word}
 use Rattle.ios_sections.specs.TextLines.{TextLine, Part, text_line, lines_in, parts_of, lacks_end}
 use Rattle.ios_lines.specs.FaultOrder.{faults_if, is_before, lesser_fault, least_fault}
-use Rattle.ios_sections.specs.ProcessFaults.{second_processes, ospf_faults, isis_faults, isis_statement_faults, tag_faults, second_titles, lacking, first_isis_line}
+use Rattle.ios_sections.specs.ProcessFaults.{second_processes, ospf_faults, isis_faults, isis_statement_faults, tag_faults, second_titles, lacking}
+use Rattle.ios_sections.specs.ProcessFaults.{first_isis_line}
 use Rattle.ios_reader.specs.Faults.{interface_faults, section_faults, part_faults, faults_in}
 use Rattle.ios_sections.specs.Sections.{sections_in}
 use Rattle.ios_sections.specs.Processes.{as_hostname, as_isis, as_fault, interfaces_in, first_isis, first_tag, isis_lines}
@@ -20,8 +22,8 @@ use Rattle.ios_reader.specs.InterfacesAsRead.{interface_as_read}
 use Rattle.ios_lines.specs.Lookups.{last_of, value_or}
 use Rattle.ios_reader.specs.Configurations.{IsNotAfter, IsLeastFault, configuration_of, tag_in, area_in, system_in}
 use Rattle.ios_sections.specs.Statements.{Statements, statements_of}
-use Rattle.ios_reader.specs.ByStatements.{ospf_fault_by, isis_fault_by, fault_by, title_by, configuration_by}
-use Rattle.ios_reader.specs.Parts.{IsMadeOf, Reading, IsReadingOf}
+use Rattle.ios_reader.specs.steps.ByStatements.{ospf_fault_by, isis_fault_by, fault_by, title_by, configuration_by}
+use Rattle.ios_reader.specs.steps.Parts.{IsMadeOf, Reading, IsReadingOf}
 use Rattle.ios_reader.specs.Texts.{ReadsText, IsRefusedText}
 use Rattle.ios_lines.specs.declared.kind.ReadKind.TheVariants.{NoHostname, NoEnd}
 use Rattle.ios_lines.specs.declared.fault.Fault.{Fault}
@@ -45,7 +47,8 @@ isis_is sections =
     (least_of_two (tag_faults (filter_map as_isis sections) ++ flat_map isis_statement_faults (isis_lines sections)) (second_titles (isis_lines sections)) _ _
     (least_of_two (tag_faults (filter_map as_isis sections)) (flat_map isis_statement_faults (isis_lines sections)) _ _ refl refl) refl) refl
 
-ospf_is : (sections : List Section) → ospf_fault_by (statements_of sections) ≡ least_fault (filter_map as_fault sections ++ second_processes sections ++ ospf_faults sections)
+ospf_is : (sections : List Section) → ospf_fault_by (statements_of sections)
+    ≡ least_fault (filter_map as_fault sections ++ second_processes sections ++ ospf_faults sections)
 ospf_is sections =
     least_of_two (filter_map as_fault sections ++ second_processes sections) (ospf_faults sections) _ _
     (least_of_two (filter_map as_fault sections) (second_processes sections) _ _ refl refl) refl
@@ -55,12 +58,14 @@ fault_is sections ends =
     let first : List Fault = filter_map as_fault sections ++ second_processes sections ++ ospf_faults sections in
     let interfaces : List Fault = flat_map (interface_faults (router_of sections) (first_tag (filter_map as_isis sections))) (interfaces_in sections) in
     least_of_two
-    (filter_map as_fault sections ++ second_processes sections ++ ospf_faults sections ++ isis_faults sections ++ flat_map (interface_faults (router_of sections) (first_tag (filter_map as_isis sections))) (interfaces_in sections))
+    (filter_map as_fault sections ++ second_processes sections ++ ospf_faults sections ++ isis_faults sections
+    ++ flat_map (interface_faults (router_of sections) (first_tag (filter_map as_isis sections))) (interfaces_in sections))
     (faults_if (is_none (last_of as_hostname sections)) ends NoHostname) _ _
     (least_of_two
     (filter_map as_fault sections ++ second_processes sections ++ ospf_faults sections ++ isis_faults sections)
     (flat_map (interface_faults (router_of sections) (first_tag (filter_map as_isis sections))) (interfaces_in sections)) _ _
-    (least_of_two (filter_map as_fault sections ++ second_processes sections ++ ospf_faults sections) (isis_faults sections) _ _ (ospf_is sections) (isis_is sections))
+    (least_of_two (filter_map as_fault sections ++ second_processes sections ++ ospf_faults sections) (isis_faults sections) _ _ (ospf_is sections)
+    (isis_is sections))
     refl) refl
 
 -- ---- the configuration ----
@@ -117,7 +122,8 @@ part_named sections ends e =
     some_name (last_of as_hostname sections)
     (no_fault (is_none (last_of as_hostname sections)) ends
     (append_none
-    (filter_map as_fault sections ++ second_processes sections ++ ospf_faults sections ++ isis_faults sections ++ flat_map (interface_faults (router_of sections) (first_tag (filter_map as_isis sections))) (interfaces_in sections))
+    (filter_map as_fault sections ++ second_processes sections ++ ospf_faults sections ++ isis_faults sections
+    ++ flat_map (interface_faults (router_of sections) (first_tag (filter_map as_isis sections))) (interfaces_in sections))
     (faults_if (is_none (last_of as_hostname sections)) ends NoHostname) e))
 
 part_fault : (part : Part) (s : Statements) → s ≡ statements_of (sections_in part) → fault_by s part.ends ≡ least_fault (part_faults part)
@@ -134,14 +140,16 @@ part_kept part s e none =
     (subst IsConfiguration (sym (configuration_is (sections_in part))) (configuration_kept (sections_in part) (sections_good part) named))
 
 -- a part without a fault is read into its configuration
-pub part_made : (part : Part) (s : Statements) (c : Configuration) → s ≡ statements_of (sections_in part) → fault_by s part.ends ≡ None → c ≡ configuration_by s → IsMadeOf part c
+pub part_made : (part : Part) (s : Statements) (c : Configuration) → s ≡ statements_of (sections_in part) → fault_by s part.ends ≡ None → c
+    ≡ configuration_by s → IsMadeOf part c
 part_made part s c e none made = record {
   faultless = part_faultless part s e none;
   made = made ∙ ap configuration_by e ∙ configuration_is (sections_in part);
 }
 
 -- a faulty part is read into its least fault
-pub part_faulty : (part : Part) (s : Statements) (f : Fault) → s ≡ statements_of (sections_in part) → fault_by s part.ends ≡ Some f → least_fault (part_faults part) ≡ Some f
+pub part_faulty : (part : Part) (s : Statements) (f : Fault) → s ≡ statements_of (sections_in part) → fault_by s part.ends ≡ Some f →
+    least_fault (part_faults part) ≡ Some f
 part_faulty part s f e some = sym (part_fault part s e) ∙ some
 
 -- ---- the least fault of some ----
@@ -164,7 +172,8 @@ later_least g h gs before found = record {
   least = All-cons (IsNotAfter h) g gs before found.least;
 }
 
-least_choice : (g h f : Fault) (gs : List Fault) (t : Bool) → is_before h g ≡ t → IsLeastFault gs h → cond t (Some h) (Some g) ≡ Some f → IsLeastFault (g ∷ gs) f
+least_choice : (g h f : Fault) (gs : List Fault) (t : Bool) → is_before h g ≡ t → IsLeastFault gs h → cond t (Some h) (Some g) ≡ Some f →
+    IsLeastFault (g ∷ gs) f
 least_choice g h f gs true before found e =
     let same : h ≡ f = cc in
     subst (IsLeastFault (g ∷ gs)) same (later_least g h gs (by_before h g before) found)
@@ -173,7 +182,8 @@ least_choice g h f gs false before found e =
     let after : IsNotAfter g h = by_not_before g h before in
     subst (IsLeastFault (g ∷ gs)) same (first_least g gs (All-weaker (IsNotAfter h) (IsNotAfter g) (λ x n. not_after_trans g h x after n) gs found.least))
 
-least_cases : (g f : Fault) (gs : List Fault) (o : Option Fault) → least_fault gs ≡ o → ((h : Fault) → least_fault gs ≡ Some h → IsLeastFault gs h) → lesser_fault (Some g) o ≡ Some f → IsLeastFault (g ∷ gs) f
+least_cases : (g f : Fault) (gs : List Fault) (o : Option Fault) → least_fault gs ≡ o → ((h : Fault) → least_fault gs ≡ Some h → IsLeastFault gs h) →
+    lesser_fault (Some g) o ≡ Some f → IsLeastFault (g ∷ gs) f
 least_cases g f gs None r later e =
     let same : g ≡ f = cc in
     let none : gs ≡ [] = none_least gs r in
@@ -187,7 +197,8 @@ least_is (g ∷ gs) f e = least_cases g f gs (least_fault gs) refl (λ h r. leas
 
 -- ---- a text ----
 
-least_in : (lines : List TextLine) (r : Reading) (end : Option Fault) → IsReadingOf (parts_of lines) r → end ≡ least_fault (faults_if (lacks_end lines) (length lines + 1) NoEnd) →
+least_in : (lines : List TextLine) (r : Reading) (end : Option Fault) → IsReadingOf (parts_of lines) r → end
+    ≡ least_fault (faults_if (lacks_end lines) (length lines + 1) NoEnd) →
     lesser_fault r.fault end ≡ least_fault (faults_in lines)
 least_in lines r end h e = least_of_two (flat_map part_faults (parts_of lines)) (faults_if (lacks_end lines) (length lines + 1) NoEnd) r.fault end h.fault e
 
@@ -201,7 +212,8 @@ none_first (Some f) (Some g) e = absurd (chosen (is_before g f) f g e)
     chosen false f g e = cc
 
 -- a text without a faulty line is read into its configurations
-pub text_read : (text : List ℕ) (r : Reading) (end : Option Fault) → IsReadingOf (parts_of (lines_in text)) r → end ≡ least_fault (faults_if (lacks_end (lines_in text)) (length (lines_in text) + 1) NoEnd) →
+pub text_read : (text : List ℕ) (r : Reading) (end : Option Fault) → IsReadingOf (parts_of (lines_in text)) r → end
+    ≡ least_fault (faults_if (lacks_end (lines_in text)) (length (lines_in text) + 1) NoEnd) →
     lesser_fault r.fault end ≡ None → ReadsText text r.configs
 text_read text r end h e none = record {
   faultless = none_least (faults_in (lines_in text)) (sym (least_in (lines_in text) r end h e) ∙ none);
@@ -209,7 +221,8 @@ text_read text r end h e none = record {
 }
 
 -- a text with a faulty line is refused at the first one
-pub text_refused : (text : List ℕ) (r : Reading) (end : Option Fault) (f : Fault) → IsReadingOf (parts_of (lines_in text)) r → end ≡ least_fault (faults_if (lacks_end (lines_in text)) (length (lines_in text) + 1) NoEnd) →
+pub text_refused : (text : List ℕ) (r : Reading) (end : Option Fault) (f : Fault) → IsReadingOf (parts_of (lines_in text)) r → end
+    ≡ least_fault (faults_if (lacks_end (lines_in text)) (length (lines_in text) + 1) NoEnd) →
     lesser_fault r.fault end ≡ Some f → IsRefusedText text f.line f.kind
 text_refused text r end f h e some = least_is (faults_in (lines_in text)) f (sym (least_in (lines_in text) r end h e) ∙ some)
 
@@ -231,7 +244,13 @@ fewer (piece ∷ next ∷ more) = let h : length (without_empty_last (next ∷ m
 -- a text has at most one line more than bytes
 pub line_count : (text : List ℕ) → length (text_lines text) ≤ length text + 1
 line_count text =
-    omega (arith, lines_length 1 0 (line_pieces text), fewer (slice_split is_line_feed text), length-slice_split is_line_feed text, count_by-le-length is_line_feed text)
+    omega (
+      arith,
+      lines_length 1 0 (line_pieces text),
+      fewer (slice_split is_line_feed text),
+      length-slice_split is_line_feed text,
+      count_by-le-length is_line_feed text,
+    )
 
 -- the lines with their words are as many
 pub lines_in_length : (text : List ℕ) → length (lines_in text) ≡ length (text_lines text)

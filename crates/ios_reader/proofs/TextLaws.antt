@@ -6,7 +6,8 @@ use Rattle.net_model.proofs.Members.{Contains-none}
 use Rattle.ios_lines.specs.FaultOrder.{fault_at, rank, least_fault}
 use Rattle.ios_lines.specs.declared.fault.Fault.{Fault}
 use Rattle.ios_lines.specs.declared.kind.ReadKind.{ReadKind}
-use Rattle.ios_lines.specs.declared.kind.ReadKind.TheVariants.{NoHostname, NoEnd, BadAddress, BadMask, BadCost, BadArea, SecondProcess, Unsupported, LoopbackMask, BadNet, BadLevel, BadMetric, BadDistance, DistanceClash, NoBandwidth}
+use Rattle.ios_lines.specs.declared.kind.ReadKind.TheVariants.{NoHostname, NoEnd, BadAddress, BadMask, BadCost, BadArea, SecondProcess, Unsupported}
+use Rattle.ios_lines.specs.declared.kind.ReadKind.TheVariants.{LoopbackMask, BadNet, BadLevel, BadMetric, BadDistance, DistanceClash, NoBandwidth}
 use Rattle.ios_sections.specs.TextLines.{lines_in}
 use Rattle.ios_reader.specs.Faults.{faults_in}
 use Rattle.ios_reader.specs.Configurations.{configurations_in, IsNotAfter, IsLeastFault}
@@ -17,7 +18,8 @@ use Rattle.ios_reader.proofs.ReadFacts.{least_is}
 -- the kind at a place among the kinds
 abbrev kind_at : ℕ → ReadKind
 kind_at n = get_or
-    (NoHostname ∷ NoHostname ∷ NoEnd ∷ BadAddress ∷ BadMask ∷ BadCost ∷ BadArea ∷ SecondProcess ∷ Unsupported ∷ LoopbackMask ∷ BadNet ∷ BadLevel ∷ BadMetric ∷ BadDistance ∷ DistanceClash ∷ NoBandwidth ∷ [])
+    (NoHostname ∷ NoHostname ∷ NoEnd ∷ BadAddress ∷ BadMask ∷ BadCost ∷ BadArea ∷ SecondProcess ∷ Unsupported ∷ LoopbackMask ∷ BadNet ∷ BadLevel ∷ BadMetric
+    ∷ BadDistance ∷ DistanceClash ∷ NoBandwidth ∷ [])
     n NoHostname
 
 kind_back : (kind : ReadKind) → kind_at (rank kind) ≡ kind

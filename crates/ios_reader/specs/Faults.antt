@@ -1,6 +1,7 @@
 -- The faulty lines of a configuration, each with its kind.
 pub use Rattle.ios_lines.specs.FaultOrder.{fault_at}
-use Rattle.std.specs.Prelude.{ℕ, ◌+◌, Bool, false, not, ◌&&◌, List, [], ◌++◌, Option, Some, None, Result, Ok, Err, length, filter_map, flat_map, bytes_eq, nat_eq, is_some, is_none, if◌then◌else◌}
+use Rattle.std.specs.Prelude.{ℕ, ◌+◌, Bool, false, not, ◌&&◌, List, [], ◌++◌, Option, Some, None, Result, Ok, Err, length, filter_map, flat_map, bytes_eq}
+use Rattle.std.specs.Prelude.{nat_eq, is_some, is_none, if◌then◌else◌}
 use Rattle.ios_lines.specs.Words.{Word}
 use Rattle.ios_lines.specs.Lookups.{last_of}
 use Rattle.ios_sections.specs.TextLines.{TextLine, Part, parts_of, lacks_end}

@@ -5,7 +5,8 @@ use Rattle.ios_lines.specs.Lookups.{later, last_of}
 use Rattle.ios_lines.specs.declared.kind.ReadKind.{ReadKind}
 use Rattle.ios_lines.specs.declared.interface_line.ProcessArea.{ProcessArea}
 use Rattle.ios_lines.specs.declared.interface_line.InterfaceLine.{InterfaceLine}
-use Rattle.ios_lines.specs.declared.interface_line.InterfaceLine.TheVariants.{Address, NoAddress, Shutdown, Bandwidth, Cost, Area, PointToPoint, Isis, Circuit, Metric, Metric1, Metric2}
+use Rattle.ios_lines.specs.declared.interface_line.InterfaceLine.TheVariants.{Address, NoAddress, Shutdown, Bandwidth, Cost, Area, PointToPoint, Isis}
+use Rattle.ios_lines.specs.declared.interface_line.InterfaceLine.TheVariants.{Circuit, Metric, Metric1, Metric2}
 use Rattle.ios_lines.specs.declared.interface_line.InterfaceStatement.{InterfaceStatement}
 use Rattle.ios_reader.specs.declared.facts.PlacedAddress.{PlacedAddress}
 use Rattle.ios_reader.specs.declared.facts.InterfaceFacts.{InterfaceFacts}

@@ -1,5 +1,6 @@
 -- Interfaces as read, from their lines and the lines of the two processes.
-use Rattle.std.specs.Prelude.{ℕ, ◌*◌, ◌/◌, Bool, false, not, ◌&&◌, ◌||◌, List, Option, Some, None, Result, Ok, Err, min, max, take_while, unwrap_or, option_map, is_some, bytes_eq, nat_eq, codes, if◌then◌else◌}
+use Rattle.std.specs.Prelude.{ℕ, ◌*◌, ◌/◌, Bool, false, not, ◌&&◌, ◌||◌, List, Option, Some, None, Result, Ok, Err, min, max, take_while, unwrap_or}
+use Rattle.std.specs.Prelude.{option_map, is_some, bytes_eq, nat_eq, codes, if◌then◌else◌}
 use Rattle.std.specs.List.{starts_with}
 use Rattle.net_addr.specs.Addresses.{Block}
 use Rattle.net_model.specs.declared.config.Levels.{Levels}

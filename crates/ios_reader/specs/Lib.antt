@@ -4,12 +4,10 @@ pub mod Routers
 pub mod InterfacesAsRead
 pub mod Faults
 pub mod Configurations
-pub mod ProcessFacts
-pub mod ByStatements
-pub mod Parts
 pub mod Texts
-pub mod Passives
-pub mod Tables
 pub mod ReadLaws
 pub mod InsertedLines
 pub mod Places
+pub mod PutBlocks
+pub mod AreaLaws
+pub mod steps

@@ -1,5 +1,6 @@
 -- What the lines of the two processes say of a router.
-use Rattle.std.specs.Prelude.{ℕ, Bool, true, false, ◌&&◌, List, [], Option, Some, None, Result, Ok, map, filter_map, fold, unwrap_or, bytes_eq, nat_eq, bit_or, if◌then◌else◌}
+use Rattle.std.specs.Prelude.{ℕ, Bool, true, false, ◌&&◌, List, [], Option, Some, None, Result, Ok, map, filter_map, fold, unwrap_or, bytes_eq, nat_eq}
+use Rattle.std.specs.Prelude.{bit_or, if◌then◌else◌}
 use Rattle.net_model.specs.declared.area.Range.{Range}
 use Rattle.net_model.specs.declared.area.Stub.{Stub}
 use Rattle.net_model.specs.declared.config.Levels.{Levels}
@@ -11,11 +12,13 @@ use Rattle.ios_lines.specs.declared.kind.ReadKind.{ReadKind}
 use Rattle.ios_lines.specs.declared.ospf_line.StubLine.{StubLine}
 use Rattle.ios_lines.specs.declared.ospf_line.PassiveLine.{PassiveLine}
 use Rattle.ios_lines.specs.declared.ospf_line.OspfLine.{OspfLine}
-use Rattle.ios_lines.specs.declared.ospf_line.OspfLine.TheVariants.{Network, Passive as OspfPassive, PassiveDefault, Reference, Stub as StubSaid, DefaultCost, Range as RangeSaid, Distance as OspfDistance, Rfc1583}
+use Rattle.ios_lines.specs.declared.ospf_line.OspfLine.TheVariants.{Network, Passive as OspfPassive, PassiveDefault, Reference, Stub as StubSaid, DefaultCost}
+use Rattle.ios_lines.specs.declared.ospf_line.OspfLine.TheVariants.{Range as RangeSaid, Distance as OspfDistance, Rfc1583}
 use Rattle.ios_lines.specs.declared.ospf_line.OspfStatement.{OspfStatement}
 use Rattle.ios_lines.specs.declared.title.Title.{Title}
 use Rattle.ios_lines.specs.declared.isis_line.IsisLine.{IsisLine}
-use Rattle.ios_lines.specs.declared.isis_line.IsisLine.TheVariants.{Net, Levels as LevelsSaid, Metric as IsisMetric, Distance as IsisDistance, Passive as IsisPassive, Leak}
+use Rattle.ios_lines.specs.declared.isis_line.IsisLine.TheVariants.{Net, Levels as LevelsSaid, Metric as IsisMetric, Distance as IsisDistance}
+use Rattle.ios_lines.specs.declared.isis_line.IsisLine.TheVariants.{Passive as IsisPassive, Leak}
 use Rattle.ios_lines.specs.declared.isis_line.IsisStatement.{IsisStatement}
 use Rattle.ios_sections.specs.declared.section.Section.{Section}
 use Rattle.ios_sections.specs.Processes.{process_of, ospf_lines, isis_lines}

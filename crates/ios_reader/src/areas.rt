@@ -3,7 +3,7 @@ ghost use Rattle.std.specs.List.{cons_option};
 ghost use Rattle.indexmap.specs.IndexMap.{get};
 ghost use Rattle.ios_lines.specs.Lookups.{later, last_of, replaced};
 ghost use Rattle.ios_reader.specs.Routers.{is_same_range, is_same_area, range_said, ranges_in, stub_said, stub_lines_in, default_cost_said, stubs_in};
-ghost use Rattle.ios_reader.specs.Tables.{values_in, AreKeyed, range_key, stub_key, stub_made};
+ghost use Rattle.ios_reader.specs.steps.Tables.{values_in, AreKeyed, range_key, stub_key, stub_made};
 
 use crate::OutOfMemory;
 use indexmap::IndexMap;

@@ -2,13 +2,15 @@ ghost use Rattle.std.specs.Prelude.{◌≡◌, [], unwrap_or, IfOk};
 ghost use Rattle.net_model.specs.Configuration.{IsConfiguration};
 ghost use Rattle.ios_lines.specs.Lookups.{value_or};
 ghost use Rattle.ios_reader.specs.Configurations.{area_in, system_in};
-ghost use Rattle.ios_reader.specs.ByStatements.{ospf_fault_by, isis_fault_by, fault_by, title_after, title_by, configuration_by};
-ghost use Rattle.ios_reader.specs.Parts.{part_at, IsPartRead};
+ghost use Rattle.ios_reader.specs.steps.ByStatements.{ospf_fault_by, isis_fault_by, fault_by, title_after, title_by, configuration_by};
+ghost use Rattle.ios_reader.specs.steps.Networks.{placed_networks};
+ghost use Rattle.ios_reader.specs.steps.Parts.{part_at, IsPartRead};
 
 use crate::OutOfMemory;
 use crate::areas::{ranges_in, stubs_in};
 use crate::interface_fault::interface_faults;
 use crate::interface_read::interfaces_as_read;
+use crate::networks::{Networks, networks_of};
 use crate::passive::passives_of;
 use crate::router::{isis_facts_of, ospf_facts_of, router_with};
 use ios_lines::fault::{Fault, fault_if, lesser_fault};
@@ -44,12 +46,14 @@ fn isis_fault(statements: &Statements) -> Option<Fault>
 }
 
 /// The least fault of a configuration whose `end` line has this number.
-fn fault_of(statements: &Statements, ends: u32) -> Option<Fault>
+fn fault_of(statements: &Statements, networks: &Networks, ends: u32) -> Option<Fault>
+    requires { networks.now ≡ placed_networks 0 statements.now.ospf }
     ensures { result ≡ fault_by statements.now ends }
 {
     let router = router_with(
         statements.process,
         statements.ospf.as_slice(),
+        networks,
         statements.isis.as_slice(),
     );
     let interfaces = interface_faults(
@@ -116,8 +120,13 @@ fn title_parts(alloc: Global, title: Option<Title>) -> (Name, u64)
 }
 
 /// The configuration that the statements of a router make.
-fn config_of(alloc: Global, statements: Statements) -> Result<Config, OutOfMemory>
-    requires { IsConfiguration (configuration_by statements) }
+fn config_of(
+    alloc: Global,
+    statements: Statements,
+    networks: &Networks,
+) -> Result<Config, OutOfMemory>
+    requires kept { IsConfiguration (configuration_by statements) }
+    requires networks { networks.now ≡ placed_networks 0 statements.ospf }
     ensures { IfOk result (λ c. c ≡ configuration_by statements) }
 {
     let Statements {
@@ -129,7 +138,7 @@ fn config_of(alloc: Global, statements: Statements) -> Result<Config, OutOfMemor
         isis,
         ..
     } = statements;
-    let router = router_with(process, ospf.as_slice(), isis.as_slice());
+    let router = router_with(process, ospf.as_slice(), networks, isis.as_slice());
     let levels = router.levels;
     let passives = passives_of(alloc, &router)?;
     let interfaces = interfaces_as_read(alloc, &router, &passives, interfaces)?;
@@ -168,8 +177,9 @@ pub fn read_part(
 {
     let sections = read_sections(alloc, lines)?;
     let statements = statements_of(alloc, sections)?;
-    match fault_of(&statements, ends) {
+    let networks = networks_of(alloc, statements.ospf.as_slice())?;
+    match fault_of(&statements, &networks, ends) {
         Some(fault) => Ok(Err(fault)),
-        None => Ok(Ok(config_of(alloc, statements)?)),
+        None => Ok(Ok(config_of(alloc, statements, &networks)?)),
     }
 }

@@ -1,6 +1,7 @@
 ghost use Rattle.std.specs.Prelude.{◌≡◌, flat_map, option_copied};
 ghost use Rattle.ios_lines.specs.FaultOrder.{least_fault};
-ghost use Rattle.ios_reader.specs.Faults.{membership_of, membership_fault, statement_faults, interface_line_faults, long_mask, address_mask_faults, is_point_to_point, loopback_faults, bandwidth_faults, interface_faults};
+ghost use Rattle.ios_reader.specs.Faults.{membership_of, membership_fault, statement_faults, interface_line_faults, long_mask, address_mask_faults};
+ghost use Rattle.ios_reader.specs.Faults.{is_point_to_point, loopback_faults, bandwidth_faults, interface_faults};
 
 use crate::facts::{InterfaceFacts, PlacedAddress, facts_of};
 use crate::interface_read::{interface_area, is_loopback, is_up, ospf_cost};
@@ -113,8 +114,8 @@ fn bandwidth_fault(
 {
     let name = section.name.as_slice();
     let faulty = is_up(facts)
-        && interface_area(router, facts).is_some()
-        && ospf_cost(router, name, facts).is_none();
+        && ospf_cost(router, name, facts).is_none()
+        && interface_area(router, facts).is_some();
     fault_if(faulty, section.line, ReadKind::NoBandwidth)
 }
 

@@ -3,8 +3,11 @@ ghost use Rattle.std.specs.List.{prefix_len};
 ghost use Rattle.net_model.specs.LevelSets.{has_one, has_two};
 ghost use Rattle.ios_lines.specs.Words.{is_letter};
 ghost use Rattle.ios_lines.specs.Lookups.{good_value};
-ghost use Rattle.ios_reader.specs.Passives.{ArePassivesOf};
-ghost use Rattle.ios_reader.specs.InterfacesAsRead.{address_given, is_loopback, is_up, names_process, area_by, interface_area, default_bandwidth, cost_of_bandwidth, cost_by_bandwidth, default_cost, cost_given, ospf_cost, is_isis_passive, is_ospf_passive, runs_isis, runs_level, metric_by, level_metric, address_field, subnet_field, cost_field, interface_with, interface_as_read};
+ghost use Rattle.ios_reader.specs.steps.Passives.{ArePassivesOf};
+ghost use Rattle.ios_reader.specs.InterfacesAsRead.{address_given, is_loopback, is_up, names_process, area_by, interface_area, default_bandwidth};
+ghost use Rattle.ios_reader.specs.InterfacesAsRead.{cost_of_bandwidth, cost_by_bandwidth, default_cost, cost_given, ospf_cost, is_isis_passive};
+ghost use Rattle.ios_reader.specs.InterfacesAsRead.{is_ospf_passive, runs_isis, runs_level, metric_by, level_metric, address_field, subnet_field, cost_field};
+ghost use Rattle.ios_reader.specs.InterfacesAsRead.{interface_with, interface_as_read};
 
 use crate::OutOfMemory;
 use crate::facts::{InterfaceFacts, PlacedAddress, facts_of};
@@ -86,7 +89,7 @@ pub fn interface_area(router: &Router, facts: &InterfaceFacts) -> Option<u32>
         Some(given) => area_by(
             router.process,
             facts.area,
-            network_area(router.ospf, given.address()),
+            network_area(router, given.address()),
         ),
         None => None,
     }

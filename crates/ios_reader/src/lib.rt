@@ -1,4 +1,18 @@
 //! Router configurations as their routers print them, read into the configurations that a plan is computed from.
+//!
+//! | File | What it holds |
+//! |---|---|
+//! | `reader` | `read_configs`: a text, read into its configurations or refused for its first faulty line |
+//! | `configuration` | the lines before an `end` line, read into a configuration or their least fault |
+//! | `facts`, `router` | what the lines of an interface, and of the two processes, say in the end: of each form the last line |
+//! | `networks` | which `network` line is the first that takes an address|
+//! | `areas` | the ranges and stub areas of an OSPF process |
+//! | `passive` | which interfaces the two processes make passive |
+//! | `interface_read`, `interface_fault` | interfaces as read, and what is wrong with them |
+//! | `laws`, `inserted` | that each text is read in one way; what texts are read as that are put together |
+//!
+//! A text is read in time of its bytes, and for each interface one look-up for each wildcard without holes that some
+//! `network` line has, at most 33; `network` lines whose wildcards have holes are tried one by one.
 #![tactic(auto)]
 
 // Why a line of a text is faulty.
@@ -8,6 +22,7 @@ pub mod kind;
 // What lines say in the end.
 mod areas;
 mod facts;
+mod networks;
 mod passive;
 mod router;
 
@@ -25,7 +40,7 @@ mod refusal;
 
 pub use inserted::inserted_laws;
 pub use kind::ReadKind;
-pub use laws::read_laws;
+pub use laws::{area_laws, read_laws};
 pub use places::{between, start_of};
 pub use reader::read_configs;
 pub use refusal::ReadRefusal;

@@ -1,7 +1,7 @@
 ghost use Rattle.std.specs.Prelude.{◌≡◌, [], List, ℕ, OnOk, IfOk};
 ghost use Rattle.ios_lines.specs.Lookups.{later, last_of};
 ghost use Rattle.ios_reader.specs.Routers.{ospf_passive_said, isis_passive_said};
-ghost use Rattle.ios_reader.specs.Passives.{said_of, with_said, ArePassivesOf};
+ghost use Rattle.ios_reader.specs.steps.Passives.{said_of, with_said, ArePassivesOf};
 
 use crate::OutOfMemory;
 use crate::router::Router;
@@ -107,7 +107,7 @@ pub struct Passives {
 }
 
 impl Model for Passives {
-    ghost use Rattle.ios_reader.specs.Passives.{Passives};
+    ghost use Rattle.ios_reader.specs.steps.Passives.{Passives};
 
     ghost Value = { Passives };
 

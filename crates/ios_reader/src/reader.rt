@@ -2,7 +2,7 @@ ghost use Rattle.std.specs.Prelude.{◌≡◌, ◌<◌, ◌^◌, ◌||◌, false
 ghost use Rattle.std.specs.List.{list_any};
 ghost use Rattle.ios_sections.specs.TextLines.{is_end, parts_after, rest_after, is_empty, begins_configuration};
 ghost use Rattle.ios_lines.specs.FaultOrder.{lesser_fault};
-ghost use Rattle.ios_reader.specs.Parts.{fault_read, configurations_read, IsReadingOf};
+ghost use Rattle.ios_reader.specs.steps.Parts.{fault_read, configurations_read, IsReadingOf};
 ghost use Rattle.ios_reader.specs.Texts.{ReadsText, Refuses};
 
 use crate::OutOfMemory;
@@ -27,7 +27,7 @@ struct Reading {
 }
 
 impl Model for Reading {
-    ghost use Rattle.ios_reader.specs.Parts.{Reading};
+    ghost use Rattle.ios_reader.specs.steps.Parts.{Reading};
 
     ghost Value = { Reading };
 

@@ -1,8 +1,11 @@
 ghost use Rattle.std.specs.Prelude.{◌≡◌, unwrap_or};
-ghost use Rattle.ios_lines.specs.Lookups.{first_of, value_or};
-ghost use Rattle.ios_reader.specs.Routers.{area_taken, router_with};
-ghost use Rattle.ios_reader.specs.ProcessFacts.{ospf_noted, ospf_facts_of, isis_noted, isis_facts_of};
+ghost use Rattle.ios_lines.specs.Lookups.{value_or};
+ghost use Rattle.ios_reader.specs.Routers.{router_with};
+ghost use Rattle.ios_reader.specs.InterfacesAsRead.{network_area};
+ghost use Rattle.ios_reader.specs.steps.Networks.{placed_networks};
+ghost use Rattle.ios_reader.specs.steps.ProcessFacts.{ospf_noted, ospf_facts_of, isis_noted, isis_facts_of};
 
+use crate::networks::Networks;
 use ios_lines::isis_line::{IsisLine, IsisStatement};
 use ios_lines::kind::ReadKind;
 use ios_lines::ospf_line::{OspfLine, OspfStatement};
@@ -98,34 +101,6 @@ pub fn isis_facts_of(lines: &[IsisStatement]) -> IsisFacts
     facts
 }
 
-/// The area of a `network` line, where it takes the address.
-fn area_taken(address: u32, line: &OspfLine) -> Option<u32>
-    ensures { result ≡ area_taken address line.now }
-{
-    match line {
-        OspfLine::Network(Ok(network)) => {
-            if address | network.wildcard == network.address | network.wildcard {
-                Some(network.area)
-            } else {
-                None
-            }
-        }
-        _ => None,
-    }
-}
-
-/// The area of the first `network` line that takes the address.
-pub fn network_area(lines: &[OspfStatement], address: u32) -> Option<u32>
-    ensures { result ≡ first_of (λ s. area_taken address s.says) lines.now }
-{
-    for statement in lines {
-        if let Some(area) = area_taken(address, &statement.says) {
-            return Some(area);
-        }
-    }
-    None
-}
-
 /// What the two processes of a router say that concerns its interfaces.
 #[derive(Drop)]
 pub struct Router<'a> {
@@ -133,6 +108,8 @@ pub struct Router<'a> {
     pub process: Option<u32>,
     /// The lines of the OSPF process.
     pub ospf: &'a [OspfStatement],
+    /// The `network` lines among them.
+    pub networks: &'a Networks,
     /// The lines of the IS-IS process.
     pub isis: &'a [IsisStatement],
     /// Whether interfaces that no line names are passive for OSPF.
@@ -146,11 +123,33 @@ pub struct Router<'a> {
 }
 
 impl<'a> Model for Router<'a> {
+    ghost use Rattle.std.specs.Prelude.{◌≡◌};
     ghost use Rattle.ios_reader.specs.Routers.{Router};
+    ghost use Rattle.ios_reader.specs.steps.Networks.{placed_networks};
 
     ghost Value = { Router };
 
-    ghost view = { λ r. record { process = r.process; ospf = r.ospf.now; isis = r.isis.now; passive_default = r.passive_default; reference = r.reference; levels = r.levels; metric = r.metric } };
+    ghost view = { λ r. record {
+      process = r.process;
+      ospf = r.ospf.now;
+      isis = r.isis.now;
+      passive_default = r.passive_default;
+      reference = r.reference;
+      levels = r.levels;
+      metric = r.metric;
+    } };
+
+    ghost invariant = { λ r. r.networks.now ≡ placed_networks 0 r.ospf.now };
+}
+
+/// The area of the first `network` line that takes the address.
+pub fn network_area(router: &Router, address: u32) -> Option<u32>
+    ensures { result ≡ network_area router.now.ospf address }
+{
+    match router.networks.first_taking(address) {
+        Some(line) => Some(line.network.area),
+        None => None,
+    }
 }
 
 /// A number that is there and good, or else the one that holds without a line.
@@ -177,8 +176,10 @@ pub fn levels_or_both(levels: Option<Result<Levels, ReadKind>>) -> Levels
 pub fn router_with<'a>(
     process: Option<u32>,
     ospf: &'a [OspfStatement],
+    networks: &'a Networks,
     isis: &'a [IsisStatement],
 ) -> Router<'a>
+    requires { networks.now ≡ placed_networks 0 ospf.now }
     ensures { result ≡ router_with process ospf.entry.now isis.entry.now }
 {
     let ospf_facts = ospf_facts_of(ospf);
@@ -186,6 +187,7 @@ pub fn router_with<'a>(
     Router {
         process,
         ospf,
+        networks,
         isis,
         passive_default: ospf_facts.passive_default.unwrap_or(false),
         reference: value_or(ospf_facts.reference, DEFAULT_REFERENCE),

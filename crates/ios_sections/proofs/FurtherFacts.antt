@@ -1,5 +1,6 @@
 -- Lines further on: their parts and sections are the same, with the line numbers further on.
-use Rattle.std.proofs.Common.{sym, ◌≡◌, ℕ, ◌+◌, Bool, true, false, not, ◌||◌, ◌&&◌, List, [], ◌∷◌, ◌++◌, take, refl, ap, ◌∙◌, cond, map, nat_lt, nat_eq, Option, Some, None, Ok, Err, arith, zero, suc, bytes_eq}
+use Rattle.std.proofs.Common.{sym, ◌≡◌, ℕ, ◌+◌, Bool, true, false, not, ◌||◌, ◌&&◌, List, [], ◌∷◌, ◌++◌, take, refl, ap, ◌∙◌, cond, map, nat_lt, nat_eq}
+use Rattle.std.proofs.Common.{Option, Some, None, Ok, Err, arith, zero, suc, bytes_eq}
 use Rattle.std.specs.Prelude.{filter, filter_map, flat_map, fold, option_map}
 use Rattle.std.specs.List.{list_any, cons_option, before_first, position_or_len, prefix_len}
 use Rattle.std.proofs.lemmas.Bool.Decides.{nat_tests}
@@ -12,11 +13,13 @@ use Rattle.ios_lines.specs.OspfLines.{ospf_line}
 use Rattle.ios_lines.specs.IsisLines.{isis_line}
 use Rattle.ios_lines.specs.declared.fault.Fault.{Fault}
 use Rattle.ios_lines.specs.declared.head.Head.{Head}
-use Rattle.ios_lines.specs.declared.head.Head.TheVariants.{Hostname as NameHead, Interface as InterfaceHead, Ospf as OspfHead, Isis as IsisHead, Faulty as FaultyHead, Other as OtherHead}
+use Rattle.ios_lines.specs.declared.head.Head.TheVariants.{Hostname as NameHead, Interface as InterfaceHead, Ospf as OspfHead, Isis as IsisHead}
+use Rattle.ios_lines.specs.declared.head.Head.TheVariants.{Faulty as FaultyHead, Other as OtherHead}
 use Rattle.ios_lines.specs.declared.interface_line.InterfaceStatement.{InterfaceStatement}
 use Rattle.ios_lines.specs.declared.ospf_line.OspfStatement.{OspfStatement}
 use Rattle.ios_lines.specs.declared.isis_line.IsisStatement.{IsisStatement}
-use Rattle.ios_sections.specs.TextLines.{TextLine, TextSection, Part, banner_after, outside_banner, outside_banners, counts, counted_lines, is_end, parts_after, rest_after, opens_section, first_indent, section_lines, sections_of}
+use Rattle.ios_sections.specs.TextLines.{TextLine, TextSection, Part, banner_after, outside_banner, outside_banners, counts, counted_lines, is_end}
+use Rattle.ios_sections.specs.TextLines.{parts_after, rest_after, opens_section, first_indent, section_lines, sections_of}
 use Rattle.ios_sections.specs.Sections.{interface_statements, ospf_statements, isis_statements, section_with, section_of}
 use Rattle.ios_sections.specs.JoinedLines.{further_on, is_in_banner, sections_among}
 use Rattle.ios_sections.specs.Gathering.{Gathering, gathering_of, with_interface, with_section, nothing_gathered}

@@ -1,5 +1,6 @@
 -- What sections say that stand further on: the same of the two processes, and the same faults further on.
-use Rattle.std.proofs.Common.{sym, ◌≡◌, ℕ, ◌+◌, Bool, true, false, not, ◌&&◌, List, [], ◌∷◌, ◌++◌, drop, refl, ap, ◌∙◌, cond, map, nat_lt, nat_eq, bytes_eq, Option, Some, None, Ok, arith}
+use Rattle.std.proofs.Common.{sym, ◌≡◌, ℕ, ◌+◌, Bool, true, false, not, ◌&&◌, List, [], ◌∷◌, ◌++◌, drop, refl, ap, ◌∙◌, cond, map, nat_lt, nat_eq, bytes_eq}
+use Rattle.std.proofs.Common.{Option, Some, None, Ok, arith}
 use Rattle.std.specs.Prelude.{filter, filter_map, flat_map, fold, option_map}
 use Rattle.std.specs.List.{list_any, list_all}
 use Rattle.std.proofs.lemmas.Bool.Decides.{nat_tests}
@@ -18,8 +19,11 @@ use Rattle.ios_lines.specs.declared.interface_line.InterfaceLine.TheVariants.{Ar
 use Rattle.ios_lines.specs.declared.interface_line.InterfaceStatement.{InterfaceStatement}
 use Rattle.ios_lines.specs.declared.ospf_line.OspfStatement.{OspfStatement}
 use Rattle.ios_lines.specs.declared.isis_line.IsisStatement.{IsisStatement}
-use Rattle.ios_sections.specs.Processes.{as_hostname, as_ospf, as_isis, as_fault, interfaces_in, mention_said, mentions_in, mention_of, mentions_of, mentions, first_mention, least_mention, first_process, process_of, lines_of_process, ospf_lines, first_tag, lines_of_tag, isis_lines}
-use Rattle.ios_sections.specs.ProcessFaults.{process_faults, second_processes, ospf_statement_faults, ospf_faults, is_other_tag, tag_faults_of, tag_faults, is_net, is_metric_style, lacking, first_isis_line, second_titles, isis_statement_faults, isis_faults}
+use Rattle.ios_sections.specs.Processes.{as_hostname, as_ospf, as_isis, as_fault, interfaces_in, mention_said, mentions_in, mention_of, mentions_of, mentions}
+use Rattle.ios_sections.specs.Processes.{first_mention, least_mention, first_process, process_of, lines_of_process, ospf_lines, first_tag, lines_of_tag}
+use Rattle.ios_sections.specs.Processes.{isis_lines}
+use Rattle.ios_sections.specs.ProcessFaults.{process_faults, second_processes, ospf_statement_faults, ospf_faults, is_other_tag, tag_faults_of, tag_faults}
+use Rattle.ios_sections.specs.ProcessFaults.{is_net, is_metric_style, lacking, first_isis_line, second_titles, isis_statement_faults, isis_faults}
 use Rattle.ios_sections.specs.Gathering.{Gathering}
 use Rattle.ios_sections.specs.declared.process.Mention.{Mention}
 use Rattle.ios_sections.specs.declared.section.InterfaceSection.{InterfaceSection}
@@ -27,7 +31,9 @@ use Rattle.ios_sections.specs.declared.section.OspfSection.{OspfSection}
 use Rattle.ios_sections.specs.declared.section.IsisSection.{IsisSection}
 use Rattle.ios_sections.specs.declared.section.Section.{Section}
 use Rattle.ios_sections.specs.declared.section.Section.TheVariants.{Faulty}
-use Rattle.ios_sections.proofs.FurtherFacts.{filter-map, list_any-map, filter_map-map, flat_map-map, interface_line_further, ospf_line_further, isis_line_further, fault_further, interface_further, ospf_further, isis_further, section_further, gathering-further}
+use Rattle.ios_sections.proofs.FurtherFacts.{filter-map, list_any-map, filter_map-map, flat_map-map, interface_line_further, ospf_line_further}
+use Rattle.ios_sections.proofs.FurtherFacts.{isis_line_further, fault_further, interface_further, ospf_further, isis_further, section_further}
+use Rattle.ios_sections.proofs.FurtherFacts.{gathering-further}
 
 -- ---- the sections by what they say ----
 

@@ -1,5 +1,6 @@
 -- The sections gathered one after the other are the sections looked up by what they say.
-use Rattle.std.proofs.Common.{sym, ◌≡◌, ℕ, Bool, true, false, not, ◌&&◌, ◌||◌, List, [], ◌∷◌, ◌++◌, Option, refl, ap, subst, ◌∙◌, cond, map, bytes_eq, append_assoc, append-nil}
+use Rattle.std.proofs.Common.{sym, ◌≡◌, ℕ, Bool, true, false, not, ◌&&◌, ◌||◌, List, [], ◌∷◌, ◌++◌, Option, refl, ap, subst, ◌∙◌, cond, map, bytes_eq}
+use Rattle.std.proofs.Common.{append_assoc, append-nil}
 use Rattle.std.specs.Prelude.{filter, filter_map, flat_map, fold}
 use Rattle.std.specs.List.{list_any, list_all}
 use Rattle.std.proofs.lemmas.List.Elements.{filter-append, filter_map-append}
@@ -36,7 +37,8 @@ other_name n m e = flip (bytes_eq m n) refl
   where
     flip : (t : Bool) → bytes_eq m n ≡ t → bytes_eq m n ≡ false
     flip false r = r
-    flip true r = absurd (let same : m ≡ n = same_name m n r in let again : bytes_eq n m ≡ true = subst (λ (w : Word). bytes_eq n w ≡ true) (sym same) (name_same n) in cc)
+    flip true r = absurd (let same : m ≡ n = same_name m n r in let again : bytes_eq n m
+        ≡ true = subst (λ (w : Word). bytes_eq n w ≡ true) (sym same) (name_same n) in cc)
 
 abbrev names_of : List InterfaceSection → List Word
 names_of xs = map (λ (s : InterfaceSection). s.name) xs
@@ -61,11 +63,13 @@ named-other n xs i e =
 merged-other : (n : Word) (xs : List InterfaceSection) (i : InterfaceSection) → bytes_eq n i.name ≡ false → merged (xs ++ i ∷ []) n ≡ merged xs n
 merged-other n xs i e = ap (λ (ss : List InterfaceSection). made (first_line ss) n (all_lines ss)) (named-other n xs i e)
 
-first_cases : (t b : Bool) (x i : InterfaceSection) (ss : List InterfaceSection) → (b ≡ true → first_line (ss ++ i ∷ []) ≡ first_line ss) → (t || b) ≡ true → first_line (cond t (x ∷ ss) ss ++ i ∷ []) ≡ first_line (cond t (x ∷ ss) ss)
+first_cases : (t b : Bool) (x i : InterfaceSection) (ss : List InterfaceSection) → (b ≡ true → first_line (ss ++ i ∷ []) ≡ first_line ss) → (t || b) ≡ true →
+    first_line (cond t (x ∷ ss) ss ++ i ∷ []) ≡ first_line (cond t (x ∷ ss) ss)
 first_cases true b x i ss later h = refl
 first_cases false b x i ss later h = later h
 
-first-push : (n : Word) (xs : List InterfaceSection) (i : InterfaceSection) → has n (names_of xs) ≡ true → first_line (named n xs ++ i ∷ []) ≡ first_line (named n xs)
+first-push : (n : Word) (xs : List InterfaceSection) (i : InterfaceSection) → has n (names_of xs) ≡ true → first_line (named n xs ++ i ∷ [])
+    ≡ first_line (named n xs)
 first-push n [] i h = absurd (false≢true h)
 first-push n (x ∷ xs) i h = first_cases (bytes_eq n x.name) (has n (names_of xs)) x i (named n xs) (λ g. first-push n xs i g) h
 
@@ -73,7 +77,8 @@ merged-same : (n : Word) (xs : List InterfaceSection) (i : InterfaceSection) →
     merged (xs ++ i ∷ []) n ≡ made (first_line (named n xs)) n (all_lines (named n xs) ++ i.lines)
 merged-same n xs i e h =
     let lines : all_lines (named n xs ++ i ∷ []) ≡ all_lines (named n xs) ++ i.lines =
-    flat_map-append (λ (s : InterfaceSection). s.lines) (named n xs) (i ∷ []) ∙ ap (λ (w : List InterfaceStatement). all_lines (named n xs) ++ w) (append-nil i.lines) in
+    flat_map-append (λ (s : InterfaceSection). s.lines) (named n xs) (i ∷ [])
+    ∙ ap (λ (w : List InterfaceStatement). all_lines (named n xs) ++ w) (append-nil i.lines) in
     ap (λ (ss : List InterfaceSection). made (first_line ss) n (all_lines ss)) (named-same n xs i e)
     ∙ ap (λ (l : ℕ). made l n (all_lines (named n xs ++ i ∷ []))) (first-push n xs i h)
     ∙ ap (λ (w : List InterfaceStatement). made (first_line (named n xs)) n w) lines
@@ -115,14 +120,16 @@ map-others (m ∷ ms) xs i h =
     ap (λ (s : InterfaceSection). s ∷ map (merged xs) ms) (sym head)
     ∙ ap (λ (ss : List InterfaceSection). merged (xs ++ i ∷ []) m ∷ ss) (map-others ms xs i (or_right (bytes_eq i.name m) (has i.name ms) h))
 
-map_cond : (b : Bool) (f : Word → InterfaceSection) (n x : Word) (ns : List Word) → f n ∷ map f (cond b ns (ns ++ x ∷ [])) ≡ map f (cond b (n ∷ ns) ((n ∷ ns) ++ x ∷ []))
+map_cond : (b : Bool) (f : Word → InterfaceSection) (n x : Word) (ns : List Word) → f n ∷ map f (cond b ns (ns ++ x ∷ []))
+    ≡ map f (cond b (n ∷ ns) ((n ∷ ns) ++ x ∷ []))
 map_cond true f n x ns = refl
 map_cond false f n x ns = refl
 
 table_cases : (t : Bool) (n : Word) (ns : List Word) (xs : List InterfaceSection) (i : InterfaceSection) → bytes_eq i.name n ≡ t →
     (not (has n ns) && distinct ns) ≡ true → (has n (names_of xs) && list_all (λ (m : Word). has m (names_of xs)) ns) ≡ true →
     (t || has i.name ns) ≡ has i.name (names_of xs) →
-    (has i.name ns ≡ has i.name (names_of xs) → with_interface (map (merged xs) ns) i ≡ map (merged (xs ++ i ∷ [])) (cond (has i.name ns) ns (ns ++ i.name ∷ []))) →
+    (has i.name ns ≡ has i.name (names_of xs) → with_interface (map (merged xs) ns) i
+    ≡ map (merged (xs ++ i ∷ [])) (cond (has i.name ns) ns (ns ++ i.name ∷ []))) →
     cond t (made (first_line (named n xs)) n (all_lines (named n xs) ++ i.lines) ∷ map (merged xs) ns) (merged xs n ∷ with_interface (map (merged xs) ns) i)
     ≡ map (merged (xs ++ i ∷ [])) (cond (t || has i.name ns) (n ∷ ns) ((n ∷ ns) ++ i.name ∷ []))
 table_cases true n ns xs i e apart seen same later =
@@ -138,19 +145,23 @@ table_cases false n ns xs i e apart seen same later =
     ∙ ap (λ (ss : List InterfaceSection). merged (xs ++ i ∷ []) n ∷ ss) (later same)
     ∙ map_cond (has i.name ns) (merged (xs ++ i ∷ [])) n i.name ns
 
-table-push : (ns : List Word) (xs : List InterfaceSection) (i : InterfaceSection) → distinct ns ≡ true → list_all (λ (m : Word). has m (names_of xs)) ns ≡ true →
-    has i.name ns ≡ has i.name (names_of xs) → with_interface (map (merged xs) ns) i ≡ map (merged (xs ++ i ∷ [])) (cond (has i.name ns) ns (ns ++ i.name ∷ []))
+table-push : (ns : List Word) (xs : List InterfaceSection) (i : InterfaceSection) → distinct ns ≡ true → list_all (λ (m : Word). has m (names_of xs)) ns
+    ≡ true →
+    has i.name ns ≡ has i.name (names_of xs) → with_interface (map (merged xs) ns) i
+    ≡ map (merged (xs ++ i ∷ [])) (cond (has i.name ns) ns (ns ++ i.name ∷ []))
 table-push [] xs i apart seen same = ap (λ (s : InterfaceSection). s ∷ []) (sym (merged-new xs i (sym same)))
 table-push (n ∷ ns) xs i apart seen same =
     table_cases (bytes_eq i.name n) n ns xs i refl apart seen same
-    (λ again. table-push ns xs i (and_right (not (has n ns)) (distinct ns) apart) (and_right (has n (names_of xs)) (list_all (λ (m : Word). has m (names_of xs)) ns) seen) again)
+    (λ again. table-push ns xs i (and_right (not (has n ns)) (distinct ns) apart)
+    (and_right (has n (names_of xs)) (list_all (λ (m : Word). has m (names_of xs)) ns) seen) again)
 
 -- ---- names, each once ----
 
 abbrev but : Word → List Word → List Word
 but m ns = filter (λ (o : Word). not (bytes_eq m o)) ns
 
-but_cases : (t : Bool) (n m x : Word) (xs : List Word) → bytes_eq m x ≡ t → bytes_eq n m ≡ false → has n (but m xs) ≡ has n xs → has n (cond (not t) (x ∷ but m xs) (but m xs)) ≡ (bytes_eq n x || has n xs)
+but_cases : (t : Bool) (n m x : Word) (xs : List Word) → bytes_eq m x ≡ t → bytes_eq n m ≡ false → has n (but m xs) ≡ has n xs →
+    has n (cond (not t) (x ∷ but m xs) (but m xs)) ≡ (bytes_eq n x || has n xs)
 but_cases true n m x xs e apart later =
     let differs : bytes_eq n x ≡ false = subst (λ (w : Word). bytes_eq n w ≡ false) (same_name m x e) apart in
     later ∙ ap (λ (b : Bool). b || has n xs) (sym differs)
@@ -168,15 +179,18 @@ has-gone : (m : Word) (xs : List Word) → has m (but m xs) ≡ false
 has-gone m [] = refl
 has-gone m (x ∷ xs) = gone_cases (bytes_eq m x) m x xs refl (has-gone m xs)
 
-fewer_cases : (t : Bool) (n m x : Word) (xs : List Word) → (bytes_eq n x || has n xs) ≡ false → (has n xs ≡ false → has n (but m xs) ≡ false) → has n (cond t (x ∷ but m xs) (but m xs)) ≡ false
-fewer_cases true n m x xs h later = ap (λ (b : Bool). b || has n (but m xs)) (or_left (bytes_eq n x) (has n xs) h) ∙ later (or_right (bytes_eq n x) (has n xs) h)
+fewer_cases : (t : Bool) (n m x : Word) (xs : List Word) → (bytes_eq n x || has n xs) ≡ false → (has n xs ≡ false → has n (but m xs) ≡ false) →
+    has n (cond t (x ∷ but m xs) (but m xs)) ≡ false
+fewer_cases true n m x xs h later = ap (λ (b : Bool). b || has n (but m xs)) (or_left (bytes_eq n x) (has n xs) h)
+    ∙ later (or_right (bytes_eq n x) (has n xs) h)
 fewer_cases false n m x xs h later = later (or_right (bytes_eq n x) (has n xs) h)
 
 has-fewer : (n m : Word) (xs : List Word) → has n xs ≡ false → has n (but m xs) ≡ false
 has-fewer n m [] h = refl
 has-fewer n m (x ∷ xs) h = fewer_cases (not (bytes_eq m x)) n m x xs h (λ g. has-fewer n m xs g)
 
-apart_cases : (t : Bool) (m x : Word) (xs : List Word) → (not (has x xs) && distinct xs) ≡ true → (distinct xs ≡ true → distinct (but m xs) ≡ true) → distinct (cond t (x ∷ but m xs) (but m xs)) ≡ true
+apart_cases : (t : Bool) (m x : Word) (xs : List Word) → (not (has x xs) && distinct xs) ≡ true → (distinct xs ≡ true → distinct (but m xs) ≡ true) →
+    distinct (cond t (x ∷ but m xs) (but m xs)) ≡ true
 apart_cases true m x xs h later =
     let absent : has x (but m xs) ≡ false = has-fewer x m xs (not_true (has x xs) (and_left (not (has x xs)) (distinct xs) h)) in
     ap (λ (b : Bool). not b && distinct (but m xs)) absent ∙ later (and_right (not (has x xs)) (distinct xs) h)
@@ -191,7 +205,8 @@ distinct-seen [] = refl
 distinct-seen (m ∷ ms) =
     ap (λ (b : Bool). not b && distinct (but m (first_seen ms))) (has-gone m (first_seen ms)) ∙ distinct-but m (first_seen ms) (distinct-seen ms)
 
-seen_cases : (t : Bool) (n m : Word) (ms : List Word) → bytes_eq n m ≡ t → has n (first_seen ms) ≡ has n ms → (t || has n (but m (first_seen ms))) ≡ (t || has n ms)
+seen_cases : (t : Bool) (n m : Word) (ms : List Word) → bytes_eq n m ≡ t → has n (first_seen ms) ≡ has n ms → (t || has n (but m (first_seen ms)))
+    ≡ (t || has n ms)
 seen_cases true n m ms e later = refl
 seen_cases false n m ms e later = has-but n m (first_seen ms) e ∙ later
 
@@ -215,9 +230,11 @@ push_cases true true n m fs e = refl
 push_cases false true n m fs e = refl
 push_cases true false n m fs e =
     let same : bytes_eq m n ≡ true = subst (λ (w : Word). bytes_eq m w ≡ true) (sym (same_name n m e)) (name_same m) in
-    ap (λ (w : List Word). m ∷ w) (filter-append (λ (o : Word). not (bytes_eq m o)) fs (n ∷ []) ∙ ap (λ (b : Bool). but m fs ++ cond (not b) (n ∷ []) []) same ∙ append-nil (but m fs))
+    ap (λ (w : List Word). m ∷ w) (filter-append (λ (o : Word). not (bytes_eq m o)) fs (n ∷ [])
+    ∙ ap (λ (b : Bool). but m fs ++ cond (not b) (n ∷ []) []) same ∙ append-nil (but m fs))
 push_cases false false n m fs e =
-    ap (λ (w : List Word). m ∷ w) (filter-append (λ (o : Word). not (bytes_eq m o)) fs (n ∷ []) ∙ ap (λ (b : Bool). but m fs ++ cond (not b) (n ∷ []) []) (other_name n m e))
+    ap (λ (w : List Word). m ∷ w) (filter-append (λ (o : Word). not (bytes_eq m o)) fs (n ∷ [])
+    ∙ ap (λ (b : Bool). but m fs ++ cond (not b) (n ∷ []) []) (other_name n m e))
 
 seen-push : (ns : List Word) (n : Word) → first_seen (ns ++ n ∷ []) ≡ cond (has n ns) (first_seen ns) (first_seen ns ++ n ∷ [])
 seen-push [] n = refl
@@ -258,7 +275,8 @@ module _ (ss : List Section) (x : Section) where
   isis_now : filter_map as_isis (ss ++ x ∷ []) ≡ filter_map as_isis ss ++ filter_map as_isis (x ∷ [])
   isis_now = filter_map-append as_isis ss (x ∷ [])
 
-  fault_now : least_fault (filter_map as_fault (ss ++ x ∷ [])) ≡ lesser_fault (least_fault (filter_map as_fault ss)) (least_fault (filter_map as_fault (x ∷ [])))
+  fault_now : least_fault (filter_map as_fault (ss ++ x ∷ []))
+      ≡ lesser_fault (least_fault (filter_map as_fault ss)) (least_fault (filter_map as_fault (x ∷ [])))
   fault_now = ap least_fault (filter_map-append as_fault ss (x ∷ [])) ∙ least_fault-append (filter_map as_fault ss) (filter_map as_fault (x ∷ []))
 
 same_interfaces : (xs : List InterfaceSection) → merged_interfaces xs ≡ merged_interfaces (xs ++ [])
@@ -266,17 +284,32 @@ same_interfaces xs = ap merged_interfaces (sym (append-nil xs))
 
 section-push : (ss : List Section) (x : Section) → with_section (gathering_of ss) x ≡ gathering_of (ss ++ x ∷ [])
 section-push ss (Hostname n) =
-    five _ _ _ _ _ _ _ _ _ _ (sym (name_now ss (Hostname n))) (same_interfaces (filter_map as_interface ss) ∙ ap merged_interfaces (sym (interface_now ss (Hostname n)))) (sym (append-nil (filter_map as_ospf ss)) ∙ sym (ospf_now ss (Hostname n))) (sym (append-nil (filter_map as_isis ss)) ∙ sym (isis_now ss (Hostname n))) (sym (lesser-none (least_fault (filter_map as_fault ss))) ∙ sym (fault_now ss (Hostname n)))
+    five _ _ _ _ _ _ _ _ _ _ (sym (name_now ss (Hostname n))) (same_interfaces (filter_map as_interface ss)
+    ∙ ap merged_interfaces (sym (interface_now ss (Hostname n)))) (sym (append-nil (filter_map as_ospf ss)) ∙ sym (ospf_now ss (Hostname n)))
+    (sym (append-nil (filter_map as_isis ss)) ∙ sym (isis_now ss (Hostname n)))
+    (sym (lesser-none (least_fault (filter_map as_fault ss))) ∙ sym (fault_now ss (Hostname n)))
 section-push ss (Interface i) =
-    five _ _ _ _ _ _ _ _ _ _ (sym (name_now ss (Interface i))) (interfaces-push (filter_map as_interface ss) i ∙ ap merged_interfaces (sym (interface_now ss (Interface i)))) (sym (append-nil (filter_map as_ospf ss)) ∙ sym (ospf_now ss (Interface i))) (sym (append-nil (filter_map as_isis ss)) ∙ sym (isis_now ss (Interface i))) (sym (lesser-none (least_fault (filter_map as_fault ss))) ∙ sym (fault_now ss (Interface i)))
+    five _ _ _ _ _ _ _ _ _ _ (sym (name_now ss (Interface i))) (interfaces-push (filter_map as_interface ss) i
+    ∙ ap merged_interfaces (sym (interface_now ss (Interface i)))) (sym (append-nil (filter_map as_ospf ss)) ∙ sym (ospf_now ss (Interface i)))
+    (sym (append-nil (filter_map as_isis ss)) ∙ sym (isis_now ss (Interface i)))
+    (sym (lesser-none (least_fault (filter_map as_fault ss))) ∙ sym (fault_now ss (Interface i)))
 section-push ss (Ospf o) =
-    five _ _ _ _ _ _ _ _ _ _ (sym (name_now ss (Ospf o))) (same_interfaces (filter_map as_interface ss) ∙ ap merged_interfaces (sym (interface_now ss (Ospf o)))) (sym (ospf_now ss (Ospf o))) (sym (append-nil (filter_map as_isis ss)) ∙ sym (isis_now ss (Ospf o))) (sym (lesser-none (least_fault (filter_map as_fault ss))) ∙ sym (fault_now ss (Ospf o)))
+    five _ _ _ _ _ _ _ _ _ _ (sym (name_now ss (Ospf o))) (same_interfaces (filter_map as_interface ss)
+    ∙ ap merged_interfaces (sym (interface_now ss (Ospf o)))) (sym (ospf_now ss (Ospf o)))
+    (sym (append-nil (filter_map as_isis ss)) ∙ sym (isis_now ss (Ospf o)))
+    (sym (lesser-none (least_fault (filter_map as_fault ss))) ∙ sym (fault_now ss (Ospf o)))
 section-push ss (Isis o) =
-    five _ _ _ _ _ _ _ _ _ _ (sym (name_now ss (Isis o))) (same_interfaces (filter_map as_interface ss) ∙ ap merged_interfaces (sym (interface_now ss (Isis o)))) (sym (append-nil (filter_map as_ospf ss)) ∙ sym (ospf_now ss (Isis o))) (sym (isis_now ss (Isis o))) (sym (lesser-none (least_fault (filter_map as_fault ss))) ∙ sym (fault_now ss (Isis o)))
+    five _ _ _ _ _ _ _ _ _ _ (sym (name_now ss (Isis o))) (same_interfaces (filter_map as_interface ss)
+    ∙ ap merged_interfaces (sym (interface_now ss (Isis o)))) (sym (append-nil (filter_map as_ospf ss)) ∙ sym (ospf_now ss (Isis o)))
+    (sym (isis_now ss (Isis o))) (sym (lesser-none (least_fault (filter_map as_fault ss))) ∙ sym (fault_now ss (Isis o)))
 section-push ss (Faulty f) =
-    five _ _ _ _ _ _ _ _ _ _ (sym (name_now ss (Faulty f))) (same_interfaces (filter_map as_interface ss) ∙ ap merged_interfaces (sym (interface_now ss (Faulty f)))) (sym (append-nil (filter_map as_ospf ss)) ∙ sym (ospf_now ss (Faulty f))) (sym (append-nil (filter_map as_isis ss)) ∙ sym (isis_now ss (Faulty f))) (sym (fault_now ss (Faulty f)))
+    five _ _ _ _ _ _ _ _ _ _ (sym (name_now ss (Faulty f))) (same_interfaces (filter_map as_interface ss)
+    ∙ ap merged_interfaces (sym (interface_now ss (Faulty f)))) (sym (append-nil (filter_map as_ospf ss)) ∙ sym (ospf_now ss (Faulty f)))
+    (sym (append-nil (filter_map as_isis ss)) ∙ sym (isis_now ss (Faulty f))) (sym (fault_now ss (Faulty f)))
 section-push ss Other =
-    five _ _ _ _ _ _ _ _ _ _ (sym (name_now ss Other)) (same_interfaces (filter_map as_interface ss) ∙ ap merged_interfaces (sym (interface_now ss Other))) (sym (append-nil (filter_map as_ospf ss)) ∙ sym (ospf_now ss Other)) (sym (append-nil (filter_map as_isis ss)) ∙ sym (isis_now ss Other)) (sym (lesser-none (least_fault (filter_map as_fault ss))) ∙ sym (fault_now ss Other))
+    five _ _ _ _ _ _ _ _ _ _ (sym (name_now ss Other)) (same_interfaces (filter_map as_interface ss) ∙ ap merged_interfaces (sym (interface_now ss Other)))
+    (sym (append-nil (filter_map as_ospf ss)) ∙ sym (ospf_now ss Other)) (sym (append-nil (filter_map as_isis ss)) ∙ sym (isis_now ss Other))
+    (sym (lesser-none (least_fault (filter_map as_fault ss))) ∙ sym (fault_now ss Other))
 
 gathered-after : (ss ts : List Section) → fold with_section (gathering_of ss) ts ≡ gathering_of (ss ++ ts)
 gathered-after ss [] = ap gathering_of (sym (append-nil ss))

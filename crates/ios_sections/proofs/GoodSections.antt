@@ -10,13 +10,18 @@ use Rattle.ios_lines.specs.OspfLines.{ospf_line}
 use Rattle.ios_lines.specs.IsisLines.{isis_line}
 use Rattle.ios_sections.specs.Sections.{interface_statements, ospf_statements, isis_statements, section_with, section_of, sections_in}
 use Rattle.ios_lines.specs.Lookups.{first_seen}
-use Rattle.ios_sections.specs.Processes.{as_hostname, as_interface, as_ospf, as_isis, named, merged, interfaces_in, mention_said, mentions_in, mention_of, mentions_of, mentions, first_mention, least_mention, process_of, is_of_process, lines_of_process, ospf_lines, first_tag, is_of_tag, lines_of_tag, isis_lines}
+use Rattle.ios_sections.specs.Processes.{as_hostname, as_interface, as_ospf, as_isis, named, merged, interfaces_in, mention_said, mentions_in, mention_of}
+use Rattle.ios_sections.specs.Processes.{mentions_of, mentions, first_mention, least_mention, process_of, is_of_process, lines_of_process, ospf_lines}
+use Rattle.ios_sections.specs.Processes.{first_tag, is_of_tag, lines_of_tag, isis_lines}
 use Rattle.ios_lines.specs.declared.kind.ReadKind.TheVariants.{NoHostname, SecondProcess}
 use Rattle.ios_lines.specs.declared.head.Head.{Head}
-use Rattle.ios_lines.specs.declared.head.Head.TheVariants.{Hostname as NameHead, Interface as InterfaceHead, Ospf as OspfHead, Isis as IsisHead, Faulty as FaultyHead, Other as OtherHead}
+use Rattle.ios_lines.specs.declared.head.Head.TheVariants.{Hostname as NameHead, Interface as InterfaceHead, Ospf as OspfHead, Isis as IsisHead}
+use Rattle.ios_lines.specs.declared.head.Head.TheVariants.{Faulty as FaultyHead, Other as OtherHead}
 use Rattle.ios_sections.specs.declared.process.Mention.{Mention}
 use Rattle.ios_lines.specs.declared.interface_line.InterfaceLine.{InterfaceLine}
-use Rattle.ios_lines.specs.declared.interface_line.InterfaceLine.TheVariants.{Address, NoAddress, Shutdown, Vrf, Bandwidth, Cost, Area, PointToPoint, Isis as IsisMember, Circuit, Metric, Metric1, Metric2, Faulty as FaultyLine, Skipped}
+use Rattle.ios_lines.specs.declared.interface_line.InterfaceLine.TheVariants.{Address, NoAddress, Shutdown, Vrf, Bandwidth, Cost, Area, PointToPoint}
+use Rattle.ios_lines.specs.declared.interface_line.InterfaceLine.TheVariants.{Isis as IsisMember, Circuit, Metric, Metric1, Metric2, Faulty as FaultyLine}
+use Rattle.ios_lines.specs.declared.interface_line.InterfaceLine.TheVariants.{Skipped}
 use Rattle.ios_lines.specs.declared.interface_line.InterfaceStatement.{InterfaceStatement}
 use Rattle.ios_lines.specs.declared.ospf_line.OspfStatement.{OspfStatement}
 use Rattle.ios_lines.specs.declared.isis_line.IsisStatement.{IsisStatement}
@@ -26,7 +31,8 @@ use Rattle.ios_sections.specs.declared.section.IsisSection.{IsisSection}
 use Rattle.ios_sections.specs.declared.section.Section.{Section}
 use Rattle.ios_sections.specs.declared.section.Section.TheVariants.{Hostname, Interface, Ospf, Isis, Faulty, Other}
 use Rattle.ios_lines.proofs.Picked.{by_if, all_taken, all_flat, fold_keeps}
-use Rattle.ios_lines.proofs.GoodLines.{IsFrom, number_good, IsGoodInterfaceLine, interface_line_good, IsGoodOspfLine, ospf_line_good, IsGoodIsisLine, isis_line_good}
+use Rattle.ios_lines.proofs.GoodLines.{IsFrom, number_good, IsGoodInterfaceLine, interface_line_good, IsGoodOspfLine, ospf_line_good, IsGoodIsisLine}
+use Rattle.ios_lines.proofs.GoodLines.{isis_line_good}
 
 abbrev pub IsGoodStatement : InterfaceStatement → Type 0
 IsGoodStatement s = IsGoodInterfaceLine s.says
@@ -114,7 +120,8 @@ with_good OtherHead line body h = tt
 pub sections_good : (part : Part) → All IsGoodSection (sections_in part)
 sections_good part =
     All-map IsGoodSection section_of (sections_of part.lines)
-    (λ k d lt. with_good (head_of (get_or (sections_of part.lines) k d).head.words) (get_or (sections_of part.lines) k d).head.number (get_or (sections_of part.lines) k d).body (head_good (get_or (sections_of part.lines) k d).head.words))
+    (λ k d lt. with_good (head_of (get_or (sections_of part.lines) k d).head.words) (get_or (sections_of part.lines) k d).head.number
+    (get_or (sections_of part.lines) k d).body (head_good (get_or (sections_of part.lines) k d).head.words))
 
 -- ---- sections by what they say ----
 
@@ -155,10 +162,13 @@ pub interfaces_good : (sections : List Section) → All IsGoodSection sections �
 interfaces_good sections h =
     let parts : List InterfaceSection = filter_map as_interface sections in
     let good : All IsGoodInterface (filter_map as_interface sections) = all_taken as_interface IsGoodSection IsGoodInterface as_interface_good sections h in
-    All-map IsGoodInterface (merged (filter_map as_interface sections)) (first_seen (map (λ (s : InterfaceSection). s.name) (filter_map as_interface sections)))
-    (λ k d lt. merged_good (filter_map as_interface sections) (get_or (first_seen (map (λ (s : InterfaceSection). s.name) (filter_map as_interface sections))) k d) good)
+    All-map IsGoodInterface (merged (filter_map as_interface sections))
+    (first_seen (map (λ (s : InterfaceSection). s.name) (filter_map as_interface sections)))
+    (λ k d lt. merged_good (filter_map as_interface sections)
+    (get_or (first_seen (map (λ (s : InterfaceSection). s.name) (filter_map as_interface sections))) k d) good)
   where
-    merged_good : (parts : List InterfaceSection) (name : Word) → All IsGoodInterface parts → All IsGoodStatement (flat_map (λ (s : InterfaceSection). s.lines) (named name parts))
+    merged_good : (parts : List InterfaceSection) (name : Word) → All IsGoodInterface parts →
+        All IsGoodStatement (flat_map (λ (s : InterfaceSection). s.lines) (named name parts))
     merged_good parts name good =
         all_flat (λ (s : InterfaceSection). s.lines) IsGoodInterface IsGoodStatement (λ s g. g) (named name parts)
         (All-filter (λ (s : InterfaceSection). bytes_eq name s.name) IsGoodInterface parts good)
@@ -190,12 +200,14 @@ said_good line (Metric2 r) h = tt
 said_good line (FaultyLine kind) h = tt
 said_good line Skipped h = tt
 
-mentions_good : (ospf : List OspfSection) (interfaces : List InterfaceSection) → All IsGoodProcess ospf → All IsGoodInterface interfaces → All IsGoodMention (mentions_of ospf interfaces)
+mentions_good : (ospf : List OspfSection) (interfaces : List InterfaceSection) → All IsGoodProcess ospf → All IsGoodInterface interfaces →
+    All IsGoodMention (mentions_of ospf interfaces)
 mentions_good ospf interfaces h i =
     All-append IsGoodMention (map mention_of ospf) (flat_map mentions_in interfaces)
     (All-map IsGoodMention mention_of ospf (λ k d lt. (h k d lt).process))
     (all_flat mentions_in IsGoodInterface IsGoodMention
-    (λ s g. all_taken (λ (t : InterfaceStatement). mention_said t.line t.says) IsGoodStatement IsGoodMention (λ t good. said_good t.line t.says good) (counting s.lines) (counting_good s.lines g))
+    (λ s g. all_taken (λ (t : InterfaceStatement). mention_said t.line t.says) IsGoodStatement IsGoodMention (λ t good. said_good t.line t.says good)
+    (counting s.lines) (counting_good s.lines g))
     interfaces i)
 
 first_good : (o : Option Mention) (m : Mention) → IfSome o IsGoodMention → IsGoodMention m → IfSome (first_mention o m) IsGoodMention
@@ -211,7 +223,8 @@ pub number_of_process : (sections : List Section) → All IsGoodSection sections
 number_of_process sections h =
     process_good (least_mention (mentions sections))
     (fold_keeps (λ (o : Option Mention). IfSome o IsGoodMention) IsGoodMention first_mention first_good None (mentions sections) tt
-    (mentions_good (filter_map as_ospf sections) (interfaces_in sections) (all_taken as_ospf IsGoodSection IsGoodProcess as_ospf_good sections h) (interfaces_good sections h)))
+    (mentions_good (filter_map as_ospf sections) (interfaces_in sections) (all_taken as_ospf IsGoodSection IsGoodProcess as_ospf_good sections h)
+    (interfaces_good sections h)))
 
 -- the lines of the process
 pub ospf_good : (sections : List Section) → All IsGoodSection sections → All IsGoodOspf (ospf_lines sections)

@@ -1,5 +1,6 @@
 -- The lines, the counted lines and the parts of texts joined end to end.
-use Rattle.std.proofs.Common.{sym, ◌≡◌, ℕ, ◌+◌, ◌-◌, ◌≤◌, Bool, true, false, not, ◌&&◌, ◌||◌, List, [], ◌∷◌, ◌++◌, length, take, drop, refl, ap, ◌∙◌, cond, map, append_assoc, append-nil, length-drop, nat_eq, arith}
+use Rattle.std.proofs.Common.{sym, ◌≡◌, ℕ, ◌+◌, ◌-◌, ◌≤◌, Bool, true, false, not, ◌&&◌, ◌||◌, List, [], ◌∷◌, ◌++◌, length, take, drop, refl, ap, ◌∙◌, cond}
+use Rattle.std.proofs.Common.{map, append_assoc, append-nil, length-drop, nat_eq, arith}
 use Rattle.std.specs.Prelude.{filter, fold, All}
 use Rattle.std.specs.List.{list_any, prefix_len, before_first}
 use Rattle.std.proofs.lemmas.Bool.{or_parts, eq-eqb}
@@ -14,7 +15,8 @@ use Rattle.net_addr.specs.Lines.{text_lines}
 use Rattle.net_addr.specs.JoinedLines.{is_of_whole_lines, line_further_on}
 use Rattle.net_addr.proofs.JoinedFacts.{text_lines-append}
 use Rattle.net_addr.proofs.PlacedPieces.{text_lines-inside}
-use Rattle.ios_sections.specs.TextLines.{TextLine, Part, text_line, lines_in, opens_banner, banner_after, outside_banner, outside_banners, counts, counted_lines, is_end, parts_after, rest_after, TextSection, opens_section, first_indent, section_lines, sections_of}
+use Rattle.ios_sections.specs.TextLines.{TextLine, Part, text_line, lines_in, opens_banner, banner_after, outside_banner, outside_banners, counts}
+use Rattle.ios_sections.specs.TextLines.{counted_lines, is_end, parts_after, rest_after, TextSection, opens_section, first_indent, section_lines, sections_of}
 use Rattle.ios_sections.specs.Sections.{section_of}
 use Rattle.ios_sections.specs.JoinedLines.{further_on, is_in_banner, begins_banner, sections_among}
 

@@ -6,3 +6,4 @@ pub mod GoodSections
 pub mod JoinedFacts
 pub mod FurtherFacts
 pub mod FurtherProcesses
+pub mod LawFacts

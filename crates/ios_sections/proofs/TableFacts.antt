@@ -1,5 +1,6 @@
 -- The table of interfaces by name: where one more section goes.
-use Rattle.std.proofs.Common.{sym, ◌≡◌, ℕ, suc, ◌+◌, ◌<◌, Bool, true, false, not, ◌||◌, List, [], ◌∷◌, ◌++◌, refl, ap, ◌∙◌, cond, map, bytes_eq, length, get_or, set, one-add, arith}
+use Rattle.std.proofs.Common.{sym, ◌≡◌, ℕ, suc, ◌+◌, ◌<◌, Bool, true, false, not, ◌||◌, List, [], ◌∷◌, ◌++◌, refl, ap, ◌∙◌, cond, map, bytes_eq, length}
+use Rattle.std.proofs.Common.{get_or, set, one-add, arith}
 use Rattle.std.specs.List.{list_any, position_or_len}
 use Rattle.std.proofs.lemmas.Bool.{false≢true}
 use Rattle.std.proofs.lemmas.List.{map-append}
@@ -25,7 +26,8 @@ names_of xs = map (λ (s : InterfaceSection). s.name) xs
 abbrev pub joined : InterfaceSection → InterfaceSection → InterfaceSection
 joined s more = record { line = s.line; name = s.name; lines = s.lines ++ more.lines }
 
-new_cases : (t b : Bool) (x s : InterfaceSection) (xs rest : List InterfaceSection) → (b ≡ false → rest ≡ xs ++ s ∷ []) → (t || b) ≡ false → cond t (joined x s ∷ xs) (x ∷ rest) ≡ (x ∷ xs) ++ s ∷ []
+new_cases : (t b : Bool) (x s : InterfaceSection) (xs rest : List InterfaceSection) → (b ≡ false → rest ≡ xs ++ s ∷ []) → (t || b) ≡ false →
+    cond t (joined x s ∷ xs) (x ∷ rest) ≡ (x ∷ xs) ++ s ∷ []
 new_cases true b x s xs rest later h = absurd (false≢true (sym h))
 new_cases false b x s xs rest later h = ap (λ (w : List InterfaceSection). x ∷ w) (later h)
 
@@ -45,7 +47,8 @@ pub table_old : (xs : List InterfaceSection) (s d : InterfaceSection) → list_a
     with_interface xs s ≡ set xs (position_or_len (bytes_eq s.name) (names_of xs)) (joined (get_or xs (position_or_len (bytes_eq s.name) (names_of xs)) d) s)
 table_old [] s d h = absurd (false≢true h)
 table_old (x ∷ xs) s d h =
-    old_cases (bytes_eq s.name x.name) (list_any (bytes_eq s.name) (names_of xs)) x s d xs (with_interface xs s) (position_or_len (bytes_eq s.name) (names_of xs)) (λ g. table_old xs s d g) h
+    old_cases (bytes_eq s.name x.name) (list_any (bytes_eq s.name) (names_of xs)) x s d xs (with_interface xs s)
+    (position_or_len (bytes_eq s.name) (names_of xs)) (λ g. table_old xs s d g) h
 
 name_cases : (t b : Bool) (x s : InterfaceSection) (xs rest : List InterfaceSection) → names_of rest ≡ cond b (names_of xs) (names_of xs ++ s.name ∷ []) →
     names_of (cond t (joined x s ∷ xs) (x ∷ rest)) ≡ cond (t || b) (names_of (x ∷ xs)) (names_of (x ∷ xs) ++ s.name ∷ [])
@@ -54,7 +57,8 @@ name_cases false true x s xs rest later = ap (λ (w : List Word). x.name ∷ w) 
 name_cases false false x s xs rest later = ap (λ (w : List Word). x.name ∷ w) later
 
 -- the names after one more section
-pub names-table : (xs : List InterfaceSection) (s : InterfaceSection) → names_of (with_interface xs s) ≡ cond (list_any (bytes_eq s.name) (names_of xs)) (names_of xs) (names_of xs ++ s.name ∷ [])
+pub names-table : (xs : List InterfaceSection) (s : InterfaceSection) → names_of (with_interface xs s)
+    ≡ cond (list_any (bytes_eq s.name) (names_of xs)) (names_of xs) (names_of xs ++ s.name ∷ [])
 names-table [] s = refl
 names-table (x ∷ xs) s = name_cases (bytes_eq s.name x.name) (list_any (bytes_eq s.name) (names_of xs)) x s xs (with_interface xs s) (names-table xs s)
 
@@ -68,6 +72,7 @@ place_within [] n h = absurd (false≢true h)
 place_within (m ∷ ms) n h = place_cases (bytes_eq n m) (list_any (bytes_eq n) ms) (position_or_len (bytes_eq n) ms) (length ms) (λ g. place_within ms n g) h
 
 -- the names go with the table
-pub names_after : (xs ys : List InterfaceSection) (s : InterfaceSection) (ns ms : List Word) → ys ≡ with_interface xs s → ns ≡ names_of xs → ms ≡ cond (list_any (bytes_eq s.name) ns) ns (ns ++ s.name ∷ []) → ms ≡ names_of ys
+pub names_after : (xs ys : List InterfaceSection) (s : InterfaceSection) (ns ms : List Word) → ys ≡ with_interface xs s → ns ≡ names_of xs → ms
+    ≡ cond (list_any (bytes_eq s.name) ns) ns (ns ++ s.name ∷ []) → ms ≡ names_of ys
 names_after xs ys s ns ms table before after =
     after ∙ ap (λ (w : List Word). cond (list_any (bytes_eq s.name) w) w (w ++ s.name ∷ [])) before ∙ sym (names-table xs s) ∙ sym (ap names_of table)

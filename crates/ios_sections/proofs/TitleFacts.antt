@@ -42,12 +42,14 @@ second_titles-push xs x =
 
 -- one more line of a loop over some lines
 pub second_titles_more : (xs : List IsisStatement) (i : ℕ) (x : IsisStatement) → i < length xs → x ≡ get_or xs i x →
-    least_fault (second_titles (take (i + 1) xs)) ≡ lesser_fault (least_fault (second_titles (take i xs))) (least_fault (faults_if (list_any is_net (take i xs) && is_net x) x.line Unsupported))
+    least_fault (second_titles (take (i + 1) xs)) ≡ lesser_fault (least_fault (second_titles (take i xs)))
+    (least_fault (faults_if (list_any is_net (take i xs) && is_net x) x.line Unsupported))
 second_titles_more xs i x within read =
     ap (λ w. least_fault (second_titles w)) (take_more xs i x within)
     ∙ ap least_fault (second_titles-push (take i xs) (get_or xs i x))
     ∙ least_fault-append (second_titles (take i xs)) (faults_if (list_any is_net (take i xs) && is_net (get_or xs i x)) (get_or xs i x).line Unsupported)
-    ∙ ap (λ (y : IsisStatement). lesser_fault (least_fault (second_titles (take i xs))) (least_fault (faults_if (list_any is_net (take i xs) && is_net y) y.line Unsupported))) (sym read)
+    ∙ ap (λ (y : IsisStatement). lesser_fault (least_fault (second_titles (take i xs)))
+    (least_fault (faults_if (list_any is_net (take i xs) && is_net y) y.line Unsupported))) (sym read)
 
 any-push : (xs : List IsisStatement) (x : IsisStatement) → list_any is_net (xs ++ x ∷ []) ≡ (list_any is_net xs || is_net x)
 any-push [] x = or_false (is_net x)
@@ -65,4 +67,5 @@ any-push (y ∷ ys) x = or_assoc (is_net y) (list_any is_net ys) (is_net x) (any
 pub any_more : (xs : List IsisStatement) (i : ℕ) (x : IsisStatement) → i < length xs → x ≡ get_or xs i x →
     list_any is_net (take (i + 1) xs) ≡ (list_any is_net (take i xs) || is_net x)
 any_more xs i x within read =
-    ap (list_any is_net) (take_more xs i x within) ∙ any-push (take i xs) (get_or xs i x) ∙ ap (λ (y : IsisStatement). list_any is_net (take i xs) || is_net y) (sym read)
+    ap (list_any is_net) (take_more xs i x within) ∙ any-push (take i xs) (get_or xs i x)
+    ∙ ap (λ (y : IsisStatement). list_any is_net (take i xs) || is_net y) (sym read)

@@ -5,3 +5,4 @@ pub mod ProcessFaults
 pub mod Gathering
 pub mod Statements
 pub mod JoinedLines
+pub mod SectionLaws

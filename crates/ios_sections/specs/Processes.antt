@@ -1,5 +1,6 @@
 -- What the sections of a configuration say, one by one: its interfaces, and the lines of its two processes.
-use Rattle.std.specs.Prelude.{ℕ, Bool, false, ◌&&◌, List, [], ◌∷◌, ◌++◌, Option, Some, None, Ok, map, filter, filter_map, flat_map, fold, option_map, bytes_eq, nat_eq, nat_lt, if◌then◌else◌}
+use Rattle.std.specs.Prelude.{ℕ, Bool, false, ◌&&◌, List, [], ◌∷◌, ◌++◌, Option, Some, None, Ok, map, filter, filter_map, flat_map, fold, option_map}
+use Rattle.std.specs.Prelude.{bytes_eq, nat_eq, nat_lt, if◌then◌else◌}
 use Rattle.std.specs.List.{list_all}
 use Rattle.ios_lines.specs.Words.{Word, is_printable}
 use Rattle.ios_lines.specs.Lookups.{first_seen}

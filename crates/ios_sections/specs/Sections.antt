@@ -9,7 +9,8 @@ use Rattle.ios_lines.specs.declared.interface_line.InterfaceStatement.{Interface
 use Rattle.ios_lines.specs.declared.ospf_line.OspfStatement.{OspfStatement}
 use Rattle.ios_lines.specs.declared.isis_line.IsisStatement.{IsisStatement}
 use Rattle.ios_lines.specs.declared.head.Head.{Head}
-use Rattle.ios_lines.specs.declared.head.Head.TheVariants.{Hostname as NameHead, Interface as InterfaceHead, Ospf as OspfHead, Isis as IsisHead, Faulty as FaultyHead, Other as OtherHead}
+use Rattle.ios_lines.specs.declared.head.Head.TheVariants.{Hostname as NameHead, Interface as InterfaceHead, Ospf as OspfHead, Isis as IsisHead}
+use Rattle.ios_lines.specs.declared.head.Head.TheVariants.{Faulty as FaultyHead, Other as OtherHead}
 use Rattle.ios_sections.specs.declared.section.Section.{Section}
 use Rattle.ios_sections.specs.declared.section.Section.TheVariants.{Hostname, Interface, Ospf, Isis, Faulty, Other}
 

@@ -1,4 +1,17 @@
 //! The sections of configurations as routers print them, and what they say of interfaces and of the two processes.
+//!
+//! | File | What it holds |
+//! |---|---|
+//! | `text_line`, `text` | a line of a text; the lines that count: outside banners, and no comments |
+//! | `read_section`, `section` | the sections of some lines, and what each says |
+//! | `gather`, `name_index` | sections by what they are of, all those of one interface as one |
+//! | `process` | the OSPF process of a router, its lines, and their faults |
+//! | `isis_process` | the same of the IS-IS process |
+//! | `statements` | what the sections of a configuration say, all together |
+//! | `laws` | what the definitions mean, in other words |
+//!
+//! `text::counted_lines` goes through a text once. `read_section::read_sections` and `statements::statements_of` take
+//! time of the lines, and one look-up of a name for each section of an interface.
 #![tactic(auto)]
 
 // The lines of a text, and its sections.
@@ -14,4 +27,8 @@ mod name_index;
 pub mod process;
 pub mod statements;
 
+// What the definitions mean, in other words.
+mod laws;
+
+pub use laws::section_laws;
 pub use std::alloc::AllocError as OutOfMemory;

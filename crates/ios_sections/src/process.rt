@@ -1,7 +1,8 @@
 ghost use Rattle.std.specs.Prelude.{◌≡◌, [], ◌++◌, flat_map, map, IfOk, OnOk};
 ghost use Rattle.std.specs.List.{cons_option};
 ghost use Rattle.ios_lines.specs.FaultOrder.{least_fault};
-ghost use Rattle.ios_sections.specs.Processes.{mention_said, mentions_in, mention_of, mentions_of, first_mention, first_process, is_of_process, lines_of_process};
+ghost use Rattle.ios_sections.specs.Processes.{mention_said, mentions_in, mention_of, mentions_of, first_mention, first_process, is_of_process};
+ghost use Rattle.ios_sections.specs.Processes.{lines_of_process};
 ghost use Rattle.ios_sections.specs.ProcessFaults.{is_other_process, process_faults, ospf_statement_faults};
 
 use crate::OutOfMemory;

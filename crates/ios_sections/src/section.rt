@@ -1,4 +1,4 @@
-ghost use Rattle.std.specs.Prelude.{◌≡◌, ◌++◌, OnOk};
+ghost use Rattle.std.specs.Prelude.{◌≡◌, ◌++◌, OnOk, OnErr};
 
 use crate::OutOfMemory;
 use ios_lines::fault::Fault;
@@ -40,7 +40,8 @@ impl InterfaceStatements {
 
     /// Takes in more lines, after those that are there.
     pub fn append(&mut self, more: InterfaceStatements) -> Result<(), OutOfMemory>
-        ensures { OnOk result (self.new ≡ self.old ++ more) }
+        ensures ok { OnOk result (self.new ≡ self.old ++ more) }
+        ensures err { OnErr result (self.new ≡ self.old) }
     {
         let mut more = more.all;
         self.all.append(&mut more)

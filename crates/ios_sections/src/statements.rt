@@ -46,7 +46,19 @@ impl Model for Statements {
 
     ghost Value = { Statements };
 
-    ghost view = { λ s. record { name = s.name; interfaces = s.interfaces.items; process = s.process; ospf = s.ospf.items; tag = s.tag; isis_line = s.isis_line; isis = s.isis.items; heads = s.heads; processes = s.processes; tags = s.tags } };
+    ghost view = { λ s. record {
+      name = s.name;
+      interfaces = s.interfaces.items;
+      process = s.process;
+      ospf = s.ospf.items;
+      tag = s.tag;
+      isis_line
+          = s.isis_line;
+      isis = s.isis.items;
+      heads = s.heads;
+      processes = s.processes;
+      tags = s.tags;
+    } };
 }
 
 /// The number of the first `router isis` line.

@@ -7,5 +7,6 @@ use Rattle.ios_reader.proofs.areas.default_costs.Goals as goal
 pub loop-statement-preserved : goal.loop-statement-preserved
 loop-statement-preserved c =
     let within : c.loop-statement.statement-index < length c.args.lines.now = c.loop-statement-test.true in
-    lookup_more (λ (area : ℕ) (s : OspfStatement). default_cost_said area s.says) c.args.lines.now c.loop-statement.statement-index c.statement-item.result c.loop-statement.costs.entries c.add_default_cost.new.costs.entries
+    lookup_more (λ (area : ℕ) (s : OspfStatement). default_cost_said area s.says) c.args.lines.now c.loop-statement.statement-index c.statement-item.result
+    c.loop-statement.costs.entries c.add_default_cost.new.costs.entries
     within c.statement-item.is c.loop-statement.invariant c.in_ok-add_default_cost.ensures

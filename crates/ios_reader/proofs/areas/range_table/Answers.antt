@@ -16,6 +16,8 @@ loop-statement-preserved c =
       values =
           c.in_ok-add_range.ensures.ranges
           ∙ ap (λ (w : List Range). fold (replaced is_same_range) w (cons_option c.range_said.result [])) c.loop-statement.invariant.values
-          ∙ ap (λ (o : Option Range). fold (replaced is_same_range) (ranges_in (take c.loop-statement.statement-index c.args.lines.now)) (cons_option o [])) c.range_said.ensures
-          ∙ sym (fold_more (replaced is_same_range) (λ (s : OspfStatement). range_said s.says) c.args.lines.now c.loop-statement.statement-index c.statement-item.result within c.statement-item.is);
+          ∙ ap (λ (o : Option Range). fold (replaced is_same_range) (ranges_in (take c.loop-statement.statement-index c.args.lines.now)) (cons_option o []))
+          c.range_said.ensures
+          ∙ sym (fold_more (replaced is_same_range) (λ (s : OspfStatement). range_said s.says) c.args.lines.now c.loop-statement.statement-index
+          c.statement-item.result within c.statement-item.is);
     }

@@ -1,7 +1,7 @@
 use Rattle.std.proofs.Common.{[], ◌++◌, List, Option, take, sym, ap, ◌∙◌}
 use Rattle.std.specs.List.{cons_option}
 use Rattle.net_model.specs.declared.area.Range.{Range}
-use Rattle.ios_reader.specs.Tables.{values_in}
+use Rattle.ios_reader.specs.steps.Tables.{values_in}
 use Rattle.ios_reader.proofs.KeyedFacts.{value_more}
 use Rattle.ios_reader.proofs.areas.ranges_of.Goals as goal
 

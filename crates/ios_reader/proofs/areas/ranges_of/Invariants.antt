@@ -1,5 +1,5 @@
 use Rattle.std.proofs.Common.{◌≡◌, take}
-use Rattle.ios_reader.specs.Tables.{values_in}
+use Rattle.ios_reader.specs.steps.Tables.{values_in}
 use Rattle.ios_reader.proofs.areas.ranges_of.Given as goal
 
 abbrev pub invariant-loop-place : goal.invariant-loop-place

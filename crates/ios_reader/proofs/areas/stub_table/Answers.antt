@@ -16,6 +16,8 @@ loop-statement-preserved c =
       values =
           c.in_ok-add_stub.ensures.stubs
           ∙ ap (λ (w : List StubLine). fold (replaced is_same_area) w (cons_option c.stub_said.result [])) c.loop-statement.invariant.values
-          ∙ ap (λ (o : Option StubLine). fold (replaced is_same_area) (stub_lines_in (take c.loop-statement.statement-index c.args.lines.now)) (cons_option o [])) c.stub_said.ensures
-          ∙ sym (fold_more (replaced is_same_area) (λ (s : OspfStatement). stub_said s.says) c.args.lines.now c.loop-statement.statement-index c.statement-item.result within c.statement-item.is);
+          ∙ ap (λ (o : Option StubLine). fold (replaced is_same_area) (stub_lines_in (take c.loop-statement.statement-index c.args.lines.now))
+          (cons_option o [])) c.stub_said.ensures
+          ∙ sym (fold_more (replaced is_same_area) (λ (s : OspfStatement). stub_said s.says) c.args.lines.now c.loop-statement.statement-index
+          c.statement-item.result within c.statement-item.is);
     }

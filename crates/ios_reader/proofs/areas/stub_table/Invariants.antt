@@ -1,6 +1,6 @@
 use Rattle.std.proofs.Common.{◌≡◌, take}
 use Rattle.ios_reader.specs.Routers.{stub_lines_in}
-use Rattle.ios_reader.specs.Tables.{values_in, AreKeyed, stub_key}
+use Rattle.ios_reader.specs.steps.Tables.{values_in, AreKeyed, stub_key}
 use Rattle.ios_reader.proofs.areas.stub_table.Given as goal
 
 abbrev pub invariant-loop-statement : goal.invariant-loop-statement

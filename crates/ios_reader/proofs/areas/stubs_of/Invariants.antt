@@ -1,6 +1,6 @@
 use Rattle.std.proofs.Common.{◌≡◌, nat_eq, take, map}
 use Rattle.indexmap.specs.IndexMap.{get}
-use Rattle.ios_reader.specs.Tables.{values_in, stub_made}
+use Rattle.ios_reader.specs.steps.Tables.{values_in, stub_made}
 use Rattle.ios_reader.proofs.areas.stubs_of.Given as goal
 
 abbrev pub invariant-loop-place : goal.invariant-loop-place

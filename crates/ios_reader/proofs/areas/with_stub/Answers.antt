@@ -1,6 +1,6 @@
 use Rattle.std.proofs.Common.{ℕ, List, nat_eq, sym, ap, subst, ◌∙◌}
 use Rattle.ios_reader.specs.Routers.{is_same_area}
-use Rattle.ios_reader.specs.Tables.{values_in, AreKeyed, stub_key}
+use Rattle.ios_reader.specs.steps.Tables.{values_in, AreKeyed, stub_key}
 use Rattle.ios_lines.specs.declared.ospf_line.StubLine.{StubLine}
 use Rattle.ios_reader.proofs.KeyedFacts.{insert_values, insert_keyed, nat_eq_swap, same_number}
 use Rattle.ios_reader.proofs.areas.with_stub.Goals as goal

@@ -11,8 +11,10 @@ returns c =
     let process : c.statements.inside.process ≡ c.args.statements.now.process = ap (λ (s : Statements). s.process) c.statements.view_is in
     let ospf : c.as_slice.result.now ≡ c.args.statements.now.ospf = c.as_slice.ensures.value ∙ ap (λ (s : Statements). s.ospf) c.statements.view_is in
     let isis : c.as_slice-2.result.now ≡ c.args.statements.now.isis = c.as_slice-2.ensures.value ∙ ap (λ (s : Statements). s.isis) c.statements.view_is in
-    let interfaces : c.as_slice-3.result.now ≡ c.args.statements.now.interfaces = c.as_slice-3.ensures.value ∙ ap (λ (s : Statements). s.interfaces) c.statements.view_is in
-    fault_joined c.args.statements.now c.args.ends c.ospf_fault.result c.isis_fault.result c.lesser_fault-processes.result c.interface_faults-interfaces.result c.fault_if-name.result c.lesser_fault.result c.lesser_fault-2.result
+    let interfaces : c.as_slice-3.result.now ≡ c.args.statements.now.interfaces =
+    c.as_slice-3.ensures.value ∙ ap (λ (s : Statements). s.interfaces) c.statements.view_is in
+    fault_joined c.args.statements.now c.args.ends c.ospf_fault.result c.isis_fault.result c.lesser_fault-processes.result
+    c.interface_faults-interfaces.result c.fault_if-name.result c.lesser_fault.result c.lesser_fault-2.result
     _ _ _ _
     c.ospf_fault.ensures c.isis_fault.ensures c.lesser_fault-processes.ensures c.interface_faults-interfaces.ensures
     (c.router_with-router.ensures

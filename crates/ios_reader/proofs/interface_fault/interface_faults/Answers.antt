@@ -11,5 +11,7 @@ loop-section-preserved c =
     let within : c.loop-section.section-index < length c.args.sections.now = c.loop-section-test.true in
     c.lesser_fault-fault.ensures
     ∙ ap (λ (o : Option Fault). lesser_fault o c.interface_fault.result) c.loop-section.invariant
-    ∙ ap (lesser_fault (least_fault (flat_map (interface_faults c.args.router.now (option_copied c.args.first)) (take c.loop-section.section-index c.args.sections.now)))) c.interface_fault.ensures
-    ∙ sym (least_more (interface_faults c.args.router.now (option_copied c.args.first)) c.args.sections.now c.loop-section.section-index c.section-item.result within c.section-item.is)
+    ∙ ap (lesser_fault (least_fault (flat_map (interface_faults c.args.router.now (option_copied c.args.first))
+    (take c.loop-section.section-index c.args.sections.now)))) c.interface_fault.ensures
+    ∙ sym (least_more (interface_faults c.args.router.now (option_copied c.args.first)) c.args.sections.now c.loop-section.section-index
+    c.section-item.result within c.section-item.is)

@@ -11,5 +11,7 @@ loop-statement-preserved c =
     let within : c.loop-statement.statement-index < length c.args.lines.now = c.loop-statement-test.true in
     c.lesser_fault-fault.ensures
     ∙ ap (λ (o : Option Fault). lesser_fault o c.statement_fault.result) c.loop-statement.invariant
-    ∙ ap (lesser_fault (least_fault (flat_map (statement_faults (option_copied c.args.first)) (take c.loop-statement.statement-index c.args.lines.now)))) c.statement_fault.ensures
-    ∙ sym (least_more (statement_faults (option_copied c.args.first)) c.args.lines.now c.loop-statement.statement-index c.statement-item.result within c.statement-item.is)
+    ∙ ap (lesser_fault (least_fault (flat_map (statement_faults (option_copied c.args.first)) (take c.loop-statement.statement-index c.args.lines.now))))
+    c.statement_fault.ensures
+    ∙ sym (least_more (statement_faults (option_copied c.args.first)) c.args.lines.now c.loop-statement.statement-index c.statement-item.result within
+    c.statement-item.is)

@@ -1,9 +1,10 @@
 use Rattle.std.proofs.Common.{false, Bool, Option, ap, ◌∙◌}
 use Rattle.std.specs.Prelude.{unwrap_or}
-use Rattle.ios_reader.specs.Passives.{Passives, said_of}
+use Rattle.ios_reader.specs.steps.Passives.{Passives, said_of}
 use Rattle.ios_reader.proofs.interface_read.is_isis_passive.Goals as goal
 
 pub returns : goal.returns
 returns c =
     c.unwrap_or.ensures
-    ∙ ap (λ (o : Option Bool). unwrap_or o false) (c.get.ensures ∙ ap (λ (p : Passives). said_of p.isis c.args.name.now) c.passives.view_is ∙ c.requires.isis c.args.name.now)
+    ∙ ap (λ (o : Option Bool). unwrap_or o false) (c.get.ensures ∙ ap (λ (p : Passives). said_of p.isis c.args.name.now) c.passives.view_is
+    ∙ c.requires.isis c.args.name.now)

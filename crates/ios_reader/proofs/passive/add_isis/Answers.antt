@@ -3,7 +3,7 @@ use Rattle.std.proofs.lemmas.Result.{on_ok_weaker}
 use Rattle.ios_lines.specs.Words.{Word}
 use Rattle.ios_lines.specs.Lookups.{later}
 use Rattle.ios_reader.specs.Routers.{isis_passive_said}
-use Rattle.ios_reader.specs.Passives.{said_of}
+use Rattle.ios_reader.specs.steps.Passives.{said_of}
 use Rattle.ios_reader.proofs.PassiveFacts.{said_with}
 use Rattle.ios_reader.proofs.passive.add_isis.Goals as goal
 

@@ -8,5 +8,6 @@ use Rattle.ios_reader.proofs.passive.isis_names.Goals as goal
 pub loop-statement-preserved : goal.loop-statement-preserved
 loop-statement-preserved c =
     let within : c.loop-statement.statement-index < length c.args.lines.now = c.loop-statement-test.true in
-    table_more (λ (name : Word) (s : IsisStatement). isis_passive_said name s.says) c.args.lines.now c.loop-statement.statement-index c.statement-item.result c.loop-statement.names c.add_isis.new.names
+    table_more (λ (name : Word) (s : IsisStatement). isis_passive_said name s.says) c.args.lines.now c.loop-statement.statement-index c.statement-item.result
+    c.loop-statement.names c.add_isis.new.names
     within c.statement-item.is c.loop-statement.invariant c.in_ok-add_isis.ensures

@@ -2,9 +2,10 @@ use Rattle.std.proofs.Common.{◌≡◌, take}
 use Rattle.ios_lines.specs.Words.{Word}
 use Rattle.ios_lines.specs.Lookups.{last_of}
 use Rattle.ios_reader.specs.Routers.{ospf_passive_said}
-use Rattle.ios_reader.specs.Passives.{said_of}
+use Rattle.ios_reader.specs.steps.Passives.{said_of}
 use Rattle.ios_lines.specs.declared.ospf_line.OspfStatement.{OspfStatement}
 use Rattle.ios_reader.proofs.passive.ospf_names.Given as goal
 
 abbrev pub invariant-loop-statement : goal.invariant-loop-statement
-invariant-loop-statement l = (name : Word) → said_of l.names name ≡ last_of (λ (s : OspfStatement). ospf_passive_said name s.says) (take l.statement-index l.lines)
+invariant-loop-statement l = (name : Word) → said_of l.names name
+    ≡ last_of (λ (s : OspfStatement). ospf_passive_said name s.says) (take l.statement-index l.lines)

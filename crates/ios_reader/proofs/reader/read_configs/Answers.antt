@@ -1,9 +1,10 @@
 use Rattle.std.proofs.Common.{◌≡◌, ◌+◌, ◌≤◌, ℕ, Bool, ◌||◌, List, [], length, map, sym, ap, subst, ◌∙◌, arith}
 use Rattle.std.specs.List.{list_any}
 use Rattle.net_addr.specs.declared.line.Line.{Line}
-use Rattle.ios_sections.specs.TextLines.{TextLine, text_line, lines_in, counted_lines, parts_after, parts_of, lacks_end, rest_after, is_empty, begins_configuration}
+use Rattle.ios_sections.specs.TextLines.{TextLine, text_line, lines_in, counted_lines, parts_after, parts_of, lacks_end, rest_after, is_empty}
+use Rattle.ios_sections.specs.TextLines.{begins_configuration}
 use Rattle.ios_lines.specs.FaultOrder.{faults_if, lesser_fault, least_fault}
-use Rattle.ios_reader.specs.Parts.{Reading, IsReadingOf}
+use Rattle.ios_reader.specs.steps.Parts.{Reading, IsReadingOf}
 use Rattle.ios_reader.specs.Texts.{ReadsText}
 use Rattle.net_model.specs.Configuration.{Configuration}
 use Rattle.ios_lines.specs.declared.kind.ReadKind.TheVariants.{NoEnd}
@@ -28,10 +29,12 @@ parts_read : (c : After-fault_if-end) → IsReadingOf (parts_of (lines_in c.args
 parts_read c =
     subst (λ (w : List TextLine). IsReadingOf (parts_after [] w) c.in_ok-reading.reading) (c.as_slice-2.ensures.value ∙ counted_is c) c.in_ok-reading.ensures
 
-end_is : (c : After-fault_if-end) → c.fault_if-end.result ≡ least_fault (faults_if (lacks_end (lines_in c.args.text.now)) (length (lines_in c.args.text.now) + 1) NoEnd)
+end_is : (c : After-fault_if-end) → c.fault_if-end.result
+    ≡ least_fault (faults_if (lacks_end (lines_in c.args.text.now)) (length (lines_in c.args.text.now) + 1) NoEnd)
 end_is c =
     let lacks : c.lacks_end.result ≡ lacks_end (lines_in c.args.text.now) =
-    c.lacks_end.ensures ∙ ap (λ (w : List TextLine). is_empty (parts_after [] w) || list_any begins_configuration (rest_after [] w)) (c.as_slice-4.ensures.value ∙ counted_is c) in
+    c.lacks_end.ensures ∙ ap (λ (w : List TextLine). is_empty (parts_after [] w) || list_any begins_configuration (rest_after [] w))
+    (c.as_slice-4.ensures.value ∙ counted_is c) in
     let count : length c.as_slice-3.result.now ≡ length (lines_in c.args.text.now) =
     ap length (c.as_slice-3.ensures ∙ c.in_ok-lines.ensures.exact) ∙ sym (lines_in_length c.args.text.now) in
     c.fault_if-end.ensures

@@ -1,7 +1,7 @@
 use Rattle.std.proofs.Common.{◌≡◌, ◌≤◌, [], take}
 use Rattle.std.specs.List.{slice_range}
 use Rattle.ios_sections.specs.TextLines.{parts_after, rest_after}
-use Rattle.ios_reader.specs.Parts.{IsReadingOf}
+use Rattle.ios_reader.specs.steps.Parts.{IsReadingOf}
 use Rattle.ios_reader.proofs.reader.read_parts.Given as goal
 
 abbrev pub invariant-loop-i : goal.invariant-loop-i

@@ -1,5 +1,5 @@
 use Rattle.std.proofs.Common.{◌<◌, length, sym, ap, ◌∙◌}
-use Rattle.ios_reader.specs.ProcessFacts.{isis_noted}
+use Rattle.ios_reader.specs.steps.ProcessFacts.{isis_noted}
 use Rattle.ios_reader.specs.declared.router.IsisFacts.{IsisFacts}
 use Rattle.ios_reader.proofs.ProcessLookups.{isis_facts_more}
 use Rattle.ios_reader.proofs.router.isis_facts_of.Goals as goal

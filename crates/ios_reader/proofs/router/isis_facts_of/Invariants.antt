@@ -1,5 +1,5 @@
 use Rattle.std.proofs.Common.{◌≡◌, take}
-use Rattle.ios_reader.specs.ProcessFacts.{isis_facts_of}
+use Rattle.ios_reader.specs.steps.ProcessFacts.{isis_facts_of}
 use Rattle.ios_reader.proofs.router.isis_facts_of.Given as goal
 
 abbrev pub invariant-loop-statement : goal.invariant-loop-statement

@@ -1,5 +1,5 @@
 use Rattle.std.proofs.Common.{◌<◌, length, sym, ap, ◌∙◌}
-use Rattle.ios_reader.specs.ProcessFacts.{ospf_noted}
+use Rattle.ios_reader.specs.steps.ProcessFacts.{ospf_noted}
 use Rattle.ios_reader.specs.declared.router.OspfFacts.{OspfFacts}
 use Rattle.ios_reader.proofs.ProcessLookups.{ospf_facts_more}
 use Rattle.ios_reader.proofs.router.ospf_facts_of.Goals as goal

@@ -11,14 +11,16 @@ pub index_mut-requires : goal.index_mut-requires
 index_mut-requires c =
     let within : position_or_len (bytes_eq c.args.section.name) (names_of c.args.interfaces.now.items) < length (names_of c.args.interfaces.now.items) =
     place_within (names_of c.args.interfaces.now.items) c.args.section.name c.requires.known in
-    let count : length (names_of c.args.interfaces.now.items) ≡ length c.args.interfaces.now.items = length-map c.args.interfaces.now.items (λ (s : InterfaceSection). s.name) in
+    let count : length (names_of c.args.interfaces.now.items) ≡ length c.args.interfaces.now.items =
+    length-map c.args.interfaces.now.items (λ (s : InterfaceSection). s.name) in
     omega (arith, c.requires.place, within, count, c.args.interfaces.now.ok.0)
 
 pub returns : goal.returns
 returns c =
     on_ok_weaker c.append.result (λ e.
-    ap (λ (w : List InterfaceStatement). set c.args.interfaces.now.items c.args.place (record { line = c.index_mut.result.now.line; name = c.index_mut.result.now.name; lines = w })) e
+    ap (λ (w : List InterfaceStatement). set c.args.interfaces.now.items c.args.place
+    (record { line = c.index_mut.result.now.line; name = c.index_mut.result.now.name; lines = w })) e
     ∙ ap (λ (x : InterfaceSection). set c.args.interfaces.now.items c.args.place (joined x c.args.section)) c.index_mut.ensures.value
     ∙ ap (λ (p : ℕ). set c.args.interfaces.now.items p (joined (get_or c.args.interfaces.now.items p c.index_mut.result.now) c.args.section)) c.requires.place
     ∙ sym (table_old c.args.interfaces.now.items c.args.section c.index_mut.result.now c.requires.known))
-    c.append.ensures
+    c.append.ensures.ok

@@ -10,7 +10,8 @@ returns-then-added-clause-index c =
     on_ok_weaker c.push_new.result (λ table.
     names_after c.args.interfaces.now.items c.push_new.new.interfaces.items c.args.section c.args.names.now c.add.new.self
     table c.requires
-    (c.in_ok-place.ensures.names ∙ ap (λ (w : Word). cond (list_any (bytes_eq w) c.args.names.now) c.args.names.now (c.args.names.now ++ w ∷ [])) c.as_slice.ensures))
+    (c.in_ok-place.ensures.names ∙ ap (λ (w : Word). cond (list_any (bytes_eq w) c.args.names.now) c.args.names.now (c.args.names.now ++ w ∷ []))
+    c.as_slice.ensures))
     c.push_new.ensures
 
 pub returns-else-added-clause-index : goal.returns-else-added-clause-index
@@ -18,5 +19,6 @@ returns-else-added-clause-index c =
     on_ok_weaker c.append_at.result (λ table.
     names_after c.args.interfaces.now.items c.append_at.new.interfaces.items c.args.section c.args.names.now c.add.new.self
     table c.requires
-    (c.in_ok-place.ensures.names ∙ ap (λ (w : Word). cond (list_any (bytes_eq w) c.args.names.now) c.args.names.now (c.args.names.now ++ w ∷ [])) c.as_slice.ensures))
+    (c.in_ok-place.ensures.names ∙ ap (λ (w : Word). cond (list_any (bytes_eq w) c.args.names.now) c.args.names.now (c.args.names.now ++ w ∷ []))
+    c.as_slice.ensures))
     c.append_at.ensures

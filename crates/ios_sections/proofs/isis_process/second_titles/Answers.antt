@@ -13,7 +13,8 @@ loop-statement-preserved c =
       fault = c.lesser_fault-fault.ensures
           ∙ ap (λ (o : Option Fault). lesser_fault o c.second_title.result) c.loop-statement.invariant.fault
           ∙ ap (lesser_fault (least_fault (second_titles (take c.loop-statement.statement-index c.args.lines.now)))) c.second_title.ensures
-          ∙ ap (λ (b : Bool). lesser_fault (least_fault (second_titles (take c.loop-statement.statement-index c.args.lines.now))) (least_fault (faults_if (b && is_net c.statement-item.result) c.statement-item.result.line Unsupported))) c.loop-statement.invariant.titled
+          ∙ ap (λ (b : Bool). lesser_fault (least_fault (second_titles (take c.loop-statement.statement-index c.args.lines.now)))
+          (least_fault (faults_if (b && is_net c.statement-item.result) c.statement-item.result.line Unsupported))) c.loop-statement.invariant.titled
           ∙ sym (second_titles_more c.args.lines.now c.loop-statement.statement-index c.statement-item.result within c.statement-item.is);
       titled = c.titled_after-titled.ensures
           ∙ ap (λ (b : Bool). b || is_net c.statement-item.result) c.loop-statement.invariant.titled

@@ -11,5 +11,7 @@ loop-section-preserved c =
     let within : c.loop-section.section-index < length c.args.sections.now = c.loop-section-test.true in
     c.lesser_fault-fault.ensures
     ∙ ap (λ (o : Option Fault). lesser_fault o c.tag_fault.result) c.loop-section.invariant
-    ∙ ap (lesser_fault (least_fault (flat_map (tag_faults_of (option_copied c.args.first)) (take c.loop-section.section-index c.args.sections.now)))) c.tag_fault.ensures
-    ∙ sym (least_more (tag_faults_of (option_copied c.args.first)) c.args.sections.now c.loop-section.section-index c.section-item.result within c.section-item.is)
+    ∙ ap (lesser_fault (least_fault (flat_map (tag_faults_of (option_copied c.args.first)) (take c.loop-section.section-index c.args.sections.now))))
+    c.tag_fault.ensures
+    ∙ sym (least_more (tag_faults_of (option_copied c.args.first)) c.args.sections.now c.loop-section.section-index c.section-item.result within
+    c.section-item.is)

@@ -15,6 +15,9 @@ loop-statement-preserved c =
     let within : c.loop-statement.statement-index < length c.counting-statement-items.result.now = c.loop-statement-test.true in
     c.in_ok-push_mention.ensures
     ∙ ap (λ (w : List Mention). w ++ cons_option c.mention_said.result []) c.loop-statement.invariant
-    ∙ append_assoc c.args.mentions.now.items (filter_map said (take c.loop-statement.statement-index c.counting-statement-items.result.now)) (cons_option c.mention_said.result [])
-    ∙ ap (λ (o : Option Mention). c.args.mentions.now.items ++ (filter_map said (take c.loop-statement.statement-index c.counting-statement-items.result.now) ++ cons_option o [])) c.mention_said.ensures
-    ∙ ap (λ (w : List Mention). c.args.mentions.now.items ++ w) (sym (filter_more said c.counting-statement-items.result.now c.loop-statement.statement-index c.statement-item.result within c.statement-item.is))
+    ∙ append_assoc c.args.mentions.now.items (filter_map said (take c.loop-statement.statement-index c.counting-statement-items.result.now))
+    (cons_option c.mention_said.result [])
+    ∙ ap (λ (o : Option Mention). c.args.mentions.now.items ++ (filter_map said (take c.loop-statement.statement-index c.counting-statement-items.result.now)
+    ++ cons_option o [])) c.mention_said.ensures
+    ∙ ap (λ (w : List Mention). c.args.mentions.now.items ++ w) (sym (filter_more said c.counting-statement-items.result.now c.loop-statement.statement-index
+    c.statement-item.result within c.statement-item.is))

@@ -6,4 +6,5 @@ use Rattle.ios_sections.proofs.process.add_mentions.Given as goal
 
 abbrev pub invariant-loop-statement : goal.invariant-loop-statement
 invariant-loop-statement l =
-    l.mentions.items ≡ l.initial.mentions.items ++ filter_map (λ (t : InterfaceStatement). mention_said t.line t.says) (take l.statement-index l.statement-items)
+    l.mentions.items ≡ l.initial.mentions.items ++ filter_map (λ (t : InterfaceStatement). mention_said t.line t.says)
+    (take l.statement-index l.statement-items)

@@ -11,5 +11,6 @@ loop-mention-preserved c =
     let within : c.loop-mention.mention-index < length c.args.mentions.now = c.loop-mention-test.true in
     c.lesser_fault-fault.ensures
     ∙ ap (λ (o : Option Fault). lesser_fault o c.process_fault.result) c.loop-mention.invariant
-    ∙ ap (lesser_fault (least_fault (flat_map (process_faults c.args.process) (take c.loop-mention.mention-index c.args.mentions.now)))) c.process_fault.ensures
+    ∙ ap (lesser_fault (least_fault (flat_map (process_faults c.args.process) (take c.loop-mention.mention-index c.args.mentions.now))))
+    c.process_fault.ensures
     ∙ sym (least_at (process_faults c.args.process) c.args.mentions.now c.loop-mention.mention-index _ within)

@@ -1,6 +1,6 @@
 use Rattle.std.proofs.Common.{Bool, List, ap, ◌∙◌}
 use Rattle.ios_lines.specs.Words.{Word}
-use Rattle.ios_reader.specs.Passives.{said_of}
+use Rattle.ios_reader.specs.steps.Passives.{said_of}
 use Rattle.ios_reader.proofs.PassiveFacts.{table_lookup}
 use Rattle.ios_reader.proofs.passive.PassiveNames.get.Goals as goal
 

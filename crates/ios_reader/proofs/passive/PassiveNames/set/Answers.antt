@@ -1,6 +1,6 @@
 use Rattle.std.proofs.Common.{Bool, List, map, ap, ◌∙◌}
 use Rattle.ios_lines.specs.Words.{Word}
-use Rattle.ios_reader.specs.Passives.{with_said}
+use Rattle.ios_reader.specs.steps.Passives.{with_said}
 use Rattle.ios_reader.proofs.PassiveFacts.{table_insert}
 use Rattle.ios_reader.proofs.passive.PassiveNames.set.Goals as goal
 

@@ -31,7 +31,8 @@ isis_fault_by s =
 -- the least fault of a configuration whose `end` line has this number
 abbrev pub fault_by : Statements → ℕ → Option Fault
 fault_by s ends =
-    lesser_fault (lesser_fault (lesser_fault (ospf_fault_by s) (isis_fault_by s)) (least_fault (flat_map (interface_faults (router_with s.process s.ospf s.isis) s.tag) s.interfaces)))
+    lesser_fault (lesser_fault (lesser_fault (ospf_fault_by s) (isis_fault_by s))
+    (least_fault (flat_map (interface_faults (router_with s.process s.ospf s.isis) s.tag) s.interfaces)))
     (least_fault (faults_if (is_none s.name) ends NoHostname))
 
 -- the title after one more line

@@ -1,7 +1,8 @@
 -- What the lines of the two processes say in the end: of each form the last one.
 use Rattle.std.specs.Prelude.{List}
 use Rattle.ios_lines.specs.Lookups.{later, last_of}
-use Rattle.ios_reader.specs.Routers.{passive_default_said, reference_said, ospf_distance_said, rfc1583_said, levels_said, router_metric_said, isis_distance_said, leak_said}
+use Rattle.ios_reader.specs.Routers.{passive_default_said, reference_said, ospf_distance_said, rfc1583_said, levels_said, router_metric_said}
+use Rattle.ios_reader.specs.Routers.{isis_distance_said, leak_said}
 use Rattle.ios_lines.specs.declared.ospf_line.OspfStatement.{OspfStatement}
 use Rattle.ios_lines.specs.declared.isis_line.IsisStatement.{IsisStatement}
 use Rattle.ios_reader.specs.declared.router.OspfFacts.{OspfFacts}

@@ -1,0 +1,134 @@
+-- The words of some bytes, cut off one after the other.
+use Rattle.std.proofs.Common.{◌≡◌, ℕ, suc, ◌+◌, ◌-◌, ◌<◌, ◌≤◌, ◌⊎◌, inl, inr, ⊎_elim, Bool, true, false, cond, List, [], ◌∷◌, ◌++◌}
+use Rattle.std.proofs.Common.{length, take, drop, nat_eq, filter, append-nil, refl, sym, ap, ◌∙◌, arith}
+use Rattle.std.specs.Prelude.{not, nat_lt}
+use Rattle.std.specs.List.{slice_split, position_or_len, prefix_len, onto_first}
+use Rattle.std.proofs.lemmas.Bool.{cases_lt}
+use Rattle.std.proofs.lemmas.Bool.Decides.{nat_tests}
+use Rattle.std.proofs.lemmas.List.{take_all, drop_all, length-drop}
+use Rattle.std.proofs.lemmas.List.Elements.{filter-append}
+use Rattle.std.proofs.lemmas.List.Folds.{length-prefix_len}
+use Rattle.std.proofs.lemmas.List.Splits.{slice_split_first}
+use Rattle.net_addr.specs.Blanks.{is_blank, words_in}
+use Rattle.net_addr.proofs.PieceFacts.{no_separator}
+use Rattle.ios_lines.specs.Words.{Word, without_blanks, words_from, word_at}
+
+-- the blanks that some bytes begin with are dropped by their count
+blanks_dropped : (bytes : List ℕ) → drop (prefix_len is_blank bytes) bytes ≡ without_blanks bytes
+blanks_dropped [] = refl
+blanks_dropped (b ∷ bs) = cases (is_blank b) (blanks_dropped bs)
+  where
+    cases : (t : Bool) → drop (prefix_len is_blank bs) bs ≡ without_blanks bs →
+        drop (cond t (1 + prefix_len is_blank bs) 0) (b ∷ bs) ≡ cond t (without_blanks bs) (b ∷ bs)
+    cases true rest =
+        let next : 1 + prefix_len is_blank bs ≡ suc (prefix_len is_blank bs) = omega arith in
+        ap (λ (n : ℕ). drop n (b ∷ bs)) next ∙ rest
+    cases false rest = refl
+
+-- all that is left behind the blanks
+pub blanks_cut : (bytes : List ℕ) (n : ℕ) → n ≡ prefix_len is_blank bytes → take (length bytes - n) (drop n bytes) ≡ without_blanks bytes
+blanks_cut bytes n count =
+    take_all (length bytes - n) (drop n bytes) (omega (arith, length-drop n bytes))
+    ∙ ap (λ (k : ℕ). drop k bytes) count ∙ blanks_dropped bytes
+
+-- whether a piece holds a byte
+abbrev holds : Word → Bool
+holds piece = nat_lt 0 (length piece)
+
+-- blanks at the beginning are no words
+words_behind : (bytes : List ℕ) → words_in bytes ≡ words_in (without_blanks bytes)
+words_behind [] = refl
+words_behind (b ∷ bs) = cases (is_blank b) refl (words_behind bs)
+  where
+    cases : (t : Bool) → is_blank b ≡ t → words_in bs ≡ words_in (without_blanks bs) →
+        words_in (b ∷ bs) ≡ words_in (cond t (without_blanks bs) (b ∷ bs))
+    cases true e rest = ap (λ (u : Bool). filter holds (cond u ([] ∷ slice_split is_blank bs) (onto_first b (slice_split is_blank bs)))) e ∙ rest
+    cases false e rest = refl
+
+-- then no byte is left, or a word begins
+begins : (bytes : List ℕ) → (without_blanks bytes ≡ []) ⊎ (0 < position_or_len is_blank (without_blanks bytes))
+begins [] = inl refl
+begins (b ∷ bs) = cases (is_blank b) refl (begins bs)
+  where
+    cases : (t : Bool) → is_blank b ≡ t → (without_blanks bs ≡ []) ⊎ (0 < position_or_len is_blank (without_blanks bs)) →
+        (cond t (without_blanks bs) (b ∷ bs) ≡ []) ⊎ (0 < position_or_len is_blank (cond t (without_blanks bs) (b ∷ bs)))
+    cases true e rest = rest
+    cases false e rest = inr (rw e (omega arith))
+
+abbrev pub place : List ℕ → ℕ
+place bytes = position_or_len is_blank bytes
+
+-- the first piece before a blank, and the words behind it
+words_first : (bytes : List ℕ) → words_in bytes ≡ filter holds (take (place bytes) bytes ∷ []) ++ words_in (drop (place bytes + 1) bytes)
+words_first bytes =
+    ⊎_elim
+    (λ (found : place bytes < length bytes).
+    ap (filter holds) (slice_split_first is_blank bytes 0 found)
+    ∙ filter-append holds (take (place bytes) bytes ∷ []) (slice_split is_blank (drop (place bytes + 1) bytes)))
+    (λ (none : length bytes ≤ place bytes).
+    let whole : take (place bytes) bytes ≡ bytes = take_all (place bytes) bytes none in
+    let rest : drop (place bytes + 1) bytes ≡ [] = drop_all (place bytes + 1) bytes (omega arith) in
+    ap (filter holds) (no_separator is_blank bytes none)
+    ∙ ap (λ (piece : Word). filter holds (piece ∷ [])) (sym whole)
+    ∙ sym (append-nil (filter holds (take (place bytes) bytes ∷ [])))
+    ∙ ap (λ (after : List ℕ). filter holds (take (place bytes) bytes ∷ []) ++ words_in after) (sym rest))
+    (cases_lt (place bytes) (length bytes))
+
+not_empty : (n : ℕ) → 0 < n → nat_eq n 0 ≡ false
+not_empty n some = grind (arith, nat_tests)
+
+some_bytes : (n : ℕ) → 0 < n → nat_lt 0 n ≡ true
+some_bytes n some = grind (arith, nat_tests)
+
+from_word : (first rest : List ℕ) → 0 < length first → words_from first rest ≡ first ∷ words_in rest
+from_word first rest some = ap (λ (t : Bool). cond t [] (first ∷ words_in rest)) (not_empty (length first) some)
+
+-- the first word of bytes that begin with no blank, and the words behind it
+word_there : (bytes : List ℕ) → 0 < place bytes → words_in bytes ≡ take (place bytes) bytes ∷ words_in (drop (place bytes + 1) bytes)
+word_there bytes some =
+    let long : 0 < length (take (place bytes) bytes) = omega (arith, some, length-prefix_len (λ (b : ℕ). not (is_blank b)) bytes) in
+    words_first bytes
+    ∙ ap (λ (t : Bool). cond t (take (place bytes) bytes ∷ []) [] ++ words_in (drop (place bytes + 1) bytes))
+    (some_bytes (length (take (place bytes) bytes)) long)
+
+-- some bytes are cut behind their first word
+pub words_cut : (bytes : List ℕ) →
+    words_from (take (place (without_blanks bytes)) (without_blanks bytes)) (drop (place (without_blanks bytes) + 1) (without_blanks bytes)) ≡ words_in bytes
+words_cut bytes =
+    ⊎_elim
+    (λ (none : without_blanks bytes ≡ []).
+    ap (λ (w : List ℕ). words_from (take (place w) w) (drop (place w + 1) w)) none ∙ ap words_in (sym none) ∙ sym (words_behind bytes))
+    (λ (some : 0 < place (without_blanks bytes)).
+    from_word (take (place (without_blanks bytes)) (without_blanks bytes)) (drop (place (without_blanks bytes) + 1) (without_blanks bytes))
+    (omega (arith, some, length-prefix_len (λ (b : ℕ). not (is_blank b)) (without_blanks bytes)))
+    ∙ sym (word_there (without_blanks bytes) some) ∙ sym (words_behind bytes))
+    (begins bytes)
+
+-- the first of some words
+word_first : (first rest : List ℕ) → word_at (words_from first rest) 0 ≡ first
+word_first [] rest = refl
+word_first (b ∷ bs) rest = ap (λ (ws : List Word). word_at ws 0) (from_word (b ∷ bs) rest (omega arith))
+
+-- the first word of some bytes
+pub first_word_is : (bytes : List ℕ) → take (place (without_blanks bytes)) (without_blanks bytes) ≡ word_at (words_in bytes) 0
+first_word_is bytes =
+    sym (word_first (take (place (without_blanks bytes)) (without_blanks bytes)) (drop (place (without_blanks bytes) + 1) (without_blanks bytes)))
+    ∙ ap (λ (ws : List Word). word_at ws 0) (words_cut bytes)
+
+-- the words behind the first one
+pub words_after : (bytes : List ℕ) → words_in (drop (place (without_blanks bytes) + 1) (without_blanks bytes)) ≡ drop 1 (words_in bytes)
+words_after bytes =
+    ⊎_elim
+    (λ (none : without_blanks bytes ≡ []).
+    ap (λ (w : List ℕ). words_in (drop (place w + 1) w)) none ∙ ap (λ (w : List ℕ). drop 1 (words_in w)) (sym none) ∙ ap (drop 1) (sym (words_behind bytes)))
+    (λ (some : 0 < place (without_blanks bytes)).
+    sym (ap (drop 1) (word_there (without_blanks bytes) some)) ∙ ap (drop 1) (sym (words_behind bytes)))
+    (begins bytes)
+
+-- a word behind the first one
+pub word_further : (words : List Word) (k : ℕ) → 0 < k → word_at (drop 1 words) (k - 1) ≡ word_at words k
+word_further words k some = counted words (k - 1) k (omega (arith, some))
+  where
+    counted : (words : List Word) (j k : ℕ) → k ≡ suc j → word_at (drop 1 words) j ≡ word_at words k
+    counted [] j k e = refl
+    counted (w ∷ ws) j k e = ap (word_at (w ∷ ws)) (sym e)
