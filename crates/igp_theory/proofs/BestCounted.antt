@@ -1,6 +1,6 @@
 -- Over tables that are lists a router uses an entry for an address, or none that counts contains it.
-use Rattle.std.proofs.Common.{◌≡◌, ◌≢◌, ℕ, ◌≤◌, inl, inr, Bool, true, false, List, [], ◌∷◌}
-use Rattle.std.proofs.Common.{◌++◌, map, Contains, Option, Some, None, arith, refl, sym, ap, ◌∙◌, subst}
+use Rattle.std.proofs.Common.{◌≡◌, ◌≢◌, ℕ, ◌≤◌, inl, inr, Bool, true, false, List, [], ◌∷◌, ◌++◌, map, Contains, Option, Some}
+use Rattle.std.proofs.Common.{None, arith, refl, sym, ap, ◌∙◌, subst}
 use Rattle.std.specs.List.{flat_map}
 use Rattle.std.proofs.lemmas.Bool.{cases_lt, cases_eq, cases_order}
 use Rattle.std.proofs.lemmas.List.Elements.{Contains-append_left, Contains-append_right, Contains-append_cases}
@@ -9,8 +9,8 @@ use Rattle.net_addr.specs.Addresses.{Block, ContainsAddress, first_bits}
 use Rattle.net_model.specs.Configuration.{Configuration}
 use Rattle.net_model.specs.Network.{Network, HasConfiguration, Connected}
 use Rattle.net_model.specs.declared.interface.Interface.{Interface}
-use Rattle.net_model.proofs.Members.{Contains-none, Contains-first, Contains-rest, Contains-cases}
-use Rattle.net_model.proofs.Members.{Contains-flat_map, Contains-in_flat_map, Contains-map, Contains-in_map}
+use Rattle.net_model.proofs.Members.{Contains-none, Contains-first, Contains-rest, Contains-cases, Contains-flat_map, Contains-in_flat_map, Contains-map}
+use Rattle.net_model.proofs.Members.{Contains-in_map}
 use Rattle.route_core.specs.Tables.{HasEntry}
 use Rattle.route_core.specs.declared.entry.Entry.{Entry}
 use Rattle.igp_theory.specs.Forwarding.{Usable, connected, of_old, of_new, OldCounts, NewCounts, Counts, connected_counts, old_counts, new_counts, Uses}
@@ -86,7 +86,8 @@ through_best a c counted b is longer closer d inside = record {
       omega (arith, near, far);
 }
 
-better : (a : ℕ) (c : Counted) (counted : List Counted) (b : Counted) → ContainsAddress c.prefix a → IsBestOf a counted b → BestOrNone a (c ∷ counted)
+better : (a : ℕ) (c : Counted) (counted : List Counted) (b : Counted) → ContainsAddress c.prefix a → IsBestOf a counted b →
+    BestOrNone a (c ∷ counted)
 better a c counted b contains is = elim (cases_order c.prefix.len b.prefix.len) [
   | inr (inl shorter) ↦ best b (stays_best a c counted b (record {
     longer = λ within. omega (arith, shorter);

@@ -1,6 +1,6 @@
 -- What sound means: lists of steps are short, and lead on until an originator is reached.
-use Rattle.std.proofs.Common.{refl, Option, Some, None, IsTrue, ap, ◌∙◌, ◌≡◌, ◌≢◌, ℕ, zero, suc, ◌+◌, ◌^◌}
-use Rattle.std.proofs.Common.{◌<◌, ◌≤◌, ◌⊎◌, inl, inr, List, [], ◌∷◌, ◌++◌, length, Contains, arith, sym, subst}
+use Rattle.std.proofs.Common.{refl, Option, Some, None, IsTrue, ap, ◌∙◌, ◌≡◌, ◌≢◌, ℕ, zero, suc, ◌+◌, ◌^◌, ◌<◌, ◌≤◌}
+use Rattle.std.proofs.Common.{◌⊎◌, inl, inr, List, [], ◌∷◌, ◌++◌, length, Contains, arith, sym, subst}
 use Rattle.std.specs.List.{AllPairs}
 use Rattle.std.proofs.lemmas.Bool.{cases_eq, cases_Bool, eqb-true, false≢true}
 use Rattle.std.proofs.lemmas.Bool.Decides.{Decides-eqb}
@@ -44,7 +44,8 @@ isis_hop_is_router net u h p e entry leads =
       | inr two ↦ up_is_router h two.far_up
     ]
 
-leads_inside : {net : Network} {old new : Tables} {u d h : ℕ} {phase : Phase} {p : Block} {x : Usable} → HopsAreRouters net old → HopsAreRouters net new →
+leads_inside : {net : Network} {old new : Tables} {u d h : ℕ} {phase : Phase} {p : Block} {x : Usable} → HopsAreRouters net old →
+    HopsAreRouters net new →
     u < length net → Counts net old new u phase p d x → LeadsTo x h → h < length net
 leads_inside in_old in_new below (connected_counts is) leads = absurd leads
 leads_inside {u = u} {h = h} {p = p} in_old in_new below (old_counts {e = e} counts c has is set entry) leads = in_old u h p e below entry leads
@@ -197,7 +198,8 @@ sound_delivers net old new state a p in_old in_new sound address target =
 -- A state that delivers is sound
 
 -- lists of steps, one after the other
-steps_joined : (step : ℕ → ℕ → Type 0) (u : ℕ) (one : List ℕ) (v : ℕ) (two : List ℕ) (w : ℕ) → Follows step u one v → Follows step v two w →
+steps_joined : (step : ℕ → ℕ → Type 0) (u : ℕ) (one : List ℕ) (v : ℕ) (two : List ℕ) (w : ℕ) → Follows step u one v →
+    Follows step v two w →
     Follows step u (one ++ two) w
 steps_joined step u [] v two w first second = subst (λ (x : ℕ). Follows step x two w) (sym first) second
 steps_joined step u (h ∷ one) v two w first second = (first.0, steps_joined step h one v two w first.1 second)

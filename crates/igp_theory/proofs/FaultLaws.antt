@@ -1,5 +1,6 @@
 -- The fault of a state and the first fault of an order: what has one isn't sound, and has no other.
-use Rattle.std.proofs.Common.{◌≡◌, ℕ, ◌*◌, ◌^◌, ◌<◌, ◌≤◌, inl, inr, List, [], ◌∷◌, length, take, refl, sym, ap, ◌∙◌, subst, arith}
+use Rattle.std.proofs.Common.{◌≡◌, ℕ, ◌*◌, ◌^◌, ◌<◌, ◌≤◌, inl, inr, List, [], ◌∷◌, length, take, refl, sym, ap, ◌∙◌}
+use Rattle.std.proofs.Common.{subst, arith}
 use Rattle.std.proofs.lemmas.Bool.{cases_lt, cases_order}
 use Rattle.std.proofs.lemmas.List.{take_all}
 use Rattle.net_model.specs.Network.{Network}
@@ -107,7 +108,8 @@ same_at_address {net} {old} {new} {state} (missing_step {u = u} _ _ must lacks l
     absurd (lacks (subst (λ (x : ℕ). AllForward net old new state x) (sym address) forwards u must))
 same_at_address {net} {old} {new} {state} (loop_arises _ _ forwards found tags) (missing_step {u = u} _ _ must lacks lowest) address =
     absurd (lacks (subst (λ (x : ℕ). AllForward net old new state x) address forwards u must))
-same_at_address {net} {old} {new} {state} (loop_arises {a = a} {ring = ring} _ _ forwards found tags) (loop_arises {a = b} {ring = turn} _ _ passes finds marks) address =
+same_at_address {net} {old} {new} {state} (loop_arises {a = a} {ring = ring} _ _ forwards found tags)
+    (loop_arises {a = b} {ring = turn} _ _ passes finds marks) address =
     let again : IsFoundRing (StepsIn net old new state a) (length net) (routers_of turn) =
     subst (λ (x : ℕ). IsFoundRing (StepsIn net old new state x) (length net) (routers_of turn)) (sym address) finds in
     let tagged : AreTagged net old new a turn = subst (λ (x : ℕ). AreTagged net old new x turn) (sym address) marks in

@@ -80,6 +80,7 @@ pub flat_is_run : (n : ℕ) (ranks : List ℕ) → IsRanking n ranks → IsRun n
 flat_is_run n ranks waves = along_is_run n ranks (flat_of ranks) (flat_lists n ranks waves) (flat_in_turn ranks)
 
 -- every state of a wave is a state of a run
-pub wave_state_is_reached : (n : ℕ) (ranks : List ℕ) (state : State) → IsRanking n ranks → IsStateOfSomeWave n ranks state → IsWavesState n ranks state
+pub wave_state_is_reached : (n : ℕ) (ranks : List ℕ) (state : State) → IsRanking n ranks → IsStateOfSomeWave n ranks state →
+    IsWavesState n ranks state
 wave_state_is_reached n ranks state waves is =
     wave_is_reached n ranks is.wave state (flat_of ranks) (flat_lists n ranks waves) (flat_in_turn ranks) is.of_wave

@@ -56,7 +56,8 @@ middle_is_old_or_new {net} {old} {new} {u} {a} {x} uses =
 -- and no closer
 pub old_wins : {net : Network} {old new : Tables} {u a : ℕ} {x : Usable} (one : Uses net old new u Old a x) →
     ((q : Block) (d : ℕ) (other : Usable) → Counts net old new u New q d other → ContainsAddress q a → q.len ≤ one.prefix.len) →
-    ((q : Block) (d : ℕ) (other : Usable) → Counts net old new u New q d other → ContainsAddress q a → q.len ≡ one.prefix.len → one.distance ≤ d) →
+    ((q : Block) (d : ℕ) (other : Usable) → Counts net old new u New q d other → ContainsAddress q a → q.len ≡ one.prefix.len →
+    one.distance ≤ d) →
     Uses net old new u Middle a x
 old_wins {net} {old} {new} {u} {a} one shorter farther = record {
   prefix = one.prefix;
@@ -69,7 +70,8 @@ old_wins {net} {old} {new} {u} {a} one shorter farther = record {
 
 pub new_wins : {net : Network} {old new : Tables} {u a : ℕ} {x : Usable} (one : Uses net old new u New a x) →
     ((q : Block) (d : ℕ) (other : Usable) → Counts net old new u Old q d other → ContainsAddress q a → q.len ≤ one.prefix.len) →
-    ((q : Block) (d : ℕ) (other : Usable) → Counts net old new u Old q d other → ContainsAddress q a → q.len ≡ one.prefix.len → one.distance ≤ d) →
+    ((q : Block) (d : ℕ) (other : Usable) → Counts net old new u Old q d other → ContainsAddress q a → q.len ≡ one.prefix.len →
+    one.distance ≤ d) →
     Uses net old new u Middle a x
 new_wins {net} {old} {new} {u} {a} one shorter farther = record {
   prefix = one.prefix;

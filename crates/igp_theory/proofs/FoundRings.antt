@@ -84,7 +84,8 @@ goes_on_not_distinct u xs lead a rest ys more in_order is distinct =
 -- One ring
 
 -- the walks of two found rings visit the same routers and repeat the same
-record AreSameWalk {step : ℕ → ℕ → Type 0} {n : ℕ} {ring turn : List ℕ} (one : IsFoundRing step n ring) (other : IsFoundRing step n turn) : Type 0 where
+record AreSameWalk {step : ℕ → ℕ → Type 0} {n : ℕ} {ring turn : List ℕ} (one : IsFoundRing step n ring)
+    (other : IsFoundRing step n turn) : Type 0 where
   visited : one.start ∷ one.visited ≡ other.start ∷ other.visited
   again : one.again ≡ other.again
 
@@ -96,7 +97,11 @@ same_walk {step} {n} one other =
     let distinct = subst (λ (v : ℕ). AreDistinct (v ∷ other.visited)) (sym start) other.distinct in
     let in_order = subst (λ (v : ℕ). v ∷ other.visited ≡ other.lead ++ other.again ∷ other.rest) (sym start) other.in_order in
     elim (are_one_walk step n one.start one.visited one.again other.visited other.again one.goes goes) [
-      | same visited again ↦ record { visited = ap (λ (v : ℕ). v ∷ one.visited) start ∙ ap (λ (l : List ℕ). other.start ∷ l) visited; again = again }
+      | same visited again ↦ record {
+        visited = ap (λ (v : ℕ). v ∷ one.visited) start ∙ ap (λ (l : List ℕ). other.start ∷ l) visited;
+        again =
+            again;
+      }
       | shorter more is ↦ absurd (goes_on_not_distinct one.start one.visited one.lead one.again one.rest other.visited more one.in_order is distinct)
       | longer more is ↦ absurd (goes_on_not_distinct one.start other.visited other.lead other.again other.rest one.visited more in_order is one.distinct)
     ]

@@ -1,6 +1,6 @@
 -- Loops state by state: where they arise, and that an unsound state between sound ends has one with both tags.
-use Rattle.std.proofs.Common.{◌≡◌, ◌≢◌, ℕ, ◌^◌, ◌<◌, ◌≤◌, ◌⊎◌, inl, inr, Bool, true, false, cond}
-use Rattle.std.proofs.Common.{List, [], ◌∷◌, length, filter, Contains, AllPairs, refl, sym, ap, ◌∙◌, subst, arith}
+use Rattle.std.proofs.Common.{◌≡◌, ◌≢◌, ℕ, ◌^◌, ◌<◌, ◌≤◌, ◌⊎◌, inl, inr, Bool, true, false, cond, List, [], ◌∷◌}
+use Rattle.std.proofs.Common.{length, filter, Contains, AllPairs, refl, sym, ap, ◌∙◌, subst, arith}
 use Rattle.std.proofs.lemmas.Bool.{cases_lt, false≢true}
 use Rattle.net_model.specs.Network.{Network}
 use Rattle.order_core.specs.Turns.{is_old, is_new, routers_of, old_routers, new_routers, HasBothTags}
@@ -16,8 +16,8 @@ use Rattle.igp_theory.specs.declared.phase.Phase.{Phase}
 use Rattle.igp_theory.specs.declared.phase.Phase.TheVariants.{Old, Middle, New}
 use Rattle.igp_theory.proofs.ForwardingLaws.{middle_is_old_or_new, middle_uses_one, every_phase_steps}
 use Rattle.net_model.proofs.Members.{Contains-none, Contains-first, Contains-rest, Contains-cases}
-use Rattle.igp_theory.proofs.Rings.{around_inside, around_both, around_at, found_goes_round, found_distinct}
-use Rattle.igp_theory.proofs.Rings.{around_of_routers, turns_distinct, turns_return, some_turn}
+use Rattle.igp_theory.proofs.Rings.{around_inside, around_both, around_at, found_goes_round, found_distinct, around_of_routers, turns_distinct, turns_return}
+use Rattle.igp_theory.proofs.Rings.{some_turn}
 use Rattle.igp_theory.proofs.Tags.{IsTagTo, AreTagged}
 
 -- The turns of a tag
@@ -107,7 +107,8 @@ old_or_new_step Middle steps = elim (middle_is_old_or_new steps.uses) [
 ]
 
 -- a router by its tag
-tag_step : {net : Network} {old new : Tables} {u a h : ℕ} (t : Tag) (phase : Phase) → IsTagOf t (Steps net old new u Old a h) (Steps net old new u New a h) →
+tag_step : {net : Network} {old new : Tables} {u a h : ℕ} (t : Tag) (phase : Phase) →
+    IsTagOf t (Steps net old new u Old a h) (Steps net old new u New a h) →
     (t ≡ tag.Old → phase ≡ Old) → (t ≡ tag.New → phase ≡ New) → Steps net old new u phase a h
 tag_step {net} {old} {new} {u} {a} {h} tag.Old phase is in_old in_new = subst (λ (p : Phase). Steps net old new u p a h) (sym (in_old refl)) is.0
 tag_step {net} {old} {new} {u} {a} {h} tag.New phase is in_old in_new = subst (λ (p : Phase). Steps net old new u p a h) (sym (in_new refl)) is.1
@@ -158,13 +159,15 @@ arising_is_unsound net old new state a ring is arises sound =
 -- Between sound ends
 
 -- no router steps to itself
-no_self_step : {net : Network} {old new : Tables} {u a : ℕ} (phase : Phase) → AreSoundEnds net old new → a < 2 ^ 32 → Steps net old new u phase a u → ⊥
+no_self_step : {net : Network} {old new : Tables} {u a : ℕ} (phase : Phase) → AreSoundEnds net old new → a < 2 ^ 32 →
+    Steps net old new u phase a u → ⊥
 no_self_step {u = u} {a = a} phase ends address steps = elim (old_or_new_step phase steps) [
   | inl one ↦ (ends.first a address).returns_never u u [] (one, refl)
   | inr two ↦ (ends.last a address).returns_never u u [] (two, refl)
 ]
 
-two_or_more : {net : Network} {old new : Tables} (state : State) {a : ℕ} (ring : List Turn) → AreSoundEnds net old new → a < 2 ^ 32 → 0 < length ring →
+two_or_more : {net : Network} {old new : Tables} (state : State) {a : ℕ} (ring : List Turn) → AreSoundEnds net old new →
+    a < 2 ^ 32 → 0 < length ring →
     Arises net old new state a ring → 2 ≤ length ring
 two_or_more state [] ends address some arises = absurd (omega (arith, some))
 two_or_more state (r ∷ []) ends address some arises = absurd (no_self_step (state r.router) ends address arises)
@@ -226,13 +229,15 @@ steps_with_tags {net} {old} {new} state {a} ring tags arises r inside =
     (around_both (IsTagTo net old new a) (λ (x y : Turn). StepsIn net old new state a x.router y.router) ring tags arises) inside in
     (both.0, record { tagged = both.1.0; steps = both.1.1 })
 
-not_new : {net : Network} {old new : Tables} {u a h : ℕ} (t : Tag) → t ≡ tag.Old → IsTagOf t (Steps net old new u Old a h) (Steps net old new u New a h) →
+not_new : {net : Network} {old new : Tables} {u a h : ℕ} (t : Tag) → t ≡ tag.Old →
+    IsTagOf t (Steps net old new u Old a h) (Steps net old new u New a h) →
     Steps net old new u New a h → ⊥
 not_new tag.Old same is steps = is.1 steps
 not_new tag.New same is steps = cc
 not_new tag.Both same is steps = cc
 
-not_old : {net : Network} {old new : Tables} {u a h : ℕ} (t : Tag) → t ≡ tag.New → IsTagOf t (Steps net old new u Old a h) (Steps net old new u New a h) →
+not_old : {net : Network} {old new : Tables} {u a h : ℕ} (t : Tag) → t ≡ tag.New →
+    IsTagOf t (Steps net old new u Old a h) (Steps net old new u New a h) →
     Steps net old new u Old a h → ⊥
 not_old tag.Old same is steps = cc
 not_old tag.New same is steps = is.0 steps
@@ -269,7 +274,8 @@ ring_between_ends net old new state a ring ends address some distinct tags arise
 }
 
 -- the fault of an unsound state between sound ends is such a loop
-pub fault_between_ends : (net : Network) (old new : Tables) (state : State) (fault : Fault) → AreSoundEnds net old new → IsFault net old new state fault →
+pub fault_between_ends : (net : Network) (old new : Tables) (state : State) (fault : Fault) → AreSoundEnds net old new →
+    IsFault net old new state fault →
     IsLoopFault net old new state fault
 fault_between_ends net old new state fault ends (missing_step {a = a} {u = u} address below must lacks lowest) =
     absurd (lacks (every_phase_steps ((ends.first a address).forwards u must) ((ends.last a address).forwards u must) (state u)))

@@ -1,17 +1,17 @@
 -- Loops wave by wave: in which waves they arise, and that they say which wave lists are seamless.
-use Rattle.std.proofs.Common.{◌≡◌, ◌≢◌, ℕ, ◌^◌, ◌<◌, ◌≤◌, ◌⊎◌, inl, inr, List, [], ◌∷◌, length, Contains, AllPairs, refl, sym, ap, ◌∙◌, subst, arith}
+use Rattle.std.proofs.Common.{◌≡◌, ◌≢◌, ℕ, ◌^◌, ◌<◌, ◌≤◌, ◌⊎◌, inl, inr, List, [], ◌∷◌, length, Contains, AllPairs}
+use Rattle.std.proofs.Common.{refl, sym, ap, ◌∙◌, subst, arith}
 use Rattle.std.proofs.lemmas.Bool.{cases_lt, cases_eq}
 use Rattle.std.proofs.lemmas.List.Elements.{Contains-get_or}
 use Rattle.net_model.specs.Network.{Network}
 use Rattle.order_core.specs.Orders.{AreDistinct}
 use Rattle.order_core.specs.Rankings.{IsRanking, rank_of}
-use Rattle.order_core.specs.Turns.{routers_of, old_routers, new_routers}
+use Rattle.order_core.specs.Turns.{routers_of, old_routers, new_routers, RanksSomeOldFirst}
 use Rattle.order_core.specs.declared.turn.Tag.{Tag}
 use Rattle.order_core.specs.declared.turn.Tag.TheVariants as tag
 use Rattle.order_core.specs.declared.turn.Turn.{Turn}
 use Rattle.igp_theory.specs.Forwarding.{Steps}
-use Rattle.igp_theory.specs.LoopLaws.{AgreesWithTags, AreSoundEnds, IsLoopOfState, ArisesInWave}
-use Rattle.igp_theory.specs.LoopLaws.{StandsRoundWave, PutsSomeOldFirst, PutsSomeOldFirstInEach, IsLoopOfWave}
+use Rattle.igp_theory.specs.LoopLaws.{AgreesWithTags, AreSoundEnds, IsLoopOfState, ArisesInWave, StandsRoundWave, PutsSomeOldFirstInEach, IsLoopOfWave}
 use Rattle.igp_theory.specs.Loops.{IsTagOf, IsTag, EachToNext, AroundRing, IsLoop, Arises, Fault, loop}
 use Rattle.igp_theory.specs.Routes.{Tables}
 use Rattle.igp_theory.specs.States.{State, StepsIn, Follows, IsSound}
@@ -23,12 +23,12 @@ use Rattle.igp_theory.specs.declared.phase.Phase.TheVariants.{Old, Middle, New}
 use Rattle.igp_theory.proofs.Delivery.{contains_or_not}
 use Rattle.igp_theory.proofs.FlatOrders.{wave_state_is_reached}
 use Rattle.igp_theory.proofs.ForwardingLaws.{every_phase_steps}
-use Rattle.igp_theory.proofs.LoopLaws.{old_turn, new_turn, old_or_new_step, tag_inside, loop_arises_by_tags}
-use Rattle.igp_theory.proofs.LoopLaws.{arising_is_unsound, old_is_early, new_is_late, ring_between_ends}
+use Rattle.igp_theory.proofs.LoopLaws.{old_turn, new_turn, old_or_new_step, tag_inside, loop_arises_by_tags, arising_is_unsound, old_is_early, new_is_late}
+use Rattle.igp_theory.proofs.LoopLaws.{ring_between_ends}
 use Rattle.net_model.proofs.Members.{Contains-none, Contains-first, Contains-rest, Contains-cases}
 use Rattle.igp_theory.proofs.OrderedLists.{pairs_first, pairs_rest}
-use Rattle.igp_theory.proofs.Rings.{each_inside, ring_returns, around_at, StepRing, ring_of_return, around_of_routers}
-use Rattle.igp_theory.proofs.Rings.{turns_distinct, one_turn, some_turn, found_goes_round, found_distinct}
+use Rattle.igp_theory.proofs.Rings.{each_inside, ring_returns, around_at, StepRing, ring_of_return, around_of_routers, turns_distinct, one_turn, some_turn}
+use Rattle.igp_theory.proofs.Rings.{found_goes_round, found_distinct}
 use Rattle.igp_theory.proofs.Tags.{IsTagTo, AreTagged}
 use Rattle.igp_theory.proofs.WaveStates.{state_of_wave}
 
@@ -217,7 +217,7 @@ seamless_puts_old_first net old new ranks seamless a ring is both =
     let w : ℕ = rank_of ranks last.0 in
     let within : last.0 < length ranks = let k = new_inside net old new a ring last.0 is.tags last.1.among in omega (arith, k, seamless.waves.each) in
     elim (earlier_or_none ranks w (old_routers ring)) [
-      | inl one ↦ record { old = one.0; new = last.0; is_old = one.1; is_new = last.1.among; before = one.2 }
+      | inl one ↦ record { old = one.0; new = last.0; is_old = one.1; is_new = last.1.among; keeps = one.2 }
       | inr none ↦
           let there : ArisesInWave net old new ranks w a ring = arises_in_wave net old new ranks w a ring is (record { new = last.1.latest; old = none }) in
           let reached : IsWavesState (length net) ranks there.state = wave_state_is_reached (length net) ranks there.state seamless.waves
@@ -297,7 +297,8 @@ tagged_ring net old new state a u rest goes none =
     tagged_turns net old new state a (record { router = u; tag = tag.Both }) (u ∷ rest) goes (λ turns. none (close_ring u rest turns))
 
 -- what a ring between sound ends in a state of a wave would say of the wave list
-ring_breaks : (net : Network) (old new : Tables) (ranks : List ℕ) (w : ℕ) (state : State) (a u : ℕ) (rest : List ℕ) → AreSoundEnds net old new → a < 2 ^ 32 →
+ring_breaks : (net : Network) (old new : Tables) (ranks : List ℕ) (w : ℕ) (state : State) (a u : ℕ) (rest : List ℕ) →
+    AreSoundEnds net old new → a < 2 ^ 32 →
     PutsSomeOldFirstInEach net old new ranks → IsStateOfWave (length net) ranks w state → AreDistinct (u ∷ rest) →
     AroundRing (StepsIn net old new state a) (u ∷ rest) → TaggedRing net old new a (u ∷ rest) → ⊥
 ring_breaks net old new ranks w state a u rest ends address puts of_wave distinct goes tagged =
@@ -306,11 +307,11 @@ ring_breaks net old new ranks w state a u rest ends address puts of_wave distinc
     (subst (AroundRing (StepsIn net old new state a)) (sym tagged.same) goes) in
     let is : IsLoopOfState net old new state a tagged.ring = ring_between_ends net old new state a tagged.ring ends address some
     (turns_distinct tagged.ring (subst AreDistinct (sym tagged.same) distinct)) tagged.tags arises in
-    let first : PutsSomeOldFirst ranks tagged.ring = puts a tagged.ring is.is_loop is.both in
+    let first : RanksSomeOldFirst ranks tagged.ring = puts a tagged.ring is.is_loop is.both in
     let round : StandsRoundWave ranks w tagged.ring = stands_round net old new ranks w state a tagged.ring tagged.tags of_wave arises in
     let upto = round.new first.new first.is_new in
     let from = round.old first.old first.is_old in
-    let before = first.before in
+    let before = first.keeps in
     omega (arith, upto, from, before)
 
 wave_is_sound : (net : Network) (old new : Tables) (ranks : List ℕ) (w : ℕ) (state : State) → AreSoundEnds net old new →
@@ -324,7 +325,7 @@ wave_is_sound net old new ranks w state ends puts of_wave a address = record {
 }
 
 -- a network without a router has sound states alone
-empty_is_sound : (net : Network) (old new : Tables) (state : State) → length net ≤ 0 → IsSound net old new state
+pub empty_is_sound : (net : Network) (old new : Tables) (state : State) → length net ≤ 0 → IsSound net old new state
 empty_is_sound net old new state none a address = record {
   forwards = λ u must. let within = must.router in absurd (omega (arith, within, none));
   returns_never = λ u h hops follows. let within = follows.0.must.router in omega (arith, within, none);
@@ -360,7 +361,8 @@ put_of_wave n ranks w u one state is_one is = record {
   later = λ v below after. by_router v (cases_eq v u) Old (is_one.later v below after) (is.later v below after);
 }
   where
-    by_router : (v : ℕ) (either : (v ≡ u) ⊎ (v ≡ u → ⊥)) (phase : Phase) → one v ≡ phase → state v ≡ phase → pick either (one u) (state v) ≡ phase
+    by_router : (v : ℕ) (either : (v ≡ u) ⊎ (v ≡ u → ⊥)) (phase : Phase) → one v ≡ phase → state v ≡ phase →
+        pick either (one u) (state v) ≡ phase
     by_router v (inl same) phase first second = ap one (sym same) ∙ first
     by_router v (inr apart) phase first second = second
 
@@ -416,7 +418,8 @@ seamless_by_waves net old new ranks waves sound = record {
 -- The fault of a wave between sound ends
 
 -- a ring over every hop of a wave's states, with its tags, is a loop of the wave
-ring_of_wave : (net : Network) (old new : Tables) (ranks : List ℕ) (w a : ℕ) (ring : List Turn) (u : ℕ) (rest : List ℕ) → AreSoundEnds net old new →
+ring_of_wave : (net : Network) (old new : Tables) (ranks : List ℕ) (w a : ℕ) (ring : List Turn) (u : ℕ) (rest : List ℕ) →
+    AreSoundEnds net old new →
     a < 2 ^ 32 → routers_of ring ≡ u ∷ rest → AreDistinct (routers_of ring) → AreTagged net old new a ring →
     AroundRing (StepsInSome net old new (IsStateOfWave (length net) ranks w) a) (routers_of ring) → IsLoopOfWave net old new ranks w (loop a ring)
 ring_of_wave net old new ranks w a ring u rest ends address begins distinct tags goes =

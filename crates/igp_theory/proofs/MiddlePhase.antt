@@ -53,7 +53,8 @@ steps_as : {net : Network} {old new : Tables} {u a h : ℕ} (phase other : Phase
     ((x : Usable) → Uses net old new u phase a x → Uses net old new u other a x) → Steps net old new u phase a h → Steps net old new u other a h
 steps_as phase other over steps = record { must = steps.must; used = steps.used; uses = over steps.used steps.uses; leads = steps.leads }
 
-acts_as : (net : Network) (old new : Tables) (u a : ℕ) (phase : Phase) → ((x : Usable) → Uses net old new u Middle a x → Uses net old new u phase a x) →
+acts_as : (net : Network) (old new : Tables) (u a : ℕ) (phase : Phase) → ((x : Usable) → Uses net old new u Middle a x →
+    Uses net old new u phase a x) →
     ((x : Usable) → Uses net old new u phase a x → Uses net old new u Middle a x) → MiddleActsAsIn net old new u a phase
 acts_as net old new u a phase over back = record {
   used = λ x. (over x, back x);
@@ -138,7 +139,8 @@ as_connected net old new u a x y best other apart same near = acts_as net old ne
       | inr counts ↦ let k : uses.prefix.len ≤ other.prefix.len = other.longest uses.prefix uses.distance z counts uses.contains in omega (arith, k, same)
     ] in
     let up : best.prefix.len ≤ uses.prefix.len = uses.longest best.prefix best.distance x (old_in_middle best.counts) best.contains in
-    let closer : uses.distance ≤ best.distance = uses.lowest best.prefix best.distance x (old_in_middle best.counts) best.contains (omega (arith, up, down)) in
+    let closer : uses.distance ≤ best.distance =
+    uses.lowest best.prefix best.distance x (old_in_middle best.counts) best.contains (omega (arith, up, down)) in
     old_of_middle uses (near_counts apart (omega (arith, closer, near)) uses.counts))
     (λ z uses.
     let up : best.prefix.len ≤ uses.prefix.len = uses.longest best.prefix best.distance x best.counts best.contains in

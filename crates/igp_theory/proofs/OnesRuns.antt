@@ -1,6 +1,6 @@
 -- An order as a wave list of ones: it has its ranks, and one run.
-use Rattle.std.proofs.Common.{◌≡◌, ◌≢◌, ℕ, zero, suc, ◌+◌, ◌<◌, ◌⊎◌, inl, inr, ◌==◌, if◌then◌else◌, Bool}
-use Rattle.std.proofs.Common.{List, [], ◌∷◌, length, map, get_or, Contains, refl, sym, ap, ◌∙◌, subst, arith}
+use Rattle.std.proofs.Common.{◌≡◌, ◌≢◌, ℕ, zero, suc, ◌+◌, ◌<◌, ◌⊎◌, inl, inr, ◌==◌, if◌then◌else◌, Bool, List, []}
+use Rattle.std.proofs.Common.{◌∷◌, length, map, get_or, Contains, refl, sym, ap, ◌∙◌, subst, arith}
 use Rattle.std.specs.List.{AllPairs}
 use Rattle.std.proofs.lemmas.Bool.Decides.{eqb_tells}
 use Rattle.std.proofs.lemmas.List.{get_or-map, length-map}
@@ -9,9 +9,11 @@ use Rattle.std.proofs.lemmas.List.FromFn.{get_or-range_with_len, length-range_wi
 use Rattle.order_core.specs.Orders.{IsOrder}
 use Rattle.order_core.specs.Rankings.{IsRanking, numbers_below}
 use Rattle.order_core.proofs.Orders.{order_length}
-use Rattle.igp_theory.specs.Waves.{Change, first, second, changed, MayPrecede, IsRun, AreOnes, run_along}
+use Rattle.net_model.specs.Network.{Network}
+use Rattle.igp_theory.specs.Routes.{Tables}
+use Rattle.igp_theory.specs.Waves.{AreSeamlessWaves, HasNoneSeamless, Change, first, second, changed, MayPrecede, IsRun, AreOnes, run_along}
 use Rattle.igp_theory.proofs.FlatOrders.{along_is_run}
-use Rattle.igp_theory.proofs.OnesWaves.{ones_are_waves, ones_in_turn, rank_tells}
+use Rattle.igp_theory.proofs.OnesWaves.{ones_are_waves, ones_in_turn, rank_tells, order_is_seamless}
 use Rattle.net_model.proofs.Members.{Contains-none, Contains-first, Contains-rest, Contains-cases}
 use Rattle.igp_theory.proofs.OrderedLists.{pairs_first, pairs_rest}
 
@@ -97,7 +99,8 @@ one_way ranks (second u) (second v) same one two = one.other (ap second same)
 one_way ranks (first u) (second v) same one two = two.half v refl (ap first same)
 one_way ranks (second u) (first v) same one two = one.half u refl (ap first (sym same))
 
-pub order_has_one_run : (n : ℕ) (order ranks : List ℕ) (run : List Change) → IsOrder n order → AreOnes order ranks → IsRun n ranks run → run ≡ run_along order
+pub order_has_one_run : (n : ℕ) (order ranks : List ℕ) (run : List Change) → IsOrder n order → AreOnes order ranks → IsRun n ranks run →
+    run ≡ run_along order
 order_has_one_run n order ranks run lists ones is =
     let along : IsRun n ranks (run_along order) = along_is_run n ranks order lists (ones_in_turn n order ranks lists ones) in
     same_in_turn (MayPrecede ranks) run (run_along order) is.in_turn along.in_turn
@@ -107,3 +110,12 @@ order_has_one_run n order ranks run lists ones is =
     one_way ranks c d (rank_tells n order ranks (changed c) (changed d) lists ones ((is.all c).0 left) ((is.all d).0 right) (omega (arith, up, down))) one two)
     (λ c inside. (along.all c).1 ((is.all c).0 inside))
     (λ c inside. (is.all c).1 ((along.all c).0 inside))
+
+-- where no wave list is seamless, no order is: as a wave list of ones it would be one
+pub none_without_waves : (net : Network) (old new : Tables) → ((ranks : List ℕ) → ¬ AreSeamlessWaves net old new ranks) → HasNoneSeamless net old new
+none_without_waves net old new none = record {
+  waves = none;
+  orders = λ order seamless.
+      let ones = order_has_ones (length net) order seamless.lists in
+      none ones.0 (order_is_seamless net old new order ones.0 seamless ones.1);
+}

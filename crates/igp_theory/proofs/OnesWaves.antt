@@ -1,6 +1,6 @@
 -- An order is a wave list of ones: its states are those of the order.
-use Rattle.std.proofs.Common.{◌≡◌, ◌≢◌, ℕ, zero, suc, ◌+◌, ◌-◌, ◌*◌, ◌<◌, ◌≤◌, inl, inr, ◌==◌, if◌then◌else◌, Bool}
-use Rattle.std.proofs.Common.{List, [], ◌∷◌, length, take, min, get_or, Contains, arith, refl, sym, ap, ◌∙◌, subst}
+use Rattle.std.proofs.Common.{◌≡◌, ◌≢◌, ℕ, zero, suc, ◌+◌, ◌-◌, ◌*◌, ◌<◌, ◌≤◌, inl, inr, ◌==◌, if◌then◌else◌}
+use Rattle.std.proofs.Common.{Bool, List, [], ◌∷◌, length, take, min, get_or, Contains, arith, refl, sym, ap, ◌∙◌, subst}
 use Rattle.std.specs.List.{AllPairs}
 use Rattle.std.proofs.lemmas.Bool.{cases_lt, cases_order}
 use Rattle.std.proofs.lemmas.Bool.Decides.{eqb_tells}
@@ -60,7 +60,8 @@ count_at u (v ∷ order) zero (suc zero) distinct within at =
     let own = tally_own u v (sym at) in omega (arith, own)
 count_at u (v ∷ order) zero (suc (suc k)) distinct within at =
     let own = tally_own u v (sym at) in
-    let rest : changes_on u (take k (changes_of order)) ≡ 0 = count_absent u order k (λ inside. pairs_first (λ x y. x ≢ y) v order distinct u inside at) in
+    let rest : changes_on u (take k (changes_of order)) ≡ 0 =
+    count_absent u order k (λ inside. pairs_first (λ x y. x ≢ y) v order distinct u inside at) in
     omega (arith, own, rest)
 count_at u (v ∷ order) (suc p) zero distinct within at = omega arith
 count_at u (v ∷ order) (suc p) (suc zero) distinct within at =

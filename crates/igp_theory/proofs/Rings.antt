@@ -1,6 +1,6 @@
 -- Rings: each element and the next one.
-use Rattle.std.proofs.Common.{◌≡◌, ◌≢◌, ℕ, zero, suc, ◌<◌, ◌≤◌, ◌⊎◌, inl, inr, List, []}
-use Rattle.std.proofs.Common.{◌∷◌, ◌++◌, length, Contains, AllPairs, refl, sym, ap, ◌∙◌, subst, arith}
+use Rattle.std.proofs.Common.{◌≡◌, ◌≢◌, ℕ, zero, suc, ◌<◌, ◌≤◌, ◌⊎◌, inl, inr, List, [], ◌∷◌, ◌++◌, length, Contains}
+use Rattle.std.proofs.Common.{AllPairs, refl, sym, ap, ◌∙◌, subst, arith}
 use Rattle.std.proofs.lemmas.List.{append-nil}
 use Rattle.std.proofs.lemmas.List.Elements.{Contains-append_left}
 use Rattle.order_core.specs.Orders.{AreDistinct}
@@ -20,8 +20,11 @@ pub each_inside : {A : Type 0} (R S : A → A → Type 0) (first : A) (ring : Li
     EachToNext R first ring → EachToNext S first ring
 each_inside R S first [] over goes = tt
 each_inside R S first (r ∷ []) over goes = over r first (Contains-first r []) goes
-each_inside R S first (r ∷ s ∷ rest) over goes =
-    (over r s (Contains-first r (s ∷ rest)) goes.0, each_inside R S first (s ∷ rest) (λ x y inside. over x y (Contains-rest r (s ∷ rest) x inside)) goes.1)
+each_inside R S first (r ∷ s ∷ rest) over goes = (
+  over r s (Contains-first r (s ∷ rest)) goes.0,
+  each_inside R S first (s ∷ rest) (λ x y inside. over x y (Contains-rest r (s ∷ rest) x inside))
+      goes.1,
+)
 
 pub around_inside : {A : Type 0} (R S : A → A → Type 0) (ring : List A) → ((r s : A) → Contains ring r → R r s → S r s) →
     AroundRing R ring → AroundRing S ring
@@ -35,7 +38,8 @@ each_both R S first [] one two = tt
 each_both R S first (r ∷ []) one two = (one, two)
 each_both R S first (r ∷ s ∷ rest) one two = ((one.0, two.0), each_both R S first (s ∷ rest) one.1 two.1)
 
-pub around_both : {A : Type 0} (R S : A → A → Type 0) (ring : List A) → AroundRing R ring → AroundRing S ring → AroundRing (λ r s. R r s × S r s) ring
+pub around_both : {A : Type 0} (R S : A → A → Type 0) (ring : List A) → AroundRing R ring → AroundRing S ring →
+    AroundRing (λ r s. R r s × S r s) ring
 around_both R S [] one two = tt
 around_both R S (r ∷ rest) one two = each_both R S r (r ∷ rest) one two
 
@@ -67,7 +71,8 @@ each_take R f y [] ys goes = tt
 each_take R f y (x ∷ []) ys goes = goes.0
 each_take R f y (x ∷ z ∷ rest) ys goes = (goes.0, each_take R f y (z ∷ rest) ys goes.1)
 
-each_join : {A : Type 0} (R : A → A → Type 0) (f y : A) (xs ys : List A) → EachToNext R y xs → EachToNext R f (y ∷ ys) → EachToNext R f (xs ++ y ∷ ys)
+each_join : {A : Type 0} (R : A → A → Type 0) (f y : A) (xs ys : List A) → EachToNext R y xs → EachToNext R f (y ∷ ys) →
+    EachToNext R f (xs ++ y ∷ ys)
 each_join R f y [] ys goes rest = rest
 each_join R f y (x ∷ []) ys goes rest = (goes, rest)
 each_join R f y (x ∷ z ∷ more) ys goes rest = (goes.0, each_join R f y (z ∷ more) ys goes.1 rest)
@@ -120,7 +125,8 @@ record LeadsShort (step : ℕ → ℕ → Type 0) (u v most : ℕ) : Type 0 wher
   follows : Follows step u (hop ∷ hops) v
   short : length (hop ∷ hops) ≤ most
 
-leads_short : (step : ℕ → ℕ → Type 0) (u : ℕ) (hops : List ℕ) (v w : ℕ) → Follows step u hops v → Contains hops w → LeadsShort step u w (length hops)
+leads_short : (step : ℕ → ℕ → Type 0) (u : ℕ) (hops : List ℕ) (v w : ℕ) → Follows step u hops v → Contains hops w →
+    LeadsShort step u w (length hops)
 leads_short step u [] v w follows among = absurd (Contains-none w among)
 leads_short step u (h ∷ hops) v w follows among = elim (Contains-cases h hops w among) [
   | inl same ↦ record { hop = h; hops = []; follows = (follows.0, same); short = omega arith }
@@ -156,7 +162,8 @@ pub record StepRing (step : ℕ → ℕ → Type 0) : Type 0 where
   pub goes : AroundRing step (first ∷ others)
 
 -- a list of steps whose last router steps to `first`
-round_from : (step : ℕ → ℕ → Type 0) (first u : ℕ) (hops : List ℕ) (v : ℕ) → Follows step u hops v → step v first → EachToNext step first (u ∷ hops)
+round_from : (step : ℕ → ℕ → Type 0) (first u : ℕ) (hops : List ℕ) (v : ℕ) → Follows step u hops v → step v first →
+    EachToNext step first (u ∷ hops)
 round_from step first u [] v follows last = subst (λ (x : ℕ). step x first) (sym follows) last
 round_from step first u (h ∷ hops) v follows last = (follows.0, round_from step first h hops v follows.1 last)
 
@@ -192,7 +199,8 @@ some_turn (t ∷ ring) u others begins = omega arith
 routers_contain : (ring : List Turn) (t : Turn) → Contains ring t → Contains (routers_of ring) t.router
 routers_contain [] t inside = absurd (Contains-none t inside)
 routers_contain (r ∷ rest) t inside = elim (Contains-cases r rest t inside) [
-  | inl same ↦ subst (λ (u : ℕ). Contains (r.router ∷ routers_of rest) u) (ap (λ (x : Turn). x.router) same) (Contains-first r.router (routers_of rest))
+  | inl same ↦ subst (λ (u : ℕ). Contains (r.router ∷ routers_of rest) u) (ap (λ (x : Turn). x.router) same)
+      (Contains-first r.router (routers_of rest))
   | inr later ↦ Contains-rest r.router (routers_of rest) t.router (routers_contain rest t later)
 ]
 
@@ -218,7 +226,8 @@ one_turn (t ∷ rest) r s distinct one two same = elim (Contains-cases t rest r 
 ]
 
 -- a ring of steps returns to its first router
-each_follows : (step : ℕ → ℕ → Type 0) (first u : ℕ) (rest : List ℕ) → EachToNext step first (u ∷ rest) → Follows step u (rest ++ first ∷ []) first
+each_follows : (step : ℕ → ℕ → Type 0) (first u : ℕ) (rest : List ℕ) → EachToNext step first (u ∷ rest) →
+    Follows step u (rest ++ first ∷ []) first
 each_follows step first u [] goes = (goes, refl)
 each_follows step first u (s ∷ rest) goes = (goes.0, each_follows step first s rest goes.1)
 

@@ -5,7 +5,8 @@ use Rattle.net_model.specs.Network.{Network}
 use Rattle.order_core.specs.declared.turn.Turn.{Turn}
 use Rattle.igp_theory.specs.Forwarding.{Usable, Counts, connected_counts, old_counts, new_counts, Uses, Steps, HasStep}
 use Rattle.igp_theory.specs.Laws.{HaveSameTables}
-use Rattle.igp_theory.specs.Loops.{IsTag, EachToNext, AroundRing, IsLoop, Arises, Fault, IsLive, IsLowestLive, IsLowestLiveHop, IsFoundRing, IsFault, missing_step, loop_arises, IsFirstFault}
+use Rattle.igp_theory.specs.Loops.{IsTag, EachToNext, AroundRing, IsLoop, Arises, Fault, IsLive, IsLowestLive, IsLowestLiveHop, IsFoundRing, IsFault}
+use Rattle.igp_theory.specs.Loops.{missing_step, loop_arises, IsFirstFault}
 use Rattle.igp_theory.specs.Routes.{Tables}
 use Rattle.igp_theory.specs.States.{State, StepsIn, Follows, IsSoundAt, IsSound, IsSeamless}
 use Rattle.igp_theory.specs.declared.phase.Phase.{Phase}

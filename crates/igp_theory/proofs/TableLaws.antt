@@ -1,5 +1,6 @@
 -- Both protocols' tables: one entry for a prefix, whose hops are neighbors.
-use Rattle.std.proofs.Common.{◌≡◌, ℕ, zero, suc, ◌<◌, ◌↔◌, ◌⊎◌, inl, inr, Bool, true, false, ◌==◌, List, [], ◌∷◌, Contains, refl, sym, ◌∙◌, ap, subst, arith}
+use Rattle.std.proofs.Common.{◌≡◌, ℕ, zero, suc, ◌<◌, ◌↔◌, ◌⊎◌, inl, inr, Bool, true, false, ◌==◌, List, [], ◌∷◌, Contains}
+use Rattle.std.proofs.Common.{refl, sym, ◌∙◌, ap, subst, arith}
 use Rattle.std.specs.List.{AllPairs}
 use Rattle.std.proofs.lemmas.List.Kept.{AllPairs-from_increasing}
 use Rattle.std.proofs.lemmas.List.Elements.{All-contains}
@@ -13,9 +14,11 @@ use Rattle.walk_core.proofs.WalkLaws.{SameOffers, same_offers_sym, best_cost_ove
 use Rattle.route_core.specs.Hops.{AreHops}
 use Rattle.route_core.specs.declared.entry.Entry.{Entry}
 use Rattle.route_core.specs.declared.entry.Entry.TheVariants.{Via, Discard}
-use Rattle.igp_theory.specs.Isis.{RunsTwo, OffersOne, OneHop, TwoHop, DownHop, DefaultCost, DefaultHop, IsOne, IsTwo, IsDown, IsisEntry, level_one, level_two, down, default_route}
+use Rattle.igp_theory.specs.Isis.{RunsTwo, OffersOne, OneHop, TwoHop, DownHop, DefaultCost, DefaultHop, IsOne, IsTwo, IsDown, IsisEntry, level_one, level_two}
+use Rattle.igp_theory.specs.Isis.{down, default_route}
 use Rattle.igp_theory.specs.Laws.{KeepsOneArea, IsOspfNeighbor, IsIsisNeighbor, Forwards}
-use Rattle.igp_theory.specs.Ospf.{OffersSubnet, OfOthers, BackboneSummary, BorderCost, Summary, into_backbone, into_area, IntraAreaCost, IntraAreaHop, IsIntraArea, ListensTo, backbone, one_area, InterAreaCost, InterAreaHop, OspfEntry, intra_area, discard, inter_area}
+use Rattle.igp_theory.specs.Ospf.{OffersSubnet, OfOthers, BackboneSummary, BorderCost, Summary, into_backbone, into_area, IntraAreaCost, IntraAreaHop}
+use Rattle.igp_theory.specs.Ospf.{IsIntraArea, ListensTo, backbone, one_area, InterAreaCost, InterAreaHop, OspfEntry, intra_area, discard, inter_area}
 use Rattle.igp_theory.specs.Routes.{ForwardsTo, EntryLeadsTo}
 
 -- Ascending lists

@@ -16,8 +16,8 @@ use Rattle.igp_theory.specs.Waves.{AreSeamlessWaves, IsStateOfWave}
 use Rattle.igp_theory.proofs.FaultLaws.{fault_is_unsound}
 use Rattle.igp_theory.proofs.FlatOrders.{wave_state_is_reached}
 use Rattle.igp_theory.proofs.FoundRings.{found_ring_unique}
-use Rattle.igp_theory.proofs.SameTables.{same_tables_sym, steps_over, has_step_over, follows_over, sound_at_over}
-use Rattle.igp_theory.proofs.SameTables.{sound_over, around_ring_over, tag_over, SameHops, found_ring_over}
+use Rattle.igp_theory.proofs.SameTables.{same_tables_sym, steps_over, has_step_over, follows_over, sound_at_over, sound_over, around_ring_over, tag_over}
+use Rattle.igp_theory.proofs.SameTables.{SameHops, found_ring_over}
 use Rattle.igp_theory.proofs.Tags.{AreTagged, same_tagged}
 
 -- One fault

@@ -1,6 +1,6 @@
 -- The states of a wave list are those of its waves.
-use Rattle.std.proofs.Common.{◌≡◌, ◌≢◌, ℕ, zero, suc, ◌+◌, ◌<◌, ◌≤◌, ◌⊎◌, inl, inr, ◌==◌, if◌then◌else◌, Bool, List}
-use Rattle.std.proofs.Common.{[], ◌∷◌, ◌++◌, length, map, take, drop, Contains, arith, refl, sym, ap, ◌∙◌, subst}
+use Rattle.std.proofs.Common.{◌≡◌, ◌≢◌, ℕ, zero, suc, ◌+◌, ◌<◌, ◌≤◌, ◌⊎◌, inl, inr, ◌==◌, if◌then◌else◌, Bool}
+use Rattle.std.proofs.Common.{List, [], ◌∷◌, ◌++◌, length, map, take, drop, Contains, arith, refl, sym, ap, ◌∙◌, subst}
 use Rattle.std.specs.List.{AllPairs, flat_map}
 use Rattle.std.proofs.lemmas.Bool.{cases_lt, cases_eq}
 use Rattle.std.proofs.lemmas.Bool.Decides.{eqb_tells}
@@ -147,7 +147,8 @@ is_wave n ranks run k some waves is_run last = elim last.of_one [
       subst (λ (w : ℕ). Contains ranks w) one.2 (Contains-get_or ranks (changed one.0) 0 within)
 ]
 
-pub state_of_wave : (n : ℕ) (ranks : List ℕ) (state : State) → 0 < n → IsRanking n ranks → IsWavesState n ranks state → IsStateOfSomeWave n ranks state
+pub state_of_wave : (n : ℕ) (ranks : List ℕ) (state : State) → 0 < n → IsRanking n ranks → IsWavesState n ranks state →
+    IsStateOfSomeWave n ranks state
 state_of_wave n ranks state some waves is =
     let last : LastWave ranks (take is.k is.run) = last_wave ranks (take is.k is.run) in
     record {
@@ -193,7 +194,8 @@ own_part f (u ∷ order) c own inside = elim (Contains-append_cases (f u) (flat_
   | inr there ↦ own_part f order c own there
 ]
 
-pub inside_whole : (f : ℕ → List Change) (order : List ℕ) (u : ℕ) (c : Change) → Contains order u → Contains (f u) c → Contains (flat_map f order) c
+pub inside_whole : (f : ℕ → List Change) (order : List ℕ) (u : ℕ) (c : Change) → Contains order u → Contains (f u) c →
+    Contains (flat_map f order) c
 inside_whole f [] u c router inside = absurd (Contains-none u router)
 inside_whole f (v ∷ order) u c router inside = elim (Contains-cases v order u router) [
   | inl same ↦ Contains-append_left (f v) (flat_map f order) c (subst (λ (w : ℕ). Contains (f w) c) (sym same) inside)
@@ -224,7 +226,8 @@ in_turn_along ranks f (u ∷ order) own each turns =
     (pairs_first (InWaveOrder ranks) u order turns (changed d) (own_inside f order d own there))))
 
 -- what is made on a router is what is made at its place
-count_along : (ranks : List ℕ) (f : ℕ → List Change) (order : List ℕ) (u : ℕ) → AreOwn f → AllPairs (InWaveOrder ranks) order → Contains order u →
+count_along : (ranks : List ℕ) (f : ℕ → List Change) (order : List ℕ) (u : ℕ) → AreOwn f →
+    AllPairs (InWaveOrder ranks) order → Contains order u →
     changes_on u (map changed (flat_map f order)) ≡ changes_on u (map changed (f u))
 count_along ranks f [] u own turns router = absurd (Contains-none u router)
 count_along ranks f (v ∷ order) u own turns router =

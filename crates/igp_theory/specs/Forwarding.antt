@@ -61,7 +61,8 @@ pub record Uses (net : Network) (old new : Tables) (u : ℕ) (phase : Phase) (a 
   pub counts : Counts net old new u phase prefix distance used
   pub contains : ContainsAddress prefix a
   pub longest : (q : Block) (d : ℕ) (other : Usable) → Counts net old new u phase q d other → ContainsAddress q a → q.len ≤ prefix.len
-  pub lowest : (q : Block) (d : ℕ) (other : Usable) → Counts net old new u phase q d other → ContainsAddress q a → q.len ≡ prefix.len → distance ≤ d
+  pub lowest : (q : Block) (d : ℕ) (other : Usable) → Counts net old new u phase q d other → ContainsAddress q a →
+      q.len ≡ prefix.len → distance ≤ d
 
 -- Steps
 

@@ -154,5 +154,6 @@ pub data IsisEntry (net : Network) (u : ℕ) (p : Block) (e : Entry) : Type 0 wh
   level_two : (Connected net u p → ⊥) → (IsOne net p u → ⊥) → IsTwo net p u → ForwardsTo (TwoHop net p u) e → IsisEntry net u p e
   down : (Connected net u p → ⊥) → (IsOne net p u → ⊥) → (IsTwo net p u → ⊥) → IsDown net p u → ForwardsTo (DownHop net p u) e →
       IsisEntry net u p e
-  default_route : (Connected net u p → ⊥) → (IsOne net p u → ⊥) → (IsTwo net p u → ⊥) → (IsDown net p u → ⊥) → p ≡ default_prefix → (cost : ℕ) →
+  default_route : (Connected net u p → ⊥) → (IsOne net p u → ⊥) → (IsTwo net p u → ⊥) → (IsDown net p u → ⊥) →
+      p ≡ default_prefix → (cost : ℕ) →
       DefaultCost net u cost → ForwardsTo (DefaultHop net u) e → IsisEntry net u p e

@@ -1,12 +1,12 @@
 -- What the laws of loops say: state by state, and wave by wave (Vanbever et al., SIGCOMM 2011).
-use Rattle.std.specs.Prelude.{◌≡◌, ℕ, ◌<◌, ◌≤◌, ◌↔◌, ◌⊎◌, List, ◌∷◌, length, Contains}
+use Rattle.std.specs.Prelude.{◌≡◌, ℕ, ◌≤◌, ◌↔◌, ◌⊎◌, List, ◌∷◌, length, Contains}
 use Rattle.net_model.specs.Network.{Network}
 use Rattle.order_core.specs.Rankings.{IsRanking, rank_of}
-use Rattle.order_core.specs.Turns.{old_routers, new_routers, HasBothTags}
+use Rattle.order_core.specs.Turns.{old_routers, new_routers, HasBothTags, RanksSomeOldFirst}
 use Rattle.order_core.specs.declared.turn.Turn.{Turn}
 use Rattle.igp_theory.specs.Loops.{IsLoop, Arises, Fault, loop, IsFault}
 use Rattle.igp_theory.specs.Routes.{Tables}
-use Rattle.igp_theory.specs.States.{State, Follows, IsSound}
+use Rattle.igp_theory.specs.States.{State, Follows, IsSound, all_old, all_new}
 use Rattle.igp_theory.specs.WaveFaults.{StepsInSome, IsUnsoundInSome, IsWavesFault}
 use Rattle.igp_theory.specs.Waves.{AreSeamlessWaves, IsStateOfWave}
 use Rattle.igp_theory.specs.declared.phase.Phase.TheVariants.{Old, Middle, New}
@@ -30,10 +30,10 @@ ArisingLoopsAreUnsound old new =
     (net : Network) (state : State) (a : ℕ) (ring : List Turn) → IsLoop net old new a ring → Arises net old new state a ring →
     IsSound net old new state → ⊥
 
--- the ends are sound: the states in which every router is Old, and New
+-- the ends are sound
 pub record AreSoundEnds (net : Network) (old new : Tables) : Type 0 where
-  pub first : IsSound net old new (λ (u : ℕ). Old)
-  pub last : IsSound net old new (λ (u : ℕ). New)
+  pub first : IsSound net old new all_old
+  pub last : IsSound net old new all_new
 
 -- a loop of the network that arises in a state, with a turn tagged Old and one tagged New: each of its
 -- routers tagged Old is in Old or Middle there, and each tagged New in Middle or New
@@ -90,18 +90,10 @@ ReturnsInWavesAreUnsound old new =
     Follows (StepsInSome net old new (IsStateOfWave (length net) ranks w) a) u (h ∷ hops) u →
     IsUnsoundInSome net old new (IsStateOfWave (length net) ranks w) a
 
--- a wave list puts some router tagged Old in an earlier wave than some router tagged New
-pub record PutsSomeOldFirst (ranks : List ℕ) (ring : List Turn) : Type 0 where
-  pub old : ℕ
-  pub new : ℕ
-  pub is_old : Contains (old_routers ring) old
-  pub is_new : Contains (new_routers ring) new
-  pub before : rank_of ranks old < rank_of ranks new
-
--- it does so for each loop of the network with both tags
+-- a wave list puts some router tagged Old of each loop with both tags in an earlier wave than some router tagged New
 abbrev pub PutsSomeOldFirstInEach : Network → Tables → Tables → List ℕ → Type 0
 PutsSomeOldFirstInEach net old new ranks =
-    (a : ℕ) (ring : List Turn) → IsLoop net old new a ring → HasBothTags ring → PutsSomeOldFirst ranks ring
+    (a : ℕ) (ring : List Turn) → IsLoop net old new a ring → HasBothTags ring → RanksSomeOldFirst ranks ring
 
 -- whatever the ends, a wave list that is seamless does so
 abbrev pub SeamlessWavesPutOldFirst : Tables → Tables → Type 0

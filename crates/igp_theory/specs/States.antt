@@ -1,5 +1,6 @@
 -- Sound states, the states of an order, seamless orders (Vanbever et al., SIGCOMM 2011).
-use Rattle.std.specs.Prelude.{◌≡◌, ℕ, zero, suc, ◌+◌, ◌*◌, ◌^◌, ◌<◌, ◌≤◌, ◌==◌, if◌then◌else◌, List, [], ◌∷◌, length, take}
+use Rattle.std.specs.Prelude.{◌≡◌, ℕ, zero, suc, ◌+◌, ◌*◌, ◌^◌, ◌<◌, ◌≤◌, ◌==◌, if◌then◌else◌, List, [], ◌∷◌}
+use Rattle.std.specs.Prelude.{length, take}
 use Rattle.net_model.specs.Network.{Network}
 use Rattle.order_core.specs.Orders.{IsOrder}
 use Rattle.igp_theory.specs.Forwarding.{MustForward, Steps, HasStep}
@@ -10,6 +11,13 @@ use Rattle.igp_theory.specs.declared.phase.Phase.TheVariants.{Old, Middle, New}
 -- a state gives each router a phase
 abbrev pub State : Type 0
 State = ℕ → Phase
+
+-- the ends of a move: the first state, in which every router is Old, and the last one, in which every router is New
+abbrev pub all_old : State
+all_old u = Old
+
+abbrev pub all_new : State
+all_new u = New
 
 -- the steps of a state, for one address
 abbrev pub StepsIn : Network → Tables → Tables → State → ℕ → ℕ → ℕ → Type 0

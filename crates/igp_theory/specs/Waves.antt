@@ -1,10 +1,11 @@
 -- Wave lists: several routers at once, their changes in any interleaving (Vanbever et al., SIGCOMM 2011).
-use Rattle.std.specs.Prelude.{◌≡◌, ◌≢◌, ℕ, ◌<◌, ◌≤◌, ◌↔◌, List, [], ◌∷◌, length, take, map, slice_index, Contains, AllPairs}
+use Rattle.std.specs.Prelude.{◌≡◌, ◌≢◌, ℕ, ◌<◌, ◌≤◌, ◌↔◌, List, [], ◌∷◌, length, take, map, slice_index, Contains}
+use Rattle.std.specs.Prelude.{AllPairs}
 use Rattle.std.specs.List.{flat_map}
 use Rattle.net_model.specs.Network.{Network}
 use Rattle.order_core.specs.Rankings.{IsRanking, rank_of}
 use Rattle.igp_theory.specs.Routes.{Tables}
-use Rattle.igp_theory.specs.States.{State, IsSound, changes_on, phase_after}
+use Rattle.igp_theory.specs.States.{State, IsSound, IsSeamless, changes_on, phase_after}
 use Rattle.igp_theory.specs.declared.phase.Phase.TheVariants.{Old, New}
 
 -- A wave list is told by a ranking: router u stands in the wave `rank_of ranks u`, counted from 0, so in
@@ -54,6 +55,11 @@ pub record IsWavesState (n : ℕ) (ranks : List ℕ) (state : State) : Type 0 wh
 pub record AreSeamlessWaves (net : Network) (old new : Tables) (ranks : List ℕ) : Type 0 where
   pub waves : IsRanking (length net) ranks
   pub sound : (state : State) → IsWavesState (length net) ranks state → IsSound net old new state
+
+-- no wave list of the network is seamless, and no order is
+pub record HasNoneSeamless (net : Network) (old new : Tables) : Type 0 where
+  pub waves : (ranks : List ℕ) → ¬ AreSeamlessWaves net old new ranks
+  pub orders : (order : List ℕ) → ¬ IsSeamless net old new order
 
 -- a state of wave w: each router of an earlier wave is New, each of a later wave is Old, and each of w
 -- has any phase

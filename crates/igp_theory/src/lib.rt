@@ -1,25 +1,49 @@
-//! The definitions that every promise of the planner stands on, and the laws that they obey.
+//! The definitions that every promise of the planner stands on, and the laws that they obey. No program calls anything
+//! here: what the crates above compute is said in these words.
+//!
+//! | Specification | What it defines | By |
+//! |---|---|---|
+//! | `Routes` | a table: which entry a router has for a prefix | |
+//! | `Ospf` | routes within an area, ranges and summaries, routes between areas, the table | RFC 2328, sections 16.1, 12.4.3, 16.2 |
+//! | `Isis` | the levels 1 and 2, what is leaked, attached routers, the table | RFC 1195; RFC 5305; RFC 5302 |
+//! | `Forwarding` | the used entry of an address: the longest match, then the distance; the steps | RFC 1812, section 5.2.4.3 |
+//! | `States` | phases, sound states, the states of an order, seamless orders | Vanbever et al., SIGCOMM 2011 |
+//! | `Loops` | loops of the network with their tags, the fault of an unsound state | the same |
+//! | `Waves` | wave lists, their runs and states, seamless wave lists | the same |
+//! | `WaveFaults` | the fault of a set of states, and of a wave list | |
+//!
+//! What the laws say stands in `Laws`, `MiddleLaws`, `LoopLaws`, `WaveLaws` and `WaveFaultLaws`. A law is a function without
+//! a body, whose contract says it; its proof is found under its name in `proofs`.
 #![tactic(auto)]
 
-mod cost_laws;
-mod fault_laws;
-mod forwarding_laws;
-mod loop_laws;
-mod middle_laws;
+// A router's phase, and any two tables.
 mod phase;
-mod same_table_laws;
-mod sound_laws;
-mod table_laws;
 mod tables;
+
+// Costs, entries, used entries and steps.
+mod cost_laws;
+mod forwarding_laws;
+mod middle_laws;
+mod table_laws;
+
+// States and orders.
+mod fault_laws;
+mod loop_laws;
+mod sound_laws;
+
+// Wave lists.
 mod wave_fault_laws;
 mod wave_laws;
+
+// The same tables.
+mod same_table_laws;
 
 pub use cost_laws::{ArcRelation, OfferRelation, best_cost_is_unique, least_cost_is_unique};
 pub use fault_laws::{faults_are_unique, faults_are_unsound};
 pub use forwarding_laws::{every_mixture_forwards, middle_is_old_or_new};
 pub use loop_laws::{
     faults_between_sound_ends_are_loops, loops_arise, loops_arise_in_waves,
-    loops_say_which_waves_are_seamless,
+    loops_say_which_waves_are_seamless, returns_in_waves_are_unsound,
 };
 pub use middle_laws::{middle_acts_as_old_or_new, middle_uses_none};
 pub use phase::Phase;

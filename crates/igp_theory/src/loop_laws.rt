@@ -1,4 +1,6 @@
-ghost use Rattle.igp_theory.specs.LoopLaws.{LoopsArise, ArisingLoopsAreUnsound, FaultsBetweenSoundEndsAreLoops, LoopsBetweenSoundEndsHaveBothTags, LoopsAriseInWaves, ReturnsInWavesAreUnsound, WaveFaultsBetweenSoundEndsAreLoops, SeamlessWavesPutOldFirst, WavesAreSeamlessByLoops};
+ghost use Rattle.igp_theory.specs.LoopLaws.{LoopsArise, ArisingLoopsAreUnsound, FaultsBetweenSoundEndsAreLoops, LoopsBetweenSoundEndsHaveBothTags};
+ghost use Rattle.igp_theory.specs.LoopLaws.{LoopsAriseInWaves, ReturnsInWavesAreUnsound, WaveFaultsBetweenSoundEndsAreLoops, SeamlessWavesPutOldFirst};
+ghost use Rattle.igp_theory.specs.LoopLaws.{WavesAreSeamlessByLoops};
 
 use crate::tables::TablePair;
 

@@ -1,4 +1,5 @@
-ghost use Rattle.igp_theory.specs.Laws.{SameUsedEntries, SameSteps, SameSoundStates, SameSeamlessOrders, SameLoops, SameArisingLoops, SameFaults, SameFirstFaults};
+ghost use Rattle.igp_theory.specs.Laws.{SameUsedEntries, SameSteps, SameSoundStates, SameSeamlessOrders, SameLoops, SameArisingLoops, SameFaults};
+ghost use Rattle.igp_theory.specs.Laws.{SameFirstFaults};
 
 use crate::tables::TablePair;
 

@@ -1,4 +1,5 @@
-ghost use Rattle.igp_theory.specs.Laws.{IntraAreasAreUnique, IntraAreaCostsAreUnique, InterAreaCostsAreUnique, BorderCostsAreInterArea, OspfEntriesAreUnique, IsisEntriesAreUnique, OspfHopsAreNeighbors, IsisHopsAreNeighbors, OspfEntriesForward, IsisEntriesForward};
+ghost use Rattle.igp_theory.specs.Laws.{IntraAreasAreUnique, IntraAreaCostsAreUnique, InterAreaCostsAreUnique, BorderCostsAreInterArea, OspfEntriesAreUnique};
+ghost use Rattle.igp_theory.specs.Laws.{IsisEntriesAreUnique, OspfHopsAreNeighbors, IsisHopsAreNeighbors, OspfEntriesForward, IsisEntriesForward};
 
 /// The law that OSPF gives a prefix one intra-area cost and one inter-area cost at a router.
 ///

@@ -1,4 +1,5 @@
-ghost use Rattle.igp_theory.specs.WaveFaultLaws.{FaultsOverAreUnique, FaultsOverOneAreFaults, WavesFaultsAreUnique, WavesFaultsAreUnsound, SameDeliveries, SameSeamlessWaves, SameFaultsOver, SameWavesFaults};
+ghost use Rattle.igp_theory.specs.WaveFaultLaws.{FaultsOverAreUnique, FaultsOverOneAreFaults, WavesFaultsAreUnique, WavesFaultsAreUnsound, SameDeliveries};
+ghost use Rattle.igp_theory.specs.WaveFaultLaws.{SameSeamlessWaves, SameFaultsOver, SameWavesFaults};
 ghost use Rattle.igp_theory.specs.States.{State};
 
 use crate::tables::TablePair;

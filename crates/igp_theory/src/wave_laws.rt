@@ -1,4 +1,5 @@
-ghost use Rattle.igp_theory.specs.WaveLaws.{StatesAreThoseOfWaves, FlatRunsAreRuns, StatesAlongAreThoseOfOrders, FlatOrdersAreSeamless, OrdersAreSeamlessWaves, OrdersAreOnes, OrdersHaveOneRun, SeamlessWaveByWave};
+ghost use Rattle.igp_theory.specs.WaveLaws.{StatesAreThoseOfWaves, FlatRunsAreRuns, StatesAlongAreThoseOfOrders, FlatOrdersAreSeamless};
+ghost use Rattle.igp_theory.specs.WaveLaws.{OrdersAreSeamlessWaves, OrdersAreOnes, OrdersHaveOneRun, SeamlessWaveByWave};
 
 use crate::tables::TablePair;
 

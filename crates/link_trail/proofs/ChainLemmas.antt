@@ -1,10 +1,12 @@
 -- How a chain changes where a node is put in or taken out.
-use Rattle.std.proofs.Common.{◌≡◌, ◌≢◌, ℕ, zero, suc, ◌<◌, List, [], ◌∷◌, ◌++◌, length, Option, Some, None, set, refl, sym, ap, ◌∙◌, subst, arith}
+use Rattle.std.proofs.Common.{◌≡◌, ◌≢◌, ℕ, zero, suc, ◌<◌, List, [], ◌∷◌, ◌++◌, length, Option, Some, None, set, refl, sym, ap}
+use Rattle.std.proofs.Common.{◌∙◌, subst, arith}
 use Rattle.std.proofs.lemmas.List.{get_or-set_same, get_or-set_other, length-set}
 use Rattle.link_trail.specs.declared.chain.Node.{Node}
 use Rattle.link_trail.specs.declared.chain.Ends.{Ends}
-use Rattle.link_trail.specs.Lists.{first_of, first_or}
-use Rattle.link_trail.specs.Chains.{free_node, node_at, ends_at, no_ends, last_or, last_of, IsNoneOf, IsDistinct, AreChained, with_next, with_previous, with_first, with_last}
+use Rattle.link_trail.specs.Lists.{first_node, first_or}
+use Rattle.link_trail.specs.Chains.{free_node, node_at, ends_at, no_ends, last_or, last_node, IsNoneOf, IsDistinct, AreChained}
+use Rattle.link_trail.specs.steps.Splices.{with_first, with_last, with_next, with_previous}
 
 -- the ends of joined lists
 pub first-append : (before after : List ℕ) (next : Option ℕ) →
@@ -26,10 +28,6 @@ pub none-append : (z : ℕ) (before after : List ℕ) → IsNoneOf z (before ++ 
 none-append z [] after h = (tt, h)
 none-append z (x ∷ before) after h =
     let ih = none-append z before after h.1 in ((h.0, ih.0), ih.1)
-
-pub none-join : (z : ℕ) (before after : List ℕ) → IsNoneOf z before → IsNoneOf z after → IsNoneOf z (before ++ after)
-none-join z [] after h k = k
-none-join z (x ∷ before) after h k = (h.0, none-join z before after h.1 k)
 
 pub none-put : (z x : ℕ) (before after : List ℕ) → IsNoneOf z (before ++ after) → z ≢ x → IsNoneOf z (before ++ x ∷ after)
 none-put z x [] after h ne = (ne, h)
@@ -64,37 +62,37 @@ distinct-out x (y ∷ before) after h =
     ((o.0, ih.0), (λ e. o.1 (sym e), ih.1))
 
 -- the last of the nodes before is none of those after, and the first after none of those before
-pub last-apart : (before after : List ℕ) → IsDistinct (before ++ after) → (z : ℕ) → last_of before ≡ Some z → IsNoneOf z after
+pub last-apart : (before after : List ℕ) → IsDistinct (before ++ after) → (z : ℕ) → last_node before ≡ Some z → IsNoneOf z after
 last-apart [] after h z e = absurd (let k : Some z ≡ None = sym e in cc)
 last-apart (x ∷ []) after h z e = subst (λ w. IsNoneOf w after) (let k : x ≡ z = cc in k) h.0
 last-apart (x ∷ y ∷ before) after h z e = last-apart (y ∷ before) after h.1 z e
 
-pub first-apart : (before after : List ℕ) → IsDistinct (before ++ after) → (z : ℕ) → first_of after ≡ Some z → IsNoneOf z before
+pub first-apart : (before after : List ℕ) → IsDistinct (before ++ after) → (z : ℕ) → first_node after ≡ Some z → IsNoneOf z before
 first-apart [] after h z e = tt
 first-apart (x ∷ before) [] h z e = absurd (let k : Some z ≡ None = sym e in cc)
 first-apart (x ∷ before) (y ∷ after) h z e =
     (λ k. (none-out x y before after h.0).1 (let q : x ≡ y = cc in q), first-apart before (y ∷ after) h.1 z e)
 
 -- a node that is none of the nodes is not the last or the first of them
-pub none-last : (z w : ℕ) (xs : List ℕ) → IsNoneOf z xs → last_of xs ≡ Some w → z ≢ w
+pub none-last : (z w : ℕ) (xs : List ℕ) → IsNoneOf z xs → last_node xs ≡ Some w → z ≢ w
 none-last z w [] h e = λ k. (let q : ⊥ = cc in q)
 none-last z w (x ∷ []) h e = λ k. h.0 (let q : z ≡ x = cc in q)
 none-last z w (x ∷ y ∷ xs) h e = none-last z w (y ∷ xs) h.1 e
 
-pub none-first : (z w : ℕ) (xs : List ℕ) → IsNoneOf z xs → first_of xs ≡ Some w → z ≢ w
+pub none-first : (z w : ℕ) (xs : List ℕ) → IsNoneOf z xs → first_node xs ≡ Some w → z ≢ w
 none-first z w [] h e = λ k. (let q : ⊥ = cc in q)
 none-first z w (x ∷ xs) h e = λ k. h.0 (let q : z ≡ x = cc in q)
 
 -- the nodes of a chain stand in its list
 pub last-list : (nodes : List Node) (list : ℕ) (previous : Option ℕ) (xs : List ℕ) (next : Option ℕ) →
-    AreChained nodes list previous xs next → (z : ℕ) → last_of xs ≡ Some z → (node_at nodes z).list ≡ Some list
+    AreChained nodes list previous xs next → (z : ℕ) → last_node xs ≡ Some z → (node_at nodes z).list ≡ Some list
 last-list nodes list previous [] next h z e = absurd (let k : Some z ≡ None = sym e in cc)
 last-list nodes list previous (x ∷ []) next h z e =
     subst (λ w. (node_at nodes w).list ≡ Some list) (let k : x ≡ z = cc in k) (ap (λ (n : Node). n.list) h.0)
 last-list nodes list previous (x ∷ y ∷ xs) next h z e = last-list nodes list (Some x) (y ∷ xs) next h.1 z e
 
 pub first-list : (nodes : List Node) (list : ℕ) (previous : Option ℕ) (xs : List ℕ) (next : Option ℕ) →
-    AreChained nodes list previous xs next → (z : ℕ) → first_of xs ≡ Some z → (node_at nodes z).list ≡ Some list
+    AreChained nodes list previous xs next → (z : ℕ) → first_node xs ≡ Some z → (node_at nodes z).list ≡ Some list
 first-list nodes list previous [] next h z e = absurd (let k : Some z ≡ None = sym e in cc)
 first-list nodes list previous (x ∷ xs) next h z e =
     subst (λ w. (node_at nodes w).list ≡ Some list) (let k : x ≡ z = cc in k) (ap (λ (n : Node). n.list) h.0)
@@ -177,7 +175,7 @@ chained-join nodes list previous (x ∷ before) after next h k = (
 -- a chain that goes on elsewhere after its last node, and one that comes from elsewhere before its first
 pub chained-onward : (nodes : List Node) (list : ℕ) (previous : Option ℕ) (xs : List ℕ) (next onward : Option ℕ) →
     IsDistinct xs → AreChained nodes list previous xs next →
-    AreChained (with_next nodes (last_of xs) onward) list previous xs onward
+    AreChained (with_next nodes (last_node xs) onward) list previous xs onward
 chained-onward nodes list previous [] next onward d h = tt
 chained-onward nodes list previous (x ∷ []) next onward d h = (
   get_or-set_same nodes x _ free_node (linked-in_range nodes list x (ap (λ (n : Node). n.list) h.0))
@@ -185,13 +183,13 @@ chained-onward nodes list previous (x ∷ []) next onward d h = (
   tt,
 )
 chained-onward nodes list previous (x ∷ y ∷ xs) next onward d h = (
-  next-other nodes (last_of (y ∷ xs)) onward x (λ z e. none-last x z (y ∷ xs) d.0 e) ∙ h.0,
+  next-other nodes (last_node (y ∷ xs)) onward x (λ z e. none-last x z (y ∷ xs) d.0 e) ∙ h.0,
   chained-onward nodes list (Some x) (y ∷ xs) next onward d.1 h.1,
 )
 
 pub chained-origin : (nodes : List Node) (list : ℕ) (previous origin : Option ℕ) (xs : List ℕ) (next : Option ℕ) →
     IsDistinct xs → AreChained nodes list previous xs next →
-    AreChained (with_previous nodes (first_of xs) origin) list origin xs next
+    AreChained (with_previous nodes (first_node xs) origin) list origin xs next
 chained-origin nodes list previous origin [] next d h = tt
 chained-origin nodes list previous origin (x ∷ xs) next d h = (
   get_or-set_same nodes x _ free_node (linked-in_range nodes list x (ap (λ (n : Node). n.list) h.0))
@@ -202,7 +200,7 @@ chained-origin nodes list previous origin (x ∷ xs) next d h = (
 -- the ends of the list after a write
 pub ends-first : (ends : List Ends) (list : ℕ) (before : List ℕ) (or next : Option ℕ) → list < length ends →
     (ends_at ends list).first ≡ first_or before or →
-    ends_at (with_first ends list (last_of before) next) list
+    ends_at (with_first ends list (last_node before) next) list
     ≡ record { first = first_or before next; last = (ends_at ends list).last }
 ends-first ends list [] or next l e = get_or-set_same ends list _ no_ends l
 ends-first ends list (x ∷ before) or next l e =
@@ -213,7 +211,7 @@ ends-first ends list (x ∷ before) or next l e =
 
 pub ends-last : (ends : List Ends) (list : ℕ) (after : List ℕ) (or previous : Option ℕ) → list < length ends →
     (ends_at ends list).last ≡ last_or or after →
-    ends_at (with_last ends list (first_of after) previous) list
+    ends_at (with_last ends list (first_node after) previous) list
     ≡ record { first = (ends_at ends list).first; last = last_or previous after }
 ends-last ends list [] or previous l e = get_or-set_same ends list _ no_ends l
 ends-last ends list (x ∷ after) or previous l e =

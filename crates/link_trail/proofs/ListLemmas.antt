@@ -75,10 +75,6 @@ unlinked-one (xs ∷ lists) (suc list) node before after l is none others =
     (ap (λ ls. xs ∷ ls) (unlinked-one lists list node before after (omega arith) is none
     (λ k ne lk. others (suc k) (λ e. ne (omega arith)) (omega arith))))
 
-pub length-unlinked : (lists : List (List ℕ)) (node : ℕ) → length (unlinked lists node) ≡ length lists
-length-unlinked [] node = refl
-length-unlinked (xs ∷ lists) node = ap suc (length-unlinked lists node)
-
 pub unlinked-at : (lists : List (List ℕ)) (node list : ℕ) → list_at (unlinked lists node) list ≡ without node (list_at lists list)
 unlinked-at [] node list = refl
 unlinked-at (xs ∷ lists) node zero = refl

@@ -3,8 +3,8 @@ use Rattle.std.proofs.Common.{◌≡◌, ℕ, suc, ◌≤◌, List, [], ◌∷�
 use Rattle.link_trail.specs.declared.chain.Node.{Node}
 use Rattle.link_trail.specs.declared.moves.Move.{Move}
 use Rattle.link_trail.specs.declared.moves.Move.TheVariants.{Linked, Unlinked}
-use Rattle.link_trail.specs.Chains.{node_at, last_of, AreChained}
-use Rattle.link_trail.specs.Moves.{moved, lists_after, lists_before, Fits, AllFit}
+use Rattle.link_trail.specs.Chains.{node_at, last_node, AreChained}
+use Rattle.link_trail.specs.Moves.{moved, lists_after, lists_before, IsTakenBackBy, AllFit}
 
 -- one move more
 pub after-more : (lists : List (List ℕ)) (moves : List Move) (move : Move) →
@@ -22,7 +22,7 @@ length-lists_before lists [] = refl
 length-lists_before lists (m ∷ moves) = ap suc (length-lists_before (moved lists m) moves)
 
 pub fit-more : (nodes : ℕ) (lists : List (List ℕ)) (moves : List Move) (move : Move) → AllFit nodes lists moves →
-    Fits nodes (lists_after lists moves) move → AllFit nodes lists (moves ++ move ∷ [])
+    IsTakenBackBy nodes (lists_after lists moves) move → AllFit nodes lists (moves ++ move ∷ [])
 fit-more nodes lists [] move h f = (f, tt)
 fit-more nodes lists (m ∷ moves) move h f = (h.0, fit-more nodes (moved lists m) moves move h.1 f)
 
@@ -32,12 +32,13 @@ fit-front nodes lists [] move h = tt
 fit-front nodes lists (m ∷ moves) move h = (h.0, fit-front nodes (moved lists m) moves move h.1)
 
 pub fit-last : (nodes : ℕ) (lists : List (List ℕ)) (moves : List Move) (move : Move) →
-    AllFit nodes lists (moves ++ move ∷ []) → Fits nodes (lists_after lists moves) move
+    AllFit nodes lists (moves ++ move ∷ []) → IsTakenBackBy nodes (lists_after lists moves) move
 fit-last nodes lists [] move h = h.0
 fit-last nodes lists (m ∷ moves) move h = fit-last nodes (moved lists m) moves move h.1
 
 -- more nodes
-pub fits-wider : (nodes wider : ℕ) (lists : List (List ℕ)) (move : Move) → nodes ≤ wider → Fits nodes lists move → Fits wider lists move
+pub fits-wider : (nodes wider : ℕ) (lists : List (List ℕ)) (move : Move) → nodes ≤ wider → IsTakenBackBy nodes lists move →
+    IsTakenBackBy wider lists move
 fits-wider nodes wider lists (Linked list node) le h = h
 fits-wider nodes wider lists (Unlinked list node previous) le h = record {
   before = h.before;
@@ -56,7 +57,7 @@ fit-wider nodes wider lists (m ∷ moves) le h = (fits-wider nodes wider lists m
 
 -- what goes on after the last node of a chain
 pub last-next : (nodes : List Node) (list : ℕ) (previous : Option ℕ) (xs : List ℕ) (next : Option ℕ) →
-    AreChained nodes list previous xs next → (z : ℕ) → last_of xs ≡ Some z → (node_at nodes z).next ≡ next
+    AreChained nodes list previous xs next → (z : ℕ) → last_node xs ≡ Some z → (node_at nodes z).next ≡ next
 last-next nodes list previous [] next h z e = absurd (let k : Some z ≡ None = sym e in cc)
 last-next nodes list previous (x ∷ []) next h z e =
     subst (λ w. (node_at nodes w).next ≡ next) (let k : x ≡ z = cc in k) (ap (λ (n : Node). n.next) h.0)

@@ -1,13 +1,19 @@
 -- What nodes and ends show where a node is put between two neighbours, or taken out.
-use Rattle.std.proofs.Common.{◌≡◌, ◌≢◌, ℕ, ◌<◌, List, [], ◌∷◌, ◌++◌, length, Option, Some, None, set, sym, ap, ◌∙◌, subst, ⊎_elim, arith}
+use Rattle.std.proofs.Common.{◌≡◌, ◌≢◌, ℕ, ◌<◌, List, [], ◌∷◌, ◌++◌, length, Option, Some, None, set, sym, ap, ◌∙◌, subst}
+use Rattle.std.proofs.Common.{⊎_elim, arith}
 use Rattle.std.proofs.lemmas.List.{get_or-set_same, get_or-set_other, length-set}
 use Rattle.std.proofs.lemmas.Bool.{cases_eq}
 use Rattle.link_trail.proofs.ListLemmas.{free-before, free-none}
 use Rattle.link_trail.specs.declared.chain.Node.{Node}
 use Rattle.link_trail.specs.declared.chain.Ends.{Ends}
-use Rattle.link_trail.specs.Lists.{first_of, first_or, IsFree, list_at}
-use Rattle.link_trail.specs.Chains.{free_node, node_at, ends_at, last_or, last_of, IsNoneOf, IsDistinct, AreChained, ShowsList, ShowsLists, with_next, with_previous, with_first, with_last}
-use Rattle.link_trail.proofs.ChainLemmas.{first-append, last-append, none-append, none-put, none-out, distinct-left, distinct-right, distinct-put, distinct-out, last-apart, first-apart, none-last, none-first, last-list, first-list, other-list, linked-in_range, next-other, previous-other, length-next, length-previous, chained-set, chained-next, chained-previous, chained-left, chained-right, chained-join, chained-onward, chained-origin, ends-first, ends-last, first-other, last-other, length-first, length-last}
+use Rattle.link_trail.specs.Lists.{first_node, first_or, IsFree, list_at}
+use Rattle.link_trail.specs.Chains.{free_node, node_at, ends_at, last_or, last_node, IsNoneOf, IsDistinct, AreChained, ShowsList, ShowsLists}
+use Rattle.link_trail.specs.steps.Splices.{with_previous, with_first, with_last, with_next}
+use Rattle.link_trail.proofs.ChainLemmas.{first-append, last-append, none-append, none-put, none-out, distinct-left, distinct-right, distinct-put}
+use Rattle.link_trail.proofs.ChainLemmas.{distinct-out, last-apart, first-apart, none-last, none-first, last-list, first-list, other-list, linked-in_range}
+use Rattle.link_trail.proofs.ChainLemmas.{next-other, previous-other, length-next, length-previous, chained-set, chained-next, chained-previous, chained-left}
+use Rattle.link_trail.proofs.ChainLemmas.{chained-right, chained-join, chained-onward, chained-origin, ends-first, ends-last, first-other, last-other}
+use Rattle.link_trail.proofs.ChainLemmas.{length-first, length-last}
 
 -- the nodes once both neighbours and the node itself are written
 abbrev pub spliced : List Node → Option ℕ → Option ℕ → Option ℕ → Option ℕ → ℕ → Node → List Node
@@ -32,36 +38,36 @@ module _ (nodes : List Node) (list node : ℕ) (before after : List ℕ) (onward
   -- the nodes before the place go on to `onward`
   pub spliced-front : (next : Option ℕ) → IsDistinct (before ++ after) → IsNoneOf node before →
       AreChained nodes list None before next →
-      AreChained (spliced nodes (last_of before) onward (first_of after) origin node v) list None before onward
+      AreChained (spliced nodes (last_node before) onward (first_node after) origin node v) list None before onward
   spliced-front next d none h =
-      chained-set (with_previous (with_next nodes (last_of before) onward) (first_of after) origin) list None before onward node v none
-      (chained-previous (with_next nodes (last_of before) onward) list None before onward (first_of after) origin
+      chained-set (with_previous (with_next nodes (last_node before) onward) (first_node after) origin) list None before onward node v none
+      (chained-previous (with_next nodes (last_node before) onward) list None before onward (first_node after) origin
       (first-apart before after d)
       (chained-onward nodes list None before next onward (distinct-left before after d) h))
 
   -- the nodes after the place come from `origin`
   pub spliced-back : (previous : Option ℕ) → IsDistinct (before ++ after) → IsNoneOf node after →
       AreChained nodes list previous after None →
-      AreChained (spliced nodes (last_of before) onward (first_of after) origin node v) list origin after None
+      AreChained (spliced nodes (last_node before) onward (first_node after) origin node v) list origin after None
   spliced-back previous d none h =
-      chained-set (with_previous (with_next nodes (last_of before) onward) (first_of after) origin) list origin after None node v none
-      (chained-origin (with_next nodes (last_of before) onward) list previous origin after None (distinct-right before after d)
-      (chained-next nodes list previous after None (last_of before) onward (last-apart before after d) h))
+      chained-set (with_previous (with_next nodes (last_node before) onward) (first_node after) origin) list origin after None node v none
+      (chained-origin (with_next nodes (last_node before) onward) list previous origin after None (distinct-right before after d)
+      (chained-next nodes list previous after None (last_node before) onward (last-apart before after d) h))
 
   -- a chain that has none of the nodes that are written
   pub spliced-elsewhere : (other : ℕ) (xs : List ℕ) → IsNoneOf node xs →
-      ((p : ℕ) → last_of before ≡ Some p → IsNoneOf p xs) → ((n : ℕ) → first_of after ≡ Some n → IsNoneOf n xs) →
+      ((p : ℕ) → last_node before ≡ Some p → IsNoneOf p xs) → ((n : ℕ) → first_node after ≡ Some n → IsNoneOf n xs) →
       AreChained nodes other None xs None →
-      AreChained (spliced nodes (last_of before) onward (first_of after) origin node v) other None xs None
+      AreChained (spliced nodes (last_node before) onward (first_node after) origin node v) other None xs None
   spliced-elsewhere other xs none np nn h =
-      chained-set (with_previous (with_next nodes (last_of before) onward) (first_of after) origin) other None xs None node v none
-      (chained-previous (with_next nodes (last_of before) onward) other None xs None (first_of after) origin nn
-      (chained-next nodes other None xs None (last_of before) onward np h))
+      chained-set (with_previous (with_next nodes (last_node before) onward) (first_node after) origin) other None xs None node v none
+      (chained-previous (with_next nodes (last_node before) onward) other None xs None (first_node after) origin nn
+      (chained-next nodes other None xs None (last_node before) onward np h))
 
 -- the ends once both are written
 abbrev pub ends_written : List Ends → ℕ → List ℕ → List ℕ → Option ℕ → Option ℕ → List Ends
 ends_written ends list before after onward origin =
-    with_last (with_first ends list (last_of before) onward) list (first_of after) origin
+    with_last (with_first ends list (last_node before) onward) list (first_node after) origin
 
 pub ends_written-same : (ends : List Ends) (list : ℕ) (before after : List ℕ) (onward origin or or' : Option ℕ) →
     list < length ends → (ends_at ends list).first ≡ first_or before or → (ends_at ends list).last ≡ last_or or' after →
@@ -69,21 +75,21 @@ pub ends_written-same : (ends : List Ends) (list : ℕ) (before after : List ℕ
     ≡ record { first = first_or before onward; last = last_or origin after }
 ends_written-same ends list before after onward origin or or' l ef el =
     let e1 = ends-first ends list before or onward l ef in
-    ends-last (with_first ends list (last_of before) onward) list after or' origin
-    (omega (arith, length-first ends list (last_of before) onward)) (ap (λ (e : Ends). e.last) e1 ∙ el)
+    ends-last (with_first ends list (last_node before) onward) list after or' origin
+    (omega (arith, length-first ends list (last_node before) onward)) (ap (λ (e : Ends). e.last) e1 ∙ el)
     ∙ ap (λ (e : Ends). let r : Ends = record { first = e.first; last = last_or origin after } in r) e1
 
 pub ends_written-other : (ends : List Ends) (list : ℕ) (before after : List ℕ) (onward origin : Option ℕ) (other : ℕ) →
     other ≢ list → ends_at (ends_written ends list before after onward origin) other ≡ ends_at ends other
 ends_written-other ends list before after onward origin other ne =
-    last-other (with_first ends list (last_of before) onward) list other (first_of after) origin ne
-    ∙ first-other ends list other (last_of before) onward ne
+    last-other (with_first ends list (last_node before) onward) list other (first_node after) origin ne
+    ∙ first-other ends list other (last_node before) onward ne
 
 pub length-ends_written : (ends : List Ends) (list : ℕ) (before after : List ℕ) (onward origin : Option ℕ) →
     length (ends_written ends list before after onward origin) ≡ length ends
 length-ends_written ends list before after onward origin =
-    length-last (with_first ends list (last_of before) onward) list (first_of after) origin
-    ∙ length-first ends list (last_of before) onward
+    length-last (with_first ends list (last_node before) onward) list (first_node after) origin
+    ∙ length-first ends list (last_node before) onward
 
 -- a node of one list is none of another
 pub elsewhere : (nodes : List Node) (list other : ℕ) (xs : List ℕ) (z : ℕ) → other ≢ list →
@@ -121,7 +127,7 @@ ShowsLists-changed nodes nodes' ends ends' lists list xs shows l count here chai
 -- what the node of a list holds
 pub ShowsLists-node : (nodes : List Node) (ends : List Ends) (lists : List (List ℕ)) (list node : ℕ) (before after : List ℕ) →
     ShowsLists nodes ends lists → list_at lists list ≡ before ++ node ∷ after → list < length lists →
-    node_at nodes node ≡ record { list = Some list; previous = last_of before; next = first_of after }
+    node_at nodes node ≡ record { list = Some list; previous = last_node before; next = first_node after }
 ShowsLists-node nodes ends lists list node before after shows is l =
     let s : AreChained nodes list None (before ++ node ∷ after) None =
     subst (λ ys. AreChained nodes list None ys None) is (shows.each list l).chained in
@@ -131,13 +137,13 @@ ShowsLists-node nodes ends lists list node before after shows is l =
 pub ShowsLists-put : (nodes : List Node) (ends : List Ends) (lists : List (List ℕ)) (list node : ℕ) (before after : List ℕ) →
     ShowsLists nodes ends lists → IsFree lists node → list_at lists list ≡ before ++ after →
     list < length ends → node < length nodes →
-    ShowsLists (spliced nodes (last_of before) (Some node) (first_of after) (Some node) node
-    (record { list = Some list; previous = last_of before; next = first_of after }))
+    ShowsLists (spliced nodes (last_node before) (Some node) (first_node after) (Some node) node
+    (record { list = Some list; previous = last_node before; next = first_node after }))
     (ends_written ends list before after (Some node) (Some node))
     (set lists list (before ++ node ∷ after))
 ShowsLists-put nodes ends lists list node before after shows free is l n =
-    let v : Node = record { list = Some list; previous = last_of before; next = first_of after } in
-    let nodes' : List Node = spliced nodes (last_of before) (Some node) (first_of after) (Some node) node v in
+    let v : Node = record { list = Some list; previous = last_node before; next = first_node after } in
+    let nodes' : List Node = spliced nodes (last_node before) (Some node) (first_node after) (Some node) node v in
     let ends' : List Ends = ends_written ends list before after (Some node) (Some node) in
     let ll : list < length lists = omega (arith, shows.count) in
     let s : ShowsList nodes list (ends_at ends list) (before ++ after) =
@@ -146,19 +152,19 @@ ShowsLists-put nodes ends lists list node before after shows free is l n =
     let parts = none-append node before after none in
     let front = chained-left nodes list None before after None s.chained in
     let back = chained-right nodes list None before after None s.chained in
-    let np : (p : ℕ) → last_of before ≡ Some p → (node_at nodes p).list ≡ Some list =
+    let np : (p : ℕ) → last_node before ≡ Some p → (node_at nodes p).list ≡ Some list =
     last-list nodes list None before (first_or after None) front in
-    let nn : (n : ℕ) → first_of after ≡ Some n → (node_at nodes n).list ≡ Some list =
-    first-list nodes list (last_of before) after None back in
-    let e = ends_written-same ends list before after (Some node) (Some node) (first_or after None) (last_of before) l
+    let nn : (n : ℕ) → first_node after ≡ Some n → (node_at nodes n).list ≡ Some list =
+    first-list nodes list (last_node before) after None back in
+    let e = ends_written-same ends list before after (Some node) (Some node) (first_or after None) (last_node before) l
     (s.first ∙ first-append before after None) (s.last ∙ last-append None before after) in
     ShowsLists-changed nodes nodes' ends ends' lists list (before ++ node ∷ after) shows ll
     (length-ends_written ends list before after (Some node) (Some node))
     (record {
       chained = chained-join nodes' list None before (node ∷ after) None
           (spliced-front nodes list node before after (Some node) (Some node) v (first_or after None) s.distinct parts.0 front) (
-            spliced-same nodes (last_of before) (Some node) (first_of after) (Some node) node v n,
-            spliced-back nodes list node before after (Some node) (Some node) v (last_of before) s.distinct parts.1 back,
+            spliced-same nodes (last_node before) (Some node) (first_node after) (Some node) node v n,
+            spliced-back nodes list node before after (Some node) (Some node) v (last_node before) s.distinct parts.1 back,
           );
       distinct = distinct-put node before after s.distinct none;
       first = ap (λ (x : Ends). x.first) e ∙ sym (first-append before (node ∷ after) None);
@@ -177,19 +183,19 @@ ShowsLists-put nodes ends lists list node before after shows free is l n =
     (free-none (set lists list (before ++ node ∷ after)) z list fz (omega (arith, length-set lists list (before ++ node ∷ after)))) in
     let o = none-out z node before after here in
     let parts' = none-append z before after o.0 in
-    spliced-other nodes (last_of before) (Some node) (first_of after) (Some node) node v z o.1
+    spliced-other nodes (last_node before) (Some node) (first_node after) (Some node) node v z o.1
     (λ p ep. none-last z p before parts'.0 ep) (λ k ek. none-first z k after parts'.1 ek)
     ∙ shows.free z (free-before lists z list (before ++ node ∷ after) fz (subst (λ ys. IsNoneOf z ys) (sym is) o.0)))
 
 -- the two neighbours without the node between them
 pub ShowsLists-out : (nodes : List Node) (ends : List Ends) (lists : List (List ℕ)) (list node : ℕ) (before after : List ℕ) →
     ShowsLists nodes ends lists → list_at lists list ≡ before ++ node ∷ after → list < length ends →
-    ShowsLists (spliced nodes (last_of before) (first_of after) (first_of after) (last_of before) node free_node)
-    (ends_written ends list before after (first_of after) (last_of before))
+    ShowsLists (spliced nodes (last_node before) (first_node after) (first_node after) (last_node before) node free_node)
+    (ends_written ends list before after (first_node after) (last_node before))
     (set lists list (before ++ after))
 ShowsLists-out nodes ends lists list node before after shows is l =
-    let nodes' : List Node = spliced nodes (last_of before) (first_of after) (first_of after) (last_of before) node free_node in
-    let ends' : List Ends = ends_written ends list before after (first_of after) (last_of before) in
+    let nodes' : List Node = spliced nodes (last_node before) (first_node after) (first_node after) (last_node before) node free_node in
+    let ends' : List Ends = ends_written ends list before after (first_node after) (last_node before) in
     let ll : list < length lists = omega (arith, shows.count) in
     let s : ShowsList nodes list (ends_at ends list) (before ++ node ∷ after) =
     subst (λ ys. ShowsList nodes list (ends_at ends list) ys) is (shows.each list ll) in
@@ -198,29 +204,29 @@ ShowsLists-out nodes ends lists list node before after shows is l =
     let front = chained-left nodes list None before (node ∷ after) None s.chained in
     let back = chained-right nodes list None before (node ∷ after) None s.chained in
     let nl : (node_at nodes node).list ≡ Some list = ap (λ (x : Node). x.list) back.0 in
-    let np : (p : ℕ) → last_of before ≡ Some p → (node_at nodes p).list ≡ Some list =
+    let np : (p : ℕ) → last_node before ≡ Some p → (node_at nodes p).list ≡ Some list =
     last-list nodes list None before (Some node) front in
-    let nn : (n : ℕ) → first_of after ≡ Some n → (node_at nodes n).list ≡ Some list =
+    let nn : (n : ℕ) → first_node after ≡ Some n → (node_at nodes n).list ≡ Some list =
     first-list nodes list (Some node) after None back.1 in
-    let e = ends_written-same ends list before after (first_of after) (last_of before) (Some node) (Some node) l
+    let e = ends_written-same ends list before after (first_node after) (last_node before) (Some node) (Some node) l
     (s.first ∙ first-append before (node ∷ after) None) (s.last ∙ last-append None before (node ∷ after)) in
     ShowsLists-changed nodes nodes' ends ends' lists list (before ++ after) shows ll
-    (length-ends_written ends list before after (first_of after) (last_of before))
+    (length-ends_written ends list before after (first_node after) (last_node before))
     (record {
       chained = chained-join nodes' list None before after None
-          (spliced-front nodes list node before after (first_of after) (last_of before) free_node (Some node) d.0 parts.0 front)
-          (spliced-back nodes list node before after (first_of after) (last_of before) free_node (Some node) d.0 parts.1 back.1);
+          (spliced-front nodes list node before after (first_node after) (last_node before) free_node (Some node) d.0 parts.0 front)
+          (spliced-back nodes list node before after (first_node after) (last_node before) free_node (Some node) d.0 parts.1 back.1);
       distinct = d.0;
       first = ap (λ (x : Ends). x.first) e ∙ sym (first-append before after None);
       last = ap (λ (x : Ends). x.last) e ∙ sym (last-append None before after);
     })
     (λ other ne lo.
     let h = (shows.each other lo).chained in
-    spliced-elsewhere nodes list node before after (first_of after) (last_of before) free_node other (list_at lists other)
+    spliced-elsewhere nodes list node before after (first_node after) (last_node before) free_node other (list_at lists other)
     (elsewhere nodes list other (list_at lists other) node ne h nl)
     (λ p ep. elsewhere nodes list other (list_at lists other) p ne h (np p ep))
     (λ k ek. elsewhere nodes list other (list_at lists other) k ne h (nn k ek)) h)
-    (λ other ne. ends_written-other ends list before after (first_of after) (last_of before) other ne)
+    (λ other ne. ends_written-other ends list before after (first_node after) (last_node before) other ne)
     (λ z fz.
     let here : IsNoneOf z (before ++ after) =
     subst (λ ys. IsNoneOf z ys) (get_or-set_same lists list (before ++ after) [] ll)
@@ -228,10 +234,10 @@ ShowsLists-out nodes ends lists list node before after shows is l =
     let parts' = none-append z before after here in
     ⊎_elim
     (λ (ez : z ≡ node). subst (λ k. node_at nodes' k ≡ free_node) (sym ez)
-    (spliced-same nodes (last_of before) (first_of after) (first_of after) (last_of before) node free_node
+    (spliced-same nodes (last_node before) (first_node after) (first_node after) (last_node before) node free_node
     (linked-in_range nodes list node nl)))
     (λ (nz : z ≢ node).
-    spliced-other nodes (last_of before) (first_of after) (first_of after) (last_of before) node free_node z nz
+    spliced-other nodes (last_node before) (first_node after) (first_node after) (last_node before) node free_node z nz
     (λ p ep. none-last z p before parts'.0 ep) (λ k ek. none-first z k after parts'.1 ek)
     ∙ shows.free z (free-before lists z list (before ++ after) fz
     (subst (λ ys. IsNoneOf z ys) (sym is) (none-put z node before after here nz))))

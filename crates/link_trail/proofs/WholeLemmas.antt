@@ -1,5 +1,7 @@
 -- What holds of the fields of `Links` stays when a move is made or taken back.
-use Rattle.std.proofs.Common.{◌≡◌, ℕ, zero, suc, ◌-◌, ◌^◌, ◌<◌, ◌≤◌, Bool, true, false, cond, replicate, List, [], ◌∷◌, ◌++◌, length, Option, Some, None, get_or, set, take, drop, refl, sym, ap, ◌∙◌, subst, arith, length-append, append-nil, append_assoc, take_all}
+use Rattle.std.proofs.Common.{◌≡◌, ℕ, zero, suc, ◌-◌, ◌^◌, ◌<◌, ◌≤◌, Bool, true, false, cond, replicate, List, [], ◌∷◌}
+use Rattle.std.proofs.Common.{◌++◌, length, Option, Some, None, get_or, set, take, drop, refl, sym, ap, ◌∙◌, subst, arith, length-append, append-nil}
+use Rattle.std.proofs.Common.{append_assoc, take_all}
 use Rattle.std.proofs.Math.Seq.{take-append_seam}
 use Rattle.std.proofs.lemmas.List.{get_or_default, get_or-set_same, length-set, set-get_or}
 use Rattle.std.specs.List.{Contains}
@@ -8,9 +10,11 @@ use Rattle.link_trail.specs.declared.chain.Node.{Node}
 use Rattle.link_trail.specs.declared.chain.Ends.{Ends}
 use Rattle.link_trail.specs.declared.moves.Move.{Move}
 use Rattle.link_trail.specs.declared.moves.Move.TheVariants.{Linked, Unlinked}
-use Rattle.link_trail.specs.Lists.{first_of, first_or, IsApart, IsFree, IsLinked, linked, list_at, unlinked}
-use Rattle.link_trail.specs.Chains.{free_node, node_at, ends_at, last_of, next_after, AreChained, IsDistinct, ShowsLists, PutsBetween, TakesOut}
-use Rattle.link_trail.specs.Moves.{lists_after, no_lists, StoodAfter, IsWhole, IsLatest, TakesBack}
+use Rattle.link_trail.specs.Lists.{first_node, first_or, IsApart, IsFree, IsLinked, linked, list_at, unlinked}
+use Rattle.link_trail.specs.Chains.{free_node, node_at, ends_at, last_node, AreChained, IsDistinct, ShowsLists}
+use Rattle.link_trail.specs.steps.Splices.{next_after, PutsBetween, TakesOut}
+use Rattle.link_trail.specs.Moves.{lists_after, no_lists, StoodAfter, AreWholeLinks}
+use Rattle.link_trail.specs.steps.Undoing.{IsLatest, TakesBack}
 use Rattle.link_trail.proofs.ChainLemmas.{distinct-out, last-list, first-list, linked-in_range, chained-left, chained-right, last-some}
 use Rattle.link_trail.proofs.SpliceLemmas.{elsewhere, ShowsLists-node}
 use Rattle.link_trail.proofs.MoveLemmas.{after-more, fit-more, fit-front, fit-last, fit-wider, last-next}
@@ -31,7 +35,7 @@ read xs i r d l e = get_or_default xs i d r l ∙ sym e
 -- the neighbours of a node are nodes
 pub previous-in_range : (nodes : List Node) (ends : List Ends) (lists : List (List ℕ)) (list : ℕ) (before after : List ℕ) →
     ShowsLists nodes ends lists → list_at lists list ≡ before ++ after → list < length lists →
-    (p : ℕ) → last_of before ≡ Some p → p < length nodes
+    (p : ℕ) → last_node before ≡ Some p → p < length nodes
 previous-in_range nodes ends lists list before after shows is l p e =
     let s = subst (λ ys. AreChained nodes list None ys None) is (shows.each list l).chained in
     linked-in_range nodes list p
@@ -39,22 +43,22 @@ previous-in_range nodes ends lists list before after shows is l p e =
 
 pub next-in_range : (nodes : List Node) (ends : List Ends) (lists : List (List ℕ)) (list : ℕ) (before after : List ℕ) →
     ShowsLists nodes ends lists → list_at lists list ≡ before ++ after → list < length lists →
-    (n : ℕ) → first_of after ≡ Some n → n < length nodes
+    (n : ℕ) → first_node after ≡ Some n → n < length nodes
 next-in_range nodes ends lists list before after shows is l n e =
     let s = subst (λ ys. AreChained nodes list None ys None) is (shows.each list l).chained in
     linked-in_range nodes list n
-    (first-list nodes list (last_of before) after None (chained-right nodes list None before after None s) n e)
+    (first-list nodes list (last_node before) after None (chained-right nodes list None before after None s) n e)
 
 -- the node after a place between two neighbours
 pub next_after-is : (nodes : List Node) (ends : List Ends) (lists : List (List ℕ)) (list : ℕ) (before after : List ℕ) →
     ShowsLists nodes ends lists → list_at lists list ≡ before ++ after → list < length lists →
-    next_after nodes ends list (last_of before) ≡ first_of after
-next_after-is nodes ends lists list [] after shows is l = (shows.each list l).first ∙ ap first_of is
+    next_after nodes ends list (last_node before) ≡ first_node after
+next_after-is nodes ends lists list [] after shows is l = (shows.each list l).first ∙ ap first_node is
 next_after-is nodes ends lists list (x ∷ before) after shows is l =
     let s = subst (λ ys. AreChained nodes list None ys None) is (shows.each list l).chained in
     let z = last-some x before in
-    subst (λ o. next_after nodes ends list o ≡ first_of after) (sym z.1)
-    (last-next nodes list None (x ∷ before) (first_of after)
+    subst (λ o. next_after nodes ends list o ≡ first_node after) (sym z.1)
+    (last-next nodes list None (x ∷ before) (first_node after)
     (chained-left nodes list None (x ∷ before) after None s) z.0 z.1)
 
 -- where a linked node stands
@@ -65,7 +69,7 @@ pub record Stands (nodes : List Node) (ends : List Ends) (lists : List (List ℕ
   pub list_in_range : list < length lists
   pub node_in_range : node < length nodes
   pub stood : list_at lists list ≡ before ++ node ∷ after
-  pub is : node_at nodes node ≡ record { list = Some list; previous = last_of before; next = first_of after }
+  pub is : node_at nodes node ≡ record { list = Some list; previous = last_node before; next = first_node after }
   pub alone : unlinked lists node ≡ set lists list (before ++ after)
 
 pub stands-at : (nodes : List Node) (ends : List Ends) (lists : List (List ℕ)) (node list : ℕ) (before after : List ℕ) →
@@ -112,11 +116,11 @@ ShowsLists-apart nodes ends lists shows = record {
 
 -- a node is linked
 pub whole-linked : (nodes nodes' : List Node) (ends ends' : List Ends) (moves : List Move) (room capacity capacity' list node : ℕ) →
-    IsWhole nodes ends moves room capacity → list < length ends →
+    AreWholeLinks nodes ends moves room capacity → list < length ends →
     IsFree (lists_after (no_lists (length ends)) moves) node →
     PutsBetween nodes ends nodes' ends' list node (ends_at ends list).last None →
     length nodes' ≡ length nodes → length ends' ≡ length ends → length moves < room → capacity ≤ capacity' →
-    IsWhole nodes' ends' (moves ++ Linked list node ∷ []) room capacity'
+    AreWholeLinks nodes' ends' (moves ++ Linked list node ∷ []) room capacity'
 whole-linked nodes nodes' ends ends' moves room capacity capacity' list node whole l free puts ln le spare reserved =
     let start = no_lists (length ends) in
     let lists = lists_after start moves in
@@ -133,20 +137,22 @@ whole-linked nodes nodes' ends ends' moves room capacity capacity' list node who
     }
 
 -- a node is unlinked
-pub whole-unlinked : (nodes nodes' : List Node) (ends ends' : List Ends) (moves : List Move) (room capacity capacity' list node : ℕ) (previous : Option ℕ) →
-    IsWhole nodes ends moves room capacity →
+pub whole-unlinked : (nodes nodes' : List Node) (ends ends' : List Ends) (moves : List Move) (room capacity capacity' list node : ℕ)
+    (previous : Option ℕ) →
+    AreWholeLinks nodes ends moves room capacity →
     IsLinked (lists_after (no_lists (length ends)) moves) node →
     (node_at nodes node).list ≡ Some list → (node_at nodes node).previous ≡ previous →
     TakesOut nodes ends nodes' ends' list node →
     length nodes' ≡ length nodes → length ends' ≡ length ends → length moves < room → capacity ≤ capacity' →
-    IsWhole nodes' ends' (moves ++ Unlinked list node previous ∷ []) room capacity'
+    AreWholeLinks nodes' ends' (moves ++ Unlinked list node previous ∷ []) room capacity'
 whole-unlinked nodes nodes' ends ends' moves room capacity capacity' list node previous whole linked own own' takes ln le spare reserved =
     let start = no_lists (length ends) in
     let lists = lists_after start moves in
     let s = stands nodes ends lists node whole.shown linked in
     let same : s.list ≡ list = (let e : Some s.list ≡ Some list = sym (ap (λ (n : Node). n.list) s.is) ∙ own in cc) in
     let stood : list_at lists list ≡ s.before ++ node ∷ s.after = subst (λ k. list_at lists k ≡ s.before ++ node ∷ s.after) same s.stood in
-    let alone : unlinked lists node ≡ set lists list (s.before ++ s.after) = subst (λ k. unlinked lists node ≡ set lists k (s.before ++ s.after)) same s.alone in
+    let alone : unlinked lists node ≡ set lists list (s.before ++ s.after) =
+    subst (λ k. unlinked lists node ≡ set lists k (s.before ++ s.after)) same s.alone in
     let shown : ShowsLists nodes' ends' (unlinked lists node) =
     subst (λ ls. ShowsLists nodes' ends' ls) (sym alone) (takes.shows lists s.before s.after whole.shown stood) in
     let fits : StoodAfter (length nodes) lists list node previous = record {
@@ -189,7 +195,7 @@ take_back-unlinked nodes nodes' ends ends' list node previous next en puts = rec
       let free : IsFree (set lists list rest) node = subst (λ ls. IsFree ls node) f.alone (unlinked-free lists node) in
       let here : list_at (set lists list rest) list ≡ rest = get_or-set_same lists list rest [] f.list_in_range in
       let l : list < length (set lists list rest) = omega (arith, f.list_in_range, length-set lists list rest) in
-      let first : first_of f.after ≡ next =
+      let first : first_node f.after ≡ next =
       sym (next_after-is nodes ends (set lists list rest) list f.before f.after shown' here l)
       ∙ ap (λ o. next_after nodes ends list o) f.follows ∙ sym en in
       subst (λ ls. ShowsLists nodes' ends' ls)
@@ -200,9 +206,9 @@ take_back-unlinked nodes nodes' ends ends' list node previous next en puts = rec
 
 -- the latest move is taken back
 pub latest : (nodes : List Node) (ends : List Ends) (all moves : List Move) (move : Move) (room capacity : ℕ) →
-    all ≡ moves ++ move ∷ [] → IsWhole nodes ends all room capacity → IsLatest nodes ends move
+    all ≡ moves ++ move ∷ [] → AreWholeLinks nodes ends all room capacity → IsLatest nodes ends move
 latest nodes ends all moves move room capacity e w =
-    let whole : IsWhole nodes ends (moves ++ move ∷ []) room capacity = subst (λ ms. IsWhole nodes ends ms room capacity) e w in
+    let whole : AreWholeLinks nodes ends (moves ++ move ∷ []) room capacity = subst (λ ms. AreWholeLinks nodes ends ms room capacity) e w in
     let start = no_lists (length ends) in
     record {
       lists = lists_after start moves;
@@ -211,10 +217,10 @@ latest nodes ends all moves move room capacity e w =
     }
 
 pub whole-back : (nodes nodes' : List Node) (ends ends' : List Ends) (all moves : List Move) (move : Move) (room capacity capacity' : ℕ) →
-    all ≡ moves ++ move ∷ [] → IsWhole nodes ends all room capacity → TakesBack nodes ends nodes' ends' move →
-    length nodes' ≡ length nodes → length ends' ≡ length ends → capacity ≤ capacity' → IsWhole nodes' ends' moves room capacity'
+    all ≡ moves ++ move ∷ [] → AreWholeLinks nodes ends all room capacity → TakesBack nodes ends nodes' ends' move →
+    length nodes' ≡ length nodes → length ends' ≡ length ends → capacity ≤ capacity' → AreWholeLinks nodes' ends' moves room capacity'
 whole-back nodes nodes' ends ends' all moves move room capacity capacity' e w back ln le lc =
-    let whole : IsWhole nodes ends (moves ++ move ∷ []) room capacity = subst (λ ms. IsWhole nodes ends ms room capacity) e w in
+    let whole : AreWholeLinks nodes ends (moves ++ move ∷ []) room capacity = subst (λ ms. AreWholeLinks nodes ends ms room capacity) e w in
     let start = no_lists (length ends) in
     record {
       shown = rw le (back.shows (lists_after start moves) (fit-last (length nodes) start moves move whole.fit)
@@ -252,7 +258,7 @@ pub record IsGap (nodes : List Node) (ends : List Ends) (list : ℕ) (previous :
   pub next_in_range : (n : ℕ) → next_after nodes ends list previous ≡ Some n → n < length nodes
 
 pub gap-at : (nodes : List Node) (ends : List Ends) (lists : List (List ℕ)) (list : ℕ) (before after : List ℕ) →
-    ShowsLists nodes ends lists → list < length lists → list_at lists list ≡ before ++ after → IsGap nodes ends list (last_of before)
+    ShowsLists nodes ends lists → list < length lists → list_at lists list ≡ before ++ after → IsGap nodes ends list (last_node before)
 gap-at nodes ends lists list before after shows l is = record {
   list_in_range = omega (arith, shows.count);
   previous_in_range = previous-in_range nodes ends lists list before after shows is l;
@@ -314,7 +320,7 @@ chained-same nodes nodes' same list previous [] next h = tt
 chained-same nodes nodes' same list previous (x ∷ xs) next h = (same x ∙ h.0, chained-same nodes nodes' same list (Some x) xs next h.1)
 
 pub whole-wider : (nodes : List Node) (ends : List Ends) (moves : List Move) (room capacity k : ℕ) →
-    IsWhole nodes ends moves room capacity → IsWhole (nodes ++ replicate k free_node) ends moves room capacity
+    AreWholeLinks nodes ends moves room capacity → AreWholeLinks (nodes ++ replicate k free_node) ends moves room capacity
 whole-wider nodes ends moves room capacity k whole =
     let wider : List Node = nodes ++ replicate k free_node in
     let shown = whole.shown in
@@ -338,17 +344,17 @@ whole-wider nodes ends moves room capacity k whole =
 
 pub whole-resized : (nodes nodes' : List Node) (ends : List Ends) (moves : List Move) (room capacity n m : ℕ) (b : Bool) →
     nodes' ≡ cond b (take n nodes ++ replicate (n - m) free_node) nodes → length nodes ≤ n →
-    IsWhole nodes ends moves room capacity → IsWhole nodes' ends moves room capacity
+    AreWholeLinks nodes ends moves room capacity → AreWholeLinks nodes' ends moves room capacity
 whole-resized nodes nodes' ends moves room capacity n m true e l whole =
-    subst (λ ns. IsWhole ns ends moves room capacity) (ap (λ ns. ns ++ replicate (n - m) free_node) (sym (take_all n nodes l)) ∙ sym e)
+    subst (λ ns. AreWholeLinks ns ends moves room capacity) (ap (λ ns. ns ++ replicate (n - m) free_node) (sym (take_all n nodes l)) ∙ sym e)
     (whole-wider nodes ends moves room capacity (n - m) whole)
 whole-resized nodes nodes' ends moves room capacity n m false e l whole =
-    subst (λ ns. IsWhole ns ends moves room capacity) (sym e) whole
+    subst (λ ns. AreWholeLinks ns ends moves room capacity) (sym e) whole
 
 -- room for more moves
 pub whole-roomier : (nodes : List Node) (ends : List Ends) (moves moves' : List Move) (room room' capacity capacity' : ℕ) →
-    IsWhole nodes ends moves room capacity → moves' ≡ moves → length moves ≤ room' → room' ≤ capacity' → room' < 2 ^ 31 →
-    IsWhole nodes ends moves' room' capacity'
+    AreWholeLinks nodes ends moves room capacity → moves' ≡ moves → length moves ≤ room' → room' ≤ capacity' → room' < 2 ^ 31 →
+    AreWholeLinks nodes ends moves' room' capacity'
 whole-roomier nodes ends moves moves' room room' capacity capacity' whole e within reserved bound =
-    subst (λ ms. IsWhole nodes ends ms room' capacity') (sym e)
+    subst (λ ms. AreWholeLinks nodes ends ms room' capacity') (sym e)
     (record { shown = whole.shown; fit = whole.fit; within = within; reserved = reserved; bound = bound })

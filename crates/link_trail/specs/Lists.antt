@@ -1,5 +1,6 @@
 -- Lists of numbered nodes: what contracts see of `Links`, and what each call does to it.
-use Rattle.std.specs.Prelude.{◌≡◌, ◌==◌, ℕ, ◌<◌, not, List, [], ◌∷◌, ◌++◌, length, map, filter, Option, Some, None, slice_index_or, slice_set, Contains}
+use Rattle.std.specs.Prelude.{◌≡◌, ◌==◌, ℕ, ◌<◌, not, List, [], ◌∷◌, ◌++◌, length, map, filter, Option, Some, None, slice_index_or}
+use Rattle.std.specs.Prelude.{slice_set, Contains}
 
 -- the count of nodes, the lists now, for each standing move in order the lists before it, and the
 -- count of moves for which there is room
@@ -46,13 +47,13 @@ first_or [] otherwise = otherwise
 first_or (node ∷ nodes) otherwise = Some node
 
 -- the first node of a list
-abbrev pub first_of : List ℕ → Option ℕ
-first_of nodes = first_or nodes None
+abbrev pub first_node : List ℕ → Option ℕ
+first_node nodes = first_or nodes None
 
 -- the node right after this one in its list: none after the last, nor for a node in no list
-pub record IsNext (lists : List (List ℕ)) (node : ℕ) (next : Option ℕ) : Type 0 where
+pub record IsNextNode (lists : List (List ℕ)) (node : ℕ) (next : Option ℕ) : Type 0 where
   pub linked : (list : ℕ) (before after : List ℕ) → list < length lists →
-      list_at lists list ≡ before ++ node ∷ after → next ≡ first_of after
+      list_at lists list ≡ before ++ node ∷ after → next ≡ first_node after
   pub free : IsFree lists node → next ≡ None
 
 -- the lists before the move of this number, and the lists now where no such move stands

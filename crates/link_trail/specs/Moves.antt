@@ -5,7 +5,7 @@ use Rattle.link_trail.specs.declared.chain.Ends.{Ends}
 use Rattle.link_trail.specs.declared.moves.Move.{Move}
 use Rattle.link_trail.specs.declared.moves.Move.TheVariants.{Linked, Unlinked}
 use Rattle.link_trail.specs.Lists.{linked, list_at, unlinked}
-use Rattle.link_trail.specs.Chains.{ShowsLists, last_of}
+use Rattle.link_trail.specs.Chains.{ShowsLists, last_node}
 
 -- the lists once the move is made
 abbrev pub moved : List (List ℕ) → Move → List (List ℕ)
@@ -33,33 +33,22 @@ pub record StoodAfter (nodes : ℕ) (lists : List (List ℕ)) (list node : ℕ) 
   pub list_in_range : list < length lists
   pub node_in_range : node < nodes
   pub stood : list_at lists list ≡ before ++ node ∷ after
-  pub follows : last_of before ≡ previous
+  pub follows : last_node before ≡ previous
   pub alone : unlinked lists node ≡ slice_set lists list (before ++ after)
 
 -- the move tells what takes it back from the lists that it leads to
-abbrev pub Fits : ℕ → List (List ℕ) → Move → Type 0
-Fits nodes lists (Linked list node) = list < length lists
-Fits nodes lists (Unlinked list node previous) = StoodAfter nodes lists list node previous
-
--- the move led from some lists to those that nodes and ends show
-pub record IsLatest (nodes : List Node) (ends : List Ends) (move : Move) : Type 0 where
-  pub lists : List (List ℕ)
-  pub fits : Fits (length nodes) lists move
-  pub shown : ShowsLists nodes ends (moved lists move)
-
--- nodes and ends show the lists before the move, where they showed those after it
-pub record TakesBack (nodes : List Node) (ends : List Ends) (nodes' : List Node) (ends' : List Ends) (move : Move) : Type 0 where
-  pub shows : (lists : List (List ℕ)) → Fits (length nodes) lists move → ShowsLists nodes ends (moved lists move) →
-      ShowsLists nodes' ends' lists
+abbrev pub IsTakenBackBy : ℕ → List (List ℕ) → Move → Type 0
+IsTakenBackBy nodes lists (Linked list node) = list < length lists
+IsTakenBackBy nodes lists (Unlinked list node previous) = StoodAfter nodes lists list node previous
 
 -- each of these moves tells what takes it back
 abbrev pub AllFit : ℕ → List (List ℕ) → List Move → Type 0
 AllFit nodes lists [] = Unit {0}
-AllFit nodes lists (move ∷ moves) = Fits nodes lists move × AllFit nodes (moved lists move) moves
+AllFit nodes lists (move ∷ moves) = IsTakenBackBy nodes lists move × AllFit nodes (moved lists move) moves
 
 -- what holds of the fields of every `Links`: nodes and ends show the lists that the moves made, each
 -- move can be taken back, and there is memory for the moves that have room
-pub record IsWhole (nodes : List Node) (ends : List Ends) (moves : List Move) (room capacity : ℕ) : Type 0 where
+pub record AreWholeLinks (nodes : List Node) (ends : List Ends) (moves : List Move) (room capacity : ℕ) : Type 0 where
   pub shown : ShowsLists nodes ends (lists_after (no_lists (length ends)) moves)
   pub fit : AllFit (length nodes) (no_lists (length ends)) moves
   pub within : length moves ≤ room

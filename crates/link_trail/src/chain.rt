@@ -1,13 +1,14 @@
 ghost use Rattle.std.specs.Prelude.{◌≡◌, ◌<◌, length};
 ghost use Rattle.std.specs.Option.{ForSome};
-ghost use Rattle.link_trail.specs.Chains.{PutsBetween, TakesOut, next_after, with_first, with_last, with_next, with_previous, node_at};
+ghost use Rattle.link_trail.specs.Chains.{node_at};
+ghost use Rattle.link_trail.specs.steps.Splices.{PutsBetween, TakesOut, next_after, with_first, with_last, with_next, with_previous};
 
 /// Where a node stands: its list, and its neighbours there.
 #[derive(Clone, Copy, Debug)]
-pub struct Node {
-    pub list: Option<u32>,
-    pub previous: Option<u32>,
-    pub next: Option<u32>,
+pub(crate) struct Node {
+    pub(crate) list: Option<u32>,
+    pub(crate) previous: Option<u32>,
+    pub(crate) next: Option<u32>,
 }
 
 impl Node {
@@ -21,9 +22,9 @@ impl Node {
 
 /// The first and the last node of a list.
 #[derive(Clone, Copy, Debug)]
-pub struct Ends {
-    pub first: Option<u32>,
-    pub last: Option<u32>,
+pub(crate) struct Ends {
+    pub(crate) first: Option<u32>,
+    pub(crate) last: Option<u32>,
 }
 
 impl Ends {
@@ -35,7 +36,12 @@ impl Ends {
 }
 
 /// The node that follows `previous` in the list, or the list's first.
-pub fn following(nodes: &[Node], ends: &[Ends], list: u32, previous: Option<u32>) -> Option<u32>
+pub(crate) fn following(
+    nodes: &[Node],
+    ends: &[Ends],
+    list: u32,
+    previous: Option<u32>,
+) -> Option<u32>
     requires list { list < length ends.now }
     requires previous { ForSome previous (λ p. p < length nodes.now) }
     ensures { result ≡ next_after nodes.now ends.now list previous }
@@ -47,7 +53,7 @@ pub fn following(nodes: &[Node], ends: &[Ends], list: u32, previous: Option<u32>
 }
 
 /// Puts a free node into the list, between two neighbours or at an end.
-pub fn splice_in(
+pub(crate) fn splice_in(
     nodes: &mut [Node],
     ends: &mut [Ends],
     list: u32,
@@ -71,7 +77,7 @@ pub fn splice_in(
 }
 
 /// Takes a node out of the list, and makes its neighbours there neighbours of each other.
-pub fn splice_out(nodes: &mut [Node], ends: &mut [Ends], list: u32, node: u32)
+pub(crate) fn splice_out(nodes: &mut [Node], ends: &mut [Ends], list: u32, node: u32)
     requires list { list < length ends.old }
     requires node { node < length nodes.old }
     requires previous { ForSome (node_at nodes.old node).previous (λ p. p < length nodes.old) }

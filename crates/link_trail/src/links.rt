@@ -1,6 +1,7 @@
-ghost use Rattle.std.specs.Prelude.{◌≡◌, ◌+◌, ◌-◌, ◌<◌, ◌≤◌, ◌^◌, max, [], ◌∷◌, ◌++◌, length, take, replicate, IfOk, OnOk, OnErr};
+ghost use Rattle.std.specs.Prelude.{◌≡◌, ◌+◌, ◌-◌, ◌<◌, ◌≤◌, ◌^◌, max, [], ◌∷◌, ◌++◌, length, take, replicate, IfOk};
+ghost use Rattle.std.specs.Prelude.{OnOk, OnErr};
 ghost use Rattle.std.specs.Vec.{vec_capacity, vec_len};
-ghost use Rattle.link_trail.specs.Lists.{IsApart, IsFree, IsLinked, IsNext, first_of, linked, list_at, lists_at_mark, unlinked};
+ghost use Rattle.link_trail.specs.Lists.{IsApart, IsFree, IsLinked, IsNextNode, first_node, linked, list_at, lists_at_mark, unlinked};
 
 use crate::chain::{Ends, Node, splice_in, splice_out};
 use crate::moves::{Move, take_back};
@@ -25,7 +26,7 @@ impl Model for Links {
 
     ghost Value = { LinkedLists };
 
-    ghost use Rattle.link_trail.specs.Moves.{IsWhole, lists_after, lists_before, no_lists};
+    ghost use Rattle.link_trail.specs.Moves.{AreWholeLinks, lists_after, lists_before, no_lists};
 
     ghost view = { λ x. record {
       nodes = length x.nodes.items;
@@ -34,7 +35,7 @@ impl Model for Links {
       spare = x.room - length x.moves.items;
     } };
 
-    ghost invariant = { λ x. IsWhole x.nodes.items x.ends.items x.moves.items x.room (vec_capacity x.moves) };
+    ghost invariant = { λ x. AreWholeLinks x.nodes.items x.ends.items x.moves.items x.room (vec_capacity x.moves) };
 }
 
 impl Links {
@@ -114,7 +115,7 @@ impl Links {
     /// The first node of the list, if there is one.
     pub fn first(&self, list: u32) -> Option<u32>
         requires { list < length self.now.lists }
-        ensures { result ≡ first_of (list_at self.now.lists list) }
+        ensures { result ≡ first_node (list_at self.now.lists list) }
     {
         self.ends[list as usize].first
     }
@@ -122,7 +123,7 @@ impl Links {
     /// The node right after this one in its list: none where it is the last, or in no list.
     pub fn next(&self, node: u32) -> Option<u32>
         requires { node < self.now.nodes }
-        ensures { IsNext self.now.lists node result }
+        ensures { IsNextNode self.now.lists node result }
     {
         self.nodes[node as usize].next
     }

@@ -1,10 +1,10 @@
-ghost use Rattle.link_trail.specs.Moves.{IsLatest, TakesBack};
+ghost use Rattle.link_trail.specs.steps.Undoing.{IsLatest, TakesBack};
 
 use crate::chain::{Ends, Node, following, splice_in, splice_out};
 
 /// A move that stands, with what takes it back.
 #[derive(Clone, Copy, Debug)]
-pub enum Move {
+pub(crate) enum Move {
     /// The node was put at the end of the list.
     Linked {
         list: u32,
@@ -19,7 +19,7 @@ pub enum Move {
 }
 
 /// Puts nodes and ends back to the lists before the latest move.
-pub fn take_back(nodes: &mut [Node], ends: &mut [Ends], latest: Move)
+pub(crate) fn take_back(nodes: &mut [Node], ends: &mut [Ends], latest: Move)
     requires { IsLatest nodes.old ends.old latest }
     ensures { TakesBack nodes.old ends.old nodes.new ends.new latest }
 {

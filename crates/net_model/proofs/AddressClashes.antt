@@ -4,7 +4,7 @@ use Rattle.net_model.specs.Conditions.{HaveOneAddress}
 use Rattle.net_model.specs.Configuration.{Configuration}
 use Rattle.net_model.specs.Least.{IsBest}
 use Rattle.net_model.specs.Network.{Network, HasConfiguration}
-use Rattle.net_model.specs.Scans.{ClashOnAddress, OffersAddress}
+use Rattle.net_model.specs.steps.Scans.{ClashOnAddress, OffersAddress}
 use Rattle.net_model.proofs.Adjacency.{UpInterface-among}
 use Rattle.net_model.proofs.Bests.{Any-from, IsBest-same}
 use Rattle.net_model.proofs.NetworkFacts.{UpInterface-within}
@@ -23,7 +23,8 @@ HaveOneAddress-sym net u v a h = record {
   unshared = ⊎_elim (λ e. inl (sym e)) (λ r. inr (⊎_elim inr inl r)) h.unshared;
 }
 
-module _ (net : Network) (u v : ℕ) (c d : Configuration) (near : HasConfiguration net u c) (far : HasConfiguration net v d) (same : Bool) (same_is : IsTrue same ↔ (u ≡ v)) where
+module _ (net : Network) (u v : ℕ) (c d : Configuration) (near : HasConfiguration net u c) (far : HasConfiguration net v d) (same : Bool)
+    (same_is : IsTrue same ↔ (u ≡ v)) where
   from_list : (a : ℕ) → Any (OffersAddress same d.interfaces a) c.interfaces → HaveOneAddress net u v a
   from_list a h =
       let clash = h.4.1 in
@@ -52,5 +53,7 @@ module _ (net : Network) (u v : ℕ) (c d : Configuration) (near : HasConfigurat
       Any-from (OffersAddress same d.interfaces a) c.interfaces h.one (UpInterface-among net u c h.one near h.interfaces.one_up)
       (h.one_address, Any-from (ClashOnAddress same h.one) d.interfaces h.two (UpInterface-among net v d h.two far h.interfaces.two_up) clash)
 
-  pub HaveOneAddress-best : (best : Option ℕ) → IsBest (λ a b. a ≤ b) (λ a. Any (OffersAddress same d.interfaces a) c.interfaces) best → IsBest (λ a b. a ≤ b) (HaveOneAddress net u v) best
-  HaveOneAddress-best best h = IsBest-same (λ a b. a ≤ b) (λ a. Any (OffersAddress same d.interfaces a) c.interfaces) (HaveOneAddress net u v) best from_list from_net h
+  pub HaveOneAddress-best : (best : Option ℕ) → IsBest (λ a b. a ≤ b) (λ a. Any (OffersAddress same d.interfaces a) c.interfaces) best →
+      IsBest (λ a b. a ≤ b) (HaveOneAddress net u v) best
+  HaveOneAddress-best best h = IsBest-same (λ a b. a ≤ b) (λ a. Any (OffersAddress same d.interfaces a) c.interfaces) (HaveOneAddress net u v)
+      best from_list from_net h

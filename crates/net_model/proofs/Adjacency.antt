@@ -50,7 +50,8 @@ module _ (net : Network) (zone : Zone) (u v : ℕ) (c d : Configuration) (from :
     costs = a.costs;
   }
 
-  pub LeastArc-from_best : (best : Option ℕ) → u ≢ v → MayJoin zone c d → BestLink zone c.interfaces d.interfaces best → MatchOption best ((cost : ℕ) → Adjacent net zone u v cost → ⊥) (LeastArc net zone u v)
+  pub LeastArc-from_best : (best : Option ℕ) → u ≢ v → MayJoin zone c d → BestLink zone c.interfaces d.interfaces best →
+      MatchOption best ((cost : ℕ) → Adjacent net zone u v cost → ⊥) (LeastArc net zone u v)
   LeastArc-from_best None apart may h = λ cost a. h cost (link_from_Adjacent cost a)
   LeastArc-from_best (Some cost) apart may h = record {
     adjacent = Adjacent-from_link cost apart may h.attained;

@@ -5,7 +5,7 @@ use Rattle.net_model.specs.Conditions.{RunTwoAreas}
 use Rattle.net_model.specs.Configuration.{Configuration}
 use Rattle.net_model.specs.Least.{IsBest, IsBlockAtMost}
 use Rattle.net_model.specs.Network.{Network, HasConfiguration}
-use Rattle.net_model.specs.Scans.{AreInTwoAreas, ClashOnArea, OffersDest}
+use Rattle.net_model.specs.steps.Scans.{AreInTwoAreas, ClashOnArea, OffersDest}
 use Rattle.net_model.proofs.Adjacency.{UpInterface-among}
 use Rattle.net_model.proofs.Bests.{Any-from, IsBest-same}
 use Rattle.net_model.proofs.NetworkFacts.{UpInterface-within}
@@ -49,9 +49,24 @@ module _ (net : Network) (u v : ℕ) (c d : Configuration) (near : HasConfigurat
 
   from_net : (p : Block) → RunTwoAreas net u v p → Any (OffersDest d.interfaces p) c.interfaces
   from_net p h =
-      let two : AreInTwoAreas h.one h.two = record { one_up = h.one_up.up; two_up = h.two_up.up; one_area = h.one_area; two_area = h.two_area; one_runs = h.one_runs; two_runs = h.two_runs; apart = h.apart } in
-      Any-from (OffersDest d.interfaces p) c.interfaces h.one (UpInterface-among net u c h.one near h.one_up)
-      (h.one_subnet, Any-from (ClashOnArea h.one) d.interfaces h.two (UpInterface-among net v d h.two far h.two_up) (two, record { subnet = p; near = h.one_subnet; far = h.two_subnet }))
+      let two : AreInTwoAreas h.one h.two = record {
+        one_up = h.one_up.up;
+        two_up = h.two_up.up;
+        one_area = h.one_area;
+        two_area = h.two_area;
+        one_runs =
+            h.one_runs;
+        two_runs = h.two_runs;
+        apart = h.apart;
+      } in
+      Any-from (OffersDest d.interfaces p) c.interfaces h.one (UpInterface-among net u c h.one near h.one_up) (
+        h.one_subnet,
+        Any-from (ClashOnArea h.one) d.interfaces h.two (UpInterface-among net v d h.two far h.two_up) (
+          two,
+          record { subnet = p; near = h.one_subnet; far = h.two_subnet },
+        ),
+      )
 
-  pub RunTwoAreas-best : (best : Option Block) → IsBest IsBlockAtMost (λ p. Any (OffersDest d.interfaces p) c.interfaces) best → IsBest IsBlockAtMost (RunTwoAreas net u v) best
+  pub RunTwoAreas-best : (best : Option Block) → IsBest IsBlockAtMost (λ p. Any (OffersDest d.interfaces p) c.interfaces) best →
+      IsBest IsBlockAtMost (RunTwoAreas net u v) best
   RunTwoAreas-best best h = IsBest-same IsBlockAtMost (λ p. Any (OffersDest d.interfaces p) c.interfaces) (RunTwoAreas net u v) best from_list from_net h

@@ -10,12 +10,28 @@ use Rattle.net_model.proofs.Members.{Contains-none}
 
 module _ (zone : Zone) (fars : List Interface) where
   costs_left : (xs ys : List Interface) (cost : ℕ) → LinkCosts zone xs fars cost → LinkCosts zone (xs ++ ys) fars cost
-  costs_left xs ys cost h = record { near = h.near; far = h.far; near_among = Contains-append_left xs ys h.near h.near_among; far_among = h.far_among; joins = h.joins; costs = h.costs }
+  costs_left xs ys cost h = record {
+    near = h.near;
+    far = h.far;
+    near_among = Contains-append_left xs ys h.near h.near_among;
+    far_among = h.far_among;
+    joins =
+        h.joins;
+    costs = h.costs;
+  }
 
   costs_right : (xs ys : List Interface) (cost : ℕ) → LinkCosts zone ys fars cost → LinkCosts zone (xs ++ ys) fars cost
-  costs_right xs ys cost h = record { near = h.near; far = h.far; near_among = Contains-append_right xs ys h.near h.near_among; far_among = h.far_among; joins = h.joins; costs = h.costs }
+  costs_right xs ys cost h = record {
+    near = h.near;
+    far = h.far;
+    near_among = Contains-append_right xs ys h.near h.near_among;
+    far_among = h.far_among;
+    joins = h.joins;
+    costs = h.costs;
+  }
 
-  costs_cases : (xs ys : List Interface) (cost : ℕ) (P : Type 0) → LinkCosts zone (xs ++ ys) fars cost → (LinkCosts zone xs fars cost → P) → (LinkCosts zone ys fars cost → P) → P
+  costs_cases : (xs ys : List Interface) (cost : ℕ) (P : Type 0) → LinkCosts zone (xs ++ ys) fars cost → (LinkCosts zone xs fars cost → P) →
+      (LinkCosts zone ys fars cost → P) → P
   costs_cases xs ys cost P h left right =
       ⊎_elim
       (λ l. left (record { near = h.near; far = h.far; near_among = l; far_among = h.far_among; joins = h.joins; costs = h.costs }))
@@ -26,7 +42,8 @@ module _ (zone : Zone) (fars : List Interface) where
   BestLink-none cost h = Contains-none h.near h.near_among
 
   -- the best link of two lists of interfaces is the lower of their best links
-  pub BestLink-append : (xs ys : List Interface) (a b : Option ℕ) → BestLink zone xs fars a → BestLink zone ys fars b → BestLink zone (xs ++ ys) fars (lower_of a b)
+  pub BestLink-append : (xs ys : List Interface) (a b : Option ℕ) → BestLink zone xs fars a → BestLink zone ys fars b →
+      BestLink zone (xs ++ ys) fars (lower_of a b)
   BestLink-append xs ys None None h k = λ cost c. costs_cases xs ys cost ⊥ c (h cost) (k cost)
   BestLink-append xs ys None (Some b) h k = record {
     attained = costs_right xs ys b k.attained;
@@ -50,7 +67,8 @@ module _ (zone : Zone) (fars : List Interface) where
       lower_right : (a b : ℕ) → b ≤ a → b ≡ min a b
       lower_right a b l = omega arith
 
-  pub BestLink-more : (xs : List Interface) (i : ℕ) (x : Interface) (a b : Option ℕ) → i < length xs → x ≡ get_or xs i x → BestLink zone (take i xs) fars a → BestLink zone (x ∷ []) fars b → BestLink zone (take (i + 1) xs) fars (lower_of a b)
+  pub BestLink-more : (xs : List Interface) (i : ℕ) (x : Interface) (a b : Option ℕ) → i < length xs → x ≡ get_or xs i x → BestLink zone (take i xs) fars a →
+      BestLink zone (x ∷ []) fars b → BestLink zone (take (i + 1) xs) fars (lower_of a b)
   BestLink-more xs i x a b l e h k =
       let P : List Interface → Type 0 = λ ys. BestLink zone ys fars (lower_of a b) in
       subst P (ap (λ y. take i xs ++ y ∷ []) e ∙ sym (take_more xs i x l)) (BestLink-append (take i xs) (x ∷ []) a b h k)

@@ -1,5 +1,6 @@
 -- The longest subnet around an address, part by part, and the connected prefix that it stands for.
-use Rattle.std.proofs.Common.{◌≡◌, ℕ, ◌+◌, ◌<◌, ◌≤◌, ◌↔◌, Bool, true, false, nat_lt, if◌then◌else◌, List, [], ◌∷◌, ◌++◌, length, get_or, take, Option, Some, None, MatchOption, ltb-true, ltb-false, refl, sym, ap, subst, ◌∙◌, ⊎_elim, arith}
+use Rattle.std.proofs.Common.{◌≡◌, ℕ, ◌+◌, ◌<◌, ◌≤◌, ◌↔◌, Bool, true, false, nat_lt, if◌then◌else◌, List, [], ◌∷◌, ◌++◌, length, get_or, take, Option, Some}
+use Rattle.std.proofs.Common.{None, MatchOption, ltb-true, ltb-false, refl, sym, ap, subst, ◌∙◌, ⊎_elim, arith}
 use Rattle.std.proofs.lemmas.List.{take_more}
 use Rattle.std.proofs.lemmas.List.Elements.{Contains-append_left, Contains-append_right, Contains-append_cases}
 use Rattle.net_addr.specs.Addresses.{Block, ContainsAddress}
@@ -8,7 +9,7 @@ use Rattle.net_addr.proofs.LongestMatchLaws.{IsLongestMatch-same, HasNoMatch-sam
 use Rattle.net_model.specs.Configuration.{Configuration}
 use Rattle.net_model.specs.Lookups.{LongestConnected}
 use Rattle.net_model.specs.Network.{Network, HasConfiguration, Connected}
-use Rattle.net_model.specs.Subnets.{IsSubnetOf, BestSubnet, longer_of}
+use Rattle.net_model.specs.steps.Subnets.{IsSubnetOf, BestSubnet, longer_of}
 use Rattle.net_model.specs.declared.interface.Interface.{Interface}
 use Rattle.net_model.proofs.Adjacency.{UpInterface-among}
 use Rattle.net_model.proofs.Members.{Contains-none}
@@ -64,7 +65,8 @@ module _ (a : ℕ) where
   BestSubnet-append xs ys (Some p) None h k = left_longest xs ys p h (λ r on inside. absurd (k r on inside))
   BestSubnet-append xs ys (Some p) (Some q) h k = longer_cases xs ys p q (nat_lt p.len q.len) refl h k
 
-  pub BestSubnet-more : (xs : List Interface) (i : ℕ) (x : Interface) (o m : Option Block) → i < length xs → x ≡ get_or xs i x → BestSubnet a (take i xs) o → BestSubnet a (x ∷ []) m → BestSubnet a (take (i + 1) xs) (longer_of o m)
+  pub BestSubnet-more : (xs : List Interface) (i : ℕ) (x : Interface) (o m : Option Block) → i < length xs → x ≡ get_or xs i x → BestSubnet a (take i xs) o →
+      BestSubnet a (x ∷ []) m → BestSubnet a (take (i + 1) xs) (longer_of o m)
   BestSubnet-more xs i x o m l e h k =
       let P : List Interface → Type 0 = λ ys. BestSubnet a ys (longer_of o m) in
       subst P (ap (λ y. take i xs ++ y ∷ []) e ∙ sym (take_more xs i x l)) (BestSubnet-append (take i xs) (x ∷ []) o m h k)
@@ -85,6 +87,7 @@ module _ (a : ℕ) where
       },
     )
 
-    pub LongestConnected-from_best : (best : Option Block) → BestSubnet a c.interfaces best → MatchOption best ((p : Block) → Connected net u p → ContainsAddress p a → ⊥) (LongestConnected net u a)
+    pub LongestConnected-from_best : (best : Option Block) → BestSubnet a c.interfaces best → MatchOption best ((p : Block) → Connected net u p →
+        ContainsAddress p a → ⊥) (LongestConnected net u a)
     LongestConnected-from_best None h = HasNoMatch-same (IsSubnetOf c.interfaces) (Connected net u) a subnets_connected h
     LongestConnected-from_best (Some p) h = IsLongestMatch-same (IsSubnetOf c.interfaces) (Connected net u) a p subnets_connected h

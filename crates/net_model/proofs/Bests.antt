@@ -1,12 +1,13 @@
 -- The least item that a list offers, element by element, and of things that say the same.
-use Rattle.std.proofs.Common.{◌≡◌, ℕ, ◌+◌, ◌<◌, ◌≤◌, true, false, ◌||◌, ◌&&◌, nat_lt, nat_eq, if◌then◌else◌, List, [], ◌∷◌, ◌++◌, length, get_or, take, Option, Some, None, Any, Contains, min, refl, sym, ap, ◌∙◌, subst, ◌⊎◌, inl, inr, ⊎_elim, arith}
+use Rattle.std.proofs.Common.{◌≡◌, ℕ, ◌+◌, ◌<◌, ◌≤◌, true, false, ◌||◌, ◌&&◌, nat_lt, nat_eq, if◌then◌else◌, List, [], ◌∷◌, ◌++◌, length, get_or, take, Option}
+use Rattle.std.proofs.Common.{Some, None, Any, Contains, min, refl, sym, ap, ◌∙◌, subst, ◌⊎◌, inl, inr, ⊎_elim, arith}
 use Rattle.std.proofs.lemmas.Bool.{cases_lt, or_cases, or_parts, and_parts, and_cases, cond_both, ltb-true, ltb-false, eqb-true, eqb-false}
 use Rattle.std.proofs.lemmas.List.{take_more}
 use Rattle.std.proofs.lemmas.List.Elements.{Contains-append_left, Contains-push, Contains-push_cases}
 use Rattle.net_addr.specs.Addresses.{Block}
 use Rattle.net_model.specs.Least.{IsBest, IsBlockAtMost}
 use Rattle.net_model.specs.Links.{lower_of}
-use Rattle.net_model.specs.Scans.{first_block}
+use Rattle.net_model.specs.steps.Scans.{first_block}
 
 -- the better of two optional items, by a choice of the better of two
 abbrev pub better_by : {A : Type 0} → (A → A → A) → Option A → Option A → Option A
@@ -26,7 +27,8 @@ module _ {A : Type 0} (AtMost : A → A → Type 0) where
   IsBest-same P Q None to back h = λ a q. h a (back a q)
   IsBest-same P Q (Some b) to back h = record { holds = to b h.holds; least = λ a q. h.least a (back a q) }
 
-  pub IsBest-or : (pick : A → A → A) → Picks AtMost pick → (P Q R : A → Type 0) (a b : Option A) → ((x : A) → P x → R x) → ((x : A) → Q x → R x) → ((x : A) → R x → P x ⊎ Q x) → IsBest AtMost P a → IsBest AtMost Q b → IsBest AtMost R (better_by pick a b)
+  pub IsBest-or : (pick : A → A → A) → Picks AtMost pick → (P Q R : A → Type 0) (a b : Option A) → ((x : A) → P x → R x) → ((x : A) → Q x → R x) →
+      ((x : A) → R x → P x ⊎ Q x) → IsBest AtMost P a → IsBest AtMost Q b → IsBest AtMost R (better_by pick a b)
   IsBest-or pick picks P Q R None None p q r h k = λ x c. ⊎_elim (h x) (k x) (r x c)
   IsBest-or pick picks P Q R None (Some b) p q r h k = record {
     holds = q b k.holds;
@@ -64,7 +66,8 @@ module _ {X A : Type 0} (AtMost : A → A → Type 0) (pick : A → A → A) (pi
   pub IsBest-none : IsBest AtMost (λ a. Any (Offer a) []) None
   IsBest-none a h = Any-none (Offer a) h
 
-  pub IsBest-more : (xs : List X) (i : ℕ) (x : X) (a b : Option A) → i < length xs → x ≡ get_or xs i x → IsBest AtMost (λ z. Any (Offer z) (take i xs)) a → IsBest AtMost (λ z. Offer z x) b → IsBest AtMost (λ z. Any (Offer z) (take (i + 1) xs)) (better_by pick a b)
+  pub IsBest-more : (xs : List X) (i : ℕ) (x : X) (a b : Option A) → i < length xs → x ≡ get_or xs i x → IsBest AtMost (λ z. Any (Offer z) (take i xs)) a →
+      IsBest AtMost (λ z. Offer z x) b → IsBest AtMost (λ z. Any (Offer z) (take (i + 1) xs)) (better_by pick a b)
   IsBest-more xs i x a b l e h k =
       let P : List X → Type 0 = λ ys. IsBest AtMost (λ z. Any (Offer z) ys) (better_by pick a b) in
       subst P (ap (λ y. take i xs ++ y ∷ []) e ∙ sym (take_more xs i x l))
@@ -103,16 +106,19 @@ block_below p q r h k =
 block_not_below : (p q r : Block) → p.base ≤ q.base → (q.base ≡ p.base → p.len ≤ q.len) → IsBlockAtMost q r → IsBlockAtMost p r
 block_not_below p q r h k =
     ⊎_elim (λ l. inl (omega arith))
-    (λ l. ⊎_elim (λ s. inl (omega (arith, l.0))) (λ g. let e : q.base ≡ p.base = omega arith in inr (sym e ∙ l.0, omega (arith, k e, l.1))) (cases_lt p.base q.base))
+    (λ l. ⊎_elim (λ s. inl (omega (arith, l.0))) (λ g. let e : q.base ≡ p.base = omega arith in inr (sym e ∙ l.0, omega (arith, k e, l.1)))
+    (cases_lt p.base q.base))
 
 -- what the test of two prefixes says
-when_true : (p q : Block) → (nat_lt q.base p.base || (nat_eq q.base p.base && nat_lt q.len p.len)) ≡ true → (q.base < p.base) ⊎ ((q.base ≡ p.base) × (q.len < p.len))
+when_true : (p q : Block) → (nat_lt q.base p.base || (nat_eq q.base p.base && nat_lt q.len p.len)) ≡ true → (q.base < p.base) ⊎
+    ((q.base ≡ p.base) × (q.len < p.len))
 when_true p q e =
     ⊎_elim (λ l. inl (ltb-true q.base p.base l))
     (λ r. let parts = and_parts (nat_eq q.base p.base) (nat_lt q.len p.len) r in inr (eqb-true q.base p.base parts.0, ltb-true q.len p.len parts.1))
     (or_cases (nat_lt q.base p.base) (nat_eq q.base p.base && nat_lt q.len p.len) e)
 
-when_false : (p q : Block) → (nat_lt q.base p.base || (nat_eq q.base p.base && nat_lt q.len p.len)) ≡ false → (p.base ≤ q.base) × (q.base ≡ p.base → p.len ≤ q.len)
+when_false : (p q : Block) → (nat_lt q.base p.base || (nat_eq q.base p.base && nat_lt q.len p.len)) ≡ false → (p.base ≤ q.base) ×
+    (q.base ≡ p.base → p.len ≤ q.len)
 when_false p q e =
     let parts = or_parts (nat_lt q.base p.base) (nat_eq q.base p.base && nat_lt q.len p.len) e in (
       ltb-false q.base p.base parts.0,
@@ -127,5 +133,6 @@ picks_block = record {
   right = λ p q r h. by_test p q (λ b. IsBlockAtMost b r) (λ e. h) (λ e. let w = when_false p q e in block_not_below p q r w.0 w.1 h);
 }
   where
-    by_test : (p q : Block) (P : Block → Type 0) → ((nat_lt q.base p.base || (nat_eq q.base p.base && nat_lt q.len p.len)) ≡ true → P q) → ((nat_lt q.base p.base || (nat_eq q.base p.base && nat_lt q.len p.len)) ≡ false → P p) → P (pick_block p q)
+    by_test : (p q : Block) (P : Block → Type 0) → ((nat_lt q.base p.base || (nat_eq q.base p.base && nat_lt q.len p.len)) ≡ true → P q) →
+        ((nat_lt q.base p.base || (nat_eq q.base p.base && nat_lt q.len p.len)) ≡ false → P p) → P (pick_block p q)
     by_test p q P this that = cond_both (nat_lt q.base p.base || (nat_eq q.base p.base && nat_lt q.len p.len)) q p P this that

@@ -3,7 +3,7 @@ use Rattle.std.proofs.Common.{ℕ, ◌<◌, length, Any}
 use Rattle.net_model.specs.Conditions.{LacksBackbone}
 use Rattle.net_model.specs.Configuration.{Configuration}
 use Rattle.net_model.specs.Network.{Network, HasConfiguration, IsBorderRouter}
-use Rattle.net_model.specs.Scans.{AreInTwoAreas, LeaveBackbone}
+use Rattle.net_model.specs.steps.Scans.{AreInTwoAreas, LeaveBackbone}
 use Rattle.net_model.specs.declared.interface.Interface.{Interface}
 use Rattle.net_model.proofs.Adjacency.{UpInterface-among}
 use Rattle.net_model.proofs.Bests.{Any-from}
@@ -22,14 +22,27 @@ module _ (net : Network) (u : ℕ) (c : Configuration) (at : HasConfiguration ne
         other = other.4.two_area;
         apart = other.4.apart;
         in_one = record { interface = h.1; up = UpInterface-from net u c at h.1 (h.0, h.2, h.3) other.4.one_up; area = other.4.one_runs };
-        in_other = record { interface = other.1; up = UpInterface-from net u c at other.1 (other.0, other.2, other.3) other.4.two_up; area = other.4.two_runs };
+        in_other = record {
+          interface = other.1;
+          up = UpInterface-from net u c at other.1 (other.0, other.2, other.3) other.4.two_up;
+          area = other.4.two_runs;
+        };
       }
 
   list_from : IsBorderRouter net u → Any (λ (i : Interface). Any (AreInTwoAreas i) c.interfaces) c.interfaces
   list_from b =
       let i = b.in_one.interface in
       let j = b.in_other.interface in
-      let two : AreInTwoAreas i j = record { one_up = b.in_one.up.up; two_up = b.in_other.up.up; one_area = b.one; two_area = b.other; one_runs = b.in_one.area; two_runs = b.in_other.area; apart = b.apart } in
+      let two : AreInTwoAreas i j = record {
+        one_up = b.in_one.up.up;
+        two_up = b.in_other.up.up;
+        one_area = b.one;
+        two_area = b.other;
+        one_runs =
+            b.in_one.area;
+        two_runs = b.in_other.area;
+        apart = b.apart;
+      } in
       Any-from (λ (x : Interface). Any (AreInTwoAreas x) c.interfaces) c.interfaces i (UpInterface-among net u c i at b.in_one.up)
       (Any-from (AreInTwoAreas i) c.interfaces j (UpInterface-among net u c j at b.in_other.up) two)
 

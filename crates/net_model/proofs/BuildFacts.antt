@@ -15,12 +15,14 @@ IsLeastDouble-permutation xs ys name moves h = record {
   least = λ other t below. h.least other (TwoHaveName-permutation xs ys other moves t) below;
 }
 
-pub Refuses-by_name : (configs net : List Configuration) (refusal : NetRefusal) → IsWithinLimits configs → IsPermutation configs net → RefusesName refusal net → Refuses refusal configs
+pub Refuses-by_name : (configs net : List Configuration) (refusal : NetRefusal) → IsWithinLimits configs → IsPermutation configs net →
+    RefusesName refusal net → Refuses refusal configs
 Refuses-by_name configs net (TwoNames name) limits moves h = (limits, IsLeastDouble-permutation configs net name moves h)
 Refuses-by_name configs net OutOfMemory limits moves h = tt
 Refuses-by_name configs net _ limits moves h = absurd h
 
-pub Refuses-by_network : (configs : List Configuration) (net : Network) (refusal : NetRefusal) → IsWithinLimits configs → IsNetworkOf configs net → MayRefuse refusal net → Refuses refusal configs
+pub Refuses-by_network : (configs : List Configuration) (net : Network) (refusal : NetRefusal) → IsWithinLimits configs → IsNetworkOf configs net →
+    MayRefuse refusal net → Refuses refusal configs
 Refuses-by_network configs net (Limit _ _) limits network h = absurd h
 Refuses-by_network configs net (TwoNames _) limits network h = absurd h
 Refuses-by_network configs net OutOfMemory limits network h = tt

@@ -1,6 +1,8 @@
 -- The sorted list of prefixes without repeats is what the limit counts.
-use Rattle.std.proofs.Common.{◌≡◌, ◌≢◌, ℕ, Bool, true, false, ◌&&◌, ◌==◌, if◌then◌else◌, List, length, map, get_or, Option, Some, None, IsTrue, Ordering, Contains, AllPairs, IsPermutation, eqb-true, refl, sym, subst, ⊎_elim, arith}
-use Rattle.std.specs.Cmp.{IsTotalOrder, IsEquivalence, and_equiv, on_equiv, on_total, then_total, both_tied, tied_itself, nat_cmp_total, nat_eq_equiv, unsigned_ties}
+use Rattle.std.proofs.Common.{◌≡◌, ◌≢◌, ℕ, Bool, true, false, ◌&&◌, ◌==◌, if◌then◌else◌, List, length, map, get_or, Option, Some, None, IsTrue, Ordering}
+use Rattle.std.proofs.Common.{Contains, AllPairs, IsPermutation, eqb-true, refl, sym, subst, ⊎_elim, arith}
+use Rattle.std.specs.Cmp.{IsTotalOrder, IsEquivalence, and_equiv, on_equiv, on_total, then_total, both_tied, tied_itself, nat_cmp_total, nat_eq_equiv}
+use Rattle.std.specs.Cmp.{unsigned_ties}
 use Rattle.std.specs.Ordering.{nat_cmp, ordering_then, eq_by_cmp}
 use Rattle.std.specs.declared.cmp.Ordering.TheVariants.{Less}
 use Rattle.std.specs.List.{dedup}
@@ -31,7 +33,8 @@ block_equiv : IsEquivalence block_eq
 block_equiv = and_equiv (on_equiv (λ (b : Block). b.base) nat_eq_equiv) (on_equiv (λ (b : Block). b.len) nat_eq_equiv)
 
 block_ties : (x y : Block) → block_eq x y ≡ eq_by_cmp block_cmp x y
-block_ties x y = both_tied (x.base == y.base) (x.len == y.len) (nat_cmp x.base y.base) (nat_cmp x.len y.len) (unsigned_ties x.base y.base) (unsigned_ties x.len y.len)
+block_ties x y = both_tied (x.base == y.base) (x.len == y.len) (nat_cmp x.base y.base) (nat_cmp x.len y.len) (unsigned_ties x.base y.base)
+    (unsigned_ties x.len y.len)
 
 both_true : (a b : Bool) → (a && b) ≡ true → (a ≡ true) × (b ≡ true)
 both_true true b e = (refl, e)
@@ -86,12 +89,15 @@ apart_from_sorted zs up i j d l h e =
     let itself = subst P (sym e) less in
     cc
 
-pub CountsDests-sorted : (configs : List Configuration) (ys zs : List Block) → IsPermutation (all_dests configs) ys → IsSorted block_cmp ys → zs ≡ dedup block_eq ys → CountsDests configs (length zs)
+pub CountsDests-sorted : (configs : List Configuration) (ys zs : List Block) → IsPermutation (all_dests configs) ys → IsSorted block_cmp ys →
+    zs ≡ dedup block_eq ys → CountsDests configs (length zs)
 CountsDests-sorted configs ys zs moved up is = record {
   dests = zs;
-  once = λ i j d l h e. apart_from_sorted zs (subst (IsStrictlySortedBy block_cmp) (sym is) (IsStrictlySortedBy-dedup block_total block_ties ys up)) i j d l h e;
+  once =
+      λ i j d l h e. apart_from_sorted zs (subst (IsStrictlySortedBy block_cmp) (sym is) (IsStrictlySortedBy-dedup block_total block_ties ys up)) i j d l h e;
   exact = λ p. (
-    λ c. IsDest-from_list configs p (Contains-permutation ys _ p (IsPermutation-sym _ ys moved) (Contains-from_dedup block_eq ys p (subst (λ l. Contains l p) is c))),
+    λ c. IsDest-from_list configs p (Contains-permutation ys _ p (IsPermutation-sym _ ys moved)
+        (Contains-from_dedup block_eq ys p (subst (λ l. Contains l p) is c))),
     λ d. subst (λ l. Contains l p) (sym is) (Contains-dedup block_equiv block_same ys p (Contains-permutation _ ys p moved (list-from_IsDest configs p d))),
   );
   count_is = refl;

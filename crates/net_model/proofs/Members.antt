@@ -1,5 +1,6 @@
 -- Elements of lists: at the front, in joined, mapped and filtered lists, and how many distinct ones there may be.
-use Rattle.std.proofs.Common.{◌≡◌, ◌≢◌, ℕ, zero, suc, ◌<◌, ◌≤◌, List, [], ◌∷◌, length, map, get_or, Option, Some, None, Contains, AllPairs, refl, sym, ap, subst, ◌∙◌, ◌⊎◌, ⊎_elim, inl, inr, arith}
+use Rattle.std.proofs.Common.{◌≡◌, ◌≢◌, ℕ, zero, suc, ◌<◌, ◌≤◌, List, [], ◌∷◌, length, map, get_or, Option, Some, None, Contains, AllPairs, refl, sym, ap}
+use Rattle.std.proofs.Common.{subst, ◌∙◌, ◌⊎◌, ⊎_elim, inl, inr, arith}
 use Rattle.std.specs.List.{cons_option, filter_map, flat_map, remove}
 use Rattle.std.proofs.lemmas.List.Elements.{Contains-append_left, Contains-append_right, Contains-append_cases}
 use Rattle.std.proofs.lemmas.Map.Made.{Contains-tail}
@@ -71,7 +72,8 @@ Contains-in_map f (y ∷ xs) x c =
     (Contains-cases y xs x c)
 
 -- by what h gives of the first element
-kept_cases : {X A : Type 0} (h : X → Option A) (x : X) (xs : List X) (a : A) (o : Option A) → h x ≡ o → (Contains (filter_map h xs) a → IsGivenBy h xs (Some a)) → Contains (cons_option o (filter_map h xs)) a → IsGivenBy h (x ∷ xs) (Some a)
+kept_cases : {X A : Type 0} (h : X → Option A) (x : X) (xs : List X) (a : A) (o : Option A) → h x ≡ o →
+    (Contains (filter_map h xs) a → IsGivenBy h xs (Some a)) → Contains (cons_option o (filter_map h xs)) a → IsGivenBy h (x ∷ xs) (Some a)
 kept_cases h x xs a None e rest c =
     let one = rest c in
     record { item = one.item; among = Contains-rest x xs one.item one.among; gives = one.gives }
@@ -100,7 +102,8 @@ Contains-in_filter_map h (y ∷ xs) x a c e =
     (Contains-cases y xs x c)
 
 -- a list of distinct elements is no longer than a list that has them all
-pub length-le_from_distinct : {X : Type 0} (xs ys : List X) → AllPairs (λ (x y : X). x ≢ y) xs → ((x : X) → Contains xs x → Contains ys x) → length xs ≤ length ys
+pub length-le_from_distinct : {X : Type 0} (xs ys : List X) → AllPairs (λ (x y : X). x ≢ y) xs → ((x : X) → Contains xs x → Contains ys x) →
+    length xs ≤ length ys
 length-le_from_distinct [] ys apart inside = omega arith
 length-le_from_distinct (x ∷ xs) ys apart inside =
     let at = inside x (Contains-first x xs) in
@@ -109,10 +112,12 @@ length-le_from_distinct (x ∷ xs) ys apart inside =
     let long = length_permutation ys (x ∷ rest) moved in
     let step =
     length-le_from_distinct xs rest (λ i j d l h. apart (suc i) (suc j) d (omega arith) (omega arith))
-    (λ z c. Contains-tail x rest z (λ e. apart 0 (suc c.0) z (omega arith) (omega (arith, c.1)) (e ∙ sym c.2)) (Contains-permutation ys (x ∷ rest) z moved (inside z (Contains-rest x xs z c)))) in
+    (λ z c. Contains-tail x rest z (λ e. apart 0 (suc c.0) z (omega arith) (omega (arith, c.1)) (e ∙ sym c.2)) (Contains-permutation ys (x ∷ rest) z moved
+    (inside z (Contains-rest x xs z c)))) in
     omega (arith, long, step)
 
 -- two lists of distinct elements with the same elements are as long
-pub length-same_from_distinct : {X : Type 0} (xs ys : List X) → AllPairs (λ (x y : X). x ≢ y) xs → AllPairs (λ (x y : X). x ≢ y) ys → ((x : X) → Contains xs x → Contains ys x) → ((x : X) → Contains ys x → Contains xs x) → length xs ≡ length ys
+pub length-same_from_distinct : {X : Type 0} (xs ys : List X) → AllPairs (λ (x y : X). x ≢ y) xs → AllPairs (λ (x y : X). x ≢ y) ys →
+    ((x : X) → Contains xs x → Contains ys x) → ((x : X) → Contains ys x → Contains xs x) → length xs ≡ length ys
 length-same_from_distinct xs ys a b into back =
     omega (arith, length-le_from_distinct xs ys a into, length-le_from_distinct ys xs b back)

@@ -1,5 +1,6 @@
 -- Configurations in byte order of their names: when they ascend, and which name is the least that two have.
-use Rattle.std.proofs.Common.{◌≡◌, ◌≢◌, ℕ, zero, suc, ◌+◌, ◌-◌, ◌<◌, ◌≤◌, false, List, length, get_or, Ordering, IsPermutation, refl, sym, ap, subst, ◌∙◌, ◌⊎◌, ⊎_elim, inl, inr, arith}
+use Rattle.std.proofs.Common.{◌≡◌, ◌≢◌, ℕ, zero, suc, ◌+◌, ◌-◌, ◌<◌, ◌≤◌, false, List, length, get_or, Ordering, IsPermutation, refl, sym, ap, subst, ◌∙◌, ◌⊎◌}
+use Rattle.std.proofs.Common.{⊎_elim, inl, inr, arith}
 use Rattle.std.specs.Cmp.Lexicographic.{slice_cmp, nat_list_cmp_total}
 use Rattle.std.specs.FinMap.{nat_cmp-IsAntisymmetric, slice_cmp-IsAntisymmetric}
 use Rattle.std.specs.List.{swap}
@@ -12,7 +13,7 @@ use Rattle.std.proofs.lemmas.List.Edits.{swapped_from_swap, length-swap}
 use Rattle.std.proofs.lemmas.List.Sorted.{ranks_by, sorted_far, IsPermutation-keeps, IsPermutation-sym}
 use Rattle.std.proofs.lemmas.Option.{slice_get-get_or, slice_get_within, get_or_from_slice_get}
 use Rattle.net_model.specs.Configuration.{Configuration}
-use Rattle.net_model.specs.Doubles.{IsDouble, NoDoubles, IsFirstDouble}
+use Rattle.net_model.specs.steps.Doubles.{IsDouble, NoDoubles, IsFirstDouble}
 use Rattle.net_model.specs.Lookups.{IsNamed}
 use Rattle.net_model.specs.Refusals.{IsBelow, NamesAscend, TwoHaveName, IsLeastDouble}
 
@@ -71,7 +72,8 @@ module _ (ys : List Configuration) (up : IsSortedByKey (λ (c : Configuration). 
     far_below i (suc m) d l =
         let P : ℕ → Type 0 = λ k. IsBelow (name_at ys i d) (name_at ys k d) in
         let e : i + m + 1 + 1 ≡ i + suc m + 1 = omega arith in
-        subst P e (nat_list_cmp_total.trans (name_at ys i d) (name_at ys (i + m + 1) d) (name_at ys (i + m + 1 + 1) d) (far_below i m d (omega arith)) (next_below (i + m + 1) d (omega arith)))
+        subst P e (nat_list_cmp_total.trans (name_at ys i d) (name_at ys (i + m + 1) d) (name_at ys (i + m + 1 + 1) d) (far_below i m d (omega arith))
+        (next_below (i + m + 1) d (omega arith)))
 
     pub NamesAscend-from_sorted : NamesAscend ys
     NamesAscend-from_sorted i j d l h =
@@ -93,7 +95,8 @@ module _ (ys : List Configuration) (up : IsSortedByKey (λ (c : Configuration). 
       (below_or_same (name_at ys p d) (name_at ys (p + 1) d) (up p d (omega arith) (omega arith)))
 
   -- the name of two places isn't below that of the first double
-  none_lower : (k : ℕ) → IsFirstDouble ys k → (p q : ℕ) (d : Configuration) → p < q → q < length ys → name_at ys p d ≡ name_at ys q d → IsBelow (name_at ys p d) (name_at ys k d) → ⊥
+  none_lower : (k : ℕ) → IsFirstDouble ys k → (p q : ℕ) (d : Configuration) → p < q → q < length ys → name_at ys p d ≡ name_at ys q d →
+      IsBelow (name_at ys p d) (name_at ys k d) → ⊥
   none_lower k first p q d l h e below =
       ⊎_elim
       (λ before. none_earlier k first p q d l h e before)
@@ -106,7 +109,8 @@ named_at configs name u d h = ap (λ (c : Configuration). c.name) (get_or_from_s
 pub named_within : (configs : List Configuration) (name : List ℕ) (u : ℕ) → IsNamed configs name u → u < length configs
 named_within configs name u h = slice_get_within configs u h.config h.router
 
-pub named_from : (configs : List Configuration) (name : List ℕ) (u : ℕ) (d : Configuration) → u < length configs → name_at configs u d ≡ name → IsNamed configs name u
+pub named_from : (configs : List Configuration) (name : List ℕ) (u : ℕ) (d : Configuration) → u < length configs →
+    name_at configs u d ≡ name → IsNamed configs name u
 named_from configs name u d l e = record { config = get_or configs u d; router = slice_get-get_or configs u d l; name_is = e }
 
 -- where an exchange of two places moves a name to
@@ -124,14 +128,23 @@ moved xs i j k name l h n =
     let inside = named_within xs name k n in
     let nm : Configuration → List ℕ = λ c. c.name in
     ⊎_elim
-    (λ a. record { to = j; is = named_from (swap xs i j) name j d (omega arith) (ap nm s.1 ∙ ap (λ m. name_at xs m d) (sym a) ∙ at); where_to = inl (a, refl) })
+    (λ a. record {
+      to = j;
+      is = named_from (swap xs i j) name j d (omega arith) (ap nm s.1 ∙ ap (λ m. name_at xs m d) (sym a) ∙ at);
+      where_to = inl (a, refl);
+    })
     (λ a. ⊎_elim
-    (λ b. record { to = i; is = named_from (swap xs i j) name i d (omega arith) (ap nm s.0 ∙ ap (λ m. name_at xs m d) (sym b) ∙ at); where_to = inr (inl (b, refl)) })
+    (λ b. record {
+      to = i;
+      is = named_from (swap xs i j) name i d (omega arith) (ap nm s.0 ∙ ap (λ m. name_at xs m d) (sym b) ∙ at);
+      where_to = inr (inl (b, refl));
+    })
     (λ b. record { to = k; is = named_from (swap xs i j) name k d (omega arith) (ap nm (s.2 k a b) ∙ at); where_to = inr (inr (a, b, refl)) })
     (cases_eq k j))
     (cases_eq k i)
 
-still_apart : (i j k m p q : ℕ) → ((k ≡ i) × (p ≡ j)) ⊎ ((k ≡ j) × (p ≡ i)) ⊎ ((k ≢ i) × (k ≢ j) × (p ≡ k)) → ((m ≡ i) × (q ≡ j)) ⊎ ((m ≡ j) × (q ≡ i)) ⊎ ((m ≢ i) × (m ≢ j) × (q ≡ m)) → k ≢ m → p ≡ q → ⊥
+still_apart : (i j k m p q : ℕ) → ((k ≡ i) × (p ≡ j)) ⊎ ((k ≡ j) × (p ≡ i)) ⊎ ((k ≢ i) × (k ≢ j) × (p ≡ k)) → ((m ≡ i) × (q ≡ j)) ⊎ ((m ≡ j) × (q ≡ i)) ⊎
+    ((m ≢ i) × (m ≢ j) × (q ≡ m)) → k ≢ m → p ≡ q → ⊥
 still_apart i j k m p q a b ne e = grind arith
 
 moved_both : (xs : List Configuration) (i j : ℕ) (name : List ℕ) → i < length xs → j < length xs → TwoHaveName xs name → TwoHaveName (swap xs i j) name
@@ -144,7 +157,8 @@ pub TwoHaveName-permutation : (xs ys : List Configuration) (name : List ℕ) →
 TwoHaveName-permutation xs ys name moves t =
     IsPermutation-keeps xs (λ l. TwoHaveName l name) t (λ l i j a b. moved_both l i j name a b) ys moves
 
-none_least : (ys : List Configuration) → IsSortedByKey (λ (c : Configuration). c.name) (slice_cmp nat_cmp) ys → (k : ℕ) (name : List ℕ) (d : Configuration) → IsFirstDouble ys k → name_at ys k d ≡ name → (other : List ℕ) → TwoHaveName ys other → IsBelow other name → ⊥
+none_least : (ys : List Configuration) → IsSortedByKey (λ (c : Configuration). c.name) (slice_cmp nat_cmp) ys → (k : ℕ) (name : List ℕ) (d : Configuration) →
+    IsFirstDouble ys k → name_at ys k d ≡ name → (other : List ℕ) → TwoHaveName ys other → IsBelow other name → ⊥
 none_least ys up k name d first is other t below =
     let one = named_at ys other t.one d t.first in
     let two = named_at ys other t.two d t.second in
@@ -155,7 +169,8 @@ none_least ys up k name d first is other t below =
     (λ h. none_lower ys up k first t.two t.one d (omega (arith, t.apart)) (named_within ys other t.one t.first) (two ∙ sym one) (low t.two two))
     (cases_lt t.one t.two)
 
-pub IsLeastDouble-first : (xs ys : List Configuration) (k : ℕ) (name : List ℕ) (d : Configuration) → IsPermutation xs ys → IsSortedByKey (λ (c : Configuration). c.name) (slice_cmp nat_cmp) ys → IsFirstDouble ys k → name_at ys k d ≡ name → IsLeastDouble xs name
+pub IsLeastDouble-first : (xs ys : List Configuration) (k : ℕ) (name : List ℕ) (d : Configuration) → IsPermutation xs ys →
+    IsSortedByKey (λ (c : Configuration). c.name) (slice_cmp nat_cmp) ys → IsFirstDouble ys k → name_at ys k d ≡ name → IsLeastDouble xs name
 IsLeastDouble-first xs ys k name d moves up first is =
     let back = IsPermutation-sym xs ys moves in
     record {

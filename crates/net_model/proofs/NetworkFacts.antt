@@ -34,7 +34,8 @@ pub Adjacent-to_within : (net : Network) (z : Zone) (u v cost : ℕ) → Adjacen
 Adjacent-to_within net z u v cost a = UpInterface-within net v a.far a.far_up
 
 -- an interface of a configuration, by its place in the list
-pub UpInterface-at : (net : Network) (u : ℕ) (c : Configuration) (k : ℕ) (d : Interface) → HasConfiguration net u c → k < length c.interfaces → IsTrue (get_or c.interfaces k d).up → UpInterface net u (get_or c.interfaces k d)
+pub UpInterface-at : (net : Network) (u : ℕ) (c : Configuration) (k : ℕ) (d : Interface) → HasConfiguration net u c → k < length c.interfaces →
+    IsTrue (get_or c.interfaces k d).up → UpInterface net u (get_or c.interfaces k d)
 UpInterface-at net u c k d h within up = record { config = c; router = h; among = Contains-get_or c.interfaces k d within; up = up }
 
 -- what every configuration of a network keeps, and what its interfaces keep
@@ -116,8 +117,21 @@ IsNamed-unique net name u v up h k =
     (cases_eq u v)
 
 -- up interfaces of one subnet that run OSPF run it in one area
-pub IsNetwork-one_area : (net : Network) → IsNetwork net → (u v : ℕ) (i j : Interface) (p : Block) (m n : ℕ) → UpInterface net u i → UpInterface net v j → i.subnet ≡ Some p → j.subnet ≡ Some p → i.area ≡ Some m → j.area ≡ Some n → m ≡ n
+pub IsNetwork-one_area : (net : Network) → IsNetwork net → (u v : ℕ) (i j : Interface) (p : Block) (m n : ℕ) → UpInterface net u i → UpInterface net v j →
+    i.subnet ≡ Some p → j.subnet ≡ Some p → i.area ≡ Some m → j.area ≡ Some n → m ≡ n
 IsNetwork-one_area net k u v i j p m n i_up j_up i_subnet j_subnet i_runs j_runs =
     ⊎_elim (λ e. e)
-    (λ apart. absurd (k.consistent.areas u v p (record { one = i; two = j; one_up = i_up; two_up = j_up; one_subnet = i_subnet; two_subnet = j_subnet; one_area = m; two_area = n; one_runs = i_runs; two_runs = j_runs; apart = apart })))
+    (λ apart. absurd (k.consistent.areas u v p (record {
+      one = i;
+      two = j;
+      one_up = i_up;
+      two_up = j_up;
+      one_subnet = i_subnet;
+      two_subnet = j_subnet;
+      one_area = m;
+      two_area = n;
+      one_runs = i_runs;
+      two_runs = j_runs;
+      apart = apart;
+    })))
     (cases_eq m n)

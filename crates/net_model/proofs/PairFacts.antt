@@ -8,7 +8,7 @@ use Rattle.net_model.specs.Least.ComesNoLater.{by_first, by_second, by_item}
 use Rattle.net_model.specs.Lookups.{IsNamed}
 use Rattle.net_model.specs.Network.{Network}
 use Rattle.net_model.specs.RouterNames.{IsFirstNamedPair, IsLeastNamedPair, IsLowestNamed}
-use Rattle.net_model.specs.Scans.{IsFirstPair, NonePair}
+use Rattle.net_model.specs.steps.Scans.{IsFirstPair, NonePair}
 
 module _ {A : Type 0} (AtMost : A → A → Type 0) (Clash : ℕ → ℕ → A → Type 0) (count : ℕ) (within : (u v : ℕ) (a : A) → Clash u v a → v < count) where
   pub IsLeastPair-first : (one two : ℕ) (item : A) → IsFirstPair AtMost Clash count one two item → IsLeastPair AtMost Clash one two item
@@ -40,7 +40,8 @@ module _ {A : Type 0} (AtMost : A → A → Type 0) (Clash : ℕ → ℕ → A �
       (λ g. none v (within u v a c) u a g (within v u a (back u v a c)) (back u v a c))
       (cases_lt u v)
 
-ascending_same : {A : Type 0} → (AtMost : A → A → Type 0) (u v : ℕ) (a : A) (w x : ℕ) (b : A) → ((a b : A) → AtMost a b → AtMost b a → a ≡ b) → ComesNoLater AtMost u v a w x b → ComesNoLater AtMost w x b u v a → (u ≡ w) × (v ≡ x) × (a ≡ b)
+ascending_same : {A : Type 0} → (AtMost : A → A → Type 0) (u v : ℕ) (a : A) (w x : ℕ) (b : A) → ((a b : A) → AtMost a b → AtMost b a → a ≡ b) →
+    ComesNoLater AtMost u v a w x b → ComesNoLater AtMost w x b u v a → (u ≡ w) × (v ≡ x) × (a ≡ b)
 ascending_same AtMost u v a w x b anti (by_first l) (by_first m) = absurd (omega arith)
 ascending_same AtMost u v a w x b anti (by_first l) (by_second e m) = absurd (omega arith)
 ascending_same AtMost u v a w x b anti (by_first l) (by_item e f m) = absurd (omega arith)
@@ -52,12 +53,14 @@ ascending_same AtMost u v a w x b anti (by_item e f l) (by_second g m) = absurd 
 ascending_same AtMost u v a w x b anti (by_item e f l) (by_item g h m) = (e, f, anti a b l m)
 
 -- there is one least pair
-pub IsLeastPair-unique : {A : Type 0} → (AtMost : A → A → Type 0) (Clash : ℕ → ℕ → A → Type 0) (u v : ℕ) (a : A) (w x : ℕ) (b : A) → ((a b : A) → AtMost a b → AtMost b a → a ≡ b) → IsLeastPair AtMost Clash u v a → IsLeastPair AtMost Clash w x b → (u ≡ w) × (v ≡ x) × (a ≡ b)
+pub IsLeastPair-unique : {A : Type 0} → (AtMost : A → A → Type 0) (Clash : ℕ → ℕ → A → Type 0) (u v : ℕ) (a : A) (w x : ℕ) (b : A) →
+    ((a b : A) → AtMost a b → AtMost b a → a ≡ b) → IsLeastPair AtMost Clash u v a → IsLeastPair AtMost Clash w x b → (u ≡ w) × (v ≡ x) × (a ≡ b)
 IsLeastPair-unique AtMost Clash u v a w x b anti h k =
     ascending_same AtMost u v a w x b anti (h.least w x b k.ordered k.clash) (k.least u v a h.ordered h.clash)
 
 -- the names of the first pair are those of the least
-pub IsLeastNamedPair-first : {A : Type 0} → (AtMost : A → A → Type 0) (Clash : ℕ → ℕ → A → Type 0) (net : Network) → ((u v : ℕ) (a : A) → Clash u v a → v < length net)
+pub IsLeastNamedPair-first : {A : Type 0} → (AtMost : A → A → Type 0) (Clash : ℕ → ℕ → A → Type 0) (net : Network) →
+    ((u v : ℕ) (a : A) → Clash u v a → v < length net)
     → (one two : List ℕ) (item : A) → IsFirstNamedPair AtMost Clash net one two item → IsLeastNamedPair AtMost Clash net one two item
 IsLeastNamedPair-first AtMost Clash net within one two item f = record {
   first = f.first;
@@ -75,8 +78,10 @@ name-unique net u v a b h k same =
     sym h.name_is ∙ ap (λ (c : Configuration). c.name) config ∙ here.name_is
 
 -- the least pair has its names alone
-pub IsLeastNamedPair-unique : {A : Type 0} → (AtMost : A → A → Type 0) (Clash : ℕ → ℕ → A → Type 0) (net : Network) (a b : List ℕ) (x : A) (c d : List ℕ) (y : A)
-    → ((x y : A) → AtMost x y → AtMost y x → x ≡ y) → IsLeastNamedPair AtMost Clash net a b x → IsLeastNamedPair AtMost Clash net c d y → (a ≡ c) × (b ≡ d) × (x ≡ y)
+pub IsLeastNamedPair-unique : {A : Type 0} → (AtMost : A → A → Type 0) (Clash : ℕ → ℕ → A → Type 0) (net : Network) (a b : List ℕ)
+    (x : A) (c d : List ℕ) (y : A)
+    → ((x y : A) → AtMost x y → AtMost y x → x ≡ y) → IsLeastNamedPair AtMost Clash net a b x → IsLeastNamedPair AtMost Clash net c d y →
+    (a ≡ c) × (b ≡ d) × (x ≡ y)
 IsLeastNamedPair-unique AtMost Clash net a b x c d y anti h k =
     let same = IsLeastPair-unique AtMost Clash h.first h.second x k.first k.second y anti h.pair k.pair in (
       name-unique net h.first k.first a c h.one_is k.one_is same.0,

@@ -8,12 +8,14 @@ use Rattle.net_model.specs.Configuration.{Configuration}
 use Rattle.net_model.specs.Least.{IsBlockAtMost}
 use Rattle.net_model.specs.Limits.{CountsDests, IsWithinLimits}
 use Rattle.net_model.specs.Network.{Network}
-use Rattle.net_model.specs.Refusals.{IsBelow, NamesAscend, IsNetworkOf, MakeNetwork, IsNetwork, TwoHaveName, IsLeastDouble, IsAbove, HoldsOfNetwork, RefusesNetwork, Refuses}
+use Rattle.net_model.specs.Refusals.{IsBelow, NamesAscend, IsNetworkOf, MakeNetwork, IsNetwork, TwoHaveName, IsLeastDouble, IsAbove, HoldsOfNetwork}
+use Rattle.net_model.specs.Refusals.{RefusesNetwork, Refuses}
 use Rattle.net_model.specs.declared.bounds.TheConstants.{MOST_COST, MOST_PATH_METRIC}
 use Rattle.net_model.specs.declared.refusal.LimitWhat.{LimitWhat}
 use Rattle.net_model.specs.declared.refusal.LimitWhat.TheVariants.{Routers, Interfaces, Dests}
 use Rattle.net_model.specs.declared.refusal.NetRefusal.{NetRefusal}
-use Rattle.net_model.specs.declared.refusal.NetRefusal.TheVariants.{Limit, TwoNames, AddressTwice, PrefixInTwoAreas, BorderWithoutBackbone, OspfCostSum, IsisMetricSum, SystemIdTwice, StubMismatch, OutOfMemory}
+use Rattle.net_model.specs.declared.refusal.NetRefusal.TheVariants.{Limit, TwoNames, AddressTwice, PrefixInTwoAreas, BorderWithoutBackbone, OspfCostSum}
+use Rattle.net_model.specs.declared.refusal.NetRefusal.TheVariants.{IsisMetricSum, SystemIdTwice, StubMismatch, OutOfMemory}
 use Rattle.net_model.proofs.Members.{Contains-none, Contains-first, Contains-rest, Contains-cases, length-same_from_distinct}
 use Rattle.net_model.proofs.Names.{IsBelow-irrefl, TwoHaveName-permutation, neither_below}
 use Rattle.net_model.proofs.NetworkFacts.{IsNamed-unique}
@@ -42,7 +44,8 @@ below_all : (c : Configuration) (cs : List Configuration) (d : Configuration) �
 below_all c cs d up h =
     subst (λ (e : Configuration). IsBelow c.name e.name) h.2 (up 0 (suc h.0) d (omega arith) (omega (arith, h.1)))
 
-same_first : (x : Configuration) (xs : List Configuration) (y : Configuration) (ys : List Configuration) → NamesAscend (x ∷ xs) → NamesAscend (y ∷ ys) → Contains (y ∷ ys) x → Contains (x ∷ xs) y → x ≡ y
+same_first : (x : Configuration) (xs : List Configuration) (y : Configuration) (ys : List Configuration) → NamesAscend (x ∷ xs) → NamesAscend (y ∷ ys) →
+    Contains (y ∷ ys) x → Contains (x ∷ xs) y → x ≡ y
 same_first x xs y ys a b into back =
     ⊎_elim sym
     (λ x_later. ⊎_elim (λ e. e)
@@ -51,7 +54,8 @@ same_first x xs y ys a b into back =
     (Contains-cases y ys x into)
 
 -- an element of the rest of one list is in the rest of the other, whose first element is the same
-later : (x : Configuration) (xs : List Configuration) (y : Configuration) (ys : List Configuration) → NamesAscend (x ∷ xs) → (c : Configuration) → y ≡ x → Contains xs c → Contains (y ∷ ys) c → Contains ys c
+later : (x : Configuration) (xs : List Configuration) (y : Configuration) (ys : List Configuration) → NamesAscend (x ∷ xs) → (c : Configuration) → y ≡ x →
+    Contains xs c → Contains (y ∷ ys) c → Contains ys c
 later x xs y ys a c same m h =
     ⊎_elim
     (λ e. absurd (IsBelow-irrefl x.name (subst (λ (d : Configuration). IsBelow x.name d.name) (sym e ∙ same) (below_all x xs c a m))))
@@ -61,7 +65,8 @@ later x xs y ys a c same m h =
 cons_same : {X : Type 0} (x y : X) (xs ys : List X) → x ≡ y → xs ≡ ys → x ∷ xs ≡ y ∷ ys
 cons_same x y xs ys e f = λ i. e i ∷ f i
 
-same_ascending : (xs ys : List Configuration) → NamesAscend xs → NamesAscend ys → ((c : Configuration) → Contains xs c → Contains ys c) → ((c : Configuration) → Contains ys c → Contains xs c) → xs ≡ ys
+same_ascending : (xs ys : List Configuration) → NamesAscend xs → NamesAscend ys → ((c : Configuration) → Contains xs c → Contains ys c) →
+    ((c : Configuration) → Contains ys c → Contains xs c) → xs ≡ ys
 same_ascending [] [] a b into back = refl
 same_ascending [] (y ∷ ys) a b into back = absurd (Contains-none y (back y (Contains-first y ys)))
 same_ascending (x ∷ xs) [] a b into back = absurd (Contains-none x (into x (Contains-first x xs)))
@@ -93,12 +98,14 @@ IsConsistent-refused net (SystemIdTwice one two) k h = k.systems h.1.1.first h.1
 IsConsistent-refused net (StubMismatch one two area) k h = k.stubs h.1.first h.1.second area h.1.pair.clash
 IsConsistent-refused net OutOfMemory k h = h
 
-refused_by_network : (configs : List Configuration) (net : Network) (refusal : NetRefusal) → MakeNetwork configs net → HoldsOfNetwork configs (RefusesNetwork refusal) → ⊥
+refused_by_network : (configs : List Configuration) (net : Network) (refusal : NetRefusal) → MakeNetwork configs net →
+    HoldsOfNetwork configs (RefusesNetwork refusal) → ⊥
 refused_by_network configs net refusal m h =
     IsConsistent-refused net refusal m.consistent (subst (RefusesNetwork refusal) (IsNetworkOf-unique configs h.net net h.network m.network) h.holds)
 
 -- where configurations make a network, only want of memory may refuse them
-pub MakeNetwork-refused : (configs : List Configuration) (net : Network) (refusal : NetRefusal) → MakeNetwork configs net → Refuses refusal configs → refusal ≡ OutOfMemory
+pub MakeNetwork-refused : (configs : List Configuration) (net : Network) (refusal : NetRefusal) → MakeNetwork configs net →
+    Refuses refusal configs → refusal ≡ OutOfMemory
 MakeNetwork-refused configs net (Limit what number) m h = absurd (limit_exceeded configs what number h m.limits)
 MakeNetwork-refused configs net (TwoNames name) m h = absurd (TwoHaveName-none configs net name m.network h.1.double)
 MakeNetwork-refused configs net OutOfMemory m h = refl
@@ -108,7 +115,8 @@ MakeNetwork-refused configs net refusal m h = absurd (refused_by_network configs
 pub IsNetwork-makes : (net : Network) → IsNetwork net → MakeNetwork net net
 IsNetwork-makes net n = record { limits = n.limits; network = record { same = IsPermutation-refl net; ascending = n.ascending }; consistent = n.consistent }
 
-same_limit : (configs : List Configuration) (what other : LimitWhat) (m n : ℕ) → Refuses (Limit what m) configs → Refuses (Limit other n) configs → Limit what m ≡ Limit other n
+same_limit : (configs : List Configuration) (what other : LimitWhat) (m n : ℕ) → Refuses (Limit what m) configs → Refuses (Limit other n) configs →
+    Limit what m ≡ Limit other n
 same_limit configs Routers Routers m n h k = ap (Limit Routers) (h.number_is ∙ sym k.number_is)
 same_limit configs Routers Interfaces m n h k = absurd (omega (arith, h.above, k.0))
 same_limit configs Routers Dests m n h k = absurd (omega (arith, h.above, k.0))
@@ -129,7 +137,8 @@ antisymmetric a b l m = omega arith
 block_antisymmetric : (p q : Block) → IsBlockAtMost p q → IsBlockAtMost q p → p ≡ q
 block_antisymmetric p q l m =
     let base : p.base ≡ q.base = ⊎_elim (λ a. ⊎_elim (λ b. absurd (omega arith)) (λ b. absurd (omega (arith, b.0))) m) (λ a. a.0) l in
-    let len : p.len ≡ q.len = ⊎_elim (λ a. absurd (omega (arith, base))) (λ a. ⊎_elim (λ b. absurd (omega (arith, base))) (λ b. omega (arith, a.1, b.1)) m) l in
+    let len : p.len ≡ q.len =
+    ⊎_elim (λ a. absurd (omega (arith, base))) (λ a. ⊎_elim (λ b. absurd (omega (arith, base))) (λ b. omega (arith, a.1, b.1)) m) l in
     λ i. record { base = base i; len = len i }
 
 carried_same : (most count m n : ℕ) → IsAbove most count m → IsAbove most count n → m ≡ n
@@ -204,12 +213,14 @@ RefusesNetwork-unique net one (Limit _ _) h k = absurd k
 RefusesNetwork-unique net one (TwoNames _) h k = absurd k
 RefusesNetwork-unique net one OutOfMemory h k = absurd k
 
-both_of_network : (configs : List Configuration) (one other : NetRefusal) → HoldsOfNetwork configs (RefusesNetwork one) → HoldsOfNetwork configs (RefusesNetwork other) → one ≡ other
+both_of_network : (configs : List Configuration) (one other : NetRefusal) → HoldsOfNetwork configs (RefusesNetwork one) →
+    HoldsOfNetwork configs (RefusesNetwork other) → one ≡ other
 both_of_network configs one other h k =
     RefusesNetwork-unique h.net one other h.holds (subst (RefusesNetwork other) (IsNetworkOf-unique configs k.net h.net k.network h.network) k.holds)
 
 -- one refusal at most stands, besides want of memory
-pub Refuses-unique : (configs : List Configuration) (one other : NetRefusal) → one ≢ OutOfMemory → other ≢ OutOfMemory → Refuses one configs → Refuses other configs → one ≡ other
+pub Refuses-unique : (configs : List Configuration) (one other : NetRefusal) → one ≢ OutOfMemory → other ≢ OutOfMemory → Refuses one configs →
+    Refuses other configs → one ≡ other
 Refuses-unique configs OutOfMemory other a b h k = absurd (a refl)
 Refuses-unique configs one OutOfMemory a b h k = absurd (b refl)
 Refuses-unique configs (Limit what m) (Limit other n) a b h k = same_limit configs what other m n h k

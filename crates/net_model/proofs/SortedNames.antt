@@ -5,7 +5,7 @@ use Rattle.std.specs.Ordering.{nat_cmp}
 use Rattle.std.specs.List.Sorted.{IsSortedByKey, IsPermutation}
 use Rattle.std.proofs.lemmas.List.Sorted.{IsPermutation-sym}
 use Rattle.net_model.specs.Configuration.{Configuration}
-use Rattle.net_model.specs.Doubles.{NoDoubles}
+use Rattle.net_model.specs.steps.Doubles.{NoDoubles}
 use Rattle.net_model.specs.Network.{Network}
 use Rattle.net_model.specs.Refusals.{IsNetworkOf, TwoHaveName}
 use Rattle.net_model.proofs.Names.{named_from, NamesAscend-from_sorted, TwoHaveName-permutation}

@@ -4,7 +4,7 @@ use Rattle.net_model.specs.Conditions.{DifferOnStub}
 use Rattle.net_model.specs.Configuration.{Configuration}
 use Rattle.net_model.specs.Least.{IsBest}
 use Rattle.net_model.specs.Network.{Network, HasConfiguration}
-use Rattle.net_model.specs.Scans.{ClashOnStub, OffersArea, RunsArea}
+use Rattle.net_model.specs.steps.Scans.{ClashOnStub, OffersArea, RunsArea}
 use Rattle.net_model.proofs.Adjacency.{UpInterface-among}
 use Rattle.net_model.proofs.Bests.{Any-from, IsBest-same}
 use Rattle.net_model.proofs.NetworkFacts.{InArea-within}
@@ -44,5 +44,6 @@ module _ (net : Network) (u v : ℕ) (c d : Configuration) (near : HasConfigurat
       } in
       Any-from (OffersArea c d a) c.interfaces i (UpInterface-among net u c i near h.one_in.up) (runs, clash)
 
-  pub DifferOnStub-best : (best : Option ℕ) → IsBest (λ a b. a ≤ b) (λ a. Any (OffersArea c d a) c.interfaces) best → IsBest (λ a b. a ≤ b) (DifferOnStub net u v) best
+  pub DifferOnStub-best : (best : Option ℕ) → IsBest (λ a b. a ≤ b) (λ a. Any (OffersArea c d a) c.interfaces) best →
+      IsBest (λ a b. a ≤ b) (DifferOnStub net u v) best
   DifferOnStub-best best h = IsBest-same (λ a b. a ≤ b) (λ a. Any (OffersArea c d a) c.interfaces) (DifferOnStub net u v) best from_list from_net h

@@ -26,7 +26,17 @@ HaveOneSystem-sym net u v s h = record {
 module _ (net : Network) (u v : ℕ) (c d : Configuration) (near : HasConfiguration net u c) (far : HasConfiguration net v d) where
   pub HaveOneSystem-some : u ≢ v → IsTrue c.isis → IsTrue d.isis → c.system ≡ d.system → IsBest (λ a b. a ≤ b) (HaveOneSystem net u v) (Some c.system)
   HaveOneSystem-some apart one two same = record {
-    holds = record { apart = apart; one = c; two = d; one_router = near; two_router = far; one_runs = one; two_runs = two; one_system = refl; two_system = sym same };
+    holds = record {
+      apart = apart;
+      one = c;
+      two = d;
+      one_router = near;
+      two_router = far;
+      one_runs = one;
+      two_runs = two;
+      one_system = refl;
+      two_system = sym same;
+    };
     least = λ s h.
         let e = ap (λ (x : Configuration). x.system) (HasConfiguration-unique net u h.one c h.one_router near) in
         omega (arith, e, h.one_system);

@@ -9,9 +9,7 @@ pub mod Refusals
 pub mod BuildLaws
 pub mod Lookups
 pub mod DestLists
-pub mod Doubles
 pub mod Links
-pub mod Subnets
 pub mod OffStarts
-pub mod Scans
 pub mod RouterNames
+pub mod steps

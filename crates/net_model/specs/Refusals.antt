@@ -3,7 +3,8 @@ use Rattle.std.specs.Prelude.{◌≡◌, ◌≢◌, ℕ, ◌≤◌, ◌<◌, Lis
 use Rattle.std.specs.Cmp.Lexicographic.{slice_cmp}
 use Rattle.std.specs.Ordering.{nat_cmp}
 use Rattle.std.specs.declared.cmp.Ordering.TheVariants.{Less}
-use Rattle.net_model.specs.Conditions.{HaveOneAddress, RunTwoAreas, LacksBackbone, HaveOneSystem, DifferOnStub, ospf_cost_sum, isis_metric_sum, IsConsistent, AddressesDiffer, PassesAreas, PassesBorders, PassesOspfCosts, PassesIsisMetrics, PassesSystems}
+use Rattle.net_model.specs.Conditions.{HaveOneAddress, RunTwoAreas, LacksBackbone, HaveOneSystem, DifferOnStub, ospf_cost_sum, isis_metric_sum, IsConsistent}
+use Rattle.net_model.specs.Conditions.{AddressesDiffer, PassesAreas, PassesBorders, PassesOspfCosts, PassesIsisMetrics, PassesSystems}
 use Rattle.net_model.specs.Configuration.{Configuration, IsConfiguration}
 use Rattle.net_model.specs.Least.{IsBlockAtMost}
 use Rattle.net_model.specs.Limits.{all_up_interfaces, CountsDests, IsWithinLimits}
@@ -13,7 +14,8 @@ use Rattle.net_model.specs.RouterNames.{IsLeastNamedPair, IsLowestNamed}
 use Rattle.net_model.specs.declared.bounds.TheConstants.{MOST_COST, MOST_DESTS, MOST_PATH_METRIC, MOST_ROUTERS, MOST_UP_INTERFACES}
 use Rattle.net_model.specs.declared.refusal.LimitWhat.TheVariants.{Routers, Interfaces, Dests}
 use Rattle.net_model.specs.declared.refusal.NetRefusal.{NetRefusal}
-use Rattle.net_model.specs.declared.refusal.NetRefusal.TheVariants.{Limit, TwoNames, AddressTwice, PrefixInTwoAreas, BorderWithoutBackbone, OspfCostSum, IsisMetricSum, SystemIdTwice, StubMismatch, OutOfMemory}
+use Rattle.net_model.specs.declared.refusal.NetRefusal.TheVariants.{Limit, TwoNames, AddressTwice, PrefixInTwoAreas, BorderWithoutBackbone, OspfCostSum}
+use Rattle.net_model.specs.declared.refusal.NetRefusal.TheVariants.{IsisMetricSum, SystemIdTwice, StubMismatch, OutOfMemory}
 
 -- byte order of names
 abbrev pub IsBelow : List ℕ → List ℕ → Type 0

@@ -4,7 +4,7 @@ use Rattle.net_model.specs.Configuration.{Configuration}
 use Rattle.net_model.specs.Least.{IsLeastPair, IsLowest}
 use Rattle.net_model.specs.Lookups.{IsNamed}
 use Rattle.net_model.specs.Network.{Network}
-use Rattle.net_model.specs.Scans.{IsFirstPair}
+use Rattle.net_model.specs.steps.Scans.{IsFirstPair}
 
 -- the names of the routers of a network, in the order of their numbers
 abbrev pub names_of : Network → List (List ℕ)

@@ -2,7 +2,7 @@ ghost use Rattle.std.specs.Prelude.{◌≤◌, ◌↔◌, ℕ, length, Any, IfEr
 ghost use Rattle.net_model.specs.Conditions.{AddressesDiffer, HaveOneAddress};
 ghost use Rattle.net_model.specs.Least.{IsBest};
 ghost use Rattle.net_model.specs.Refusals.{MayRefuse};
-ghost use Rattle.net_model.specs.Scans.{ClashOnAddress, OffersAddress};
+ghost use Rattle.net_model.specs.steps.Scans.{ClashOnAddress, OffersAddress};
 
 use crate::links::lower;
 use crate::pairs::{Clash, first_clash};

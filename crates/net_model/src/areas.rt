@@ -2,7 +2,7 @@ ghost use Rattle.std.specs.Prelude.{◌≡◌, ◌≤◌, ◌↔◌, ◌||◌, �
 ghost use Rattle.net_model.specs.Conditions.{AddressesDiffer, PassesAreas, RunTwoAreas};
 ghost use Rattle.net_model.specs.Least.{IsBest, IsBlockAtMost};
 ghost use Rattle.net_model.specs.Refusals.{MayRefuse};
-ghost use Rattle.net_model.specs.Scans.{AreInTwoAreas, ClashOnArea, OffersDest, RunsArea, first_block};
+ghost use Rattle.net_model.specs.steps.Scans.{AreInTwoAreas, ClashOnArea, OffersDest, RunsArea, first_block};
 
 use crate::links::share_subnet;
 use crate::pairs::{Clash, first_clash};

@@ -2,7 +2,7 @@ ghost use Rattle.std.specs.Prelude.{◌≤◌, ◌↔◌, length, Any, IfErr, Is
 ghost use Rattle.net_model.specs.Conditions.{BordersMeetBackbone, LacksBackbone, PassesAreas, PassesBorders};
 ghost use Rattle.net_model.specs.Least.{IsLowest};
 ghost use Rattle.net_model.specs.Refusals.{MayRefuse};
-ghost use Rattle.net_model.specs.Scans.{AreInTwoAreas, LeaveBackbone};
+ghost use Rattle.net_model.specs.steps.Scans.{AreInTwoAreas, LeaveBackbone};
 
 use crate::areas::{has_area, in_two_areas};
 use crate::pairs::name_of;

@@ -2,7 +2,7 @@ ghost use Rattle.std.specs.Prelude.{◌≡◌, ◌<◌, ◌↔◌, ℕ, IfErr, I
 ghost use Rattle.std.specs.List.Sorted.{IsSortedByKey};
 ghost use Rattle.std.specs.Cmp.Lexicographic.{slice_cmp};
 ghost use Rattle.std.specs.Ordering.{nat_cmp};
-ghost use Rattle.net_model.specs.Doubles.{IsFirstDouble, IsTwoNames, NoDoubles};
+ghost use Rattle.net_model.specs.steps.Doubles.{IsFirstDouble, IsTwoNames, NoDoubles};
 ghost use Rattle.net_model.specs.Lookups.{IsNamed};
 ghost use Rattle.net_model.specs.Refusals.{NamesAscend, RefusesName};
 

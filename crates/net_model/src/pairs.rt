@@ -3,7 +3,7 @@ ghost use Rattle.net_model.specs.Least.{IsBest};
 ghost use Rattle.net_model.specs.Network.{Network};
 ghost use Rattle.net_model.specs.Lookups.{IsNamed};
 ghost use Rattle.net_model.specs.RouterNames.{IsFirstNamedPair};
-ghost use Rattle.net_model.specs.Scans.{IsFirstPair, IsFirstPartner, NonePair, NonePartner};
+ghost use Rattle.net_model.specs.steps.Scans.{IsFirstPair, IsFirstPartner, NonePair, NonePartner};
 
 use crate::Config;
 use net_addr::Name;

@@ -2,7 +2,7 @@ ghost use Rattle.std.specs.Prelude.{◌≤◌, ◌↔◌, length, Any, IfErr, Is
 ghost use Rattle.net_model.specs.Conditions.{DifferOnStub, IsConsistent, PassesSystems};
 ghost use Rattle.net_model.specs.Least.{IsBest};
 ghost use Rattle.net_model.specs.Refusals.{MayRefuse};
-ghost use Rattle.net_model.specs.Scans.{ClashOnStub, HaveStub, OffersArea, OneHasStub};
+ghost use Rattle.net_model.specs.steps.Scans.{ClashOnStub, HaveStub, OffersArea, OneHasStub};
 
 use crate::areas::has_area;
 use crate::links::lower;

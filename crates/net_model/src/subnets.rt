@@ -1,5 +1,5 @@
 ghost use Rattle.std.specs.Prelude.{◌≡◌, ◌↔◌, [], ◌∷◌, Any, IsTrue};
-ghost use Rattle.net_model.specs.Subnets.{BestSubnet, HasSubnet, longer_of};
+ghost use Rattle.net_model.specs.steps.Subnets.{BestSubnet, HasSubnet, longer_of};
 
 use crate::Interface;
 use net_addr::Prefix;

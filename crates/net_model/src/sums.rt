@@ -1,5 +1,6 @@
 ghost use Rattle.std.specs.Prelude.{◌≡◌, ◌<◌, ◌^◌, if◌then◌else◌, IfErr, OnOk, sum_by};
-ghost use Rattle.net_model.specs.Conditions.{PassesBorders, PassesIsisMetrics, PassesOspfCosts, isis_metric, isis_metric_sum, ospf_cost, ospf_cost_sum, ospf_costs, stated_cost};
+ghost use Rattle.net_model.specs.Conditions.{PassesBorders, PassesIsisMetrics, PassesOspfCosts, isis_metric, isis_metric_sum, ospf_cost, ospf_cost_sum};
+ghost use Rattle.net_model.specs.Conditions.{ospf_costs, stated_cost};
 ghost use Rattle.net_model.specs.Refusals.{MayRefuse, carried};
 
 use crate::{Config, Interface, MOST_COST, MOST_PATH_METRIC, NetRefusal, Range, Stub};

@@ -1,14 +1,14 @@
 -- Lists of distinct numbers: where a number stands in one, how long they may be, and what they contain.
-use Rattle.std.proofs.Common.{◌≡◌, ◌≢◌, ℕ, zero, suc, ◌<◌, ◌≤◌, Bool, List, [], ◌∷◌, ◌++◌, Contains, length}
-use Rattle.std.proofs.Common.{get_or, take, true, false, eqb, arith, subst, sym, refl, ap, ◌∙◌, inl, inr}
+use Rattle.std.proofs.Common.{◌≡◌, ◌≢◌, ℕ, zero, suc, ◌<◌, ◌≤◌, Bool, List, [], ◌∷◌, ◌++◌, Contains, length, get_or, true}
+use Rattle.std.proofs.Common.{false, eqb, arith, subst, sym, refl, ap, ◌∙◌}
 use Rattle.std.specs.List.{list_any, All, AllPairs}
 use Rattle.std.specs.Cmp.{nat_eq_equiv}
 use Rattle.std.proofs.lemmas.Map.Steps.{length-le_from_distinct_below}
 use Rattle.std.proofs.lemmas.Map.Made.{IsDistinct-from_AllPairs}
 use Rattle.std.proofs.lemmas.Map.Views.{Contains-from_any, list_any-from_Contains}
-use Rattle.std.proofs.lemmas.Bool.{eqb-true, false≢true, cases_lt}
+use Rattle.std.proofs.lemmas.Bool.{eqb-true, false≢true}
 use Rattle.std.proofs.lemmas.Bool.Decides.{Decides-eqb}
-use Rattle.std.proofs.lemmas.List.{get_or-take, get_or_default, length-take-le, append_assoc}
+use Rattle.std.proofs.lemmas.List.{get_or_default, append_assoc}
 use Rattle.std.proofs.lemmas.List.Elements.{All-contains, All-cons, Contains-get_or, Contains-append_right}
 use Rattle.order_core.specs.Orders.{AreDistinct}
 
@@ -54,16 +54,6 @@ same_split (y ∷ before) x after (z ∷ others) rest distinct same =
     let place = same_split before x after others rest (rest_distinct y (before ++ x ∷ after) distinct) tails in
     (ap (λ (v : ℕ). v ∷ before) first ∙ ap (λ (l : List ℕ). z ∷ l) place.0, place.1)
 
--- a number stands at one place of a list of distinct numbers
-pub same_place : (xs : List ℕ) → AreDistinct xs → (i j : ℕ) → i < length xs → j < length xs → get_or xs i 0 ≡ get_or xs j 0 → i ≡ j
-same_place xs once i j i_in j_in same = elim (cases_lt i j) [
-  | inl lt ↦ absurd (once i j 0 lt j_in same)
-  | inr ge ↦ elim (cases_lt j i) [
-    | inl lt ↦ absurd (once j i 0 lt i_in (sym same))
-    | inr le ↦ omega (arith, ge, le)
-  ]
-]
-
 -- What a list of distinct numbers contains
 
 -- one more element in front that differs from all the others
@@ -84,14 +74,9 @@ length-le_from_distinct xs n distinct below =
 pub place_from_Contains : (xs : List ℕ) (x : ℕ) → Contains xs x → (k : ℕ) × (k < length xs) × (get_or xs k 0 ≡ x)
 place_from_Contains xs x has = (has.0, has.1, get_or_default xs has.0 0 x has.1 ∙ has.2)
 
--- an element before place j is among the first j
-pub Contains-take : (xs : List ℕ) (i j : ℕ) → i < j → j ≤ length xs → Contains (take j xs) (get_or xs i 0)
-Contains-take xs i j lt in' =
-    let long : i < length (take j xs) = omega (arith, length-take-le j xs in') in
-    subst (λ (x : ℕ). Contains (take j xs) x) (get_or-take j xs i 0 lt) (Contains-get_or (take j xs) i 0 long)
-
 -- n distinct numbers below n are all of them
-pub Contains-from_distinct : (xs : List ℕ) (n : ℕ) → AllPairs (λ u v. u ≢ v) xs → All (λ u. u < n) xs → length xs ≡ n → (u : ℕ) → u < n → Contains xs u
+pub Contains-from_distinct : (xs : List ℕ) (n : ℕ) → AllPairs (λ u v. u ≢ v) xs → All (λ u. u < n) xs → length xs ≡ n → (u : ℕ) →
+    u < n → Contains xs u
 Contains-from_distinct xs n distinct below whole u lt = by_test (list_any (eqb u) xs) refl
   where
     apart : list_any (eqb u) xs ≡ false → (k : ℕ) (d : ℕ) → k < length xs → u ≢ get_or xs k d

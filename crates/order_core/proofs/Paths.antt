@@ -1,5 +1,6 @@
 -- Paths of assumed pairs: end to end, under more pairs, and without a cycle.
-use Rattle.std.proofs.Common.{◌≡◌, ◌≢◌, ℕ, zero, suc, ◌<◌, ◌⊎◌, inl, inr, List, [], ◌∷◌, ◌++◌, length, get_or, take, drop, arith, subst, sym, refl, ap}
+use Rattle.std.proofs.Common.{◌≡◌, ◌≢◌, ℕ, zero, suc, ◌<◌, ◌⊎◌, inl, inr, List, [], ◌∷◌, ◌++◌, length, get_or, take, drop}
+use Rattle.std.proofs.Common.{arith, subst, sym, refl, ap}
 use Rattle.std.specs.List.{All, AllPairs, Contains}
 use Rattle.std.proofs.lemmas.List.{take-append-drop}
 use Rattle.std.proofs.lemmas.List.Elements.{Contains-append_left, Contains-push_cases, All-contains, All-cons, All-nil}
@@ -41,11 +42,6 @@ Leads-from_Reaches pairs u v differ reaches = leads_by reaches.path reaches.onwa
     leads_by : (path : List ℕ) → IsPath pairs u path v → Leads pairs u v
     leads_by [] onward = absurd (differ onward)
     leads_by (w ∷ path) onward = record { next = w; path = path; first = onward.0; onward = onward.1 }
-
--- where u leads to v and v reaches w, u leads to w
-pub Leads-trans : (pairs : List Pair) (u v w : ℕ) → Leads pairs u v → Reaches pairs v w → Leads pairs u w
-Leads-trans pairs u v w leads rest =
-    Leads-step pairs u leads.next w leads.first (Reaches-trans pairs leads.next v w (record { path = leads.path; onward = leads.onward }) rest)
 
 -- under one more pair (u, v) a path goes by the old pairs alone, or to u and on from v by them
 pub Reaches-push : (pairs : List Pair) (u v : ℕ) (x y : ℕ) (path : List ℕ) → IsPath (pairs ++ (u, v) ∷ []) x path y →
@@ -93,8 +89,10 @@ Reaches-at pairs x y (w ∷ path) onward (suc k) d in' =
     Reaches-step pairs x w (get_or (w ∷ path) k d) onward.0 (Reaches-at pairs w y path onward.1 k d (omega (arith, in')))
 
 -- the routers of a path are distinct where no router leads to itself
-pub distinct_path : (pairs : List Pair) → HasNoCycle pairs → (x y : ℕ) (path : List ℕ) → IsPath pairs x path y → AllPairs (λ u v. u ≢ v) (x ∷ path)
-distinct_path pairs acyclic x y [] onward = AllPairs-cons (λ u v. u ≢ v) x [] (λ k d in' same. omega (arith, in')) (λ i j d lt in' same. omega (arith, in'))
+pub distinct_path : (pairs : List Pair) → HasNoCycle pairs → (x y : ℕ) (path : List ℕ) → IsPath pairs x path y →
+    AllPairs (λ u v. u ≢ v) (x ∷ path)
+distinct_path pairs acyclic x y [] onward =
+    AllPairs-cons (λ u v. u ≢ v) x [] (λ k d in' same. omega (arith, in')) (λ i j d lt in' same. omega (arith, in'))
 distinct_path pairs acyclic x y (w ∷ path) onward =
     AllPairs-cons (λ u v. u ≢ v) x (w ∷ path)
     (λ k d in' same. acyclic x (Leads-step pairs x w x onward.0 (subst (λ (z : ℕ). Reaches pairs w z) (sym same)
@@ -102,14 +100,16 @@ distinct_path pairs acyclic x y (w ∷ path) onward =
     (distinct_path pairs acyclic w y path onward.1)
 
 -- the routers of a path are below n where its first one and the pairs are
-pub path_below : (n : ℕ) (pairs : List Pair) → AreBelow n pairs → (x y : ℕ) (path : List ℕ) → x < n → IsPath pairs x path y → All (λ u. u < n) (x ∷ path)
+pub path_below : (n : ℕ) (pairs : List Pair) → AreBelow n pairs → (x y : ℕ) (path : List ℕ) → x < n → IsPath pairs x path y →
+    All (λ u. u < n) (x ∷ path)
 path_below n pairs below x y [] lt onward = All-cons (λ u. u < n) x [] lt (All-nil (λ u. u < n))
 path_below n pairs below x y (w ∷ path) lt onward =
     let step = All-contains (λ (p : Pair). (p.0 < n) × (p.1 < n)) pairs (x, w) below onward.0 in
     All-cons (λ u. u < n) x (w ∷ path) lt (path_below n pairs below w y path step.1 onward.1)
 
 -- a path of pairs of n routers without a cycle has fewer than n steps
-pub length-path : (n : ℕ) (pairs : List Pair) → AreBelow n pairs → HasNoCycle pairs → (x y : ℕ) (path : List ℕ) → x < n → IsPath pairs x path y →
+pub length-path : (n : ℕ) (pairs : List Pair) → AreBelow n pairs → HasNoCycle pairs → (x y : ℕ) (path : List ℕ) → x < n →
+    IsPath pairs x path y →
     length path < n
 length-path n pairs below acyclic x y path lt onward =
     omega (arith, length-le_from_distinct (x ∷ path) n (distinct_path pairs acyclic x y path onward) (path_below n pairs below x y path lt onward))

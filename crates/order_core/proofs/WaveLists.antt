@@ -6,8 +6,8 @@ use Rattle.std.specs.List.Sorted.{IsStrictlyIncreasing}
 use Rattle.std.specs.Cmp.{nat_eq_equiv}
 use Rattle.std.proofs.lemmas.Bool.{eqb-true, cases_lt}
 use Rattle.std.proofs.lemmas.List.{append-nil, append_assoc, get_or_default}
-use Rattle.std.proofs.lemmas.List.Elements.{All-contains, All-contains_itself, All-filter, All-weaker, Contains-append_cases}
-use Rattle.std.proofs.lemmas.List.Elements.{Contains-append_left, Contains-append_right, Contains-get_or, filter_passes}
+use Rattle.std.proofs.lemmas.List.Elements.{All-contains, All-contains_itself, All-filter, All-weaker, Contains-append_cases, Contains-append_left}
+use Rattle.std.proofs.lemmas.List.Elements.{Contains-append_right, Contains-get_or, filter_passes}
 use Rattle.std.proofs.lemmas.List.FromFn.{length-range_with_len, get_or-range_with_len}
 use Rattle.std.proofs.lemmas.List.Kept.{AllPairs-cons, AllPairs-from_increasing, IsStrictlyIncreasing-filter}
 use Rattle.std.proofs.lemmas.Grind.{flat_map-append}
@@ -105,7 +105,8 @@ one_wave_more ranks w u before = (
     to (inl has) = let both = before.0 has in (both.0, omega (arith, both.1))
     to (inr has) = let both = (wave_routers ranks w u).0 has in (both.0, omega (arith, both.1))
 
-    from : u < length ranks → (rank_of ranks u < w) ⊎ (w ≤ rank_of ranks u) → rank_of ranks u < w + 1 → Contains (waves_before ranks w ++ wave_of ranks w) u
+    from : u < length ranks → (rank_of ranks u < w) ⊎ (w ≤ rank_of ranks u) → rank_of ranks u < w + 1 →
+        Contains (waves_before ranks w ++ wave_of ranks w) u
     from within (inl lower) below = Contains-append_left (waves_before ranks w) (wave_of ranks w) u (before.1 (within, lower))
     from within (inr here) below =
         let same : rank_of ranks u ≡ w = omega (arith, here, below) in
@@ -124,7 +125,8 @@ routers_before ranks (suc w) u =
     subst (λ (n : ℕ). AreBefore ranks n u) e (one_wave_more ranks w u (routers_before ranks w u))
 
 -- what holds within two lists, and of each element of the first one with each of the second one
-AllPairs-append : {X : Type 0} (R : X → X → Type 0) (xs ys : List X) → AllPairs R xs → AllPairs R ys → ((x y : X) → Contains xs x → Contains ys y → R x y) →
+AllPairs-append : {X : Type 0} (R : X → X → Type 0) (xs ys : List X) → AllPairs R xs → AllPairs R ys →
+    ((x y : X) → Contains xs x → Contains ys y → R x y) →
     AllPairs R (xs ++ ys)
 AllPairs-append R [] ys first second cross = second
 AllPairs-append {X} R (x ∷ xs) ys first second cross =
@@ -198,7 +200,8 @@ some_is_last : (x : ℕ) (ranks : List ℕ) → (r : ℕ) × Contains (x ∷ ran
 some_is_last x [] = (x, (0, omega arith, refl), omega arith)
 some_is_last x (y ∷ ranks) = choose (some_is_last y ranks) (cases_lt x (wave_count (y ∷ ranks)))
   where
-    choose : (r : ℕ) × Contains (y ∷ ranks) r × (r + 1 ≡ wave_count (y ∷ ranks)) → (x < wave_count (y ∷ ranks)) ⊎ (wave_count (y ∷ ranks) ≤ x) →
+    choose : (r : ℕ) × Contains (y ∷ ranks) r × (r + 1 ≡ wave_count (y ∷ ranks)) → (x < wave_count (y ∷ ranks)) ⊎
+        (wave_count (y ∷ ranks) ≤ x) →
         (r : ℕ) × Contains (x ∷ y ∷ ranks) r × (r + 1 ≡ wave_count (x ∷ y ∷ ranks))
     choose (r, (k, within, is), last) (inl lower) = (r, (suc k, omega arith, is), omega (arith, last, lower))
     choose (r, has, last) (inr higher) = (x, (0, omega arith, refl), omega (arith, higher))
@@ -267,11 +270,13 @@ lower_before ranks u v u_in v_in before =
         cross (inr both) (inl (inr other)) = omega (arith, both.1, other.1)
         cross (inr both) (inr same) = omega (arith, both.1, same)
 
-    earlier : (i j : ℕ) → i < length (flat_of ranks) → get_or (flat_of ranks) i 0 ≡ u → get_or (flat_of ranks) j 0 ≡ v → (i < j) ⊎ (j ≤ i) → i < j
+    earlier : (i j : ℕ) → i < length (flat_of ranks) → get_or (flat_of ranks) i 0 ≡ u → get_or (flat_of ranks) j 0 ≡ v →
+        (i < j) ⊎ (j ≤ i) → i < j
     earlier i j i_in at_u at_v (inl lt) = lt
     earlier i j i_in at_u at_v (inr ge) = elim (cases_lt j i) [
       | inl after ↦
           let pair : ComesBefore ranks (get_or (flat_of ranks) j 0) (get_or (flat_of ranks) i 0) = waves_by_rank ranks (wave_count ranks) j i 0 after i_in in
-          absurd (never (inl (subst (λ (x : ℕ). ComesBefore ranks v x) at_u (subst (λ (x : ℕ). ComesBefore ranks x (get_or (flat_of ranks) i 0)) at_v pair))))
+          absurd (never (inl (subst (λ (x : ℕ). ComesBefore ranks v x) at_u
+          (subst (λ (x : ℕ). ComesBefore ranks x (get_or (flat_of ranks) i 0)) at_v pair))))
       | inr le ↦ absurd (never (inr (let e : j ≡ i = omega (arith, ge, le) in sym at_v ∙ ap (λ (k : ℕ). get_or (flat_of ranks) k 0) e ∙ at_u)))
     ]

@@ -1,6 +1,6 @@
 -- How waves are written, one router and one wave after another, and where each wave stands in the flat run.
-use Rattle.std.proofs.Common.{◌≡◌, ◌≢◌, ℕ, ◌+◌, ◌-◌, ◌<◌, ◌≤◌, inl, inr, Bool, true, false, cond, List, []}
-use Rattle.std.proofs.Common.{◌∷◌, ◌++◌, length, get_or, take, drop, eqb, arith, sym, ap, ◌∙◌, length-append, zero-add, append_assoc}
+use Rattle.std.proofs.Common.{◌≡◌, ◌≢◌, ℕ, ◌+◌, ◌-◌, ◌<◌, ◌≤◌, inl, inr, Bool, true, false, cond, List, [], ◌∷◌}
+use Rattle.std.proofs.Common.{◌++◌, length, get_or, take, drop, eqb, arith, sym, ap, ◌∙◌, length-append, zero-add, append_assoc}
 use Rattle.std.specs.List.{filter}
 use Rattle.std.proofs.Math.Seq.{take-append_seam, drop-append_seam}
 use Rattle.std.proofs.lemmas.Bool.Decides.{eqb_tells}
@@ -15,13 +15,15 @@ use Rattle.order_core.proofs.WaveLists.{numbers_more, waves_more, waves_split}
 abbrev pub part_of : List ℕ → ℕ → ℕ → List ℕ
 part_of ranks w n = filter (λ u. eqb (rank_of ranks u) w) (numbers_below n)
 
-part_more : (ranks : List ℕ) (w n : ℕ) (b : Bool) → eqb (rank_of ranks n) w ≡ b → part_of ranks w (n + 1) ≡ part_of ranks w n ++ cond b (n ∷ []) []
+part_more : (ranks : List ℕ) (w n : ℕ) (b : Bool) → eqb (rank_of ranks n) w ≡ b → part_of ranks w (n + 1) ≡ part_of ranks w n
+    ++ cond b (n ∷ []) []
 part_more ranks w n b is =
     ap (filter (λ u. eqb (rank_of ranks u) w)) (numbers_more n) ∙ filter-append (λ u. eqb (rank_of ranks u) w) (numbers_below n) (n ∷ [])
     ∙ ap (λ (c : Bool). part_of ranks w n ++ cond c (n ∷ []) []) is
 
 -- a router of the wave is added
-pub part_added : (ranks start flat new : List ℕ) (w n : ℕ) → flat ≡ start ++ part_of ranks w n → rank_of ranks n ≡ w → new ≡ flat ++ n ∷ [] →
+pub part_added : (ranks start flat new : List ℕ) (w n : ℕ) → flat ≡ start ++ part_of ranks w n → rank_of ranks n ≡ w →
+    new ≡ flat ++ n ∷ [] →
     new ≡ start ++ part_of ranks w (n + 1)
 part_added ranks start flat new w n part here is = elim (eqb_tells (rank_of ranks n) w) [
   | inl same ↦
@@ -31,7 +33,8 @@ part_added ranks start flat new w n part here is = elim (eqb_tells (rank_of rank
 ]
 
 -- a router of another wave isn't
-pub part_passed : (ranks start flat : List ℕ) (w n : ℕ) → flat ≡ start ++ part_of ranks w n → rank_of ranks n ≢ w → flat ≡ start ++ part_of ranks w (n + 1)
+pub part_passed : (ranks start flat : List ℕ) (w n : ℕ) → flat ≡ start ++ part_of ranks w n → rank_of ranks n ≢ w →
+    flat ≡ start ++ part_of ranks w (n + 1)
 part_passed ranks start flat w n part apart = elim (eqb_tells (rank_of ranks n) w) [
   | inl same ↦ absurd (apart same.1)
   | inr other ↦ part ∙ ap (λ (xs : List ℕ). start ++ xs) (sym (append-nil (part_of ranks w n)) ∙ sym (part_more ranks w n false other.0))
@@ -52,7 +55,8 @@ pub record IsWavePart (ranks : List ℕ) (w start end : ℕ) : Type 0 where
   pub within : end ≤ length (flat_of ranks)
   pub is : take (end - start) (drop start (flat_of ranks)) ≡ wave_of ranks w
 
-pub wave_part : (ranks : List ℕ) (w : ℕ) → w < wave_count ranks → IsWavePart ranks w (length (waves_before ranks w)) (length (waves_before ranks (w + 1)))
+pub wave_part : (ranks : List ℕ) (w : ℕ) → w < wave_count ranks →
+    IsWavePart ranks w (length (waves_before ranks w)) (length (waves_before ranks (w + 1)))
 wave_part ranks w below =
     let before : List ℕ = waves_before ranks w in
     let wave : List ℕ = wave_of ranks w in

@@ -9,7 +9,7 @@ starts_of ranks count = map (λ w. length (waves_before ranks w)) (numbers_below
 
 -- the ranks are a ranking of at least one router, and beside them stand the flat run and where each wave
 -- begins in it, with the end of the last one
-pub record AreHeld (w : Inside) : Type 0 where
+pub record AreHeldWaves (w : Inside) : Type 0 where
   pub some : 0 < length w.ranks.items
   pub few : length w.ranks.items < 2 ^ 32
   pub ranking : IsRanking (length w.ranks.items) w.ranks.items

@@ -1,7 +1,8 @@
 -- Turns of a ring: which routers still step by the old routes only, and which by the new ones only.
-use Rattle.std.specs.Prelude.{ℕ, ◌<◌, Bool, true, false, List, length, map}
+use Rattle.std.specs.Prelude.{ℕ, ◌<◌, Bool, true, false, List, length, map, Contains}
 use Rattle.std.specs.List.{filter, flat_map}
 use Rattle.order_core.specs.Pairs.{Pair}
+use Rattle.order_core.specs.Rankings.{KeepsPair}
 use Rattle.order_core.specs.declared.turn.Tag.{Tag}
 use Rattle.order_core.specs.declared.turn.Tag.TheVariants.{Old, New, Both}
 use Rattle.order_core.specs.declared.turn.Turn.{Turn}
@@ -34,6 +35,14 @@ new_routers turns = routers_of (filter (λ (t : Turn). is_new t.tag) turns)
 pub record HasBothTags (turns : List Turn) : Type 0 where
   pub old : 0 < length (old_routers turns)
   pub new : 0 < length (new_routers turns)
+
+-- a ranking gives some Old turn's router a lower rank than some New turn's router
+pub record RanksSomeOldFirst (ranks : List ℕ) (turns : List Turn) : Type 0 where
+  pub old : ℕ
+  pub new : ℕ
+  pub is_old : Contains (old_routers turns) old
+  pub is_new : Contains (new_routers turns) new
+  pub keeps : KeepsPair ranks (old, new)
 
 -- what the children of a branch assume besides: each Old turn's router before each New turn's router,
 -- by the Old turn first and then by the New turn

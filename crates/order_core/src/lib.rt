@@ -1,7 +1,10 @@
 //! Words without a network: orders, rankings and their waves, and the turns of a ring.
 #![tactic(auto)]
 
+// The turns of a ring.
 mod turn;
+
+// Rankings and their waves.
 mod wave_laws;
 mod waves;
 

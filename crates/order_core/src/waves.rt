@@ -1,4 +1,4 @@
-ghost use Rattle.std.specs.Prelude.{◌≡◌, ◌+◌, ◌<◌, ◌≤◌, ◌^◌, ◌++◌, length, IfOk, OnOk};
+ghost use Rattle.std.specs.Prelude.{◌≡◌, ◌+◌, ◌<◌, ◌^◌, ◌++◌, length, IfOk, OnOk};
 ghost use Rattle.order_core.specs.Rankings.{IsRanking, wave_count, wave_of, flat_of};
 
 use std::alloc::{AllocError, Global};
@@ -21,11 +21,11 @@ impl Model for Waves {
 
     ghost Value = { List ℕ };
 
-    ghost use Rattle.order_core.specs.HeldWaves.{AreHeld};
+    ghost use Rattle.order_core.specs.HeldWaves.{AreHeldWaves};
 
     ghost view = { λ x. x.ranks.items };
 
-    ghost invariant = { AreHeld };
+    ghost invariant = { AreHeldWaves };
 }
 
 impl Waves {

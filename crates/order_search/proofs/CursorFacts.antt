@@ -1,13 +1,11 @@
 -- Cursors over the children of a branch: where they stand, the next child, and the children of all branches.
-use Rattle.std.proofs.Common.{◌≡◌, ℕ, zero, suc, ◌+◌, ◌*◌, ◌<◌, ◌≤◌, List, [], ◌∷◌, ◌++◌, length, get_or, drop, map, arith, sym, ap, ◌∙◌}
-use Rattle.std.specs.List.{flat_map}
+use Rattle.std.proofs.Common.{◌≡◌, ℕ, zero, suc, ◌+◌, ◌*◌, ◌<◌, ◌≤◌, List, [], ◌∷◌, length, get_or, drop, map, arith, sym, ap}
+use Rattle.std.proofs.Common.{◌∙◌}
 use Rattle.std.proofs.Math.Nat.{mul-le-mul}
 use Rattle.std.proofs.lemmas.List.{length-append, length-map, get_or-map, get_or_append_left, get_or-append-add, get_or_default, drop_more, drop_all}
-use Rattle.std.proofs.lemmas.List.{reverse-append}
 use Rattle.order_core.specs.Pairs.{Pair}
-use Rattle.order_search.specs.Cursors.{grid, all_children}
-use Rattle.order_search.specs.Waiting.{child_of}
-use Rattle.order_search.specs.declared.child.Child.{Child}
+use Rattle.order_search.specs.steps.Cursors.{grid}
+use Rattle.order_search.specs.steps.Waiting.{child_of}
 
 -- a row of pairs
 abbrev row : List ℕ → ℕ → List Pair
@@ -77,12 +75,3 @@ pub children_end : (olds news : List ℕ) (above i j : ℕ) → i ≡ length old
 children_end olds news above i j end =
     let rows : length (grid olds news) ≡ i * length news = length-grid olds news ∙ ap (λ (k : ℕ). k * length news) (sym end) in
     ap (map (child_of above)) (drop_all (i * length news + j) (grid olds news) (omega (arith, rows)))
-
--- at first the cursor stands at the first child
-pub children_start : (olds news : List ℕ) (above : ℕ) → map (child_of above) (drop (0 * length news + 0) (grid olds news)) ≡ map (child_of above)
-    (grid olds news)
-children_start olds news above = let first : 0 * length news + 0 ≡ 0 = omega arith in ap (λ (k : ℕ). map (child_of above) (drop k (grid olds news))) first
-
--- the children of one branch more come first
-pub all_children-push : (branches : List (List Child)) (children : List Child) → all_children (branches ++ children ∷ []) ≡ children ++ all_children branches
-all_children-push branches children = ap (λ (xs : List (List Child)). flat_map (λ (ys : List Child). ys) xs) (reverse-append branches (children ∷ []))

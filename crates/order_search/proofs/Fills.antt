@@ -13,13 +13,15 @@ Fill-push P (q ∷ places) left place (n ∷ nodes) node fill here =
     (fill.0, Fill-push P (places_below q n ++ places) left place nodes node fill.1 here)
 
 -- some more nodes go on from the open places
-pub Fill-append : (P : Place → Node → Type 0) (a b c : List Place) (nodes more : List Node) → Fill P a nodes b → Fill P b more c → Fill P a (nodes ++ more) c
+pub Fill-append : (P : Place → Node → Type 0) (a b c : List Place) (nodes more : List Node) → Fill P a nodes b → Fill P b more c →
+    Fill P a (nodes ++ more) c
 Fill-append P a b c [] more first second = subst (λ (ps : List Place). Fill P ps more c) (sym first) second
 Fill-append P [] b c (n ∷ nodes) more first second = absurd first
 Fill-append P (q ∷ a) b c (n ∷ nodes) more first second = (first.0, Fill-append P (places_below q n ++ a) b c nodes more first.1 second)
 
 -- what holds of the nodes may be weakened
-pub Fill-weaker : (P Q : Place → Node → Type 0) → ((place : Place) (node : Node) → P place node → Q place node) → (a b : List Place) (nodes : List Node) →
+pub Fill-weaker : (P Q : Place → Node → Type 0) → ((place : Place) (node : Node) → P place node → Q place node) →
+    (a b : List Place) (nodes : List Node) →
     Fill P a nodes b → Fill Q a nodes b
 Fill-weaker P Q weaker a b [] fill = fill
 Fill-weaker P Q weaker [] b (n ∷ nodes) fill = absurd fill

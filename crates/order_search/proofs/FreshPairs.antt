@@ -1,18 +1,18 @@
 -- Fresh pairs over a base: one more, fewer, and how many there may be among n routers.
-use Rattle.std.proofs.Common.{◌≡◌, ◌≢◌, ℕ, zero, suc, ◌+◌, ◌-◌, ◌*◌, ◌/◌, ◌%◌, ◌<◌, ◌≤◌, ◌⊎◌, inl, inr, List, [], ◌∷◌, ◌++◌, length, get_or, take}
-use Rattle.std.proofs.Common.{drop, arith, subst, sym, refl, ap, ◌∙◌, add-one}
+use Rattle.std.proofs.Common.{◌≡◌, ◌≢◌, ℕ, zero, suc, ◌+◌, ◌-◌, ◌*◌, ◌/◌, ◌%◌, ◌<◌, ◌≤◌, ◌⊎◌, inl, inr, List}
+use Rattle.std.proofs.Common.{[], ◌∷◌, ◌++◌, length, get_or, take, arith, subst, sym, refl, ap, ◌∙◌, add-one}
 use Rattle.std.specs.List.{All, AllPairs, Contains}
 use Rattle.std.proofs.lemmas.Nat.{mul-add-lt, div-mul-add, mod-mul-add}
 use Rattle.std.proofs.lemmas.Bool.{cases_lt}
 use Rattle.std.proofs.Math.Nat.{mul-le-mul}
-use Rattle.std.proofs.lemmas.List.{take-take, take_all, take_more, take-append-le, take-append-drop, length-take, length-take-le, length_push}
-use Rattle.std.proofs.lemmas.List.{get_or-take, get_or_append_left, get_or_push}
+use Rattle.std.proofs.lemmas.List.{take-take, take_all, take_more, take-append-le, length-take, length-take-le, length_push, get_or-take, get_or_append_left}
+use Rattle.std.proofs.lemmas.List.{get_or_push}
 use Rattle.std.proofs.lemmas.List.Elements.{All-nil, All-cons, All-weaker, All-push, All-take, All-get_or, Contains-append_left, Contains-push}
 use Rattle.order_core.specs.Pairs.{Pair, Leads, Reaches}
 use Rattle.order_core.proofs.DistinctLists.{AllPairs-cons, length-le_from_distinct}
 use Rattle.order_core.proofs.Paths.{HasNoCycle-push, HasNoCycle-take, IsPath-more, Leads-step, Reaches-itself, Reaches-from_Leads}
 use Rattle.order_search.specs.Meanings.{IsBase}
-use Rattle.order_search.specs.Waiting.{AreFresh}
+use Rattle.order_search.specs.steps.Waiting.{AreFresh}
 
 -- the pairs of a base are fresh
 pub AreFresh-base : (n : ℕ) (base : List Pair) → IsBase n base → AreFresh n base base
@@ -45,7 +45,8 @@ base_apart n base i is in' reaches =
     HasNoCycle-take base (suc i) is.acyclic p.0 (Leads-step (take (suc i) base) p.0 p.1 p.0 here back)
 
 -- the first ones of fresh pairs are fresh, the base among them
-pub AreFresh-take : (n : ℕ) (base pairs : List Pair) (m : ℕ) → length base ≤ m → m ≤ length pairs → AreFresh n base pairs → AreFresh n base (take m pairs)
+pub AreFresh-take : (n : ℕ) (base pairs : List Pair) (m : ℕ) → length base ≤ m → m ≤ length pairs → AreFresh n base pairs →
+    AreFresh n base (take m pairs)
 AreFresh-take n base pairs m from to fresh = record {
   few = fresh.few;
   long = omega (arith, from, length-take-le m pairs to);
@@ -58,11 +59,13 @@ AreFresh-take n base pairs m from to fresh = record {
       let le : k ≤ m = omega (arith, k_m) in
       let e = get_or-take m pairs k (0, 0) k_m in
       subst (λ (p : Pair). ¬ Leads (take k (take m pairs)) p.0 p.1) (sym e)
-      (subst (λ (xs : List Pair). ¬ Leads xs (get_or pairs k (0, 0)).0 (get_or pairs k (0, 0)).1) (sym (take-take k m pairs le)) (fresh.fresh k from_k k_in));
+      (subst (λ (xs : List Pair). ¬ Leads xs (get_or pairs k (0, 0)).0 (get_or pairs k (0, 0)).1) (sym (take-take k m pairs le))
+      (fresh.fresh k from_k k_in));
 }
 
 -- one more pair that isn't implied and closes no cycle
-pub AreFresh-push : (n : ℕ) (base pairs : List Pair) (u v : ℕ) → AreFresh n base pairs → u < n → v < n → ¬ Leads pairs u v → ¬ Reaches pairs v u →
+pub AreFresh-push : (n : ℕ) (base pairs : List Pair) (u v : ℕ) → AreFresh n base pairs → u < n → v < n → ¬ Leads pairs u v →
+    ¬ Reaches pairs v u →
     AreFresh n base (pairs ++ (u, v) ∷ [])
 AreFresh-push n base pairs u v fresh u_in v_in new apart = record {
   few = fresh.few;
@@ -84,13 +87,6 @@ AreFresh-push n base pairs u v fresh u_in v_in new apart = record {
         (subst (λ (xs : List Pair). ¬ Leads xs u v) (sym whole) new)
   ];
 }
-
--- the pairs of the base are among fresh pairs
-pub Contains-base : (n : ℕ) (base pairs : List Pair) → AreFresh n base pairs → (pair : Pair) → Contains base pair → Contains pairs pair
-Contains-base n base pairs fresh pair has =
-    let split : base ++ drop (length base) pairs ≡ pairs =
-    ap (λ (xs : List Pair). xs ++ drop (length base) pairs) (sym fresh.begins) ∙ take-append-drop (length base) pairs in
-    subst (λ (xs : List Pair). Contains xs pair) split (Contains-append_left base (drop (length base) pairs) pair has)
 
 -- the number of a pair of routers below n: the one of the pair both ways round, or of a router with itself
 record IsCode (n : ℕ) (pairs : List Pair) (code : ℕ) : Type 0 where
@@ -163,7 +159,8 @@ record Codes (n : ℕ) (pairs : List Pair) (k m : ℕ) : Type 0 where
   known : All (IsCode n (take k pairs)) codes
 
 -- neither way round does a fresh pair have a number of those before it
-new_code : (n : ℕ) (pairs : List Pair) (u v code : ℕ) → u < n → v < n → u ≢ v → ¬ Leads pairs u v → ¬ Leads pairs v u → IsCode n pairs code →
+new_code : (n : ℕ) (pairs : List Pair) (u v code : ℕ) → u < n → v < n → u ≢ v → ¬ Leads pairs u v → ¬ Leads pairs v u →
+    IsCode n pairs code →
     (u * n + v ≢ code) × (v * n + u ≢ code)
 new_code n pairs u v code u_in v_in differ new apart old = (
   λ same. let e = code_tells n u v old.x old.y v_in old.y_in (same ∙ old.is) in

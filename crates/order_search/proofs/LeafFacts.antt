@@ -1,15 +1,16 @@
 -- A leaf's cycle, and the places that wait when a child has been visited.
-use Rattle.std.proofs.Common.{◌≡◌, ◌≢◌, ℕ, ◌<◌, ◌≤◌, List, [], ◌∷◌, ◌++◌, length, take, append_assoc, arith, subst, sym, refl, ap, ◌∙◌}
+use Rattle.std.proofs.Common.{◌≡◌, ◌≢◌, ℕ, ◌<◌, ◌≤◌, List, [], ◌∷◌, ◌++◌, length, take, append_assoc, arith, subst, sym}
+use Rattle.std.proofs.Common.{refl, ap, ◌∙◌}
 use Rattle.std.specs.List.{AllPairs}
-use Rattle.std.proofs.lemmas.List.{take-append-le, length-append, length_push, get_or_append_left, get_or_at, append-nil}
+use Rattle.std.proofs.lemmas.List.{take-append-le, length-append, length_push, get_or_append_left, get_or_at}
 use Rattle.std.proofs.lemmas.List.Elements.{Contains-push}
 use Rattle.order_core.specs.Pairs.{Pair, IsPath, Leads, HasNoCycle}
 use Rattle.precedence_set.specs.LeastCycle.{GoesBack, IsLeastCycle}
 use Rattle.order_core.proofs.DistinctLists.{AllPairs-cons}
 use Rattle.order_core.proofs.Paths.{IsPath-more, distinct_path}
 use Rattle.order_search.specs.Trees.{Place, IsCycle}
-use Rattle.order_search.specs.Waiting.{place_of, places_of, AreChildren}
-use Rattle.order_search.specs.Leaves.{IsLeaf, GrowsLeaves}
+use Rattle.order_search.specs.steps.Waiting.{place_of, places_of, AreChildren}
+use Rattle.order_search.specs.steps.Leaves.{IsLeaf, GrowsLeaves}
 use Rattle.order_search.specs.declared.tree.Node.{Node}
 use Rattle.order_search.specs.declared.tree.Node.TheVariants.{Leaf}
 use Rattle.order_search.specs.declared.child.Child.{Child}
@@ -68,17 +69,14 @@ GrowsLeaves-leaf old new pairs c cycle grown acyclic least = record {
   );
 }
 
--- no leaf yet
-pub GrowsLeaves-none : (nodes : List Node) (places : List Place) → GrowsLeaves nodes nodes places places
-GrowsLeaves-none nodes places = record { leaves = []; grown = sym (append-nil nodes); fills = refl }
-
 -- one leaf more
 pub GrowsLeaves-more : (old mid new : List Node) (a : List Place) (place : Place) (left : List Place) → GrowsLeaves old mid a (place ∷ left) →
     GrowsLeaves mid new (place ∷ []) [] → GrowsLeaves old new a left
 GrowsLeaves-more old mid new a place left first second = record {
   leaves = first.leaves ++ second.leaves;
   grown = second.grown ∙ ap (λ (xs : List Node). xs ++ second.leaves) first.grown ∙ append_assoc old first.leaves second.leaves;
-  fills = Fill-append IsLeaf a (place ∷ left) left first.leaves second.leaves first.fills (Fill-frame IsLeaf (place ∷ []) [] left second.leaves second.fills);
+  fills =
+      Fill-append IsLeaf a (place ∷ left) left first.leaves second.leaves first.fills (Fill-frame IsLeaf (place ∷ []) [] left second.leaves second.fills);
 }
 
 -- the pairs above a child stay when others are assumed behind them
@@ -116,7 +114,8 @@ AreChildren-left n base pairs after all rest c are top is =
     let each : AreChildren n base pairs (c ∷ rest) = subst (λ (xs : List Child). AreChildren n base pairs xs) top are in
     subst (λ (xs : List Pair). AreChildren n base xs rest) (sym is) (AreChildren-more n base (take c.above pairs) ((c.before, c.after) ∷ []) rest each.1)
 
-pub GrowsLeaves-place : (n : ℕ) (base : List Pair) (old mid new : List Node) (a : List Place) (pairs after : List Pair) (all rest : List Child) (c : Child) →
+pub GrowsLeaves-place : (n : ℕ) (base : List Pair) (old mid new : List Node) (a : List Place) (pairs after : List Pair)
+    (all rest : List Child) (c : Child) →
     AreChildren n base pairs all → all ≡ c ∷ rest → GrowsLeaves old mid a (places_of pairs all) → after ≡ place_of pairs c → new ≡ mid →
     GrowsLeaves old new a (after ∷ places_of after rest)
 GrowsLeaves-place n base old mid new a pairs after all rest c are top grown is same =

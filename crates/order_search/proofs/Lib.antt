@@ -1,7 +1,6 @@
 pub mod Fills
 pub mod FreshPairs
 pub mod Turned
-pub mod TwoTurns
 mod LeafFacts
 mod CursorFacts
 mod RankFacts

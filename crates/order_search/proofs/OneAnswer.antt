@@ -1,6 +1,6 @@
 -- One answer: where one branch at most is picked for a ranking, and none for a good one, what the search may answer is one.
-use Rattle.std.proofs.Common.{◌≡◌, ℕ, zero, suc, ◌+◌, ◌≤◌, ◌⊎◌, inl, inr, List, [], ◌∷◌, ◌++◌, length, replicate}
-use Rattle.std.proofs.Common.{arith, subst, sym, refl, ap, ◌∙◌}
+use Rattle.std.proofs.Common.{◌≡◌, ℕ, zero, suc, ◌+◌, ◌≤◌, ◌⊎◌, inl, inr, List, [], ◌∷◌, ◌++◌, length, replicate, arith}
+use Rattle.std.proofs.Common.{subst, sym, refl, ap, ◌∙◌}
 use Rattle.std.specs.List.{All}
 use Rattle.std.proofs.lemmas.List.{append-nil, same_from_push}
 use Rattle.std.proofs.lemmas.List.Elements.{All-head, All-tail}
@@ -9,7 +9,7 @@ use Rattle.order_core.specs.declared.turn.Turn.{Turn}
 use Rattle.precedence_set.specs.Layers.{IsChain}
 use Rattle.precedence_set.specs.LeastCycle.{IsLowestBack, GoesBack, IsLeastCycle}
 use Rattle.precedence_set.proofs.LayerFacts.{layers_unique, chain_unique}
-use Rattle.order_search.specs.Trees.{Place, NodeFact, Fill, places_below, IsCycle, IsVisited, IsClosed, branch_count}
+use Rattle.order_search.specs.Trees.{Place, NodeFact, Fill, places_below, IsCycle, IsVisited, IsClosedTree, branch_count}
 use Rattle.order_search.specs.Meanings.{Meaning}
 use Rattle.order_search.specs.Places.{IsLayered, IsClosedByLast, StandsAt}
 use Rattle.order_search.specs.Answers.{IsFoundNode, AreFoundWaves, IsRefutation, IsSpent, IsFound}
@@ -192,7 +192,7 @@ stops m picks s t =
     ]
 
 -- a closed tree has a branch at each place with a layered list, which isn't good
-closed_goes_on : (m : Meaning) → PicksOne m.good m.picked → (tree : List Node) → IsClosed (IsFoundNode m) m.base tree → (s : Stop m) →
+closed_goes_on : (m : Meaning) → PicksOne m.good m.picked → (tree : List Node) → IsClosedTree (IsFoundNode m) m.base tree → (s : Stop m) →
     (branch_count s.before + 1 ≤ branch_count tree) × (¬ m.good s.ranks)
 closed_goes_on m picks tree closed s =
     elim (meet m picks (m.base ∷ []) [] (s.place ∷ s.later) tree s.before closed.tree s.stands.fills closed.visited s.stands.visited) [
@@ -208,8 +208,8 @@ closed_goes_on m picks tree closed s =
     no_more (node ∷ more) fills = fills
 
 -- two closed trees are one
-closed_once : (m : Meaning) → PicksOne m.good m.picked → (tree other : List Node) → IsClosed (IsFoundNode m) m.base tree →
-    IsClosed (IsFoundNode m) m.base other → tree ≡ other
+closed_once : (m : Meaning) → PicksOne m.good m.picked → (tree other : List Node) → IsClosedTree (IsFoundNode m) m.base tree →
+    IsClosedTree (IsFoundNode m) m.base other → tree ≡ other
 closed_once m picks tree other closed too =
     elim (meet m picks (m.base ∷ []) [] [] tree other closed.tree too.tree closed.visited too.visited) [
       | inl on ↦ sym (ends tree other on.more on.grown on.fills)
@@ -282,7 +282,8 @@ spent_once m budget picks tree other is too =
     ]
 
 -- where waves are found, the budget isn't spent
-waves_not_spent : (m : Meaning) (budget : ℕ) → PicksOne m.good m.picked → (ranks : List ℕ) (pairs : List Pair) (chain : List ℕ) (trail tree : List Node) →
+waves_not_spent : (m : Meaning) (budget : ℕ) → PicksOne m.good m.picked → (ranks : List ℕ) (pairs : List Pair) (chain : List ℕ)
+    (trail tree : List Node) →
     AreFoundWaves m budget ranks pairs chain trail → IsSpent m budget tree → ⊥
 waves_not_spent m budget picks ranks pairs chain trail tree is too =
     let one = branches_before is.leads.before trail 1 is.leads.ends in
@@ -293,12 +294,14 @@ waves_not_spent m budget picks ranks pairs chain trail tree is too =
       | later more bad ↦ omega (arith, more, one, two, is.within, too.stopped.spent)
     ]
 
-waves_not_refuted : (m : Meaning) (budget : ℕ) → PicksOne m.good m.picked → (ranks : List ℕ) (pairs : List Pair) (chain : List ℕ) (trail tree : List Node) →
+waves_not_refuted : (m : Meaning) (budget : ℕ) → PicksOne m.good m.picked → (ranks : List ℕ) (pairs : List Pair) (chain : List ℕ)
+    (trail tree : List Node) →
     AreFoundWaves m budget ranks pairs chain trail → IsRefutation m budget tree → ⊥
 waves_not_refuted m budget picks ranks pairs chain trail tree is too =
     (closed_goes_on m picks tree too.closed (waves_stop m budget ranks pairs chain trail is)).1 is.is_good
 
-spent_not_refuted : (m : Meaning) (budget : ℕ) → PicksOne m.good m.picked → (tree other : List Node) → IsSpent m budget tree → IsRefutation m budget other → ⊥
+spent_not_refuted : (m : Meaning) (budget : ℕ) → PicksOne m.good m.picked → (tree other : List Node) → IsSpent m budget tree →
+    IsRefutation m budget other → ⊥
 spent_not_refuted m budget picks tree other is too =
     let on = closed_goes_on m picks other too.closed (spent_stop m budget tree is) in
     let one = branches_before is.stopped.before tree (suc (length is.stopped.later)) is.stopped.ends in

@@ -4,13 +4,13 @@ use Rattle.std.specs.List.{All, AllPairs, Contains, filter}
 use Rattle.std.proofs.lemmas.List.Elements.{All-map, All-filter, All-contains}
 use Rattle.order_core.specs.Pairs.{Pair, IsPath, Leads}
 use Rattle.order_core.specs.Rankings.{KeepsPairs, rank_of}
-use Rattle.order_core.specs.Turns.{old_routers, new_routers, child_pairs, is_old, is_new}
+use Rattle.order_core.specs.Turns.{old_routers, new_routers, child_pairs, is_old, is_new, RanksSomeOldFirst}
 use Rattle.order_core.specs.declared.turn.Turn.{Turn}
 use Rattle.order_core.specs.declared.turn.Tag.{Tag}
 use Rattle.order_core.specs.declared.turn.Tag.TheVariants.{Old, New, Both}
 use Rattle.precedence_set.proofs.LayerFacts.{layers_keep}
 use Rattle.order_search.specs.Trees.{Real}
-use Rattle.order_search.specs.Meanings.{Good, Picked, Break, RanksSomeOldFirst}
+use Rattle.order_search.specs.Meanings.{Good, Picked, Break}
 use Rattle.order_search.specs.Places.{IsLayered}
 use Rattle.order_search.proofs.Turned.{All-grid, in_front}
 
@@ -37,7 +37,8 @@ All-new P turns all = All-map P (λ (t : Turn). t.router) (filter (λ (t : Turn)
 -- one turn more in front: its router is no other turn's
 one_more : (t : Turn) (turns : List Turn) → All (λ (s : Turn). t.router ≢ s.router) turns → (u : ℕ) →
     (Contains (old_routers turns) u → Contains (new_routers turns) u → ⊥) → (g : Tag) →
-    Contains (old_routers (record { router = t.router; tag = g } ∷ turns)) u → Contains (new_routers (record { router = t.router; tag = g } ∷ turns)) u → ⊥
+    Contains (old_routers (record { router = t.router; tag = g } ∷ turns)) u →
+    Contains (new_routers (record { router = t.router; tag = g } ∷ turns)) u → ⊥
 one_more t turns others u rest Old old new = elim (in_front t.router u (old_routers turns) old) [
   | inl same ↦ All-contains (λ (v : ℕ). t.router ≢ v) (new_routers turns) u (All-new (λ (v : ℕ). t.router ≢ v) turns others) new same
   | inr later ↦ rest later new
@@ -61,7 +62,8 @@ abbrev pub MayBeChild : ℕ → List Pair → Pair → Type 0
 MayBeChild n pairs p = (p.0 < n) × (p.1 < n) × (p.0 ≢ p.1) × (¬ Leads pairs p.0 p.1)
 
 -- each pair of a branch's children may be one: in the layered list that was asked its second router is in no later wave
-pub kids_may : (real : Real) (picked : Picked) (n : ℕ) (pairs : List Pair) (ranks : List ℕ) (address : ℕ) (turns : List Turn) → IsLayered n pairs ranks →
+pub kids_may : (real : Real) (picked : Picked) (n : ℕ) (pairs : List Pair) (ranks : List ℕ) (address : ℕ) (turns : List Turn) →
+    IsLayered n pairs ranks →
     Break real picked n ranks address turns →
     All (MayBeChild n pairs) (child_pairs turns)
 kids_may real picked n pairs ranks address turns layered told =

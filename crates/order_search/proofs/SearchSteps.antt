@@ -1,6 +1,6 @@
 -- The steps of the search: at a place, after a branch, at the next place, and what is found at the end.
-use Rattle.std.proofs.Common.{◌≡◌, ◌≢◌, ℕ, zero, suc, ◌+◌, ◌-◌, ◌*◌, ◌/◌, ◌<◌, ◌≤◌, inl, List, [], ◌∷◌, ◌++◌, length, take, map, replicate, arith}
-use Rattle.std.proofs.Common.{subst, sym, refl, ap, ◌∙◌}
+use Rattle.std.proofs.Common.{◌≡◌, ◌≢◌, ℕ, zero, suc, ◌+◌, ◌-◌, ◌*◌, ◌/◌, ◌<◌, ◌≤◌, inl, List, [], ◌∷◌, ◌++◌}
+use Rattle.std.proofs.Common.{length, take, map, replicate, arith, subst, sym, refl, ap, ◌∙◌}
 use Rattle.std.specs.List.{All}
 use Rattle.std.proofs.lemmas.List.{take_all, length-append, length_push, length-take-le, get_or_append_left, get_or_push}
 use Rattle.std.proofs.lemmas.List.Elements.{All-nil, All-cons, All-head, All-tail, All-append, All-push, Contains-append_left}
@@ -13,9 +13,9 @@ use Rattle.order_search.specs.Trees.{Place, Real, Fill, IsVisited, HasOneChild, 
 use Rattle.order_search.specs.Meanings.{Meaning, Picked, Break, IsBase}
 use Rattle.order_search.specs.Places.{IsLayered}
 use Rattle.order_search.specs.Answers.{IsFoundNode, AreFoundWaves, IsRefutation, IsSpent, IsFound}
-use Rattle.order_search.specs.Waiting.{child_of, place_of, places_of, children_below, AreChildren, AreFresh, IsUnder}
-use Rattle.order_search.specs.Leaves.{IsLeaf, GrowsLeaves}
-use Rattle.order_search.specs.Steps.{AreWavesOf}
+use Rattle.order_search.specs.steps.Waiting.{child_of, place_of, places_of, children_below, AreChildren, AreFresh, IsUnder}
+use Rattle.order_search.specs.steps.Leaves.{IsLeaf, GrowsLeaves}
+use Rattle.order_search.specs.steps.Steps.{AreWavesOf}
 use Rattle.order_search.specs.declared.child.Child.{Child}
 use Rattle.order_search.specs.declared.tree.Node.{Node}
 use Rattle.order_search.specs.declared.tree.Node.TheVariants.{Branch, Leaf, Unvisited}
@@ -73,7 +73,8 @@ chain_of n pairs ranks chain layered chained =
     chained.is_chain
 
 -- a ranking that the search found good
-pub waves_are_found : (m : Meaning) (budget : ℕ) (nodes : List Node) (pairs : List Pair) (children : List Child) (branches : ℕ) (ranks chain : List ℕ) →
+pub waves_are_found : (m : Meaning) (budget : ℕ) (nodes : List Node) (pairs : List Pair) (children : List Child) (branches : ℕ)
+    (ranks chain : List ℕ) →
     IsSearching m budget nodes pairs children branches → IsLayered m.size pairs ranks → m.good ranks → IsLayeredChain m.size pairs chain →
     AreFoundWaves m budget ranks pairs chain (nodes ++ Unvisited ∷ [])
 waves_are_found m budget nodes pairs children branches ranks chain searching layered is_good chained =
@@ -118,7 +119,8 @@ half_square (suc m) b le =
 
 -- the search stops where the budget is spent
 pub stop_is_spent : (m : Meaning) (budget : ℕ) (nodes : List Node) (pairs : List Pair) (children : List Child) (branches count : ℕ) (ranks : List ℕ) →
-    IsSearching m budget nodes pairs children branches → IsLayered m.size pairs ranks → ¬ m.good ranks → branches ≡ budget → count ≡ length children + 1 →
+    IsSearching m budget nodes pairs children branches → IsLayered m.size pairs ranks → ¬ m.good ranks → branches ≡ budget →
+    count ≡ length children + 1 →
     IsSpent m budget (nodes ++ replicate count Unvisited)
 stop_is_spent m budget nodes pairs children branches count ranks searching layered bad all count_is =
     let e : count ≡ suc (length (places_of pairs children)) = omega (arith, count_is, length-places_of pairs children) in
@@ -175,7 +177,8 @@ only (p ∷ q ∷ kids) one = absurd (omega (arith, one))
 -- the place becomes a branch
 pub branch_is_made : (m : Meaning) (budget : ℕ) (nodes : List Node) (pairs : List Pair) (children : List Child) (branches : ℕ) (ranks : List ℕ)
     (address : ℕ) (turns : List Turn) →
-    IsSearching m budget nodes pairs children branches → IsLayered m.size pairs ranks → Break m.real m.picked m.size ranks address turns → branches < budget →
+    IsSearching m budget nodes pairs children branches → IsLayered m.size pairs ranks → Break m.real m.picked m.size ranks address turns →
+    branches < budget →
     IsBranched m budget (nodes ++ Branch address turns ∷ []) pairs (children_below pairs turns children) (branches + 1)
 branch_is_made m budget nodes pairs children branches ranks address turns searching layered told free =
     let above : ℕ = length pairs in
@@ -304,7 +307,8 @@ tree_is_closed m budget nodes new pairs children branches branched grown = recor
 -- what is told of a ranking stays told where what is real and picked stays
 pub Break-moved : (real real' : Real) (picked picked' : Picked) (n n' : ℕ) (ranks : List ℕ) (address : ℕ) (turns : List Turn) →
     (real address turns → real' address turns) →
-    (picked ranks address turns → picked' ranks address turns) → n ≡ n' → Break real picked n ranks address turns → Break real' picked' n' ranks address turns
+    (picked ranks address turns → picked' ranks address turns) → n ≡ n' → Break real picked n ranks address turns →
+    Break real' picked' n' ranks address turns
 Break-moved real real' picked picked' n n' ranks address turns keeps_real keeps_picked same told = record {
   is_real = keeps_real told.is_real;
   pick = keeps_picked told.pick;
@@ -336,7 +340,8 @@ branch_step m told_real told_picked told_n routers budget nodes pairs held child
 -- the waves that were found, in the words of the search's calls
 pub IsFound-waves : (m : Meaning) (budget routers : ℕ) (nodes : List Node) (pairs held : List Pair) (children : List Child) (branches : ℕ)
     (ranks told : List ℕ) (found : Found) →
-    IsSearching m budget nodes pairs children branches → IsLayered m.size pairs ranks → m.good ranks → routers ≡ m.size → held ≡ pairs → told ≡ ranks →
+    IsSearching m budget nodes pairs children branches → IsLayered m.size pairs ranks → m.good ranks → routers ≡ m.size →
+    held ≡ pairs → told ≡ ranks →
     AreWavesOf routers held told (nodes ++ Unvisited ∷ []) found → IsFound m budget found
 IsFound-waves m budget routers nodes pairs held children branches ranks told found searching layered is_good routers_is held_is told_is waves =
     let trail : List Node = nodes ++ Unvisited ∷ [] in
@@ -347,5 +352,6 @@ IsFound-waves m budget routers nodes pairs held children branches ranks told fou
     (subst (λ (xs : List ℕ). AreFoundWaves m budget xs held waves.chain trail) (sym told_is)
     (subst (λ (xs : List Pair). AreFoundWaves m budget ranks xs waves.chain trail) (sym held_is) is))
 
-pub IsFound-spent : (m : Meaning) (budget : ℕ) (tree : List Node) (found : Found) → IsSpent m budget tree → found ≡ Spent tree → IsFound m budget found
+pub IsFound-spent : (m : Meaning) (budget : ℕ) (tree : List Node) (found : Found) → IsSpent m budget tree →
+    found ≡ Spent tree → IsFound m budget found
 IsFound-spent m budget tree found is e = subst (λ (f : Found). IsFound m budget f) (sym e) is

@@ -1,13 +1,12 @@
 -- A closed tree refutes: a good ranking would keep the pairs of one of its leaves, which no ranking keeps.
-use Rattle.std.proofs.Common.{ℕ, ◌≤◌, inl, inr, List, [], ◌∷◌, ◌++◌, length, map}
-use Rattle.std.proofs.Common.{arith, subst, sym, refl, ap, ◌∙◌}
+use Rattle.std.proofs.Common.{ℕ, ◌≤◌, inl, inr, List, [], ◌∷◌, ◌++◌, length, map, arith, subst, sym, refl, ap, ◌∙◌}
 use Rattle.std.specs.List.{All, Contains, flat_map}
 use Rattle.std.proofs.lemmas.List.{length-map, get_or-map}
 use Rattle.std.proofs.lemmas.List.Elements.{All-head, All-tail, Contains-append_left, Contains-append_right, Contains-push_cases}
 use Rattle.order_core.specs.Pairs.{Pair, IsPath, Leads}
 use Rattle.order_core.specs.Rankings.{KeepsPair, KeepsPairs}
 use Rattle.order_core.specs.Turns.{old_routers, new_routers, child_pairs}
-use Rattle.order_search.specs.Trees.{Place, Real, Fill, places_below, IsTreeNode, IsCycle, IsVisited, IsClosed}
+use Rattle.order_search.specs.Trees.{Place, Real, Fill, places_below, IsTreeNode, IsCycle, IsVisited, IsClosedTree}
 use Rattle.order_search.specs.Meanings.{Good, Meaning}
 use Rattle.order_search.specs.Answers.{IsFoundNode, IsRefutation}
 use Rattle.order_search.specs.Laws.{IsDecisive}
@@ -87,7 +86,7 @@ none_kept good real base laws ranks is_good (p ∷ places) (Unvisited ∷ nodes)
 
 -- where a tree is closed and its branches are real, no ranking is good
 pub closed_tree_refutes : (good : Good) (real : Real) (base : List Pair) → IsDecisive good real base → (nodes : List Node) →
-    IsClosed (IsTreeNode real) base nodes → (ranks : List ℕ) → ¬ good ranks
+    IsClosedTree (IsTreeNode real) base nodes → (ranks : List ℕ) → ¬ good ranks
 closed_tree_refutes good real base laws nodes closed ranks is_good =
     let keeps = laws.keeps_base ranks is_good in
     none_kept good real base laws ranks is_good (base ∷ []) nodes closed.tree closed.visited base (0, omega arith, refl) keeps

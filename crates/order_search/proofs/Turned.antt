@@ -5,13 +5,13 @@ use Rattle.std.proofs.lemmas.List.Elements.{All-nil, All-head, All-tail, All-app
 use Rattle.order_core.specs.Pairs.{Pair}
 use Rattle.order_core.specs.Turns.{old_routers, new_routers, child_pairs}
 use Rattle.order_core.specs.declared.turn.Turn.{Turn}
-use Rattle.order_search.specs.Trees.{Place, NodeFact, Fill, places_below, IsTurned}
+use Rattle.order_search.specs.Trees.{Place, NodeFact, Fill, places_below, IsOfBranch}
 use Rattle.order_search.specs.declared.tree.Node.{Node}
 use Rattle.order_search.specs.declared.tree.Node.TheVariants.{Branch, Leaf, Unvisited}
 
 -- each pair of the place is of the base, or turned in the nodes
 abbrev pub AreTurned : List Pair → List Node → Place → Type 0
-AreTurned base nodes place = (pair : Pair) → Contains place pair → Contains base pair ⊎ IsTurned nodes pair
+AreTurned base nodes place = (pair : Pair) → Contains place pair → Contains base pair ⊎ IsOfBranch nodes pair
 
 -- an element of a list with one more in front
 pub in_front : {X : Type 0} (y x : X) (xs : List X) → Contains (y ∷ xs) x → (y ≡ x) ⊎ Contains xs x
@@ -40,7 +40,7 @@ turned_children base all place address turns has above =
     (All-grid (λ (p : Pair). AreTurned base all (place ++ p ∷ [])) (old_routers turns) (new_routers turns)
     (λ u v is_old is_new pair in_child. elim (Contains-push_cases place (u, v) pair in_child) [
       | inl old ↦ above pair old
-      | inr same ↦ inr (subst (λ (p : Pair). IsTurned all p) same (record { address = address; turns = turns; branch = has; old = is_old; new = is_new }))
+      | inr same ↦ inr (subst (λ (p : Pair). IsOfBranch all p) same (record { address = address; turns = turns; branch = has; old = is_old; new = is_new }))
     ]))
 
 pub AreTurned-fill : (P : NodeFact) (base : List Pair) (all : List Node) (places left : List Place) (nodes : List Node) →

@@ -3,9 +3,9 @@ use Rattle.std.specs.Prelude.{ℕ, suc, ◌*◌, ◌-◌, ◌/◌, ◌<◌, ◌�
 use Rattle.order_core.specs.Pairs.{Pair}
 use Rattle.order_core.specs.Rankings.{IsRanking, KeepsPairs, wave_count}
 use Rattle.precedence_set.specs.Layers.{IsChain}
-use Rattle.order_search.specs.Trees.{Place, IsTreeNode, IsClosed, HasOneChild, branch_count, IsTurned}
+use Rattle.order_search.specs.Trees.{Place, IsTreeNode, IsClosedTree, HasOneChild, branch_count, IsOfBranch}
 use Rattle.order_search.specs.Meanings.{Meaning}
-use Rattle.order_search.specs.Places.{IsEarned, NamesLeastCycle, LeadsTo, IsStoppedAt}
+use Rattle.order_search.specs.Places.{IsEarned, NamesLeastCycle, LeadsToRanking, IsStoppedAt}
 use Rattle.order_search.specs.declared.tree.Node.{Node}
 use Rattle.order_search.specs.declared.found.Found.{Found}
 use Rattle.order_search.specs.declared.found.Found.TheVariants.{Waves, Refuted, Spent}
@@ -20,16 +20,16 @@ pub record IsFoundNode (m : Meaning) (place : Place) (node : Node) : Type 0 wher
 -- that keeps them has fewer waves, which their chain shows, and each of them is of the base or turned in the trail
 pub record AreFoundWaves (m : Meaning) (budget : ℕ) (ranks : List ℕ) (pairs : List Pair) (chain : List ℕ) (trail : List Node) : Type 0 where
   pub is_good : m.good ranks
-  pub leads : LeadsTo (IsFoundNode m) m pairs ranks trail
+  pub leads : LeadsToRanking (IsFoundNode m) m pairs ranks trail
   pub within : branch_count trail ≤ budget
   pub chained : IsChain pairs ranks chain
   pub fewest : (others : List ℕ) → IsRanking m.size others → KeepsPairs others pairs → wave_count ranks ≤ wave_count others
   pub neighbours : (k : ℕ) → suc k < length chain → Contains pairs (slice_index chain k, slice_index chain (suc k))
-  pub turned : (pair : Pair) → Contains pairs pair → Contains m.base pair ⊎ IsTurned trail pair
+  pub turned : (pair : Pair) → Contains pairs pair → Contains m.base pair ⊎ IsOfBranch trail pair
 
 -- a closed tree of at most `budget` branches
 pub record IsRefutation (m : Meaning) (budget : ℕ) (tree : List Node) : Type 0 where
-  pub closed : IsClosed (IsFoundNode m) m.base tree
+  pub closed : IsClosedTree (IsFoundNode m) m.base tree
   pub within : branch_count tree ≤ budget
 
 -- a tree stopped at the budget; where every branch has one child, the budget is at most n(n-1)/2

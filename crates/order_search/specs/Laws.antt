@@ -2,10 +2,10 @@
 use Rattle.std.specs.Prelude.{◌≡◌, ℕ, List}
 use Rattle.order_core.specs.Pairs.{Pair}
 use Rattle.order_core.specs.Rankings.{KeepsPairs}
-use Rattle.order_core.specs.Turns.{HasBothTags}
+use Rattle.order_core.specs.Turns.{HasBothTags, RanksSomeOldFirst}
 use Rattle.order_core.specs.declared.turn.Turn.{Turn}
 use Rattle.order_search.specs.Trees.{Real}
-use Rattle.order_search.specs.Meanings.{Good, Picked, RanksSomeOldFirst}
+use Rattle.order_search.specs.Meanings.{Good, Picked}
 
 -- what is real decides what is good: every good ranking keeps the base, and where something real has an Old and a New
 -- turn, it gives some Old turn's router a lower rank than some New turn's router

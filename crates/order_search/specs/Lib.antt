@@ -8,9 +8,6 @@ pub mod Trees
 pub mod Meanings
 pub mod Places
 pub mod Answers
-pub mod Waiting
-pub mod Cursors
-pub mod Leaves
-pub mod Steps
 pub mod TwoTurns
 pub mod Laws
+pub mod steps

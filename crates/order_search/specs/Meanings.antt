@@ -2,7 +2,7 @@
 use Rattle.std.specs.Prelude.{◌≢◌, ℕ, ◌<◌, ◌≤◌, List, [], length, All, AllPairs, Contains}
 use Rattle.std.proofs.Common.{arith}
 use Rattle.order_core.specs.Pairs.{Pair, AreBelow, HasNoCycle}
-use Rattle.order_core.specs.Rankings.{KeepsPair, KeepsPairs, rank_of}
+use Rattle.order_core.specs.Rankings.{KeepsPairs, rank_of}
 use Rattle.order_core.specs.Turns.{old_routers, new_routers, HasBothTags}
 use Rattle.order_core.specs.declared.turn.Turn.{Turn}
 use Rattle.order_search.specs.Trees.{Real}
@@ -38,14 +38,6 @@ pub record Break (real : Real) (picked : Picked) (n : ℕ) (ranks : List ℕ) (a
   pub below : All (λ (t : Turn). t.router < n) turns
   pub both : HasBothTags turns
   pub no_later : (u v : ℕ) → Contains (old_routers turns) u → Contains (new_routers turns) v → rank_of ranks v ≤ rank_of ranks u
-
--- a ranking gives some Old turn's router a lower rank than some New turn's router
-pub record RanksSomeOldFirst (ranks : List ℕ) (turns : List Turn) : Type 0 where
-  pub old : ℕ
-  pub new : ℕ
-  pub is_old : Contains (old_routers turns) old
-  pub is_new : Contains (new_routers turns) new
-  pub keeps : KeepsPair ranks (old, new)
 
 -- every ranking keeps the pairs of the empty base
 pub KeepsPairs-nil : (ranks : List ℕ) → KeepsPairs ranks []

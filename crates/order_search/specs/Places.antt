@@ -50,7 +50,7 @@ pub record StandsAt (P : NodeFact) (m : Meaning) (place : Place) (ranks : List �
 
 -- the nodes lead to a ranking at a place: they are the nodes of a tree up to its first unvisited place, that place
 -- included, and the ranking is its layered list
-pub record LeadsTo (P : NodeFact) (m : Meaning) (place : Place) (ranks : List ℕ) (nodes : List Node) : Type 0 where
+pub record LeadsToRanking (P : NodeFact) (m : Meaning) (place : Place) (ranks : List ℕ) (nodes : List Node) : Type 0 where
   pub before : List Node
   pub later : List Place
   pub ends : nodes ≡ before ++ Unvisited ∷ []

@@ -59,7 +59,7 @@ abbrev pub IsTree : NodeFact → List Pair → List Node → Type 0
 IsTree P base nodes = Fill P (base ∷ []) nodes []
 
 -- a tree is closed where it has no unvisited place
-pub record IsClosed (P : NodeFact) (base : List Pair) (nodes : List Node) : Type 0 where
+pub record IsClosedTree (P : NodeFact) (base : List Pair) (nodes : List Node) : Type 0 where
   pub tree : IsTree P base nodes
   pub visited : All IsVisited nodes
 
@@ -81,7 +81,7 @@ branch_count [] = 0
 branch_count (node ∷ nodes) = branches_at node + branch_count nodes
 
 -- a branch of the nodes has an Old turn of the pair's first number and a New turn of its second
-pub record IsTurned (nodes : List Node) (pair : Pair) : Type 0 where
+pub record IsOfBranch (nodes : List Node) (pair : Pair) : Type 0 where
   pub address : ℕ
   pub turns : List Turn
   pub branch : Contains nodes (Branch address turns)

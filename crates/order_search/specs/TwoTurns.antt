@@ -2,9 +2,9 @@
 use Rattle.std.specs.Prelude.{ℕ, List, [], ◌∷◌, refl}
 use Rattle.std.proofs.Common.{arith}
 use Rattle.order_core.specs.Rankings.{KeepsPair}
+use Rattle.order_core.specs.Turns.{RanksSomeOldFirst}
 use Rattle.order_core.specs.declared.turn.Turn.{Turn}
 use Rattle.order_core.specs.declared.turn.Tag.TheVariants.{Old, New}
-use Rattle.order_search.specs.Meanings.{RanksSomeOldFirst}
 
 -- the turns of an Old router and a New one
 abbrev pub two_turns : ℕ → ℕ → List Turn

@@ -4,7 +4,7 @@ ghost use Rattle.precedence_set.specs.Layers.{IsLayeredChain};
 ghost use Rattle.precedence_set.specs.LeastCycle.{IsLeastCycle};
 ghost use Rattle.order_search.specs.Meanings.{IsBase};
 ghost use Rattle.order_search.specs.Places.{IsLayered};
-ghost use Rattle.order_search.specs.Waiting.{place_of};
+ghost use Rattle.order_search.specs.steps.Waiting.{place_of};
 
 use crate::child::Child;
 use crate::found::Pairs;
@@ -15,14 +15,14 @@ use std::marker::Model;
 
 /// The pairs that are assumed where the search stands: a base, and then one for each branch above.
 #[derive(Drop)]
-pub struct Assumptions {
+pub(crate) struct Assumptions {
     held: Precedences,
     pairs: Vec<(u32, u32)>,
 }
 
 impl Model for Assumptions {
     ghost use Rattle.std.specs.Prelude.{◌≡◌};
-    ghost use Rattle.order_search.specs.Waiting.{Standing};
+    ghost use Rattle.order_search.specs.steps.Waiting.{Standing};
 
     ghost Value = { Standing };
 
@@ -33,7 +33,11 @@ impl Model for Assumptions {
 
 impl Assumptions {
     /// The pairs of a base of so many routers.
-    pub fn new(alloc: Global, routers: u32, base: &[(u32, u32)]) -> Result<Assumptions, AllocError>
+    pub(crate) fn new(
+        alloc: Global,
+        routers: u32,
+        base: &[(u32, u32)],
+    ) -> Result<Assumptions, AllocError>
         requires few { routers ≤ 1000 }
         requires base { IsBase routers base.now }
         ensures routers { IfOk result (λ a. a.routers ≡ routers) }
@@ -49,14 +53,14 @@ impl Assumptions {
     }
 
     /// How many pairs are assumed.
-    pub fn count(&self) -> u32
+    pub(crate) fn count(&self) -> u32
         ensures { result ≡ length self.now.pairs }
     {
         self.held.mark()
     }
 
     /// Writes the layered list of the pairs.
-    pub fn layers(&mut self, ranks: &mut [u32])
+    pub(crate) fn layers(&mut self, ranks: &mut [u32])
         requires { length ranks.old ≡ self.old.routers }
         ensures layered { IsLayered self.old.routers self.old.pairs ranks.new }
         ensures same { self.new ≡ self.old }
@@ -66,7 +70,11 @@ impl Assumptions {
 
     /// Takes back what isn't above the child, and assumes its pair, unless that closes a cycle: then it gives
     /// that cycle.
-    pub fn assume(&mut self, alloc: Global, child: Child) -> Result<Option<Cycle>, AllocError>
+    pub(crate) fn assume(
+        &mut self,
+        alloc: Global,
+        child: Child,
+    ) -> Result<Option<Cycle>, AllocError>
         requires few { child.above < 1000000 }
         requires within { child.above ≤ length self.old.pairs }
         requires before_in { child.before < self.old.routers }
@@ -93,7 +101,7 @@ impl Assumptions {
     }
 
     /// The chain of the pairs, in room for all routers.
-    pub fn chain(&mut self, mut room: Vec<u32>) -> Cycle
+    pub(crate) fn chain(&mut self, mut room: Vec<u32>) -> Cycle
         requires { vec_len room ≡ self.old.routers }
         ensures chain { IsLayeredChain self.old.routers self.old.pairs result }
         ensures same { self.new ≡ self.old }
@@ -104,7 +112,7 @@ impl Assumptions {
     }
 
     /// The pairs themselves.
-    pub fn into_pairs(self) -> Pairs
+    pub(crate) fn into_pairs(self) -> Pairs
         ensures { result ≡ self.pairs }
     {
         Pairs::from_vec(self.pairs)

@@ -1,8 +1,8 @@
 /// A child that waits to be visited: it assumes that one router comes before another, besides the first
 /// pairs of those that are assumed now.
 #[derive(Clone, Copy)]
-pub struct Child {
-    pub before: u32,
-    pub after: u32,
-    pub above: u32,
+pub(crate) struct Child {
+    pub(crate) before: u32,
+    pub(crate) after: u32,
+    pub(crate) above: u32,
 }

@@ -1,15 +1,15 @@
-ghost use Rattle.std.specs.Prelude.{◌≡◌, ℕ, List, ◌+◌, ◌<◌, ◌≤◌, ◌∷◌, [], ◌++◌, ◌↔◌, IfOk, OnOk, length, map, replicate, vec_len, Contains};
+ghost use Rattle.std.specs.Prelude.{◌≡◌, ℕ, List, ◌+◌, ◌<◌, ◌≤◌, ◌∷◌, [], ◌++◌, ◌↔◌, IfOk, OnOk, length, map, replicate};
+ghost use Rattle.std.specs.Prelude.{Contains};
 ghost use Rattle.std.specs.Bool.{OnTrue, OnFalse};
 ghost use Rattle.order_core.specs.Pairs.{Pair};
-ghost use Rattle.order_core.specs.Rankings.{IsRanking};
 ghost use Rattle.order_core.specs.Turns.{child_pairs, new_routers};
 ghost use Rattle.order_core.specs.declared.turn.Turn.{Turn};
 ghost use Rattle.order_search.specs.Meanings.{Break};
 ghost use Rattle.order_search.specs.Places.{IsLayered};
 ghost use Rattle.order_search.specs.Answers.{IsFound};
-ghost use Rattle.order_search.specs.Waiting.{child_of, places_of, children_below, IsUnder};
-ghost use Rattle.order_search.specs.Leaves.{GrowsLeaves};
-ghost use Rattle.order_search.specs.Steps.{AreWavesOf};
+ghost use Rattle.order_search.specs.steps.Waiting.{child_of, places_of, children_below, IsUnder};
+ghost use Rattle.order_search.specs.steps.Leaves.{GrowsLeaves};
+ghost use Rattle.order_search.specs.steps.Steps.{AreWavesOf};
 
 use crate::assumptions::Assumptions;
 use crate::found::Found;

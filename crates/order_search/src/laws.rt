@@ -2,7 +2,7 @@ ghost use Rattle.std.specs.Prelude.{◌≡◌, ℕ, List};
 ghost use Rattle.order_search.specs.Answers.{IsFound, IsRefutation};
 ghost use Rattle.order_search.specs.Laws.{PicksOne};
 ghost use Rattle.order_search.specs.Meanings.{Meaning};
-ghost use Rattle.order_search.specs.Trees.{IsClosed, IsTreeNode};
+ghost use Rattle.order_search.specs.Trees.{IsClosedTree, IsTreeNode};
 ghost use Rattle.order_search.specs.declared.found.Found.{Found};
 ghost use Rattle.order_search.specs.declared.tree.Node.{Node};
 
@@ -11,7 +11,8 @@ use crate::oracle::Oracle;
 /// The law that a closed tree refutes: where a tree over an oracle's base is closed and its branches are real to the
 /// oracle, no ranking is good to it. So none is where the search answers Refuted.
 pub fn closed_trees_refute<Q: Oracle>()
-    ensures closed { (oracle : Q) (tree : List Node) (ranks : List ℕ) → IsClosed (IsTreeNode (Q.real oracle)) (Q.base oracle) tree → ¬ Q.good oracle ranks }
+    ensures closed { (oracle : Q) (tree : List Node) (ranks : List ℕ) → IsClosedTree (IsTreeNode (Q.real oracle)) (Q.base oracle) tree →
+        ¬ Q.good oracle ranks }
     ensures refuted { (oracle : Q) (budget : ℕ) (tree : List Node) (ranks : List ℕ) → IsRefutation (record {
       good = Q.good oracle;
       real = Q.real oracle;

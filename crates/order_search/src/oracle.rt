@@ -1,8 +1,8 @@
 ghost use Rattle.std.specs.Prelude.{◌≡◌, ℕ, List, ◌↔◌};
 ghost use Rattle.order_core.specs.Pairs.{Pair};
 ghost use Rattle.order_core.specs.Rankings.{IsRanking, KeepsPairs};
-ghost use Rattle.order_core.specs.Turns.{HasBothTags};
-ghost use Rattle.order_search.specs.Meanings.{Break, IsBase, RanksSomeOldFirst};
+ghost use Rattle.order_core.specs.Turns.{HasBothTags, RanksSomeOldFirst};
+ghost use Rattle.order_search.specs.Meanings.{Break, IsBase};
 ghost use Rattle.order_core.specs.declared.turn.Turn.{Turn};
 
 use order_core::Turn;

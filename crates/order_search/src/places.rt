@@ -1,8 +1,8 @@
 ghost use Rattle.std.specs.Prelude.{◌≡◌, List, ◌≤◌, ◌∷◌, [], IfOk, OnOk, take};
 ghost use Rattle.std.specs.Bool.{OnTrue, OnFalse};
 ghost use Rattle.order_core.specs.Pairs.{Pair};
-ghost use Rattle.order_search.specs.Waiting.{place_of, places_of, AreFresh, IsUnder};
-ghost use Rattle.order_search.specs.Leaves.{GrowsLeaves};
+ghost use Rattle.order_search.specs.steps.Waiting.{place_of, places_of, AreFresh, IsUnder};
+ghost use Rattle.order_search.specs.steps.Leaves.{GrowsLeaves};
 
 use crate::assumptions::Assumptions;
 use crate::child::Child;
@@ -12,7 +12,7 @@ use std::alloc::{AllocError, Global};
 
 /// Goes on to the next child whose pair closes no cycle, and assumes its pair; those before it are leaves.
 /// Whether there is one.
-pub fn next_place(
+pub(crate) fn next_place(
     alloc: Global,
     tree: &mut Tree,
     held: &mut Assumptions,

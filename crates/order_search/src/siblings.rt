@@ -1,6 +1,6 @@
 ghost use Rattle.std.specs.Prelude.{◌≡◌, ◌<◌, ◌∷◌, [], length, map, IfOk, IfSome, IfNone};
 ghost use Rattle.order_core.specs.Turns.{child_pairs, old_routers, new_routers};
-ghost use Rattle.order_search.specs.Waiting.{child_of};
+ghost use Rattle.order_search.specs.steps.Waiting.{child_of};
 
 use crate::child::Child;
 use order_core::Turn;
@@ -11,7 +11,7 @@ use std::marker::Model;
 ///
 /// Seen as the list of these children, the next one first.
 #[derive(Drop)]
-pub struct Siblings {
+pub(crate) struct Siblings {
     olds: Vec<u32>,
     news: Vec<u32>,
     row: usize,
@@ -25,16 +25,16 @@ impl Model for Siblings {
 
     ghost Value = { List Child };
 
-    ghost use Rattle.order_search.specs.Cursors.{children_left, IsCursor};
+    ghost use Rattle.order_search.specs.steps.Cursors.{children_left, StandsInRow};
 
     ghost view = { children_left };
 
-    ghost invariant = { IsCursor };
+    ghost invariant = { StandsInRow };
 }
 
 impl Siblings {
     /// All children of a branch with these turns, which assumes so many pairs.
-    pub fn new(alloc: Global, turns: &[Turn], above: u32) -> Result<Siblings, AllocError>
+    pub(crate) fn new(alloc: Global, turns: &[Turn], above: u32) -> Result<Siblings, AllocError>
         requires { 0 < length (new_routers turns.now) }
         ensures { IfOk result (λ s. s ≡ map (child_of above) (child_pairs turns.now)) }
     {
@@ -48,7 +48,7 @@ impl Siblings {
     }
 
     /// Takes the next child, if there is one.
-    pub fn next(&mut self) -> Option<Child>
+    pub(crate) fn next(&mut self) -> Option<Child>
         ensures some { IfSome result (λ child. self.old ≡ child ∷ self.new) }
         ensures none { IfNone result (self.old ≡ []) }
     {

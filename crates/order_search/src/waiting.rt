@@ -1,6 +1,6 @@
 ghost use Rattle.std.specs.Prelude.{◌≡◌, ◌<◌, ◌∷◌, [], ◌++◌, length, map, OnOk, IfSome, IfNone};
 ghost use Rattle.order_core.specs.Turns.{child_pairs, new_routers};
-ghost use Rattle.order_search.specs.Waiting.{child_of};
+ghost use Rattle.order_search.specs.steps.Waiting.{child_of};
 
 use crate::child::Child;
 use crate::siblings::Siblings;
@@ -12,7 +12,7 @@ use std::marker::Model;
 ///
 /// Seen as the list of these children, the next one first.
 #[derive(Drop)]
-pub struct Waiting {
+pub(crate) struct Waiting {
     branches: Vec<Siblings>,
 }
 
@@ -22,14 +22,14 @@ impl Model for Waiting {
 
     ghost Value = { List Child };
 
-    ghost use Rattle.order_search.specs.Cursors.{all_children};
+    ghost use Rattle.order_search.specs.steps.Cursors.{all_children};
 
     ghost view = { λ w. all_children w.branches.items };
 }
 
 impl Waiting {
     /// No child; the list keeps the allocator.
-    pub fn new(alloc: Global) -> Waiting
+    pub(crate) fn new(alloc: Global) -> Waiting
         ensures { result ≡ [] }
     {
         Waiting {
@@ -38,7 +38,12 @@ impl Waiting {
     }
 
     /// Adds the children of a branch with these turns, which assumes so many pairs: they come next.
-    pub fn push(&mut self, alloc: Global, turns: &[Turn], above: u32) -> Result<(), AllocError>
+    pub(crate) fn push(
+        &mut self,
+        alloc: Global,
+        turns: &[Turn],
+        above: u32,
+    ) -> Result<(), AllocError>
         requires { 0 < length (new_routers turns.now) }
         ensures { OnOk result (self.new ≡ map (child_of above) (child_pairs turns.now) ++ self.old) }
     {
@@ -47,7 +52,7 @@ impl Waiting {
     }
 
     /// Takes the next child, if there is one.
-    pub fn next(&mut self) -> Option<Child>
+    pub(crate) fn next(&mut self) -> Option<Child>
         ensures some { IfSome result (λ child. self.old ≡ child ∷ self.new) }
         ensures none { IfNone result (self.old ≡ []) }
         ensures left { IfNone result (self.new ≡ []) }

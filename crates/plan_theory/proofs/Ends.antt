@@ -6,10 +6,10 @@ use Rattle.net_model.specs.Network.{Network}
 use Rattle.order_core.specs.Rankings.{IsRanking, rank_of, wave_count, flat_of}
 use Rattle.order_core.proofs.WaveLists.{rank_below_count, rank_stands}
 use Rattle.igp_theory.specs.Routes.{Tables}
-use Rattle.igp_theory.specs.States.{State, IsSound}
+use Rattle.igp_theory.specs.States.{IsSound, all_old, all_new}
 use Rattle.igp_theory.specs.Waves.{IsWavesState, AreSeamlessWaves, IsStateOfWave, run_along}
 use Rattle.igp_theory.proofs.FlatOrders.{flat_is_run, wave_state_is_reached}
-use Rattle.plan_theory.specs.Plans.{all_old, all_new}
+use Rattle.igp_theory.proofs.LoopWaves.{empty_is_sound}
 
 -- before any change every router is Old
 pub begins_sound : (net : Network) (old new : Tables) (ranks : List ℕ) → AreSeamlessWaves net old new ranks → IsSound net old new all_old
@@ -47,15 +47,8 @@ ends_in_last n ranks some waves =
       later = λ u below after. absurd (omega (arith, rank_below n ranks u waves below, after, is_last));
     }
 
--- without a router every state is sound
-empty_is_sound : (net : Network) (old new : Tables) (state : State) → length net ≡ 0 → IsSound net old new state
-empty_is_sound net old new state none a address = record {
-  forwards = λ u must. absurd (let within = must.router in omega (arith, within, none));
-  returns_never = λ u h hops follows. let within = follows.0.must.router in omega (arith, within, none);
-}
-
 pub ends_sound : (net : Network) (old new : Tables) (ranks : List ℕ) → AreSeamlessWaves net old new ranks → IsSound net old new all_new
 ends_sound net old new ranks seamless = elim (cases_lt 0 (length net)) [
   | inl some ↦ seamless.sound all_new (ends_in_last (length net) ranks some seamless.waves)
-  | inr none ↦ empty_is_sound net old new all_new (omega (arith, none))
+  | inr none ↦ empty_is_sound net old new all_new none
 ]

@@ -1,17 +1,15 @@
 -- What a plan means.
-use Rattle.std.proofs.Common.{ℕ, List, length}
+use Rattle.std.proofs.Common.{ℕ}
 use Rattle.net_model.specs.Network.{Network}
 use Rattle.igp_theory.specs.Routes.{Tables}
-use Rattle.igp_theory.specs.Waves.{AreSeamlessWaves}
 use Rattle.igp_theory.proofs.FaultLaws.{faulty_not_sound}
 use Rattle.igp_theory.proofs.FlatOrders.{flat_is_seamless}
-use Rattle.igp_theory.proofs.OnesRuns.{order_has_ones}
-use Rattle.igp_theory.proofs.OnesWaves.{order_is_seamless}
+use Rattle.igp_theory.proofs.OnesRuns.{none_without_waves}
 use Rattle.order_search.specs.Answers.{IsFound}
 use Rattle.order_search.proofs.TreeRefutes.{refutation_refutes}
 use Rattle.order_search.specs.declared.found.Found.{Found}
 use Rattle.order_search.specs.declared.found.Found.TheVariants.{Waves, Refuted, Spent}
-use Rattle.plan_theory.specs.Laws.{NothingIsSeamless, FoundMeans, PlanMeans}
+use Rattle.plan_theory.specs.Laws.{FoundMeans, PlanMeans}
 use Rattle.plan_theory.specs.Plans.{IsPlanned}
 use Rattle.plan_theory.specs.WavesMeaning.{waves_meaning}
 use Rattle.plan_theory.specs.declared.planned.Planned.{Planned}
@@ -19,27 +17,18 @@ use Rattle.plan_theory.specs.declared.planned.Planned.TheVariants.{UnsoundOld, U
 use Rattle.plan_theory.proofs.Decided.{waves_are_decisive}
 use Rattle.plan_theory.proofs.Ends.{begins_sound, ends_sound}
 
--- where no wave list is seamless, no order is: as a wave list of ones it would be one
-nothing_without_waves : (net : Network) (old new : Tables) → ((ranks : List ℕ) → ¬ AreSeamlessWaves net old new ranks) → NothingIsSeamless net old new
-nothing_without_waves net old new none = record {
-  waves = none;
-  orders = λ order seamless.
-      let ones = order_has_ones (length net) order seamless.lists in
-      none ones.0 (order_is_seamless net old new order ones.0 seamless ones.1);
-}
-
 found_means : (net : Network) (old new : Tables) (budget : ℕ) (found : Found) → IsFound (waves_meaning net old new) budget found →
     FoundMeans net old new found
 found_means net old new budget (Waves ranks pairs chain trail) is =
     record { waves = is.is_good; order = flat_is_seamless net old new ranks is.is_good }
 found_means net old new budget (Refuted tree) is =
-    nothing_without_waves net old new (refutation_refutes (waves_meaning net old new) (waves_are_decisive net old new) budget tree is)
+    none_without_waves net old new (refutation_refutes (waves_meaning net old new) (waves_are_decisive net old new) budget tree is)
 found_means net old new budget (Spent tree) is = tt
 
 pub plan_means : (net : Network) (old new : Tables) (budget : ℕ) (planned : Planned) → IsPlanned net old new budget planned →
     PlanMeans net old new planned
 plan_means net old new budget (UnsoundOld fault) is =
-    nothing_without_waves net old new (λ ranks seamless. faulty_not_sound is (begins_sound net old new ranks seamless))
+    none_without_waves net old new (λ ranks seamless. faulty_not_sound is (begins_sound net old new ranks seamless))
 plan_means net old new budget (UnsoundNew fault) is =
-    nothing_without_waves net old new (λ ranks seamless. faulty_not_sound is.last (ends_sound net old new ranks seamless))
+    none_without_waves net old new (λ ranks seamless. faulty_not_sound is.last (ends_sound net old new ranks seamless))
 plan_means net old new budget (Searched found) is = found_means net old new budget found is.is_found

@@ -5,7 +5,7 @@ use Rattle.order_core.specs.Rankings.{flat_of}
 use Rattle.igp_theory.specs.Loops.{IsLoop}
 use Rattle.igp_theory.specs.Routes.{Tables}
 use Rattle.igp_theory.specs.States.{IsSeamless}
-use Rattle.igp_theory.specs.Waves.{AreSeamlessWaves}
+use Rattle.igp_theory.specs.Waves.{AreSeamlessWaves, HasNoneSeamless}
 use Rattle.order_search.specs.Laws.{IsDecisive, PicksOne}
 use Rattle.order_search.specs.declared.found.Found.{Found}
 use Rattle.order_search.specs.declared.found.Found.TheVariants.{Waves, Refuted, Spent}
@@ -34,21 +34,16 @@ pub record AreSeamlessWithOrder (net : Network) (old new : Tables) (ranks : List
   pub waves : AreSeamlessWaves net old new ranks
   pub order : IsSeamless net old new (flat_of ranks)
 
--- no wave list of the network is seamless, and no order is
-pub record NothingIsSeamless (net : Network) (old new : Tables) : Type 0 where
-  pub waves : (ranks : List ℕ) → ¬ AreSeamlessWaves net old new ranks
-  pub orders : (order : List ℕ) → ¬ IsSeamless net old new order
-
 -- what was found means: waves are seamless, and a closed tree leaves none that is
 abbrev pub FoundMeans : Network → Tables → Tables → Found → Type 0
 FoundMeans net old new (Waves ranks pairs chain trail) = AreSeamlessWithOrder net old new ranks
-FoundMeans net old new (Refuted tree) = NothingIsSeamless net old new
+FoundMeans net old new (Refuted tree) = HasNoneSeamless net old new
 FoundMeans net old new (Spent tree) = Unit {0}
 
 -- what a plan means: an end that isn't sound leaves none either
 abbrev pub PlanMeans : Network → Tables → Tables → Planned → Type 0
-PlanMeans net old new (UnsoundOld fault) = NothingIsSeamless net old new
-PlanMeans net old new (UnsoundNew fault) = NothingIsSeamless net old new
+PlanMeans net old new (UnsoundOld fault) = HasNoneSeamless net old new
+PlanMeans net old new (UnsoundNew fault) = HasNoneSeamless net old new
 PlanMeans net old new (Searched found) = FoundMeans net old new found
 
 abbrev pub PlansMean : Tables → Tables → Type 0

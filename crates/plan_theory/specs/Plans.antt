@@ -4,8 +4,7 @@ use Rattle.net_model.specs.Network.{Network}
 use Rattle.igp_theory.specs.LoopLaws.{AreSoundEnds}
 use Rattle.igp_theory.specs.Loops.{Fault, missing, loop, IsFault}
 use Rattle.igp_theory.specs.Routes.{Tables}
-use Rattle.igp_theory.specs.States.{State, IsSound}
-use Rattle.igp_theory.specs.declared.phase.Phase.TheVariants.{Old, New}
+use Rattle.igp_theory.specs.States.{IsSound, all_old, all_new}
 use Rattle.order_search.specs.Answers.{IsFound}
 use Rattle.order_search.specs.declared.found.Found.{Found}
 use Rattle.plan_theory.specs.WavesMeaning.{waves_meaning}
@@ -13,13 +12,6 @@ use Rattle.plan_theory.specs.declared.planned.EndFault.{EndFault}
 use Rattle.plan_theory.specs.declared.planned.EndFault.TheVariants.{Loop, Missing}
 use Rattle.plan_theory.specs.declared.planned.Planned.{Planned}
 use Rattle.plan_theory.specs.declared.planned.Planned.TheVariants.{UnsoundOld, UnsoundNew, Searched}
-
--- the first state of a move, in which every router is Old, and the last one, in which every router is New
-abbrev pub all_old : State
-all_old u = Old
-
-abbrev pub all_new : State
-all_new u = New
 
 -- the fault that is told of an end
 abbrev pub fault_told : EndFault → Fault

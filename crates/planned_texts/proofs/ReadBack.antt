@@ -14,12 +14,12 @@ use Rattle.order_search.specs.declared.tree.Node.{Node}
 use Rattle.plan_theory.specs.WavesMeaning.{IsPickedFault, waves_meaning}
 use Rattle.planned_texts.specs.Chains.{IsTaggedChain}
 use Rattle.planned_texts.specs.PlannedTexts.{IsPrintable, planned_text}
-use Rattle.planned_texts.specs.ReadingBack.{HasVerdict, ReadsAsSafeWaves, ReadsBack}
+use Rattle.planned_texts.specs.ReadingBack.{HasVerdict, ReadsAsSafeWaves, FoundReadsBack}
 use Rattle.planned_texts.proofs.TreeNodes.{nodes_below}
 use Rattle.planned_texts.proofs.TreesAsTexts.{refutation_closes, refuted_fill, spent_fill, spent_stays_open}
 use Rattle.planned_texts.proofs.WavesAsTexts.{found_each, found_one_of_each, found_tagged}
 use Rattle.refutation_check.specs.TreeTexts.{tree_text}
-use Rattle.refutation_check.specs.Verdicts.{IsVerdict, leaf_count, open_count}
+use Rattle.refutation_check.specs.Verdicts.{IsTextVerdict, leaf_count, open_count}
 use Rattle.refutation_check.specs.declared.verdict.Verdict.{Verdict}
 use Rattle.refutation_check.specs.declared.verdict.Verdict.TheVariants.{Closed, Unfinished}
 use Rattle.refutation_check.proofs.OneVerdict.{one_verdict}
@@ -61,11 +61,11 @@ module _ (old new : Tables) (net : Network) (budget : ℕ) where
           seamless = is.is_good;
         }
 
-    has_verdict : (text : List ℕ) (verdict : Verdict) → IsVerdict net old new text verdict → HasVerdict net old new text verdict
+    has_verdict : (text : List ℕ) (verdict : Verdict) → IsTextVerdict net old new text verdict → HasVerdict net old new text verdict
     has_verdict text verdict is = record { is = is; alone = λ other its. one_verdict net network old new text other verdict its is }
 
     pub plan_reads_back : (found : Found) → IsFound (waves_meaning net old new) budget found →
-        ReadsBack net old new found (planned_text (names_of net) found)
+        FoundReadsBack net old new found (planned_text (names_of net) found)
     plan_reads_back (Waves ranks pairs chain trail) is = waves_read ranks pairs chain trail is
     plan_reads_back (Refuted tree) is =
         has_verdict (tree_text (names_of net) tree) (Closed (branch_count tree) (leaf_count tree))

@@ -1,6 +1,6 @@
 -- The waves that a search finds: their chain has one router of each, and each two neighbours of it are tagged in one loop.
-use Rattle.std.proofs.Common.{◌≡◌, ℕ, zero, suc, ◌+◌, ◌<◌, inl, inr, List, [], ◌∷◌, ◌++◌, length, get_or, map, All, Contains}
-use Rattle.std.proofs.Common.{arith, subst, sym}
+use Rattle.std.proofs.Common.{◌≡◌, ℕ, zero, suc, ◌+◌, ◌<◌, inl, inr, List, [], ◌∷◌, ◌++◌, length, get_or, map, All, Contains, arith}
+use Rattle.std.proofs.Common.{subst, sym}
 use Rattle.std.specs.List.{AllZip, range_with_len}
 use Rattle.std.proofs.lemmas.Bool.{cases_lt}
 use Rattle.std.proofs.lemmas.List.Elements.{All-contains, Contains-push_cases}
@@ -12,7 +12,7 @@ use Rattle.order_core.specs.declared.turn.Turn.{Turn}
 use Rattle.order_core.proofs.WaveLists.{wave_routers}
 use Rattle.order_search.specs.Answers.{AreFoundWaves, IsFoundNode}
 use Rattle.order_search.specs.Meanings.{Good, Meaning, Picked}
-use Rattle.order_search.specs.Places.{LeadsTo}
+use Rattle.order_search.specs.Places.{LeadsToRanking}
 use Rattle.order_search.specs.Trees.{Place, Real}
 use Rattle.order_search.specs.declared.tree.Node.{Node}
 use Rattle.order_search.specs.declared.tree.Node.TheVariants.{Branch, Leaf, Unvisited}
@@ -77,7 +77,7 @@ IsPlace place = Unit {0}
 
 -- the branches of a trail are real
 trail_branch : (m : Meaning) (place : Place) (ranks : List ℕ) (trail : List Node) (address : ℕ) (turns : List Turn) →
-    LeadsTo (IsFoundNode m) m place ranks trail → Contains trail (Branch address turns) → m.real address turns
+    LeadsToRanking (IsFoundNode m) m place ranks trail → Contains trail (Branch address turns) → m.real address turns
 trail_branch m place ranks trail address turns leads has =
     let all : All (IsRealBranch m.real) leads.before = Fill-each (IsFoundNode m) IsPlace (IsRealBranch m.real)
     (λ place node fine is. (real_branch m place node is, λ k d within. tt)) (m.base ∷ []) (place ∷ leads.later) leads.before leads.stands.fills

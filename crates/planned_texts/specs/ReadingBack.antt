@@ -14,7 +14,7 @@ use Rattle.order_search.specs.declared.tree.Node.{Node}
 use Rattle.plan_theory.specs.WavesMeaning.{waves_meaning}
 use Rattle.planned_texts.specs.Chains.{IsTaggedChain}
 use Rattle.planned_texts.specs.PlannedTexts.{IsPrintable, planned_text}
-use Rattle.refutation_check.specs.Verdicts.{IsVerdict, leaf_count, open_count}
+use Rattle.refutation_check.specs.Verdicts.{IsTextVerdict, leaf_count, open_count}
 use Rattle.refutation_check.specs.declared.verdict.Verdict.{Verdict}
 use Rattle.refutation_check.specs.declared.verdict.Verdict.TheVariants.{Closed, Unfinished}
 use Rattle.step_scripts.specs.FaultyLines.{IsFaultyLine}
@@ -33,15 +33,15 @@ pub record ReadsAsSafeWaves (net : Network) (old new : Tables) (text ranks : Lis
 
 -- this is the verdict on a text as a tree file, and it has no other
 pub record HasVerdict (net : Network) (old new : Tables) (text : List ℕ) (verdict : Verdict) : Type 0 where
-  pub is : IsVerdict net old new text verdict
-  pub alone : (other : Verdict) → IsVerdict net old new text other → other ≡ verdict
+  pub is : IsTextVerdict net old new text verdict
+  pub alone : (other : Verdict) → IsTextVerdict net old new text other → other ≡ verdict
 
 -- waves read back as themselves, a refutation as a closed tree with its branches and leaves, and a tree that was stopped
 -- as one with its unvisited places
-abbrev pub ReadsBack : Network → Tables → Tables → Found → List ℕ → Type 0
-ReadsBack net old new (Waves ranks pairs chain trail) text = ReadsAsSafeWaves net old new text ranks
-ReadsBack net old new (Refuted tree) text = HasVerdict net old new text (Closed (branch_count tree) (leaf_count tree))
-ReadsBack net old new (Spent tree) text = HasVerdict net old new text (Unfinished (open_count tree))
+abbrev pub FoundReadsBack : Network → Tables → Tables → Found → List ℕ → Type 0
+FoundReadsBack net old new (Waves ranks pairs chain trail) text = ReadsAsSafeWaves net old new text ranks
+FoundReadsBack net old new (Refuted tree) text = HasVerdict net old new text (Closed (branch_count tree) (leaf_count tree))
+FoundReadsBack net old new (Spent tree) text = HasVerdict net old new text (Unfinished (open_count tree))
 
 -- what the search finds of a network has a text
 abbrev pub PlansArePrintable : Tables → Tables → Type 0
@@ -52,7 +52,7 @@ PlansArePrintable old new =
 abbrev pub PlannedTextsReadBack : Tables → Tables → Type 0
 PlannedTextsReadBack old new =
     (net : Network) (budget : ℕ) (found : Found) → IsNetwork net → 0 < length net → IsFound (waves_meaning net old new) budget found →
-    ReadsBack net old new found (planned_text (names_of net) found)
+    FoundReadsBack net old new found (planned_text (names_of net) found)
 
 -- each two neighbours of the chain of planned waves are tagged Old and New in one loop of the network
 abbrev pub ChainsAreTagged : Tables → Tables → Type 0

@@ -1,5 +1,6 @@
 -- The chain of the layers, traced from its last router back by the parents.
-use Rattle.std.proofs.Common.{◌≡◌, ◌≢◌, ℕ, zero, suc, ◌+◌, ◌-◌, ◌<◌, ◌≤◌, ◌⊎◌, inl, inr, List, length, get_or, set, min, take, arith, subst, sym, ap, ◌∙◌}
+use Rattle.std.proofs.Common.{◌≡◌, ◌≢◌, ℕ, zero, suc, ◌+◌, ◌-◌, ◌<◌, ◌≤◌, ◌⊎◌, inl, inr, List, length, get_or, set, min}
+use Rattle.std.proofs.Common.{take, arith, subst, sym, ap, ◌∙◌}
 use Rattle.std.specs.List.{Contains}
 use Rattle.std.proofs.lemmas.Bool.{cases_lt}
 use Rattle.std.proofs.lemmas.Bool.Decides.{eqb_tells}
@@ -9,7 +10,7 @@ use Rattle.order_core.specs.Least.{IsLowest}
 use Rattle.order_core.specs.Pairs.{Pair, AreBelow}
 use Rattle.order_core.specs.Rankings.{rank_of, wave_count}
 use Rattle.order_core.proofs.WaveLists.{rank_below_count, rank_stands, count_le_length}
-use Rattle.precedence_set.specs.Successors.{pair_at}
+use Rattle.precedence_set.specs.steps.Walking.{pair_at}
 use Rattle.precedence_set.specs.Layers.{AreLayers, IsChain, IsInLayer, IsBeforeInLayer}
 use Rattle.precedence_set.proofs.LayerFacts.{pair_below, layers_rank}
 
@@ -17,16 +18,20 @@ use Rattle.precedence_set.proofs.LayerFacts.{pair_below, layers_rank}
 
 -- the lowest predecessors in the layer before, among the first i pairs; `none` where there is none yet
 pub record AreParents (pairs : List Pair) (layers parents : List ℕ) (none i : ℕ) : Type 0 where
-  pub lowest : (j : ℕ) → j < i → rank_of layers (pair_at pairs j).0 + 1 ≡ rank_of layers (pair_at pairs j).1 → get_or parents (pair_at pairs j).1 0 ≤ (pair_at pairs j).0
-  pub found : (v : ℕ) → v < length layers → (get_or parents v 0 ≡ none) ⊎ (Contains pairs (get_or parents v 0, v) × (rank_of layers (get_or parents v 0) + 1 ≡ rank_of layers v))
+  pub lowest : (j : ℕ) → j < i → rank_of layers (pair_at pairs j).0 + 1 ≡ rank_of layers (pair_at pairs j).1 →
+      get_or parents (pair_at pairs j).1 0 ≤ (pair_at pairs j).0
+  pub found : (v : ℕ) → v < length layers → (get_or parents v 0 ≡ none) ⊎
+      (Contains pairs (get_or parents v 0, v) × (rank_of layers (get_or parents v 0) + 1 ≡ rank_of layers v))
 
-pub AreParents-begin : (pairs : List Pair) (layers parents : List ℕ) (none : ℕ) → length parents ≡ length layers → ((v : ℕ) → v < length parents → get_or parents v 0 ≡ none) → AreParents pairs layers parents none 0
+pub AreParents-begin : (pairs : List Pair) (layers parents : List ℕ) (none : ℕ) → length parents ≡ length layers →
+    ((v : ℕ) → v < length parents → get_or parents v 0 ≡ none) → AreParents pairs layers parents none 0
 AreParents-begin pairs layers parents none long bare = record {
   lowest = λ j lt. absurd (omega (arith, lt));
   found = λ v lt. inl (bare v (omega (arith, lt, long)));
 }
 
-pub AreParents-passed : (pairs : List Pair) (layers parents : List ℕ) (none i : ℕ) → AreParents pairs layers parents none i → rank_of layers (pair_at pairs i).0 + 1 ≢ rank_of layers (pair_at pairs i).1 → AreParents pairs layers parents none (i + 1)
+pub AreParents-passed : (pairs : List Pair) (layers parents : List ℕ) (none i : ℕ) → AreParents pairs layers parents none i →
+    rank_of layers (pair_at pairs i).0 + 1 ≢ rank_of layers (pair_at pairs i).1 → AreParents pairs layers parents none (i + 1)
 AreParents-passed pairs layers parents none i are apart = record {
   lowest = λ j lt next. elim (cases_lt j i) [
     | inl before ↦ are.lowest j before next
@@ -37,14 +42,18 @@ AreParents-passed pairs layers parents none i are apart = record {
   found = are.found;
 }
 
-pub AreParents-more : (pairs : List Pair) (layers parents : List ℕ) (none i low : ℕ) → AreParents pairs layers parents none i → i < length pairs → (pair_at pairs i).1 < length parents → rank_of layers (pair_at pairs i).0 + 1 ≡ rank_of layers (pair_at pairs i).1 → low ≡ min (get_or parents (pair_at pairs i).1 0) (pair_at pairs i).0 → AreParents pairs layers (set parents (pair_at pairs i).1 low) none (i + 1)
+pub AreParents-more : (pairs : List Pair) (layers parents : List ℕ) (none i low : ℕ) → AreParents pairs layers parents none i → i < length pairs →
+    (pair_at pairs i).1 < length parents → rank_of layers (pair_at pairs i).0 + 1 ≡ rank_of layers (pair_at pairs i).1 →
+    low ≡ min (get_or parents (pair_at pairs i).1 0) (pair_at pairs i).0 → AreParents pairs layers (set parents (pair_at pairs i).1 low) none (i + 1)
 AreParents-more pairs layers parents none i low are i_in v_in next is =
     let here : get_or (set parents (pair_at pairs i).1 low) (pair_at pairs i).1 0 ≡ low = get_or-set_same parents (pair_at pairs i).1 low 0 v_in in
-    let other : (w : ℕ) → w ≢ (pair_at pairs i).1 → get_or (set parents (pair_at pairs i).1 low) w 0 ≡ get_or parents w 0 = λ w (apart : w ≢ (pair_at pairs i).1). get_or-set_other parents (pair_at pairs i).1 w low 0 apart in
+    let other : (w : ℕ) → w ≢ (pair_at pairs i).1 → get_or (set parents (pair_at pairs i).1 low) w 0 ≡ get_or parents w 0 =
+    λ w (apart : w ≢ (pair_at pairs i).1). get_or-set_other parents (pair_at pairs i).1 w low 0 apart in
     record {
       lowest = λ j lt before_one. elim (eqb_tells (pair_at pairs j).1 (pair_at pairs i).1) [
         | inl same ↦
-            let at : get_or (set parents (pair_at pairs i).1 low) (pair_at pairs j).1 0 ≡ low = ap (λ (x : ℕ). get_or (set parents (pair_at pairs i).1 low) x 0) same.1 ∙ here in
+            let at : get_or (set parents (pair_at pairs i).1 low) (pair_at pairs j).1 0 ≡ low =
+            ap (λ (x : ℕ). get_or (set parents (pair_at pairs i).1 low) x 0) same.1 ∙ here in
             elim (cases_lt j i) [
               | inl before ↦ omega (arith, at, is, are.lowest j before before_one, ap (λ (x : ℕ). get_or parents x 0) same.1)
               | inr end ↦
@@ -58,38 +67,56 @@ AreParents-more pairs layers parents none i low are i_in v_in next is =
       ];
       found = λ w w_in. elim (eqb_tells w (pair_at pairs i).1) [
         | inl same ↦
-            let at : get_or (set parents (pair_at pairs i).1 low) w 0 ≡ low = ap (λ (x : ℕ). get_or (set parents (pair_at pairs i).1 low) x 0) same.1 ∙ here in
+            let at : get_or (set parents (pair_at pairs i).1 low) w 0 ≡ low =
+            ap (λ (x : ℕ). get_or (set parents (pair_at pairs i).1 low) x 0) same.1 ∙ here in
             elim (cases_lt (get_or parents (pair_at pairs i).1 0) (pair_at pairs i).0) [
               | inl lower ↦
-                  let kept : get_or (set parents (pair_at pairs i).1 low) w 0 ≡ get_or parents w 0 = omega (arith, at, is, lower, ap (λ (x : ℕ). get_or parents x 0) same.1) in
+                  let kept : get_or (set parents (pair_at pairs i).1 low) w 0 ≡ get_or parents w 0 =
+                  omega (arith, at, is, lower, ap (λ (x : ℕ). get_or parents x 0) same.1) in
                   elim (are.found w w_in) [
                     | inl bare ↦ inl (kept ∙ bare)
                     | inr by ↦ inr (subst (λ (x : ℕ). Contains pairs (x, w)) (sym kept) by.0, ap (λ (x : ℕ). rank_of layers x + 1) kept ∙ by.1)
                   ]
               | inr higher ↦
                   let new : get_or (set parents (pair_at pairs i).1 low) w 0 ≡ (pair_at pairs i).0 = omega (arith, at, is, higher) in
-                  let pair : pair_at pairs i ≡ (get_or (set parents (pair_at pairs i).1 low) w 0, w) = ap (λ (a : ℕ). (a, (pair_at pairs i).1)) (sym new) ∙ ap (λ (b : ℕ). (get_or (set parents (pair_at pairs i).1 low) w 0, b)) (sym same.1) in
-                  inr (subst (λ (p : Pair). Contains pairs p) pair (Contains-get_or pairs i (0, 0) i_in), ap (λ (x : ℕ). rank_of layers x + 1) new ∙ next ∙ ap (λ (x : ℕ). rank_of layers x) (sym same.1))
+                  let pair : pair_at pairs i ≡ (get_or (set parents (pair_at pairs i).1 low) w 0, w) =
+                  ap (λ (a : ℕ). (a, (pair_at pairs i).1)) (sym new)
+                  ∙ ap (λ (b : ℕ). (get_or (set parents (pair_at pairs i).1 low) w 0, b)) (sym same.1) in
+                  inr (
+                    subst (λ (p : Pair). Contains pairs p) pair (Contains-get_or pairs i (0, 0) i_in),
+                    ap (λ (x : ℕ). rank_of layers x + 1) new ∙ next
+                        ∙ ap (λ (x : ℕ). rank_of layers x) (sym same.1),
+                  )
             ]
         | inr apart ↦ elim (are.found w w_in) [
           | inl bare ↦ inl (other w apart.1 ∙ bare)
-          | inr by ↦ inr (subst (λ (x : ℕ). Contains pairs (x, w)) (sym (other w apart.1)) by.0, ap (λ (x : ℕ). rank_of layers x + 1) (other w apart.1) ∙ by.1)
+          | inr by ↦ inr (
+            subst (λ (x : ℕ). Contains pairs (x, w)) (sym (other w apart.1)) by.0,
+            ap (λ (x : ℕ). rank_of layers x + 1) (other w apart.1)
+                ∙ by.1,
+          )
         ]
       ];
     }
 
 -- in the end no predecessor in the layer before is lower
-pub parents_lowest : (pairs : List Pair) (layers parents : List ℕ) (none i : ℕ) → AreParents pairs layers parents none i → length pairs ≤ i → (u v : ℕ) → Contains pairs (u, v) → rank_of layers u + 1 ≡ rank_of layers v → get_or parents v 0 ≤ u
+pub parents_lowest : (pairs : List Pair) (layers parents : List ℕ) (none i : ℕ) → AreParents pairs layers parents none i → length pairs ≤ i →
+    (u v : ℕ) → Contains pairs (u, v) → rank_of layers u + 1 ≡ rank_of layers v → get_or parents v 0 ≤ u
 parents_lowest pairs layers parents none i are whole u v has next =
     let e : pair_at pairs has.0 ≡ (u, v) = get_or_default pairs has.0 (0, 0) (u, v) has.1 ∙ has.2 in
     let e₀ : (pair_at pairs has.0).0 ≡ u = ap (λ (p : Pair). p.0) e in
     let e₁ : (pair_at pairs has.0).1 ≡ v = ap (λ (p : Pair). p.1) e in
-    let step : rank_of layers (pair_at pairs has.0).0 + 1 ≡ rank_of layers (pair_at pairs has.0).1 = ap (λ (x : ℕ). rank_of layers x + 1) e₀ ∙ next ∙ ap (λ (x : ℕ). rank_of layers x) (sym e₁) in
+    let step : rank_of layers (pair_at pairs has.0).0 + 1 ≡ rank_of layers (pair_at pairs has.0).1 =
+    ap (λ (x : ℕ). rank_of layers x + 1) e₀ ∙ next ∙ ap (λ (x : ℕ). rank_of layers x) (sym e₁) in
     let low = are.lowest has.0 (omega (arith, has.1, whole)) step in
     omega (arith, low, e₀, ap (λ (x : ℕ). get_or parents x 0) e₁)
 
 -- the parent of a router that isn't in the first layer
-pub parent_is : (n : ℕ) (pairs : List Pair) (layers parents : List ℕ) (none v k : ℕ) → AreBelow n pairs → AreLayers n pairs layers → n ≤ none → ((u w : ℕ) → Contains pairs (u, w) → rank_of layers u + 1 ≡ rank_of layers w → get_or parents w 0 ≤ u) → ((w : ℕ) → w < length layers → (get_or parents w 0 ≡ none) ⊎ (Contains pairs (get_or parents w 0, w) × (rank_of layers (get_or parents w 0) + 1 ≡ rank_of layers w))) → v < n → rank_of layers v ≡ suc k → IsLowest (IsBeforeInLayer pairs layers k v) (get_or parents v 0)
+pub parent_is : (n : ℕ) (pairs : List Pair) (layers parents : List ℕ) (none v k : ℕ) → AreBelow n pairs → AreLayers n pairs layers → n ≤ none →
+    ((u w : ℕ) → Contains pairs (u, w) → rank_of layers u + 1 ≡ rank_of layers w → get_or parents w 0 ≤ u) →
+    ((w : ℕ) → w < length layers → (get_or parents w 0 ≡ none) ⊎
+    (Contains pairs (get_or parents w 0, w) × (rank_of layers (get_or parents w 0) + 1 ≡ rank_of layers w))) → v < n → rank_of layers v ≡ suc k →
+    IsLowest (IsBeforeInLayer pairs layers k v) (get_or parents v 0)
 parent_is n pairs layers parents none v k below are many lowest found v_in there = elim (are.each v v_in) [
   | inl bare ↦ absurd (omega (arith, bare.0, there))
   | inr above ↦ elim (found v (omega (arith, v_in, are.whole))) [
@@ -114,33 +141,47 @@ pub record IsTraced (n : ℕ) (pairs : List Pair) (layers out : List ℕ) (count
   pub there : (j : ℕ) → k ≤ j → j < count → rank_of layers (get_or out j 0) ≡ j
 
 -- some router is in the last layer
-pub some_in_last : (n : ℕ) (pairs : List Pair) (layers : List ℕ) (k : ℕ) → AreBelow n pairs → AreLayers n pairs layers → suc k ≡ wave_count layers → (u : ℕ) × IsInLayer layers k u
+pub some_in_last : (n : ℕ) (pairs : List Pair) (layers : List ℕ) (k : ℕ) → AreBelow n pairs → AreLayers n pairs layers →
+    suc k ≡ wave_count layers → (u : ℕ) × IsInLayer layers k u
 some_in_last n pairs layers k below are e =
     let has = rank_stands n layers k (layers_rank n pairs layers below are) (omega (arith, e)) in
     (has.0, record { within = has.1; there = get_or_default layers has.0 0 k has.1 ∙ has.2 })
 
-pub IsTraced-begin : (n : ℕ) (pairs : List Pair) (layers out : List ℕ) (k u : ℕ) → length layers ≡ n → IsLowest (IsInLayer layers k) u → k < length out → IsTraced n pairs layers (set out k u) (suc k) k
+pub IsTraced-begin : (n : ℕ) (pairs : List Pair) (layers out : List ℕ) (k u : ℕ) → length layers ≡ n → IsLowest (IsInLayer layers k) u →
+    k < length out → IsTraced n pairs layers (set out k u) (suc k) k
 IsTraced-begin n pairs layers out k u long lowest k_in =
     let here : get_or (set out k u) k 0 ≡ u = get_or-set_same out k u 0 k_in in
     record {
       before = omega arith;
-      last = λ j e. let same : k ≡ j = omega (arith, e) in subst (λ (x : ℕ). IsLowest (IsInLayer layers x) (get_or (set out k u) x 0)) same (subst (λ (x : ℕ). IsLowest (IsInLayer layers k) x) (sym here) lowest);
+      last = λ j e. let same : k ≡ j = omega (arith, e) in subst (λ (x : ℕ). IsLowest (IsInLayer layers x) (get_or (set out k u) x 0)) same
+          (subst (λ (x : ℕ). IsLowest (IsInLayer layers k) x) (sym here) lowest);
       back = λ j le lt. absurd (omega (arith, le, lt));
-      below = λ j le lt. let same : j ≡ k = omega (arith, le, lt) in omega (arith, ap (λ (x : ℕ). get_or (set out k u) x 0) same, here, lowest.holds.within, long);
-      there = λ j le lt. let same : j ≡ k = omega (arith, le, lt) in ap (λ (x : ℕ). rank_of layers (get_or (set out k u) x 0)) same ∙ ap (λ (x : ℕ). rank_of layers x) here ∙ lowest.holds.there ∙ sym same;
+      below = λ j le lt. let same : j ≡ k = omega (arith, le, lt) in omega (
+        arith,
+        ap (λ (x : ℕ). get_or (set out k u) x 0) same,
+        here,
+        lowest.holds.within,
+        long,
+      );
+      there = λ j le lt. let same : j ≡ k = omega (arith, le, lt) in ap (λ (x : ℕ). rank_of layers (get_or (set out k u) x 0)) same
+          ∙ ap (λ (x : ℕ). rank_of layers x) here ∙ lowest.holds.there ∙ sym same;
     }
 
-pub IsTraced-back : (n : ℕ) (pairs : List Pair) (layers out : List ℕ) (count k u : ℕ) → AreBelow n pairs → IsTraced n pairs layers out count (suc k) → k < length out → IsLowest (IsBeforeInLayer pairs layers k (get_or out (suc k) 0)) u → IsTraced n pairs layers (set out k u) count k
+pub IsTraced-back : (n : ℕ) (pairs : List Pair) (layers out : List ℕ) (count k u : ℕ) → AreBelow n pairs →
+    IsTraced n pairs layers out count (suc k) → k < length out → IsLowest (IsBeforeInLayer pairs layers k (get_or out (suc k) 0)) u →
+    IsTraced n pairs layers (set out k u) count k
 IsTraced-back n pairs layers out count k u pairs_below t k_in lowest =
     let here : get_or (set out k u) k 0 ≡ u = get_or-set_same out k u 0 k_in in
-    let later : (j : ℕ) → k < j → get_or (set out k u) j 0 ≡ get_or out j 0 = λ j (lt : k < j). let apart : j ≢ k = omega (arith, lt) in get_or-set_other out k j u 0 apart in
+    let later : (j : ℕ) → k < j → get_or (set out k u) j 0 ≡ get_or out j 0 = λ j (lt : k < j). let apart : j ≢ k = omega (arith, lt) in
+    get_or-set_other out k j u 0 apart in
     record {
       before = omega (arith, t.before);
       last = λ j e. subst (λ (x : ℕ). IsLowest (IsInLayer layers j) x) (sym (later j (omega (arith, e, t.before)))) (t.last j e);
       back = λ j le lt. elim (cases_lt k j) [
         | inl after ↦
             subst (λ (x : ℕ). IsLowest (IsBeforeInLayer pairs layers j x) (get_or (set out k u) j 0)) (sym (later (suc j) (omega (arith, after))))
-            (subst (λ (x : ℕ). IsLowest (IsBeforeInLayer pairs layers j (get_or out (suc j) 0)) x) (sym (later j after)) (t.back j (omega (arith, after)) lt))
+            (subst (λ (x : ℕ). IsLowest (IsBeforeInLayer pairs layers j (get_or out (suc j) 0)) x) (sym (later j after))
+            (t.back j (omega (arith, after)) lt))
         | inr end ↦
             let same : k ≡ j = omega (arith, end, le) in
             subst (λ (i : ℕ). IsLowest (IsBeforeInLayer pairs layers i (get_or (set out k u) (suc i) 0)) (get_or (set out k u) i 0)) same
@@ -163,7 +204,8 @@ IsTraced-back n pairs layers out count k u pairs_below t k_in lowest =
     }
 
 -- the whole chain
-pub IsChain-traced : (n : ℕ) (pairs : List Pair) (layers out : List ℕ) (count : ℕ) → IsTraced n pairs layers out count 0 → count ≡ wave_count layers → count ≤ length out → IsChain pairs layers (take count out)
+pub IsChain-traced : (n : ℕ) (pairs : List Pair) (layers out : List ℕ) (count : ℕ) → IsTraced n pairs layers out count 0 →
+    count ≡ wave_count layers → count ≤ length out → IsChain pairs layers (take count out)
 IsChain-traced n pairs layers out count t counted le =
     let long : length (take count out) ≡ count = length-take-le count out le in
     let at : (j : ℕ) → j < count → get_or (take count out) j 0 ≡ get_or out j 0 = λ j (lt : j < count). get_or-take count out j 0 lt in
@@ -172,11 +214,13 @@ IsChain-traced n pairs layers out count t counted le =
       last = λ k e. subst (λ (x : ℕ). IsLowest (IsInLayer layers k) x) (sym (at k (omega (arith, e, long)))) (t.last k (omega (arith, e, long)));
       back = λ k lt.
           subst (λ (x : ℕ). IsLowest (IsBeforeInLayer pairs layers k x) (get_or (take count out) k 0)) (sym (at (suc k) (omega (arith, lt, long))))
-          (subst (λ (x : ℕ). IsLowest (IsBeforeInLayer pairs layers k (get_or out (suc k) 0)) x) (sym (at k (omega (arith, lt, long)))) (t.back k (omega arith) (omega (arith, lt, long))));
+          (subst (λ (x : ℕ). IsLowest (IsBeforeInLayer pairs layers k (get_or out (suc k) 0)) x) (sym (at k (omega (arith, lt, long))))
+          (t.back k (omega arith) (omega (arith, lt, long))));
     }
 
 -- no router has no chain
-pub IsChain-none : (pairs : List Pair) (layers out : List ℕ) (count : ℕ) → count ≡ 0 → count ≡ wave_count layers → IsChain pairs layers (take count out)
+pub IsChain-none : (pairs : List Pair) (layers out : List ℕ) (count : ℕ) → count ≡ 0 → count ≡ wave_count layers →
+    IsChain pairs layers (take count out)
 IsChain-none pairs layers out count none counted =
     let long : length (take count out) ≡ 0 = omega (arith, length-take-le count out (omega (arith, none)), none) in
     record {
@@ -187,33 +231,30 @@ IsChain-none pairs layers out count none counted =
 
 -- Lowest of a layer
 
-pub first_found : (layers : List ℕ) (layer r : ℕ) → r < length layers → get_or layers r 0 ≡ layer → ((q : ℕ) → q < r → rank_of layers q ≢ layer) → IsLowest (IsInLayer layers layer) r
-first_found layers layer r r_in there others = record {
-  holds = record { within = r_in; there = there };
-  least = λ q q_is. elim (cases_lt q r) [
-    | inl lt ↦ absurd (others q lt q_is.there)
-    | inr ge ↦ ge
-  ];
-}
-
 -- there are no more layers than routers, and no rank is higher
 pub count_few : (n : ℕ) (pairs : List Pair) (layers : List ℕ) → AreBelow n pairs → AreLayers n pairs layers → wave_count layers ≤ length layers
 count_few n pairs layers below are = count_le_length n layers (layers_rank n pairs layers below are)
 
-pub rank_few : (n : ℕ) (pairs : List Pair) (layers : List ℕ) → AreBelow n pairs → AreLayers n pairs layers → (u : ℕ) → rank_of layers u ≤ length layers
+pub rank_few : (n : ℕ) (pairs : List Pair) (layers : List ℕ) → AreBelow n pairs → AreLayers n pairs layers → (u : ℕ) →
+    rank_of layers u ≤ length layers
 rank_few n pairs layers below are u = elim (cases_lt u (length layers)) [
   | inl lt ↦ omega (arith, rank_below_count layers (rank_of layers u) (Contains-get_or layers u 0 lt), count_few n pairs layers below are)
   | inr ge ↦ omega (arith, get_or_past layers u 0 ge)
 ]
 
 -- one step back along the parents
-pub IsTraced-down : (n : ℕ) (pairs : List Pair) (layers out parents : List ℕ) (none count k : ℕ) → AreBelow n pairs → AreLayers n pairs layers → n ≤ none → ((u w : ℕ) → Contains pairs (u, w) → rank_of layers u + 1 ≡ rank_of layers w → get_or parents w 0 ≤ u) → ((w : ℕ) → w < length layers → (get_or parents w 0 ≡ none) ⊎ (Contains pairs (get_or parents w 0, w) × (rank_of layers (get_or parents w 0) + 1 ≡ rank_of layers w)))
-    → count ≤ length out → 0 < k → IsTraced n pairs layers out count k → IsTraced n pairs layers (set out (k - 1) (get_or parents (get_or out (k - 1 + 1) 0) 0)) count (k - 1)
+pub IsTraced-down : (n : ℕ) (pairs : List Pair) (layers out parents : List ℕ) (none count k : ℕ) → AreBelow n pairs → AreLayers n pairs layers →
+    n ≤ none → ((u w : ℕ) → Contains pairs (u, w) → rank_of layers u + 1 ≡ rank_of layers w → get_or parents w 0 ≤ u) →
+    ((w : ℕ) → w < length layers → (get_or parents w 0 ≡ none) ⊎
+    (Contains pairs (get_or parents w 0, w) × (rank_of layers (get_or parents w 0) + 1 ≡ rank_of layers w)))
+    → count ≤ length out → 0 < k → IsTraced n pairs layers out count k →
+    IsTraced n pairs layers (set out (k - 1) (get_or parents (get_or out (k - 1 + 1) 0) 0)) count (k - 1)
 IsTraced-down n pairs layers out parents none count zero below are many lowest found le some t = absurd (omega (arith, some))
 IsTraced-down n pairs layers out parents none count (suc k) below are many lowest found le some t =
     let down : k ≡ suc k - 1 = omega arith in
     let up : suc k ≡ k + 1 = omega arith in
-    let parent = parent_is n pairs layers parents none (get_or out (suc k) 0) k below are many lowest found (t.below (suc k) (omega arith) t.before) (t.there (suc k) (omega arith) t.before) in
+    let parent = parent_is n pairs layers parents none (get_or out (suc k) 0) k below are many lowest found (t.below (suc k) (omega arith) t.before)
+    (t.there (suc k) (omega arith) t.before) in
     subst (λ (j : ℕ). IsTraced n pairs layers (set out j (get_or parents (get_or out (j + 1) 0) 0)) count j) down
     (subst (λ (j : ℕ). IsTraced n pairs layers (set out k (get_or parents (get_or out j 0) 0)) count k) up
     (IsTraced-back n pairs layers out count k (get_or parents (get_or out (suc k) 0) 0) below t (omega (arith, t.before, le)) parent))

@@ -1,20 +1,21 @@
 -- Layers with one pair more: where it moves no router, and where it moves its second router alone.
-use Rattle.std.proofs.Common.{◌≡◌, ◌≢◌, ℕ, ◌+◌, ◌<◌, ◌≤◌, inl, inr, List, [], ◌∷◌, ◌++◌, length, length-set, set, take, Option, None}
-use Rattle.std.proofs.Common.{arith, subst, sym, ap, ◌∙◌}
+use Rattle.std.proofs.Common.{◌≡◌, ◌≢◌, ℕ, ◌+◌, ◌<◌, ◌≤◌, inl, inr, List, [], ◌∷◌, ◌++◌, length, length-set, set, take}
+use Rattle.std.proofs.Common.{Option, None, arith, subst, sym, ap, ◌∙◌}
 use Rattle.std.specs.List.{Contains}
 use Rattle.std.proofs.lemmas.Bool.{cases_eq}
 use Rattle.std.proofs.lemmas.List.{get_or-set_same, get_or-set_other, get_or_default}
 use Rattle.std.proofs.lemmas.List.Elements.{Contains-append_left, Contains-push, Contains-push_cases}
-use Rattle.link_trail.specs.Lists.{first_of, list_at}
+use Rattle.link_trail.specs.Lists.{first_node, list_at}
 use Rattle.order_core.specs.Pairs.{Pair}
 use Rattle.order_core.specs.Rankings.{rank_of}
 use Rattle.precedence_set.specs.Layers.{AreLayers, IsLayerOf}
-use Rattle.precedence_set.specs.Successors.{AreSuccessors, IsFirstFrom}
+use Rattle.precedence_set.specs.Successors.{AreSuccessors}
+use Rattle.precedence_set.specs.steps.Walking.{IsFirstFrom}
 use Rattle.precedence_set.proofs.SuccessorFacts.{IsFirstFrom-first}
 
 -- a router whose list has no first pair is before none
 pub none_after : (n : ℕ) (pairs : List Pair) (lists : List (List ℕ)) (v : ℕ) (first : Option ℕ) → AreSuccessors n pairs lists → v < n →
-    first ≡ first_of (list_at lists v) → first ≡ None → (w : ℕ) → ¬ Contains pairs (v, w)
+    first ≡ first_node (list_at lists v) → first ≡ None → (w : ℕ) → ¬ Contains pairs (v, w)
 none_after n pairs lists v first successors v_in e none w has =
     let walk = subst (λ (o : Option ℕ). IsFirstFrom pairs v 0 o) none (IsFirstFrom-first n pairs lists v first successors v_in e) in
     let here = get_or_default pairs has.0 (0, 0) (v, w) has.1 ∙ has.2 in

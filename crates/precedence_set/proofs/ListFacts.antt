@@ -1,5 +1,6 @@
 -- Routers listed one after another: each new one, and that all are listed in the end.
-use Rattle.std.proofs.Common.{◌≡◌, ◌≢◌, ℕ, zero, suc, ◌+◌, ◌-◌, ◌<◌, ◌≤◌, ◌↔◌, ◌⊎◌, inl, inr, List, [], ◌∷◌, length, length-set, get_or, set, take, Option, Some, None, below_more, arith, subst, sym, refl, ap, ◌∙◌}
+use Rattle.std.proofs.Common.{◌≡◌, ◌≢◌, ℕ, zero, suc, ◌+◌, ◌-◌, ◌<◌, ◌≤◌, ◌↔◌, ◌⊎◌, inl, inr, List, [], ◌∷◌}
+use Rattle.std.proofs.Common.{length, length-set, get_or, set, take, Option, Some, None, below_more, arith, subst, sym, refl, ap, ◌∙◌}
 use Rattle.std.specs.List.{AllPairs, All, Contains}
 use Rattle.std.specs.Cmp.{nat_eq_equiv}
 use Rattle.std.proofs.lemmas.Bool.{false≢true, cases_lt}
@@ -11,10 +12,10 @@ use Rattle.std.proofs.lemmas.Map.Views.{list_any-from_Contains}
 use Rattle.order_core.specs.Pairs.{Pair, IsPath, AreBelow, HasNoCycle}
 use Rattle.order_core.proofs.DistinctLists.{AllPairs-cons, length-le_from_distinct, Contains-from_distinct, place_from_Contains}
 use Rattle.order_core.proofs.Paths.{length-path}
-use Rattle.precedence_set.specs.Successors.{pair_at, IsFirstFrom}
-use Rattle.precedence_set.specs.Sorting.{StandsBelow, AreCounted, IsGone, IsGoneBy, IsListing, IsTopological}
+use Rattle.precedence_set.specs.steps.Walking.{pair_at, IsFirstFrom}
+use Rattle.precedence_set.specs.steps.Sorting.{StandsBelow, AreLeftCounts, IsGone, IsGoneBy, IsListing, IsTopological}
 use Rattle.precedence_set.proofs.LayerFacts.{pair_below}
-use Rattle.precedence_set.proofs.SortFacts.{AreCounted-same, AreCounted-gone, left_none, left_some}
+use Rattle.precedence_set.proofs.SortFacts.{AreLeftCounts-same, AreLeftCounts-gone, left_none, left_some}
 
 -- Places of a list
 
@@ -45,7 +46,8 @@ stands_cases order (suc k) u = elim (eqb_tells (get_or order k 0) u) [
   ]
 ]
 
-front_list : (n : ℕ) (order : List ℕ) (count : ℕ) → count ≤ length order → ((i j : ℕ) → i < j → j < count → get_or order i 0 ≢ get_or order j 0) → AllPairs (λ u v. u ≢ v) (take count order)
+front_list : (n : ℕ) (order : List ℕ) (count : ℕ) → count ≤ length order →
+    ((i j : ℕ) → i < j → j < count → get_or order i 0 ≢ get_or order j 0) → AllPairs (λ u v. u ≢ v) (take count order)
 front_list n order count le distinct i j d lt within same =
     let long = length-take-le count order le in
     let j_lt : j < count = omega (arith, within, long) in
@@ -53,13 +55,15 @@ front_list n order count le distinct i j d lt within same =
     let b = get_or-take count order j d j_lt ∙ get_or_default order j d 0 (omega (arith, j_lt, le)) in
     distinct i j lt j_lt (sym a ∙ same ∙ b)
 
-front_below : (n : ℕ) (order : List ℕ) (count : ℕ) → count ≤ length order → ((j : ℕ) → j < count → get_or order j 0 < n) → All (λ u. u < n) (take count order)
+front_below : (n : ℕ) (order : List ℕ) (count : ℕ) → count ≤ length order → ((j : ℕ) → j < count → get_or order j 0 < n) →
+    All (λ u. u < n) (take count order)
 front_below n order count le below = All-from_get_or (λ u. u < n) (take count order) 0 (λ i lt.
     let i_lt : i < count = omega (arith, lt, length-take-le count order le) in
     subst (λ (x : ℕ). x < n) (sym (get_or-take count order i 0 i_lt)) (below i i_lt))
 
 -- there is room for one more router
-pub room_for : (n : ℕ) (pairs : List Pair) (counts order : List ℕ) (count v : ℕ) → IsListing n pairs counts order count → count ≤ length order → v < n → 0 < get_or counts v 0 → count < n
+pub room_for : (n : ℕ) (pairs : List Pair) (counts order : List ℕ) (count v : ℕ) → IsListing n pairs counts order count → count ≤ length order →
+    v < n → 0 < get_or counts v 0 → count < n
 room_for n pairs counts order count v listing le v_in some =
     let long = length-take-le count order le in
     let all = length-le_from_distinct (v ∷ take count order) n
@@ -75,10 +79,14 @@ room_for n pairs counts order count v listing le v_in some =
 -- One router more
 
 -- one more pair into v is gone, and more are left
-pub IsListing-more : (n : ℕ) (pairs : List Pair) (counts new order order' : List ℕ) (count count' v : ℕ) → IsListing n pairs counts order count → v < length counts → 1 < get_or counts v 0 → new ≡ set counts v (get_or counts v 0 - 1) → order' ≡ order → count' ≡ count → IsListing n pairs new order' count'
+pub IsListing-more : (n : ℕ) (pairs : List Pair) (counts new order order' : List ℕ) (count count' v : ℕ) → IsListing n pairs counts order count →
+    v < length counts → 1 < get_or counts v 0 → new ≡ set counts v (get_or counts v 0 - 1) → order' ≡ order → count' ≡ count →
+    IsListing n pairs new order' count'
 IsListing-more n pairs counts new order order' count count' v listing v_in some is same_order same_count =
-    let value : get_or new v 0 ≡ get_or counts v 0 - 1 = ap (λ (xs : List ℕ). get_or xs v 0) is ∙ get_or-set_same counts v (get_or counts v 0 - 1) 0 v_in in
-    let other : (w : ℕ) → w ≢ v → get_or new w 0 ≡ get_or counts w 0 = λ w (apart : w ≢ v). ap (λ (xs : List ℕ). get_or xs w 0) is ∙ get_or-set_other counts v w (get_or counts v 0 - 1) 0 apart in
+    let value : get_or new v 0 ≡ get_or counts v 0 - 1 =
+    ap (λ (xs : List ℕ). get_or xs v 0) is ∙ get_or-set_same counts v (get_or counts v 0 - 1) 0 v_in in
+    let other : (w : ℕ) → w ≢ v → get_or new w 0 ≡ get_or counts w 0 = λ w (apart : w ≢ v). ap (λ (xs : List ℕ). get_or xs w 0) is
+    ∙ get_or-set_other counts v w (get_or counts v 0 - 1) 0 apart in
     subst (λ (xs : List ℕ). IsListing n pairs new xs count') (sym same_order)
     (subst (λ (c : ℕ). IsListing n pairs new order c) (sym same_count) (record {
       below = listing.below;
@@ -94,21 +102,29 @@ IsListing-more n pairs counts new order order' count count' v listing v_in some 
     }))
 
 -- the last pair into v is gone, and v is listed
-pub IsListing-last : (n : ℕ) (pairs : List Pair) (counts new order order' : List ℕ) (count count' v : ℕ) → IsListing n pairs counts order count → v < n → v < length counts → count < length order → get_or counts v 0 ≡ 1 → new ≡ set counts v (get_or counts v 0 - 1) → order' ≡ set order count v → count' ≡ count + 1 → ((u : ℕ) → Contains pairs (u, v) → StandsBelow order count u) → IsListing n pairs new order' count'
+pub IsListing-last : (n : ℕ) (pairs : List Pair) (counts new order order' : List ℕ) (count count' v : ℕ) → IsListing n pairs counts order count →
+    v < n → v < length counts → count < length order → get_or counts v 0 ≡ 1 → new ≡ set counts v (get_or counts v 0 - 1) →
+    order' ≡ set order count v → count' ≡ count + 1 → ((u : ℕ) → Contains pairs (u, v) → StandsBelow order count u) →
+    IsListing n pairs new order' count'
 IsListing-last n pairs counts new order order' count count' v listing v_n v_in room one is new_order new_count gone =
-    let value : get_or new v 0 ≡ get_or counts v 0 - 1 = ap (λ (xs : List ℕ). get_or xs v 0) is ∙ get_or-set_same counts v (get_or counts v 0 - 1) 0 v_in in
-    let other : (w : ℕ) → w ≢ v → get_or new w 0 ≡ get_or counts w 0 = λ w (apart : w ≢ v). ap (λ (xs : List ℕ). get_or xs w 0) is ∙ get_or-set_other counts v w (get_or counts v 0 - 1) 0 apart in
+    let value : get_or new v 0 ≡ get_or counts v 0 - 1 =
+    ap (λ (xs : List ℕ). get_or xs v 0) is ∙ get_or-set_same counts v (get_or counts v 0 - 1) 0 v_in in
+    let other : (w : ℕ) → w ≢ v → get_or new w 0 ≡ get_or counts w 0 = λ w (apart : w ≢ v). ap (λ (xs : List ℕ). get_or xs w 0) is
+    ∙ get_or-set_other counts v w (get_or counts v 0 - 1) 0 apart in
     let here : get_or (set order count v) count 0 ≡ v = get_or-set_same order count v 0 room in
     let front : IsFront count (set order count v) order = IsFront-set order count v in
-    let apart : (j : ℕ) → j < count → get_or order j 0 ≢ v = λ j (lt : j < count) (e : get_or order j 0 ≡ v). omega (arith, one, ap (λ (x : ℕ). get_or counts x 0) e, listing.none_left j lt) in
+    let apart : (j : ℕ) → j < count → get_or order j 0 ≢ v =
+    λ j (lt : j < count) (e : get_or order j 0 ≡ v). omega (arith, one, ap (λ (x : ℕ). get_or counts x 0) e, listing.none_left j lt) in
     subst (λ (xs : List ℕ). IsListing n pairs new xs count') (sym new_order)
     (subst (λ (c : ℕ). IsListing n pairs new (set order count v) c) (sym new_count) (record {
-      below = below_more (λ j. get_or (set order count v) j 0 < n) count (λ j lt. subst (λ (x : ℕ). x < n) (sym (front j lt)) (listing.below j lt)) (subst (λ (x : ℕ). x < n) (sym here) v_n);
+      below = below_more (λ j. get_or (set order count v) j 0 < n) count (λ j lt. subst (λ (x : ℕ). x < n) (sym (front j lt)) (listing.below j lt))
+          (subst (λ (x : ℕ). x < n) (sym here) v_n);
       distinct = λ i j lt j_lt same. elim (cases_lt j count) [
         | inl before ↦ listing.distinct i j lt before (sym (front i (omega (arith, lt, before))) ∙ same ∙ front j before)
         | inr end ↦
             let last : j ≡ count = omega (arith, end, j_lt) in
-            apart i (omega (arith, lt, last)) (sym (front i (omega (arith, lt, last))) ∙ same ∙ ap (λ (x : ℕ). get_or (set order count v) x 0) last ∙ here)
+            apart i (omega (arith, lt, last)) (sym (front i (omega (arith, lt, last))) ∙ same ∙ ap (λ (x : ℕ). get_or (set order count v) x 0) last
+            ∙ here)
       ];
       none_left = below_more (λ j. get_or new (get_or (set order count v) j 0) 0 ≡ 0) count
           (λ j lt. ap (λ (x : ℕ). get_or new x 0) (front j lt) ∙ other (get_or order j 0) (apart j lt) ∙ listing.none_left j lt)
@@ -120,7 +136,8 @@ IsListing-last n pairs counts new order order' count count' v listing v_n v_in r
             (old.0, omega (arith, old.1), front old.0 old.1 ∙ old.2)
       ];
       after = below_more (λ j. (u : ℕ) → Contains pairs (u, get_or (set order count v) j 0) → StandsBelow (set order count v) j u) count
-          (λ j lt u has. stands_still (set order count v) order count j u front (omega (arith, lt)) (listing.after j lt u (subst (λ (x : ℕ). Contains pairs (u, x)) (front j lt) has)))
+          (λ j lt u has. stands_still (set order count v) order count j u front (omega (arith, lt))
+          (listing.after j lt u (subst (λ (x : ℕ). Contains pairs (u, x)) (front j lt) has)))
           (λ u has. stands_still (set order count v) order count count u front (omega arith) (gone u (subst (λ (x : ℕ). Contains pairs (u, x)) here has)));
     }))
 
@@ -133,7 +150,7 @@ pub record IsFreeing (n : ℕ) (pairs : List Pair) (counts order : List ℕ) (k 
   pub before : k < count
   pub within : count ≤ length order
   pub listing : IsListing n pairs counts order count
-  pub counted : AreCounted pairs (IsGoneBy pairs order k start) counts
+  pub counted : AreLeftCounts pairs (IsGoneBy pairs order k start) counts
 
 -- at first no pair of that router is gone
 pub IsGoneBy-begin : (pairs : List Pair) (order : List ℕ) (k i : ℕ) → IsGone pairs order k i ↔ IsGoneBy pairs order k 0 i
@@ -146,7 +163,8 @@ IsGoneBy-begin pairs order k i = (
 )
 
 -- in the end all are
-pub IsGoneBy-end : (pairs : List Pair) (order : List ℕ) (k start i : ℕ) → IsFirstFrom pairs (get_or order k 0) start None → i < length pairs → IsGoneBy pairs order k start i ↔ IsGone pairs order (k + 1) i
+pub IsGoneBy-end : (pairs : List Pair) (order : List ℕ) (k start i : ℕ) → IsFirstFrom pairs (get_or order k 0) start None → i < length pairs →
+    IsGoneBy pairs order k start i ↔ IsGone pairs order (k + 1) i
 IsGoneBy-end pairs order k start i first i_in = (
   λ by. elim by [
     | inl gone ↦ (gone.0, omega (arith, gone.1), gone.2)
@@ -164,7 +182,8 @@ IsGoneBy-end pairs order k start i first i_in = (
   ],
 )
 
-IsGoneBy-front : (pairs : List Pair) (a b : List ℕ) (k count start i : ℕ) → IsFront count a b → k < count → IsGoneBy pairs b k start i ↔ IsGoneBy pairs a k start i
+IsGoneBy-front : (pairs : List Pair) (a b : List ℕ) (k count start i : ℕ) → IsFront count a b → k < count → IsGoneBy pairs b k start i ↔
+    IsGoneBy pairs a k start i
 IsGoneBy-front pairs a b k count start i front lt = (
   λ by. elim by [
     | inl gone ↦ inl (stands_still a b count k (pair_at pairs i).0 front (omega (arith, lt)) gone)
@@ -177,14 +196,16 @@ IsGoneBy-front pairs a b k count start i front lt = (
 )
 
 -- the pair that the walk has come to isn't gone
-pub fresh_pair : (n : ℕ) (pairs : List Pair) (counts order : List ℕ) (k count i : ℕ) (f : IsFreeing n pairs counts order k count (Some i)) → ¬ IsGoneBy pairs order k f.start i
+pub fresh_pair : (n : ℕ) (pairs : List Pair) (counts order : List ℕ) (k count i : ℕ) (f : IsFreeing n pairs counts order k count (Some i)) →
+    ¬ IsGoneBy pairs order k f.start i
 fresh_pair n pairs counts order k count i f by = elim by [
   | inl gone ↦ f.listing.distinct gone.0 k gone.1 f.before (gone.2 ∙ f.first.2)
   | inr here ↦ omega (arith, here.1, f.first.0)
 ]
 
 -- and with it just the pairs up to it are
-gone_step : (n : ℕ) (pairs : List Pair) (counts order : List ℕ) (k count i : ℕ) (f : IsFreeing n pairs counts order k count (Some i)) (j : ℕ) → IsGoneBy pairs order k (suc i) j ↔ (IsGoneBy pairs order k f.start j ⊎ (j ≡ i))
+gone_step : (n : ℕ) (pairs : List Pair) (counts order : List ℕ) (k count i : ℕ) (f : IsFreeing n pairs counts order k count (Some i)) (j : ℕ) →
+    IsGoneBy pairs order k (suc i) j ↔ (IsGoneBy pairs order k f.start j ⊎ (j ≡ i))
 gone_step n pairs counts order k count i f j = (
   λ by. elim by [
     | inl gone ↦ inl (inl gone)
@@ -206,7 +227,8 @@ gone_step n pairs counts order k count i f j = (
 )
 
 -- the routers that stand before v, where no pair into it is left
-stand_before : (pairs : List Pair) (counts order : List ℕ) (k count start v : ℕ) → AreCounted pairs (IsGoneBy pairs order k start) counts → k < count → v < length counts → get_or counts v 0 ≡ 0 → (u : ℕ) → Contains pairs (u, v) → StandsBelow order count u
+stand_before : (pairs : List Pair) (counts order : List ℕ) (k count start v : ℕ) → AreLeftCounts pairs (IsGoneBy pairs order k start) counts →
+    k < count → v < length counts → get_or counts v 0 ≡ 0 → (u : ℕ) → Contains pairs (u, v) → StandsBelow order count u
 stand_before pairs counts order k count start v counted lt v_in none u has =
     let e : pair_at pairs has.0 ≡ (u, v) = get_or_default pairs has.0 (0, 0) (u, v) has.1 ∙ has.2 in
     let gone = left_none pairs counted.gone v (length pairs) (sym (counted.each v v_in) ∙ none) has.0 has.1 (ap (λ (p : Pair). p.1) e) in
@@ -216,13 +238,18 @@ stand_before pairs counts order k count start v counted lt v_in none u has =
     ]
 
 -- one step of the walk
-pub IsFreeing-step : (n : ℕ) (pairs : List Pair) (counts new order order' : List ℕ) (k count count' i v : ℕ) (next : Option ℕ) → IsFreeing n pairs counts order k count (Some i) → length counts ≡ n → length order ≡ n → v < n → (pair_at pairs i).1 ≡ v → IsFirstFrom pairs (get_or order k 0) (suc i) next
-    → 0 < get_or counts v 0 → new ≡ set counts v (get_or counts v 0 - 1) → (get_or counts v 0 ≡ 1 → count' ≡ count + 1) → (get_or counts v 0 ≡ 1 → order' ≡ set order count v) → (1 < get_or counts v 0 → count' ≡ count) → (1 < get_or counts v 0 → order' ≡ order)
+pub IsFreeing-step : (n : ℕ) (pairs : List Pair) (counts new order order' : List ℕ) (k count count' i v : ℕ) (next : Option ℕ) →
+    IsFreeing n pairs counts order k count (Some i) → length counts ≡ n → length order ≡ n → v < n → (pair_at pairs i).1 ≡ v →
+    IsFirstFrom pairs (get_or order k 0) (suc i) next
+    → 0 < get_or counts v 0 → new ≡ set counts v (get_or counts v 0 - 1) → (get_or counts v 0 ≡ 1 → count' ≡ count + 1) →
+    (get_or counts v 0 ≡ 1 → order' ≡ set order count v) → (1 < get_or counts v 0 → count' ≡ count) →
+    (1 < get_or counts v 0 → order' ≡ order)
     → IsFreeing n pairs new order' k count' next
 IsFreeing-step n pairs counts new order order' k count count' i v next f long wide v_n to first some is one_count one_order same_count same_order =
     let v_in : v < length counts = omega (arith, v_n, long) in
-    let counted : AreCounted pairs (IsGoneBy pairs order k (suc i)) new =
-    AreCounted-gone pairs (IsGoneBy pairs order k f.start) (IsGoneBy pairs order k (suc i)) counts new i v f.counted f.first.1 (fresh_pair n pairs counts order k count i f) to v_in is (λ j j_in. gone_step n pairs counts order k count i f j) in
+    let counted : AreLeftCounts pairs (IsGoneBy pairs order k (suc i)) new =
+    AreLeftCounts-gone pairs (IsGoneBy pairs order k f.start) (IsGoneBy pairs order k (suc i)) counts new i v f.counted f.first.1
+    (fresh_pair n pairs counts order k count i f) to v_in is (λ j j_in. gone_step n pairs counts order k count i f j) in
     elim (cases_lt 1 (get_or counts v 0)) [
       | inl more ↦
           let e = same_order more in
@@ -232,29 +259,34 @@ IsFreeing-step n pairs counts new order order' k count count' i v next f long wi
             before = omega (arith, f.before, same_count more);
             within = omega (arith, f.within, same_count more, ap (λ (xs : List ℕ). length xs) e);
             listing = IsListing-more n pairs counts new order order' count count' v f.listing v_in more is e (same_count more);
-            counted = subst (λ (xs : List ℕ). AreCounted pairs (IsGoneBy pairs xs k (suc i)) new) (sym e) counted;
+            counted = subst (λ (xs : List ℕ). AreLeftCounts pairs (IsGoneBy pairs xs k (suc i)) new) (sym e) counted;
           }
       | inr few ↦
           let one : get_or counts v 0 ≡ 1 = omega (arith, some, few) in
           let e = one_order one in
           let room : count < length order = omega (arith, wide, room_for n pairs counts order count v f.listing f.within v_n some) in
           let front : IsFront count order' order = subst (λ (xs : List ℕ). IsFront count xs order) (sym e) (IsFront-set order count v) in
-          let value : get_or new v 0 ≡ 0 = omega (arith, one, ap (λ (xs : List ℕ). get_or xs v 0) is, get_or-set_same counts v (get_or counts v 0 - 1) 0 v_in) in
+          let value : get_or new v 0 ≡ 0 =
+          omega (arith, one, ap (λ (xs : List ℕ). get_or xs v 0) is, get_or-set_same counts v (get_or counts v 0 - 1) 0 v_in) in
           let new_in : v < length new = omega (arith, v_in, ap (λ (xs : List ℕ). length xs) is, length-set {A = ℕ}) in
           record {
             start = suc i;
             first = subst (λ (x : ℕ). IsFirstFrom pairs x (suc i) next) (sym (front k f.before)) first;
             before = omega (arith, f.before, one_count one);
             within = omega (arith, room, one_count one, ap (λ (xs : List ℕ). length xs) e, length-set {A = ℕ});
-            listing = IsListing-last n pairs counts new order order' count count' v f.listing v_n v_in room one is e (one_count one) (stand_before pairs new order k count (suc i) v counted f.before new_in value);
-            counted = AreCounted-same pairs (IsGoneBy pairs order k (suc i)) (IsGoneBy pairs order' k (suc i)) new (λ j j_in. IsGoneBy-front pairs order' order k count (suc i) j front f.before) counted;
+            listing = IsListing-last n pairs counts new order order' count count' v f.listing v_n v_in room one is e (one_count one)
+                (stand_before pairs new order k count (suc i) v counted f.before new_in value);
+            counted = AreLeftCounts-same pairs (IsGoneBy pairs order k (suc i)) (IsGoneBy pairs order' k (suc i)) new (λ j j_in.
+                IsGoneBy-front pairs order' order k count (suc i) j front f.before) counted;
           }
     ]
 
 -- where the walk has no more pair
-pub IsFreeing-end : (n : ℕ) (pairs : List Pair) (counts order : List ℕ) (k count : ℕ) (at : Option ℕ) → IsFreeing n pairs counts order k count at → ((i : ℕ) → at ≡ Some i → ⊥) → AreCounted pairs (IsGone pairs order (k + 1)) counts
+pub IsFreeing-end : (n : ℕ) (pairs : List Pair) (counts order : List ℕ) (k count : ℕ) (at : Option ℕ) → IsFreeing n pairs counts order k count at →
+    ((i : ℕ) → at ≡ Some i → ⊥) → AreLeftCounts pairs (IsGone pairs order (k + 1)) counts
 IsFreeing-end n pairs counts order k count None f none =
-    AreCounted-same pairs (IsGoneBy pairs order k f.start) (IsGone pairs order (k + 1)) counts (λ i i_in. IsGoneBy-end pairs order k f.start i f.first i_in) f.counted
+    AreLeftCounts-same pairs (IsGoneBy pairs order k f.start) (IsGone pairs order (k + 1)) counts (λ i i_in.
+    IsGoneBy-end pairs order k f.start i f.first i_in) f.counted
 IsFreeing-end n pairs counts order k count (Some i) f none = absurd (none i refl)
 
 -- All routers
@@ -268,7 +300,9 @@ record Back (n : ℕ) (pairs : List Pair) (order : List ℕ) (k r m : ℕ) : Typ
   outside : ¬ StandsBelow order k start
   onward : IsPath pairs start path r
 
-walk_back : (n : ℕ) (pairs : List Pair) (counts order : List ℕ) (k : ℕ) → AreBelow n pairs → length counts ≡ n → IsListing n pairs counts order k → AreCounted pairs (IsGone pairs order k) counts → (r : ℕ) → r < n → ¬ StandsBelow order k r → (m : ℕ) → Back n pairs order k r m
+walk_back : (n : ℕ) (pairs : List Pair) (counts order : List ℕ) (k : ℕ) → AreBelow n pairs → length counts ≡ n →
+    IsListing n pairs counts order k → AreLeftCounts pairs (IsGone pairs order k) counts → (r : ℕ) → r < n → ¬ StandsBelow order k r →
+    (m : ℕ) → Back n pairs order k r m
 walk_back n pairs counts order k below long listing counted r r_in outside zero =
     record { start = r; path = []; long = refl; within = r_in; outside = outside; onward = refl }
 walk_back n pairs counts order k below long listing counted r r_in outside (suc m) =
@@ -278,7 +312,8 @@ walk_back n pairs counts order k below long listing counted r r_in outside (suc 
           let left = left_some pairs counted.gone b.start (length pairs) (omega (arith, some, counted.each b.start (omega (arith, b.within, long)))) in
           let from = (pair_at pairs left.0).0 in
           let e : pair_at pairs left.0 ≡ ((pair_at pairs left.0).0, b.start) = ap (λ (x : ℕ). ((pair_at pairs left.0).0, x)) left.2 in
-          let has : Contains pairs ((pair_at pairs left.0).0, b.start) = subst (λ (p : Pair). Contains pairs p) e (Contains-get_or pairs left.0 (0, 0) left.1) in
+          let has : Contains pairs ((pair_at pairs left.0).0, b.start) =
+          subst (λ (p : Pair). Contains pairs p) e (Contains-get_or pairs left.0 (0, 0) left.1) in
           record {
             start = (pair_at pairs left.0).0;
             path = b.start ∷ b.path;
@@ -291,7 +326,8 @@ walk_back n pairs counts order k below long listing counted r r_in outside (suc 
     ]
 
 -- where only the routers before k are listed, those are all
-pub all_listed : (n : ℕ) (pairs : List Pair) (counts order : List ℕ) (k : ℕ) → AreBelow n pairs → HasNoCycle pairs → length counts ≡ n → k ≤ length order → IsListing n pairs counts order k → AreCounted pairs (IsGone pairs order k) counts → n ≤ k
+pub all_listed : (n : ℕ) (pairs : List Pair) (counts order : List ℕ) (k : ℕ) → AreBelow n pairs → HasNoCycle pairs → length counts ≡ n →
+    k ≤ length order → IsListing n pairs counts order k → AreLeftCounts pairs (IsGone pairs order k) counts → n ≤ k
 all_listed n pairs counts order k below acyclic long le listing counted =
     let all = le-length_from_below (take k order) n (λ q q_in. list_any-from_Contains nat_eq_equiv q (take k order) (has q q_in)) in
     omega (arith, all, length-take-le k order le)
@@ -309,14 +345,16 @@ all_listed n pairs counts order k below acyclic long le listing counted =
     ]
 
 -- a listing of all routers
-pub IsTopological-whole : (n : ℕ) (pairs : List Pair) (counts order : List ℕ) (count : ℕ) → IsListing n pairs counts order count → count ≡ n → length order ≡ n → IsTopological n pairs order
+pub IsTopological-whole : (n : ℕ) (pairs : List Pair) (counts order : List ℕ) (count : ℕ) → IsListing n pairs counts order count → count ≡ n →
+    length order ≡ n → IsTopological n pairs order
 IsTopological-whole n pairs counts order count listing whole long = record {
   whole = long;
   below = λ j lt. listing.below j (omega (arith, lt, whole));
   all = λ u u_in.
       let e : take count order ≡ take count order = refl in
       let length_is : length (take count order) ≡ n = length-take-le count order (omega (arith, whole, long)) ∙ whole in
-      let has = Contains-from_distinct (take count order) n (front_list n order count (omega (arith, whole, long)) listing.distinct) (front_below n order count (omega (arith, whole, long)) listing.below) length_is u u_in in
+      let has = Contains-from_distinct (take count order) n (front_list n order count (omega (arith, whole, long)) listing.distinct)
+      (front_below n order count (omega (arith, whole, long)) listing.below) length_is u u_in in
       let at = place_from_Contains (take count order) u has in
       let lt : at.0 < count = omega (arith, at.1, length_is, whole) in
       (at.0, omega (arith, lt, whole), sym (get_or-take count order at.0 0 lt) ∙ at.2);
@@ -334,49 +372,9 @@ pub record AreFree (counts order : List ℕ) (count r : ℕ) : Type 0 where
   pub none_left : (j : ℕ) → j < count → get_or counts (get_or order j 0) 0 ≡ 0
   pub listed : (v : ℕ) → v < r → get_or counts v 0 ≡ 0 → StandsBelow order count v
 
-pub AreFree-begin : (counts order : List ℕ) → AreFree counts order 0 0
-AreFree-begin counts order = record {
-  within = omega arith;
-  below = λ j lt. absurd (omega (arith, lt));
-  distinct = λ i j lt j_lt. absurd (omega (arith, j_lt));
-  none_left = λ j lt. absurd (omega (arith, lt));
-  listed = λ v lt. absurd (omega (arith, lt));
-}
-
-pub AreFree-listed : (counts order : List ℕ) (count r : ℕ) → AreFree counts order count r → r < length order → get_or counts r 0 ≡ 0 → AreFree counts (set order count r) (count + 1) (r + 1)
-AreFree-listed counts order count r free r_in none =
-    let room : count < length order = omega (arith, free.within, r_in) in
-    let here : get_or (set order count r) count 0 ≡ r = get_or-set_same order count r 0 room in
-    let front : IsFront count (set order count r) order = IsFront-set order count r in
-    record {
-      within = omega (arith, free.within);
-      below = below_more (λ j. get_or (set order count r) j 0 < r + 1) count (λ j lt. omega (arith, front j lt, free.below j lt)) (omega (arith, here));
-      distinct = λ i j lt j_lt same. elim (cases_lt j count) [
-        | inl before ↦ free.distinct i j lt before (sym (front i (omega (arith, lt, before))) ∙ same ∙ front j before)
-        | inr end ↦
-            let last : j ≡ count = omega (arith, end, j_lt) in
-            let i_lt : i < count = omega (arith, lt, last) in
-            omega (arith, free.below i i_lt, front i i_lt, same, ap (λ (x : ℕ). get_or (set order count r) x 0) last, here)
-      ];
-      none_left = below_more (λ j. get_or counts (get_or (set order count r) j 0) 0 ≡ 0) count
-          (λ j lt. ap (λ (x : ℕ). get_or counts x 0) (front j lt) ∙ free.none_left j lt)
-          (ap (λ (x : ℕ). get_or counts x 0) here ∙ none);
-      listed = below_more (λ v. get_or counts v 0 ≡ 0 → StandsBelow (set order count r) (count + 1) v) r
-          (λ v lt is. let old = free.listed v lt is in (old.0, omega (arith, old.1), front old.0 old.1 ∙ old.2))
-          (λ is. (count, omega arith, here));
-    }
-
-pub AreFree-passed : (counts order : List ℕ) (count r : ℕ) → AreFree counts order count r → get_or counts r 0 ≢ 0 → AreFree counts order count (r + 1)
-AreFree-passed counts order count r free some = record {
-  within = omega (arith, free.within);
-  below = λ j lt. omega (arith, free.below j lt);
-  distinct = free.distinct;
-  none_left = free.none_left;
-  listed = below_more (λ v. get_or counts v 0 ≡ 0 → StandsBelow order count v) r free.listed (λ is. absurd (some is));
-}
-
 -- in the end they are a listing
-pub IsListing-free : (n : ℕ) (pairs : List Pair) (counts order other : List ℕ) (count : ℕ) → AreFree counts order count n → length counts ≡ n → AreCounted pairs (IsGone pairs other 0) counts → IsListing n pairs counts order count
+pub IsListing-free : (n : ℕ) (pairs : List Pair) (counts order other : List ℕ) (count : ℕ) → AreFree counts order count n → length counts ≡ n →
+    AreLeftCounts pairs (IsGone pairs other 0) counts → IsListing n pairs counts order count
 IsListing-free n pairs counts order other count free long counted = record {
   below = free.below;
   distinct = free.distinct;
@@ -386,7 +384,8 @@ IsListing-free n pairs counts order other count free long counted = record {
       let v = get_or order j 0 in
       let v_in : get_or order j 0 < length counts = omega (arith, free.below j lt, long) in
       let e : pair_at pairs has.0 ≡ (u, get_or order j 0) = get_or_default pairs has.0 (0, 0) (u, get_or order j 0) has.1 ∙ has.2 in
-      let gone = left_none pairs counted.gone (get_or order j 0) (length pairs) (sym (counted.each (get_or order j 0) v_in) ∙ free.none_left j lt) has.0 has.1 (ap (λ (p : Pair). p.1) e) in
+      let gone = left_none pairs counted.gone (get_or order j 0) (length pairs) (sym (counted.each (get_or order j 0) v_in) ∙ free.none_left j lt) has.0
+      has.1 (ap (λ (p : Pair). p.1) e) in
       absurd (omega (arith, ((counted.tells has.0 has.1).0 gone).1));
 }
 

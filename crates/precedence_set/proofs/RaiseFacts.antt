@@ -1,5 +1,6 @@
 -- Routers raised above their predecessors, one router of the order after another.
-use Rattle.std.proofs.Common.{◌≡◌, ◌≢◌, ℕ, suc, ◌+◌, ◌<◌, ◌≤◌, ◌⊎◌, inl, inr, List, length, get_or, set, max, Option, Some, None, arith, subst, sym, refl, ap, ◌∙◌}
+use Rattle.std.proofs.Common.{◌≡◌, ◌≢◌, ℕ, suc, ◌+◌, ◌<◌, ◌≤◌, ◌⊎◌, inl, inr, List, length, get_or, set, max, Option, Some}
+use Rattle.std.proofs.Common.{None, arith, subst, sym, refl, ap, ◌∙◌}
 use Rattle.std.specs.List.{Contains}
 use Rattle.std.proofs.lemmas.Bool.{cases_lt}
 use Rattle.std.proofs.lemmas.Bool.Decides.{eqb_tells}
@@ -7,9 +8,9 @@ use Rattle.std.proofs.lemmas.List.{get_or-set_same, get_or-set_other, get_or_def
 use Rattle.std.proofs.lemmas.List.Elements.{Contains-get_or}
 use Rattle.order_core.specs.Pairs.{Pair, AreBelow}
 use Rattle.order_core.specs.Rankings.{rank_of}
-use Rattle.precedence_set.specs.Successors.{pair_at, IsFirstFrom}
+use Rattle.precedence_set.specs.steps.Walking.{pair_at, IsFirstFrom}
 use Rattle.precedence_set.specs.Layers.{AreLayers}
-use Rattle.precedence_set.specs.Sorting.{IsTopological}
+use Rattle.precedence_set.specs.steps.Sorting.{IsTopological}
 use Rattle.precedence_set.proofs.LayerFacts.{pair_below}
 
 -- The walk over the pairs from u
@@ -22,7 +23,8 @@ pub record IsRaising (pairs : List Pair) (old layers : List ℕ) (u above : ℕ)
   pub raised : (j : ℕ) → j < start → j < length pairs → (pair_at pairs j).0 ≡ u → above ≤ rank_of layers (pair_at pairs j).1
   pub from : (v : ℕ) → (rank_of layers v ≡ rank_of old v) ⊎ (Contains pairs (u, v) × (rank_of layers v ≡ above))
 
-pub IsRaising-begin : (pairs : List Pair) (layers : List ℕ) (u above : ℕ) (at : Option ℕ) → IsFirstFrom pairs u 0 at → IsRaising pairs layers layers u above at
+pub IsRaising-begin : (pairs : List Pair) (layers : List ℕ) (u above : ℕ) (at : Option ℕ) → IsFirstFrom pairs u 0 at →
+    IsRaising pairs layers layers u above at
 IsRaising-begin pairs layers u above at first = record {
   start = 0;
   first = first;
@@ -31,13 +33,22 @@ IsRaising-begin pairs layers u above at first = record {
   from = λ v. inl refl;
 }
 
-pub IsRaising-step : (pairs : List Pair) (old layers : List ℕ) (u above i : ℕ) (next : Option ℕ) (top : ℕ) → IsRaising pairs old layers u above (Some i) → (pair_at pairs i).1 < length layers → IsFirstFrom pairs u (suc i) next → top ≡ max (rank_of layers (pair_at pairs i).1) above → IsRaising pairs old (set layers (pair_at pairs i).1 top) u above next
+pub IsRaising-step : (pairs : List Pair) (old layers : List ℕ) (u above i : ℕ) (next : Option ℕ) (top : ℕ) →
+    IsRaising pairs old layers u above (Some i) → (pair_at pairs i).1 < length layers → IsFirstFrom pairs u (suc i) next →
+    top ≡ max (rank_of layers (pair_at pairs i).1) above → IsRaising pairs old (set layers (pair_at pairs i).1 top) u above next
 IsRaising-step pairs old layers u above i next top r v_in first is =
     let v = (pair_at pairs i).1 in
     let here : rank_of (set layers (pair_at pairs i).1 top) (pair_at pairs i).1 ≡ top = get_or-set_same layers (pair_at pairs i).1 top 0 v_in in
-    let other : (w : ℕ) → w ≢ (pair_at pairs i).1 → rank_of (set layers (pair_at pairs i).1 top) w ≡ rank_of layers w = λ w (apart : w ≢ (pair_at pairs i).1). get_or-set_other layers (pair_at pairs i).1 w top 0 apart in
+    let other : (w : ℕ) → w ≢ (pair_at pairs i).1 → rank_of (set layers (pair_at pairs i).1 top) w ≡ rank_of layers w =
+    λ w (apart : w ≢ (pair_at pairs i).1). get_or-set_other layers (pair_at pairs i).1 w top 0 apart in
     let grown : (w : ℕ) → rank_of layers w ≤ rank_of (set layers (pair_at pairs i).1 top) w = λ (w : ℕ). elim (eqb_tells w (pair_at pairs i).1) [
-      | inl same ↦ omega (arith, here, is, ap (λ (x : ℕ). rank_of layers x) same.1, ap (λ (x : ℕ). rank_of (set layers (pair_at pairs i).1 top) x) same.1)
+      | inl same ↦ omega (
+        arith,
+        here,
+        is,
+        ap (λ (x : ℕ). rank_of layers x) same.1,
+        ap (λ (x : ℕ). rank_of (set layers (pair_at pairs i).1 top) x) same.1,
+      )
       | inr apart ↦ omega (arith, other w apart.1)
     ] in
     record {
@@ -55,7 +66,8 @@ IsRaising-step pairs old layers u above i next top r v_in first is =
       ];
       from = λ w. elim (eqb_tells w (pair_at pairs i).1) [
         | inl same ↦
-            let at : rank_of (set layers (pair_at pairs i).1 top) w ≡ top = ap (λ (x : ℕ). rank_of (set layers (pair_at pairs i).1 top) x) same.1 ∙ here in
+            let at : rank_of (set layers (pair_at pairs i).1 top) w ≡ top =
+            ap (λ (x : ℕ). rank_of (set layers (pair_at pairs i).1 top) x) same.1 ∙ here in
             let was : rank_of layers w ≡ rank_of layers (pair_at pairs i).1 = ap (λ (x : ℕ). rank_of layers x) same.1 in
             elim (cases_lt (rank_of layers (pair_at pairs i).1) above) [
               | inl lower ↦
@@ -76,7 +88,8 @@ IsRaising-step pairs old layers u above i next top r v_in first is =
     }
 
 -- where the walk has no more pair
-pub IsRaising-end : (pairs : List Pair) (old layers : List ℕ) (u above : ℕ) (at : Option ℕ) → IsRaising pairs old layers u above at → ((i : ℕ) → at ≡ Some i → ⊥) → (v : ℕ) → Contains pairs (u, v) → above ≤ rank_of layers v
+pub IsRaising-end : (pairs : List Pair) (old layers : List ℕ) (u above : ℕ) (at : Option ℕ) → IsRaising pairs old layers u above at →
+    ((i : ℕ) → at ≡ Some i → ⊥) → (v : ℕ) → Contains pairs (u, v) → above ≤ rank_of layers v
 IsRaising-end pairs old layers u above (Some i) r none v has = absurd (none i refl)
 IsRaising-end pairs old layers u above None r none v has =
     let e : pair_at pairs has.0 ≡ (u, v) = get_or_default pairs has.0 (0, 0) (u, v) has.1 ∙ has.2 in
@@ -91,7 +104,8 @@ IsRaising-end pairs old layers u above None r none v has =
 -- the layers where the routers at the first k places have raised those after them
 pub record AreRaised (pairs : List Pair) (order layers : List ℕ) (k : ℕ) : Type 0 where
   pub above : (j : ℕ) → j < k → (v : ℕ) → Contains pairs (get_or order j 0, v) → rank_of layers (get_or order j 0) + 1 ≤ rank_of layers v
-  pub from : (v : ℕ) → (rank_of layers v ≡ 0) ⊎ ((j : ℕ) × (j < k) × Contains pairs (get_or order j 0, v) × (rank_of layers v ≡ rank_of layers (get_or order j 0) + 1))
+  pub from : (v : ℕ) → (rank_of layers v ≡ 0) ⊎ ((j : ℕ) × (j < k) × Contains pairs (get_or order j 0, v) ×
+      (rank_of layers v ≡ rank_of layers (get_or order j 0) + 1))
   pub low : (v : ℕ) → rank_of layers v ≤ k
 
 pub AreRaised-begin : (pairs : List Pair) (order layers : List ℕ) → ((v : ℕ) → rank_of layers v ≡ 0) → AreRaised pairs order layers 0
@@ -101,8 +115,11 @@ AreRaised-begin pairs order layers bare = record {
   low = λ v. omega (arith, bare v);
 }
 
-pub AreRaised-step : (n : ℕ) (pairs : List Pair) (order old layers : List ℕ) (k : ℕ) → IsTopological n pairs order → k < n → AreRaised pairs order old k → ((v : ℕ) → rank_of old v ≤ rank_of layers v) → ((v : ℕ) → Contains pairs (get_or order k 0, v) → rank_of old (get_or order k 0) + 1 ≤ rank_of layers v)
-    → ((v : ℕ) → (rank_of layers v ≡ rank_of old v) ⊎ (Contains pairs (get_or order k 0, v) × (rank_of layers v ≡ rank_of old (get_or order k 0) + 1))) → AreRaised pairs order layers (k + 1)
+pub AreRaised-step : (n : ℕ) (pairs : List Pair) (order old layers : List ℕ) (k : ℕ) → IsTopological n pairs order → k < n →
+    AreRaised pairs order old k → ((v : ℕ) → rank_of old v ≤ rank_of layers v) → ((v : ℕ) → Contains pairs (get_or order k 0, v) →
+    rank_of old (get_or order k 0) + 1 ≤ rank_of layers v)
+    → ((v : ℕ) → (rank_of layers v ≡ rank_of old v) ⊎
+    (Contains pairs (get_or order k 0, v) × (rank_of layers v ≡ rank_of old (get_or order k 0) + 1))) → AreRaised pairs order layers (k + 1)
 AreRaised-step n pairs order old layers k sorted k_in raised no_lower above from = record {
   above = λ j lt v has. elim (cases_lt j k) [
     | inl before ↦ omega (arith, raised.above j before v has, no_lower v, still j lt)
@@ -133,7 +150,8 @@ AreRaised-step n pairs order old layers k sorted k_in raised no_lower above from
     ]
 
 -- in the end they are the layers
-pub AreLayers-raised : (n : ℕ) (pairs : List Pair) (order layers : List ℕ) → AreBelow n pairs → IsTopological n pairs order → AreRaised pairs order layers n → length layers ≡ n → AreLayers n pairs layers
+pub AreLayers-raised : (n : ℕ) (pairs : List Pair) (order layers : List ℕ) → AreBelow n pairs → IsTopological n pairs order →
+    AreRaised pairs order layers n → length layers ≡ n → AreLayers n pairs layers
 AreLayers-raised n pairs order layers below sorted raised long = record {
   whole = long;
   each = λ v v_in. elim (raised.from v) [

@@ -1,6 +1,6 @@
 -- What v reaches, marked and listed: one router more, the routers after one, and all.
-use Rattle.std.proofs.Common.{◌≡◌, ◌≢◌, ℕ, zero, suc, ◌+◌, ◌<◌, ◌≤◌, ◌⊎◌, inl, inr, Bool, true, false, List, [], ◌∷◌, length, get_or, set, Option, Some, None}
-use Rattle.std.proofs.Common.{arith, subst, sym, refl, ap, ◌∙◌}
+use Rattle.std.proofs.Common.{◌≡◌, ◌≢◌, ℕ, zero, suc, ◌+◌, ◌<◌, ◌≤◌, ◌⊎◌, inl, inr, Bool, true, false, List, [], ◌∷◌}
+use Rattle.std.proofs.Common.{length, get_or, set, Option, Some, None, arith, subst, sym, refl, ap, ◌∙◌}
 use Rattle.std.specs.List.{Contains}
 use Rattle.std.proofs.lemmas.Bool.{cases_lt, cases_eq, false≢true}
 use Rattle.std.proofs.lemmas.List.{get_or-set_same, get_or-set_other, get_or_past, get_or_default}
@@ -8,8 +8,8 @@ use Rattle.std.proofs.lemmas.List.Elements.{Contains-get_or}
 use Rattle.order_core.specs.Pairs.{Pair, IsPath, Reaches}
 use Rattle.order_core.specs.Marks.{IsMarked}
 use Rattle.order_core.proofs.Paths.{Reaches-itself, Reaches-step, Reaches-trans}
-use Rattle.precedence_set.specs.Marks.{marked_count, AreListed}
-use Rattle.precedence_set.specs.Successors.{pair_at, IsFirstFrom}
+use Rattle.precedence_set.specs.steps.Marks.{marked_count, AreListed}
+use Rattle.precedence_set.specs.steps.Walking.{pair_at, IsFirstFrom}
 
 -- How many are marked
 
@@ -29,7 +29,8 @@ marked_count-none [] bare = refl
 marked_count-none (true ∷ marks) bare = absurd (bare 0 refl)
 marked_count-none (false ∷ marks) bare = marked_count-none marks (λ r. bare (suc r))
 
-pub marked_count-more : (marks : List Bool) (r : ℕ) → r < length marks → ¬ IsMarked marks r → marked_count (set marks r true) ≡ marked_count marks + 1
+pub marked_count-more : (marks : List Bool) (r : ℕ) → r < length marks → ¬ IsMarked marks r →
+    marked_count (set marks r true) ≡ marked_count marks + 1
 marked_count-more [] r r_in fresh = absurd (omega (arith, r_in))
 marked_count-more (true ∷ marks) zero r_in fresh = absurd (fresh refl)
 marked_count-more (false ∷ marks) zero r_in fresh = refl
@@ -90,7 +91,8 @@ AreListed-more marks list count w w_in room fresh are = record {
 -- The walk over the pairs from x
 
 -- what the walk keeps, where it has come to the pair `at`
-pub record IsReachingOn (pairs : List Pair) (x : ℕ) (marks₀ marks : List Bool) (list₀ list : List ℕ) (count₀ count : ℕ) (at : Option ℕ) : Type 0 where
+pub record IsReachingOn (pairs : List Pair) (x : ℕ) (marks₀ marks : List Bool) (list₀ list : List ℕ) (count₀ count : ℕ)
+    (at : Option ℕ) : Type 0 where
   pub start : ℕ
   pub first : IsFirstFrom pairs x start at
   pub listed : AreListed marks list count
@@ -113,7 +115,8 @@ IsReachingOn-begin pairs x marks list count at first listed = record {
   no_fewer = omega arith;
 }
 
-pub IsReachingOn-step : (pairs : List Pair) (x : ℕ) (marks₀ marks marks' : List Bool) (list₀ list list' : List ℕ) (count₀ count count' i : ℕ) (next : Option ℕ) →
+pub IsReachingOn-step : (pairs : List Pair) (x : ℕ) (marks₀ marks marks' : List Bool) (list₀ list list' : List ℕ) (count₀ count count' i : ℕ)
+    (next : Option ℕ) →
     IsReachingOn pairs x marks₀ marks list₀ list count₀ count (Some i) → IsFirstFrom pairs x (suc i) next → AreListed marks' list' count' →
     ((r : ℕ) → IsMarked marks r → IsMarked marks' r) → ((r : ℕ) → IsMarked marks' r → IsMarked marks r ⊎ (r ≡ (pair_at pairs i).1)) →
     IsMarked marks' (pair_at pairs i).1 → ((j : ℕ) → j < count → get_or list' j 0 ≡ get_or list j 0) → count ≤ count' →
@@ -144,7 +147,8 @@ IsReachingOn-step pairs x marks₀ marks marks' list₀ list list' count₀ coun
 
 -- at its end all that is assumed after x is marked
 pub IsReachingOn-end : (pairs : List Pair) (x : ℕ) (marks₀ marks : List Bool) (list₀ list : List ℕ) (count₀ count : ℕ) (at : Option ℕ) →
-    IsReachingOn pairs x marks₀ marks list₀ list count₀ count at → ((i : ℕ) → at ≡ Some i → ⊥) → (w : ℕ) → Contains pairs (x, w) → IsMarked marks w
+    IsReachingOn pairs x marks₀ marks list₀ list count₀ count at → ((i : ℕ) → at ≡ Some i → ⊥) → (w : ℕ) →
+    Contains pairs (x, w) → IsMarked marks w
 IsReachingOn-end pairs x marks₀ marks list₀ list count₀ count (Some i) on none w has = absurd (none i refl)
 IsReachingOn-end pairs x marks₀ marks list₀ list count₀ count None on none w has =
     let e : pair_at pairs has.0 ≡ (x, w) = get_or_default pairs has.0 (0, 0) (x, w) has.1 ∙ has.2 in
@@ -163,19 +167,6 @@ pub record IsReaching (pairs : List Pair) (u v : ℕ) (marks : List Bool) (list 
   pub begun : IsMarked marks v
   pub closed : (j : ℕ) → j < k → get_or list j 0 ≢ u → (w : ℕ) → Contains pairs (get_or list j 0, w) → IsMarked marks w
   pub within : k ≤ count
-
-pub IsReaching-begin : (pairs : List Pair) (u v : ℕ) (marks marks' : List Bool) (list : List ℕ) (count : ℕ) → ((r : ℕ) → ¬ IsMarked marks r) →
-    AreListed marks' list count → IsMarked marks' v → ((r : ℕ) → IsMarked marks' r → IsMarked marks r ⊎ (r ≡ v)) → IsReaching pairs u v marks' list 0 count
-IsReaching-begin pairs u v marks marks' list count bare listed begun from = record {
-  listed = listed;
-  sound = λ r marked. elim (from r marked) [
-    | inl old ↦ absurd (bare r old)
-    | inr same ↦ subst (λ (x : ℕ). Reaches pairs v x) (sym same) (Reaches-itself pairs v)
-  ];
-  begun = begun;
-  closed = λ j lt. absurd (omega (arith, lt));
-  within = omega arith;
-}
 
 pub IsReaching-step : (pairs : List Pair) (u v : ℕ) (marks marks' : List Bool) (list list' : List ℕ) (k count count' : ℕ) → k < count →
     IsReaching pairs u v marks list k count → AreListed marks' list' count' → ((r : ℕ) → IsMarked marks r → IsMarked marks' r) →
@@ -203,7 +194,8 @@ IsReaching-step pairs u v marks marks' list list' k count count' k_in on listed 
 }
 
 -- once all are walked over, u is marked where v reaches it
-pub IsReaching-end : (pairs : List Pair) (u v : ℕ) (marks : List Bool) (list : List ℕ) (k count : ℕ) → count ≤ k → IsReaching pairs u v marks list k count →
+pub IsReaching-end : (pairs : List Pair) (u v : ℕ) (marks : List Bool) (list : List ℕ) (k count : ℕ) → count ≤ k →
+    IsReaching pairs u v marks list k count →
     Reaches pairs v u → IsMarked marks u
 IsReaching-end pairs u v marks list k count whole on reaches = along v reaches.path reaches.onward on.begun
   where

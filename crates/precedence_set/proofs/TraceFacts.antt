@@ -1,6 +1,6 @@
 -- The walk from v that looks for u: the path on which it stands, and the routers from which it hasn't come back.
-use Rattle.std.proofs.Common.{◌≡◌, ◌≢◌, ℕ, zero, suc, ◌+◌, ◌-◌, ◌*◌, ◌<◌, ◌≤◌, inl, inr, List, [], ◌∷◌, length, length-set, get_or, set, take, Bool, true, false, Option, Some, None}
-use Rattle.std.proofs.Common.{arith, subst, sym, refl, ap, ◌∙◌, below_more}
+use Rattle.std.proofs.Common.{◌≡◌, ◌≢◌, ℕ, zero, suc, ◌+◌, ◌-◌, ◌*◌, ◌<◌, ◌≤◌, inl, inr, List, [], ◌∷◌, length}
+use Rattle.std.proofs.Common.{length-set, get_or, set, take, Bool, true, false, Option, Some, None, arith, subst, sym, refl, ap, ◌∙◌, below_more}
 use Rattle.std.specs.List.{Contains}
 use Rattle.std.specs.Option.{IfSome, IfNone, OnSome}
 use Rattle.std.proofs.lemmas.List.{get_or-set_same, get_or-set_other, get_or-take, get_or_default, length-take-le}
@@ -11,7 +11,7 @@ use Rattle.order_core.specs.Marks.{IsMarked}
 use Rattle.order_core.proofs.DistinctLists.{AllPairs-cons, length-le_from_distinct}
 use Rattle.order_core.proofs.Paths.{Reaches-itself, Reaches-step, Reaches-trans, Leads-step}
 use Rattle.precedence_set.specs.LeastCycle.{GoesBack, IsLeastCycle}
-use Rattle.precedence_set.specs.Marks.{marked_count}
+use Rattle.precedence_set.specs.steps.Marks.{marked_count}
 
 -- w is assumed after x, and no marked router of a lower number is
 pub record IsLowestAhead (pairs : List Pair) (marks : List Bool) (x w : ℕ) : Type 0 where
@@ -76,7 +76,8 @@ IsWalking-begin n pairs u v marks (x ∷ y ∷ path) long u_in v_in differ begun
     marked (suc (suc k)) some lt = absurd (omega (arith, lt))
 
 -- from v on each router of the path reaches the later ones
-reaches_later : (n : ℕ) (pairs : List Pair) (u v : ℕ) (marks : List Bool) (path : List ℕ) (count : ℕ) → IsWalking n pairs u v marks path count → (k m : ℕ) → 1 ≤ k → k + m < count → Reaches pairs (get_or path k 0) (get_or path (k + m) 0)
+reaches_later : (n : ℕ) (pairs : List Pair) (u v : ℕ) (marks : List Bool) (path : List ℕ) (count : ℕ) → IsWalking n pairs u v marks path count →
+    (k m : ℕ) → 1 ≤ k → k + m < count → Reaches pairs (get_or path k 0) (get_or path (k + m) 0)
 reaches_later n pairs u v marks path count walking k zero some lt =
     let same : k + 0 ≡ k = omega arith in
     subst (λ (j : ℕ). Reaches pairs (get_or path k 0) (get_or path j 0)) (sym same) (Reaches-itself pairs (get_or path k 0))
@@ -90,7 +91,8 @@ reaches_later n pairs u v marks path count walking k (suc m) some lt =
     subst (λ (j : ℕ). Reaches pairs (get_or path k 0) (get_or path j 0)) same all
 
 -- a router after the last one, other than u, isn't on the path
-is_new : (n : ℕ) (pairs : List Pair) (u v : ℕ) (marks : List Bool) (path : List ℕ) (count w : ℕ) → HasNoCycle pairs → IsWalking n pairs u v marks path count → Contains pairs (get_or path (count - 1) 0, w) → w ≢ u → (i : ℕ) → i < count → get_or path i 0 ≢ w
+is_new : (n : ℕ) (pairs : List Pair) (u v : ℕ) (marks : List Bool) (path : List ℕ) (count w : ℕ) → HasNoCycle pairs →
+    IsWalking n pairs u v marks path count → Contains pairs (get_or path (count - 1) 0, w) → w ≢ u → (i : ℕ) → i < count → get_or path i 0 ≢ w
 is_new n pairs u v marks path count w acyclic walking follows differ zero lt same = differ (sym same ∙ walking.first)
 is_new n pairs u v marks path count w acyclic walking follows differ (suc i) lt same =
     let last : ℕ = get_or path (count - 1) 0 in
@@ -102,7 +104,9 @@ is_new n pairs u v marks path count w acyclic walking follows differ (suc i) lt 
     acyclic last (Leads-step pairs last w last follows back)
 
 -- so there is room for it
-pub room_for_next : (n : ℕ) (pairs : List Pair) → AreBelow n pairs → HasNoCycle pairs → (u v : ℕ) (marks : List Bool) (path : List ℕ) (count w : ℕ) → length path ≡ n → IsWalking n pairs u v marks path count → Contains pairs (get_or path (count - 1) 0, w) → w ≢ u → count < length path
+pub room_for_next : (n : ℕ) (pairs : List Pair) → AreBelow n pairs → HasNoCycle pairs →
+    (u v : ℕ) (marks : List Bool) (path : List ℕ) (count w : ℕ) → length path ≡ n → IsWalking n pairs u v marks path count →
+    Contains pairs (get_or path (count - 1) 0, w) → w ≢ u → count < length path
 room_for_next n pairs below acyclic u v marks path count w whole walking follows differ = elim (cases_lt count (length path)) [
   | inl lt ↦ lt
   | inr ge ↦
@@ -119,7 +123,9 @@ room_for_next n pairs below acyclic u v marks path count w whole walking follows
 ]
 
 -- the path is longer by the lowest marked router after the last one
-pub IsWalking-longer : (n : ℕ) (pairs : List Pair) → AreBelow n pairs → HasNoCycle pairs → (u v : ℕ) (marks : List Bool) (path : List ℕ) (count w : ℕ) → 2 ≤ count → count < length path → IsWalking n pairs u v marks path count → IsLowestAhead pairs marks (get_or path (count - 1) 0) w → IsMarked marks w → w ≢ u → IsWalking n pairs u v marks (set path count w) (count + 1)
+pub IsWalking-longer : (n : ℕ) (pairs : List Pair) → AreBelow n pairs → HasNoCycle pairs →
+    (u v : ℕ) (marks : List Bool) (path : List ℕ) (count w : ℕ) → 2 ≤ count → count < length path → IsWalking n pairs u v marks path count →
+    IsLowestAhead pairs marks (get_or path (count - 1) 0) w → IsMarked marks w → w ≢ u → IsWalking n pairs u v marks (set path count w) (count + 1)
 IsWalking-longer n pairs below acyclic u v marks path count w two room walking ahead marked differ =
     let new = is_new n pairs u v marks path count w acyclic walking ahead.follows differ in
     let w_in : w < n = (All-contains (λ (p : Pair). (p.0 < n) × (p.1 < n)) pairs (get_or path (count - 1) 0, w) below ahead.follows).1 in
@@ -149,7 +155,8 @@ IsWalking-longer n pairs below acyclic u v marks path count w two room walking a
         | inr ge ↦
             let at : k + 1 ≡ count = omega (arith, ge, k_in) in
             let last : k ≡ count - 1 = omega (arith, at) in
-            subst (λ (x : ℕ). IsLowestAhead pairs marks (get_or (set path count w) k 0) x) (sym (ap (λ (j : ℕ). get_or (set path count w) j 0) at ∙ here))
+            subst (λ (x : ℕ). IsLowestAhead pairs marks (get_or (set path count w) k 0) x)
+            (sym (ap (λ (j : ℕ). get_or (set path count w) j 0) at ∙ here))
             (subst (λ (x : ℕ). IsLowestAhead pairs marks x w) (sym (old k (omega (arith, at)) ∙ ap (λ (j : ℕ). get_or path j 0) last)) ahead)
       ];
       complete = walking.complete;
@@ -181,7 +188,10 @@ marked_before marks x r x_in marked = elim (cases_eq r x) [
 ]
 
 -- the path is shorter by the last router, which leads to no marked one and has no mark now
-pub IsWalking-shorter : (n : ℕ) (pairs : List Pair) (u v : ℕ) (marks : List Bool) (path : List ℕ) (count less : ℕ) → 2 ≤ count → less + 1 ≡ count → get_or path (count - 1) 0 < length marks → IsWalking n pairs u v marks path count → ((q : ℕ) → Contains pairs (get_or path (count - 1) 0, q) → ¬ IsMarked marks q) → IsWalking n pairs u v (set marks (get_or path (count - 1) 0) false) path less
+pub IsWalking-shorter : (n : ℕ) (pairs : List Pair) (u v : ℕ) (marks : List Bool) (path : List ℕ) (count less : ℕ) → 2 ≤ count →
+    less + 1 ≡ count → get_or path (count - 1) 0 < length marks → IsWalking n pairs u v marks path count →
+    ((q : ℕ) → Contains pairs (get_or path (count - 1) 0, q) → ¬ IsMarked marks q) →
+    IsWalking n pairs u v (set marks (get_or path (count - 1) 0) false) path less
 IsWalking-shorter n pairs u v marks path count less two shorter last_in walking none = record {
   first = walking.first;
   second = walking.second;
@@ -189,7 +199,8 @@ IsWalking-shorter n pairs u v marks path count less two shorter last_in walking 
   within = omega (arith, walking.within, shorter);
   below = λ k lt. walking.below k (omega (arith, lt, shorter));
   distinct = λ i j lt j_in. walking.distinct i j lt (omega (arith, j_in, shorter));
-  standing = λ k some lt. kept (get_or path k 0) (walking.distinct k (count - 1) (omega (arith, lt, shorter)) (omega (arith, two))) (walking.standing k some (omega (arith, lt, shorter)));
+  standing = λ k some lt. kept (get_or path k 0) (walking.distinct k (count - 1) (omega (arith, lt, shorter)) (omega (arith, two)))
+      (walking.standing k some (omega (arith, lt, shorter)));
   steps = λ k some lt.
       let step = walking.steps k some (omega (arith, lt, shorter)) in
       record { follows = step.follows; lowest = λ q has marked. step.lowest q has (marked_before marks last q last_in marked) };
@@ -208,11 +219,15 @@ IsWalking-shorter n pairs u v marks path count less two shorter last_in walking 
 
     apart : ¬ Reaches pairs last u
     apart reaches =
-        let onward = first_back pairs u last (λ same. walking.distinct 0 (count - 1) (omega (arith, two)) (omega (arith, two)) (walking.first ∙ sym same)) reaches in
+        let onward =
+        first_back pairs u last (λ same. walking.distinct 0 (count - 1) (omega (arith, two)) (omega (arith, two)) (walking.first ∙ sym same)) reaches in
         none onward.0 onward.1 (walking.complete onward.0 onward.2)
 
 -- by lowest marked routers one goes back to u by lowest routers that lead back
-goes_back : (pairs : List Pair) (marks : List Bool) (u : ℕ) → ((r : ℕ) → Reaches pairs r u → IsMarked marks r) → (x : ℕ) (rest : List ℕ) → ((k : ℕ) → k < length rest → get_or rest k 0 ≢ u) → ((k : ℕ) → k < length rest → IsLowestAhead pairs marks (get_or (x ∷ rest) k 0) (get_or rest k 0)) → IsLowestAhead pairs marks (get_or (x ∷ rest) (length rest) 0) u → GoesBack pairs u x rest × Reaches pairs x u
+goes_back : (pairs : List Pair) (marks : List Bool) (u : ℕ) → ((r : ℕ) → Reaches pairs r u → IsMarked marks r) → (x : ℕ) (rest : List ℕ) →
+    ((k : ℕ) → k < length rest → get_or rest k 0 ≢ u) →
+    ((k : ℕ) → k < length rest → IsLowestAhead pairs marks (get_or (x ∷ rest) k 0) (get_or rest k 0)) →
+    IsLowestAhead pairs marks (get_or (x ∷ rest) (length rest) 0) u → GoesBack pairs u x rest × Reaches pairs x u
 goes_back pairs marks u complete x [] differ steps end = (
   record {
     back = record { follows = end.follows; reaches = Reaches-itself pairs u };
@@ -235,7 +250,9 @@ goes_back pairs marks u complete x (w ∷ rest) differ steps end =
     )
 
 -- where u is the lowest marked router after the last one, the path is the cycle
-pub IsWalking-end : (n : ℕ) (pairs : List Pair) (u v : ℕ) (marks : List Bool) (path : List ℕ) (count : ℕ) → 2 ≤ count → IsWalking n pairs u v marks path count → IsLowestAhead pairs marks (get_or path (count - 1) 0) u → IsLeastCycle pairs u v (take count path) × Reaches pairs v u
+pub IsWalking-end : (n : ℕ) (pairs : List Pair) (u v : ℕ) (marks : List Bool) (path : List ℕ) (count : ℕ) → 2 ≤ count →
+    IsWalking n pairs u v marks path count → IsLowestAhead pairs marks (get_or path (count - 1) 0) u →
+    IsLeastCycle pairs u v (take count path) × Reaches pairs v u
 IsWalking-end n pairs u v marks path zero two walking end = absurd (omega (arith, two))
 IsWalking-end n pairs u v marks path (suc zero) two walking end = absurd (omega (arith, two))
 IsWalking-end n pairs u v marks [] (suc (suc m)) two walking end = absurd (omega (arith, walking.within))
@@ -257,19 +274,22 @@ IsWalking-end n pairs u v marks (x ∷ y ∷ path) (suc (suc m)) two walking end
     at k lt = get_or-take (suc m) (y ∷ path) k 0 lt
 
     differ : (k : ℕ) → k < length (take m path) → get_or (take m path) k 0 ≢ u
-    differ k lt same = walking.distinct 0 (suc (suc k)) (omega arith) (omega (arith, lt, long)) (walking.first ∙ sym same ∙ at (suc k) (omega (arith, lt, long)))
+    differ k lt same = walking.distinct 0 (suc (suc k)) (omega arith) (omega (arith, lt, long)) (walking.first ∙ sym same
+        ∙ at (suc k) (omega (arith, lt, long)))
 
     steps : (k : ℕ) → k < length (take m path) → IsLowestAhead pairs marks (get_or (y ∷ take m path) k 0) (get_or (take m path) k 0)
     steps k lt =
         let more : suc k + 1 ≡ suc (suc k) = omega arith in
-        let step = subst (λ (j : ℕ). IsLowestAhead pairs marks (get_or (x ∷ y ∷ path) (suc k) 0) (get_or (x ∷ y ∷ path) j 0)) more (walking.steps (suc k) (omega arith) (omega (arith, lt, long))) in
+        let step = subst (λ (j : ℕ). IsLowestAhead pairs marks (get_or (x ∷ y ∷ path) (suc k) 0) (get_or (x ∷ y ∷ path) j 0)) more
+        (walking.steps (suc k) (omega arith) (omega (arith, lt, long))) in
         subst (λ (a : ℕ). IsLowestAhead pairs marks a (get_or (take m path) k 0)) (sym (at k (omega (arith, lt, long))))
         (subst (λ (b : ℕ). IsLowestAhead pairs marks (get_or (x ∷ y ∷ path) (suc k) 0) b) (sym (at (suc k) (omega (arith, lt, long)))) step)
 
     last : IsLowestAhead pairs marks (get_or (y ∷ take m path) (length (take m path)) 0) u
     last =
         let far : suc (length (take m path)) ≡ suc (suc m) - 1 = omega (arith, long) in
-        subst (λ (a : ℕ). IsLowestAhead pairs marks a u) (sym (at (length (take m path)) (omega (arith, long)) ∙ ap (λ (j : ℕ). get_or (x ∷ y ∷ path) j 0) far)) end
+        subst (λ (a : ℕ). IsLowestAhead pairs marks a u) (sym (at (length (take m path)) (omega (arith, long))
+        ∙ ap (λ (j : ℕ). get_or (x ∷ y ∷ path) j 0) far)) end
 
 -- How many routers are marked
 
@@ -291,7 +311,8 @@ IsLowestAhead-found pairs marks x u (Some w) e follows lowest =
     subst (λ (y : ℕ). IsLowestAhead pairs marks x y) same (record { follows = follows; lowest = lowest })
 
 -- there is room for a router that is found
-pub room_for_found : (n : ℕ) (pairs : List Pair) → AreBelow n pairs → HasNoCycle pairs → (u v : ℕ) (marks : List Bool) (path : List ℕ) (count : ℕ) →
+pub room_for_found : (n : ℕ) (pairs : List Pair) → AreBelow n pairs → HasNoCycle pairs →
+    (u v : ℕ) (marks : List Bool) (path : List ℕ) (count : ℕ) →
     length path ≡ n → IsWalking n pairs u v marks path count → (next : Option ℕ) → next ≢ Some u →
     IfSome next (λ w. Contains pairs (get_or path (count - 1) 0, w)) → OnSome next (count < length path)
 room_for_found n pairs below acyclic u v marks path count whole walking None differ follows = tt
@@ -315,7 +336,8 @@ pub record IsNextOf (pairs : List Pair) (marks : List Bool) (x : ℕ) (next : Op
   pub none : IfNone next ((q : ℕ) → Contains pairs (x, q) → ¬ IsMarked marks q)
 
 -- the walk goes on by a step
-pub IsWalking-step : (n : ℕ) (pairs : List Pair) → AreBelow n pairs → HasNoCycle pairs → (u v : ℕ) (marks : List Bool) (path : List ℕ) (count : ℕ) →
+pub IsWalking-step : (n : ℕ) (pairs : List Pair) → AreBelow n pairs → HasNoCycle pairs →
+    (u v : ℕ) (marks : List Bool) (path : List ℕ) (count : ℕ) →
     (next : Option ℕ) (marks' : List Bool) (path' : List ℕ) (count' : ℕ) → 2 ≤ count → length path ≡ n → length marks ≡ n →
     IsWalking n pairs u v marks path count → next ≢ Some u → IsNextOf pairs marks (get_or path (count - 1) 0) next →
     IsStep marks path count next marks' path' count' → IsWalking n pairs u v marks' path' count'

@@ -3,6 +3,5 @@ pub mod LeastCycle
 pub mod Assumed
 pub mod Successors
 pub mod Layers
-pub mod Sorting
-pub mod Marks
 pub mod Held
+pub mod steps

@@ -6,7 +6,7 @@ ghost use Rattle.precedence_set.specs.Layers.{AreLayers, IsChain, IsInLayer};
 
 /// Writes the chain of the layers into the first places, in time of the pairs and routers. The parents are
 /// room to work in.
-pub fn trace_chain(
+pub(crate) fn trace_chain(
     pairs: &[(u32, u32)],
     layers: &[u32],
     count: u32,

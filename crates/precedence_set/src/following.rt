@@ -1,12 +1,13 @@
 ghost use Rattle.std.specs.Prelude.{◌≡◌, ℕ, ◌<◌, ◌≤◌, length, Contains, Some, ◌⊎◌, IfSome, IfNone};
 ghost use Rattle.order_core.specs.Pairs.{AreBelow};
 ghost use Rattle.order_core.specs.Marks.{IsMarked};
-ghost use Rattle.precedence_set.specs.Successors.{AreSuccessors, IsAtMost};
+ghost use Rattle.precedence_set.specs.Successors.{AreSuccessors};
+ghost use Rattle.precedence_set.specs.steps.Walking.{IsKnownUpTo};
 
 use link_trail::Links;
 
 /// The lowest-numbered marked router that is assumed after x, if there is one.
-pub fn lowest_marked_after(
+pub(crate) fn lowest_marked_after(
     successors: &Links,
     pairs: &[(u32, u32)],
     marks: &[bool],
@@ -35,8 +36,8 @@ pub fn lowest_marked_after(
 fn lowest_with(marks: &[bool], lowest: Option<u32>, v: u32) -> Option<u32>
     requires { v < length marks.now }
     ensures found { (w : ℕ) → result ≡ Some w → (lowest ≡ Some w) ⊎ ((w ≡ v) × IsMarked marks.now v) }
-    ensures no_higher { (q : ℕ) → IsAtMost lowest q → IsAtMost result q }
-    ensures at_most { IsMarked marks.now v → IsAtMost result v }
+    ensures no_higher { (q : ℕ) → IsKnownUpTo lowest q → IsKnownUpTo result q }
+    ensures at_most { IsMarked marks.now v → IsKnownUpTo result v }
 {
     if !marks[v as usize] {
         return lowest;

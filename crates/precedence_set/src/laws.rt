@@ -8,9 +8,12 @@ ghost use Rattle.precedence_set.specs.Layers.{AreLayers, IsChain};
 pub fn layers_are_fewest()
     ensures ranking { (n : ℕ) (pairs : List Pair) (layers : List ℕ) → AreBelow n pairs → AreLayers n pairs layers → IsRanking n layers }
     ensures keeps { (n : ℕ) (pairs : List Pair) (layers : List ℕ) → AreBelow n pairs → AreLayers n pairs layers → KeepsPairs layers pairs }
-    ensures earliest { (n : ℕ) (pairs : List Pair) (layers ranks : List ℕ) → AreBelow n pairs → AreLayers n pairs layers → KeepsPairs ranks pairs → (v : ℕ) → v < n → rank_of layers v ≤ rank_of ranks v }
-    ensures fewest { (n : ℕ) (pairs : List Pair) (layers ranks : List ℕ) → AreBelow n pairs → AreLayers n pairs layers → length ranks ≡ n → KeepsPairs ranks pairs → wave_count layers ≤ wave_count ranks }
-    ensures one { (n : ℕ) (pairs : List Pair) (layers others : List ℕ) → AreBelow n pairs → AreLayers n pairs layers → AreLayers n pairs others → layers ≡ others }
+    ensures earliest { (n : ℕ) (pairs : List Pair) (layers ranks : List ℕ) → AreBelow n pairs → AreLayers n pairs layers → KeepsPairs ranks pairs →
+        (v : ℕ) → v < n → rank_of layers v ≤ rank_of ranks v }
+    ensures fewest { (n : ℕ) (pairs : List Pair) (layers ranks : List ℕ) → AreBelow n pairs → AreLayers n pairs layers → length ranks ≡ n →
+        KeepsPairs ranks pairs → wave_count layers ≤ wave_count ranks }
+    ensures one { (n : ℕ) (pairs : List Pair) (layers others : List ℕ) → AreBelow n pairs → AreLayers n pairs layers →
+        AreLayers n pairs others → layers ≡ others }
 {}
 
 /// The law that a chain's neighbours are pairs, and that layers have one chain.

@@ -1,8 +1,9 @@
-ghost use Rattle.std.specs.Prelude.{◌≡◌, ◌≢◌, ℕ, ◌+◌, ◌^◌, ◌<◌, ◌≤◌, ◌⊎◌, true, false, List, [], ◌∷◌, ◌++◌, length, Contains};
+ghost use Rattle.std.specs.Prelude.{◌≡◌, ◌≢◌, ℕ, ◌+◌, ◌^◌, ◌<◌, ◌≤◌, ◌⊎◌, true, false, List, [], ◌∷◌, ◌++◌};
+ghost use Rattle.std.specs.Prelude.{length, Contains};
 ghost use Rattle.order_core.specs.Pairs.{Pair, AreBelow, HasNoCycle};
 ghost use Rattle.order_core.specs.Rankings.{IsRanking, rank_of, wave_count};
 ghost use Rattle.precedence_set.specs.Layers.{AreLayers};
-ghost use Rattle.precedence_set.specs.Sorting.{IsTopological};
+ghost use Rattle.precedence_set.specs.steps.Sorting.{IsTopological};
 ghost use Rattle.precedence_set.specs.Successors.{AreSuccessors};
 
 use crate::sorting::{clear_numbers, sort_all};
@@ -10,7 +11,7 @@ use link_trail::Links;
 
 /// Makes the layers those of the pairs, where they are stale, in time of the pairs and routers. The counts and
 /// the order are room to work in.
-pub fn refresh_layers(
+pub(crate) fn refresh_layers(
     successors: &Links,
     pairs: &[(u32, u32)],
     counts: &mut [u32],
@@ -40,7 +41,13 @@ pub fn refresh_layers(
 
 /// Takes the pair (u, v) to the layers of the pairs before it, where it moves no router but v. Whether the
 /// layers are stale then.
-pub fn add_to_layers(successors: &Links, layers: &mut [u32], stale: bool, u: u32, v: u32) -> bool
+pub(crate) fn add_to_layers(
+    successors: &Links,
+    layers: &mut [u32],
+    stale: bool,
+    u: u32,
+    v: u32,
+) -> bool
     requires u_in { u < length layers.old }
     requires v_in { v < length layers.old }
     requires differ { u ≢ v }
@@ -88,7 +95,8 @@ fn raise_after(successors: &Links, pairs: &[(u32, u32)], layers: &mut [u32], u: 
     requires nodes { length pairs.now ≤ successors.now.nodes }
     ensures no_lower { (v : ℕ) → rank_of layers.old v ≤ rank_of layers.new v }
     ensures above { (v : ℕ) → Contains pairs.now (u, v) → rank_of layers.old u + 1 ≤ rank_of layers.new v }
-    ensures from { (v : ℕ) → (rank_of layers.new v ≡ rank_of layers.old v) ⊎ (Contains pairs.now (u, v) × (rank_of layers.new v ≡ rank_of layers.old u + 1)) }
+    ensures from { (v : ℕ) → (rank_of layers.new v ≡ rank_of layers.old v) ⊎
+        (Contains pairs.now (u, v) × (rank_of layers.new v ≡ rank_of layers.old u + 1)) }
 {
     let above = layers[u as usize] + 1;
     let mut at = successors.first(u);
@@ -100,7 +108,7 @@ fn raise_after(successors: &Links, pairs: &[(u32, u32)], layers: &mut [u32], u: 
 }
 
 /// How many layers there are.
-pub fn count_layers(layers: &[u32]) -> u32
+pub(crate) fn count_layers(layers: &[u32]) -> u32
     requires small { length layers.now < 2 ^ 31 }
     requires ranking { IsRanking (length layers.now) layers.now }
     ensures { result ≡ wave_count layers.now }

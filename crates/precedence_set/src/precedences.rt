@@ -1,4 +1,5 @@
-ghost use Rattle.std.specs.Prelude.{◌≡◌, ◌≢◌, ◌+◌, ◌-◌, ◌<◌, ◌≤◌, ◌↔◌, [], ◌∷◌, ◌++◌, length, take, IfOk, OnOk, vec_len};
+ghost use Rattle.std.specs.Prelude.{◌≡◌, ◌≢◌, ◌+◌, ◌-◌, ◌<◌, ◌≤◌, ◌↔◌, [], ◌∷◌, ◌++◌, length, take, IfOk, OnOk};
+ghost use Rattle.std.specs.Prelude.{vec_len};
 ghost use Rattle.order_core.specs.Pairs.{AreBelow, HasNoCycle, Leads};
 ghost use Rattle.precedence_set.specs.LeastCycle.{IsLeastCycle};
 ghost use Rattle.precedence_set.specs.Layers.{AreLayers, IsLayeredChain};

@@ -1,7 +1,7 @@
 ghost use Rattle.std.specs.Prelude.{◌≡◌, ◌≢◌, ℕ, ◌^◌, ◌<◌, ◌≤◌, ◌⊎◌, length, slice_index, Contains};
 ghost use Rattle.order_core.specs.Pairs.{AreBelow, Reaches};
 ghost use Rattle.order_core.specs.Marks.{IsMarked};
-ghost use Rattle.precedence_set.specs.Marks.{AreListed};
+ghost use Rattle.precedence_set.specs.steps.Marks.{AreListed};
 ghost use Rattle.precedence_set.specs.Successors.{AreSuccessors};
 
 use crate::following::lowest_marked_after;
@@ -9,7 +9,7 @@ use link_trail::Links;
 
 /// Marks and lists what v reaches by the pairs, but nothing by the pairs from u; how many routers are listed. In
 /// time of these routers and the pairs from them.
-pub fn list_reached(
+pub(crate) fn list_reached(
     successors: &Links,
     pairs: &[(u32, u32)],
     u: u32,
@@ -108,7 +108,7 @@ fn list_one(marks: &mut [bool], list: &mut [u32], count: usize, w: u32) -> usize
 
 /// Takes the mark of each of the first listed routers, the last one first, that is before no marked router and
 /// isn't u. What reaches u keeps its mark.
-pub fn prune(
+pub(crate) fn prune(
     successors: &Links,
     pairs: &[(u32, u32)],
     u: u32,

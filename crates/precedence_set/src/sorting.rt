@@ -1,13 +1,18 @@
 ghost use Rattle.std.specs.Prelude.{◌≡◌, ℕ, ◌+◌, ◌-◌, ◌^◌, ◌<◌, ◌≤◌, length, slice_index, slice_set};
 ghost use Rattle.order_core.specs.Pairs.{AreBelow, HasNoCycle};
 ghost use Rattle.precedence_set.specs.Successors.{AreSuccessors};
-ghost use Rattle.precedence_set.specs.Sorting.{AreCounted, IsGone, IsListing, IsTopological};
+ghost use Rattle.precedence_set.specs.steps.Sorting.{AreLeftCounts, IsGone, IsListing, IsTopological};
 
 use link_trail::Links;
 
 /// Lists all routers so that each stands after its predecessors, in time of the pairs and routers. The counts
 /// are room to work in.
-pub fn sort_all(successors: &Links, pairs: &[(u32, u32)], counts: &mut [u32], order: &mut [u32])
+pub(crate) fn sort_all(
+    successors: &Links,
+    pairs: &[(u32, u32)],
+    counts: &mut [u32],
+    order: &mut [u32],
+)
     requires small { length order.old < 2 ^ 31 }
     requires pairs_small { length pairs.now < 2 ^ 31 }
     requires below { AreBelow (length order.old) pairs.now }
@@ -28,7 +33,7 @@ pub fn sort_all(successors: &Links, pairs: &[(u32, u32)], counts: &mut [u32], or
 fn count_pairs(pairs: &[(u32, u32)], counts: &mut [u32])
     requires below { AreBelow (length counts.old) pairs.now }
     requires pairs_small { length pairs.now < 2 ^ 31 }
-    ensures { AreCounted pairs.now (IsGone pairs.now counts.new 0) counts.new }
+    ensures { AreLeftCounts pairs.now (IsGone pairs.now counts.new 0) counts.new }
 {
     clear_numbers(counts);
     for i in 0..pairs.len() {
@@ -38,7 +43,7 @@ fn count_pairs(pairs: &[(u32, u32)], counts: &mut [u32])
 }
 
 /// Each number becomes 0.
-pub fn clear_numbers(numbers: &mut [u32])
+pub(crate) fn clear_numbers(numbers: &mut [u32])
     ensures { (s : ℕ) → slice_index numbers.new s ≡ 0 }
 {
     for number in numbers.iter_mut() {
@@ -50,7 +55,7 @@ pub fn clear_numbers(numbers: &mut [u32])
 fn list_free(pairs: &[(u32, u32)], counts: &[u32], order: &mut [u32]) -> usize
     requires small { length order.old < 2 ^ 31 }
     requires counts_length { length counts.now ≡ length order.old }
-    requires counted { AreCounted pairs.now (IsGone pairs.now counts.now 0) counts.now }
+    requires counted { AreLeftCounts pairs.now (IsGone pairs.now counts.now 0) counts.now }
     ensures listing { IsListing (length order.new) pairs.now counts.now order.new result }
     ensures within { result ≤ length order.new }
 {
@@ -81,11 +86,11 @@ fn list_after(
     requires listed { k < count }
     requires within { count ≤ length order.old }
     requires listing { IsListing (length order.old) pairs.now counts.old order.old count }
-    requires counted { AreCounted pairs.now (IsGone pairs.now order.old k) counts.old }
+    requires counted { AreLeftCounts pairs.now (IsGone pairs.now order.old k) counts.old }
     ensures listing { IsListing (length order.new) pairs.now counts.new order.new result }
     ensures within { result ≤ length order.new }
     ensures placed { k < result }
-    ensures counted { AreCounted pairs.now (IsGone pairs.now order.new (k + 1)) counts.new }
+    ensures counted { AreLeftCounts pairs.now (IsGone pairs.now order.new (k + 1)) counts.new }
 {
     let mut count = count;
     let mut at = successors.first(order[k]);

@@ -1,4 +1,5 @@
-ghost use Rattle.std.specs.Prelude.{◌≡◌, ◌≢◌, ℕ, ◌+◌, ◌-◌, ◌^◌, ◌<◌, ◌≤◌, length, true, false, take, slice_index, slice_set, IfSome, IfNone, OnSome};
+ghost use Rattle.std.specs.Prelude.{◌≡◌, ◌≢◌, ℕ, ◌+◌, ◌-◌, ◌^◌, ◌<◌, ◌≤◌, length, true, false, take, slice_index};
+ghost use Rattle.std.specs.Prelude.{slice_set, IfSome, IfNone, OnSome};
 ghost use Rattle.order_core.specs.Pairs.{AreBelow, HasNoCycle, Reaches};
 ghost use Rattle.precedence_set.specs.LeastCycle.{IsLeastCycle};
 ghost use Rattle.order_core.specs.Marks.{IsMarked};
@@ -11,7 +12,7 @@ use link_trail::Links;
 /// Where the pair (u, v) closes a cycle, writes that cycle and says how long it is. Walks from v along the pairs
 /// and stops at u, in time of the routers that it reaches and the pairs from them. Where that closes a cycle, the
 /// way back is then found among the routers that may lead to u.
-pub fn closed_cycle(
+pub(crate) fn closed_cycle(
     successors: &Links,
     pairs: &[(u32, u32)],
     u: u32,

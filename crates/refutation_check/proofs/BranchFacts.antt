@@ -15,7 +15,7 @@ use Rattle.igp_theory.specs.Loops.{AroundRing, IsTag}
 use Rattle.igp_theory.specs.Routes.{Tables}
 use Rattle.order_core.specs.Turns.{HasBothTags}
 use Rattle.order_core.specs.declared.turn.Turn.{Turn}
-use Rattle.refutation_check.specs.WrongLines.{IsOriginatedBySome, WrongBranch, IsLowestKind, number_of}
+use Rattle.refutation_check.specs.WrongLines.{IsOriginatedBySome, WrongBranch, IsLowestKind, kind_number}
 use Rattle.refutation_check.specs.declared.verdict.WrongKind.{WrongKind}
 use Rattle.refutation_check.specs.declared.verdict.WrongKind.TheVariants.{Form, Router, Address, Originator, Step, OneSided, NotAssumed}
 
@@ -45,7 +45,7 @@ pub no_target_lowest : (net : Network) (old new : Tables) (a : ℕ) (turns : Lis
     ((p : Block) → ¬ IsTarget net a p) → IsLowestKind (WrongBranch net old new a turns) Address
 no_target_lowest net old new a turns none = record { wrong = none; lowest = lowest }
   where
-    lowest : (other : WrongKind) → WrongBranch net old new a turns other → 3 ≤ number_of other
+    lowest : (other : WrongKind) → WrongBranch net old new a turns other → 3 ≤ kind_number other
     lowest Form w = absurd w
     lowest Router w = absurd w
     lowest Address w = omega arith
@@ -58,7 +58,7 @@ pub originates_lowest : (net : Network) (old new : Tables) (a : ℕ) (turns : Li
     IsLowestKind (WrongBranch net old new a turns) Originator
 originates_lowest net old new a turns p target some = record { wrong = record { target = p; is_target = target; by_some = some }; lowest = lowest }
   where
-    lowest : (other : WrongKind) → WrongBranch net old new a turns other → 4 ≤ number_of other
+    lowest : (other : WrongKind) → WrongBranch net old new a turns other → 4 ≤ kind_number other
     lowest Form w = absurd w
     lowest Router w = absurd w
     lowest Address w = absurd (w p target)
@@ -78,7 +78,7 @@ pub off_step_lowest : (net : Network) (old new : Tables) (a : ℕ) (turns : List
     → IsLowestKind (WrongBranch net old new a turns) Step
 off_step_lowest net old new a turns p network target none off = record { wrong = off; lowest = lowest }
   where
-    lowest : (other : WrongKind) → WrongBranch net old new a turns other → 5 ≤ number_of other
+    lowest : (other : WrongKind) → WrongBranch net old new a turns other → 5 ≤ kind_number other
     lowest Form w = absurd w
     lowest Router w = absurd w
     lowest Address w = absurd (w p target)
@@ -92,7 +92,7 @@ pub one_sided_lowest : (net : Network) (old new : Tables) (a : ℕ) (turns : Lis
     → IsLowestKind (WrongBranch net old new a turns) OneSided
 one_sided_lowest net old new a turns p network target none round sided = record { wrong = sided; lowest = lowest }
   where
-    lowest : (other : WrongKind) → WrongBranch net old new a turns other → 6 ≤ number_of other
+    lowest : (other : WrongKind) → WrongBranch net old new a turns other → 6 ≤ kind_number other
     lowest Form w = absurd w
     lowest Router w = absurd w
     lowest Address w = absurd (w p target)

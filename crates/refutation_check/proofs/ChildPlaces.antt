@@ -1,14 +1,9 @@
 -- The children of a branch, told by two places.
-use Rattle.std.proofs.Common.{◌≡◌, ℕ, ◌+◌, ◌<◌, ◌≤◌, List, [], ◌∷◌, ◌++◌, length, get_or, drop, arith, refl, sym, ap, ◌∙◌}
+use Rattle.std.proofs.Common.{◌≡◌, ℕ, ◌+◌, ◌<◌, ◌≤◌, List, [], ◌∷◌, ◌++◌, length, get_or, drop, arith, sym, ap, ◌∙◌}
 use Rattle.std.specs.List.{flat_map}
 use Rattle.std.proofs.lemmas.List.{drop_more, drop_all}
 use Rattle.order_core.specs.Pairs.{Pair}
 use Rattle.refutation_check.specs.steps.Cursors.{row, pairs_left}
-
--- the first child is that of the first Old and the first New turn
-pub first_child : (olds news : List ℕ) → 0 < length olds → pairs_left olds news 0 0 ≡ flat_map (λ (u : ℕ). row u news) olds
-first_child [] news some = absurd (omega (arith, some))
-first_child (u ∷ olds) news some = refl
 
 -- the child that is visited, and those after it in its row and in later rows
 pub here_first : (olds news : List ℕ) (old new : ℕ) → new < length news

@@ -1,16 +1,15 @@
 -- The lines behind the header of a text.
-use Rattle.std.proofs.Common.{◌≡◌, ℕ, zero, suc, ◌+◌, ◌-◌, ◌^◌, ◌<◌, ◌≤◌, Bool, true, false, cond, eqb, List, [], ◌∷◌, length, get_or, arith}
-use Rattle.std.proofs.Common.{refl, sym, ap, ◌∙◌, subst}
+use Rattle.std.proofs.Common.{◌≡◌, ℕ, zero, suc, ◌+◌, ◌-◌, ◌^◌, ◌<◌, ◌≤◌, Bool, true, false, cond, eqb, List, [], ◌∷◌}
+use Rattle.std.proofs.Common.{length, get_or, arith, refl, sym, ap, ◌∙◌, subst}
 use Rattle.std.specs.List.{All, slice_split}
-use Rattle.std.proofs.lemmas.List.{length-map}
 use Rattle.std.proofs.lemmas.List.Elements.{All-tail}
 use Rattle.std.proofs.lemmas.List.Splits.{length-slice_split}
 use Rattle.std.proofs.lemmas.List.Sums.{count_by-le-length}
 use Rattle.net_addr.specs.Lines.{is_line_feed, line_pieces, line_texts, lines_of, text_lines, without_empty_last}
 use Rattle.net_addr.specs.Spans.{bytes_of, LiesIn}
 use Rattle.net_addr.specs.declared.line.Line.{Line}
-use Rattle.refutation_check.specs.TreeLines.{header}
-use Rattle.refutation_check.specs.steps.Reading.{AreEntries, line_bytes}
+use Rattle.refutation_check.specs.TreeLines.{tree_header}
+use Rattle.refutation_check.specs.steps.Reading.{AreTreeEntries, line_bytes}
 
 numbered_from : (number start : ℕ) (pieces : List (List ℕ)) (k : ℕ) (d : Line) → k < length (lines_of number start pieces) →
     (get_or (lines_of number start pieces) k d).number ≡ number + k
@@ -52,7 +51,7 @@ lines_few text =
 -- the lines after a first line that is the header
 pub entries_from : (text : List ℕ) (lines entries : List Line) (first : Line) → lines ≡ text_lines text →
     All (λ (line : Line). LiesIn text line.span) lines → line_bytes text lines ≡ line_texts text → lines ≡ first ∷ entries
-    → bytes_of text first.span ≡ header → AreEntries text entries
+    → bytes_of text first.span ≡ tree_header → AreTreeEntries text entries
 entries_from text lines entries first exact inside texts parts is = record {
   lines = sym texts ∙ ap (line_bytes text) parts ∙ ap (λ h. h ∷ line_bytes text entries) is;
   numbers = λ k d l.
@@ -64,19 +63,7 @@ entries_from text lines entries first exact inside texts parts is = record {
 }
 
 -- there are few of them
-pub entries_few : (text : List ℕ) (lines entries : List Line) (first : Line) → length text < 2 ^ 26 → lines ≡ text_lines text → lines ≡ first ∷ entries →
+pub entries_few : (text : List ℕ) (lines entries : List Line) (first : Line) → length text < 2 ^ 26 → lines ≡ text_lines text →
+    lines ≡ first ∷ entries →
     length entries < 2 ^ 32 - 2
 entries_few text lines entries first short exact parts = omega (arith, lines_few text, ap length (sym exact ∙ parts), short)
-
-first_line : (one two : List ℕ) (rest more : List (List ℕ)) → one ∷ rest ≡ two ∷ more → one ≡ two
-first_line one two rest more e = cc
-
--- a text without a line, and one whose first line is another
-pub no_line : (text : List ℕ) (lines : List Line) → line_bytes text lines ≡ line_texts text → length lines ≡ 0 →
-    (rest : List (List ℕ)) → line_texts text ≡ header ∷ rest → ⊥
-no_line text lines texts none rest is = omega (arith, none, length-map lines (λ (line : Line). bytes_of text line.span), ap length (texts ∙ is))
-
-pub other_line : (text : List ℕ) (lines entries : List Line) (first : Line) → line_bytes text lines ≡ line_texts text → lines ≡ first ∷ entries →
-    ¬ (bytes_of text first.span ≡ header) → (rest : List (List ℕ)) → line_texts text ≡ header ∷ rest → ⊥
-other_line text lines entries first texts parts other rest is =
-    other (first_line (bytes_of text first.span) header (line_bytes text entries) rest (sym (ap (line_bytes text) parts) ∙ texts ∙ is))

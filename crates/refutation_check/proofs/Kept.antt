@@ -1,11 +1,10 @@
 -- What a filter keeps, and words joined with a blank before each.
-use Rattle.std.proofs.Common.{◌≡◌, ℕ, zero, suc, ◌+◌, ◌<◌, Bool, true, false, cond, List, [], ◌∷◌, ◌++◌, length, get_or, take, map, arith, refl}
-use Rattle.std.proofs.Common.{sym, ap, ◌∙◌, append_assoc}
+use Rattle.std.proofs.Common.{◌≡◌, ℕ, zero, suc, ◌+◌, ◌<◌, Bool, true, false, cond, List, [], ◌∷◌, ◌++◌, length, get_or, take, map}
+use Rattle.std.proofs.Common.{arith, refl, sym, ap, ◌∙◌, append_assoc}
 use Rattle.std.specs.List.{All, filter}
 use Rattle.std.proofs.lemmas.List.{take_more, map-append, append-nil}
 use Rattle.std.proofs.lemmas.List.Concat.{flat_map-append}
 use Rattle.std.proofs.lemmas.List.Elements.{All-head, All-tail}
-use Rattle.printed_lines.specs.Texts.{text_of}
 use Rattle.printed_lines.specs.Words.{spaced}
 
 kept : {A : Type 0} (p : A → Bool) (x : A) (xs : List A) (b : Bool) → p x ≡ b → length (filter p (x ∷ xs)) ≡ cond b 1 0 + length (filter p xs)
@@ -41,19 +40,3 @@ spaced_more {A} word xs i d start line within so_far =
     ap (λ (l : List ℕ). l ++ 32 ∷ word x) so_far
     ∙ append_assoc start (spaced (map word front)) (32 ∷ word x)
     ∙ ap (λ (l : List ℕ). start ++ l) (sym more)
-
--- one line more
-pub text_more : {A : Type 0} (line : A → List ℕ) (first : List ℕ) (xs : List A) (i : ℕ) (d : A) (text : List ℕ) → i < length xs →
-    text ≡ text_of (first ∷ map line (take i xs))
-    → (text ++ line (get_or xs i d)) ++ 10 ∷ [] ≡ text_of (first ∷ map line (take (i + 1) xs))
-text_more {A} line first xs i d text within so_far =
-    let front = map line (take i xs) in
-    let x = get_or xs i d in
-    let more : text_of (first ∷ map line (take (i + 1) xs)) ≡ text_of (first ∷ front) ++ (line x ++ 10 ∷ []) =
-    ap (λ (l : List A). text_of (first ∷ map line l)) (take_more xs i d within)
-    ∙ ap (λ (l : List (List ℕ)). text_of (first ∷ l)) (map-append line (take i xs) (x ∷ []))
-    ∙ flat_map-append (λ (l : List ℕ). l ++ 10 ∷ []) (first ∷ front) (line x ∷ [])
-    ∙ ap (λ (l : List ℕ). text_of (first ∷ front) ++ l) (append-nil (line x ++ 10 ∷ [])) in
-    append_assoc text (line x) (10 ∷ [])
-    ∙ ap (λ (l : List ℕ). l ++ (line x ++ 10 ∷ [])) so_far
-    ∙ sym more

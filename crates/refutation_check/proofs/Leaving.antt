@@ -1,9 +1,8 @@
 -- The way down and up a path: one branch deeper, past a last child, on to a next child.
-use Rattle.std.proofs.Common.{◌≡◌, ℕ, ◌-◌, ◌<◌, Bool, List, [], ◌∷◌, ◌++◌, length, get_or, take, drop, map, reverse, All, Contains, cond, arith}
-use Rattle.std.proofs.Common.{sym, ap, ◌∙◌, subst, length-append}
+use Rattle.std.proofs.Common.{◌≡◌, ℕ, ◌-◌, ◌<◌, Bool, List, [], ◌∷◌, ◌++◌, length, get_or, take, drop, map, reverse, All, Contains}
+use Rattle.std.proofs.Common.{cond, arith, sym, ap, ◌∙◌, subst, length-append}
 use Rattle.std.proofs.lemmas.List.{get_or_append_left}
-use Rattle.std.proofs.lemmas.List.Elements.{All-push, All-drop, All-contains, Contains-push, Contains-get_or}
-use Rattle.std.proofs.lemmas.List.Elements.{All-filter, All-map}
+use Rattle.std.proofs.lemmas.List.Elements.{All-push, All-drop, All-contains, Contains-push, Contains-get_or, All-filter, All-map}
 use Rattle.std.specs.List.{filter}
 use Rattle.net_model.proofs.Members.{Contains-flat_map, Contains-map}
 use Rattle.order_core.specs.Pairs.{Pair, AreBelow}
@@ -11,7 +10,7 @@ use Rattle.order_core.specs.Turns.{is_old, is_new, old_routers, new_routers, chi
 use Rattle.order_core.specs.declared.turn.Turn.{Turn}
 use Rattle.order_search.specs.Trees.{Place}
 use Rattle.refutation_check.specs.steps.Walks.{GoesAlong, pairs_along, places_after, places_from}
-use Rattle.refutation_check.proofs.OpenPlaces.{entered, next_child, last_child, along_more, along_some, along_back, reverse-push}
+use Rattle.refutation_check.proofs.OpenPlaces.{entered, last_child, along_more, along_back, reverse-push}
 
 -- the places behind the path are those behind the one from which the way began
 pub record IsWayUp (routers : ℕ) (pairs : List Pair) (cursors first : List (List Pair)) : Type 0 where
@@ -45,7 +44,8 @@ children_below n turns below = λ k d within. each (get_or (child_pairs turns) k
         )
 
 -- one branch deeper
-pub deeper : (n : ℕ) (pairs after : List Pair) (cursors more : List (List Pair)) (c : List Pair) → GoesAlong n pairs cursors → 0 < length c → AreBelow n c →
+pub deeper : (n : ℕ) (pairs after : List Pair) (cursors more : List (List Pair)) (c : List Pair) → GoesAlong n pairs cursors →
+    0 < length c → AreBelow n c →
     after ≡ pairs ++ take 1 c → more ≡ cursors ++ c ∷ [] → GoesAlong n after more
 deeper n pairs after cursors more c goes some below assumed pushed = record {
   along = assumed ∙ ap (λ (l : List Pair). l ++ take 1 c) goes.along ∙ sym (along_more c (reverse cursors) some)
@@ -67,9 +67,6 @@ module _ (n : ℕ) (pairs : List Pair) (cursors fewer first : List (List Pair)) 
     (popped : cursors ≡ fewer ++ c ∷ []) (some : 0 < length c) where
   turned : reverse cursors ≡ c ∷ reverse fewer
   turned = ap (λ (l : List (List Pair)). reverse l) popped ∙ reverse-push fewer c
-
-  pub pairs_some : 0 < length pairs
-  pairs_some = omega (arith, along_some c (reverse fewer) some, ap (λ (l : List Pair). length l) (way.along.along ∙ ap pairs_along turned))
 
   pub popped_below : AreBelow n c
   popped_below =
@@ -97,13 +94,7 @@ module _ (n : ℕ) (pairs : List Pair) (cursors fewer first : List (List Pair)) 
   pub next_below : (d : List Pair) → d ≡ drop 1 c → AreBelow n d
   next_below d is = subst (λ (l : List Pair). AreBelow n l) (sym is) (All-drop (λ (p : Pair). (p.0 < n) × (p.1 < n)) 1 c popped_below)
 
-  pub on : (after more : List Pair) (d : List Pair) (deep : List (List Pair)) → after ≡ take (length pairs - 1) pairs → d ≡ drop 1 c → 0 < length d →
+  pub on : (after more : List Pair) (d : List Pair) (deep : List (List Pair)) → after ≡ take (length pairs - 1) pairs →
+      d ≡ drop 1 c → 0 < length d →
       more ≡ after ++ take 1 d → deep ≡ fewer ++ d ∷ [] → GoesAlong n more deep
   on after more d deep back is d_some assumed pushed = deeper n after more fewer deep d (taken after back) d_some (next_below d is) assumed pushed
-
-  pub on_left : (d : List Pair) (deep : List (List Pair)) → d ≡ drop 1 c → 0 < length d → deep ≡ fewer ++ d ∷ [] →
-      places_from (reverse deep) ≡ places_after (reverse first)
-  on_left d deep is d_some pushed =
-      ap places_from (ap (λ (l : List (List Pair)). reverse l) pushed ∙ reverse-push fewer d)
-      ∙ next_child c d (reverse fewer) some is d_some
-      ∙ sym (ap places_after turned) ∙ way.after

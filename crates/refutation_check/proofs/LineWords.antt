@@ -1,5 +1,6 @@
 -- Words joined by one blank each.
-use Rattle.std.proofs.Common.{◌≡◌, ◌≢◌, ℕ, suc, ◌+◌, ◌<◌, ◌≤◌, Bool, cond, ltb, List, [], ◌∷◌, length, arith, refl, sym, ap, ◌∙◌, subst}
+use Rattle.std.proofs.Common.{◌≡◌, ◌≢◌, ℕ, suc, ◌+◌, ◌<◌, ◌≤◌, Bool, cond, ltb, List, [], ◌∷◌, length, arith, refl, sym, ap}
+use Rattle.std.proofs.Common.{◌∙◌, subst}
 use Rattle.std.specs.List.{filter, count_by}
 use Rattle.std.proofs.lemmas.Bool.Decides.{Decides-ltb}
 use Rattle.std.proofs.lemmas.List.Elements.{All-cons, All-nil, All-head, All-tail}
@@ -49,7 +50,8 @@ joined_by_one line words are many =
     (same, subst AreFilled (sym same) full)
 
 -- another count of words: some piece is empty
-pub not_joined : (line : List ℕ) (words : List (List ℕ)) → words ≡ words_in line → length words ≢ count_by is_blank line + 1 → AreFilled (pieces_of line) →
+pub not_joined : (line : List ℕ) (words : List (List ℕ)) → words ≡ words_in line → length words ≢ count_by is_blank line + 1 →
+    AreFilled (pieces_of line) →
     ⊥
 not_joined line words are many full =
     many (ap (λ (l : List (List ℕ)). length l) (are ∙ filled-all (pieces_of line) full) ∙ length-slice_split is_blank line)

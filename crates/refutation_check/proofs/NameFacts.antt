@@ -1,6 +1,6 @@
 -- Words that say distinct routers, one by one: one more, and where no further one is said.
-use Rattle.std.proofs.Common.{◌≡◌, ◌≢◌, ℕ, zero, suc, ◌+◌, ◌-◌, ◌<◌, List, [], ◌∷◌, ◌++◌, length, get_or, take, map, Contains, AllPairs, arith}
-use Rattle.std.proofs.Common.{sym, ap, ◌∙◌, subst, length-append}
+use Rattle.std.proofs.Common.{◌≡◌, ◌≢◌, ℕ, zero, suc, ◌+◌, ◌-◌, ◌<◌, List, [], ◌∷◌, ◌++◌, length, get_or, take, map}
+use Rattle.std.proofs.Common.{Contains, AllPairs, arith, sym, ap, ◌∙◌, subst, length-append}
 use Rattle.std.specs.List.{AllZip}
 use Rattle.std.proofs.lemmas.List.{take_more, take_at, get_or-take, get_or-map, get_or_default, length-map, length-take-le, map-id}
 use Rattle.std.proofs.lemmas.List.Quantifiers.{all_pairs_push}
@@ -47,7 +47,8 @@ no_further R key same words front others i d within said all distinct known =
 -- a name is what stands before the colon and the letter
 entry_name : (word name : List ℕ) (tag : Tag) → IsEntry word name tag → name ≡ take (length word - 2) word
 entry_name word name tag is =
-    let long : length name ≡ length word - 2 = omega (arith, ap (λ (l : List ℕ). length l) is.written, length-append name (58 ∷ letter_of tag ∷ [])) in
+    let long : length name ≡ length word - 2 =
+    omega (arith, ap (λ (l : List ℕ). length l) is.written, length-append name (58 ∷ letter_of tag ∷ [])) in
     sym (ap (λ (l : List ℕ). take (length word - 2) l) is.written ∙ take_at name (58 ∷ letter_of tag ∷ []) (length word - 2) long)
 
 pub one_name : (word one two : List ℕ) (s t : Tag) → IsEntry word one s → IsEntry word two t → one ≡ two
@@ -77,7 +78,8 @@ no_routers net network words front i within say none others all =
     (λ u named. subst (λ (l : List ℕ). Contains l u) (sym (map-id front)) (none u named))
 
 -- one turn more
-pub turns_more : (net : Network) (words : List (List ℕ)) (front : List Turn) (i : ℕ) (turn : Turn) → i < length words → SayTurns net (take i words) front →
+pub turns_more : (net : Network) (words : List (List ℕ)) (front : List Turn) (i : ℕ) (turn : Turn) → i < length words →
+    SayTurns net (take i words) front →
     IsFurtherTurn net (get_or words i []) front turn
     → SayTurns net (take (i + 1) words) (front ++ turn ∷ [])
 turns_more net words front i turn within say further = record {

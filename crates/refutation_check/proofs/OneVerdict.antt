@@ -1,5 +1,6 @@
 -- A text has one verdict. Each verdict tells how far the lines are right, and two of them tell it alike: where one goes on, no line is wrong.
-use Rattle.std.proofs.Common.{◌≡◌, ℕ, zero, ◌+◌, ◌<◌, ◌≤◌, List, [], ◌∷◌, ◌++◌, length, get_or, All, ⊎_elim, arith, refl, sym, ap, ◌∙◌, subst}
+use Rattle.std.proofs.Common.{◌≡◌, ℕ, ◌+◌, ◌<◌, List, [], ◌∷◌, ◌++◌, length, get_or, All, ⊎_elim, arith, refl, sym, ap, ◌∙◌}
+use Rattle.std.proofs.Common.{subst}
 use Rattle.std.specs.List.{AllZip}
 use Rattle.std.proofs.lemmas.Bool.{cases_lt}
 use Rattle.std.proofs.lemmas.List.{append-nil}
@@ -18,10 +19,10 @@ use Rattle.order_core.specs.declared.turn.Turn.{Turn}
 use Rattle.order_search.specs.Trees.{Place, NodeFact, Fill, places_below, IsVisited, branch_count}
 use Rattle.order_search.specs.declared.tree.Node.{Node}
 use Rattle.order_search.specs.declared.tree.Node.TheVariants.{Branch, Leaf, Unvisited}
-use Rattle.refutation_check.specs.TreeLines.{header, pieces_of, SaysNode}
-use Rattle.refutation_check.specs.Verdicts.{AreRightLines, IsRightNode, IsFirstWrongLine, IsVerdict, leaf_count, open_count}
-use Rattle.refutation_check.specs.Verdicts.{header_missing, wrong_there, after_tree, ends_early}
-use Rattle.refutation_check.specs.WrongLines.{WrongWords, WrongNode, IsOriginatedBySome, IsLowestKind, number_of}
+use Rattle.refutation_check.specs.TreeLines.{tree_header, pieces_of, SaysNode}
+use Rattle.refutation_check.specs.Verdicts.{AreRightLines, IsRightNode, IsFirstWrongLine, IsTextVerdict, leaf_count, open_count, header_missing, wrong_there}
+use Rattle.refutation_check.specs.Verdicts.{after_tree, ends_early}
+use Rattle.refutation_check.specs.WrongLines.{WrongWords, WrongNode, IsLowestKind, kind_number}
 use Rattle.refutation_check.specs.declared.verdict.Verdict.{Verdict}
 use Rattle.refutation_check.specs.declared.verdict.Verdict.TheVariants.{Closed, Unfinished, Wrong}
 use Rattle.refutation_check.specs.declared.verdict.WrongKind.{WrongKind}
@@ -173,7 +174,7 @@ module _ (net : Network) (network : IsNetwork net) (old new : Tables) (place : P
 abbrev by_number : List WrongKind
 by_number = Form ∷ Form ∷ Router ∷ Address ∷ Originator ∷ Step ∷ OneSided ∷ NotAssumed ∷ []
 
-is_numbered : (k : WrongKind) → get_or by_number (number_of k) Form ≡ k
+is_numbered : (k : WrongKind) → get_or by_number (kind_number k) Form ≡ k
 is_numbered Form = refl
 is_numbered Router = refl
 is_numbered Address = refl
@@ -182,7 +183,7 @@ is_numbered Step = refl
 is_numbered OneSided = refl
 is_numbered NotAssumed = refl
 
-one_kind : (k l : WrongKind) → number_of k ≡ number_of l → k ≡ l
+one_kind : (k l : WrongKind) → kind_number k ≡ kind_number l → k ≡ l
 one_kind k l e = sym (is_numbered k) ∙ ap (λ (n : ℕ). get_or by_number n Form) e ∙ is_numbered l
 
 -- the lowest kind is one
@@ -308,8 +309,8 @@ module _ (net : Network) (network : IsNetwork net) (old new : Tables) where
 
   -- the first line is no header, or the lines behind it stop somewhere
   data Judged (text : List ℕ) (verdict : Verdict) : Type 0 where
-    no_header : ((lines : List (List ℕ)) → ¬ (line_texts text ≡ header ∷ lines)) → verdict ≡ Wrong 1 Form → Judged text verdict
-    stops : (lines : List (List ℕ)) → line_texts text ≡ header ∷ lines → Stops lines verdict → Judged text verdict
+    no_header : ((lines : List (List ℕ)) → ¬ (line_texts text ≡ tree_header ∷ lines)) → verdict ≡ Wrong 1 Form → Judged text verdict
+    stops : (lines : List (List ℕ)) → line_texts text ≡ tree_header ∷ lines → Stops lines verdict → Judged text verdict
 
   wrong_judged : (text : List ℕ) (line : ℕ) (kind : WrongKind) → IsFirstWrongLine net old new text line kind → Judged text (Wrong line kind)
   wrong_judged text line kind (header_missing none) = no_header none refl
@@ -341,7 +342,7 @@ module _ (net : Network) (network : IsNetwork net) (old new : Tables) where
     outcome = (refl, refl);
   })
 
-  judged : (text : List ℕ) (verdict : Verdict) → IsVerdict net old new text verdict → Judged text verdict
+  judged : (text : List ℕ) (verdict : Verdict) → IsTextVerdict net old new text verdict → Judged text verdict
   judged text (Closed b l) is = stops is.tree.lines is.tree.text_is (record {
     before = is.tree.lines;
     rest = [];
@@ -368,7 +369,7 @@ module _ (net : Network) (network : IsNetwork net) (old new : Tables) where
   one_judged text v w (stops lines parts s) (no_header none is) = absurd (none lines parts)
   one_judged text v w (stops lines parts s) (stops others same t) =
       one_stop others v w
-      (subst (λ (l : List (List ℕ)). Stops l v) (later_words header header lines others (sym parts ∙ same)) s) t
+      (subst (λ (l : List (List ℕ)). Stops l v) (later_words tree_header tree_header lines others (sym parts ∙ same)) s) t
 
-  pub one_verdict : (text : List ℕ) (one other : Verdict) → IsVerdict net old new text one → IsVerdict net old new text other → one ≡ other
+  pub one_verdict : (text : List ℕ) (one other : Verdict) → IsTextVerdict net old new text one → IsTextVerdict net old new text other → one ≡ other
   one_verdict text one other first second = one_judged text one other (judged text one first) (judged text other second)

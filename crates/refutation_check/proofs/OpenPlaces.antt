@@ -1,6 +1,6 @@
 -- The open places along a path: one branch deeper, or behind the place at its end.
-use Rattle.std.proofs.Common.{◌≡◌, ◌-◌, ◌<◌, Bool, true, false, cond, List, [], ◌∷◌, ◌++◌, length, take, drop, map, reverse, arith, refl}
-use Rattle.std.proofs.Common.{ap, ◌∙◌, length-append}
+use Rattle.std.proofs.Common.{◌≡◌, ◌-◌, ◌<◌, Bool, true, false, cond, List, [], ◌∷◌, ◌++◌, length, take, drop, map, reverse, arith}
+use Rattle.std.proofs.Common.{refl, ap, ◌∙◌, length-append}
 use Rattle.std.proofs.lemmas.List.{take_at, reverse-append}
 use Rattle.order_core.specs.Pairs.{Pair}
 use Rattle.order_search.specs.Trees.{Place}
@@ -24,25 +24,6 @@ entered true (p ∷ later) path place left some e =
     ap (λ (x : Place). map (λ (q : Pair). x ++ q ∷ []) (p ∷ later) ++ places_after path) a
     ∙ ap (λ (l : List Place). map (λ (q : Pair). place ++ q ∷ []) (p ∷ later) ++ l) b
 
--- what is open behind the place at the end of a path
-pub behind : (is_open : Bool) (path : List (List Pair)) (place : Place) (left : List Place) → cond is_open (places_from path) [] ≡ place ∷ left →
-    places_after path ≡ left
-behind false path place left e = cc
-behind true path place left e = rest_is (pairs_along path) place (places_after path) left e
-
--- the pairs at that place
-pub pairs_here : (is_open : Bool) (path : List (List Pair)) (place : Place) (left : List Place) → cond is_open (places_from path) [] ≡ place ∷ left →
-    pairs_along path ≡ place
-pairs_here false path place left e = cc
-pairs_here true path place left e = first_is (pairs_along path) place (places_after path) left e
-
--- the next child of the last branch is the next place
-pub next_child : (children next : List Pair) (path : List (List Pair)) → 0 < length children → next ≡ drop 1 children → 0 < length next →
-    places_from (next ∷ path) ≡ places_after (children ∷ path)
-next_child [] next path some is more = absurd (omega (arith, some))
-next_child (p ∷ []) next path some is more = absurd (omega (arith, ap (λ (l : List Pair). length l) is, more))
-next_child (p ∷ q ∷ later) next path some is more = ap (λ (l : List Pair). places_from (l ∷ path)) is
-
 -- behind the last child of a branch the places are those after the branch
 pub last_child : (children : List Pair) (path : List (List Pair)) → drop 1 children ≡ [] → places_after (children ∷ path) ≡ places_after path
 last_child [] path none = refl
@@ -53,10 +34,6 @@ pub along_more : (children : List Pair) (path : List (List Pair)) → 0 < length
     pairs_along (children ∷ path) ≡ pairs_along path ++ take 1 children
 along_more [] path some = absurd (omega (arith, some))
 along_more (p ∷ later) path some = refl
-
-pub along_some : (children : List Pair) (path : List (List Pair)) → 0 < length children → 0 < length (pairs_along (children ∷ path))
-along_some [] path some = absurd (omega (arith, some))
-along_some (p ∷ later) path some = omega (arith, length-append (pairs_along path) (p ∷ []))
 
 -- which it takes back
 pub along_back : (children : List Pair) (path : List (List Pair)) (pairs : List Pair) → 0 < length children → pairs ≡ pairs_along (children ∷ path) →

@@ -1,13 +1,14 @@
 -- How often pairs are assumed.
-use Rattle.std.proofs.Common.{◌≡◌, ◌≢◌, ℕ, ◌+◌, ◌*◌, ◌-◌, ◌<◌, ◌≤◌, ◌⊎◌, ◌↔◌, inl, inr, Bool, true, false, cond, eqb, ◌&&◌, List, [], ◌∷◌}
-use Rattle.std.proofs.Common.{◌++◌, length, length-append, get_or, set, Contains, arith, refl, sym, ap, ◌∙◌, subst, eqb-true, eq-eqb}
+use Rattle.std.proofs.Common.{◌≡◌, ◌≢◌, ℕ, ◌+◌, ◌*◌, ◌-◌, ◌<◌, ◌≤◌, ◌⊎◌, ◌↔◌, inl, inr, Bool, true, false}
+use Rattle.std.proofs.Common.{cond, eqb, ◌&&◌, List, [], ◌∷◌, ◌++◌, length, length-append, get_or, set, Contains, arith, refl, sym, ap}
+use Rattle.std.proofs.Common.{◌∙◌, subst, eqb-true, eq-eqb}
 use Rattle.std.proofs.lemmas.Bool.{false≢true}
 use Rattle.std.proofs.lemmas.List.{get_or_append_left, get_or_read, get_or-set_same, get_or-set_other, length-set}
 use Rattle.std.proofs.lemmas.List.Elements.{All-contains, Contains-push}
 use Rattle.std.proofs.lemmas.Nat.{same_from_place, mul-add-lt}
 use Rattle.net_model.proofs.Members.{Contains-none, Contains-first, Contains-rest, Contains-cases}
 use Rattle.order_core.specs.Pairs.{Pair, AreBelow}
-use Rattle.refutation_check.specs.steps.Assumed.{is_pair, times, AreCounts}
+use Rattle.refutation_check.specs.steps.Assumed.{is_pair, times, ArePairCounts}
 
 -- a pair of numbers
 abbrev pub pair_of : ℕ → ℕ → Pair
@@ -74,14 +75,14 @@ times-few (p ∷ pairs) u v = by_case (times-few pairs u v) (pair_cases u v p)
     by_case few (inr other) = let none : count_if (is_pair u v p) ≡ 0 = ap count_if other.0 in omega (arith, none, few)
 
 -- the count at the place of a pair
-pub count_few : (n : ℕ) (pairs : List Pair) (counts : List ℕ) (u v : ℕ) → AreCounts n pairs counts → u < n → v < n →
+pub count_few : (n : ℕ) (pairs : List Pair) (counts : List ℕ) (u v : ℕ) → ArePairCounts n pairs counts → u < n → v < n →
     get_or counts (u * n + v) 0 ≤ length pairs
 count_few n pairs counts u v are u_in v_in = omega (arith, are.each u v u_in v_in, times-few pairs u v)
 
 -- the same list of pairs and counts, or one pair more at its place
-changed : (n : ℕ) (before after : List Pair) (counts : List ℕ) (a b c : ℕ) → a < n → b < n → AreCounts n before counts
+changed : (n : ℕ) (before after : List Pair) (counts : List ℕ) (a b c : ℕ) → a < n → b < n → ArePairCounts n before counts
     → ((u v : ℕ) → u < n → v < n → pair_of u v ≢ pair_of a b → times after u v ≡ times before u v) → times after a b ≡ c →
-    AreCounts n after (set counts (a * n + b) c)
+    ArePairCounts n after (set counts (a * n + b) c)
 changed n before after counts a b c a_in b_in are other here = record {
   many = length-set counts (a * n + b) c ∙ are.many;
   each = λ u v u_in v_in. by_case u v u_in v_in (pair_cases a b (pair_of u v));
@@ -118,60 +119,64 @@ other_pair a b u v apart = by_case (pair_cases u v (pair_of a b))
     by_case (inr other) = ap count_if other.0
 
 -- one pair more is counted
-pub counts_add : (n : ℕ) (pairs : List Pair) (counts : List ℕ) (a b : ℕ) → a < n → b < n → AreCounts n pairs counts
-    → AreCounts n (pairs ++ pair_of a b ∷ []) (set counts (a * n + b) (get_or counts (a * n + b) 0 + 1))
+pub counts_add : (n : ℕ) (pairs : List Pair) (counts : List ℕ) (a b : ℕ) → a < n → b < n → ArePairCounts n pairs counts
+    → ArePairCounts n (pairs ++ pair_of a b ∷ []) (set counts (a * n + b) (get_or counts (a * n + b) 0 + 1))
 counts_add n pairs counts a b a_in b_in are =
     changed n pairs (pairs ++ pair_of a b ∷ []) counts a b (get_or counts (a * n + b) 0 + 1) a_in b_in are
     (λ u v u_in v_in apart. omega (arith, times-push pairs (pair_of a b) u v, other_pair a b u v apart))
     (omega (arith, times-push pairs (pair_of a b) a b, same_pair a b, are.each a b a_in b_in))
 
 -- one pair fewer is counted
-pub counts_back : (n : ℕ) (pairs : List Pair) (counts : List ℕ) (a b : ℕ) → a < n → b < n → AreCounts n (pairs ++ pair_of a b ∷ []) counts
-    → AreCounts n pairs (set counts (a * n + b) (get_or counts (a * n + b) 0 - 1))
+pub counts_back : (n : ℕ) (pairs : List Pair) (counts : List ℕ) (a b : ℕ) → a < n → b < n → ArePairCounts n (pairs ++ pair_of a b ∷ []) counts
+    → ArePairCounts n pairs (set counts (a * n + b) (get_or counts (a * n + b) 0 - 1))
 counts_back n pairs counts a b a_in b_in are =
     changed n (pairs ++ pair_of a b ∷ []) pairs counts a b (get_or counts (a * n + b) 0 - 1) a_in b_in are
     (λ u v u_in v_in apart. omega (arith, times-push pairs (pair_of a b) u v, other_pair a b u v apart))
     (omega (arith, times-push pairs (pair_of a b) a b, same_pair a b, are.each a b a_in b_in))
 
-pub counted_last : (n : ℕ) (pairs : List Pair) (counts : List ℕ) (a b : ℕ) → a < n → b < n → AreCounts n (pairs ++ pair_of a b ∷ []) counts →
+pub counted_last : (n : ℕ) (pairs : List Pair) (counts : List ℕ) (a b : ℕ) → a < n → b < n →
+    ArePairCounts n (pairs ++ pair_of a b ∷ []) counts →
     0 < get_or counts (a * n + b) 0
 counted_last n pairs counts a b a_in b_in are = omega (arith, times-push pairs (pair_of a b) a b, same_pair a b, are.each a b a_in b_in)
 
 -- the same, where the place and what stands there are told by numbers
 
 read_at : (n a b place r : ℕ) (counts : List ℕ) (pairs : List Pair) → a < n → b < n → place ≡ a * n + b → r ≡ get_or counts place r →
-    AreCounts n pairs counts → r ≡ get_or counts (a * n + b) 0
+    ArePairCounts n pairs counts → r ≡ get_or counts (a * n + b) 0
 read_at n a b place r counts pairs a_in b_in at read are =
     let within : place < length counts = omega (arith, mul-add-lt a n b n a_in b_in, are.many, at) in
     get_or_read counts place r within read 0 ∙ ap (λ (k : ℕ). get_or counts k 0) at
 
 pub few_at : (n a b place r : ℕ) (counts : List ℕ) (pairs : List Pair) → a < n → b < n → place ≡ a * n + b → r ≡ get_or counts place r →
-    AreCounts n pairs counts → r ≤ length pairs
+    ArePairCounts n pairs counts → r ≤ length pairs
 few_at n a b place r counts pairs a_in b_in at read are =
     omega (arith, read_at n a b place r counts pairs a_in b_in at read are, count_few n pairs counts a b are a_in b_in)
 
-pub add_at : (n a b place r : ℕ) (counts : List ℕ) (pairs after : List Pair) → a < n → b < n → place ≡ a * n + b → r ≡ get_or counts place r →
-    AreCounts n pairs counts → after ≡ pairs ++ pair_of a b ∷ []
-    → AreCounts n after (set counts place (r + 1))
+pub add_at : (n a b place r : ℕ) (counts : List ℕ) (pairs after : List Pair) → a < n → b < n → place ≡ a * n + b →
+    r ≡ get_or counts place r →
+    ArePairCounts n pairs counts → after ≡ pairs ++ pair_of a b ∷ []
+    → ArePairCounts n after (set counts place (r + 1))
 add_at n a b place r counts pairs after a_in b_in at read are e =
     let value : r ≡ get_or counts (a * n + b) 0 = read_at n a b place r counts pairs a_in b_in at read are in
-    subst (λ (l : List Pair). AreCounts n l (set counts place (r + 1))) (sym e)
-    (subst (λ (k : ℕ). AreCounts n (pairs ++ pair_of a b ∷ []) (set counts k (r + 1))) (sym at)
-    (subst (λ (x : ℕ). AreCounts n (pairs ++ pair_of a b ∷ []) (set counts (a * n + b) (x + 1))) (sym value) (counts_add n pairs counts a b a_in b_in are)))
+    subst (λ (l : List Pair). ArePairCounts n l (set counts place (r + 1))) (sym e)
+    (subst (λ (k : ℕ). ArePairCounts n (pairs ++ pair_of a b ∷ []) (set counts k (r + 1))) (sym at)
+    (subst (λ (x : ℕ). ArePairCounts n (pairs ++ pair_of a b ∷ []) (set counts (a * n + b) (x + 1))) (sym value)
+    (counts_add n pairs counts a b a_in b_in are)))
 
-pub back_at : (n a b place r : ℕ) (counts : List ℕ) (pairs before : List Pair) → a < n → b < n → place ≡ a * n + b → r ≡ get_or counts place r →
-    AreCounts n before counts → before ≡ pairs ++ pair_of a b ∷ []
-    → (1 ≤ r) × AreCounts n pairs (set counts place (r - 1))
+pub back_at : (n a b place r : ℕ) (counts : List ℕ) (pairs before : List Pair) → a < n → b < n → place ≡ a * n + b →
+    r ≡ get_or counts place r →
+    ArePairCounts n before counts → before ≡ pairs ++ pair_of a b ∷ []
+    → (1 ≤ r) × ArePairCounts n pairs (set counts place (r - 1))
 back_at n a b place r counts pairs before a_in b_in at read are e =
     let value : r ≡ get_or counts (a * n + b) 0 = read_at n a b place r counts before a_in b_in at read are in
-    let held : AreCounts n (pairs ++ pair_of a b ∷ []) counts = subst (λ (l : List Pair). AreCounts n l counts) e are in (
+    let held : ArePairCounts n (pairs ++ pair_of a b ∷ []) counts = subst (λ (l : List Pair). ArePairCounts n l counts) e are in (
       omega (arith, value, counted_last n pairs counts a b a_in b_in held),
-      subst (λ (k : ℕ). AreCounts n pairs (set counts k (r - 1))) (sym at)
-          (subst (λ (x : ℕ). AreCounts n pairs (set counts (a * n + b) (x - 1))) (sym value) (counts_back n pairs counts a b a_in b_in held)),
+      subst (λ (k : ℕ). ArePairCounts n pairs (set counts k (r - 1))) (sym at)
+          (subst (λ (x : ℕ). ArePairCounts n pairs (set counts (a * n + b) (x - 1))) (sym value) (counts_back n pairs counts a b a_in b_in held)),
     )
 
 pub held_at : (n a b place r : ℕ) (counts : List ℕ) (pairs : List Pair) → a < n → b < n → place ≡ a * n + b → r ≡ get_or counts place r →
-    AreCounts n pairs counts → (0 < r) ↔ Contains pairs (pair_of a b)
+    ArePairCounts n pairs counts → (0 < r) ↔ Contains pairs (pair_of a b)
 held_at n a b place r counts pairs a_in b_in at read are =
     let value : r ≡ times pairs a b = read_at n a b place r counts pairs a_in b_in at read are ∙ are.each a b a_in b_in in
     (λ some. counted_is pairs a b (omega (arith, value, some)), λ has. omega (arith, value, counted_from pairs a b has))

@@ -1,6 +1,6 @@
 -- A printed tree reads back.
-use Rattle.std.proofs.Common.{◌≡◌, ◌≢◌, ℕ, ◌<◌, Bool, true, false, ◌||◌, eqb, List, [], ◌∷◌, ◌++◌}
-use Rattle.std.proofs.Common.{length, get_or, map, codes, arith, refl, sym, ap, ◌∙◌, subst}
+use Rattle.std.proofs.Common.{◌≡◌, ◌≢◌, ℕ, ◌<◌, Bool, true, false, ◌||◌, eqb, List, [], ◌∷◌, ◌++◌, length, get_or, map, codes}
+use Rattle.std.proofs.Common.{arith, refl, sym, ap, ◌∙◌, subst}
 use Rattle.std.specs.List.{All, AllZip, slice_split}
 use Rattle.std.proofs.lemmas.Bool.Decides.{Decides-eqb}
 use Rattle.std.proofs.lemmas.List.{append-nil, length-map, get_or-map}
@@ -20,12 +20,12 @@ use Rattle.order_core.specs.declared.turn.Turn.{Turn}
 use Rattle.order_search.specs.declared.tree.Node.{Node}
 use Rattle.order_search.specs.declared.tree.Node.TheVariants.{Branch, Leaf, Unvisited}
 use Rattle.printed_lines.specs.Texts.{IsPrintedLine}
-use Rattle.printed_lines.specs.Words.{IsWordByte, IsPrintedWord, spaced, joined, dotted}
+use Rattle.printed_lines.specs.Words.{IsWordByte, IsPrintedWord, spaced, joined, dotted, router_word}
 use Rattle.printed_lines.proofs.LineFacts.{lines_read_back}
 use Rattle.printed_lines.proofs.NumberFacts.{dotted-IsAddressWord, dotted-IsPrintedWord, marked-IsPrintedWord, IsWordByte-above_blank}
 use Rattle.printed_lines.proofs.WordFacts.{words_make_lines}
-use Rattle.refutation_check.specs.TreeLines.{header, letter_of, pieces_of, SaysNode, SaysTurn}
-use Rattle.refutation_check.specs.TreeTexts.{router_word, entry_word, node_words, node_line, tree_text, NodeBelow, IsPrintedNode, ReadsAsNodes}
+use Rattle.refutation_check.specs.TreeLines.{tree_header, letter_of, pieces_of, SaysNode, SaysTurn}
+use Rattle.refutation_check.specs.TreeTexts.{entry_word, node_words, node_line, tree_text, NodeBelow, IsPrintedNode, ReadsAsNodes}
 
 -- Words joined by one blank each have just these words as pieces
 
@@ -38,7 +38,8 @@ other_byte a b apart = by_test (eqb a b) (Decides-eqb a b).0
 
 no_blanks : (word : List ℕ) → IsPrintedWord word → All (λ b. is_blank b ≡ false) word
 no_blanks word fine =
-    All-weaker IsWordByte (λ b. is_blank b ≡ false) (λ b is. ap (λ (t : Bool). t || eqb b 9) (other_byte b 32 is.no_space) ∙ other_byte b 9 is.no_tab) word
+    All-weaker IsWordByte (λ b. is_blank b ≡ false) (λ b is. ap (λ (t : Bool). t || eqb b 9) (other_byte b 32 is.no_space)
+    ∙ other_byte b 9 is.no_tab) word
     fine.bytes
 
 pieces-joined : (word : List ℕ) (more : List (List ℕ)) → IsPrintedWord word → All IsPrintedWord more →
@@ -154,7 +155,8 @@ words_say net network (Leaf cycle) below made = record {
     words_are = refl;
     some = omega (arith, made.some, length-map cycle (router_word (names_of net)));
     filled = All-map (λ (name : List ℕ). 0 < length name) (router_word (names_of net)) cycle
-        (All-weaker (λ (u : ℕ). u < length net) (λ (u : ℕ). 0 < length (router_word (names_of net) u)) (λ u within. (name_word net network u within).some)
+        (All-weaker (λ (u : ℕ). u < length net) (λ (u : ℕ). 0 < length (router_word (names_of net) u)) (λ u within.
+        (name_word net network u within).some)
         cycle below);
   };
   named = map_said (IsNamed net) (router_word (names_of net)) (λ (u : ℕ). u < length net) (named net) cycle below;
@@ -176,7 +178,8 @@ line_says : (net : Network) → IsNetwork net → (node : Node) → NodeBelow (l
 line_says net network node fine =
     subst (λ (words : List (List ℕ)). SaysNode net words node) (sym (pieces-line net network node fine.0 fine.1)) (words_say net network node fine.0 fine.1)
 
-line_is : (net : Network) → IsNetwork net → (node : Node) → NodeBelow (length net) node × IsPrintedNode node → IsPrintedLine (node_line (names_of net) node)
+line_is : (net : Network) → IsNetwork net → (node : Node) → NodeBelow (length net) node × IsPrintedNode node →
+    IsPrintedLine (node_line (names_of net) node)
 line_is net network node fine = (words_make_lines (node_words (names_of net) node) (words_are net network node fine.0 fine.1)).0
 
 tree_is_word : IsPrintedWord (codes "tree")
@@ -185,7 +188,7 @@ tree_is_word = above_blank (codes "tree") (omega arith) (grind arith)
 one_is_word : IsPrintedWord (codes "1")
 one_is_word = above_blank (codes "1") (omega arith) (grind arith)
 
-header_is : IsPrintedLine header
+header_is : IsPrintedLine tree_header
 header_is =
     (words_make_lines (codes "tree" ∷ codes "1" ∷ [])
     (All-cons IsPrintedWord (codes "tree") (codes "1" ∷ []) tree_is_word (All-cons IsPrintedWord (codes "1") [] one_is_word (All-nil IsPrintedWord)))).0
@@ -195,13 +198,13 @@ pub trees_read_back : (net : Network) (nodes : List Node) → IsNetwork net → 
 trees_read_back net nodes network below made =
     let fine : All (λ (node : Node). NodeBelow (length net) node × IsPrintedNode node) nodes = λ k d within. (below k d within, made k d within) in
     let lines : List (List ℕ) = map (node_line (names_of net)) nodes in
-    let all : All IsPrintedLine (header ∷ lines) =
-    All-cons IsPrintedLine header lines header_is
+    let all : All IsPrintedLine (tree_header ∷ lines) =
+    All-cons IsPrintedLine tree_header lines header_is
     (All-map IsPrintedLine (node_line (names_of net)) nodes (All-weaker (λ (node : Node). NodeBelow (length net) node × IsPrintedNode node)
     (λ (node : Node). IsPrintedLine (node_line (names_of net) node)) (line_is net network) nodes fine)) in
     record {
       lines = lines;
-      text_is = (lines_read_back (header ∷ lines) all).texts;
+      text_is = (lines_read_back (tree_header ∷ lines) all).texts;
       said = map_said (λ (line : List ℕ) (node : Node). SaysNode net (pieces_of line) node) (node_line (names_of net))
           (λ (node : Node). NodeBelow (length net) node × IsPrintedNode node) (line_says net network) nodes fine;
     }

@@ -1,6 +1,6 @@
 -- How far a tree file has been read: one line more, and what the first wrong line is.
-use Rattle.std.proofs.Common.{◌≡◌, ℕ, ◌+◌, ◌<◌, ◌≤◌, List, [], ◌∷◌, ◌++◌, length, get_or, take, drop, map, Result, Ok, Err, arith}
-use Rattle.std.proofs.Common.{refl, sym, ap, ◌∙◌, subst}
+use Rattle.std.proofs.Common.{◌≡◌, ℕ, ◌+◌, ◌<◌, ◌≤◌, List, [], ◌∷◌, ◌++◌, length, get_or, take, drop, map, Result, Ok, Err}
+use Rattle.std.proofs.Common.{arith, refl, sym, ap, ◌∙◌, subst}
 use Rattle.std.specs.List.{All, AllZip}
 use Rattle.std.specs.Result.{MatchResult}
 use Rattle.std.proofs.lemmas.List.{take_more, drop_more, take-append-drop, length-take-le}
@@ -17,20 +17,20 @@ use Rattle.order_search.specs.Trees.{Place, Fill, IsVisited, branch_count}
 use Rattle.order_search.specs.declared.tree.Node.{Node}
 use Rattle.order_search.specs.declared.tree.Node.TheVariants.{Branch, Leaf, Unvisited}
 use Rattle.order_search.proofs.Fills.{Fill-push, branch_count-append}
-use Rattle.refutation_check.specs.TreeLines.{header, pieces_of, SaysNode}
-use Rattle.refutation_check.specs.Verdicts.{AreRightLines, IsRightNode, IsFirstWrongLine, wrong_there, after_tree, ends_early, IsVerdict}
-use Rattle.refutation_check.specs.Verdicts.{leaf_count, open_count}
-use Rattle.refutation_check.specs.WrongLines.{WrongWords, WrongNode, WrongBranch, WrongLeaf, IsAssumedRound, IsLowestKind, number_of}
+use Rattle.refutation_check.specs.TreeLines.{tree_header, pieces_of, SaysNode}
+use Rattle.refutation_check.specs.Verdicts.{AreRightLines, IsRightNode, IsFirstWrongLine, wrong_there, after_tree, ends_early, IsTextVerdict, leaf_count}
+use Rattle.refutation_check.specs.Verdicts.{open_count}
+use Rattle.refutation_check.specs.WrongLines.{WrongWords, WrongNode, IsAssumedRound, IsLowestKind, kind_number}
 use Rattle.refutation_check.specs.declared.reading.Reading.{Reading}
 use Rattle.refutation_check.specs.declared.tally.Tally.{Tally}
 use Rattle.refutation_check.specs.declared.verdict.Verdict.{Verdict}
 use Rattle.refutation_check.specs.declared.verdict.Verdict.TheVariants.{Closed, Unfinished, Wrong}
 use Rattle.refutation_check.specs.declared.verdict.WrongKind.{WrongKind}
 use Rattle.refutation_check.specs.declared.verdict.WrongKind.TheVariants.{Form, Router, Address, Originator, Step, OneSided, NotAssumed}
-use Rattle.refutation_check.specs.steps.Reading.{HasRead, IsTakenThere, IsNotTaken, TakesLine, IsEndVerdict, IsWholeVerdict, IsWrongVerdict}
-use Rattle.refutation_check.specs.steps.Shapes.{IsUnread}
+use Rattle.refutation_check.specs.steps.Reading.{HasReadLines, IsTakenThere, IsNotTaken, TakesLine, IsEndVerdict, IsWholeVerdict}
+use Rattle.refutation_check.specs.steps.Shapes.{SaysNoNode}
 use Rattle.refutation_check.specs.steps.Right.{IsRightBranch}
-use Rattle.refutation_check.specs.steps.Walks.{IsRinged, IsTaken, Standing}
+use Rattle.refutation_check.specs.steps.Walks.{IsRinged, IsTaken, PlacesLeft}
 use Rattle.refutation_check.proofs.RingPlaces.{cycle_from}
 use Rattle.refutation_check.proofs.SaidNodes.{form_of, one_node}
 
@@ -72,7 +72,7 @@ all_visited (Unvisited ∷ nodes) none = absurd (omega (arith, none))
 
 -- how many lines were read
 pub read_long : (net : Network) (old new : Tables) (lines : List (List ℕ)) (reading : Reading) (i : ℕ) → i ≤ length lines →
-    (read : HasRead net old new (take i lines) reading) → length read.nodes ≡ i
+    (read : HasReadLines net old new (take i lines) reading) → length read.nodes ≡ i
 read_long net old new lines reading i within read =
     AllZip-long (λ (line : List ℕ) (node : Node). SaysNode net (pieces_of line) node) (take i lines) read.nodes read.right.said
     ∙ length-take-le i lines within
@@ -80,17 +80,18 @@ read_long net old new lines reading i within read =
 -- One line more
 
 pub read_more : (net : Network) (old new : Tables) (lines : List (List ℕ)) (i : ℕ) (before after : Reading) → i < length lines →
-    HasRead net old new (take i lines) before
-    → IsTakenThere net old new before.walk.left (get_or lines i []) before after → HasRead net old new (take (i + 1) lines) after
+    HasReadLines net old new (take i lines) before
+    → IsTakenThere net old new before.walk.left (get_or lines i []) before after → HasReadLines net old new (take (i + 1) lines) after
 read_more net old new lines i before after within read taken = by_left before.walk.left read.right taken
   where
     by_left : (places : List Place) → AreRightLines net old new (take i lines) read.nodes places →
-        IsTakenThere net old new places (get_or lines i []) before after → HasRead net old new (take (i + 1) lines) after
+        IsTakenThere net old new places (get_or lines i []) before after → HasReadLines net old new (take (i + 1) lines) after
     by_left [] right t = absurd t
     by_left (place ∷ left) right t = record {
       nodes = read.nodes ++ t.node ∷ [];
       right = record {
-        said = subst (λ (l : List (List ℕ)). AllZip (λ (line : List ℕ) (node : Node). SaysNode net (pieces_of line) node) l (read.nodes ++ t.node ∷ []))
+        said =
+            subst (λ (l : List (List ℕ)). AllZip (λ (line : List ℕ) (node : Node). SaysNode net (pieces_of line) node) l (read.nodes ++ t.node ∷ []))
             (sym (take_more lines i [] within))
             (all_zipped_more (λ (line : List ℕ) (node : Node). SaysNode net (pieces_of line) node) (take i lines) read.nodes
             (get_or lines i []) t.node right.said t.says);
@@ -112,16 +113,17 @@ split_at lines i within = sym (take-append-drop i lines) ∙ ap (λ (l : List (L
 
 -- a line that isn't taken is the first wrong one
 pub wrong_at : (net : Network) (old new : Tables) (text : List ℕ) (lines : List (List ℕ)) (i : ℕ) (before : Reading) (kind : WrongKind) →
-    line_texts text ≡ header ∷ lines → i < length lines → HasRead net old new (take i lines) before
+    line_texts text ≡ tree_header ∷ lines → i < length lines → HasReadLines net old new (take i lines) before
     → IsNotTaken net old new before.walk.left (get_or lines i []) kind → IsFirstWrongLine net old new text (i + 2) kind
 wrong_at net old new text lines i before kind is within read wrong =
     subst (λ (n : ℕ). IsFirstWrongLine net old new text (n + 2) kind) (length-take-le i lines (omega (arith, within)))
     (by_left before.walk.left read.right wrong)
   where
-    parts : line_texts text ≡ header ∷ (take i lines ++ get_or lines i [] ∷ drop (i + 1) lines)
-    parts = is ∙ ap (λ (l : List (List ℕ)). header ∷ l) (split_at lines i within)
+    parts : line_texts text ≡ tree_header ∷ (take i lines ++ get_or lines i [] ∷ drop (i + 1) lines)
+    parts = is ∙ ap (λ (l : List (List ℕ)). tree_header ∷ l) (split_at lines i within)
 
-    by_left : (places : List Place) → AreRightLines net old new (take i lines) read.nodes places → IsNotTaken net old new places (get_or lines i []) kind →
+    by_left : (places : List Place) → AreRightLines net old new (take i lines) read.nodes places →
+        IsNotTaken net old new places (get_or lines i []) kind →
         IsFirstWrongLine net old new text (length (take i lines) + 2) kind
     by_left [] right w =
         subst (λ (k : WrongKind). IsFirstWrongLine net old new text (length (take i lines) + 2) k) (sym w)
@@ -130,8 +132,9 @@ wrong_at net old new text lines i before kind is within read wrong =
         wrong_there (take i lines) (get_or lines i []) (drop (i + 1) lines) read.nodes place left kind parts right w
 
 -- where a place is open behind the last line, the text ends too early
-pub wrong_end : (net : Network) (old new : Tables) (text : List ℕ) (lines : List (List ℕ)) (reading : Reading) → line_texts text ≡ header ∷ lines →
-    HasRead net old new lines reading → ¬ (reading.walk.left ≡ [])
+pub wrong_end : (net : Network) (old new : Tables) (text : List ℕ) (lines : List (List ℕ)) (reading : Reading) →
+    line_texts text ≡ tree_header ∷ lines →
+    HasReadLines net old new lines reading → ¬ (reading.walk.left ≡ [])
     → IsFirstWrongLine net old new text (length lines + 2) Form
 wrong_end net old new text lines reading is read left_some = by_left reading.walk.left read.right left_some
   where
@@ -143,8 +146,8 @@ wrong_end net old new text lines reading is read left_some = by_left reading.wal
 -- The verdict on a whole tree
 
 pub whole_is : (net : Network) (old new : Tables) (text : List ℕ) (lines : List (List ℕ)) (reading : Reading) (verdict : Verdict) →
-    line_texts text ≡ header ∷ lines → HasRead net old new lines reading → reading.walk.left ≡ []
-    → IsWholeVerdict reading.tally verdict → IsVerdict net old new text verdict
+    line_texts text ≡ tree_header ∷ lines → HasReadLines net old new lines reading → reading.walk.left ≡ []
+    → IsWholeVerdict reading.tally verdict → IsTextVerdict net old new text verdict
 whole_is net old new text lines reading (Closed branches leaves) is read whole w = record {
   nodes = read.nodes;
   tree = record { lines = lines; text_is = is; right = subst (λ (ps : List Place). AreRightLines net old new lines read.nodes ps) whole read.right };
@@ -163,11 +166,11 @@ whole_is net old new text lines reading (Wrong line kind) is read whole w = absu
 -- A line that isn't taken
 
 -- words that say no node are wrong with the lowest kind
-pub unread_lowest : (net : Network) (old new : Tables) (place : Place) (words : List (List ℕ)) (kind : WrongKind) → IsUnread net words kind →
+pub unread_lowest : (net : Network) (old new : Tables) (place : Place) (words : List (List ℕ)) (kind : WrongKind) → SaysNoNode net words kind →
     IsLowestKind (WrongWords net old new place words) kind
 unread_lowest net old new place words Form w = record { wrong = w; lowest = least }
   where
-    least : (other : WrongKind) → WrongWords net old new place words other → 1 ≤ number_of other
+    least : (other : WrongKind) → WrongWords net old new place words other → 1 ≤ kind_number other
     least Form x = omega arith
     least Router x = omega arith
     least Address x = omega arith
@@ -177,7 +180,7 @@ unread_lowest net old new place words Form w = record { wrong = w; lowest = leas
     least NotAssumed x = omega arith
 unread_lowest net old new place words Router w = record { wrong = w.none; lowest = least }
   where
-    least : (other : WrongKind) → WrongWords net old new place words other → 2 ≤ number_of other
+    least : (other : WrongKind) → WrongWords net old new place words other → 2 ≤ kind_number other
     least Form x = absurd (x w.form)
     least Router x = omega arith
     least Address x = omega arith
@@ -213,13 +216,14 @@ module _ (net : Network) (network : IsNetwork net) (old new : Tables) (place : P
   as_words OneSided w = record { node = node; says = says; wrong = w }
   as_words NotAssumed w = record { node = node; says = says; wrong = w }
 
-  same_wrong : (other : Node) (kind : WrongKind) → SaysNode net words other → WrongNode net old new place other kind → WrongNode net old new place node kind
+  same_wrong : (other : Node) (kind : WrongKind) → SaysNode net words other → WrongNode net old new place other kind →
+      WrongNode net old new place node kind
   same_wrong other kind said w = subst (λ (n : Node). WrongNode net old new place n kind) (one_node net network words other node said says) w
 
   pub wrong_words : (kind : WrongKind) → IsLowestKind (WrongNode net old new place node) kind → IsLowestKind (WrongWords net old new place words) kind
   wrong_words kind is = record { wrong = as_words kind is.wrong; lowest = least }
     where
-      least : (other : WrongKind) → WrongWords net old new place words other → number_of kind ≤ number_of other
+      least : (other : WrongKind) → WrongWords net old new place words other → kind_number kind ≤ kind_number other
       least Form x = absurd (x (form_of net words node says))
       least Router x = absurd (x node says)
       least Address x = is.lowest Address (same_wrong x.node Address x.says x.wrong)
@@ -256,7 +260,8 @@ branch_taken net old new place left after node a turns shown entered is shows en
       places = below ∙ ap (λ (l : List Turn). map (λ (p : Pair). place ++ p ∷ []) (child_pairs l) ++ left) enters;
     })
 
-pub leaf_taken : (net : Network) (old new : Tables) (place : Place) (left after : List Place) (node : Node) (cycle shown : List ℕ) → node ≡ Leaf cycle →
+pub leaf_taken : (net : Network) (old new : Tables) (place : Place) (left after : List Place) (node : Node) (cycle shown : List ℕ) →
+    node ≡ Leaf cycle →
     shown ≡ cycle → IsRinged (length net) node
     → IsAssumedRound place shown → after ≡ left → IsTaken net old new place left after node
 leaf_taken net old new place left after node cycle shown is shows ringed round behind =
@@ -266,40 +271,10 @@ leaf_taken net old new place left after node cycle shown is shows ringed round b
       places = behind;
     })
 
-pub open_taken : (net : Network) (old new : Tables) (place : Place) (left after : List Place) (node : Node) → node ≡ Unvisited → after ≡ left →
-    IsTaken net old new place left after node
-open_taken net old new place left after node is behind =
-    subst (λ (n : Node). IsTaken net old new place left after n) (sym is) (record { right = tt; places = behind })
-
-pub branch_wrong : (net : Network) (old new : Tables) (place : Place) (node : Node) (a : ℕ) (turns shown : List Turn) (kind : WrongKind) →
-    node ≡ Branch a turns → shown ≡ turns → IsLowestKind (WrongBranch net old new a shown) kind
-    → IsLowestKind (WrongNode net old new place node) kind
-branch_wrong net old new place node a turns shown kind is shows wrong =
-    subst (λ (n : Node). IsLowestKind (WrongNode net old new place n) kind) (sym is)
-    (subst (λ (l : List Turn). IsLowestKind (WrongBranch net old new a l) kind) shows wrong)
-
-pub leaf_wrong : (net : Network) (old new : Tables) (place : Place) (node : Node) (cycle shown : List ℕ) → node ≡ Leaf cycle → shown ≡ cycle →
-    ¬ IsAssumedRound place shown
-    → IsLowestKind (WrongNode net old new place node) NotAssumed
-leaf_wrong net old new place node cycle shown is shows off =
-    subst (λ (n : Node). IsLowestKind (WrongNode net old new place n) NotAssumed) (sym is) (record {
-      wrong = λ round. off (subst (λ (l : List ℕ). IsAssumedRound place l) (sym shows) round);
-      lowest = least;
-    })
-  where
-    least : (other : WrongKind) → WrongLeaf place cycle other → 7 ≤ number_of other
-    least Form w = absurd w
-    least Router w = absurd w
-    least Address w = absurd w
-    least Originator w = absurd w
-    least Step w = absurd w
-    least OneSided w = absurd w
-    least NotAssumed w = omega arith
-
 -- the verdict behind the last line
 pub end_is : (net : Network) (old new : Tables) (text : List ℕ) (lines : List (List ℕ)) (reading : Reading) (next : ℕ) (verdict : Verdict) →
-    line_texts text ≡ header ∷ lines → HasRead net old new lines reading → next ≡ length lines + 2
-    → IsEndVerdict reading next verdict → IsVerdict net old new text verdict
+    line_texts text ≡ tree_header ∷ lines → HasReadLines net old new lines reading → next ≡ length lines + 2
+    → IsEndVerdict reading next verdict → IsTextVerdict net old new text verdict
 end_is net old new text lines reading next (Closed branches leaves) is read last end = whole_is net old new text lines reading
     (Closed branches leaves) is read end.0 end.1
 end_is net old new text lines reading next (Unfinished unvisited) is read last end = whole_is net old new text lines reading
@@ -310,7 +285,7 @@ end_is net old new text lines reading next (Wrong line kind) is read last end =
 
 -- before the first line behind the header
 pub read_none : (net : Network) (old new : Tables) (reading : Reading) → reading.walk.left ≡ [] ∷ [] →
-    reading.tally ≡ record { branches = 0; leaves = 0; unvisited = 0 } → HasRead net old new [] reading
+    reading.tally ≡ record { branches = 0; leaves = 0; unvisited = 0 } → HasReadLines net old new [] reading
 read_none net old new reading left counts = record {
   nodes = [];
   right = record { said = tt; fills = sym left };
@@ -323,23 +298,17 @@ read_none net old new reading left counts = record {
 }
 
 -- what came of a node, as a result
-abbrev IsTakenNode : Network → Tables → Tables → Place → List Place → Node → Result Standing WrongKind → Type 0
-IsTakenNode net old new place left node taken = MatchResult taken (λ (after : Standing). IsTaken net old new place left after.left node)
+abbrev IsTakenNode : Network → Tables → Tables → Place → List Place → Node → Result PlacesLeft WrongKind → Type 0
+IsTakenNode net old new place left node taken = MatchResult taken (λ (after : PlacesLeft). IsTaken net old new place left after.left node)
     (IsLowestKind (WrongNode net old new place node))
 
-pub taken_ok : (net : Network) (old new : Tables) (place : Place) (left : List Place) (node : Node) (taken : Result Standing WrongKind) (after : Standing) →
+pub taken_ok : (net : Network) (old new : Tables) (place : Place) (left : List Place) (node : Node) (taken : Result PlacesLeft WrongKind)
+    (after : PlacesLeft) →
     taken ≡ Ok after → IsTakenNode net old new place left node taken
     → IsTaken net old new place left after.left node
 taken_ok net old new place left node taken after is all = subst (IsTakenNode net old new place left node) is all
 
-pub taken_err : (net : Network) (old new : Tables) (place : Place) (left : List Place) (node : Node) (taken : Result Standing WrongKind)
+pub taken_err : (net : Network) (old new : Tables) (place : Place) (left : List Place) (node : Node) (taken : Result PlacesLeft WrongKind)
     (kind : WrongKind) → taken ≡ Err kind → IsTakenNode net old new place left node taken
     → IsLowestKind (WrongNode net old new place node) kind
 taken_err net old new place left node taken kind is all = subst (IsTakenNode net old new place left node) is all
-
--- the verdict that a line is wrong
-pub wrong_is : (net : Network) (old new : Tables) (text : List ℕ) (verdict : Verdict) → IsWrongVerdict net old new text verdict →
-    IsVerdict net old new text verdict
-wrong_is net old new text (Closed branches leaves) w = absurd w
-wrong_is net old new text (Unfinished unvisited) w = absurd w
-wrong_is net old new text (Wrong line kind) w = w

@@ -1,6 +1,6 @@
 -- Rings, place by place.
-use Rattle.std.proofs.Common.{◌≡◌, ℕ, zero, suc, ⊎_elim, All, ◌+◌, ◌<◌, ◌≤◌, List, [], ◌∷◌, ◌++◌, length, get_or, Contains, arith}
-use Rattle.std.proofs.Common.{refl, sym, subst}
+use Rattle.std.proofs.Common.{◌≡◌, ℕ, zero, suc, ⊎_elim, All, ◌+◌, ◌<◌, ◌≤◌, List, [], ◌∷◌, ◌++◌, length, get_or, Contains}
+use Rattle.std.proofs.Common.{arith, refl, sym, subst}
 use Rattle.std.proofs.lemmas.Bool.{cases_lt}
 use Rattle.std.proofs.lemmas.List.{get_or_past}
 use Rattle.igp_theory.specs.Loops.{EachToNext, AroundRing}
@@ -32,7 +32,8 @@ each_at R first (r ∷ s ∷ rest) (suc k) d goes within =
     subst (λ (n : ℕ). R (get_or (s ∷ rest) k d) (get_or (r ∷ s ∷ rest) n first)) e (each_at R first (s ∷ rest) k d goes.1 (omega (arith, within)))
 
 -- what holds at each place holds round the ring
-pub around_from : {A : Type 0} (R : A → A → Type 0) (ring : List A) → ((k : ℕ) (d : A) → k < length ring → R (get_or ring k d) (next_at ring k d)) →
+pub around_from : {A : Type 0} (R : A → A → Type 0) (ring : List A) →
+    ((k : ℕ) (d : A) → k < length ring → R (get_or ring k d) (next_at ring k d)) →
     AroundRing R ring
 around_from R [] goes = tt
 around_from R (r ∷ rest) goes = each_from R r (r ∷ rest) goes
@@ -79,7 +80,8 @@ next_holds P ring k d all within =
     (cases_lt (k + 1) (length ring))
 
 -- one place more
-pub places_more : {A : Type 0} (R : A → A → Type 0) (ring : List A) (i : ℕ) → ((k : ℕ) (d : A) → k < i → R (get_or ring k d) (next_at ring k d)) →
+pub places_more : {A : Type 0} (R : A → A → Type 0) (ring : List A) (i : ℕ) →
+    ((k : ℕ) (d : A) → k < i → R (get_or ring k d) (next_at ring k d)) →
     ((d : A) → R (get_or ring i d) (next_at ring i d))
     → (k : ℕ) (d : A) → k < i + 1 → R (get_or ring k d) (next_at ring k d)
 places_more R ring i below here k d within =

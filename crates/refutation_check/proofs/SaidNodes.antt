@@ -1,6 +1,6 @@
 -- What a line says as a node: one node at most, which has the form of a node and distinct routers of the network.
-use Rattle.std.proofs.Common.{◌≡◌, ℕ, ◌+◌, ◌-◌, ◌<◌, List, [], ◌∷◌, length, get_or, codes, arith, refl, sym, ap, ◌∙◌}
-use Rattle.std.proofs.Common.{subst, length-append}
+use Rattle.std.proofs.Common.{◌≡◌, ℕ, ◌+◌, ◌-◌, ◌<◌, List, [], ◌∷◌, length, get_or, codes, arith, refl, sym, ap, ◌∙◌, subst}
+use Rattle.std.proofs.Common.{length-append}
 use Rattle.std.specs.List.{All, AllZip}
 use Rattle.std.proofs.lemmas.List.{get_or-append-add}
 use Rattle.std.proofs.lemmas.List.Elements.{All-cons, All-nil}
@@ -21,7 +21,8 @@ use Rattle.refutation_check.specs.steps.Walks.{IsRinged}
 use Rattle.refutation_check.proofs.NameFacts.{one_router}
 
 -- lists whose items are related one by one
-all_said : {A B : Type 0} (R : A → B → Type 0) (P : A → Type 0) → ((x : A) (y : B) → R x y → P x) → (xs : List A) (ys : List B) → AllZip R xs ys → All P xs
+all_said : {A B : Type 0} (R : A → B → Type 0) (P : A → Type 0) → ((x : A) (y : B) → R x y → P x) → (xs : List A) (ys : List B) →
+    AllZip R xs ys → All P xs
 all_said R P from [] ys said = All-nil P
 all_said R P from (x ∷ xs) [] said = absurd said
 all_said R P from (x ∷ xs) (y ∷ ys) said = All-cons P x xs (from x y said.0) (all_said R P from xs ys said.1)
@@ -33,7 +34,8 @@ all_saying R P from [] (y ∷ ys) said = absurd said
 all_saying R P from (x ∷ xs) [] said = absurd said
 all_saying R P from (x ∷ xs) (y ∷ ys) said = All-cons P y ys (from x y said.0) (all_saying R P from xs ys said.1)
 
-pub one_zip : {A B : Type 0} (R : A → B → Type 0) → ((x : A) (y z : B) → R x y → R x z → y ≡ z) → (xs : List A) (ys zs : List B) → AllZip R xs ys →
+pub one_zip : {A B : Type 0} (R : A → B → Type 0) → ((x : A) (y z : B) → R x y → R x z → y ≡ z) →
+    (xs : List A) (ys zs : List B) → AllZip R xs ys →
     AllZip R xs zs → ys ≡ zs
 one_zip R one [] [] [] h k = refl
 one_zip R one [] [] (z ∷ zs) h k = absurd k
@@ -57,8 +59,10 @@ one_tag Both Both e = refl
 -- the letter stands last
 last_letter : (word name : List ℕ) (t : Tag) → IsEntry word name t → get_or word (length word - 1) 0 ≡ letter_of t
 last_letter word name t is =
-    let long : length word - 1 ≡ length name + 1 = omega (arith, ap (λ (l : List ℕ). length l) is.written, length-append name (58 ∷ letter_of t ∷ [])) in
-    ap (λ (k : ℕ). get_or word k 0) long ∙ ap (λ (l : List ℕ). get_or l (length name + 1) 0) is.written ∙ get_or-append-add name (58 ∷ letter_of t ∷ []) 1 0
+    let long : length word - 1 ≡ length name + 1 =
+    omega (arith, ap (λ (l : List ℕ). length l) is.written, length-append name (58 ∷ letter_of t ∷ [])) in
+    ap (λ (k : ℕ). get_or word k 0) long ∙ ap (λ (l : List ℕ). get_or l (length name + 1) 0) is.written
+    ∙ get_or-append-add name (58 ∷ letter_of t ∷ []) 1 0
 
 one_turn : (net : Network) → IsNetwork net → (word : List ℕ) (s t : Turn) → SaysTurn net word s → SaysTurn net word t → s ≡ t
 one_turn net network word s t first second =

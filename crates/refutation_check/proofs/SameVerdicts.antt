@@ -2,7 +2,6 @@
 use Rattle.std.proofs.Common.{ℕ, List, [], ◌∷◌}
 use Rattle.net_model.specs.Network.{Network}
 use Rattle.igp_theory.specs.Laws.{HaveSameTables}
-use Rattle.igp_theory.specs.Loops.{IsTag}
 use Rattle.igp_theory.specs.Routes.{Tables}
 use Rattle.igp_theory.proofs.SameTables.{same_tables_sym, around_ring_over, loop_over, seamless_over, tag_over}
 use Rattle.igp_theory.proofs.WaveFaultLaws.{seamless_waves_over}
@@ -12,7 +11,8 @@ use Rattle.order_search.specs.declared.tree.Node.{Node}
 use Rattle.order_search.specs.declared.tree.Node.TheVariants.{Branch, Leaf, Unvisited}
 use Rattle.order_search.proofs.Fills.{Fill-weaker}
 use Rattle.refutation_check.specs.TreeLines.{pieces_of}
-use Rattle.refutation_check.specs.Verdicts.{AreRightLines, HasNoneSeamless, IsFirstWrongLine, IsRightNode, IsTreeText, IsVerdict}
+use Rattle.refutation_check.specs.Verdicts.{AreRightLines, IsFirstWrongLine, IsRightNode, IsTreeText, IsTextVerdict}
+use Rattle.igp_theory.specs.Waves.{HasNoneSeamless}
 use Rattle.refutation_check.specs.Verdicts.{header_missing, wrong_there, after_tree, ends_early}
 use Rattle.refutation_check.specs.WrongLines.{IsLowestKind, WrongBranch, WrongNode, WrongWords}
 use Rattle.refutation_check.specs.declared.verdict.Verdict.{Verdict}
@@ -39,7 +39,8 @@ wrong_over net old new old' new' same place (Leaf cycle) kind w = w
 wrong_over net old new old' new' same place Unvisited kind w = w
 
 -- and the same words
-words_over : (net : Network) (old new old' new' : Tables) → HaveSameTables net old new old' new' → (place : Place) (words : List (List ℕ)) (kind : WrongKind)
+words_over : (net : Network) (old new old' new' : Tables) → HaveSameTables net old new old' new' →
+    (place : Place) (words : List (List ℕ)) (kind : WrongKind)
     → WrongWords net old new place words kind → WrongWords net old' new' place words kind
 words_over net old new old' new' same place words Form w = w
 words_over net old new old' new' same place words Router w = w
@@ -88,7 +89,7 @@ module _ (net : Network) (old new old' new' : Tables) (same : HaveSameTables net
       ends_early lines nodes place left is (lines_over lines nodes (place ∷ left) right)
 
   -- a text has the same verdict
-  pub verdict_over : (text : List ℕ) (verdict : Verdict) → IsVerdict net old new text verdict → IsVerdict net old' new' text verdict
+  pub verdict_over : (text : List ℕ) (verdict : Verdict) → IsTextVerdict net old new text verdict → IsTextVerdict net old' new' text verdict
   verdict_over text (Closed branches leaves) is = record {
     nodes = is.nodes;
     tree = tree_over text is.nodes is.tree;

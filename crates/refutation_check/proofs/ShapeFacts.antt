@@ -6,20 +6,14 @@ use Rattle.net_addr.specs.AddressWords.{IsAddressWord}
 use Rattle.refutation_check.specs.TreeLines.{HasForm, branch_form, leaf_form, open_form, IsBranchLine, IsLeafLine, IsSomeEntry}
 use Rattle.refutation_check.specs.declared.shape.Shape.{Shape}
 use Rattle.refutation_check.specs.declared.shape.Shape.TheVariants.{Branch, Leaf, Open}
-use Rattle.refutation_check.specs.steps.Shapes.{IsShape, LieInside}
-use Rattle.refutation_check.specs.steps.Spans.{texts_of}
+use Rattle.refutation_check.specs.steps.Shapes.{IsShape}
+use Rattle.refutation_check.specs.steps.Spans.{span_texts}
 use Rattle.refutation_check.proofs.SaidNodes.{first_word, later_words, branch_no_leaf, branch_no_open, leaf_no_open}
-
--- the words of a shape stand in the text
-pub inside_of : (text : List ℕ) (words : List (List ℕ)) (shape : Shape) → IsShape text words shape → LieInside text shape
-inside_of text words (Branch a entries) is = is.inside
-inside_of text words (Leaf names) is = is.inside
-inside_of text words Open is = tt
 
 -- words with a shape have a form
 pub shape_form : (text : List ℕ) (words : List (List ℕ)) (shape : Shape) → IsShape text words shape → HasForm words
-shape_form text words (Branch a entries) is = branch_form a (texts_of text entries.now) is.line is.tagged
-shape_form text words (Leaf names) is = leaf_form (texts_of text names.now) is.line
+shape_form text words (Branch a entries) is = branch_form a (span_texts text entries.now) is.line is.tagged
+shape_form text words (Leaf names) is = leaf_form (span_texts text names.now) is.line
 shape_form text words Open is = open_form is
 
 -- a second word that is no address makes no branch
@@ -28,12 +22,6 @@ pub no_address : (words rest es : List (List ℕ)) (first : List ℕ) (a : ℕ) 
 no_address words rest es first a is none line =
     let e : first ∷ rest ≡ line.address ∷ es = sym is ∙ later_words (codes "branch") (codes "branch") words (line.address ∷ es) line.words_are in
     none a (subst (λ (w : List ℕ). IsAddressWord w a) (sym (first_word first line.address rest es e)) line.stands)
-
--- the further words of the line of a branch
-pub branch_rest : (words rest es : List (List ℕ)) (first : List ℕ) (a : ℕ) → words ≡ first ∷ rest → IsBranchLine (codes "branch" ∷ words) a es → rest ≡ es
-branch_rest words rest es first a is line =
-    let e : first ∷ rest ≡ line.address ∷ es = sym is ∙ later_words (codes "branch") (codes "branch") words (line.address ∷ es) line.words_are in
-    later_words first line.address rest es e
 
 -- What is told of the words behind `branch`, `leaf` and `open` tells the shape of all words
 
@@ -58,23 +46,3 @@ leaf_answer text words rest None is none some = λ form. no (subst HasForm is fo
     no (branch_form a es line all) = branch_no_leaf (line.address ∷ es) rest (sym line.words_are)
     no (leaf_form names line) = none names line
     no (open_form e) = leaf_no_open rest [] e
-
-pub open_answer : (text : List ℕ) (words rest : List (List ℕ)) (found : Option Shape) → words ≡ codes "open" ∷ rest →
-    IfNone found (codes "open" ∷ rest ≡ codes "open" ∷ [] → ⊥)
-    → IfSome found (IsShape text (codes "open" ∷ rest)) → MatchOption found (HasForm words → ⊥) (IsShape text words)
-open_answer text words rest (Some shape) is none some = subst (λ (ws : List (List ℕ)). IsShape text ws shape) (sym is) some
-open_answer text words rest None is none some = λ form. no (subst HasForm is form)
-  where
-    no : HasForm (codes "open" ∷ rest) → ⊥
-    no (branch_form a es line all) = branch_no_open (line.address ∷ es) rest (sym line.words_are)
-    no (leaf_form names line) = leaf_no_open names rest (sym line.words_are)
-    no (open_form e) = none e
-
--- another first word has no form
-pub other_word : (words rest : List (List ℕ)) (first : List ℕ) → words ≡ first ∷ rest → ¬ (first ≡ codes "branch") → ¬ (first ≡ codes "leaf") →
-    ¬ (first ≡ codes "open") → HasForm words → ⊥
-other_word words rest first is no_branch no_leaf no_open (branch_form a es line all) = no_branch
-    (first_word first (codes "branch") rest (line.address ∷ es) (sym is ∙ line.words_are))
-other_word words rest first is no_branch no_leaf no_open (leaf_form names line) = no_leaf
-    (first_word first (codes "leaf") rest names (sym is ∙ line.words_are))
-other_word words rest first is no_branch no_leaf no_open (open_form e) = no_open (first_word first (codes "open") rest [] (sym is ∙ e))

@@ -13,8 +13,8 @@ use Rattle.order_search.specs.declared.tree.Node.{Node}
 use Rattle.order_search.specs.declared.tree.Node.TheVariants.{Branch, Leaf, Unvisited}
 
 -- the first line of a tree file
-abbrev pub header : List ℕ
-header = codes "tree 1"
+abbrev pub tree_header : List ℕ
+tree_header = codes "tree 1"
 
 -- the pieces of a line between its blanks. One of them is empty where the line begins or ends with a blank,
 -- or holds two in a row; a line of words joined by one blank has just these words

@@ -1,5 +1,5 @@
 -- How trees are printed, and that a printed tree reads back.
-use Rattle.std.specs.Prelude.{◌≡◌, ◌≢◌, ℕ, ◌^◌, ◌<◌, ◌≤◌, List, [], ◌∷◌, ◌++◌, length, map, slice_index_or, codes, All, AllPairs}
+use Rattle.std.specs.Prelude.{◌≡◌, ◌≢◌, ℕ, ◌^◌, ◌<◌, ◌≤◌, List, [], ◌∷◌, ◌++◌, length, map, codes, All, AllPairs}
 use Rattle.std.specs.List.{AllZip}
 use Rattle.net_addr.specs.Lines.{line_texts}
 use Rattle.net_model.specs.Network.{Network}
@@ -10,12 +10,8 @@ use Rattle.order_core.specs.declared.turn.Turn.{Turn}
 use Rattle.order_search.specs.declared.tree.Node.{Node}
 use Rattle.order_search.specs.declared.tree.Node.TheVariants.{Branch, Leaf, Unvisited}
 use Rattle.printed_lines.specs.Texts.{text_of}
-use Rattle.printed_lines.specs.Words.{joined, dotted}
-use Rattle.refutation_check.specs.TreeLines.{header, letter_of, pieces_of, SaysNode}
-
--- the name of a router
-abbrev pub router_word : List (List ℕ) → ℕ → List ℕ
-router_word names u = slice_index_or names u []
+use Rattle.printed_lines.specs.Words.{joined, dotted, router_word}
+use Rattle.refutation_check.specs.TreeLines.{tree_header, letter_of, pieces_of, SaysNode}
 
 -- a turn: the name of its router, a colon (58), and the letter of its tag
 abbrev pub entry_word : List (List ℕ) → Turn → List ℕ
@@ -33,7 +29,7 @@ node_line names node = joined (node_words names node)
 
 -- the text of a tree: the header, then a line for each node
 abbrev pub tree_text : List (List ℕ) → List Node → List ℕ
-tree_text names nodes = text_of (header ∷ map (node_line names) nodes)
+tree_text names nodes = text_of (tree_header ∷ map (node_line names) nodes)
 
 -- the routers of a node are below the count
 abbrev pub NodeBelow : ℕ → Node → Type 0
@@ -60,7 +56,7 @@ IsPrintedNode Unvisited = Unit {0}
 -- the text of some nodes reads as these: its lines are the header and lines that say them
 pub record ReadsAsNodes (net : Network) (text : List ℕ) (nodes : List Node) : Type 0 where
   pub lines : List (List ℕ)
-  pub text_is : line_texts text ≡ header ∷ lines
+  pub text_is : line_texts text ≡ tree_header ∷ lines
   pub said : AllZip (λ (line : List ℕ) (node : Node). SaysNode net (pieces_of line) node) lines nodes
 
 -- the text of nodes of a network's routers reads as these nodes

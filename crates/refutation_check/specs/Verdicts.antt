@@ -5,12 +5,11 @@ use Rattle.net_addr.specs.Lines.{line_texts}
 use Rattle.net_model.specs.Network.{Network}
 use Rattle.igp_theory.specs.Loops.{IsLoop}
 use Rattle.igp_theory.specs.Routes.{Tables}
-use Rattle.igp_theory.specs.States.{IsSeamless}
-use Rattle.igp_theory.specs.Waves.{AreSeamlessWaves}
+use Rattle.igp_theory.specs.Waves.{HasNoneSeamless}
 use Rattle.order_search.specs.Trees.{Place, Fill, IsTreeNode, IsVisited, branch_count}
 use Rattle.order_search.specs.declared.tree.Node.{Node}
 use Rattle.order_search.specs.declared.tree.Node.TheVariants.{Branch, Leaf, Unvisited}
-use Rattle.refutation_check.specs.TreeLines.{header, pieces_of, SaysNode}
+use Rattle.refutation_check.specs.TreeLines.{tree_header, pieces_of, SaysNode}
 use Rattle.refutation_check.specs.WrongLines.{WrongWords, IsLowestKind}
 use Rattle.refutation_check.specs.declared.verdict.Verdict.{Verdict}
 use Rattle.refutation_check.specs.declared.verdict.Verdict.TheVariants.{Closed, Unfinished, Wrong}
@@ -50,7 +49,7 @@ pub record AreRightLines (net : Network) (old new : Tables) (lines : List (List 
 -- the lines of a text are the header and the right lines of a tree
 pub record IsTreeText (net : Network) (old new : Tables) (text : List ℕ) (nodes : List Node) : Type 0 where
   pub lines : List (List ℕ)
-  pub text_is : line_texts text ≡ header ∷ lines
+  pub text_is : line_texts text ≡ tree_header ∷ lines
   pub right : AreRightLines net old new lines nodes []
 
 -- a text is a closed tree: it has no unvisited place, and so many branches and leaves
@@ -72,31 +71,26 @@ pub record IsUnfinishedText (net : Network) (old new : Tables) (text : List ℕ)
 -- place open, unless it's said otherwise
 pub data IsFirstWrongLine (net : Network) (old new : Tables) (text : List ℕ) : ℕ → WrongKind → Type 0 where
   -- the first line is another than the header, or missing
-  header_missing : ((lines : List (List ℕ)) → ¬ (line_texts text ≡ header ∷ lines)) → IsFirstWrongLine net old new text 1 Form
+  header_missing : ((lines : List (List ℕ)) → ¬ (line_texts text ≡ tree_header ∷ lines)) → IsFirstWrongLine net old new text 1 Form
   -- the line is wrong at the first open place
   wrong_there : (before : List (List ℕ)) (line : List ℕ) (after : List (List ℕ)) (nodes : List Node) (place : Place) (left : List Place)
       (kind : WrongKind) →
-      line_texts text ≡ header ∷ (before ++ line ∷ after) → AreRightLines net old new before nodes (place ∷ left) →
+      line_texts text ≡ tree_header ∷ (before ++ line ∷ after) → AreRightLines net old new before nodes (place ∷ left) →
       IsLowestKind (WrongWords net old new place (pieces_of line)) kind → IsFirstWrongLine net old new text (length before + 2) kind
   -- the tree is whole before the line
   after_tree : (before : List (List ℕ)) (line : List ℕ) (after : List (List ℕ)) (nodes : List Node) →
-      line_texts text ≡ header ∷ (before ++ line ∷ after) → AreRightLines net old new before nodes [] →
+      line_texts text ≡ tree_header ∷ (before ++ line ∷ after) → AreRightLines net old new before nodes [] →
       IsFirstWrongLine net old new text (length before + 2) Form
   -- the text ends before the tree is whole
   ends_early : (lines : List (List ℕ)) (nodes : List Node) (place : Place) (left : List Place) →
-      line_texts text ≡ header ∷ lines → AreRightLines net old new lines nodes (place ∷ left) →
+      line_texts text ≡ tree_header ∷ lines → AreRightLines net old new lines nodes (place ∷ left) →
       IsFirstWrongLine net old new text (length lines + 2) Form
 
 -- the verdict on a text
-abbrev pub IsVerdict : Network → Tables → Tables → List ℕ → Verdict → Type 0
-IsVerdict net old new text (Closed branches leaves) = IsClosedText net old new text branches leaves
-IsVerdict net old new text (Unfinished unvisited) = IsUnfinishedText net old new text unvisited
-IsVerdict net old new text (Wrong line kind) = IsFirstWrongLine net old new text line kind
-
--- no order of the network's routers is seamless, and no wave list
-pub record HasNoneSeamless (net : Network) (old new : Tables) : Type 0 where
-  pub waves : (ranks : List ℕ) → ¬ AreSeamlessWaves net old new ranks
-  pub orders : (order : List ℕ) → ¬ IsSeamless net old new order
+abbrev pub IsTextVerdict : Network → Tables → Tables → List ℕ → Verdict → Type 0
+IsTextVerdict net old new text (Closed branches leaves) = IsClosedText net old new text branches leaves
+IsTextVerdict net old new text (Unfinished unvisited) = IsUnfinishedText net old new text unvisited
+IsTextVerdict net old new text (Wrong line kind) = IsFirstWrongLine net old new text line kind
 
 -- what a closed tree means
 abbrev pub RefutesWhereClosed : Network → Tables → Tables → Verdict → Type 0

@@ -69,16 +69,16 @@ WrongWords net old new place words OneSided = SaysWrongNode net old new place wo
 WrongWords net old new place words NotAssumed = SaysWrongNode net old new place words NotAssumed
 
 -- the number of a kind
-abbrev pub number_of : WrongKind → ℕ
-number_of Form = 1
-number_of Router = 2
-number_of Address = 3
-number_of Originator = 4
-number_of Step = 5
-number_of OneSided = 6
-number_of NotAssumed = 7
+abbrev pub kind_number : WrongKind → ℕ
+kind_number Form = 1
+kind_number Router = 2
+kind_number Address = 3
+kind_number Originator = 4
+kind_number Step = 5
+kind_number OneSided = 6
+kind_number NotAssumed = 7
 
 -- P holds of the kind, and of none with a lower number
 pub record IsLowestKind (P : WrongKind → Type 0) (kind : WrongKind) : Type 0 where
   pub wrong : P kind
-  pub lowest : (other : WrongKind) → P other → number_of kind ≤ number_of other
+  pub lowest : (other : WrongKind) → P other → kind_number kind ≤ kind_number other

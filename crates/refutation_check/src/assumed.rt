@@ -1,4 +1,5 @@
-ghost use Rattle.std.specs.Prelude.{◌≡◌, ℕ, ◌+◌, ◌-◌, ◌*◌, ◌<◌, ◌≤◌, ◌↔◌, ◌++◌, ◌∷◌, [], All, Contains, IfOk, IsTrue, OnErr, OnOk, length, take};
+ghost use Rattle.std.specs.Prelude.{◌≡◌, ℕ, ◌+◌, ◌-◌, ◌*◌, ◌<◌, ◌≤◌, ◌↔◌, ◌++◌, ◌∷◌, [], All, Contains, IfOk};
+ghost use Rattle.std.specs.Prelude.{IsTrue, OnErr, OnOk, length, take};
 ghost use Rattle.refutation_check.specs.WrongLines.{IsAssumedRound};
 ghost use Rattle.refutation_check.specs.steps.Rings.{next_at};
 
@@ -9,7 +10,7 @@ use std::marker::Model;
 /// Pairs of routers "u before v" that are assumed, one after another. A pair may be assumed twice, and pairs may have a
 /// cycle. For each pair of routers it is counted how often it is assumed.
 #[derive(Drop)]
-pub struct Assumed {
+pub(crate) struct Assumed {
     routers: u32,
     pairs: Vec<(u32, u32)>,
     counts: Vec<u64>,
@@ -20,16 +21,16 @@ impl Model for Assumed {
 
     ghost Value = { Assumptions };
 
-    ghost use Rattle.refutation_check.specs.steps.Assumed.{AreHeld, assumptions_of};
+    ghost use Rattle.refutation_check.specs.steps.Assumed.{AreHeldCounts, assumptions_of};
 
     ghost view = { assumptions_of };
 
-    ghost invariant = { AreHeld };
+    ghost invariant = { AreHeldCounts };
 }
 
 impl Assumed {
     /// No pair among this many routers.
-    pub fn new(alloc: Global, routers: u32) -> Result<Assumed, OutOfMemory>
+    pub(crate) fn new(alloc: Global, routers: u32) -> Result<Assumed, OutOfMemory>
         requires { routers ≤ 1000 }
         ensures routers { IfOk result (λ a. a.routers ≡ routers) }
         ensures pairs { IfOk result (λ a. a.pairs ≡ []) }
@@ -43,7 +44,7 @@ impl Assumed {
     }
 
     /// Assumes one more pair.
-    pub fn add(&mut self, before: u32, after: u32) -> Result<(), OutOfMemory>
+    pub(crate) fn add(&mut self, before: u32, after: u32) -> Result<(), OutOfMemory>
         requires before_in { before < self.old.routers }
         requires after_in { after < self.old.routers }
         ensures ok { OnOk result (self.new ≡ record self.old { pairs = self.old.pairs ++ (before, after) ∷ [] }) }
@@ -56,7 +57,7 @@ impl Assumed {
     }
 
     /// Takes back the pair that was assumed last.
-    pub fn take_back(&mut self)
+    pub(crate) fn take_back(&mut self)
         requires { 0 < length self.old.pairs }
         ensures routers { self.new.routers ≡ self.old.routers }
         ensures pairs { self.new.pairs ≡ take (length self.old.pairs - 1) self.old.pairs }
@@ -68,7 +69,7 @@ impl Assumed {
     }
 
     /// Whether a pair is assumed.
-    pub fn holds(&self, before: u32, after: u32) -> bool
+    fn holds(&self, before: u32, after: u32) -> bool
         requires before_in { before < self.now.routers }
         requires after_in { after < self.now.routers }
         ensures { IsTrue result ↔ Contains self.now.pairs (before, after) }
@@ -77,7 +78,7 @@ impl Assumed {
     }
 
     /// Whether each router of a cycle is assumed before the next one, and the last one before the first.
-    pub fn holds_round(&self, cycle: &[u32]) -> bool
+    pub(crate) fn holds_round(&self, cycle: &[u32]) -> bool
         requires { All (λ (u : ℕ). u < self.now.routers) cycle.now }
         ensures { IsTrue result ↔ IsAssumedRound self.now.pairs cycle.now }
     {

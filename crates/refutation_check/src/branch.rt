@@ -1,4 +1,4 @@
-ghost use Rattle.std.specs.Prelude.{◌≡◌, ◌<◌, ◌↔◌, ℕ, All, Any, Contains, IfNone, IfSome, IsTrue, length};
+ghost use Rattle.std.specs.Prelude.{◌≡◌, ◌<◌, ◌↔◌, All, Any, IfNone, IfSome, IsTrue, length};
 ghost use Rattle.net_model.specs.Network.{Connected};
 ghost use Rattle.net_model.specs.Refusals.{IsNetwork};
 ghost use Rattle.route_core.specs.Tables.{HasEntry};
@@ -21,7 +21,7 @@ use rib_mix::{Mixed, Next, Phase};
 use route_core::RouteSource;
 
 /// The lowest kind by which a branch is wrong, none where it is right.
-pub fn branch_fault<O: RouteSource, N: RouteSource>(
+pub(crate) fn branch_fault<O: RouteSource, N: RouteSource>(
     mixed: &Mixed<'_, O, N>,
     address: u32,
     turns: &[Turn],
@@ -29,7 +29,8 @@ pub fn branch_fault<O: RouteSource, N: RouteSource>(
     requires network { IsNetwork mixed.now.net }
     requires below { All (λ turn. turn.router < length mixed.now.net) turns.now }
     ensures right { IfNone result (IsRightBranch mixed.now.net (HasEntry (O.table mixed.now.old)) (HasEntry (N.table mixed.now.new)) address turns.now) }
-    ensures wrong { IfSome result (IsLowestKind (WrongBranch mixed.now.net (HasEntry (O.table mixed.now.old)) (HasEntry (N.table mixed.now.new)) address turns.now)) }
+    ensures wrong { IfSome result (IsLowestKind (WrongBranch mixed.now.net (HasEntry (O.table mixed.now.old))
+        (HasEntry (N.table mixed.now.new)) address turns.now)) }
 {
     let atom = mixed.atoms().of(address);
     let Some(target) = mixed.atoms().target(atom) else {
@@ -69,7 +70,8 @@ fn goes_round<O: RouteSource, N: RouteSource>(
 ) -> bool
     requires class { IsInClass mixed.now.classes atom address }
     requires must { All (λ (turn : Turn). MustForward mixed.now.net address turn.router) turns.now }
-    ensures { IsTrue result ↔ AroundRing (λ (r s : Turn). IsTag mixed.now.net (HasEntry (O.table mixed.now.old)) (HasEntry (N.table mixed.now.new)) address r s.router) turns.now }
+    ensures { IsTrue result ↔ AroundRing (λ (r s : Turn). IsTag mixed.now.net (HasEntry (O.table mixed.now.old)) (HasEntry (N.table mixed.now.new)) address
+        r s.router) turns.now }
 {
     for place in 0..turns.len() {
         let turn = turns[place];

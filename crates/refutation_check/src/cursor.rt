@@ -1,4 +1,4 @@
-ghost use Rattle.std.specs.Prelude.{◌≡◌, ◌<◌, ◌++◌, ◌∷◌, [], IfOk, MatchOption, OnOk, Some, drop, length, slice_get};
+ghost use Rattle.std.specs.Prelude.{◌≡◌, ◌<◌, ◌∷◌, [], IfOk, MatchOption, Some, drop, length};
 ghost use Rattle.order_core.specs.Turns.{HasBothTags, child_pairs, new_routers, old_routers};
 
 use net_addr::OutOfMemory;
@@ -11,7 +11,7 @@ use std::marker::Model;
 /// It is seen as the pairs of the children that are left, from the one that is visited on. The children themselves,
 /// one for each Old and each New turn, are never listed.
 #[derive(Drop)]
-pub struct Cursor {
+pub(crate) struct Cursor {
     olds: Vec<u32>,
     news: Vec<u32>,
     old: usize,
@@ -33,7 +33,7 @@ impl Model for Cursor {
 
 impl Cursor {
     /// The first child of a branch.
-    pub fn first(alloc: Global, turns: &[Turn]) -> Result<Cursor, OutOfMemory>
+    pub(crate) fn first(alloc: Global, turns: &[Turn]) -> Result<Cursor, OutOfMemory>
         requires { HasBothTags turns.now }
         ensures { IfOk result (λ cursor. cursor ≡ child_pairs turns.now) }
     {
@@ -48,14 +48,14 @@ impl Cursor {
     }
 
     /// The pair of the child that is visited.
-    pub fn here(&self) -> (u32, u32)
+    pub(crate) fn here(&self) -> (u32, u32)
         ensures { self.now ≡ result ∷ drop 1 self.now }
     {
         (self.olds[self.old], self.news[self.new])
     }
 
     /// The next child, none after the last.
-    pub fn next(self) -> Option<Cursor>
+    pub(crate) fn next(self) -> Option<Cursor>
         ensures some { 0 < length self }
         ensures next { MatchOption result (drop 1 self ≡ []) (λ cursor. cursor ≡ drop 1 self) }
     {

@@ -1,11 +1,12 @@
-ghost use Rattle.std.specs.Prelude.{◌≡◌, ◌<◌, ◌≤◌, ◌^◌, ◌-◌, ◌↔◌, [], ◌∷◌, ℕ, List, All, IfNone, IfOk, IfSome, IsTrue, MatchResult, length};
+ghost use Rattle.std.specs.Prelude.{◌≡◌, ◌<◌, ◌≤◌, ◌^◌, ◌-◌, ◌↔◌, [], ◌∷◌, ℕ, List, All, IfNone, IfOk, IfSome, IsTrue};
+ghost use Rattle.std.specs.Prelude.{MatchResult, length};
 ghost use Rattle.net_addr.specs.Lines.{line_texts, text_lines};
 ghost use Rattle.net_addr.specs.Spans.{LiesIn};
 ghost use Rattle.net_model.specs.Refusals.{IsNetwork};
 ghost use Rattle.route_core.specs.Tables.{HasEntry};
-ghost use Rattle.refutation_check.specs.TreeLines.{header};
-ghost use Rattle.refutation_check.specs.Verdicts.{IsVerdict, RefutesWhereClosed};
-ghost use Rattle.refutation_check.specs.steps.Reading.{AreEntries, HasRead, IsEndVerdict, IsWholeVerdict, IsWrongVerdict, line_bytes};
+ghost use Rattle.refutation_check.specs.TreeLines.{tree_header};
+ghost use Rattle.refutation_check.specs.Verdicts.{IsTextVerdict, RefutesWhereClosed};
+ghost use Rattle.refutation_check.specs.steps.Reading.{AreTreeEntries, HasReadLines, IsEndVerdict, IsWholeVerdict, IsWrongVerdict, line_bytes};
 
 use crate::reading::Reading;
 use crate::spans::bytes_at;
@@ -28,7 +29,7 @@ pub fn verify<O: RouteSource, N: RouteSource>(
     text: &[u8],
 ) -> Result<Verdict, OutOfMemory>
     requires { length text.now < 2 ^ 26 }
-    ensures verdict { IfOk result (IsVerdict mixed.now.net (HasEntry (O.table mixed.now.old)) (HasEntry (N.table mixed.now.new)) text.now) }
+    ensures verdict { IfOk result (IsTextVerdict mixed.now.net (HasEntry (O.table mixed.now.old)) (HasEntry (N.table mixed.now.new)) text.now) }
     ensures network { IsNetwork mixed.now.net }
     ensures refutes { IfOk result (RefutesWhereClosed mixed.now.net (HasEntry (O.table mixed.now.old)) (HasEntry (N.table mixed.now.new))) }
 {
@@ -83,8 +84,8 @@ fn entries_of<'a>(text: &[u8], lines: &'a [Line]) -> Option<&'a [Line]>
     requires exact { lines.now ≡ text_lines text.now }
     requires inside { All (λ line. LiesIn text.now line.span) lines.now }
     requires texts { line_bytes text.now lines.now ≡ line_texts text.now }
-    ensures none { IfNone result ((lines : List (List ℕ)) → line_texts text.now ≡ header ∷ lines → ⊥) }
-    ensures some { IfSome result (λ entries. AreEntries text.now entries.now) }
+    ensures none { IfNone result ((lines : List (List ℕ)) → line_texts text.now ≡ tree_header ∷ lines → ⊥) }
+    ensures some { IfSome result (λ entries. AreTreeEntries text.now entries.now) }
     ensures few { IfSome result (λ entries. length entries.now < 2 ^ 32 - 2) }
 {
     let (first, entries) = lines.split_first()?;
@@ -97,7 +98,7 @@ fn entries_of<'a>(text: &[u8], lines: &'a [Line]) -> Option<&'a [Line]>
 
 /// Whether a line is the header.
 fn is_header(line: &[u8]) -> bool
-    ensures { IsTrue result ↔ (line.now ≡ header) }
+    ensures { IsTrue result ↔ (line.now ≡ tree_header) }
 {
     line == b"tree 1".as_slice()
 }
@@ -112,12 +113,12 @@ fn read_lines<O: RouteSource, N: RouteSource>(
 ) -> Result<Result<Reading, Verdict>, OutOfMemory>
     requires short { length text.now < 2 ^ 26 }
     requires network { IsNetwork mixed.now.net }
-    requires entries { AreEntries text.now entries.now }
+    requires entries { AreTreeEntries text.now entries.now }
     requires few { length entries.now < 2 ^ 32 - 2 }
     requires routers { start.walk.routers ≡ length mixed.now.net }
-    requires start { HasRead mixed.now.net (HasEntry (O.table mixed.now.old)) (HasEntry (N.table mixed.now.new)) [] start }
+    requires start { HasReadLines mixed.now.net (HasEntry (O.table mixed.now.old)) (HasEntry (N.table mixed.now.new)) [] start }
     ensures { IfOk result (λ read. MatchResult read
-        (HasRead mixed.now.net (HasEntry (O.table mixed.now.old)) (HasEntry (N.table mixed.now.new)) (line_bytes text.now entries.now))
+        (HasReadLines mixed.now.net (HasEntry (O.table mixed.now.old)) (HasEntry (N.table mixed.now.new)) (line_bytes text.now entries.now))
         (IsWrongVerdict mixed.now.net (HasEntry (O.table mixed.now.old)) (HasEntry (N.table mixed.now.new)) text.now)) }
 {
     let mut reading = start;

@@ -1,31 +1,41 @@
 //! Refutations as texts: a tree is printed, and a tree file is judged over a network and two sources of tables, without
 //! anything of the search that made it.
 //!
-//! | File | What it holds |
-//! |---|---|
-//! | `verdict` | what is found of a tree file |
-//! | `judge` | the judge of a text |
-//! | `text` | how a tree is printed |
-//! | `laws` | what verdicts mean, that a text has one, and that printed trees read back |
-//! | `spans`, `shape`, `names`, `node_line` | which node a line is: its words, their form, its names |
-//! | `branch` | why a branch is wrong |
-//! | `assumed`, `cursor`, `walk` | the open places of a tree: what is assumed there, and the children that are left |
-//! | `tally`, `reading` | what is counted; one line after another |
+//! | File | What it holds | Time |
+//! |---|---|---|
+//! | `verdict` | what is found of a tree file | |
+//! | `judge` | the judge of a text | its lines, one after another |
+//! | `text` | how a tree is printed | the tree's names |
+//! | `laws` | what verdicts mean, that a text has one, and that printed trees read back | |
+//! | `spans`, `shape`, `names`, `node_line` | which node a line is: its words, their form, its names | the line's bytes, and of n names n squared |
+//! | `branch` | why a branch is wrong | the turns, each with the hops of its address |
+//! | `assumed`, `cursor`, `walk` | the open places of a tree: what is assumed there, and the children left | a pair constant; the start, routers squared |
+//! | `tally`, `reading` | what is counted; one line after another | constant besides the line |
+//!
+//! `specs/TreeLines` and `WrongLines` say what a line says and which kind is wrong with it, `Verdicts` what a text is,
+//! `TreeTexts` how trees are printed.
 #![tactic(auto)]
 
+// What is said of a text, and how trees are printed.
+mod laws;
+mod text;
+mod verdict;
+
+// Line after line.
+mod judge;
+mod reading;
+mod tally;
+
+// What a line says.
+mod names;
+mod node_line;
+mod shape;
+mod spans;
+
+// Whether it is right at its place.
 mod assumed;
 mod branch;
 mod cursor;
-mod judge;
-mod laws;
-mod names;
-mod node_line;
-mod reading;
-mod shape;
-mod spans;
-mod tally;
-mod text;
-mod verdict;
 mod walk;
 
 pub use judge::verify;

@@ -1,13 +1,11 @@
-ghost use Rattle.std.specs.Prelude.{◌≡◌, ◌≢◌, ℕ, List, ◌++◌, ◌∷◌, [], ◌↔◌, All, AllPairs, Contains, IfOk, IsTrue, MatchOption, OnOk};
-ghost use Rattle.std.specs.List.{AllZip};
+ghost use Rattle.std.specs.Prelude.{◌≡◌, ℕ, List, ◌++◌, ◌∷◌, [], ◌↔◌, All, Contains, IfOk, IsTrue, MatchOption, OnOk};
 ghost use Rattle.net_addr.specs.Spans.{LiesIn};
-ghost use Rattle.net_model.specs.Lookups.{IsNamed};
 ghost use Rattle.net_model.specs.Refusals.{IsNetwork};
 ghost use Rattle.order_core.specs.Turns.{routers_of};
 ghost use Rattle.order_core.specs.declared.turn.Turn.{Turn};
-ghost use Rattle.refutation_check.specs.TreeLines.{IsSomeEntry, SaysTurn};
+ghost use Rattle.refutation_check.specs.TreeLines.{SaysTurn};
 ghost use Rattle.refutation_check.specs.steps.Names.{IsFurtherRouter, IsFurtherTurn, NameRouters, NamesNoFurtherRouter, SayTurns, SaysNoFurtherTurn};
-ghost use Rattle.refutation_check.specs.steps.Spans.{texts_of};
+ghost use Rattle.refutation_check.specs.steps.Spans.{span_texts};
 
 use crate::shape::split_entry;
 use crate::spans::bytes_at;
@@ -18,7 +16,7 @@ use order_search::Cycle;
 use std::alloc::Global;
 
 /// The turns that some entries say, none where a name is no router's or is there twice.
-pub fn turns_of(
+pub(crate) fn turns_of(
     alloc: Global,
     net: &Net,
     text: &[u8],
@@ -27,8 +25,8 @@ pub fn turns_of(
     requires network { IsNetwork net.now }
     requires inside { All (LiesIn text.now) entries.now }
     ensures { IfOk result (λ found. MatchOption found
-        ((turns : List Turn) → SayTurns net.now (texts_of text.now entries.now) turns → ⊥)
-        (SayTurns net.now (texts_of text.now entries.now))) }
+        ((turns : List Turn) → SayTurns net.now (span_texts text.now entries.now) turns → ⊥)
+        (SayTurns net.now (span_texts text.now entries.now))) }
 {
     let mut turns = Vec::new(alloc);
     for entry in entries {
@@ -41,7 +39,7 @@ pub fn turns_of(
 }
 
 /// The routers that some spans name, none where one is no router's name or is there twice.
-pub fn routers_named(
+pub(crate) fn routers_named(
     alloc: Global,
     net: &Net,
     text: &[u8],
@@ -50,8 +48,8 @@ pub fn routers_named(
     requires network { IsNetwork net.now }
     requires inside { All (LiesIn text.now) names.now }
     ensures { IfOk result (λ found. MatchOption found
-        ((routers : List ℕ) → NameRouters net.now (texts_of text.now names.now) routers → ⊥)
-        (NameRouters net.now (texts_of text.now names.now))) }
+        ((routers : List ℕ) → NameRouters net.now (span_texts text.now names.now) routers → ⊥)
+        (NameRouters net.now (span_texts text.now names.now))) }
 {
     let mut routers = Vec::new(alloc);
     for name in names {
@@ -119,7 +117,7 @@ fn further_router(net: &Net, name: &[u8], routers: &[u32]) -> Option<u32>
 }
 
 /// Whether the router is among some.
-pub fn has_router(routers: &[u32], router: u32) -> bool
+pub(crate) fn has_router(routers: &[u32], router: u32) -> bool
     ensures { IsTrue result ↔ Contains routers.now router }
 {
     routers.contains(&router)

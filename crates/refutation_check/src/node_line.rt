@@ -1,10 +1,10 @@
-ghost use Rattle.std.specs.Prelude.{◌<◌, ◌^◌, ◌≡◌, List, ℕ, All, IfOk, MatchOption, MatchResult, length};
+ghost use Rattle.std.specs.Prelude.{◌<◌, ◌^◌, List, ℕ, All, IfOk, MatchOption, MatchResult, length};
 ghost use Rattle.net_addr.specs.Spans.{bytes_of, LiesIn};
 ghost use Rattle.net_model.specs.Refusals.{IsNetwork};
 ghost use Rattle.order_search.specs.declared.tree.Node.{Node};
 ghost use Rattle.refutation_check.specs.TreeLines.{SaysNode, pieces_of};
-ghost use Rattle.refutation_check.specs.steps.Shapes.{IsShape, IsUnread, LieInside};
-ghost use Rattle.refutation_check.specs.steps.Spans.{AreFilled, texts_of};
+ghost use Rattle.refutation_check.specs.steps.Shapes.{IsShape, SaysNoNode, LieInside};
+ghost use Rattle.refutation_check.specs.steps.Spans.{AreFilled, span_texts};
 
 use crate::names::{routers_named, turns_of};
 use crate::shape::{Shape, shape_of};
@@ -16,7 +16,7 @@ use order_search::Node;
 use std::alloc::Global;
 
 /// The node that a line of a text says, or why it says none.
-pub fn read_node(
+pub(crate) fn read_node(
     alloc: Global,
     net: &Net,
     text: &[u8],
@@ -27,7 +27,7 @@ pub fn read_node(
     requires inside { LiesIn text.now line }
     ensures { IfOk result (λ said. MatchResult said
         (SaysNode net.now (pieces_of (bytes_of text.now line)))
-        (IsUnread net.now (pieces_of (bytes_of text.now line)))) }
+        (SaysNoNode net.now (pieces_of (bytes_of text.now line)))) }
 {
     match words_of_line(alloc, text, line)? {
         Some(words) => node_of_words(alloc, net, text, words.as_slice()),
@@ -44,10 +44,10 @@ fn node_of_words(
 ) -> Result<Result<Node, WrongKind>, OutOfMemory>
     requires network { IsNetwork net.now }
     requires inside { All (LiesIn text.now) words.now }
-    requires filled { AreFilled (texts_of text.now words.now) }
+    requires filled { AreFilled (span_texts text.now words.now) }
     ensures { IfOk result (λ said. MatchResult said
-        (SaysNode net.now (texts_of text.now words.now))
-        (IsUnread net.now (texts_of text.now words.now))) }
+        (SaysNode net.now (span_texts text.now words.now))
+        (SaysNoNode net.now (span_texts text.now words.now))) }
 {
     match shape_of(text, words) {
         Some(shape) => match node_of(alloc, net, text, shape)? {

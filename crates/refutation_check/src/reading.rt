@@ -1,4 +1,4 @@
-ghost use Rattle.std.specs.Prelude.{◌≡◌, ◌<◌, ◌≤◌, ◌^◌, ◌-◌, ◌∷◌, ℕ, List, IfOk, MatchResult, length};
+ghost use Rattle.std.specs.Prelude.{◌≡◌, ◌<◌, ◌^◌, ◌-◌, ◌∷◌, List, IfOk, MatchResult, length};
 ghost use Rattle.net_addr.specs.Spans.{bytes_of, LiesIn};
 ghost use Rattle.net_model.specs.Refusals.{IsNetwork};
 ghost use Rattle.route_core.specs.Tables.{HasEntry};
@@ -20,16 +20,16 @@ use std::alloc::Global;
 
 /// How far a tree file has been read.
 #[derive(Drop)]
-pub struct Reading {
+pub(crate) struct Reading {
     /// The places that are open.
-    pub walk: Walk,
+    pub(crate) walk: Walk,
     /// What was counted.
-    pub tally: Tally,
+    pub(crate) tally: Tally,
 }
 
 impl Reading {
     /// What is read with one line more, or why that line is wrong.
-    pub fn take_line<O: RouteSource, N: RouteSource>(
+    pub(crate) fn take_line<O: RouteSource, N: RouteSource>(
         self,
         alloc: Global,
         mixed: &Mixed<'_, O, N>,

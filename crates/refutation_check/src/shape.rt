@@ -3,7 +3,7 @@ ghost use Rattle.net_addr.specs.Spans.{LiesIn};
 ghost use Rattle.order_core.specs.declared.turn.Tag.{Tag};
 ghost use Rattle.refutation_check.specs.TreeLines.{HasForm, IsBranchLine, IsEntry, IsLeafLine, IsSomeEntry, letter_of};
 ghost use Rattle.refutation_check.specs.steps.Shapes.{IsShape};
-ghost use Rattle.refutation_check.specs.steps.Spans.{AreFilled, texts_of};
+ghost use Rattle.refutation_check.specs.steps.Spans.{AreFilled, span_texts};
 
 use crate::spans::bytes_at;
 use net_addr::{Span, read_addr};
@@ -11,7 +11,7 @@ use order_core::Tag;
 
 /// What a line is by its words, before its names are looked up.
 #[derive(Clone, Copy, Debug)]
-pub enum Shape<'a> {
+pub(crate) enum Shape<'a> {
     /// A branch.
     Branch {
         /// Its address.
@@ -29,12 +29,12 @@ pub enum Shape<'a> {
 }
 
 /// The shape of the words of a line, none where they haven't the form of a node.
-pub fn shape_of<'a>(text: &[u8], words: &'a [Span]) -> Option<Shape<'a>>
+pub(crate) fn shape_of<'a>(text: &[u8], words: &'a [Span]) -> Option<Shape<'a>>
     requires inside { All (LiesIn text.now) words.now }
-    requires filled { AreFilled (texts_of text.now words.now) }
+    requires filled { AreFilled (span_texts text.now words.now) }
     ensures { MatchOption result
-        (HasForm (texts_of text.now words.now) → ⊥)
-        (IsShape text.now (texts_of text.now words.now)) }
+        (HasForm (span_texts text.now words.now) → ⊥)
+        (IsShape text.now (span_texts text.now words.now)) }
 {
     let (first, others) = words.split_first()?;
     let word = bytes_at(text, *first);
@@ -58,8 +58,8 @@ fn is_text(word: &[u8], text: &[u8]) -> bool
 
 /// The unvisited place, where no word stands behind the first one.
 fn open_shape<'a>(text: &[u8], others: &'a [Span]) -> Option<Shape<'a>>
-    ensures none { IfNone result (codes "open" ∷ texts_of text.now others.now ≡ codes "open" ∷ [] → ⊥) }
-    ensures some { IfSome result (IsShape text.now (codes "open" ∷ texts_of text.now others.now)) }
+    ensures none { IfNone result (codes "open" ∷ span_texts text.now others.now ≡ codes "open" ∷ [] → ⊥) }
+    ensures some { IfSome result (IsShape text.now (codes "open" ∷ span_texts text.now others.now)) }
 {
     let _ = text;
     if others.is_empty() {
@@ -72,8 +72,9 @@ fn open_shape<'a>(text: &[u8], others: &'a [Span]) -> Option<Shape<'a>>
 /// The branch with these words behind its first one.
 fn branch_shape<'a>(text: &[u8], others: &'a [Span]) -> Option<Shape<'a>>
     requires { All (LiesIn text.now) others.now }
-    ensures none { IfNone result ((a : ℕ) (entries : List (List ℕ)) → IsBranchLine (codes "branch" ∷ texts_of text.now others.now) a entries → All IsSomeEntry entries → ⊥) }
-    ensures some { IfSome result (IsShape text.now (codes "branch" ∷ texts_of text.now others.now)) }
+    ensures none { IfNone result ((a : ℕ) (entries : List (List ℕ)) → IsBranchLine (codes "branch" ∷ span_texts text.now others.now) a entries →
+        All IsSomeEntry entries → ⊥) }
+    ensures some { IfSome result (IsShape text.now (codes "branch" ∷ span_texts text.now others.now)) }
 {
     let (address, entries) = others.split_first()?;
     let address = read_addr(bytes_at(text, *address))?;
@@ -86,9 +87,9 @@ fn branch_shape<'a>(text: &[u8], others: &'a [Span]) -> Option<Shape<'a>>
 /// The leaf with these words behind its first one.
 fn leaf_shape<'a>(text: &[u8], others: &'a [Span]) -> Option<Shape<'a>>
     requires inside { All (LiesIn text.now) others.now }
-    requires filled { AreFilled (texts_of text.now others.now) }
-    ensures none { IfNone result ((names : List (List ℕ)) → IsLeafLine (codes "leaf" ∷ texts_of text.now others.now) names → ⊥) }
-    ensures some { IfSome result (IsShape text.now (codes "leaf" ∷ texts_of text.now others.now)) }
+    requires filled { AreFilled (span_texts text.now others.now) }
+    ensures none { IfNone result ((names : List (List ℕ)) → IsLeafLine (codes "leaf" ∷ span_texts text.now others.now) names → ⊥) }
+    ensures some { IfSome result (IsShape text.now (codes "leaf" ∷ span_texts text.now others.now)) }
 {
     if others.len() < 2 {
         return None;
@@ -99,7 +100,7 @@ fn leaf_shape<'a>(text: &[u8], others: &'a [Span]) -> Option<Shape<'a>>
 /// Whether each word is an entry of a branch.
 fn are_entries(text: &[u8], words: &[Span]) -> bool
     requires { All (LiesIn text.now) words.now }
-    ensures { IsTrue result ↔ All IsSomeEntry (texts_of text.now words.now) }
+    ensures { IsTrue result ↔ All IsSomeEntry (span_texts text.now words.now) }
 {
     for word in words {
         if !is_entry(bytes_at(text, *word)) {
@@ -120,7 +121,7 @@ fn is_entry(word: &[u8]) -> bool
 }
 
 /// The name and the tag of an entry, none where the word is no entry.
-pub fn split_entry(word: &[u8]) -> Option<(&[u8], Tag)>
+pub(crate) fn split_entry(word: &[u8]) -> Option<(&[u8], Tag)>
     ensures { MatchOption result (IsSomeEntry word.now → ⊥) (λ cut. IsEntry word.now cut.0.now cut.1) }
 {
     match word {

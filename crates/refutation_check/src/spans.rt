@@ -2,13 +2,13 @@ ghost use Rattle.std.specs.Prelude.{◌≡◌, ◌<◌, ◌≤◌, ◌^◌, leng
 ghost use Rattle.net_addr.specs.Blanks.{is_blank};
 ghost use Rattle.net_addr.specs.Spans.{bytes_of, LiesIn};
 ghost use Rattle.refutation_check.specs.TreeLines.{pieces_of};
-ghost use Rattle.refutation_check.specs.steps.Spans.{AreFilled, texts_of};
+ghost use Rattle.refutation_check.specs.steps.Spans.{AreFilled, span_texts};
 
 use net_addr::{OutOfMemory, Span, SpanList, words};
 use std::alloc::Global;
 
 /// The bytes of a span.
-pub fn bytes_at(text: &[u8], span: Span) -> &[u8]
+pub(crate) fn bytes_at(text: &[u8], span: Span) -> &[u8]
     requires { LiesIn text.now span }
     ensures { result.now ≡ bytes_of text.now span }
 {
@@ -16,16 +16,16 @@ pub fn bytes_at(text: &[u8], span: Span) -> &[u8]
 }
 
 /// The words of a line, none where they aren't joined by one blank each.
-pub fn words_of_line(
+pub(crate) fn words_of_line(
     alloc: Global,
     text: &[u8],
     line: Span,
 ) -> Result<Option<SpanList>, OutOfMemory>
     requires short { length text.now < 2 ^ 26 }
     requires inside { LiesIn text.now line }
-    ensures words { IfOk result (λ found. IfSome found (λ words. texts_of text.now words ≡ pieces_of (bytes_of text.now line))) }
+    ensures words { IfOk result (λ found. IfSome found (λ words. span_texts text.now words ≡ pieces_of (bytes_of text.now line))) }
     ensures inside { IfOk result (λ found. IfSome found (All (LiesIn text.now))) }
-    ensures filled { IfOk result (λ found. IfSome found (λ words. AreFilled (texts_of text.now words))) }
+    ensures filled { IfOk result (λ found. IfSome found (λ words. AreFilled (span_texts text.now words))) }
     ensures none { IfOk result (λ found. IfNone found (AreFilled (pieces_of (bytes_of text.now line)) → ⊥)) }
 {
     let words = words(alloc, text, line)?;

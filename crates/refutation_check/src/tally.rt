@@ -5,18 +5,18 @@ use order_search::Node;
 
 /// How many branches, leaves and unvisited places were read.
 #[derive(Clone, Copy, Debug)]
-pub struct Tally {
+pub(crate) struct Tally {
     /// The branches.
-    pub branches: u32,
+    pub(crate) branches: u32,
     /// The leaves.
-    pub leaves: u32,
+    pub(crate) leaves: u32,
     /// The unvisited places.
-    pub unvisited: u32,
+    pub(crate) unvisited: u32,
 }
 
 impl Tally {
     /// The counts with one node more.
-    pub fn with(self, node: &Node) -> Tally
+    pub(crate) fn with(self, node: &Node) -> Tally
         requires branches { self.branches < 2 ^ 32 - 1 }
         requires leaves { self.leaves < 2 ^ 32 - 1 }
         requires unvisited { self.unvisited < 2 ^ 32 - 1 }

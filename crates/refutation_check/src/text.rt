@@ -1,9 +1,9 @@
-ghost use Rattle.std.specs.Prelude.{◌≡◌, ◌<◌, ◌++◌, ◌∷◌, [], ℕ, All, IfOk, codes, length, map};
+ghost use Rattle.std.specs.Prelude.{◌≡◌, ◌<◌, ◌++◌, ◌∷◌, [], ℕ, All, IfOk, length, map};
 ghost use Rattle.order_core.specs.declared.turn.Turn.{Turn};
 ghost use Rattle.net_model.specs.RouterNames.{names_of};
-ghost use Rattle.printed_lines.specs.Words.{spaced};
+ghost use Rattle.printed_lines.specs.Words.{spaced, router_word};
 ghost use Rattle.refutation_check.specs.TreeLines.{letter_of};
-ghost use Rattle.refutation_check.specs.TreeTexts.{NodeBelow, entry_word, node_line, router_word, tree_text};
+ghost use Rattle.refutation_check.specs.TreeTexts.{NodeBelow, entry_word, node_line, tree_text};
 
 use net_addr::{Bytes, OutOfMemory};
 use net_model::Net;

@@ -16,25 +16,25 @@ use std::marker::Model;
 ///
 /// It holds what is assumed at that place, and a cursor for each branch above it.
 #[derive(Drop)]
-pub struct Walk {
+pub(crate) struct Walk {
     is_open: bool,
     cursors: Vec<Cursor>,
     assumed: Assumed,
 }
 
 impl Model for Walk {
-    ghost use Rattle.refutation_check.specs.steps.Walks.{Standing, standing_of, IsWalk};
+    ghost use Rattle.refutation_check.specs.steps.Walks.{PlacesLeft, standing_of, IsHeldWalk};
 
-    ghost Value = { Standing };
+    ghost Value = { PlacesLeft };
 
     ghost view = { standing_of };
 
-    ghost invariant = { IsWalk };
+    ghost invariant = { IsHeldWalk };
 }
 
 impl Walk {
     /// The place that assumes nothing is open.
-    pub fn start(alloc: Global, routers: u32) -> Result<Walk, OutOfMemory>
+    pub(crate) fn start(alloc: Global, routers: u32) -> Result<Walk, OutOfMemory>
         requires { routers ≤ 1000 }
         ensures routers { IfOk result (λ walk. walk.routers ≡ routers) }
         ensures left { IfOk result (λ walk. walk.left ≡ [] ∷ []) }
@@ -47,7 +47,7 @@ impl Walk {
     }
 
     /// Whether no place is open.
-    pub fn is_whole(&self) -> bool
+    pub(crate) fn is_whole(&self) -> bool
         ensures { IsTrue result ↔ (self.now.left ≡ []) }
     {
         !self.is_open
@@ -55,7 +55,7 @@ impl Walk {
 
     /// Whether each router of a cycle is assumed before the next one at the first open place, and the last one before
     /// the first.
-    pub fn assumes_round(&self, cycle: &[u32]) -> bool
+    pub(crate) fn assumes_round(&self, cycle: &[u32]) -> bool
         requires { All (λ (u : ℕ). u < self.now.routers) cycle.now }
         ensures { (place : Place) (left : List Place) → self.now.left ≡ place ∷ left → IsTrue result ↔ IsAssumedRound place cycle.now }
     {
@@ -63,7 +63,7 @@ impl Walk {
     }
 
     /// The walk with a branch at the first open place: its children are open before the places that were after it.
-    pub fn enter(self, alloc: Global, turns: &[Turn]) -> Result<Walk, OutOfMemory>
+    pub(crate) fn enter(self, alloc: Global, turns: &[Turn]) -> Result<Walk, OutOfMemory>
         requires both { HasBothTags turns.now }
         requires below { All (λ (turn : Turn). turn.router < self.routers) turns.now }
         ensures routers { IfOk result (λ walk. walk.routers ≡ self.routers) }
@@ -86,7 +86,7 @@ impl Walk {
     }
 
     /// The walk behind the first open place.
-    pub fn leave(self) -> Result<Walk, OutOfMemory>
+    pub(crate) fn leave(self) -> Result<Walk, OutOfMemory>
         ensures routers { IfOk result (λ walk. walk.routers ≡ self.routers) }
         ensures left { IfOk result (λ walk. (place : Place) (left : List Place) → self.left ≡ place ∷ left → walk.left ≡ left) }
     {

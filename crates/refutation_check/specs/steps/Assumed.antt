@@ -1,5 +1,6 @@
 -- What is assumed, counted for each pair of routers.
-use Rattle.std.specs.Prelude.{◌≡◌, ℕ, ◌+◌, ◌*◌, ◌<◌, ◌≤◌, ◌==◌, Bool, ◌&&◌, if◌then◌else◌, List, [], ◌∷◌, length, slice_index}
+use Rattle.std.specs.Prelude.{◌≡◌, ℕ, ◌+◌, ◌*◌, ◌<◌, ◌≤◌, ◌==◌, Bool, ◌&&◌, if◌then◌else◌, List, [], ◌∷◌, length}
+use Rattle.std.specs.Prelude.{slice_index}
 use Rattle.order_core.specs.Pairs.{Pair, AreBelow}
 use Rattle.refutation_check.specs.declared.assumed.Assumed.TheInside.{Inside}
 
@@ -18,7 +19,7 @@ times [] u v = 0
 times (p ∷ pairs) u v = (if is_pair u v p then 1 else 0) + times pairs u v
 
 -- the counts, row by row, are how often each pair is assumed
-pub record AreCounts (n : ℕ) (pairs : List Pair) (counts : List ℕ) : Type 0 where
+pub record ArePairCounts (n : ℕ) (pairs : List Pair) (counts : List ℕ) : Type 0 where
   pub many : length counts ≡ n * n
   pub each : (u v : ℕ) → u < n → v < n → slice_index counts (u * n + v) ≡ times pairs u v
 
@@ -26,7 +27,7 @@ abbrev pub assumptions_of : Inside → Assumptions
 assumptions_of a = record { routers = a.routers; pairs = a.pairs.items }
 
 -- what the fields keep
-pub record AreHeld (a : Inside) : Type 0 where
+pub record AreHeldCounts (a : Inside) : Type 0 where
   pub few : a.routers ≤ 1000
   pub below : AreBelow a.routers a.pairs.items
-  pub counts : AreCounts a.routers a.pairs.items a.counts.items
+  pub counts : ArePairCounts a.routers a.pairs.items a.counts.items

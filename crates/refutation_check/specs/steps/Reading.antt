@@ -7,7 +7,7 @@ use Rattle.net_model.specs.Network.{Network}
 use Rattle.igp_theory.specs.Routes.{Tables}
 use Rattle.order_search.specs.Trees.{Place, branch_count}
 use Rattle.order_search.specs.declared.tree.Node.{Node}
-use Rattle.refutation_check.specs.TreeLines.{header, pieces_of, SaysNode}
+use Rattle.refutation_check.specs.TreeLines.{tree_header, pieces_of, SaysNode}
 use Rattle.refutation_check.specs.Verdicts.{AreRightLines, IsFirstWrongLine, leaf_count, open_count}
 use Rattle.refutation_check.specs.WrongLines.{IsLowestKind, WrongWords}
 use Rattle.refutation_check.specs.declared.reading.Reading.{Reading}
@@ -24,22 +24,22 @@ abbrev pub line_bytes : List ℕ → List Line → List (List ℕ)
 line_bytes text lines = map (λ (line : Line). bytes_of text line.span) lines
 
 -- a text's lines are the header and these
-pub record AreEntries (text : List ℕ) (entries : List Line) : Type 0 where
-  pub lines : line_texts text ≡ header ∷ line_bytes text entries
+pub record AreTreeEntries (text : List ℕ) (entries : List Line) : Type 0 where
+  pub lines : line_texts text ≡ tree_header ∷ line_bytes text entries
   pub numbers : (k : ℕ) (d : Line) → k < length entries → (slice_index_or entries k d).number ≡ k + 2
   pub inside : All (λ (line : Line). LiesIn text line.span) entries
 
 -- the counts are those of these nodes
-pub record AreCounted (tally : Tally) (nodes : List Node) : Type 0 where
+pub record AreTallied (tally : Tally) (nodes : List Node) : Type 0 where
   pub branches : tally.branches ≡ branch_count nodes
   pub leaves : tally.leaves ≡ leaf_count nodes
   pub unvisited : tally.unvisited ≡ open_count nodes
 
 -- the lines before the next one are right; their nodes are counted, and leave these places open
-pub record HasRead (net : Network) (old new : Tables) (lines : List (List ℕ)) (reading : Reading) : Type 0 where
+pub record HasReadLines (net : Network) (old new : Tables) (lines : List (List ℕ)) (reading : Reading) : Type 0 where
   pub nodes : List Node
   pub right : AreRightLines net old new lines nodes reading.walk.left
-  pub counted : AreCounted reading.tally nodes
+  pub counted : AreTallied reading.tally nodes
 
 -- a line says a node that is right at a place; the node is counted, and its children are open before the other places
 pub record TakesLine (net : Network) (old new : Tables) (place : Place) (left : List Place) (line : List ℕ) (before after : Reading) : Type 0 where

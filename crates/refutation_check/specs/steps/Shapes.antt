@@ -9,17 +9,17 @@ use Rattle.refutation_check.specs.declared.shape.Shape.{Shape}
 use Rattle.refutation_check.specs.declared.shape.Shape.TheVariants.{Branch, Leaf, Open}
 use Rattle.refutation_check.specs.declared.verdict.WrongKind.{WrongKind}
 use Rattle.refutation_check.specs.declared.verdict.WrongKind.TheVariants.{Form, Router, Address, Originator, Step, OneSided, NotAssumed}
-use Rattle.refutation_check.specs.steps.Spans.{texts_of}
+use Rattle.refutation_check.specs.steps.Spans.{span_texts}
 
 -- words are the line of a branch with these entries
 pub record IsBranchShape (text : List ℕ) (words : List (List ℕ)) (a : ℕ) (entries : List Span) : Type 0 where
-  pub line : IsBranchLine words a (texts_of text entries)
-  pub tagged : All IsSomeEntry (texts_of text entries)
+  pub line : IsBranchLine words a (span_texts text entries)
+  pub tagged : All IsSomeEntry (span_texts text entries)
   pub inside : All (LiesIn text) entries
 
 -- words are the line of a leaf with these names
 pub record IsLeafShape (text : List ℕ) (words : List (List ℕ)) (names : List Span) : Type 0 where
-  pub line : IsLeafLine words (texts_of text names)
+  pub line : IsLeafLine words (span_texts text names)
   pub inside : All (LiesIn text) names
 
 -- the words have this shape
@@ -40,11 +40,11 @@ pub record SaysNone (net : Network) (words : List (List ℕ)) : Type 0 where
   pub none : (node : Node) → ¬ SaysNode net words node
 
 -- why words say no node
-abbrev pub IsUnread : Network → List (List ℕ) → WrongKind → Type 0
-IsUnread net words Form = ¬ HasForm words
-IsUnread net words Router = SaysNone net words
-IsUnread net words Address = ⊥
-IsUnread net words Originator = ⊥
-IsUnread net words Step = ⊥
-IsUnread net words OneSided = ⊥
-IsUnread net words NotAssumed = ⊥
+abbrev pub SaysNoNode : Network → List (List ℕ) → WrongKind → Type 0
+SaysNoNode net words Form = ¬ HasForm words
+SaysNoNode net words Router = SaysNone net words
+SaysNoNode net words Address = ⊥
+SaysNoNode net words Originator = ⊥
+SaysNoNode net words Step = ⊥
+SaysNoNode net words OneSided = ⊥
+SaysNoNode net words NotAssumed = ⊥

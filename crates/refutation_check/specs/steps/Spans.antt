@@ -4,8 +4,8 @@ use Rattle.net_addr.specs.Spans.{bytes_of}
 use Rattle.net_addr.specs.declared.span.Span.{Span}
 
 -- the bytes of some spans of a text
-abbrev pub texts_of : List ℕ → List Span → List (List ℕ)
-texts_of text spans = map (bytes_of text) spans
+abbrev pub span_texts : List ℕ → List Span → List (List ℕ)
+span_texts text spans = map (bytes_of text) spans
 
 -- no word is empty
 abbrev pub AreFilled : List (List ℕ) → Type 0

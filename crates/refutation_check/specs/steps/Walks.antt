@@ -30,11 +30,11 @@ abbrev pub places_from : List (List Pair) → List Place
 places_from path = pairs_along path ∷ places_after path
 
 -- where a tree is read: how many routers there are, and which places are open
-pub record Standing : Type 0 where
+pub record PlacesLeft : Type 0 where
   pub routers : ℕ
   pub left : List Place
 
-abbrev pub standing_of : Inside → Standing
+abbrev pub standing_of : Inside → PlacesLeft
 standing_of w = record {
   routers = w.assumed.routers;
   left = if w.is_open then places_from (reverse w.cursors.items) else [];
@@ -45,8 +45,8 @@ pub record GoesAlong (routers : ℕ) (pairs : List Pair) (cursors : List (List P
   pub along : pairs ≡ pairs_along (reverse cursors)
   pub below : All (λ (left : List Pair). AreBelow routers left) cursors
 
-abbrev pub IsWalk : Inside → Type 0
-IsWalk w = GoesAlong w.assumed.routers w.assumed.pairs w.cursors.items
+abbrev pub IsHeldWalk : Inside → Type 0
+IsHeldWalk w = GoesAlong w.assumed.routers w.assumed.pairs w.cursors.items
 
 -- a node has two or more distinct routers, all below the count
 abbrev pub IsRinged : ℕ → Node → Type 0

@@ -1,4 +1,5 @@
-use Rattle.igp_theory.proofs.SameTables.{same_tables_sym, uses_over, steps_over, sound_over, seamless_over, loop_over, arises_over, fault_over, first_fault_over}
+use Rattle.igp_theory.proofs.SameTables.{same_tables_sym, uses_over, steps_over, sound_over, seamless_over, loop_over, arises_over, fault_over}
+use Rattle.igp_theory.proofs.SameTables.{first_fault_over}
 use Rattle.igp_theory.proofs.same_table_laws.same_tables_act_alike.Goals as goal
 
 pub returns : goal.returns

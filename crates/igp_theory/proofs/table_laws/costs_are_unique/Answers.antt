@@ -1,4 +1,5 @@
-use Rattle.igp_theory.proofs.TableLaws.{intra_area_unique, intra_area_cost_unique, inter_area_cost_unique, border_cost_is_inter_area, inter_area_is_border_cost}
+use Rattle.igp_theory.proofs.TableLaws.{intra_area_unique, intra_area_cost_unique, inter_area_cost_unique, border_cost_is_inter_area}
+use Rattle.igp_theory.proofs.TableLaws.{inter_area_is_border_cost}
 use Rattle.igp_theory.proofs.table_laws.costs_are_unique.Goals as goal
 
 pub returns : goal.returns

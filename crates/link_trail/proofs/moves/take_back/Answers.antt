@@ -1,5 +1,5 @@
 use Rattle.std.proofs.Common.{sym, ◌∙◌, subst}
-use Rattle.link_trail.specs.Moves.{TakesBack}
+use Rattle.link_trail.specs.steps.Undoing.{TakesBack}
 use Rattle.link_trail.proofs.WholeLemmas.{take_back-linked, take_back-unlinked, placed-latest, gap-latest}
 use Rattle.link_trail.proofs.moves.take_back.Goals as goal
 
@@ -17,15 +17,18 @@ splice_out-requires-clause-next c =
 
 pub following-next-requires-clause-previous : goal.following-next-requires-clause-previous
 following-next-requires-clause-previous c =
-    (gap-latest c.args.nodes.now c.args.ends.now c.args.latest c.in-Unlinked.list c.in-Unlinked.node c.in-Unlinked.previous c.in-Unlinked.is c.requires).0.previous_in_range
+    (gap-latest c.args.nodes.now c.args.ends.now c.args.latest c.in-Unlinked.list c.in-Unlinked.node c.in-Unlinked.previous c.in-Unlinked.is
+    c.requires).0.previous_in_range
 
 pub splice_in-requires-clause-previous : goal.splice_in-requires-clause-previous
 splice_in-requires-clause-previous c =
-    (gap-latest c.args.nodes.now c.args.ends.now c.args.latest c.in-Unlinked.list c.in-Unlinked.node c.in-Unlinked.previous c.in-Unlinked.is c.requires).0.previous_in_range
+    (gap-latest c.args.nodes.now c.args.ends.now c.args.latest c.in-Unlinked.list c.in-Unlinked.node c.in-Unlinked.previous c.in-Unlinked.is
+    c.requires).0.previous_in_range
 
 pub splice_in-requires-clause-next : goal.splice_in-requires-clause-next
 splice_in-requires-clause-next c = λ n e.
-    (gap-latest c.args.nodes.now c.args.ends.now c.args.latest c.in-Unlinked.list c.in-Unlinked.node c.in-Unlinked.previous c.in-Unlinked.is c.requires).0.next_in_range n
+    (gap-latest c.args.nodes.now c.args.ends.now c.args.latest c.in-Unlinked.list c.in-Unlinked.node c.in-Unlinked.previous c.in-Unlinked.is
+    c.requires).0.next_in_range n
     (sym c.following-next.ensures ∙ e)
 
 pub returns-in-Linked : goal.returns-in-Linked

@@ -1,6 +1,6 @@
 use Rattle.std.proofs.Common.{◌≤◌, Any, take}
 use Rattle.net_model.specs.Least.{IsBest}
-use Rattle.net_model.specs.Scans.{OffersAddress}
+use Rattle.net_model.specs.steps.Scans.{OffersAddress}
 use Rattle.net_model.proofs.addresses.least_address.Given as goal
 
 abbrev pub invariant-loop-interface : goal.invariant-loop-interface

@@ -5,7 +5,7 @@ use Rattle.net_model.specs.Least.{IsBlockAtMost}
 use Rattle.net_model.specs.Conditions.{RunTwoAreas}
 use Rattle.net_model.specs.Network.{Network}
 use Rattle.net_model.specs.RouterNames.{IsFirstNamedPair}
-use Rattle.net_model.specs.Scans.{NonePair}
+use Rattle.net_model.specs.steps.Scans.{NonePair}
 use Rattle.net_model.specs.declared.pairs.NamedPair.{NamedPair}
 use Rattle.net_model.proofs.PairFacts.{IsLeastNamedPair-first, NoneClash-from}
 use Rattle.net_model.proofs.AreaClashes.{RunTwoAreas-within, RunTwoAreas-sym}

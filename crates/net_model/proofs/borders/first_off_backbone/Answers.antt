@@ -1,7 +1,7 @@
 use Rattle.std.proofs.Common.{ap, sym, subst, ◌∙◌, arith, below_more}
 use Rattle.net_model.specs.Conditions.{LacksBackbone}
 use Rattle.net_model.specs.Configuration.{Configuration}
-use Rattle.net_model.specs.Scans.{LeaveBackbone}
+use Rattle.net_model.specs.steps.Scans.{LeaveBackbone}
 use Rattle.net_model.proofs.BorderFacts.{LacksBackbone-from, LacksBackbone-within, list_from_LacksBackbone}
 use Rattle.net_model.proofs.RouterFacts.{HasConfiguration-at, IsLowest-from}
 use Rattle.net_model.proofs.borders.first_off_backbone.Goals as goal
@@ -13,7 +13,8 @@ returns-then-leave_backbone c =
     let config = c.index-configs-router.result in
     let is = c.as_slice.ensures ∙ ap (λ (x : Configuration). x.interfaces) c.config.view_is in
     let here = subst LeaveBackbone is (c.leave_backbone.ensures.0 c.if-leave_backbone.true) in
-    IsLowest-from (LacksBackbone net) u (LacksBackbone-from net u config (HasConfiguration-at net u config c.loop-router-test.true c.index-configs-router.is) here) c.loop-router.invariant
+    IsLowest-from (LacksBackbone net) u (LacksBackbone-from net u config (HasConfiguration-at net u config c.loop-router-test.true c.index-configs-router.is)
+    here) c.loop-router.invariant
 
 pub loop-router-preserved : goal.loop-router-preserved
 loop-router-preserved c = below_more _ _ c.loop-router.invariant (λ h.

@@ -1,5 +1,5 @@
 use Rattle.std.proofs.Common.{ℕ, ◌<◌, length}
-use Rattle.net_model.specs.Scans.{NonePartner}
+use Rattle.net_model.specs.steps.Scans.{NonePartner}
 use Rattle.net_model.proofs.pairs.first_pair.Given as goal
 
 abbrev pub invariant-loop-one : goal.invariant-loop-one

@@ -1,4 +1,4 @@
-use Rattle.net_model.specs.Scans.{NonePartner}
+use Rattle.net_model.specs.steps.Scans.{NonePartner}
 use Rattle.net_model.proofs.pairs.first_partner.Given as goal
 
 abbrev pub invariant-loop-two : goal.invariant-loop-two

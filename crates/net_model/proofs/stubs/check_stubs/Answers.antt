@@ -3,7 +3,7 @@ use Rattle.std.proofs.lemmas.Option.{MatchOption-at_none, MatchOption-at_some}
 use Rattle.net_model.specs.Conditions.{DifferOnStub}
 use Rattle.net_model.specs.Network.{Network}
 use Rattle.net_model.specs.RouterNames.{IsFirstNamedPair}
-use Rattle.net_model.specs.Scans.{NonePair}
+use Rattle.net_model.specs.steps.Scans.{NonePair}
 use Rattle.net_model.specs.declared.pairs.NamedPair.{NamedPair}
 use Rattle.net_model.proofs.PairFacts.{IsLeastNamedPair-first, NoneClash-from}
 use Rattle.net_model.proofs.StubClashes.{DifferOnStub-within, DifferOnStub-sym}

@@ -1,6 +1,6 @@
 use Rattle.std.proofs.Common.{List, Any, ap, sym, subst, ◌∙◌}
 use Rattle.net_model.specs.Configuration.{Configuration}
-use Rattle.net_model.specs.Scans.{OneHasStub, RunsArea}
+use Rattle.net_model.specs.steps.Scans.{OneHasStub, RunsArea}
 use Rattle.net_model.specs.declared.area.Stub.{Stub}
 use Rattle.net_model.specs.declared.interface.Interface.{Interface}
 use Rattle.net_model.proofs.stubs.clash.Goals as goal
@@ -14,7 +14,9 @@ returns-then-has_area c =
     let area = subst (λ (l : List Interface). Any (RunsArea a) l) fars (c.has_area.ensures.0 c.if-has_area.true) in (
       λ t. record {
         other_runs = area;
-        differ = subst (λ (l : List Stub). OneHasStub a l c.args.two.now.stubs) ones (subst (λ (l : List Stub). OneHasStub a c.as_slice-then-has_area.result.now l) twos (c.one_has_stub.ensures.0 t));
+        differ = subst (λ (l : List Stub). OneHasStub a l c.args.two.now.stubs) ones
+            (subst (λ (l : List Stub). OneHasStub a c.as_slice-then-has_area.result.now l) twos (c.one_has_stub.ensures.0 t));
       },
-      λ h. c.one_has_stub.ensures.1 (subst (λ (l : List Stub). OneHasStub a l c.as_slice-then-has_area-2.result.now) (sym ones) (subst (λ (l : List Stub). OneHasStub a c.args.one.now.stubs l) (sym twos) h.differ)),
+      λ h. c.one_has_stub.ensures.1 (subst (λ (l : List Stub). OneHasStub a l c.as_slice-then-has_area-2.result.now) (sym ones)
+          (subst (λ (l : List Stub). OneHasStub a c.args.one.now.stubs l) (sym twos) h.differ)),
     )

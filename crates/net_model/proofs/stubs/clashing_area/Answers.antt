@@ -1,6 +1,6 @@
 use Rattle.std.proofs.Common.{sym, subst, ◌∙◌}
 use Rattle.std.proofs.lemmas.Option.{same_Some}
-use Rattle.net_model.specs.Scans.{ClashOnStub}
+use Rattle.net_model.specs.steps.Scans.{ClashOnStub}
 use Rattle.net_model.proofs.stubs.clashing_area.Goals as goal
 
 pub returns-in_default : goal.returns-in_default

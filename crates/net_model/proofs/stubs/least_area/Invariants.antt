@@ -1,6 +1,6 @@
 use Rattle.std.proofs.Common.{◌≤◌, Any, take}
 use Rattle.net_model.specs.Least.{IsBest}
-use Rattle.net_model.specs.Scans.{OffersArea}
+use Rattle.net_model.specs.steps.Scans.{OffersArea}
 use Rattle.net_model.proofs.stubs.least_area.Given as goal
 
 abbrev pub invariant-loop-interface : goal.invariant-loop-interface

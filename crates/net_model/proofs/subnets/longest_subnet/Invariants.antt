@@ -1,5 +1,5 @@
 use Rattle.std.proofs.Common.{take}
-use Rattle.net_model.specs.Subnets.{BestSubnet}
+use Rattle.net_model.specs.steps.Subnets.{BestSubnet}
 use Rattle.net_model.proofs.subnets.longest_subnet.Given as goal
 
 abbrev pub invariant-loop-interface : goal.invariant-loop-interface

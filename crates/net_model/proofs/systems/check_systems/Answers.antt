@@ -3,7 +3,7 @@ use Rattle.std.proofs.lemmas.Option.{MatchOption-at_none, MatchOption-at_some}
 use Rattle.net_model.specs.Conditions.{HaveOneSystem}
 use Rattle.net_model.specs.Network.{Network}
 use Rattle.net_model.specs.RouterNames.{IsFirstNamedPair}
-use Rattle.net_model.specs.Scans.{NonePair}
+use Rattle.net_model.specs.steps.Scans.{NonePair}
 use Rattle.net_model.specs.declared.pairs.NamedPair.{NamedPair}
 use Rattle.net_model.proofs.PairFacts.{IsLeastNamedPair-first, NoneClash-from}
 use Rattle.net_model.proofs.SystemClashes.{HaveOneSystem-within, HaveOneSystem-sym}
@@ -20,8 +20,14 @@ pub returns-in-Some-clause-err : goal.returns-in-Some-clause-err
 returns-in-Some-clause-err c =
     let net = c.args.configs.now in
     let pair = c.in-Some.pair in
-    let first = MatchOption-at_some (NoPair net) (First net) pair c.in-Some.is c.in_ok-pair.ensures in
-    (c.requires.metrics, (pair.item, IsLeastNamedPair-first (λ a b. a ≤ b) (HaveOneSystem net) net (HaveOneSystem-within net) pair.one pair.two pair.item first))
+    let first = MatchOption-at_some (NoPair net) (First net) pair c.in-Some.is c.in_ok-pair.ensures in (
+      c.requires.metrics,
+      (
+        pair.item,
+        IsLeastNamedPair-first (λ a b. a ≤ b) (HaveOneSystem net) net (HaveOneSystem-within net) pair.one
+            pair.two pair.item first,
+      ),
+    )
 
 pub returns-in-None-clause-ok : goal.returns-in-None-clause-ok
 returns-in-None-clause-ok c =

@@ -10,5 +10,6 @@ loop-router-preserved c = elim c.if-ranks-router.branch [
       c.loop-router.invariant w.if-ranks-router.true (ap (λ v. v.items) w.flat-is ∙ w.in_ok-push.ensures.items)
   | else-ranks-router w ↦
       ap (λ v. v.items) w.flat-is
-      ∙ part_passed c.args.ranks.now c.args.flat.now.items c.loop-router.flat.items c.args.wave c.loop-router.router c.loop-router.invariant w.if-ranks-router.false
+      ∙ part_passed c.args.ranks.now c.args.flat.now.items c.loop-router.flat.items c.args.wave c.loop-router.router c.loop-router.invariant
+      w.if-ranks-router.false
 ]

@@ -6,8 +6,8 @@ use Rattle.std.proofs.lemmas.List.{with_items_is}
 use Rattle.std.proofs.lemmas.Result.{IfOk-weaker}
 use Rattle.order_search.specs.Meanings.{IsBase}
 use Rattle.order_search.specs.Places.{IsLayered}
-use Rattle.order_search.specs.Waiting.{Standing, places_of, children_below, IsUnder}
-use Rattle.order_search.specs.Leaves.{GrowsLeaves}
+use Rattle.order_search.specs.steps.Waiting.{Standing, places_of, children_below, IsUnder}
+use Rattle.order_search.specs.steps.Leaves.{GrowsLeaves}
 use Rattle.order_search.specs.declared.tree.Node.TheVariants.{Branch}
 use Rattle.order_search.proofs.RankFacts.{not_good}
 use Rattle.order_search.proofs.SearchSteps.{IsSearching-begin, stop_is_spent, branch_step, place_is_next, tree_is_closed, Break-moved, IsFound-waves}

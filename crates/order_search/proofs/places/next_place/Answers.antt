@@ -2,14 +2,15 @@
 use Rattle.std.specs.Bool.{OnTrue, OnFalse}
 use Rattle.std.proofs.Common.{Bool, ◌≡◌, ◌∷◌, [], List, ℕ, take, sym, subst, ◌∙◌}
 use Rattle.order_core.specs.Pairs.{Pair}
-use Rattle.order_search.specs.Waiting.{place_of, AreChildren, IsUnder}
-use Rattle.order_search.specs.Leaves.{GrowsLeaves}
+use Rattle.order_search.specs.steps.Waiting.{place_of, AreChildren, IsUnder}
+use Rattle.order_search.specs.steps.Leaves.{GrowsLeaves}
 use Rattle.order_search.specs.declared.child.Child.{Child}
 use Rattle.order_search.proofs.LeafFacts.{AreChildren-left, GrowsLeaves-place, AreChildren-back, GrowsLeaves-back}
 use Rattle.order_search.proofs.places.next_place.Goals as goal
 
 -- the first of the children that wait stands there alone
-first_alone : (n : ℕ) (base pairs : List Pair) (all rest : List Child) (c : Child) → IsUnder n base pairs all → all ≡ c ∷ rest → IsUnder n base pairs (c ∷ [])
+first_alone : (n : ℕ) (base pairs : List Pair) (all rest : List Child) (c : Child) → IsUnder n base pairs all → all ≡ c ∷ rest →
+    IsUnder n base pairs (c ∷ [])
 first_alone n base pairs all rest c under top =
     let each : AreChildren n base pairs (c ∷ rest) = subst (λ (xs : List Child). AreChildren n base pairs xs) top under.waiting in
     record { fresh = under.fresh; waiting = (each.0, tt) }

@@ -1,7 +1,7 @@
 use Rattle.std.proofs.Common.{◌≡◌, List, length}
 use Rattle.order_core.specs.Pairs.{Pair}
-use Rattle.order_search.specs.Waiting.{places_of, IsUnder}
-use Rattle.order_search.specs.Leaves.{GrowsLeaves}
+use Rattle.order_search.specs.steps.Waiting.{places_of, IsUnder}
+use Rattle.order_search.specs.steps.Leaves.{GrowsLeaves}
 use Rattle.order_search.proofs.places.next_place.Given as goal
 
 abbrev pub invariant-loop-child : goal.invariant-loop-child

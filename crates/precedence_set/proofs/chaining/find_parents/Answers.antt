@@ -5,14 +5,19 @@ use Rattle.precedence_set.proofs.chaining.find_parents.Goals.{then-layers-u, els
 use Rattle.precedence_set.proofs.chaining.find_parents.Goals as goal
 
 pub loop-i-init : goal.loop-i-init
-loop-i-init c = AreParents-begin c.args.pairs.now c.args.layers.now c.forget_parents.new.parents 4294967295 (omega (arith, c.requires.parents_length, c.forget_parents.auto.parents)) c.forget_parents.ensures
+loop-i-init c = AreParents-begin c.args.pairs.now c.args.layers.now c.forget_parents.new.parents 4294967295 (omega (
+  arith,
+  c.requires.parents_length,
+  c.forget_parents.auto.parents,
+)) c.forget_parents.ensures
 
 pub loop-i-preserved : goal.loop-i-preserved
 loop-i-preserved c = elim c.if-layers-u.branch [
   | then-layers-u w ↦
       let v_in = (pair_at_below (length c.args.layers.now) c.args.pairs.now c.requires.below c.loop-i.i c.loop-i-test.true).1 in
       subst (λ (xs : List ℕ). AreParents c.args.pairs.now c.args.layers.now xs 4294967295 (c.loop-i.i + 1)) (sym w.parents-is)
-      (AreParents-more c.args.pairs.now c.args.layers.now c.loop-i.parents 4294967295 c.loop-i.i w.min.result c.loop-i.invariant c.loop-i-test.true (omega (arith, v_in, c.requires.parents_length, c.forget_parents.auto.parents, c.loop-i.auto.parents)) w.if-layers-u.true w.min.ensures)
+      (AreParents-more c.args.pairs.now c.args.layers.now c.loop-i.parents 4294967295 c.loop-i.i w.min.result c.loop-i.invariant c.loop-i-test.true
+      (omega (arith, v_in, c.requires.parents_length, c.forget_parents.auto.parents, c.loop-i.auto.parents)) w.if-layers-u.true w.min.ensures)
   | else-layers-u w ↦
       subst (λ (xs : List ℕ). AreParents c.args.pairs.now c.args.layers.now xs 4294967295 (c.loop-i.i + 1)) (sym w.parents-is)
       (AreParents-passed c.args.pairs.now c.args.layers.now c.loop-i.parents 4294967295 c.loop-i.i c.loop-i.invariant w.if-layers-u.false)

@@ -4,11 +4,13 @@ use Rattle.precedence_set.proofs.ChainFacts.{IsTraced, IsTraced-begin, IsTraced-
 use Rattle.precedence_set.proofs.chaining.trace_chain.Goals as goal
 
 pub find_parents-requires-clause-few : goal.find_parents-requires-clause-few
-find_parents-requires-clause-few c = λ u. omega (arith, rank_few (length c.args.layers.now) c.args.pairs.now c.args.layers.now c.requires.below c.requires.layers u, c.requires.small)
+find_parents-requires-clause-few c =
+    λ u. omega (arith, rank_few (length c.args.layers.now) c.args.pairs.now c.args.layers.now c.requires.below c.requires.layers u, c.requires.small)
 
 pub first_in_layer-requires-clause-some : goal.first_in_layer-requires-clause-some
 first_in_layer-requires-clause-some c =
-    some_in_last (length c.args.layers.now) c.args.pairs.now c.args.layers.now (c.args.count - 1) c.requires.below c.requires.layers (by_count c.args.count c.if-count-eq0.false ∙ c.requires.count)
+    some_in_last (length c.args.layers.now) c.args.pairs.now c.args.layers.now (c.args.count - 1) c.requires.below c.requires.layers
+    (by_count c.args.count c.if-count-eq0.false ∙ c.requires.count)
   where
     by_count : (n : ℕ) → ¬ (n ≡ 0) → suc (n - 1) ≡ n
     by_count zero some = absurd (some refl)
@@ -17,7 +19,14 @@ first_in_layer-requires-clause-some c =
 pub bounds-out-k : goal.bounds-out-k
 bounds-out-k c =
     let some : 0 < c.args.count = by_count c.args.count c.if-count-eq0.false in
-    omega (arith, some, c.requires.count, c.requires.out_length, count_few (length c.args.layers.now) c.args.pairs.now c.args.layers.now c.requires.below c.requires.layers)
+    omega (
+      arith,
+      some,
+      c.requires.count,
+      c.requires.out_length,
+      count_few (length c.args.layers.now) c.args.pairs.now c.args.layers.now
+          c.requires.below c.requires.layers,
+    )
   where
     by_count : (n : ℕ) → ¬ (n ≡ 0) → 0 < n
     by_count zero some = absurd (some refl)
@@ -27,8 +36,10 @@ pub loop-k-init : goal.loop-k-init
 loop-k-init c =
     let e : suc (c.args.count - 1) ≡ c.args.count = by_count c.args.count c.if-count-eq0.false in
     let few = count_few (length c.args.layers.now) c.args.pairs.now c.args.layers.now c.requires.below c.requires.layers in
-    subst (λ (n : ℕ). IsTraced (length c.args.layers.now) c.args.pairs.now c.args.layers.now (set c.args.out.now (c.args.count - 1) c.first_in_layer.result) n (c.args.count - 1)) e
-    (IsTraced-begin (length c.args.layers.now) c.args.pairs.now c.args.layers.now c.args.out.now (c.args.count - 1) c.first_in_layer.result refl c.first_in_layer.ensures (omega (arith, e, few, c.requires.count, c.requires.out_length)))
+    subst (λ (n : ℕ). IsTraced (length c.args.layers.now) c.args.pairs.now c.args.layers.now (set c.args.out.now (c.args.count - 1) c.first_in_layer.result)
+    n (c.args.count - 1)) e
+    (IsTraced-begin (length c.args.layers.now) c.args.pairs.now c.args.layers.now c.args.out.now (c.args.count - 1) c.first_in_layer.result refl
+    c.first_in_layer.ensures (omega (arith, e, few, c.requires.count, c.requires.out_length)))
   where
     by_count : (n : ℕ) → ¬ (n ≡ 0) → suc (n - 1) ≡ n
     by_count zero some = absurd (some refl)
@@ -36,24 +47,52 @@ loop-k-init c =
 
 pub bounds-out-k-in-loop-k : goal.bounds-out-k-in-loop-k
 bounds-out-k-in-loop-k c =
-    omega (arith, c.loop-k-test.true, c.loop-k.invariant.before, c.loop-k.auto.out, length-set {A = ℕ}, c.requires.count, c.requires.out_length, count_few (length c.args.layers.now) c.args.pairs.now c.args.layers.now c.requires.below c.requires.layers)
+    omega (
+      arith,
+      c.loop-k-test.true,
+      c.loop-k.invariant.before,
+      c.loop-k.auto.out,
+      length-set {A = ℕ},
+      c.requires.count,
+      c.requires.out_length,
+      count_few (length c.args.layers.now) c.args.pairs.now c.args.layers.now c.requires.below c.requires.layers,
+    )
 
 pub bounds-out-k-in-loop-k-2 : goal.bounds-out-k-in-loop-k-2
 bounds-out-k-in-loop-k-2 c =
-    omega (arith, c.loop-k-test.true, c.loop-k.invariant.before, c.loop-k.auto.out, length-set {A = ℕ}, c.requires.count, c.requires.out_length, count_few (length c.args.layers.now) c.args.pairs.now c.args.layers.now c.requires.below c.requires.layers)
+    omega (
+      arith,
+      c.loop-k-test.true,
+      c.loop-k.invariant.before,
+      c.loop-k.auto.out,
+      length-set {A = ℕ},
+      c.requires.count,
+      c.requires.out_length,
+      count_few (length c.args.layers.now) c.args.pairs.now c.args.layers.now c.requires.below c.requires.layers,
+    )
 
 pub loop-k-preserved : goal.loop-k-preserved
 loop-k-preserved c =
     let few = count_few (length c.args.layers.now) c.args.pairs.now c.args.layers.now c.requires.below c.requires.layers in
-    IsTraced-down (length c.args.layers.now) c.args.pairs.now c.args.layers.now c.loop-k.out c.find_parents.new.parents 4294967295 c.args.count c.loop-k.k c.requires.below c.requires.layers (omega (arith, c.requires.small))
-    c.find_parents.ensures.lowest c.find_parents.ensures.found (omega (arith, few, c.requires.count, c.requires.out_length, c.loop-k.auto.out, length-set {A = ℕ})) c.loop-k-test.true c.loop-k.invariant
+    IsTraced-down (length c.args.layers.now) c.args.pairs.now c.args.layers.now c.loop-k.out c.find_parents.new.parents 4294967295 c.args.count c.loop-k.k
+    c.requires.below c.requires.layers (omega (arith, c.requires.small))
+    c.find_parents.ensures.lowest c.find_parents.ensures.found (omega (
+      arith,
+      few,
+      c.requires.count,
+      c.requires.out_length,
+      c.loop-k.auto.out,
+      length-set {A = ℕ},
+    )) c.loop-k-test.true c.loop-k.invariant
 
 pub returns : goal.returns
 returns c =
     let few = count_few (length c.args.layers.now) c.args.pairs.now c.args.layers.now c.requires.below c.requires.layers in
     let none : c.loop-k.k ≡ 0 = omega (arith, c.loop-k-test.false) in
-    let traced = subst (λ (k : ℕ). IsTraced (length c.args.layers.now) c.args.pairs.now c.args.layers.now c.loop-k.out c.args.count k) none c.loop-k.invariant in
-    IsChain-traced (length c.args.layers.now) c.args.pairs.now c.args.layers.now c.loop-k.out c.args.count traced c.requires.count (omega (arith, few, c.requires.count, c.requires.out_length, c.loop-k.auto.out, length-set {A = ℕ}))
+    let traced = subst (λ (k : ℕ). IsTraced (length c.args.layers.now) c.args.pairs.now c.args.layers.now c.loop-k.out c.args.count k)
+    none c.loop-k.invariant in
+    IsChain-traced (length c.args.layers.now) c.args.pairs.now c.args.layers.now c.loop-k.out c.args.count traced c.requires.count
+    (omega (arith, few, c.requires.count, c.requires.out_length, c.loop-k.auto.out, length-set {A = ℕ}))
 
 pub returns-then-count-eq0 : goal.returns-then-count-eq0
 returns-then-count-eq0 c = IsChain-none c.args.pairs.now c.args.layers.now c.args.out.now c.args.count c.if-count-eq0.true c.requires.count

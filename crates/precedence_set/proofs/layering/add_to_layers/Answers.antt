@@ -1,5 +1,6 @@
 -- The pair moves no router, or its second one alone.
-use Rattle.std.proofs.Common.{◌≡◌, ℕ, false, Option, Some, None, length, length-set, arith, subst, sym, refl, ◌+◌, ◌++◌, ◌∷◌, [], set, get_or}
+use Rattle.std.proofs.Common.{◌≡◌, ℕ, false, Option, Some, None, length, length-set, arith, subst, sym, refl, ◌+◌, ◌++◌, ◌∷◌, [], set}
+use Rattle.std.proofs.Common.{get_or}
 use Rattle.std.specs.Option.{is_some}
 use Rattle.precedence_set.specs.Layers.{AreLayers}
 use Rattle.precedence_set.proofs.LayerSteps.{AreLayers-kept, AreLayers-moved, none_after}

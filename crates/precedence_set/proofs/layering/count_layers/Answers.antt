@@ -8,7 +8,8 @@ use Rattle.precedence_set.proofs.layering.count_layers.Goals as goal
 pub overflow_add-layer : goal.overflow_add-layer
 overflow_add-layer c =
     let rank : ℕ = get_or c.args.layers.now c.loop-layer.layer-index 0 in
-    let below : rank < wave_count c.args.layers.now = rank_below_count c.args.layers.now rank (Contains-get_or c.args.layers.now c.loop-layer.layer-index 0 c.loop-layer-test.true) in
+    let below : rank < wave_count c.args.layers.now =
+    rank_below_count c.args.layers.now rank (Contains-get_or c.args.layers.now c.loop-layer.layer-index 0 c.loop-layer-test.true) in
     omega (arith, below, count_le_length (length c.args.layers.now) c.args.layers.now c.requires.ranking, c.requires.small)
 
 pub loop-layer-preserved : goal.loop-layer-preserved

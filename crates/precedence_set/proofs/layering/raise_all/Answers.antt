@@ -10,7 +10,8 @@ loop-k-init c = AreRaised-begin c.args.pairs.now c.args.order.now c.clear_number
 
 pub loop-k-preserved : goal.loop-k-preserved
 loop-k-preserved c =
-    AreRaised-step (length c.args.layers.now) c.args.pairs.now c.args.order.now c.loop-k.layers c.raise_after.new.layers c.loop-k.k c.requires.order (omega (arith, c.loop-k-test.true, c.requires.order.whole)) c.loop-k.invariant
+    AreRaised-step (length c.args.layers.now) c.args.pairs.now c.args.order.now c.loop-k.layers c.raise_after.new.layers c.loop-k.k c.requires.order
+    (omega (arith, c.loop-k-test.true, c.requires.order.whole)) c.loop-k.invariant
     c.raise_after.ensures.no_lower c.raise_after.ensures.above c.raise_after.ensures.from
 
 pub returns-clause-layers : goal.returns-clause-layers
@@ -18,7 +19,8 @@ returns-clause-layers c =
     let long : length c.args.layers.now ≡ length c.loop-k.layers = omega (arith, c.loop-k.auto.layers, c.clear_numbers.auto.numbers) in
     let end : c.loop-k.k ≡ length c.args.layers.now = omega (arith, c.loop-k-test.false, c.loop-k.auto.k-end, c.requires.order.whole) in
     let raised = subst (λ (k : ℕ). AreRaised c.args.pairs.now c.args.order.now c.loop-k.layers k) end c.loop-k.invariant in
-    subst (λ (n : ℕ). AreLayers n c.args.pairs.now c.loop-k.layers) long (AreLayers-raised (length c.args.layers.now) c.args.pairs.now c.args.order.now c.loop-k.layers c.requires.below c.requires.order raised (sym long))
+    subst (λ (n : ℕ). AreLayers n c.args.pairs.now c.loop-k.layers) long (AreLayers-raised (length c.args.layers.now) c.args.pairs.now c.args.order.now
+    c.loop-k.layers c.requires.below c.requires.order raised (sym long))
 
 pub returns-clause-ranking : goal.returns-clause-ranking
 returns-clause-ranking c =

@@ -14,17 +14,28 @@ bounds-list-k c = omega (arith, c.requires.place, c.requires.listed.counted, mar
 pub loop-at-init : goal.loop-at-init
 loop-at-init c =
     let x : ℕ = get_or c.args.list.now c.args.k 0 in
-    let x_in : x < length c.args.list.now = omega (arith, marked_in c.args.marks.now x (c.requires.listed.marked c.args.k c.requires.place), c.requires.marks_length) in
+    let x_in : x < length c.args.list.now = omega (
+      arith,
+      marked_in c.args.marks.now x (c.requires.listed.marked c.args.k c.requires.place),
+      c.requires.marks_length,
+    ) in
     IsReachingOn-begin c.args.pairs.now x c.args.marks.now c.args.list.now c.args.count c.first-at.result
-    (IsFirstFrom-first (length c.args.list.now) c.args.pairs.now c.args.successors.now.lists x c.first-at.result c.requires.successors x_in c.first-at.ensures) c.requires.listed
+    (IsFirstFrom-first (length c.args.list.now) c.args.pairs.now c.args.successors.now.lists x c.first-at.result c.requires.successors x_in c.first-at.ensures)
+    c.requires.listed
 
 pub loop-at-smaller : goal.loop-at-smaller
 loop-at-smaller c =
     let pairs = c.args.pairs.now in
     let x : ℕ = get_or c.args.list.now c.args.k 0 in
-    let x_in : x < length c.args.list.now = omega (arith, marked_in c.args.marks.now x (c.requires.listed.marked c.args.k c.requires.place), c.requires.marks_length) in
-    let on = subst (λ (o : Option ℕ). IsReachingOn pairs x c.args.marks.now c.loop-at.marks c.args.list.now c.loop-at.list c.args.count c.loop-at.count o) c.in-Some.is c.loop-at.invariant in
-    let first = IsFirstFrom-next (length c.args.list.now) pairs c.args.successors.now.lists x c.in-Some.number c.next-at.result c.requires.successors x_in on.first.1 on.first.2 c.next-at.ensures in
+    let x_in : x < length c.args.list.now = omega (
+      arith,
+      marked_in c.args.marks.now x (c.requires.listed.marked c.args.k c.requires.place),
+      c.requires.marks_length,
+    ) in
+    let on = subst (λ (o : Option ℕ). IsReachingOn pairs x c.args.marks.now c.loop-at.marks c.args.list.now c.loop-at.list c.args.count c.loop-at.count o)
+    c.in-Some.is c.loop-at.invariant in
+    let first = IsFirstFrom-next (length c.args.list.now) pairs c.args.successors.now.lists x c.in-Some.number c.next-at.result c.requires.successors x_in
+    on.first.1 on.first.2 c.next-at.ensures in
     subst (λ (o : Option ℕ). left_after pairs c.next-at.result < left_after pairs o) (sym c.in-Some.is)
     (left_after-smaller pairs x c.in-Some.number c.next-at.result on.first.1 first)
 
@@ -32,14 +43,22 @@ pub loop-at-preserved : goal.loop-at-preserved
 loop-at-preserved c =
     let pairs = c.args.pairs.now in
     let x : ℕ = get_or c.args.list.now c.args.k 0 in
-    let x_in : x < length c.args.list.now = omega (arith, marked_in c.args.marks.now x (c.requires.listed.marked c.args.k c.requires.place), c.requires.marks_length) in
-    let on = subst (λ (o : Option ℕ). IsReachingOn pairs x c.args.marks.now c.loop-at.marks c.args.list.now c.loop-at.list c.args.count c.loop-at.count o) c.in-Some.is c.loop-at.invariant in
-    let first = IsFirstFrom-next (length c.args.list.now) pairs c.args.successors.now.lists x c.in-Some.number c.next-at.result c.requires.successors x_in on.first.1 on.first.2 c.next-at.ensures in
+    let x_in : x < length c.args.list.now = omega (
+      arith,
+      marked_in c.args.marks.now x (c.requires.listed.marked c.args.k c.requires.place),
+      c.requires.marks_length,
+    ) in
+    let on = subst (λ (o : Option ℕ). IsReachingOn pairs x c.args.marks.now c.loop-at.marks c.args.list.now c.loop-at.list c.args.count c.loop-at.count o)
+    c.in-Some.is c.loop-at.invariant in
+    let first = IsFirstFrom-next (length c.args.list.now) pairs c.args.successors.now.lists x c.in-Some.number c.next-at.result c.requires.successors x_in
+    on.first.1 on.first.2 c.next-at.ensures in
     let one = c.list_one-count in
-    IsReachingOn-step pairs x c.args.marks.now c.loop-at.marks one.new.marks c.args.list.now c.loop-at.list one.new.list c.args.count c.loop-at.count one.result c.in-Some.number
+    IsReachingOn-step pairs x c.args.marks.now c.loop-at.marks one.new.marks c.args.list.now c.loop-at.list one.new.list c.args.count c.loop-at.count
+    one.result c.in-Some.number
     c.next-at.result on first one.ensures.listed one.ensures.kept one.ensures.from one.ensures.marked one.ensures.same one.ensures.no_fewer
 
 pub returns-clause-after : goal.returns-clause-after
 returns-clause-after c = λ differ.
-    IsReachingOn-end c.args.pairs.now (get_or c.args.list.now c.args.k 0) c.args.marks.now c.loop-at.marks c.args.list.now c.loop-at.list c.args.count c.loop-at.count c.loop-at.at
+    IsReachingOn-end c.args.pairs.now (get_or c.args.list.now c.args.k 0) c.args.marks.now c.loop-at.marks c.args.list.now c.loop-at.list c.args.count
+    c.loop-at.count c.loop-at.at
     c.loop-at.invariant c.in_default.not-Some

@@ -13,7 +13,8 @@ loop-k-smaller c =
 pub loop-k-preserved : goal.loop-k-preserved
 loop-k-preserved c =
     let next = c.list_after-count in
-    IsReaching-step c.args.pairs.now c.args.u c.args.v c.loop-k.marks next.new.marks c.loop-k.list next.new.list c.loop-k.k c.loop-k.count next.result c.loop-k-test.true
+    IsReaching-step c.args.pairs.now c.args.u c.args.v c.loop-k.marks next.new.marks c.loop-k.list next.new.list c.loop-k.k c.loop-k.count
+    next.result c.loop-k-test.true
     c.loop-k.invariant next.ensures.listed next.ensures.kept next.ensures.from next.ensures.after next.ensures.same next.ensures.no_fewer
 
 pub returns-clause-complete : goal.returns-clause-complete

@@ -1,5 +1,5 @@
 use Rattle.std.proofs.Common.{◌≡◌, ℕ, ◌<◌, false, length, get_or}
-use Rattle.precedence_set.specs.Sorting.{left_into}
+use Rattle.precedence_set.specs.steps.Sorting.{left_into}
 use Rattle.precedence_set.proofs.sorting.count_pairs.Given as goal
 
 abbrev pub invariant-loop-i : goal.invariant-loop-i

@@ -1,8 +1,8 @@
 use Rattle.std.proofs.Common.{◌≡◌, ℕ, arith, length, inl, inr, subst}
 use Rattle.std.proofs.lemmas.Bool.{cases_lt}
 use Rattle.order_core.specs.Pairs.{AreBelow}
-use Rattle.precedence_set.specs.Sorting.{IsListing, IsGone}
-use Rattle.precedence_set.proofs.SortFacts.{AreCounted-same}
+use Rattle.precedence_set.specs.steps.Sorting.{IsListing, IsGone}
+use Rattle.precedence_set.proofs.SortFacts.{AreLeftCounts-same}
 use Rattle.precedence_set.proofs.ListFacts.{all_listed, IsTopological-whole, IsGone-none}
 use Rattle.precedence_set.proofs.sorting.sort_all.Goals as goal
 
@@ -11,7 +11,8 @@ loop-k-init c = record {
   placed = omega arith;
   within = c.list_free-count.ensures.within;
   listing = c.list_free-count.ensures.listing;
-  counted = AreCounted-same c.args.pairs.now (IsGone c.args.pairs.now c.count_pairs.new.counts 0) (IsGone c.args.pairs.now c.list_free-count.new.order 0) c.count_pairs.new.counts (λ i lt. IsGone-none c.args.pairs.now c.count_pairs.new.counts c.list_free-count.new.order i) c.count_pairs.ensures;
+  counted = AreLeftCounts-same c.args.pairs.now (IsGone c.args.pairs.now c.count_pairs.new.counts 0) (IsGone c.args.pairs.now c.list_free-count.new.order 0)
+      c.count_pairs.new.counts (λ i lt. IsGone-none c.args.pairs.now c.count_pairs.new.counts c.list_free-count.new.order i) c.count_pairs.ensures;
 }
 
 pub list_after-count-requires-clause-listed : goal.list_after-count-requires-clause-listed
@@ -19,10 +20,15 @@ list_after-count-requires-clause-listed c = elim (cases_lt c.loop-k.k c.loop-k.c
   | inl lt ↦ lt
   | inr ge ↦
       let same : c.loop-k.count ≡ c.loop-k.k = omega (arith, ge, c.loop-k.invariant.placed) in
-      let listing = subst (λ (m : ℕ). IsListing (length c.loop-k.order) c.args.pairs.now c.loop-k.counts c.loop-k.order m) same c.loop-k.invariant.listing in
+      let listing =
+      subst (λ (m : ℕ). IsListing (length c.loop-k.order) c.args.pairs.now c.loop-k.counts c.loop-k.order m) same c.loop-k.invariant.listing in
       let long : length c.args.order.now ≡ length c.loop-k.order = omega arith in
       let below = subst (λ (n : ℕ). AreBelow n c.args.pairs.now) long c.requires.below in
-      absurd (omega (arith, all_listed (length c.loop-k.order) c.args.pairs.now c.loop-k.counts c.loop-k.order c.loop-k.k below c.requires.acyclic (omega arith) (omega (arith, c.loop-k.invariant.within, c.loop-k.invariant.placed)) listing c.loop-k.invariant.counted))
+      absurd (omega (
+        arith,
+        all_listed (length c.loop-k.order) c.args.pairs.now c.loop-k.counts c.loop-k.order c.loop-k.k below c.requires.acyclic
+            (omega arith) (omega (arith, c.loop-k.invariant.within, c.loop-k.invariant.placed)) listing c.loop-k.invariant.counted,
+      ))
 ]
 
 pub loop-k-preserved : goal.loop-k-preserved
@@ -34,4 +40,5 @@ loop-k-preserved c = record {
 }
 
 pub returns : goal.returns
-returns c = IsTopological-whole (length c.loop-k.order) c.args.pairs.now c.loop-k.counts c.loop-k.order c.loop-k.count c.loop-k.invariant.listing (omega (arith, c.loop-k.invariant.placed, c.loop-k.invariant.within)) (omega arith)
+returns c = IsTopological-whole (length c.loop-k.order) c.args.pairs.now c.loop-k.counts c.loop-k.order c.loop-k.count c.loop-k.invariant.listing
+    (omega (arith, c.loop-k.invariant.placed, c.loop-k.invariant.within)) (omega arith)

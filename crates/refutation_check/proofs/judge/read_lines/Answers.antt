@@ -7,7 +7,7 @@ use Rattle.route_core.specs.Tables.{HasEntry}
 use Rattle.igp_theory.specs.Routes.{Tables}
 use Rattle.refutation_check.specs.Verdicts.{IsFirstWrongLine}
 use Rattle.refutation_check.specs.declared.reading.Reading.{Reading}
-use Rattle.refutation_check.specs.steps.Reading.{HasRead, IsTakenThere, IsNotTaken, line_bytes}
+use Rattle.refutation_check.specs.steps.Reading.{HasReadLines, IsTakenThere, IsNotTaken, line_bytes}
 use Rattle.refutation_check.proofs.ReadingFacts.{read_more, read_long, wrong_at, branches-few, leaves-few, open-few}
 use Rattle.refutation_check.proofs.judge.read_lines.Goals as goal
 
@@ -97,5 +97,6 @@ returns g c =
     let m = c.args.mixed.now in
     let lines = line_bytes c.args.text.now c.args.entries.now in
     let long : length lines ≤ c.loop-line.line-index = omega (arith, c.loop-line-test.false, many c.args.text.now c.args.entries.now) in
-    subst (λ (l : List (List ℕ)). HasRead m.net (HasEntry (g.O.RouteSource.table m.old)) (HasEntry (g.N.RouteSource.table m.new)) l c.loop-line.reading)
+    subst (λ (l : List (List ℕ)). HasReadLines m.net (HasEntry (g.O.RouteSource.table m.old))
+    (HasEntry (g.N.RouteSource.table m.new)) l c.loop-line.reading)
     (take_all c.loop-line.line-index lines long) c.loop-line.invariant.0

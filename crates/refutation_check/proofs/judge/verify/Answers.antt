@@ -6,7 +6,7 @@ use Rattle.net_addr.specs.declared.line.Line.{Line}
 use Rattle.route_core.specs.Tables.{HasEntry}
 use Rattle.igp_theory.specs.Routes.{Tables}
 use Rattle.refutation_check.specs.Verdicts.{header_missing}
-use Rattle.refutation_check.specs.steps.Reading.{HasRead, IsWrongVerdict, line_bytes}
+use Rattle.refutation_check.specs.steps.Reading.{HasReadLines, IsWrongVerdict, line_bytes}
 use Rattle.refutation_check.proofs.ReadingFacts.{end_is, read_none}
 use Rattle.refutation_check.proofs.Refuting.{verdict_refutes}
 use Rattle.refutation_check.proofs.judge.verify.Goals as goal
@@ -28,7 +28,8 @@ returns-in-Ok-clause-verdict g c =
     let text = c.args.text.now in
     let entries = c.in-Some.entries.now in
     let lines = line_bytes text entries in
-    let read : HasRead m.net old new lines c.in-Ok.read = MatchResult-at_ok (HasRead m.net old new lines) (IsWrongVerdict m.net old new text) c.in-Ok.read
+    let read : HasReadLines m.net old new lines c.in-Ok.read =
+    MatchResult-at_ok (HasReadLines m.net old new lines) (IsWrongVerdict m.net old new text) c.in-Ok.read
     c.in-Ok.is c.in_ok-read.ensures in
     end_is m.net old new text lines c.in-Ok.read (length entries + 2) c.end_verdict.result c.in-Some.ensures.some.lines read
     (omega (arith, length-map entries (λ (line : Line). bytes_of text line.span))) c.end_verdict.ensures
@@ -41,7 +42,8 @@ returns-in-Ok-clause-refutes g c =
     let text = c.args.text.now in
     let entries = c.in-Some.entries.now in
     let lines = line_bytes text entries in
-    let read : HasRead m.net old new lines c.in-Ok.read = MatchResult-at_ok (HasRead m.net old new lines) (IsWrongVerdict m.net old new text) c.in-Ok.read
+    let read : HasReadLines m.net old new lines c.in-Ok.read =
+    MatchResult-at_ok (HasReadLines m.net old new lines) (IsWrongVerdict m.net old new text) c.in-Ok.read
     c.in-Ok.is c.in_ok-read.ensures in
     verdict_refutes m.net old new text c.end_verdict.result
     (end_is m.net old new text lines c.in-Ok.read (length entries + 2) c.end_verdict.result c.in-Some.ensures.some.lines read

@@ -3,12 +3,12 @@ use Rattle.std.proofs.lemmas.List.{take_all, length-map, get_or-map}
 use Rattle.net_addr.specs.Spans.{bytes_of}
 use Rattle.net_addr.specs.declared.span.Span.{Span}
 use Rattle.refutation_check.specs.steps.Names.{NameRouters, IsFurtherRouter, NamesNoFurtherRouter}
-use Rattle.refutation_check.specs.steps.Spans.{texts_of}
+use Rattle.refutation_check.specs.steps.Spans.{span_texts}
 use Rattle.refutation_check.proofs.NameFacts.{no_routers, routers_more, name_none}
 use Rattle.refutation_check.proofs.names.routers_named.Goals as goal
 
 at_word : (text : List ℕ) (spans : List Span) (i : ℕ) → i < length spans →
-    bytes_of text (get_or spans i (record { start = 0; stop = 0 })) ≡ get_or (texts_of text spans) i []
+    bytes_of text (get_or spans i (record { start = 0; stop = 0 })) ≡ get_or (span_texts text spans) i []
 at_word text spans i within = sym (get_or-map (bytes_of text) spans i (record { start = 0; stop = 0 }) [] within)
 
 pub loop-name-init : goal.loop-name-init
@@ -16,7 +16,7 @@ loop-name-init c = subst (λ (l : List ℕ). NameRouters c.args.net.now [] l) (s
 
 pub returns-in-None : goal.returns-in-None
 returns-in-None c =
-    let words = texts_of c.args.text.now c.args.names.now in
+    let words = span_texts c.args.text.now c.args.names.now in
     let i = c.loop-name.name-index in
     let within : i < length words = omega (arith, c.loop-name-test.true, length-map c.args.names.now (bytes_of c.args.text.now)) in
     let none : NamesNoFurtherRouter c.args.net.now (get_or words i []) c.loop-name.routers.items =
@@ -27,7 +27,7 @@ returns-in-None c =
 
 pub loop-name-preserved : goal.loop-name-preserved
 loop-name-preserved c =
-    let words = texts_of c.args.text.now c.args.names.now in
+    let words = span_texts c.args.text.now c.args.names.now in
     let i = c.loop-name.name-index in
     let within : i < length words = omega (arith, c.loop-name-test.true, length-map c.args.names.now (bytes_of c.args.text.now)) in
     let further : IsFurtherRouter c.args.net.now (get_or words i []) c.loop-name.routers.items c.in-Some.router =
@@ -39,7 +39,7 @@ loop-name-preserved c =
 
 pub returns : goal.returns
 returns c =
-    let words = texts_of c.args.text.now c.args.names.now in
+    let words = span_texts c.args.text.now c.args.names.now in
     let long : length words ≤ c.loop-name.name-index = omega (arith, c.loop-name-test.false, length-map c.args.names.now (bytes_of c.args.text.now)) in
     subst (λ (l : List ℕ). NameRouters c.args.net.now words l) (sym c.from_vec.ensures)
     (subst (λ (l : List (List ℕ)). NameRouters c.args.net.now l c.loop-name.routers.items)

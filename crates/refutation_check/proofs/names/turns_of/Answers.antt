@@ -4,12 +4,12 @@ use Rattle.net_addr.specs.Spans.{bytes_of}
 use Rattle.net_addr.specs.declared.span.Span.{Span}
 use Rattle.order_core.specs.declared.turn.Turn.{Turn}
 use Rattle.refutation_check.specs.steps.Names.{SayTurns, IsFurtherTurn, SaysNoFurtherTurn}
-use Rattle.refutation_check.specs.steps.Spans.{texts_of}
+use Rattle.refutation_check.specs.steps.Spans.{span_texts}
 use Rattle.refutation_check.proofs.NameFacts.{no_turns, turns_more, say_none}
 use Rattle.refutation_check.proofs.names.turns_of.Goals as goal
 
 at_word : (text : List ℕ) (spans : List Span) (i : ℕ) → i < length spans →
-    bytes_of text (get_or spans i (record { start = 0; stop = 0 })) ≡ get_or (texts_of text spans) i []
+    bytes_of text (get_or spans i (record { start = 0; stop = 0 })) ≡ get_or (span_texts text spans) i []
 at_word text spans i within = sym (get_or-map (bytes_of text) spans i (record { start = 0; stop = 0 }) [] within)
 
 pub loop-entry-init : goal.loop-entry-init
@@ -17,7 +17,7 @@ loop-entry-init c = subst (λ (l : List Turn). SayTurns c.args.net.now [] l) (sy
 
 pub returns-in-None : goal.returns-in-None
 returns-in-None c =
-    let words = texts_of c.args.text.now c.args.entries.now in
+    let words = span_texts c.args.text.now c.args.entries.now in
     let i = c.loop-entry.entry-index in
     let within : i < length words = omega (arith, c.loop-entry-test.true, length-map c.args.entries.now (bytes_of c.args.text.now)) in
     let none : SaysNoFurtherTurn c.args.net.now (get_or words i []) c.loop-entry.turns.items =
@@ -28,7 +28,7 @@ returns-in-None c =
 
 pub loop-entry-preserved : goal.loop-entry-preserved
 loop-entry-preserved c =
-    let words = texts_of c.args.text.now c.args.entries.now in
+    let words = span_texts c.args.text.now c.args.entries.now in
     let i = c.loop-entry.entry-index in
     let within : i < length words = omega (arith, c.loop-entry-test.true, length-map c.args.entries.now (bytes_of c.args.text.now)) in
     let further : IsFurtherTurn c.args.net.now (get_or words i []) c.loop-entry.turns.items c.in-Some.turn =
@@ -40,7 +40,7 @@ loop-entry-preserved c =
 
 pub returns : goal.returns
 returns c =
-    let words = texts_of c.args.text.now c.args.entries.now in
+    let words = span_texts c.args.text.now c.args.entries.now in
     let long : length words ≤ c.loop-entry.entry-index = omega (arith, c.loop-entry-test.false, length-map c.args.entries.now (bytes_of c.args.text.now)) in
     subst (λ (l : List Turn). SayTurns c.args.net.now words l) (sym c.from_vec.ensures)
     (subst (λ (l : List (List ℕ)). SayTurns c.args.net.now l c.loop-entry.turns.items)

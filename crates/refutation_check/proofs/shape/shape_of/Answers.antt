@@ -1,7 +1,7 @@
 use Rattle.std.proofs.Common.{ℕ, ◌∷◌, ◌<◌, List, length, sym, ap, ◌∙◌}
 use Rattle.std.proofs.lemmas.List.Elements.{All-rest}
 use Rattle.net_addr.specs.Spans.{bytes_of, LiesIn}
-use Rattle.refutation_check.specs.steps.Spans.{texts_of}
+use Rattle.refutation_check.specs.steps.Spans.{span_texts}
 use Rattle.refutation_check.proofs.ShapeFacts.{branch_answer, leaf_answer}
 use Rattle.refutation_check.proofs.shape.shape_of.Goals as goal
 
@@ -15,22 +15,22 @@ leaf_shape-requires-clause-inside c = All-rest (LiesIn c.args.text.now) c.in_ok-
 
 pub leaf_shape-requires-clause-filled : goal.leaf_shape-requires-clause-filled
 leaf_shape-requires-clause-filled c =
-    All-rest (λ (word : List ℕ). 0 < length word) (bytes_of c.args.text.now c.in_ok-first.first.now) (texts_of c.args.text.now c.in_ok-first.others.now)
-    (texts_of c.args.text.now c.args.words.now)
-    (ap (texts_of c.args.text.now) c.in_ok-first.ensures.cases.0) c.requires.filled
+    All-rest (λ (word : List ℕ). 0 < length word) (bytes_of c.args.text.now c.in_ok-first.first.now) (span_texts c.args.text.now c.in_ok-first.others.now)
+    (span_texts c.args.text.now c.args.words.now)
+    (ap (span_texts c.args.text.now) c.in_ok-first.ensures.cases.0) c.requires.filled
 
 pub returns-then-is_text : goal.returns-then-is_text
 returns-then-is_text c =
-    let rest = texts_of c.args.text.now c.in_ok-first.others.now in
-    branch_answer c.args.text.now (texts_of c.args.text.now c.args.words.now) rest c.branch_shape.result
-    (ap (texts_of c.args.text.now) c.in_ok-first.ensures.cases.0
+    let rest = span_texts c.args.text.now c.in_ok-first.others.now in
+    branch_answer c.args.text.now (span_texts c.args.text.now c.args.words.now) rest c.branch_shape.result
+    (ap (span_texts c.args.text.now) c.in_ok-first.ensures.cases.0
     ∙ ap (λ (w : List ℕ). w ∷ rest) (sym c.bytes_at-word.ensures ∙ c.is_text.ensures.0 c.if-is_text.true))
     c.branch_shape.ensures.none c.branch_shape.ensures.some
 
 pub returns-then-is_text-2 : goal.returns-then-is_text-2
 returns-then-is_text-2 c =
-    let rest = texts_of c.args.text.now c.in_ok-first.others.now in
-    leaf_answer c.args.text.now (texts_of c.args.text.now c.args.words.now) rest c.leaf_shape.result
-    (ap (texts_of c.args.text.now) c.in_ok-first.ensures.cases.0
+    let rest = span_texts c.args.text.now c.in_ok-first.others.now in
+    leaf_answer c.args.text.now (span_texts c.args.text.now c.args.words.now) rest c.leaf_shape.result
+    (ap (span_texts c.args.text.now) c.in_ok-first.ensures.cases.0
     ∙ ap (λ (w : List ℕ). w ∷ rest) (sym c.bytes_at-word.ensures ∙ c.is_text-else-is_text.ensures.0 c.if-is_text-2.true))
     c.leaf_shape.ensures.none c.leaf_shape.ensures.some

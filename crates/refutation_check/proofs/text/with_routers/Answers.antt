@@ -1,8 +1,7 @@
 use Rattle.std.proofs.Common.{ℕ, ◌∷◌, ◌++◌, List, map, ap, ◌∙◌, sym}
 use Rattle.std.proofs.lemmas.List.{take_all, append-nil}
 use Rattle.net_model.specs.RouterNames.{names_of}
-use Rattle.printed_lines.specs.Words.{spaced}
-use Rattle.refutation_check.specs.TreeTexts.{router_word}
+use Rattle.printed_lines.specs.Words.{spaced, router_word}
 use Rattle.refutation_check.proofs.Kept.{spaced_more}
 use Rattle.refutation_check.proofs.text.with_routers.Goals as goal
 

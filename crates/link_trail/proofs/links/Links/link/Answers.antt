@@ -2,8 +2,9 @@ use Rattle.std.proofs.Common.{◌≡◌, ◌<◌, ◌-◌, length, None, subst, 
 use Rattle.std.specs.Vec.{vec_capacity}
 use Rattle.link_trail.specs.declared.chain.Ends.{Ends}
 use Rattle.link_trail.specs.Lists.{LinkedLists, IsFree}
-use Rattle.link_trail.specs.Chains.{PutsBetween, ends_at, no_ends}
-use Rattle.link_trail.specs.Moves.{IsWhole, lists_after, no_lists}
+use Rattle.link_trail.specs.Chains.{ends_at, no_ends}
+use Rattle.link_trail.specs.steps.Splices.{PutsBetween}
+use Rattle.link_trail.specs.Moves.{AreWholeLinks, lists_after, no_lists}
 use Rattle.link_trail.proofs.MoveLemmas.{after-more, before-more}
 use Rattle.link_trail.proofs.WholeLemmas.{whole-linked, last-in_range, read, refilled}
 use Rattle.link_trail.proofs.links.Links.link.Goals as goal
@@ -37,7 +38,7 @@ invariant_of-self c =
       refilled c.self.inside.nodes.len c.splice_in.new.nodes c.self.inside.nodes.items (omega arith),
       refilled c.self.inside.ends.len c.splice_in.new.ends c.self.inside.ends.items (omega arith),
     )
-    (subst (λ ms. IsWhole c.splice_in.new.nodes c.splice_in.new.ends ms c.self.inside.room (vec_capacity c.record_move.new.moves))
+    (subst (λ ms. AreWholeLinks c.splice_in.new.nodes c.splice_in.new.ends ms c.self.inside.room (vec_capacity c.record_move.new.moves))
     (sym c.record_move.ensures.items)
     (whole-linked c.self.inside.nodes.items c.splice_in.new.nodes c.self.inside.ends.items c.splice_in.new.ends
     c.self.inside.moves.items c.self.inside.room (vec_capacity c.self.inside.moves) (vec_capacity c.record_move.new.moves)

@@ -1,6 +1,6 @@
 use Rattle.std.proofs.Common.{◌≡◌, length, arith}
 use Rattle.std.specs.Vec.{vec_capacity}
-use Rattle.link_trail.specs.Moves.{TakesBack}
+use Rattle.link_trail.specs.steps.Undoing.{TakesBack}
 use Rattle.link_trail.proofs.MoveLemmas.{before-more}
 use Rattle.link_trail.proofs.WholeLemmas.{latest, whole-back, refilled}
 use Rattle.link_trail.proofs.links.Links.undo_last.Goals as goal

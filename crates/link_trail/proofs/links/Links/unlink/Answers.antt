@@ -3,8 +3,9 @@ use Rattle.std.specs.Option.{IsSome}
 use Rattle.std.specs.Vec.{vec_capacity}
 use Rattle.link_trail.specs.declared.chain.Node.{Node}
 use Rattle.link_trail.specs.Lists.{LinkedLists, IsLinked}
-use Rattle.link_trail.specs.Chains.{TakesOut, node_at, free_node}
-use Rattle.link_trail.specs.Moves.{IsWhole, lists_after, no_lists}
+use Rattle.link_trail.specs.Chains.{node_at, free_node}
+use Rattle.link_trail.specs.steps.Splices.{TakesOut}
+use Rattle.link_trail.specs.Moves.{AreWholeLinks, lists_after, no_lists}
 use Rattle.link_trail.proofs.MoveLemmas.{after-more, before-more}
 use Rattle.link_trail.proofs.WholeLemmas.{whole-unlinked, stands, placed, read, refilled}
 use Rattle.link_trail.proofs.links.Links.unlink.Goals as goal
@@ -34,7 +35,8 @@ splice_out-requires-clause-list c =
     read c.self.inside.nodes.items c.args.node c.index.result.now free_node at.node_in_range c.index.ensures in
     let own : (node_at c.self.inside.nodes.items c.args.node).list ≡ Some c.unwrap-list.result =
     ap (λ (n : Node). n.list) is ∙ c.unwrap-list.ensures in
-    rw c.deref_mut-2.ensures.value (placed c.self.inside.nodes.items c.self.inside.ends.items _ c.args.node c.unwrap-list.result c.self.invariant.shown linked own).list_in_range
+    rw c.deref_mut-2.ensures.value (placed c.self.inside.nodes.items c.self.inside.ends.items _ c.args.node c.unwrap-list.result c.self.invariant.shown
+    linked own).list_in_range
 
 pub splice_out-requires-clause-node : goal.splice_out-requires-clause-node
 splice_out-requires-clause-node c =
@@ -52,7 +54,8 @@ splice_out-requires-clause-previous c =
     read c.self.inside.nodes.items c.args.node c.index.result.now free_node at.node_in_range c.index.ensures in
     let own : (node_at c.self.inside.nodes.items c.args.node).list ≡ Some c.unwrap-list.result =
     ap (λ (n : Node). n.list) is ∙ c.unwrap-list.ensures in
-    rw c.deref_mut.ensures.value (placed c.self.inside.nodes.items c.self.inside.ends.items _ c.args.node c.unwrap-list.result c.self.invariant.shown linked own).previous_in_range
+    rw c.deref_mut.ensures.value (placed c.self.inside.nodes.items c.self.inside.ends.items _ c.args.node c.unwrap-list.result c.self.invariant.shown
+    linked own).previous_in_range
 
 pub splice_out-requires-clause-next : goal.splice_out-requires-clause-next
 splice_out-requires-clause-next c =
@@ -63,7 +66,8 @@ splice_out-requires-clause-next c =
     read c.self.inside.nodes.items c.args.node c.index.result.now free_node at.node_in_range c.index.ensures in
     let own : (node_at c.self.inside.nodes.items c.args.node).list ≡ Some c.unwrap-list.result =
     ap (λ (n : Node). n.list) is ∙ c.unwrap-list.ensures in
-    rw c.deref_mut.ensures.value (placed c.self.inside.nodes.items c.self.inside.ends.items _ c.args.node c.unwrap-list.result c.self.invariant.shown linked own).next_in_range
+    rw c.deref_mut.ensures.value (placed c.self.inside.nodes.items c.self.inside.ends.items _ c.args.node c.unwrap-list.result c.self.invariant.shown
+    linked own).next_in_range
 
 pub invariant_of-self : goal.invariant_of-self
 invariant_of-self c =
@@ -83,7 +87,7 @@ invariant_of-self c =
       refilled c.self.inside.nodes.len c.splice_out.new.nodes c.self.inside.nodes.items (omega arith),
       refilled c.self.inside.ends.len c.splice_out.new.ends c.self.inside.ends.items (omega arith),
     )
-    (subst (λ ms. IsWhole c.splice_out.new.nodes c.splice_out.new.ends ms c.self.inside.room (vec_capacity c.record_move.new.moves))
+    (subst (λ ms. AreWholeLinks c.splice_out.new.nodes c.splice_out.new.ends ms c.self.inside.room (vec_capacity c.record_move.new.moves))
     (sym c.record_move.ensures.items)
     (whole-unlinked c.self.inside.nodes.items c.splice_out.new.nodes c.self.inside.ends.items c.splice_out.new.ends
     c.self.inside.moves.items c.self.inside.room (vec_capacity c.self.inside.moves) (vec_capacity c.record_move.new.moves)

@@ -1,7 +1,7 @@
 use Rattle.std.proofs.Common.{List, Any, ap, subst, ◌∙◌}
 use Rattle.net_model.specs.Configuration.{Configuration}
 use Rattle.net_model.specs.Least.{IsBest, IsBlockAtMost}
-use Rattle.net_model.specs.Scans.{OffersDest}
+use Rattle.net_model.specs.steps.Scans.{OffersDest}
 use Rattle.net_model.specs.declared.interface.Interface.{Interface}
 use Rattle.net_model.proofs.AreaClashes.{RunTwoAreas-best}
 use Rattle.net_model.proofs.RouterFacts.{HasConfiguration-at}

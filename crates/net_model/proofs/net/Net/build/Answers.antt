@@ -17,7 +17,8 @@ returns-in_err-check_names-clause-err c =
     let same = subst (λ (l : List Configuration). IsPermutation l sorted) c.into_vec-configs.ensures c.sort_by_name.ensures.same in
     let refusal = c.in_err-check_names.field-0.0 in
     let p = err_from_is_err_and c.from_residual-in_err-check_names.result c.from_residual-in_err-check_names.ensures.1 in
-    rw (p.1, p.2) (Refuses-by_name c.args.configs sorted refusal limits same (subst (RefusesName refusal) c.as_slice-2.ensures.value c.in_err-check_names.ensures.err))
+    rw (p.1, p.2) (Refuses-by_name c.args.configs sorted refusal limits same (subst (RefusesName refusal) c.as_slice-2.ensures.value
+    c.in_err-check_names.ensures.err))
 
 pub check_network-requires : goal.check_network-requires
 check_network-requires c =
@@ -34,7 +35,8 @@ returns-in_err-check_network-clause-err c =
     let up = subst NamesAscend c.as_slice-2.ensures.value c.in_ok-check_names.ensures.ok in
     let refusal = c.in_err-check_network.field-0.0 in
     let p = err_from_is_err_and c.from_residual-in_err-check_network.result c.from_residual-in_err-check_network.ensures.1 in
-    rw (p.1, p.2) (Refuses-by_network c.args.configs sorted refusal limits (record { same = same; ascending = up }) (subst (MayRefuse refusal) c.as_slice-3.ensures.value c.in_err-check_network.ensures.err))
+    rw (p.1, p.2) (Refuses-by_network c.args.configs sorted refusal limits (record { same = same; ascending = up })
+    (subst (MayRefuse refusal) c.as_slice-3.ensures.value c.in_err-check_network.ensures.err))
 
 pub invariant_of-result : goal.invariant_of-result
 invariant_of-result c =

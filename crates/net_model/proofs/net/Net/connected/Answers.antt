@@ -1,6 +1,6 @@
 use Rattle.std.proofs.Common.{List, subst, ap, ◌∙◌}
 use Rattle.net_model.specs.Configuration.{Configuration}
-use Rattle.net_model.specs.Subnets.{BestSubnet}
+use Rattle.net_model.specs.steps.Subnets.{BestSubnet}
 use Rattle.net_model.specs.declared.interface.Interface.{Interface}
 use Rattle.net_model.proofs.BestSubnets.{LongestConnected-from_best}
 use Rattle.net_model.proofs.net.Net.connected.Goals as goal

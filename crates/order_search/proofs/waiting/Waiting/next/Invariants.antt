@@ -1,5 +1,5 @@
 use Rattle.std.proofs.Common.{◌≡◌, vec_len}
-use Rattle.order_search.specs.Cursors.{all_children}
+use Rattle.order_search.specs.steps.Cursors.{all_children}
 use Rattle.order_search.proofs.waiting.Waiting.next.Given as goal
 
 abbrev pub invariant-loop-siblings : goal.invariant-loop-siblings

@@ -1,5 +1,6 @@
 -- A pair is kept where its second router doesn't reach its first.
-use Rattle.std.proofs.Common.{◌≡◌, ◌<◌, Bool, true, false, inl, inr, List, ◌++◌, ◌∷◌, [], set, take, length, arith, subst, sym, ap, refl, ◌∙◌, ℕ, ◌+◌}
+use Rattle.std.proofs.Common.{◌≡◌, ◌<◌, Bool, true, false, inl, inr, List, ◌++◌, ◌∷◌, [], set, take, length, arith, subst, sym, ap, refl}
+use Rattle.std.proofs.Common.{◌∙◌, ℕ, ◌+◌}
 use Rattle.std.proofs.lemmas.List.{take_more_set, length_push, length-take-le, with_items_is}
 use Rattle.std.proofs.lemmas.Bool.{cases_Bool, false≢true}
 use Rattle.std.proofs.lemmas.List.Elements.{All-push}
@@ -61,15 +62,18 @@ invariant_of-self-in-None c =
       bounded = old.bounded;
       nodes = omega (arith, old.nodes, c.link.ensures.nodes);
       spare = omega (arith, old.spare, free, c.link.ensures.spare);
-      moves = ap (λ (t : List (List (List ℕ))). length t) c.link.ensures.trail ∙ length_push a.successors.trail a.successors.lists ∙ ap (λ (k : ℕ). k + 1) old.moves;
-      marked = AreMarked-linked a.routers a.room.items a.count c.args.u c.args.v a.successors c.link.new.self old.marked old.moves in' (omega (arith, c.requires.u_in, routers)) c.link.ensures.lists c.link.ensures.trail;
+      moves = ap (λ (t : List (List (List ℕ))). length t) c.link.ensures.trail ∙ length_push a.successors.trail a.successors.lists
+          ∙ ap (λ (k : ℕ). k + 1) old.moves;
+      marked = AreMarked-linked a.routers a.room.items a.count c.args.u c.args.v a.successors c.link.new.self old.marked old.moves in'
+          (omega (arith, c.requires.u_in, routers)) c.link.ensures.lists c.link.ensures.trail;
       cycle_length = old.cycle_length;
       cycle_counted = old.cycle_counted;
       marks_length = old.marks_length;
       counts_length = old.counts_length;
       order_length = old.order_length;
       layers_length = old.layers_length;
-      below = subst (λ (xs : List Pair). AreBelow a.routers xs) (sym e) (All-push (λ (p : Pair). (p.0 < a.routers) × (p.1 < a.routers)) (take a.count a.room.items) pair old.below (omega (arith, c.requires.u_in, routers), omega (arith, c.requires.v_in, routers)));
+      below = subst (λ (xs : List Pair). AreBelow a.routers xs) (sym e) (All-push (λ (p : Pair). (p.0 < a.routers) × (p.1 < a.routers))
+          (take a.count a.room.items) pair old.below (omega (arith, c.requires.u_in, routers), omega (arith, c.requires.v_in, routers)));
       acyclic = subst (λ (xs : List Pair). HasNoCycle xs) (sym e) (HasNoCycle-push (take a.count a.room.items) c.args.u c.args.v old.acyclic apart);
       layered = λ fresh.
           let was = old.layered (fresh_before a.stale took.result took.ensures.stays fresh) in
@@ -87,14 +91,20 @@ invariant_of-self-in-None c =
 pub returns-in-Some-clause-closes : goal.returns-in-Some-clause-closes
 returns-in-Some-clause-closes c =
     let pairs : take c.self.inside.count c.deref.result.now ≡ c.args.self.now.pairs =
-    ap (λ (xs : List Pair). take c.self.inside.count xs) c.deref.ensures.value ∙ ap (λ (x : Assumed). x.pairs) c.self.view_is in
-    (λ _. subst (λ (xs : List Pair). Leads xs c.args.v c.args.u) pairs (Leads-from_Reaches _ _ _ (λ same. c.requires.differ (sym same)) c.in-Some.ensures.closes), λ _. refl)
+    ap (λ (xs : List Pair). take c.self.inside.count xs) c.deref.ensures.value ∙ ap (λ (x : Assumed). x.pairs) c.self.view_is in (
+      λ _. subst (λ (xs : List Pair). Leads xs c.args.v c.args.u) pairs (Leads-from_Reaches _ _ _ (λ same. c.requires.differ (sym same))
+          c.in-Some.ensures.closes),
+      λ _. refl,
+    )
 
 pub returns-in-None-clause-closes : goal.returns-in-None-clause-closes
 returns-in-None-clause-closes c =
     let pairs : take c.self.inside.count c.deref.result.now ≡ c.args.self.now.pairs =
-    ap (λ (xs : List Pair). take c.self.inside.count xs) c.deref.ensures.value ∙ ap (λ (x : Assumed). x.pairs) c.self.view_is in
-    (λ same. cc, λ leads. absurd (c.in-None.ensures.open (Reaches-from_Leads _ _ _ (subst (λ (xs : List Pair). Leads xs c.args.v c.args.u) (sym pairs) leads))))
+    ap (λ (xs : List Pair). take c.self.inside.count xs) c.deref.ensures.value ∙ ap (λ (x : Assumed). x.pairs) c.self.view_is in (
+      λ same. cc,
+      λ leads. absurd (c.in-None.ensures.open
+          (Reaches-from_Leads _ _ _ (subst (λ (xs : List Pair). Leads xs c.args.v c.args.u) (sym pairs) leads))),
+    )
 
 pub closed_cycle-requires-clause-successors : goal.closed_cycle-requires-clause-successors
 closed_cycle-requires-clause-successors c =
@@ -115,4 +125,5 @@ pub link-requires-clause-free : goal.link-requires-clause-free
 link-requires-clause-free c =
     let a = c.self.inside in
     let now = AreMarked-now a.routers a.room.items a.count a.successors c.self.invariant.marked c.self.invariant.moves in
-    IsFree-next a.routers (take a.count a.room.items) a.successors.lists a.count now (omega (arith, length-take-le a.count a.room.items (omega (arith, c.self.invariant.counted, a.room.ok.0))))
+    IsFree-next a.routers (take a.count a.room.items) a.successors.lists a.count now
+    (omega (arith, length-take-le a.count a.room.items (omega (arith, c.self.invariant.counted, a.room.ok.0))))

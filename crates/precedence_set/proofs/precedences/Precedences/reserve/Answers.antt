@@ -14,7 +14,8 @@ invariant_of-self c =
     ap (λ (xs : List Pair). take a.count xs) (sym c.widen.ensures.kept) ∙ take-take a.count a.room.len c.widen.new.room.items old.counted in
     let moves : length c.widen.new.successors.trail ≡ length a.successors.trail = ap (λ (t : List (List (List ℕ))). length t) c.widen.ensures.trail in
     let kept : (i : ℕ) → i ≤ a.count → take i a.room.items ≡ take i c.widen.new.room.items =
-    λ (i : ℕ) (le : i ≤ a.count). ap (λ (xs : List Pair). take i xs) (sym c.widen.ensures.kept) ∙ take-take i a.room.len c.widen.new.room.items (omega (arith, le, old.counted)) in
+    λ (i : ℕ) (le : i ≤ a.count). ap (λ (xs : List Pair). take i xs) (sym c.widen.ensures.kept) ∙ take-take i a.room.len c.widen.new.room.items
+    (omega (arith, le, old.counted)) in
     record {
       few = old.few;
       counted = omega (arith, old.counted, c.widen.ensures.no_less);
@@ -22,7 +23,8 @@ invariant_of-self c =
       nodes = c.widen.ensures.nodes;
       spare = omega (arith, c.widen.ensures.spare, moves, old.moves);
       moves = moves ∙ old.moves;
-      marked = AreMarked-same a.routers a.room.items c.widen.new.room.items a.count a.successors c.widen.new.successors old.marked c.widen.ensures.lists c.widen.ensures.trail kept;
+      marked = AreMarked-same a.routers a.room.items c.widen.new.room.items a.count a.successors c.widen.new.successors old.marked c.widen.ensures.lists
+          c.widen.ensures.trail kept;
       cycle_length = old.cycle_length;
       cycle_counted = old.cycle_counted;
       marks_length = old.marks_length;

@@ -21,15 +21,18 @@ invariant_of-self c =
       bounded = old.bounded;
       nodes = omega (arith, old.nodes, c.undo_to.ensures.nodes);
       spare = omega (arith, old.spare, old.moves, le, c.undo_to.ensures.spare);
-      moves = ap (λ (t : List (List (List ℕ))). length t) c.undo_to.ensures.trail ∙ length-take-le c.args.mark a.successors.trail (omega (arith, old.moves, le));
-      marked = AreMarked-undone a.routers a.room.items a.count c.args.mark a.successors c.undo_to.new.self old.marked old.moves le c.undo_to.ensures.lists c.undo_to.ensures.trail;
+      moves = ap (λ (t : List (List (List ℕ))). length t) c.undo_to.ensures.trail ∙ length-take-le c.args.mark a.successors.trail
+          (omega (arith, old.moves, le));
+      marked = AreMarked-undone a.routers a.room.items a.count c.args.mark a.successors c.undo_to.new.self old.marked old.moves le c.undo_to.ensures.lists
+          c.undo_to.ensures.trail;
       cycle_length = old.cycle_length;
       cycle_counted = old.cycle_counted;
       marks_length = old.marks_length;
       counts_length = old.counts_length;
       order_length = old.order_length;
       layers_length = old.layers_length;
-      below = subst (λ (xs : List Pair). AreBelow a.routers xs) e (All-take (λ (p : Pair). (p.0 < a.routers) × (p.1 < a.routers)) c.args.mark (take a.count a.room.items) old.below);
+      below = subst (λ (xs : List Pair). AreBelow a.routers xs) e (All-take (λ (p : Pair). (p.0 < a.routers) × (p.1 < a.routers)) c.args.mark
+          (take a.count a.room.items) old.below);
       acyclic = subst (λ (xs : List Pair). HasNoCycle xs) e (HasNoCycle-take (take a.count a.room.items) c.args.mark old.acyclic);
       layered = λ (e : true ≡ false). cc;
     }

@@ -9,23 +9,23 @@ use Rattle.igp_theory.specs.Routes.{Tables}
 use Rattle.order_search.specs.declared.tree.Node.{Node}
 use Rattle.refutation_check.specs.TreeLines.{SaysNode, pieces_of}
 use Rattle.refutation_check.specs.declared.verdict.WrongKind.{WrongKind}
-use Rattle.refutation_check.specs.steps.Shapes.{IsUnread}
+use Rattle.refutation_check.specs.steps.Shapes.{SaysNoNode}
 use Rattle.refutation_check.proofs.SaidNodes.{ringed}
 use Rattle.refutation_check.proofs.ReadingFacts.{unread_lowest, wrong_words, take_there, not_there, taken_ok, taken_err}
 use Rattle.refutation_check.proofs.reading.Reading.take_line.Goals as goal
 
 -- what was read of a line
 read_ok : (net shown : Network) (words : List (List ℕ)) (said : Result Node WrongKind) (node : Node) → shown ≡ net →
-    MatchResult said (SaysNode shown words) (IsUnread shown words) → said ≡ Ok node → SaysNode net words node
+    MatchResult said (SaysNode shown words) (SaysNoNode shown words) → said ≡ Ok node → SaysNode net words node
 read_ok net shown words said node same read is =
-    subst (λ (r : Result Node WrongKind). MatchResult r (SaysNode net words) (IsUnread net words)) is
-    (subst (λ (n : Network). MatchResult said (SaysNode n words) (IsUnread n words)) same read)
+    subst (λ (r : Result Node WrongKind). MatchResult r (SaysNode net words) (SaysNoNode net words)) is
+    (subst (λ (n : Network). MatchResult said (SaysNode n words) (SaysNoNode n words)) same read)
 
 read_err : (net shown : Network) (words : List (List ℕ)) (said : Result Node WrongKind) (kind : WrongKind) → shown ≡ net →
-    MatchResult said (SaysNode shown words) (IsUnread shown words) → said ≡ Err kind → IsUnread net words kind
+    MatchResult said (SaysNode shown words) (SaysNoNode shown words) → said ≡ Err kind → SaysNoNode net words kind
 read_err net shown words said kind same read is =
-    subst (λ (r : Result Node WrongKind). MatchResult r (SaysNode net words) (IsUnread net words)) is
-    (subst (λ (n : Network). MatchResult said (SaysNode n words) (IsUnread n words)) same read)
+    subst (λ (r : Result Node WrongKind). MatchResult r (SaysNode net words) (SaysNoNode net words)) is
+    (subst (λ (n : Network). MatchResult said (SaysNode n words) (SaysNoNode n words)) same read)
 
 pub read_node-requires-clause-network : goal.read_node-requires-clause-network
 read_node-requires-clause-network g c = subst IsNetwork (sym c.net.ensures) c.requires.network

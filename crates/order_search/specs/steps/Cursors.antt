@@ -2,7 +2,7 @@
 use Rattle.std.specs.Prelude.{ℕ, ◌+◌, ◌*◌, ◌<◌, ◌≤◌, List, length, map, drop, reverse}
 use Rattle.std.specs.List.{flat_map}
 use Rattle.order_core.specs.Pairs.{Pair}
-use Rattle.order_search.specs.Waiting.{child_of}
+use Rattle.order_search.specs.steps.Waiting.{child_of}
 use Rattle.order_search.specs.declared.child.Child.{Child}
 use Rattle.order_search.specs.declared.siblings.Siblings.TheInside.{Inside}
 
@@ -15,7 +15,7 @@ abbrev pub children_left : Inside → List Child
 children_left s = map (child_of s.above) (drop (s.row * length s.news.items + s.column) (grid s.olds.items s.news.items))
 
 -- the cursor stands in a row
-pub record IsCursor (s : Inside) : Type 0 where
+pub record StandsInRow (s : Inside) : Type 0 where
   pub column : s.column < length s.news.items
   pub row : s.row ≤ length s.olds.items
 

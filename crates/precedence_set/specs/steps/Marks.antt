@@ -1,7 +1,7 @@
 -- Marked routers: how many they are, and a list of them.
 use Rattle.std.specs.Prelude.{◌≡◌, ℕ, ◌+◌, ◌<◌, Bool, true, false, List, [], ◌∷◌, slice_index}
 use Rattle.order_core.specs.Marks.{IsMarked}
-use Rattle.precedence_set.specs.Sorting.{StandsBelow}
+use Rattle.precedence_set.specs.steps.Sorting.{StandsBelow}
 
 -- how many of the places are true
 abbrev pub marked_count : List Bool → ℕ

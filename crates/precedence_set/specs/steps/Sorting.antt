@@ -1,7 +1,8 @@
 -- Routers listed so that each stands after its predecessors: what is listed and what is left to wait for.
-use Rattle.std.specs.Prelude.{◌≡◌, ◌≢◌, ℕ, zero, suc, ◌+◌, ◌<◌, ◌↔◌, ◌⊎◌, ◌==◌, if◌then◌else◌, Bool, true, List, length, slice_index, Contains}
+use Rattle.std.specs.Prelude.{◌≡◌, ◌≢◌, ℕ, zero, suc, ◌+◌, ◌<◌, ◌↔◌, ◌⊎◌, ◌==◌, if◌then◌else◌, Bool, true, List}
+use Rattle.std.specs.Prelude.{length, slice_index, Contains}
 use Rattle.order_core.specs.Pairs.{Pair}
-use Rattle.precedence_set.specs.Successors.{pair_at}
+use Rattle.precedence_set.specs.steps.Walking.{pair_at}
 
 -- router u stands at one of the first places of the list
 abbrev pub StandsBelow : List ℕ → ℕ → ℕ → Type 0
@@ -13,7 +14,7 @@ left_into pairs gone v zero = 0
 left_into pairs gone v (suc k) = left_into pairs gone v k + (if (pair_at pairs k).1 == v then (if gone k then 0 else 1) else 0)
 
 -- each router has the count of the pairs into it that aren't gone
-pub record AreCounted (pairs : List Pair) (IsGone : ℕ → Type 0) (counts : List ℕ) : Type 0 where
+pub record AreLeftCounts (pairs : List Pair) (IsGone : ℕ → Type 0) (counts : List ℕ) : Type 0 where
   pub gone : ℕ → Bool
   pub tells : (i : ℕ) → i < length pairs → (gone i ≡ true) ↔ IsGone i
   pub each : (v : ℕ) → v < length counts → slice_index counts v ≡ left_into pairs gone v (length pairs)

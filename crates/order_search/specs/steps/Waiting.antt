@@ -50,7 +50,8 @@ pub record AreFresh (n : ℕ) (base pairs : List Pair) : Type 0 where
   pub begins : take (length base) pairs ≡ base
   pub below : AreBelow n pairs
   pub acyclic : HasNoCycle pairs
-  pub fresh : (k : ℕ) → length base ≤ k → k < length pairs → ¬ Leads (take k pairs) (slice_index_or pairs k (0, 0)).0 (slice_index_or pairs k (0, 0)).1
+  pub fresh : (k : ℕ) → length base ≤ k → k < length pairs → ¬ Leads (take k pairs) (slice_index_or pairs k (0, 0)).0
+      (slice_index_or pairs k (0, 0)).1
 
 -- fresh pairs, and the children that wait under them
 pub record IsUnder (n : ℕ) (base pairs : List Pair) (children : List Child) : Type 0 where

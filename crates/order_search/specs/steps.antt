@@ -1,0 +1,4 @@
+pub mod Waiting
+pub mod Cursors
+pub mod Leaves
+pub mod Steps
