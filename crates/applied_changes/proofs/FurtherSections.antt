@@ -1,5 +1,6 @@
 -- A further section of a process that sets its distance: no fault comes with it, and nothing but the distance changes.
-use Rattle.std.proofs.Common.{◌≡◌, ℕ, ◌+◌, Bool, true, false, not, ◌&&◌, ◌||◌, cond, drop, List, [], ◌∷◌, ◌++◌, map, Option, Some, None, Result, Ok, refl, sym}
+use Rattle.std.proofs.Common.{◌≡◌, ℕ, ◌+◌, Bool, true, false, not, ◌&&◌, ◌||◌, cond, drop, List, [], ◌∷◌, ◌++◌, map, Option}
+use Rattle.std.proofs.Common.{Some, None, Result, Ok, refl, sym}
 use Rattle.std.proofs.Common.{ap, subst, ◌∙◌, append-nil, length-append, nat_eq, nat_lt, length, ◌<◌, arith}
 use Rattle.std.specs.Prelude.{filter, filter_map, fold, unwrap_or, option_map, is_some, is_none, bytes_eq}
 use Rattle.std.specs.List.{flat_map, list_any, list_all, cons_option}
@@ -97,7 +98,8 @@ isis_section line tag = record { line = line; tag = tag; lines = isis_distance_a
 abbrev pub with_isis_distance : Configuration → Configuration
 with_isis_distance c = record c { distances = record { ospf = c.distances.ospf; isis = ISIS_DISTANCE } }
 
-module _ (name : Option Word) (interfaces : List InterfaceSection) (ospf : List OspfSection) (f : IsisSection) (more : List IsisSection) (heads : List Fault) (ends line : ℕ) where
+module _ (name : Option Word) (interfaces : List InterfaceSection) (ospf : List OspfSection) (f : IsisSection) (more : List IsisSection) (heads : List Fault)
+    (ends line : ℕ) where
   abbrev x : IsisSection
   x = isis_section line f.tag
 
@@ -142,12 +144,15 @@ module _ (name : Option Word) (interfaces : List InterfaceSection) (ospf : List 
             ∙ two_none (flat_map isis_statement_faults lines_before) (flat_map isis_statement_faults (d ∷ [])) n.isis_fine refl;
         one_title =
             ap second_titles lines
-            ∙ ap (λ l. map (λ (s : IsisStatement). fault_at s.line Unsupported) (drop 1 l)) (filter-append is_net lines_before (d ∷ []) ∙ append-nil (filter is_net lines_before))
+            ∙ ap (λ l. map (λ (s : IsisStatement). fault_at s.line Unsupported) (drop 1 l)) (filter-append is_net lines_before (d ∷ [])
+            ∙ append-nil (filter is_net lines_before))
             ∙ n.one_title;
         lacks_none =
             ap (lacking (Some f.line)) lines
-            ∙ ap (λ b. faults_if (not b) f.line BadNet ++ faults_if (not (list_any is_metric_style (lines_before ++ d ∷ []))) f.line Unsupported) (any_stays is_net lines_before d refl)
-            ∙ ap (λ b. faults_if (not (list_any is_net lines_before)) f.line BadNet ++ faults_if (not b) f.line Unsupported) (any_stays is_metric_style lines_before d refl)
+            ∙ ap (λ b. faults_if (not b) f.line BadNet ++ faults_if (not (list_any is_metric_style (lines_before ++ d ∷ []))) f.line Unsupported)
+            (any_stays is_net lines_before d refl)
+            ∙ ap (λ b. faults_if (not (list_any is_net lines_before)) f.line BadNet ++ faults_if (not b) f.line Unsupported)
+            (any_stays is_metric_style lines_before d refl)
             ∙ n.lacks_none;
         interfaces_fine = n.interfaces_fine;
         named = n.named;
@@ -176,9 +181,11 @@ module _ (name : Option Word) (interfaces : List InterfaceSection) (ospf : List 
   same_interface l s =
       ap (λ o. interface_by (unwrap_or o false) (router_with process others (l ++ d ∷ [])).levels (router_with process others (l ++ d ∷ [])).metric s)
       (last_stays (λ (t : IsisStatement). isis_passive_said s.name t.says) l d refl)
-      ∙ ap (λ o. interface_by (unwrap_or (last_of (λ (t : IsisStatement). isis_passive_said s.name t.says) l) false) (value_or o Both) (router_with process others (l ++ d ∷ [])).metric s)
+      ∙ ap (λ o. interface_by (unwrap_or (last_of (λ (t : IsisStatement). isis_passive_said s.name t.says) l) false) (value_or o Both)
+      (router_with process others (l ++ d ∷ [])).metric s)
       (last_stays (λ (t : IsisStatement). levels_said t.says) l d refl)
-      ∙ ap (λ o. interface_by (unwrap_or (last_of (λ (t : IsisStatement). isis_passive_said s.name t.says) l) false) (router_with process others l).levels (value_or o DEFAULT_METRIC) s)
+      ∙ ap (λ o. interface_by (unwrap_or (last_of (λ (t : IsisStatement). isis_passive_said s.name t.says) l) false) (router_with process others l).levels
+      (value_or o DEFAULT_METRIC) s)
       (last_stays (λ (t : IsisStatement). router_metric_said t.says) l d refl)
 
   -- a configuration by what the IS-IS process says of it
@@ -224,8 +231,10 @@ module _ (name : Option Word) (interfaces : List InterfaceSection) (ospf : List 
       (last_stays (λ (s : IsisStatement). leak_said s.says) l d refl)
       ∙ ap (λ its. by_isis its (its_title (l ++ d ∷ [])) (router_with process others (l ++ d ∷ [])).levels
       (value_or (last_of (λ (s : IsisStatement). isis_distance_said s.says) (l ++ d ∷ [])) ISIS_DISTANCE) (leaks_in l))
-      (same_map (interface_as_read (router_with process others (l ++ d ∷ []))) (interface_as_read (router_with process others l)) (same_interface l) interfaces)
-      ∙ ap (λ o. by_isis (map (interface_as_read (router_with process others l)) interfaces) (title_given o) (router_with process others (l ++ d ∷ [])).levels
+      (same_map (interface_as_read (router_with process others (l ++ d ∷ []))) (interface_as_read (router_with process others l))
+      (same_interface l) interfaces)
+      ∙ ap (λ o. by_isis (map (interface_as_read (router_with process others l)) interfaces) (title_given o)
+      (router_with process others (l ++ d ∷ [])).levels
       (value_or (last_of (λ (s : IsisStatement). isis_distance_said s.says) (l ++ d ∷ [])) ISIS_DISTANCE) (leaks_in l))
       (last_stays (λ (s : IsisStatement). title_said s.says) l d refl)
       ∙ ap (λ o. by_isis (map (interface_as_read (router_with process others l)) interfaces) (its_title l) (value_or o Both)
@@ -274,7 +283,8 @@ same_flat : {A B : Type 0} (f g : A → List B) → ((x : A) → f x ≡ g x) �
 same_flat f g same [] = refl
 same_flat f g same (x ∷ xs) = ap (λ l. l ++ flat_map f xs) (same x) ∙ ap (λ l. g x ++ l) (same_flat f g same xs)
 
-module _ (name : Option Word) (interfaces : List InterfaceSection) (ospf : List OspfSection) (isis : List IsisSection) (heads : List Fault) (ends line p : ℕ) (running : process_by ospf interfaces ≡ Some p) where
+module _ (name : Option Word) (interfaces : List InterfaceSection) (ospf : List OspfSection) (isis : List IsisSection) (heads : List Fault) (ends line p : ℕ)
+    (running : process_by ospf interfaces ≡ Some p) where
   abbrev y : OspfSection
   y = ospf_section line p
 
@@ -301,12 +311,14 @@ module _ (name : Option Word) (interfaces : List InterfaceSection) (ospf : List 
 
   no_other : HasNoFault name interfaces ospf isis heads ends → flat_map told ((by_sections ++ mention_of y ∷ []) ++ by_interfaces) ≡ []
   no_other n =
-      let before : flat_map told (by_sections ++ by_interfaces) ≡ [] = subst (λ q. flat_map (process_faults q) (by_sections ++ by_interfaces) ≡ []) running n.one_process in
+      let before : flat_map told (by_sections ++ by_interfaces) ≡ [] =
+      subst (λ q. flat_map (process_faults q) (by_sections ++ by_interfaces) ≡ []) running n.one_process in
       let apart : flat_map told by_sections ++ flat_map told by_interfaces ≡ [] = sym (flat_map-append told by_sections by_interfaces) ∙ before in
       flat_map-append told (by_sections ++ mention_of y ∷ []) by_interfaces
       ∙ two_none (flat_map told (by_sections ++ mention_of y ∷ [])) (flat_map told by_interfaces)
       (flat_map-append told by_sections (mention_of y ∷ [])
-      ∙ two_none (flat_map told by_sections) (flat_map told (mention_of y ∷ [])) (none_left (flat_map told by_sections) (flat_map told by_interfaces) apart)
+      ∙ two_none (flat_map told by_sections) (flat_map told (mention_of y ∷ []))
+      (none_left (flat_map told by_sections) (flat_map told by_interfaces) apart)
       (two_none (told (mention_of y)) [] (ap (λ b. faults_if (not b) line SecondProcess) same_process) refl))
       (none_right (flat_map told by_sections) (flat_map told by_interfaces) apart)
 
@@ -345,9 +357,11 @@ module _ (name : Option Word) (interfaces : List InterfaceSection) (ospf : List 
   faults_by area reference s =
       interface_line_faults (first_tag isis) (counting s.lines)
       ++ loopback_faults s.name (facts s)
-      ++ faults_if (is_up (facts s) && is_some area && is_none (cost_given (facts s).cost (default_cost (value_or reference DEFAULT_REFERENCE) s.name (facts s).bandwidth))) s.line NoBandwidth
+      ++ faults_if (is_up (facts s) && is_some area && is_none
+      (cost_given (facts s).cost (default_cost (value_or reference DEFAULT_REFERENCE) s.name (facts s).bandwidth))) s.line NoBandwidth
 
-  same_faults : (l : List OspfStatement) (s : InterfaceSection) → interface_faults (router (l ++ e ∷ [])) (first_tag isis) s ≡ interface_faults (router l) (first_tag isis) s
+  same_faults : (l : List OspfStatement) (s : InterfaceSection) → interface_faults (router (l ++ e ∷ [])) (first_tag isis) s ≡ interface_faults
+      (router l) (first_tag isis) s
   same_faults l s =
       ap (λ a. faults_by a (last_of (λ (t : OspfStatement). reference_said t.says) (l ++ e ∷ [])) s) (same_area l (facts s))
       ∙ ap (λ r. faults_by (interface_area (router l) (facts s)) r s) (last_stays (λ (t : OspfStatement). reference_said t.says) l e refl)
@@ -372,8 +386,10 @@ module _ (name : Option Word) (interfaces : List InterfaceSection) (ospf : List 
         interfaces_fine =
             subst (λ q. flat_map (interface_faults (router_with q (ospf_lines_by q sections) all_isis) (first_tag isis)) interfaces ≡ []) (sym now)
             (ap (λ l. flat_map (interface_faults (router l) (first_tag isis)) interfaces) ospf_lines_more
-            ∙ same_flat (interface_faults (router (own ++ e ∷ [])) (first_tag isis)) (interface_faults (router own) (first_tag isis)) (same_faults own) interfaces
-            ∙ subst (λ q. flat_map (interface_faults (router_with q (ospf_lines_by q ospf) all_isis) (first_tag isis)) interfaces ≡ []) running n.interfaces_fine);
+            ∙ same_flat (interface_faults (router (own ++ e ∷ [])) (first_tag isis)) (interface_faults (router own) (first_tag isis))
+            (same_faults own) interfaces
+            ∙ subst (λ q. flat_map (interface_faults (router_with q (ospf_lines_by q ospf) all_isis) (first_tag isis)) interfaces ≡ [])
+            running n.interfaces_fine);
         named = n.named;
       }
 
@@ -455,11 +471,14 @@ module _ (name : Option Word) (interfaces : List InterfaceSection) (ospf : List 
   ospf_made n =
       ap (λ q. by_process q (ospf_lines_by q sections)) (still_running n)
       ∙ ap (by_process (Some p)) ospf_lines_more
-      ∙ ap (λ its. by_ospf (Some p) its (ranges_in (own ++ e ∷ [])) (stubs_in (own ++ e ∷ [])) (compatible_in (own ++ e ∷ [])) (distance_in (own ++ e ∷ [])))
+      ∙ ap (λ its. by_ospf (Some p) its (ranges_in (own ++ e ∷ [])) (stubs_in (own ++ e ∷ [])) (compatible_in (own ++ e ∷ []))
+      (distance_in (own ++ e ∷ [])))
       (same_map (interface_as_read (router (own ++ e ∷ []))) (interface_as_read (router own)) (still_interface own) interfaces)
-      ∙ ap (λ r. by_ospf (Some p) (map (interface_as_read (router own)) interfaces) r (stubs_in (own ++ e ∷ [])) (compatible_in (own ++ e ∷ [])) (distance_in (own ++ e ∷ [])))
+      ∙ ap (λ r. by_ospf (Some p) (map (interface_as_read (router own)) interfaces) r (stubs_in (own ++ e ∷ [])) (compatible_in (own ++ e ∷ []))
+      (distance_in (own ++ e ∷ [])))
       (same_ranges own)
-      ∙ ap (λ r. by_ospf (Some p) (map (interface_as_read (router own)) interfaces) (ranges_in own) r (compatible_in (own ++ e ∷ [])) (distance_in (own ++ e ∷ [])))
+      ∙ ap (λ r. by_ospf (Some p) (map (interface_as_read (router own)) interfaces) (ranges_in own) r (compatible_in (own ++ e ∷ []))
+      (distance_in (own ++ e ∷ [])))
       (same_stubs own)
       ∙ ap (λ o. by_ospf (Some p) (map (interface_as_read (router own)) interfaces) (ranges_in own) (stubs_in own) o (distance_in (own ++ e ∷ [])))
       (last_stays (λ (s : OspfStatement). rfc1583_said s.says) own e refl)

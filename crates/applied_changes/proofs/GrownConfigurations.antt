@@ -1,5 +1,6 @@
 -- The lines of a change, put before an `end` line, change a distance of its configuration and nothing else.
-use Rattle.std.proofs.Common.{◌≡◌, ℕ, ◌+◌, Bool, true, false, cond, List, [], ◌∷◌, ◌++◌, Option, Some, None, refl, sym, ap, subst, ◌∙◌}
+use Rattle.std.proofs.Common.{◌≡◌, ℕ, ◌+◌, Bool, true, false, cond, List, [], ◌∷◌, ◌++◌, Option, Some, None, refl, sym, ap, subst}
+use Rattle.std.proofs.Common.{◌∙◌}
 use Rattle.std.specs.Prelude.{filter_map, is_some, IfSome}
 use Rattle.std.specs.List.{list_all}
 use Rattle.std.proofs.lemmas.List.Elements.{filter_map-append}
@@ -18,9 +19,9 @@ use Rattle.ios_reader.specs.Configurations.{tag_in, configuration_of}
 use Rattle.igp_theory.specs.declared.phase.Phase.{Phase}
 use Rattle.igp_theory.specs.declared.phase.Phase.TheVariants.{Old, Middle, New}
 use Rattle.printed_lines.specs.Texts.{text_of}
-use Rattle.step_scripts.specs.Scripts.{isis_head, distance_line, isis_lines, process_lines}
+use Rattle.printed_lines.proofs.TextSteps.{text_of-append}
+use Rattle.step_scripts.specs.Scripts.{isis_head, distance_line, isis_change_lines, ospf_change_lines}
 use Rattle.applied_changes.specs.AppliedTexts.{lines_to, after_first, after_second, in_phase}
-use Rattle.step_scripts.proofs.ScriptFacts.{text_of-append}
 use Rattle.ios_reader.proofs.LookedUp.{HasNoFault, no_fault_from, no_fault_by, made_by}
 use Rattle.ios_reader.proofs.GrownSections.{Grows, nothing_grows, both_grow}
 use Rattle.applied_changes.proofs.FurtherSections.{last_stays, left_out, isis_section, ospf_section, with_isis_distance, with_ospf_distance, tag_printable}
@@ -54,14 +55,16 @@ module _ (ss : List Section) (ends line : ℕ) (fine : section_faults ss ends �
       let heads = left_out as_fault ss s refl in
       record {
         faultless =
-            no_fault_by (ss ++ s ∷ []) ends its_name (interfaces_in ss) (filter_map as_ospf ss) (f ∷ (more ++ isis_section line f.tag ∷ [])) (filter_map as_fault ss)
+            no_fault_by (ss ++ s ∷ []) ends its_name (interfaces_in ss) (filter_map as_ospf ss) (f ∷ (more ++ isis_section line f.tag ∷ []))
+            (filter_map as_fault ss)
             names interfaces ospf isis heads
             (isis_no_fault its_name (interfaces_in ss) (filter_map as_ospf ss) f more (filter_map as_fault ss) ends line
             (subst (λ l. HasNoFault its_name (interfaces_in ss) (filter_map as_ospf ss) l (filter_map as_fault ss) ends) has (no_fault_from ss ends fine)));
         made =
             ap with_isis_distance (made_by ss its_name (interfaces_in ss) (filter_map as_ospf ss) (f ∷ more) refl refl refl has)
             ∙ sym (isis_made its_name (interfaces_in ss) (filter_map as_ospf ss) f more (filter_map as_fault ss) ends line (isis_printable f more has))
-            ∙ sym (made_by (ss ++ s ∷ []) its_name (interfaces_in ss) (filter_map as_ospf ss) (f ∷ (more ++ isis_section line f.tag ∷ [])) names interfaces ospf isis);
+            ∙ sym (made_by (ss ++ s ∷ []) its_name (interfaces_in ss) (filter_map as_ospf ss) (f ∷ (more ++ isis_section line f.tag ∷ []))
+            names interfaces ospf isis);
       }
 
   ospf_extends : (p : ℕ) → process_of ss ≡ Some p → Extends ss (Ospf (ospf_section line p)) ends (with_ospf_distance (configuration_of ss))
@@ -74,32 +77,40 @@ module _ (ss : List Section) (ends line : ℕ) (fine : section_faults ss ends �
       let heads = left_out as_fault ss s refl in
       record {
         faultless =
-            no_fault_by (ss ++ s ∷ []) ends its_name (interfaces_in ss) (filter_map as_ospf ss ++ ospf_section line p ∷ []) (filter_map as_isis ss) (filter_map as_fault ss)
+            no_fault_by (ss ++ s ∷ []) ends its_name (interfaces_in ss) (filter_map as_ospf ss ++ ospf_section line p ∷ []) (filter_map as_isis ss)
+            (filter_map as_fault ss)
             names interfaces ospf isis heads
-            (ospf_no_fault its_name (interfaces_in ss) (filter_map as_ospf ss) (filter_map as_isis ss) (filter_map as_fault ss) ends line p running (no_fault_from ss ends fine));
+            (ospf_no_fault its_name (interfaces_in ss) (filter_map as_ospf ss) (filter_map as_isis ss) (filter_map as_fault ss) ends line p running
+            (no_fault_from ss ends fine));
         made =
-            sym (ospf_made its_name (interfaces_in ss) (filter_map as_ospf ss) (filter_map as_isis ss) (filter_map as_fault ss) ends line p running (no_fault_from ss ends fine))
-            ∙ sym (made_by (ss ++ s ∷ []) its_name (interfaces_in ss) (filter_map as_ospf ss ++ ospf_section line p ∷ []) (filter_map as_isis ss) names interfaces ospf isis);
+            sym (ospf_made its_name (interfaces_in ss) (filter_map as_ospf ss) (filter_map as_isis ss) (filter_map as_fault ss) ends line p running
+            (no_fault_from ss ends fine))
+            ∙ sym (made_by (ss ++ s ∷ []) its_name (interfaces_in ss) (filter_map as_ospf ss ++ ospf_section line p ∷ []) (filter_map as_isis ss)
+            names interfaces ospf isis);
       }
 
 -- ---- blocks ----
 
 -- the lines of a first change, where the configuration has IS-IS and where it hasn't
-isis_grows : (ss : List Section) (ends : ℕ) (f : IsisSection) (more : List IsisSection) → section_faults ss ends ≡ [] → filter_map as_isis ss ≡ f ∷ more →
+isis_grows : (ss : List Section) (ends : ℕ) (f : IsisSection) (more : List IsisSection) → section_faults ss ends ≡ [] →
+    filter_map as_isis ss ≡ f ∷ more →
     Grows ss ends (isis_block f.tag) (with_isis_distance (configuration_of ss))
 isis_grows ss ends f more fine has =
     let printable : list_all is_printable f.tag ≡ true = isis_printable ss ends 0 fine f more has in
     record {
       fits = isis_block_fits f.tag printable;
-      faultless = λ count. ap (λ l. section_faults (ss ++ l) ends) (isis_block_sections f.tag count printable) ∙ (isis_extends ss ends (count + 1) fine f more has).faultless;
-      made = λ count. (isis_extends ss ends (count + 1) fine f more has).made ∙ ap (λ l. configuration_of (ss ++ l)) (sym (isis_block_sections f.tag count printable));
+      faultless = λ count. ap (λ l. section_faults (ss ++ l) ends) (isis_block_sections f.tag count printable)
+          ∙ (isis_extends ss ends (count + 1) fine f more has).faultless;
+      made = λ count. (isis_extends ss ends (count + 1) fine f more has).made
+          ∙ ap (λ l. configuration_of (ss ++ l)) (sym (isis_block_sections f.tag count printable));
     }
 
 first_grows : (ss : List Section) (ends : ℕ) → section_faults ss ends ≡ [] →
-    Grows ss ends (text_of (isis_lines (configuration_of ss))) (after_first (configuration_of ss))
+    Grows ss ends (text_of (isis_change_lines (configuration_of ss))) (after_first (configuration_of ss))
 first_grows ss ends fine = by_sections (filter_map as_isis ss) refl
   where
-    by_sections : (l : List IsisSection) → filter_map as_isis ss ≡ l → Grows ss ends (text_of (isis_lines (configuration_of ss))) (after_first (configuration_of ss))
+    by_sections : (l : List IsisSection) → filter_map as_isis ss ≡ l → Grows ss ends (text_of (isis_change_lines (configuration_of ss)))
+        (after_first (configuration_of ss))
     by_sections [] has =
         let without : (configuration_of ss).isis ≡ false = ap (λ l. is_some (first_isis l)) has in
         subst (λ t. Grows ss ends t (after_first (configuration_of ss)))
@@ -111,7 +122,8 @@ first_grows ss ends fine = by_sections (filter_map as_isis ss) refl
         let tag : (configuration_of ss).tag ≡ f.tag = ap (λ l. tag_in (first_isis l)) has in
         subst (λ t. Grows ss ends t (after_first (configuration_of ss)))
         (sym (ap (λ (b : Bool). text_of (cond b (isis_head (configuration_of ss).tag ∷ distance_line ISIS_DISTANCE ∷ []) [])) runs ∙ ap isis_block tag))
-        (subst (λ g. Grows ss ends (isis_block f.tag) g) (sym (ap (λ (b : Bool). cond b (with_isis_distance (configuration_of ss)) (configuration_of ss)) runs))
+        (subst (λ g. Grows ss ends (isis_block f.tag) g)
+        (sym (ap (λ (b : Bool). cond b (with_isis_distance (configuration_of ss)) (configuration_of ss)) runs))
         (isis_grows ss ends f more fine has))
 
 -- the number of a process
@@ -122,22 +134,26 @@ ospf_grows : (ss : List Section) (ends p : ℕ) → section_faults ss ends ≡ [
     Grows ss ends (ospf_block p) (with_ospf_distance (configuration_of ss))
 ospf_grows ss ends p fine range running = record {
   fits = ospf_block_fits p range.high;
-  faultless = λ count. ap (λ l. section_faults (ss ++ l) ends) (ospf_block_sections p count range.low range.high) ∙ (ospf_extends ss ends (count + 1) fine p running).faultless;
-  made = λ count. (ospf_extends ss ends (count + 1) fine p running).made ∙ ap (λ l. configuration_of (ss ++ l)) (sym (ospf_block_sections p count range.low range.high));
+  faultless = λ count. ap (λ l. section_faults (ss ++ l) ends) (ospf_block_sections p count range.low range.high)
+      ∙ (ospf_extends ss ends (count + 1) fine p running).faultless;
+  made = λ count. (ospf_extends ss ends (count + 1) fine p running).made
+      ∙ ap (λ l. configuration_of (ss ++ l)) (sym (ospf_block_sections p count range.low range.high));
 }
 
 second_grows : (ss : List Section) (ends : ℕ) → section_faults ss ends ≡ [] → InRange (process_of ss) →
-    Grows ss ends (text_of (process_lines (process_of ss))) (after_second (configuration_of ss))
+    Grows ss ends (text_of (ospf_change_lines (process_of ss))) (after_second (configuration_of ss))
 second_grows ss ends fine range = by_process (process_of ss) refl
   where
-    by_process : (o : Option ℕ) → process_of ss ≡ o → Grows ss ends (text_of (process_lines (process_of ss))) (after_second (configuration_of ss))
+    by_process : (o : Option ℕ) → process_of ss ≡ o → Grows ss ends (text_of (ospf_change_lines (process_of ss))) (after_second (configuration_of ss))
     by_process None has =
-        subst (λ t. Grows ss ends t (after_second (configuration_of ss))) (sym (ap (λ o. text_of (process_lines o)) has))
-        (subst (λ g. Grows ss ends [] g) (sym (ap (λ (o : Option ℕ). cond (is_some o) (with_ospf_distance (configuration_of ss)) (configuration_of ss)) has))
+        subst (λ t. Grows ss ends t (after_second (configuration_of ss))) (sym (ap (λ o. text_of (ospf_change_lines o)) has))
+        (subst (λ g. Grows ss ends [] g) (sym (ap (λ (o : Option ℕ). cond (is_some o) (with_ospf_distance (configuration_of ss)) (configuration_of ss))
+        has))
         (nothing_grows ss ends fine))
     by_process (Some p) has =
-        subst (λ t. Grows ss ends t (after_second (configuration_of ss))) (sym (ap (λ o. text_of (process_lines o)) has))
-        (subst (λ g. Grows ss ends (ospf_block p) g) (sym (ap (λ (o : Option ℕ). cond (is_some o) (with_ospf_distance (configuration_of ss)) (configuration_of ss)) has))
+        subst (λ t. Grows ss ends t (after_second (configuration_of ss))) (sym (ap (λ o. text_of (ospf_change_lines o)) has))
+        (subst (λ g. Grows ss ends (ospf_block p) g) (sym
+        (ap (λ (o : Option ℕ). cond (is_some o) (with_ospf_distance (configuration_of ss)) (configuration_of ss)) has))
         (ospf_grows ss ends p fine (subst (λ o. InRange o) has range) has))
 
 process_stays : (c : Configuration) → (after_first c).process ≡ c.process
@@ -154,16 +170,18 @@ phase_grows ss ends Old fine range = nothing_grows ss ends fine
 phase_grows ss ends Middle fine range = first_grows ss ends fine
 phase_grows ss ends New fine range =
     let c : Configuration = configuration_of ss in
-    let begun : Grows ss ends (text_of (isis_lines c)) (after_first c) = first_grows ss ends fine in
-    subst (λ t. Grows ss ends t (after_second (after_first c))) (sym (text_of-append (isis_lines c) (process_lines c.process)))
-    (both_grow ss ends (text_of (isis_lines c)) (text_of (process_lines c.process)) (after_first c) (after_second (after_first c)) begun (λ count. later count (begun.faultless count) (begun.made count)))
+    let begun : Grows ss ends (text_of (isis_change_lines c)) (after_first c) = first_grows ss ends fine in
+    subst (λ t. Grows ss ends t (after_second (after_first c))) (sym (text_of-append (isis_change_lines c) (ospf_change_lines c.process)))
+    (both_grow ss ends (text_of (isis_change_lines c)) (text_of (ospf_change_lines c.process)) (after_first c) (after_second (after_first c)) begun (λ count.
+    later count (begun.faultless count) (begun.made count)))
   where
-    later : (count : ℕ) → section_faults (ss ++ sections_further_on count (text_of (isis_lines (configuration_of ss)))) ends ≡ [] →
-        after_first (configuration_of ss) ≡ configuration_of (ss ++ sections_further_on count (text_of (isis_lines (configuration_of ss)))) →
-        Grows (ss ++ sections_further_on count (text_of (isis_lines (configuration_of ss)))) ends (text_of (process_lines (process_of ss))) (after_second (after_first (configuration_of ss)))
+    later : (count : ℕ) → section_faults (ss ++ sections_further_on count (text_of (isis_change_lines (configuration_of ss)))) ends ≡ [] →
+        after_first (configuration_of ss) ≡ configuration_of (ss ++ sections_further_on count (text_of (isis_change_lines (configuration_of ss)))) →
+        Grows (ss ++ sections_further_on count (text_of (isis_change_lines (configuration_of ss)))) ends (text_of (ospf_change_lines (process_of ss)))
+        (after_second (after_first (configuration_of ss)))
     later count still made =
-        let more : List Section = ss ++ sections_further_on count (text_of (isis_lines (configuration_of ss))) in
+        let more : List Section = ss ++ sections_further_on count (text_of (isis_change_lines (configuration_of ss))) in
         let process : process_of more ≡ process_of ss = sym (ap (λ (g : Configuration). g.process) made) ∙ process_stays (configuration_of ss) in
-        subst (λ g. Grows more ends (text_of (process_lines (process_of ss))) (after_second g)) (sym made)
-        (subst (λ q. Grows more ends (text_of (process_lines q)) (after_second (configuration_of more))) process
+        subst (λ g. Grows more ends (text_of (ospf_change_lines (process_of ss))) (after_second g)) (sym made)
+        (subst (λ q. Grows more ends (text_of (ospf_change_lines q)) (after_second (configuration_of more))) process
         (second_grows more ends still (subst (λ o. InRange o) (sym process) range)))

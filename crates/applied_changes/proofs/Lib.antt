@@ -5,4 +5,3 @@ pub mod AppliedFacts
 pub mod MadeFacts
 pub mod PhaseFacts
 pub mod PartFacts
-pub mod PartSteps

@@ -1,5 +1,6 @@
 -- The changes of a router up to a state of an order, counted.
-use Rattle.std.proofs.Common.{◌≡◌, ◌≢◌, ℕ, zero, suc, ◌+◌, ◌==◌, Bool, true, false, cond, List, [], ◌∷◌, ◌++◌, take, Contains, AllPairs, refl, sym, ap, ◌∙◌, append-nil, ◌⊎◌, inl, inr, arith}
+use Rattle.std.proofs.Common.{◌≡◌, ◌≢◌, ℕ, zero, suc, ◌+◌, ◌==◌, Bool, true, false, cond, List, [], ◌∷◌, ◌++◌, take, Contains}
+use Rattle.std.proofs.Common.{AllPairs, refl, sym, ap, ◌∙◌, append-nil, ◌⊎◌, inl, inr, arith}
 use Rattle.std.specs.List.{flat_map}
 use Rattle.std.proofs.lemmas.Bool.Decides.{eqb_tells}
 use Rattle.net_model.specs.Configuration.{Configuration}
@@ -11,7 +12,7 @@ use Rattle.igp_theory.specs.Waves.{Change, first, second, changed}
 use Rattle.igp_theory.proofs.OrderedLists.{pairs_first, pairs_rest}
 use Rattle.applied_changes.specs.AppliedTexts.{lines_to}
 use Rattle.applied_changes.specs.MadeChanges.{made_on}
-use Rattle.step_scripts.specs.Scripts.{change_lines, said_of, isis_lines, process_lines}
+use Rattle.step_scripts.specs.Scripts.{change_lines, by_configuration, isis_change_lines, ospf_change_lines}
 
 -- the first changes of a router, so many
 abbrev made_of : ℕ → ℕ → List Change
@@ -28,7 +29,8 @@ on u c = changed c == u
 turned : (u v : ℕ) → (u == v) ≡ (v == u)
 turned u v = by (eqb_tells u v) (eqb_tells v u)
   where
-    by : (((u == v) ≡ true) × (u ≡ v)) ⊎ (((u == v) ≡ false) × (u ≢ v)) → (((v == u) ≡ true) × (v ≡ u)) ⊎ (((v == u) ≡ false) × (v ≢ u)) → (u == v) ≡ (v == u)
+    by : (((u == v) ≡ true) × (u ≡ v)) ⊎ (((u == v) ≡ false) × (u ≢ v)) → (((v == u) ≡ true) × (v ≡ u)) ⊎
+        (((v == u) ≡ false) × (v ≢ u)) → (u == v) ≡ (v == u)
     by (inl one) (inl other) = one.0 ∙ sym other.0
     by (inr one) (inr other) = one.0 ∙ sym other.0
     by (inl one) (inr other) = absurd (other.1 (sym one.1))
@@ -46,9 +48,13 @@ none_made u (suc zero) (v ∷ order) apart = off (eqb_tells v u)
 none_made u (suc (suc k)) (v ∷ order) apart = off (eqb_tells v u) (none_made u k order (λ w inside. apart w (Contains-rest v order w inside)))
   where
     off : (((v == u) ≡ true) × (v ≡ u)) ⊎ (((v == u) ≡ false) × (v ≢ u)) → made_on u k order ≡ [] →
-        cond (v == u) (first v ∷ cond (v == u) (second v ∷ made_on u k order) (made_on u k order)) (cond (v == u) (second v ∷ made_on u k order) (made_on u k order)) ≡ []
+        cond (v == u) (first v ∷ cond (v == u) (second v ∷ made_on u k order) (made_on u k order)) (cond (v == u) (second v ∷ made_on u k order)
+        (made_on u k order)) ≡ []
     off (inl same) rest = absurd (apart v (Contains-first v order) same.1)
-    off (inr other) rest = ap (λ b. cond b (first v ∷ cond b (second v ∷ made_on u k order) (made_on u k order)) (cond b (second v ∷ made_on u k order) (made_on u k order))) other.0 ∙ rest
+    off (inr other) rest =
+        ap (λ b. cond b (first v ∷ cond b (second v ∷ made_on u k order) (made_on u k order))
+        (cond b (second v ∷ made_on u k order) (made_on u k order)))
+        other.0 ∙ rest
 
 none_counted : (u k : ℕ) (order : List ℕ) → ((v : ℕ) → Contains order v → v ≢ u) → count_on u k order ≡ 0
 none_counted u zero order apart = refl
@@ -60,7 +66,8 @@ none_counted u (suc zero) (v ∷ order) apart = off (eqb_tells u v)
     off (inr other) = ap (λ b. cond b 1 0 + 0) other.0
 none_counted u (suc (suc k)) (v ∷ order) apart = off (eqb_tells u v) (none_counted u k order (λ w inside. apart w (Contains-rest v order w inside)))
   where
-    off : (((u == v) ≡ true) × (u ≡ v)) ⊎ (((u == v) ≡ false) × (u ≢ v)) → count_on u k order ≡ 0 → cond (u == v) 1 0 + (cond (u == v) 1 0 + count_on u k order) ≡ 0
+    off : (((u == v) ≡ true) × (u ≡ v)) ⊎ (((u == v) ≡ false) × (u ≢ v)) → count_on u k order ≡ 0 →
+        cond (u == v) 1 0 + (cond (u == v) 1 0 + count_on u k order) ≡ 0
     off (inl same) rest = absurd (apart v (Contains-first v order) (sym same.1))
     off (inr other) rest = ap (λ b. cond b 1 0 + (cond b 1 0 + count_on u k order)) other.0 ∙ ap (λ n. 0 + (0 + n)) rest
 
@@ -72,7 +79,8 @@ made_counted u (suc zero) (v ∷ order) once = by (eqb_tells v u)
   where
     by : (((v == u) ≡ true) × (v ≡ u)) ⊎ (((v == u) ≡ false) × (v ≢ u)) → cond (v == u) (first v ∷ []) [] ≡ made_of u (cond (u == v) 1 0 + 0)
     by (inl same) =
-        ap (λ b. cond b (first v ∷ []) []) same.0 ∙ ap (λ w. first w ∷ []) same.1 ∙ sym (ap (λ b. made_of u (cond b 1 0 + 0)) (turned u v ∙ same.0))
+        ap (λ b. cond b (first v ∷ []) []) same.0 ∙ ap (λ w. first w ∷ []) same.1
+        ∙ sym (ap (λ b. made_of u (cond b 1 0 + 0)) (turned u v ∙ same.0))
     by (inr other) = ap (λ b. cond b (first v ∷ []) []) other.0 ∙ sym (ap (λ b. made_of u (cond b 1 0 + 0)) (turned u v ∙ other.0))
 made_counted u (suc (suc k)) (v ∷ order) once = by (eqb_tells v u) (made_counted u k order (pairs_rest (λ v w. v ≢ w) v order once))
   where
@@ -80,27 +88,32 @@ made_counted u (suc (suc k)) (v ∷ order) once = by (eqb_tells v u) (made_count
     apart same w inside e = pairs_first (λ v w. v ≢ w) v order once w inside (same ∙ sym e)
 
     by : (((v == u) ≡ true) × (v ≡ u)) ⊎ (((v == u) ≡ false) × (v ≢ u)) → made_on u k order ≡ made_of u (count_on u k order) →
-        cond (v == u) (first v ∷ cond (v == u) (second v ∷ made_on u k order) (made_on u k order)) (cond (v == u) (second v ∷ made_on u k order) (made_on u k order))
+        cond (v == u) (first v ∷ cond (v == u) (second v ∷ made_on u k order) (made_on u k order))
+        (cond (v == u) (second v ∷ made_on u k order) (made_on u k order))
         ≡ made_of u (cond (u == v) 1 0 + (cond (u == v) 1 0 + count_on u k order))
     by (inl same) rest =
-        ap (λ b. cond b (first v ∷ cond b (second v ∷ made_on u k order) (made_on u k order)) (cond b (second v ∷ made_on u k order) (made_on u k order))) same.0
+        ap (λ b. cond b (first v ∷ cond b (second v ∷ made_on u k order) (made_on u k order))
+        (cond b (second v ∷ made_on u k order) (made_on u k order))) same.0
         ∙ ap (λ l. first v ∷ second v ∷ l) (none_made u k order (apart same.1))
         ∙ ap (λ w. first w ∷ second w ∷ []) same.1
         ∙ sym (ap (λ b. made_of u (cond b 1 0 + (cond b 1 0 + count_on u k order))) (turned u v ∙ same.0)
         ∙ ap (λ n. made_of u (1 + (1 + n))) (none_counted u k order (apart same.1)))
     by (inr other) rest =
-        ap (λ b. cond b (first v ∷ cond b (second v ∷ made_on u k order) (made_on u k order)) (cond b (second v ∷ made_on u k order) (made_on u k order))) other.0
+        ap (λ b. cond b (first v ∷ cond b (second v ∷ made_on u k order) (made_on u k order))
+        (cond b (second v ∷ made_on u k order) (made_on u k order))) other.0
         ∙ rest
         ∙ ap (made_of u) (let e : count_on u k order ≡ 0 + (0 + count_on u k order) = omega arith in e)
         ∙ sym (ap (λ b. made_of u (cond b 1 0 + (cond b 1 0 + count_on u k order))) (turned u v ∙ other.0))
 
-lines_of_made : (net : Network) (u m : ℕ) (c : Configuration) → HasConfiguration net u c → flat_map (change_lines net) (made_of u m) ≡ lines_to (phase_after m) c
+lines_of_made : (net : Network) (u m : ℕ) (c : Configuration) → HasConfiguration net u c →
+    flat_map (change_lines net) (made_of u m) ≡ lines_to (phase_after m) c
 lines_of_made net u zero c has = refl
-lines_of_made net u (suc zero) c has = ap (λ o. said_of isis_lines o ++ []) has ∙ append-nil (isis_lines c)
+lines_of_made net u (suc zero) c has = ap (λ o. by_configuration isis_change_lines o ++ []) has ∙ append-nil (isis_change_lines c)
 lines_of_made net u (suc (suc m)) c has =
-    ap (λ o. said_of isis_lines o ++ (said_of (λ (d : Configuration). process_lines d.process) o ++ [])) has
-    ∙ ap (λ l. isis_lines c ++ l) (append-nil (process_lines c.process))
+    ap (λ o. by_configuration isis_change_lines o ++ (by_configuration (λ (d : Configuration). ospf_change_lines d.process) o ++ [])) has
+    ∙ ap (λ l. isis_change_lines c ++ l) (append-nil (ospf_change_lines c.process))
 
 pub made_lines : (net : Network) (n : ℕ) (order : List ℕ) (k u : ℕ) (c : Configuration) → IsOrder n order → HasConfiguration net u c →
     flat_map (change_lines net) (made_on u k order) ≡ lines_to (state_of order k u) c
-made_lines net n order k u c lists has = ap (flat_map (change_lines net)) (made_counted u k order lists.once) ∙ lines_of_made net u (count_on u k order) c has
+made_lines net n order k u c lists has = ap (flat_map (change_lines net)) (made_counted u k order lists.once)
+    ∙ lines_of_made net u (count_on u k order) c has

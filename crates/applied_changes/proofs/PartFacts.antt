@@ -1,5 +1,6 @@
 -- A text with the lines of changes put in, line by line and configuration by configuration.
-use Rattle.std.proofs.Common.{◌≡◌, ℕ, ◌+◌, ◌-◌, ◌≤◌, Bool, true, false, not, ◌&&◌, cond, List, [], ◌∷◌, ◌++◌, length, map, drop, refl, sym, ap, subst, ◌∙◌}
+use Rattle.std.proofs.Common.{◌≡◌, ℕ, ◌+◌, ◌-◌, ◌≤◌, Bool, true, false, not, ◌&&◌, cond, List, [], ◌∷◌, ◌++◌, length, map}
+use Rattle.std.proofs.Common.{drop, refl, sym, ap, subst, ◌∙◌}
 use Rattle.std.proofs.Common.{append_assoc, append-nil, length-append, length-drop, arith}
 use Rattle.std.proofs.lemmas.List.{drop-append-le, drop_at, take_all}
 use Rattle.net_addr.specs.JoinedLines.{is_of_whole_lines}
@@ -12,10 +13,11 @@ use Rattle.ios_reader.specs.Configurations.{configuration_of}
 use Rattle.ios_reader.specs.InsertedLines.{IsOutsideBanners}
 use Rattle.ios_reader.specs.Texts.{ReadsText}
 use Rattle.ios_reader.specs.Places.{between, raw_lines, start_of}
+use Rattle.ios_reader.specs.PutBlocks.{put_blocks}
 use Rattle.ios_reader.proofs.LinePlaces.{line_behind, up_to}
 use Rattle.ios_reader.proofs.RawLines.{IsWholeBefore, AreRaw, joined_raw, are_raw, raw_joined, HasOneLine, one_line, parts_stay, parts_at_end, open_lines}
 use Rattle.ios_reader.proofs.RawLines.{part_with, whole_next, whole_start}
-use Rattle.applied_changes.specs.AppliedTexts.{in_phase, block_for, applied_lines, applied_text}
+use Rattle.applied_changes.specs.AppliedTexts.{in_phase, block_for, block_in, applied_text}
 use Rattle.applied_changes.specs.steps.AppliedParts.{applied_parts}
 use Rattle.applied_changes.proofs.AppliedFacts.{applied_text_reads}
 
@@ -28,7 +30,8 @@ record Behind (phases : List ℕ → Phase) (text before done : List ℕ) : Type
   applied : (from : ℕ) → from ≤ length before → applied_parts phases text from later ≡ drop from before ++ done
 
 -- a line that is no `end` line outside banners
-stays_behind : (phases : List ℕ → Phase) (text before raw done : List ℕ) (line : TextLine) → is_of_whole_lines before ≡ true → lines_in raw ≡ line ∷ [] →
+stays_behind : (phases : List ℕ → Phase) (text before raw done : List ℕ) (line : TextLine) → is_of_whole_lines before ≡ true →
+    lines_in raw ≡ line ∷ [] →
     (not (is_in_banner (lines_in before)) && is_end line) ≡ false → Behind phases text (before ++ raw) done → Behind phases text before (raw ++ done)
 stays_behind phases text before raw done line whole is off rest =
     let n : ℕ = length (lines_in before) in
@@ -46,14 +49,16 @@ stays_behind phases text before raw done line whole is off rest =
 
 -- an `end` line outside banners
 ends_behind : (phases : List ℕ → Phase) (text before raw tail done : List ℕ) (line : TextLine) (others : List TextLine) → IsOutsideBanners before →
-    before ++ (raw ++ tail) ≡ text → lines_in raw ≡ line ∷ [] → lines_in (raw ++ tail) ≡ line ∷ others → line.number ≡ 1 → is_end line ≡ true →
+    before ++ (raw ++ tail) ≡ text → lines_in raw ≡ line ∷ [] → lines_in (raw ++ tail) ≡ line ∷ others → line.number ≡ 1 →
+    is_end line ≡ true →
     Behind phases text (before ++ raw) done → Behind phases text before (block_for phases (configuration_of (open_sections before)) ++ raw ++ done)
 ends_behind phases text before raw tail done line others outside split is starts first e rest =
     let n : ℕ = length (lines_in before) in
     let part : Part = part_with (open_lines before) (n + line.number) in
     let block : List ℕ = block_for phases (configuration_of (open_sections before)) in
     let start : start_of text (n + line.number) ≡ length before =
-    sym (ap (λ (t : List ℕ). start_of t (n + line.number)) split) ∙ line_behind before (raw ++ tail) (n + line.number) line others outside.whole starts (omega (arith, first)) in
+    sym (ap (λ (t : List ℕ). start_of t (n + line.number)) split) ∙ line_behind before (raw ++ tail) (n + line.number) line others outside.whole starts
+    (omega (arith, first)) in
     record {
       later = part ∷ rest.later;
       parts =
@@ -75,7 +80,8 @@ record Starts (text : List ℕ) (line : TextLine) : Type 0 where
   others : List TextLine
   is : lines_in text ≡ line ∷ others
 
-starts_with : (raw : List ℕ) (raws : List (List ℕ)) (line : TextLine) → IsWholeBefore raw raws → lines_in raw ≡ line ∷ [] → Starts (raw ++ joined_raw raws) line
+starts_with : (raw : List ℕ) (raws : List (List ℕ)) (line : TextLine) → IsWholeBefore raw raws → lines_in raw ≡ line ∷ [] →
+    Starts (raw ++ joined_raw raws) line
 starts_with raw [] line whole is = record { others = []; is = ap lines_in (append-nil raw) ∙ is }
 starts_with raw (next ∷ raws) line whole is = record {
   others = map (further_on (length (lines_in raw))) (lines_in (joined_raw (next ∷ raws)));
@@ -85,8 +91,10 @@ starts_with raw (next ∷ raws) line whole is = record {
 }
 
 -- one line, by whether it is an `end` line outside banners
-line_more : (phases : List ℕ → Phase) (text before raw tail done : List ℕ) (line : TextLine) (others : List TextLine) → is_of_whole_lines before ≡ true →
-    before ++ (raw ++ tail) ≡ text → lines_in raw ≡ line ∷ [] → lines_in (raw ++ tail) ≡ line ∷ others → line.number ≡ 1 → Behind phases text (before ++ raw) done →
+line_more : (phases : List ℕ → Phase) (text before raw tail done : List ℕ) (line : TextLine) (others : List TextLine) →
+    is_of_whole_lines before ≡ true →
+    before ++ (raw ++ tail) ≡ text → lines_in raw ≡ line ∷ [] → lines_in (raw ++ tail) ≡ line ∷ others → line.number ≡ 1 →
+    Behind phases text (before ++ raw) done →
     (inside ends : Bool) → is_in_banner (lines_in before) ≡ inside → is_end line ≡ ends →
     Behind phases text before (cond (not inside && ends) (block_for phases (configuration_of (open_sections before))) [] ++ raw ++ done)
 line_more phases text before raw tail done line others whole split is starts first rest true ends banner e =
@@ -97,7 +105,7 @@ line_more phases text before raw tail done line others whole split is starts fir
     ends_behind phases text before raw tail done line others (record { whole = whole; outside = banner }) split is starts first e rest
 
 all_behind : (phases : List ℕ → Phase) (text : List ℕ) (raws : List (List ℕ)) (before : List ℕ) → IsWholeBefore before raws → AreRaw raws →
-    before ++ joined_raw raws ≡ text → Behind phases text before (applied_lines phases before raws)
+    before ++ joined_raw raws ≡ text → Behind phases text before (put_blocks (block_in phases) before raws)
 all_behind phases text [] before whole are split =
     let same : before ≡ text = sym (append-nil before) ∙ split in
     record {
@@ -110,18 +118,21 @@ all_behind phases text [] before whole are split =
 all_behind phases text (raw ∷ raws) before whole are split =
     let single : HasOneLine raw = one_line raw are.0 in
     let starts : Starts (raw ++ joined_raw raws) single.line = starts_with raw raws single.line are.1.0 single.is in
-    let rest : Behind phases text (before ++ raw) (applied_lines phases (before ++ raw) raws) =
+    let rest : Behind phases text (before ++ raw) (put_blocks (block_in phases) (before ++ raw) raws) =
     all_behind phases text raws (before ++ raw) (whole_next before raw raws whole are.1.0) are.1.1 (append_assoc before raw (joined_raw raws) ∙ split) in
     subst (λ t. Behind phases text before
-    (cond (not (is_in_banner (lines_in before)) && t) (block_for phases (configuration_of (open_sections before))) [] ++ raw ++ applied_lines phases (before ++ raw) raws))
+    (cond (not (is_in_banner (lines_in before)) && t) (block_for phases (configuration_of (open_sections before))) [] ++ raw
+    ++ put_blocks (block_in phases) (before ++ raw) raws))
     (sym (ap begins_with_end single.is))
-    (line_more phases text before raw (joined_raw raws) (applied_lines phases (before ++ raw) raws) single.line starts.others whole split single.is starts.is single.first
+    (line_more phases text before raw (joined_raw raws) (put_blocks (block_in phases) (before ++ raw) raws) single.line starts.others whole split
+    single.is starts.is single.first
     rest (is_in_banner (lines_in before)) (is_end single.line) refl refl)
 
 -- the text is the same, put together line by line or configuration by configuration
 pub applied_by_parts : (phases : List ℕ → Phase) (text : List ℕ) → applied_parts phases text 0 (parts_of (lines_in text)) ≡ applied_text phases text
 applied_by_parts phases text =
-    let all : Behind phases text [] (applied_text phases text) = all_behind phases text (raw_lines text) [] (whole_start (raw_lines text)) (are_raw text) (raw_joined text) in
+    let all : Behind phases text [] (applied_text phases text) =
+    all_behind phases text (raw_lines text) [] (whole_start (raw_lines text)) (are_raw text) (raw_joined text) in
     ap (applied_parts phases text 0) all.parts ∙ all.applied 0 (omega arith)
 
 -- what is put together so reads as the configurations of the text, each router in its phase

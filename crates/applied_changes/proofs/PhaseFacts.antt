@@ -1,5 +1,6 @@
 -- The phase of a router by its name and by the changes made on it, and the lines that lead there.
-use Rattle.std.proofs.Common.{◌≡◌, ◌<◌, ◌+◌, ◌-◌, ℕ, zero, suc, ◌==◌, Bool, true, false, cond, List, [], ◌∷◌, ◌++◌, length, get_or, take, drop, refl, sym, ap, ◌∙◌, arith}
+use Rattle.std.proofs.Common.{◌≡◌, ◌<◌, ◌+◌, ◌-◌, ℕ, zero, suc, ◌==◌, Bool, true, false, cond, List, [], ◌∷◌, ◌++◌, length}
+use Rattle.std.proofs.Common.{get_or, take, drop, refl, sym, ap, ◌∙◌, arith}
 use Rattle.std.specs.Prelude.{filter_map, bytes_eq, is_some, Option, unwrap_or}
 use Rattle.std.proofs.lemmas.List.{drop_more}
 use Rattle.std.proofs.lemmas.Option.{slice_get_within, get_or_from_slice_get}
@@ -16,7 +17,7 @@ use Rattle.ios_sections.specs.declared.section.IsisSection.{IsisSection}
 use Rattle.ios_sections.specs.declared.section.Section.{Section}
 use Rattle.ios_reader.specs.Configurations.{configuration_of, tag_in}
 use Rattle.net_model.specs.declared.bounds.TheConstants.{ISIS_DISTANCE}
-use Rattle.step_scripts.specs.Scripts.{isis_head, distance_line, isis_lines, process_lines}
+use Rattle.step_scripts.specs.Scripts.{isis_head, distance_line, isis_change_lines, ospf_change_lines}
 use Rattle.applied_changes.specs.AppliedTexts.{lines_to, block_for}
 use Rattle.applied_changes.specs.NamedPhases.{phase_from}
 use Rattle.applied_changes.specs.steps.PhaseLines.{tag_lines, phase_lines}
@@ -59,7 +60,8 @@ made_further u v (suc (suc k)) order =
 
 -- one more router of an order
 pub made_more : (u k i : ℕ) (order : List ℕ) → i < length order →
-    cond (u == get_or order i 0) (k - (k - 2)) 0 + changes_on u (take (k - 2) (changes_of (drop (i + 1) order))) ≡ changes_on u (take k (changes_of (drop i order)))
+    cond (u == get_or order i 0) (k - (k - 2)) 0 + changes_on u (take (k - 2) (changes_of (drop (i + 1) order))) ≡ changes_on u
+    (take k (changes_of (drop i order)))
 made_more u k i order within =
     made_further u (get_or order i 0) k (drop (i + 1) order) ∙ sym (ap (λ l. changes_on u (take k (changes_of l))) (drop_more order i 0 within))
 
@@ -88,10 +90,11 @@ pub lines_joined : (one two : List (List ℕ)) → text_of one ++ text_of two �
 lines_joined one two = sym (flat_map-append (λ (line : List ℕ). line ++ 10 ∷ []) one two)
 
 tag_of_first : (sections : List IsisSection) (c : Configuration) → c.isis ≡ is_some (first_isis sections) → c.tag ≡ tag_in (first_isis sections) →
-    tag_lines (first_tag sections) ≡ isis_lines c
+    tag_lines (first_tag sections) ≡ isis_change_lines c
 tag_of_first [] c isis tag = sym (ap (λ b. cond b (isis_head c.tag ∷ distance_line ISIS_DISTANCE ∷ []) []) isis)
 tag_of_first (section ∷ sections) c isis tag =
-    sym (ap (λ b. cond b (isis_head c.tag ∷ distance_line ISIS_DISTANCE ∷ []) []) isis ∙ ap (λ t. isis_head t ∷ distance_line ISIS_DISTANCE ∷ []) tag)
+    sym (ap (λ b. cond b (isis_head c.tag ∷ distance_line ISIS_DISTANCE ∷ []) []) isis
+    ∙ ap (λ t. isis_head t ∷ distance_line ISIS_DISTANCE ∷ []) tag)
 
 -- the lines by what the sections of a configuration say are those of the configuration
 pub lines_of_sections : (phase : Phase) (sections : List Section) →
@@ -99,10 +102,11 @@ pub lines_of_sections : (phase : Phase) (sections : List Section) →
 lines_of_sections Old sections = refl
 lines_of_sections Middle sections = tag_of_first (filter_map as_isis sections) (configuration_of sections) refl refl
 lines_of_sections New sections =
-    ap (λ l. l ++ process_lines (process_of sections)) (tag_of_first (filter_map as_isis sections) (configuration_of sections) refl refl)
+    ap (λ l. l ++ ospf_change_lines (process_of sections)) (tag_of_first (filter_map as_isis sections) (configuration_of sections) refl refl)
 
 -- the same, where they are known by what they are
-pub block_made : (phases : List ℕ → Phase) (sections : List Section) (name tag : Option (List ℕ)) (process : Option ℕ) (phase : Phase) (block : List ℕ) →
+pub block_made : (phases : List ℕ → Phase) (sections : List Section) (name tag : Option (List ℕ)) (process : Option ℕ)
+    (phase : Phase) (block : List ℕ) →
     name ≡ last_of as_hostname sections → tag ≡ first_tag (filter_map as_isis sections) → process ≡ process_of sections →
     phase ≡ phases (unwrap_or name []) → block ≡ text_of (phase_lines phase tag process) → block ≡ block_for phases (configuration_of sections)
 block_made phases sections name tag process phase block names tags processes reached made =

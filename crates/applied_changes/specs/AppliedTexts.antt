@@ -1,22 +1,22 @@
 -- What the lines of changes make of a router's configuration.
-use Rattle.std.specs.Prelude.{ℕ, ◌&&◌, not, List, [], ◌∷◌, ◌++◌, map, if◌then◌else◌, is_some}
+use Rattle.std.specs.Prelude.{ℕ, List, [], ◌++◌, map, if◌then◌else◌, is_some}
 use Rattle.net_model.specs.Configuration.{Configuration}
 use Rattle.net_model.specs.declared.bounds.TheConstants.{ISIS_DISTANCE, MOST_DISTANCE}
 use Rattle.igp_theory.specs.declared.phase.Phase.{Phase}
 use Rattle.igp_theory.specs.declared.phase.Phase.TheVariants.{Old, Middle, New}
-use Rattle.ios_sections.specs.TextLines.{lines_in}
-use Rattle.ios_sections.specs.JoinedLines.{is_in_banner, begins_with_end, open_sections}
+use Rattle.ios_sections.specs.declared.section.Section.{Section}
 use Rattle.ios_reader.specs.Configurations.{configuration_of}
 use Rattle.ios_reader.specs.Places.{raw_lines}
+use Rattle.ios_reader.specs.PutBlocks.{put_blocks}
 use Rattle.ios_reader.specs.Texts.{ReadsText}
 use Rattle.printed_lines.specs.Texts.{text_of}
-use Rattle.step_scripts.specs.Scripts.{isis_lines, process_lines}
+use Rattle.step_scripts.specs.Scripts.{isis_change_lines, ospf_change_lines}
 
 -- the lines that take a router from the start to a phase: those of its first change, then those of its second
 abbrev pub lines_to : Phase → Configuration → List (List ℕ)
 lines_to Old c = []
-lines_to Middle c = isis_lines c
-lines_to New c = isis_lines c ++ process_lines c.process
+lines_to Middle c = isis_change_lines c
+lines_to New c = isis_change_lines c ++ ospf_change_lines c.process
 
 -- a configuration with other distances
 abbrev pub with_distances : ℕ → ℕ → Configuration → Configuration
@@ -42,20 +42,13 @@ in_phase New c = after_second (after_first c)
 abbrev pub block_for : (List ℕ → Phase) → Configuration → List ℕ
 block_for phases c = text_of (lines_to (phases c.name) c)
 
--- what is put between a text and the line behind it: where this is an `end` line outside banners, the lines for the
--- configuration that it ends
-abbrev pub end_block : (List ℕ → Phase) → List ℕ → List ℕ → List ℕ
-end_block phases before raw =
-    if not (is_in_banner (lines_in before)) && begins_with_end (lines_in raw) then block_for phases (configuration_of (open_sections before)) else []
-
--- the lines behind a text, with these blocks put in
-abbrev pub applied_lines : (List ℕ → Phase) → List ℕ → List (List ℕ) → List ℕ
-applied_lines phases before [] = []
-applied_lines phases before (raw ∷ raws) = end_block phases before raw ++ raw ++ applied_lines phases (before ++ raw) raws
+-- the lines for the configuration of these sections
+abbrev pub block_in : (List ℕ → Phase) → List Section → List ℕ
+block_in phases sections = block_for phases (configuration_of sections)
 
 -- a text with the lines put before each `end` line that take the router of its configuration to its phase
 abbrev pub applied_text : (List ℕ → Phase) → List ℕ → List ℕ
-applied_text phases text = applied_lines phases [] (raw_lines text)
+applied_text phases text = put_blocks (block_in phases) [] (raw_lines text)
 
 -- read, it has the configurations of the text, each router in its phase
 abbrev pub AppliedTextLaw : Type 0

@@ -39,7 +39,8 @@ pub fn apply(
 ) -> Result<Bytes, OutOfMemory>
     requires { length text.now < 2 ^ 26 }
     ensures applied { IfOk result (λ applied. applied ≡ applied_text (phase_named net.now (state_of order.now changes)) text.now) }
-    ensures reads { IfOk result (λ applied. (configurations : List Configuration) → ReadsText text.now configurations → ReadsText applied (map (λ (c : Configuration). in_phase (phase_named net.now (state_of order.now changes) c.name) c) configurations)) }
+    ensures reads { IfOk result (λ applied. (configurations : List Configuration) → ReadsText text.now configurations →
+        ReadsText applied (map (λ (c : Configuration). in_phase (phase_named net.now (state_of order.now changes) c.name) c) configurations)) }
 {
     let lines = lines(alloc, text)?;
     let counted = counted_lines(alloc, text, lines.as_slice())?;
@@ -117,7 +118,8 @@ fn block_text(
     changes: u32,
     lines: &[TextLine],
 ) -> Result<Bytes, OutOfMemory>
-    ensures { IfOk result (λ block. block ≡ block_for (phase_named net.now (state_of order.now changes)) (configuration_of (map section_of (sections_of lines.now)))) }
+    ensures { IfOk result (λ block. block
+        ≡ block_for (phase_named net.now (state_of order.now changes)) (configuration_of (map section_of (sections_of lines.now)))) }
 {
     let statements = statements_of(alloc, read_sections(alloc, lines)?)?;
     let phase = phase_in(net, order, changes, &statements.name);

@@ -1,5 +1,5 @@
 -- A text and a network have one answer.
-use Rattle.std.proofs.Common.{◌≡◌, ℕ, List, [], Some, codes, refl, sym, ap, ap₂, subst, ◌∙◌}
+use Rattle.std.proofs.Common.{◌≡◌, ℕ, List, [], Some, refl, sym, ap, ap₂, subst, ◌∙◌}
 use Rattle.std.proofs.lemmas.Option.{same_Some}
 use Rattle.net_model.specs.Network.{Network}
 use Rattle.net_model.specs.Refusals.{IsNetwork}
@@ -8,29 +8,28 @@ use Rattle.toml.specs.Data.{Members}
 use Rattle.design_file.specs.Answers.{SaysDesign, IsTextFault, not_toml, in_document, Settles}
 use Rattle.design_file.specs.Designs.{IsDesign}
 use Rattle.design_file.specs.Documents.{IsDocument}
-use Rattle.design_file.specs.FaultLists.{Among, IsLeastOf, document_faults}
-use Rattle.design_file.specs.Faults.{IsDocumentFault, IsLeastFault, IsTold, fault}
-use Rattle.design_file.specs.Keys.{Text}
+use Rattle.design_file.specs.steps.FaultLists.{Among, IsToldAmong, document_faults}
+use Rattle.design_file.specs.Faults.{IsDocumentFault, IsToldFault, fault}
+use Rattle.ios_lines.specs.Words.{Word}
 use Rattle.design_file.specs.Laws.{OneDesignLaw, OneTextRefusalLaw, DesignOrRefusalLaw, OneSettledLaw, OneDesignRefusalLaw, SettledOrRefusalLaw}
 use Rattle.design_file.specs.NetworkFaults.{IsNetworkFault}
 use Rattle.design_file.specs.declared.design.Design.{Design}
 use Rattle.design_file.specs.declared.design.DesignRouter.{DesignRouter}
 use Rattle.design_file.specs.declared.fault.Fault.{Fault}
-use Rattle.design_file.specs.declared.refusal.DesignKind.TheVariants.{NotToml}
 use Rattle.design_file.specs.declared.refusal.DesignRefusal.{DesignRefusal}
 use Rattle.design_file.specs.declared.refusal.DesignRefusal.TheVariants.{Bad, OutOfMemory}
 use Rattle.design_file.specs.declared.settled.SettledRouter.{SettledRouter}
-use Rattle.design_file.specs.NetworkFaultLists.{network_faults}
+use Rattle.design_file.specs.steps.NetworkFaultLists.{network_faults}
 use Rattle.design_file.specs.Settling.{settled_routers}
 use Rattle.design_file.proofs.FaultListLaws.{least_by}
-use Rattle.design_file.proofs.FaultOrder.{IsTold-irrefl, neither_told}
+use Rattle.design_file.proofs.FaultOrder.{neither_told}
 use Rattle.design_file.proofs.NetworkFaultLaws.{network_found, network_listed}
 use Rattle.design_file.proofs.TableFaultLaws.{document_found, document_listed}
 
 one_document : (text : List ℕ) (one other : Members) → IsDocument text one → IsDocument text other → one ≡ other
 one_document text one other a b = same_Some one other (sym a.parsed ∙ b.parsed)
 
-abbrev design_with : Text → Levels → ℕ → List DesignRouter → Design
+abbrev design_with : Word → Levels → ℕ → List DesignRouter → Design
 design_with area levels metric routers = record { area = area; levels = levels; metric = metric; routers = routers }
 
 one_said : (document : Members) (one other : Design) → IsDesign document one → IsDesign document other → one ≡ other
@@ -46,7 +45,7 @@ one_design text one other a b =
     one_said a.document one other a.says
     (subst (λ (d : Members). IsDesign d other) (one_document text b.document a.document b.is_document a.is_document) b.says)
 
-one_least : (P : Fault → Type 0) (f g : Fault) → IsLeastFault P f → IsLeastFault P g → f ≡ g
+one_least : (P : Fault → Type 0) (f g : Fault) → IsToldFault P f → IsToldFault P g → f ≡ g
 one_least P f g a b = neither_told f g (b.least f a.stands) (a.least g b.stands)
 
 abbrev refusal_of : Fault → DesignRefusal
@@ -86,22 +85,11 @@ of_document text document f is (not_toml none same) = absurd (none document is)
 of_document text document f is (in_document other its h) = subst (λ (d : Members). IsDocumentFault d f) (one_document text other document its is) h
 
 -- the fault that is told of a document is that of its text
-pub text_least : (text : List ℕ) (document : Members) (f : Fault) → IsDocument text document → IsLeastFault (IsDocumentFault document) f →
-    IsLeastFault (IsTextFault text) f
+pub text_least : (text : List ℕ) (document : Members) (f : Fault) → IsDocument text document → IsToldFault (IsDocumentFault document) f →
+    IsToldFault (IsTextFault text) f
 text_least text document f is least = record {
   stands = in_document document is least.stands;
   least = λ g h. least.least g (of_document text document g is h);
-}
-
-not_told : (text : List ℕ) (g : Fault) → ((document : Members) → IsDocument text document → ⊥) → IsTextFault text g → IsTold g (fault NotToml (codes "-")) → ⊥
-not_told text g none (not_toml _ same) told = IsTold-irrefl g (subst (λ (x : Fault). IsTold g x) same told)
-not_told text g none (in_document document is h) told = none document is
-
--- a text that is no document has the one fault
-pub not_toml_least : (text : List ℕ) → ((document : Members) → IsDocument text document → ⊥) → IsLeastFault (IsTextFault text) (fault NotToml (codes "-"))
-not_toml_least text none = record {
-  stands = not_toml none refl;
-  least = λ g h told. not_told text g none h told;
 }
 
 -- a document in which nothing is gathered says its design
@@ -115,8 +103,8 @@ says_design text document design is none says = record {
 }
 
 -- the fault that is told of those gathered in a document is that of its text
-pub text_refused : (text : List ℕ) (document : Members) (f : Fault) → IsDocument text document → IsLeastOf (document_faults document) (Some f) →
-    IsLeastFault (IsTextFault text) f
+pub text_refused : (text : List ℕ) (document : Members) (f : Fault) → IsDocument text document → IsToldAmong (document_faults document) (Some f) →
+    IsToldFault (IsTextFault text) f
 text_refused text document f is least =
     text_least text document f is (least_by (document_faults document) (IsDocumentFault document) f (document_found document) (document_listed document) least)
 
@@ -129,7 +117,7 @@ settles_for design net settled network none is = record {
 }
 
 -- the fault that is told of those gathered of a design for a network
-pub design_refused : (design : Design) (net : Network) (f : Fault) → IsNetwork net → IsLeastOf (network_faults design net) (Some f) →
-    IsLeastFault (IsNetworkFault design net) f
+pub design_refused : (design : Design) (net : Network) (f : Fault) → IsNetwork net → IsToldAmong (network_faults design net) (Some f) →
+    IsToldFault (IsNetworkFault design net) f
 design_refused design net f network least =
     least_by (network_faults design net) (IsNetworkFault design net) f (λ g. network_found g design net) (λ g. network_listed g design net network) least

@@ -9,10 +9,10 @@ use Rattle.std.proofs.lemmas.List.Elements.{All-head, All-nil, All-tail}
 use Rattle.net_model.specs.Configuration.{Configuration}
 use Rattle.net_model.specs.Network.{Network, HasConfiguration}
 use Rattle.net_model.specs.declared.interface.Interface.{Interface}
-use Rattle.design_file.specs.Designs.{IsMetric, IsRouterSound, IsSound}
+use Rattle.design_file.specs.Designs.{IsMetric, IsRouterSound, IsSoundDesign}
 use Rattle.design_file.specs.Faults.{fault}
 use Rattle.design_file.specs.NetworkFaults.{IsNetworkFault, has_isis, router_path}
-use Rattle.design_file.specs.Settling.{AreForSome, Fits, FitsRouter, interface_metric, interface_named}
+use Rattle.design_file.specs.Settling.{AreForSome, FitsNetwork, FitsRouter, interface_metric, interface_named}
 use Rattle.design_file.specs.Settling.{is_isis_interface, router_named, settled_interface, settled_interfaces, settled_router, settled_routers}
 use Rattle.design_file.specs.Values.{is_area}
 use Rattle.design_file.specs.declared.design.Design.{Design}
@@ -42,7 +42,8 @@ module _ (metric : ℕ) (usual : IsMetric metric) (named : List DesignInterface)
   metric_sound None good = usual
   metric_sound (Some own) good = said_or IsMetric own.metric metric good usual
 
-  skipped : (interface : Interface) (more : List Interface) (settled : List SettledInterface) → AreForSome more settled → AreForSome (interface ∷ more) settled
+  skipped : (interface : Interface) (more : List Interface) (settled : List SettledInterface) → AreForSome more settled →
+      AreForSome (interface ∷ more) settled
   skipped interface more [] h = tt
   skipped interface more (one ∷ others) h = inr h
 
@@ -62,7 +63,7 @@ module _ (metric : ℕ) (usual : IsMetric metric) (named : List DesignInterface)
       let good = find_all (λ (i : DesignInterface). IfSome i.metric IsMetric) (λ (i : DesignInterface). bytes_eq i.name interface.name) named sound in
       one_more interface more own (settled_interfaces metric named more) good (interfaces_fit more) (is_isis_interface interface own) refl
 
-module _ (design : Design) (sound : IsSound design) where
+module _ (design : Design) (sound : IsSoundDesign design) where
   router_fits : (own : Option DesignRouter) (config : Configuration) → IfSome own IsRouterSound → config.isis ≡ false →
       FitsRouter config (settled_router design own config)
   router_fits None config good no_isis = record {
@@ -86,7 +87,8 @@ module _ (design : Design) (sound : IsSound design) where
     routers_fit more (λ u c at. none (suc u) c at),
   )
 
-  no_process : (net : Network) → ((f : Fault) → IsNetworkFault design net f → ⊥) → (u : ℕ) (config : Configuration) → HasConfiguration net u config →
+  no_process : (net : Network) → ((f : Fault) → IsNetworkFault design net f → ⊥) → (u : ℕ) (config : Configuration) →
+      HasConfiguration net u config →
       (isis : Bool) → config.isis ≡ isis → config.isis ≡ false
   no_process net none u config at false e = e
   no_process net none u config at true e =
@@ -94,7 +96,7 @@ module _ (design : Design) (sound : IsSound design) where
       absurd (none f (has_isis u config at e refl))
 
   -- what a design in which nothing is wrong settles for a network fits it
-  pub settled_fits : (net : Network) → ((f : Fault) → IsNetworkFault design net f → ⊥) → Fits net (settled_routers design net)
+  pub settled_fits : (net : Network) → ((f : Fault) → IsNetworkFault design net f → ⊥) → FitsNetwork net (settled_routers design net)
   settled_fits net none = routers_fit net (λ u config at. no_process net none u config at config.isis refl)
 
 -- one more router is settled

@@ -12,9 +12,9 @@ use Rattle.toml.specs.Data.{Data}
 use Rattle.toml.specs.View.{members_view, view}
 use Rattle.toml.proofs.Views.{Entry}
 use Rattle.design_file.specs.Designs.{each_said}
-use Rattle.design_file.specs.Keys.{Text}
+use Rattle.ios_lines.specs.Words.{Word}
 
-module _ {X : Type 0} (name : X → Text) (says : Text → Data → X) (named : (key : Text) (value : Data) → name (says key value) ≡ key) where
+module _ {X : Type 0} (name : X → Word) (says : Word → Data → X) (named : (key : Word) (value : Data) → name (says key value) ≡ key) where
   all_above : (k : String Global) (es : List Entry) → AllByRecursion (λ y. string_cmp k y ≡ Less) (keys_of es) →
       All (λ x. IsBelow (string_bytes k) (name x)) (each_said says (members_view es))
   all_above k [] h = All-nil (λ x. IsBelow (string_bytes k) (name x))
@@ -32,7 +32,7 @@ module _ {X : Type 0} (name : X → Text) (says : Text → Data → X) (named : 
       (rw (named (string_bytes e.0) (view e.1)) (all_above e.0 es h.0)) (each_ascends es h.1)
 
 -- one more entry is looked at
-pub each_step : {X : Type 0} (says : Text → Data → X) (done all : List X) (entries rest : List Entry) (e : Entry) (one : X) → entries ≡ e ∷ rest →
+pub each_step : {X : Type 0} (says : Word → Data → X) (done all : List X) (entries rest : List Entry) (e : Entry) (one : X) → entries ≡ e ∷ rest →
     one ≡ says (string_bytes e.0) (view e.1) →
     done ++ each_said says (members_view entries) ≡ all → (done ++ one ∷ []) ++ each_said says (members_view rest) ≡ all
 each_step says done all entries rest e one iter is before =

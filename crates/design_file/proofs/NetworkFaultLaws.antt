@@ -10,12 +10,13 @@ use Rattle.net_model.specs.Refusals.{IsNetwork}
 use Rattle.net_model.specs.declared.interface.Interface.{Interface}
 use Rattle.net_model.proofs.Members.{Contains-cases, Contains-first, Contains-none, Contains-rest}
 use Rattle.net_model.proofs.NetworkFacts.{IsNamed-unique}
-use Rattle.design_file.specs.FaultLists.{Among}
+use Rattle.design_file.specs.steps.FaultLists.{Among}
 use Rattle.design_file.specs.Faults.{fault}
-use Rattle.design_file.specs.Keys.{Text, below}
+use Rattle.ios_lines.specs.Words.{Word}
+use Rattle.design_file.specs.Keys.{below}
 use Rattle.design_file.specs.NetworkFaults.{HasAddressed, IsNetworkFault, no_router, no_interface, has_isis, router_path, interfaces_path}
-use Rattle.design_file.specs.NetworkFaultLists.{config_named, fault_unless, has_addressed, interfaces_faults}
-use Rattle.design_file.specs.NetworkFaultLists.{router_faults, routers_faults, isis_fault, isis_faults, network_faults}
+use Rattle.design_file.specs.steps.NetworkFaultLists.{config_named, fault_unless, has_addressed, interfaces_faults}
+use Rattle.design_file.specs.steps.NetworkFaultLists.{router_faults, routers_faults, isis_fault, already_isis_faults, network_faults}
 use Rattle.design_file.specs.declared.design.Design.{Design}
 use Rattle.design_file.specs.declared.design.DesignRouter.{DesignRouter}
 use Rattle.design_file.specs.declared.design.DesignInterface.{DesignInterface}
@@ -26,7 +27,7 @@ use Rattle.design_file.proofs.FaultListLaws.{Among-left, Among-one, Among-right,
 use Rattle.design_file.proofs.NetworkLookups.{drop_at, named_at, none_named, addressed_from, addressed_is}
 
 -- an interface that a design names of a router, where there is none of the name with an address
-record LacksOne (path : Text) (interfaces : List Interface) (named : List DesignInterface) (f : Fault) : Type 0 where
+record LacksOne (path : Word) (interfaces : List Interface) (named : List DesignInterface) (f : Fault) : Type 0 where
   one : DesignInterface
   among : Contains named one
   none : has_addressed one.name interfaces ≡ false
@@ -40,7 +41,7 @@ abbrev if_isis : Bool → Configuration → List Fault
 if_isis isis config = cond isis (fault AlreadyIsis (router_path config.name) ∷ []) []
 
 -- no interface of the name has an address
-lacks : (config : Configuration) (name : Text) → (HasAddressed config name → ⊥) → (has : Bool) → has_addressed name config.interfaces ≡ has →
+lacks : (config : Configuration) (name : Word) → (HasAddressed config name → ⊥) → (has : Bool) → has_addressed name config.interfaces ≡ has →
     has_addressed name config.interfaces ≡ false
 lacks config name none false e = e
 lacks config name none true e =
@@ -48,11 +49,11 @@ lacks config name none true e =
     absurd (none (record { interface = has.0; among = has.1; name_is = has.2; address = has.3 }))
 
 module _ (f : Fault) where
-  unless_found : (good : Bool) (kind : DesignKind) (path : Text) → Among f (fault_unless good kind path) → (good ≡ false) × (fault kind path ≡ f)
+  unless_found : (good : Bool) (kind : DesignKind) (path : Word) → Among f (fault_unless good kind path) → (good ≡ false) × (fault kind path ≡ f)
   unless_found true kind path h = absurd h
   unless_found false kind path h = (refl, Among-one f (fault kind path) h)
 
-  lacking : (path : Text) (interfaces : List Interface) (named : List DesignInterface) → Among f (interfaces_faults path interfaces named) →
+  lacking : (path : Word) (interfaces : List Interface) (named : List DesignInterface) → Among f (interfaces_faults path interfaces named) →
       LacksOne path interfaces named f
   lacking path interfaces [] h = absurd h
   lacking path interfaces (first ∷ more) h =
@@ -65,7 +66,7 @@ module _ (f : Fault) where
       record { one = rest.one; among = Contains-rest first more rest.one rest.among; none = rest.none; fault_is = rest.fault_is })
       (Among-split f (fault_unless (has_addressed first.name interfaces) UnknownInterface (below path first.name)) (interfaces_faults path interfaces more) h)
 
-  lack_listed : (path : Text) (interfaces : List Interface) (named : List DesignInterface) (one : DesignInterface) → Contains named one →
+  lack_listed : (path : Word) (interfaces : List Interface) (named : List DesignInterface) (one : DesignInterface) → Contains named one →
       has_addressed one.name interfaces ≡ false →
       fault UnknownInterface (below path one.name) ≡ f → Among f (interfaces_faults path interfaces named)
   lack_listed path interfaces [] one c none is = absurd (Contains-none one c)
@@ -82,7 +83,8 @@ module _ (f : Fault) where
       (Contains-cases first more one c)
 
   module _ (design : Design) (net : Network) where
-    router_found : (router : DesignRouter) → Contains design.routers router → (config : Option Configuration) → config_named router.name net ≡ config →
+    router_found : (router : DesignRouter) → Contains design.routers router → (config : Option Configuration) →
+        config_named router.name net ≡ config →
         Among f (router_faults config router) → IsNetworkFault design net f
     router_found router c None e h =
         no_router router c (λ u n. none_named net router.name e u n.config n.router n.name_is) (Among-one f (fault UnknownRouter (router_path router.name)) h)
@@ -111,8 +113,9 @@ module _ (f : Fault) where
         let P : Bool → Type 0 = λ b. Among f (if_isis b config) in
         absurd (subst P e h)
 
-    isis_found : (rest : Network) → ((u : ℕ) (config : Configuration) → HasConfiguration rest u config → (v : ℕ) × HasConfiguration net v config) →
-        Among f (isis_faults rest) → IsNetworkFault design net f
+    isis_found : (rest : Network) → ((u : ℕ) (config : Configuration) → HasConfiguration rest u config → (v : ℕ) ×
+        HasConfiguration net v config) →
+        Among f (already_isis_faults rest) → IsNetworkFault design net f
     isis_found [] sub h = absurd h
     isis_found (config ∷ more) sub h =
         ⊎_elim
@@ -121,12 +124,12 @@ module _ (f : Fault) where
         let at = sub 0 config refl in
         has_isis at.0 config at.1 found.0 found.1)
         (isis_found more (λ u c at. sub (suc u) c at))
-        (Among-split f (isis_fault config) (isis_faults more) h)
+        (Among-split f (isis_fault config) (already_isis_faults more) h)
 
     pub network_found : Among f (network_faults design net) → IsNetworkFault design net f
     network_found h =
         ⊎_elim (routers_found design.routers (λ r c. c)) (isis_found net (λ u c at. (u, at)))
-        (Among-split f (routers_faults net design.routers) (isis_faults net) h)
+        (Among-split f (routers_faults net design.routers) (already_isis_faults net) h)
 
     router_listed : (routers : List DesignRouter) (router : DesignRouter) → Contains routers router →
         Among f (router_faults (config_named router.name net) router) → Among f (routers_faults net routers)
@@ -139,17 +142,17 @@ module _ (f : Fault) where
         (Contains-cases first more router c)
 
     isis_listed : (rest : Network) (u : ℕ) (config : Configuration) → HasConfiguration rest u config → IsTrue config.isis →
-        fault AlreadyIsis (router_path config.name) ≡ f → Among f (isis_faults rest)
+        fault AlreadyIsis (router_path config.name) ≡ f → Among f (already_isis_faults rest)
     isis_listed [] u config at isis is = cc
     isis_listed (first ∷ more) zero config at isis is =
         let P : Configuration → Type 0 = λ c. Among f (isis_fault c) in
         let here : P config = subst (λ b. Among f (if_isis b config)) (sym isis) (inl is) in
-        Among-left f (isis_fault first) (isis_faults more) (subst P (sym (same_Some first config at)) here)
-    isis_listed (first ∷ more) (suc u) config at isis is = Among-right f (isis_fault first) (isis_faults more) (isis_listed more u config at isis is)
+        Among-left f (isis_fault first) (already_isis_faults more) (subst P (sym (same_Some first config at)) here)
+    isis_listed (first ∷ more) (suc u) config at isis is = Among-right f (isis_fault first) (already_isis_faults more) (isis_listed more u config at isis is)
 
     module _ (network : IsNetwork net) where
       -- the configuration found of a name is the one of it
-      found_is : (u : ℕ) (config : Configuration) (name : Text) → HasConfiguration net u config → config.name ≡ name →
+      found_is : (u : ℕ) (config : Configuration) (name : Word) → HasConfiguration net u config → config.name ≡ name →
           (found : Option Configuration) → config_named name net ≡ found → found ≡ Some config
       found_is u config name at n None e = absurd (none_named net name e u config at n)
       found_is u config name at n (Some other) e =
@@ -168,21 +171,21 @@ module _ (f : Fault) where
 
       pub network_listed : IsNetworkFault design net f → Among f (network_faults design net)
       network_listed (no_router router c none is) =
-          Among-left f (routers_faults net design.routers) (isis_faults net)
+          Among-left f (routers_faults net design.routers) (already_isis_faults net)
           (router_listed design.routers router c (unknown router none is (config_named router.name net) refl))
       network_listed (no_interface router one u config c among at n none is) =
           let found = found_is u config router.name at n (config_named router.name net) refl in
           let lack = lack_listed (interfaces_path router.name) config.interfaces router.interfaces one among
           (lacks config one.name none (has_addressed one.name config.interfaces) refl) is in
-          Among-left f (routers_faults net design.routers) (isis_faults net)
+          Among-left f (routers_faults net design.routers) (already_isis_faults net)
           (router_listed design.routers router c (subst (λ (o : Option Configuration). Among f (router_faults o router)) (sym found) lack))
       network_listed (has_isis u config at isis is) =
-          Among-right f (routers_faults net design.routers) (isis_faults net) (isis_listed net u config at isis is)
+          Among-right f (routers_faults net design.routers) (already_isis_faults net) (isis_listed net u config at isis is)
 
 -- one more router's process is looked at
 pub isis_step : (done all : List Fault) (net : Network) (u : ℕ) (config : Configuration) → HasConfiguration net u config →
-    done ++ isis_faults (drop u net) ≡ all →
-    (done ++ isis_fault config) ++ isis_faults (drop (u + 1) net) ≡ all
+    done ++ already_isis_faults (drop u net) ≡ all →
+    (done ++ isis_fault config) ++ already_isis_faults (drop (u + 1) net) ≡ all
 isis_step done all net u config at before =
-    append_assoc done (isis_fault config) (isis_faults (drop (u + 1) net))
-    ∙ sym (ap (λ (rest : Network). done ++ isis_faults rest) (drop_at net u config at)) ∙ before
+    append_assoc done (isis_fault config) (already_isis_faults (drop (u + 1) net))
+    ∙ sym (ap (λ (rest : Network). done ++ already_isis_faults rest) (drop_at net u config at)) ∙ before

@@ -12,25 +12,25 @@ use Rattle.net_model.specs.Configuration.{Configuration}
 use Rattle.net_model.specs.Network.{Network, HasConfiguration}
 use Rattle.net_model.specs.declared.interface.Interface.{Interface}
 use Rattle.net_model.proofs.Members.{Contains-cases, Contains-first, Contains-none, Contains-rest}
-use Rattle.design_file.specs.Keys.{Text}
-use Rattle.design_file.specs.NetworkFaultLists.{config_named, has_addressed}
+use Rattle.ios_lines.specs.Words.{Word}
+use Rattle.design_file.specs.steps.NetworkFaultLists.{config_named, has_addressed}
 
-pub same_text : (a b : Text) → bytes_eq a b ≡ true → a ≡ b
+pub same_text : (a b : Word) → bytes_eq a b ≡ true → a ≡ b
 same_text a b = (bytes_eq-Decides a b).0
 
-pub text_is : (a b : Text) → a ≡ b → bytes_eq a b ≡ true
+pub text_is : (a b : Word) → a ≡ b → bytes_eq a b ≡ true
 text_is a b = (bytes_eq-Decides a b).1
 
 -- a configuration of this name, at its router
-pub record IsAt (net : Network) (name : Text) (config : Configuration) : Type 0 where
+pub record IsAt (net : Network) (name : Word) (config : Configuration) : Type 0 where
   pub router : ℕ
   pub at : HasConfiguration net router config
   pub name_is : config.name ≡ name
 
-further : (first : Configuration) (net : Network) (name : Text) (config : Configuration) → IsAt net name config → IsAt (first ∷ net) name config
+further : (first : Configuration) (net : Network) (name : Word) (config : Configuration) → IsAt net name config → IsAt (first ∷ net) name config
 further first net name config at = record { router = suc at.router; at = at.at; name_is = at.name_is }
 
-pub named_at : (net : Network) (name : Text) (config : Configuration) → config_named name net ≡ Some config → IsAt net name config
+pub named_at : (net : Network) (name : Word) (config : Configuration) → config_named name net ≡ Some config → IsAt net name config
 named_at [] name config e = cc
 named_at (first ∷ net) name config e =
     elim (cases_Bool (bytes_eq first.name name)) [
@@ -43,7 +43,7 @@ named_at (first ∷ net) name config e =
     ]
 
 -- where no configuration of the name is found no router has it
-pub none_named : (net : Network) (name : Text) → config_named name net ≡ None → (u : ℕ) (config : Configuration) → HasConfiguration net u config →
+pub none_named : (net : Network) (name : Word) → config_named name net ≡ None → (u : ℕ) (config : Configuration) → HasConfiguration net u config →
     config.name ≡ name → ⊥
 none_named [] name e u config h n = cc
 none_named (first ∷ net) name e zero config h n =
@@ -59,7 +59,7 @@ none_named (first ∷ net) name e (suc u) config h n =
       | inr other ↦ none_named net name (sym (ap (λ b. cond b (Some first) (config_named name net)) other) ∙ e) u config h n
     ]
 
-pub addressed_from : (interfaces : List Interface) (name : Text) → has_addressed name interfaces ≡ true →
+pub addressed_from : (interfaces : List Interface) (name : Word) → has_addressed name interfaces ≡ true →
     (interface : Interface) × Contains interfaces interface × (interface.name ≡ name) × IsSome interface.subnet
 addressed_from [] name e = absurd (false≢true e)
 addressed_from (first ∷ more) name e =
@@ -76,7 +76,7 @@ or_right : (a b : Bool) → b ≡ true → (a || b) ≡ true
 or_right true b e = refl
 or_right false b e = e
 
-pub addressed_is : (interfaces : List Interface) (name : Text) (interface : Interface) → Contains interfaces interface → interface.name ≡ name →
+pub addressed_is : (interfaces : List Interface) (name : Word) (interface : Interface) → Contains interfaces interface → interface.name ≡ name →
     IsSome interface.subnet → has_addressed name interfaces ≡ true
 addressed_is [] name interface c n s = absurd (Contains-none interface c)
 addressed_is (first ∷ more) name interface c n s =
@@ -93,14 +93,14 @@ pub drop_at : {X : Type 0} (xs : List X) (u : ℕ) (x : X) → slice_get xs u �
 drop_at xs u x e = drop_more xs u x (slice_get_within xs u x e) ∙ ap (λ y. y ∷ drop (u + 1) xs) (get_or_from_slice_get xs u x x e)
 
 -- the first of the name is the one at a place behind others of other names
-pub found_here : (net : Network) (name : Text) (u : ℕ) (config : Configuration) → HasConfiguration net u config →
+pub found_here : (net : Network) (name : Word) (u : ℕ) (config : Configuration) → HasConfiguration net u config →
     config_named name (drop u net) ≡ config_named name net →
     bytes_eq config.name name ≡ true → Some config ≡ config_named name net
 found_here net name u config at before same =
     sym (ap (λ b. cond b (Some config) (config_named name (drop (u + 1) net))) same)
     ∙ sym (ap (config_named name) (drop_at net u config at)) ∙ before
 
-pub passed_here : (net : Network) (name : Text) (u : ℕ) (config : Configuration) → HasConfiguration net u config →
+pub passed_here : (net : Network) (name : Word) (u : ℕ) (config : Configuration) → HasConfiguration net u config →
     config_named name (drop u net) ≡ config_named name net →
     bytes_eq config.name name ≡ false → config_named name (drop (u + 1) net) ≡ config_named name net
 passed_here net name u config at before other =

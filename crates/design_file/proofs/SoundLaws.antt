@@ -1,52 +1,53 @@
 -- What a design says of areas and metrics is by their grammar.
-use Rattle.std.proofs.Common.{◌≡◌, ℕ, Bool, true, false, ◌&&◌, cond, Option, Some, None, IsTrue, All, IfSome, codes, refl, sym, subst, arith, nat_le}
+use Rattle.std.proofs.Common.{◌≡◌, ℕ, Bool, true, false, ◌&&◌, cond, Option, Some, None, IsTrue, All, IfSome, codes, refl, sym, subst, arith}
+use Rattle.std.proofs.Common.{nat_le}
 use Rattle.std.specs.Prelude.{pos, negsuc}
 use Rattle.std.specs.Option.{unwrap_or, option_and_then}
 use Rattle.std.proofs.lemmas.Bool.{and_parts}
 use Rattle.std.proofs.lemmas.List.Elements.{All-cons, All-nil}
 use Rattle.std.proofs.lemmas.Bool.Decides.{nat_tests}
 use Rattle.toml.specs.Data.{Data, string, integer, float, boolean, datetime, array, table, Members, no_members, member, get_member}
-use Rattle.design_file.specs.Designs.{IsDesign, IsMetric, IsRouterSound, IsSound, interfaces_said, router_said, routers_said}
-use Rattle.design_file.specs.Documents.{said_at, table_at, entries_of}
-use Rattle.design_file.specs.Keys.{Text}
-use Rattle.design_file.specs.Values.{area_in, is_area, metric_in}
+use Rattle.design_file.specs.Designs.{IsDesign, IsMetric, IsRouterSound, IsSoundDesign, interfaces_said, router_said, routers_said}
+use Rattle.design_file.specs.Documents.{said_at, entries_at, entries_of}
+use Rattle.ios_lines.specs.Words.{Word}
+use Rattle.design_file.specs.Values.{as_area, is_area, as_metric}
 use Rattle.design_file.specs.declared.design.Design.{Design}
 use Rattle.design_file.specs.declared.design.DesignInterface.{DesignInterface}
 
-area_by : (good : Bool) (word : Text) → is_area word ≡ good → IfSome (cond good (Some word) None) (λ area. IsTrue (is_area area))
+area_by : (good : Bool) (word : Word) → is_area word ≡ good → IfSome (cond good (Some word) None) (λ area. IsTrue (is_area area))
 area_by true word e = e
 area_by false word e = tt
 
-area_in-sound : (value : Data) → IfSome (area_in value) (λ area. IsTrue (is_area area))
-area_in-sound (string word) = area_by (is_area word) word refl
-area_in-sound (integer _) = tt
-area_in-sound (float _) = tt
-area_in-sound (boolean _) = tt
-area_in-sound (datetime _) = tt
-area_in-sound (array _) = tt
-area_in-sound (table _) = tt
+as_area-sound : (value : Data) → IfSome (as_area value) (λ area. IsTrue (is_area area))
+as_area-sound (string word) = area_by (is_area word) word refl
+as_area-sound (integer _) = tt
+as_area-sound (float _) = tt
+as_area-sound (boolean _) = tt
+as_area-sound (datetime _) = tt
+as_area-sound (array _) = tt
+as_area-sound (table _) = tt
 
 metric_by : (good : Bool) (n : ℕ) → (nat_le 1 n && nat_le n 16777214) ≡ good → IfSome (cond good (Some n) None) IsMetric
 metric_by true n e = let parts = and_parts (nat_le 1 n) (nat_le n 16777214) e in (grind (arith, nat_tests, parts), grind (arith, nat_tests, parts))
 metric_by false n e = tt
 
-metric_in-sound : (value : Data) → IfSome (metric_in value) IsMetric
-metric_in-sound (integer (pos n)) = metric_by (nat_le 1 n && nat_le n 16777214) n refl
-metric_in-sound (integer (negsuc n)) = tt
-metric_in-sound (string _) = tt
-metric_in-sound (float _) = tt
-metric_in-sound (boolean _) = tt
-metric_in-sound (datetime _) = tt
-metric_in-sound (array _) = tt
-metric_in-sound (table _) = tt
+as_metric-sound : (value : Data) → IfSome (as_metric value) IsMetric
+as_metric-sound (integer (pos n)) = metric_by (nat_le 1 n && nat_le n 16777214) n refl
+as_metric-sound (integer (negsuc n)) = tt
+as_metric-sound (string _) = tt
+as_metric-sound (float _) = tt
+as_metric-sound (boolean _) = tt
+as_metric-sound (datetime _) = tt
+as_metric-sound (array _) = tt
+as_metric-sound (table _) = tt
 
-area_said : (value : Option Data) → IfSome (option_and_then area_in value) (λ area. IsTrue (is_area area))
+area_said : (value : Option Data) → IfSome (option_and_then as_area value) (λ area. IsTrue (is_area area))
 area_said None = tt
-area_said (Some value) = area_in-sound value
+area_said (Some value) = as_area-sound value
 
-metric_said : (value : Option Data) → IfSome (option_and_then metric_in value) IsMetric
+metric_said : (value : Option Data) → IfSome (option_and_then as_metric value) IsMetric
 metric_said None = tt
-metric_said (Some value) = metric_in-sound value
+metric_said (Some value) = as_metric-sound value
 
 interfaces_sound : (members : Members) → All (λ (i : DesignInterface). IfSome i.metric IsMetric) (interfaces_said members)
 interfaces_sound no_members = All-nil (λ (i : DesignInterface). IfSome i.metric IsMetric)
@@ -54,11 +55,11 @@ interfaces_sound (member name value more) =
     All-cons (λ (i : DesignInterface). IfSome i.metric IsMetric) _ (interfaces_said more)
     (metric_said (get_member (codes "metric") (entries_of (Some value)))) (interfaces_sound more)
 
-router_sound : (name : Text) (entries : Members) → IsRouterSound (router_said name entries)
+router_sound : (name : Word) (entries : Members) → IsRouterSound (router_said name entries)
 router_sound name entries = record {
   area = area_said (get_member (codes "area") entries);
   metric = metric_said (get_member (codes "metric") entries);
-  interfaces = interfaces_sound (table_at (codes "interfaces") entries);
+  interfaces = interfaces_sound (entries_at (codes "interfaces") entries);
 }
 
 routers_sound : (members : Members) → All IsRouterSound (routers_said members)
@@ -71,9 +72,9 @@ metric_or None good = (omega arith, omega arith)
 metric_or (Some metric) good = good
 
 -- what a document says as a design is by its grammar
-pub design_sound : (document : Members) (design : Design) → IsDesign document design → IsSound design
+pub design_sound : (document : Members) (design : Design) → IsDesign document design → IsSoundDesign design
 design_sound document design is = record {
-  area = subst (λ (o : Option Text). IfSome o (λ area. IsTrue (is_area area))) is.area (area_said (get_member (codes "area") document));
-  metric = subst IsMetric (sym is.metric) (metric_or (said_at metric_in (codes "metric") document) (metric_said (get_member (codes "metric") document)));
-  routers = subst (All IsRouterSound) (sym is.routers) (routers_sound (table_at (codes "routers") document));
+  area = subst (λ (o : Option Word). IfSome o (λ area. IsTrue (is_area area))) is.area (area_said (get_member (codes "area") document));
+  metric = subst IsMetric (sym is.metric) (metric_or (said_at as_metric (codes "metric") document) (metric_said (get_member (codes "metric") document)));
+  routers = subst (All IsRouterSound) (sym is.routers) (routers_sound (entries_at (codes "routers") document));
 }

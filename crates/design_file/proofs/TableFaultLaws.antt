@@ -1,10 +1,11 @@
 -- The faults of a document are those that are gathered.
 use Rattle.std.proofs.Common.{◌≡◌, List, [], Option, Some, None, codes, refl, sym, subst, ap, ◌∙◌, inl, inr, ⊎_elim}
 use Rattle.toml.specs.Data.{Data, Members, no_members, member, table, get_member}
-use Rattle.design_file.specs.Documents.{HasEntry}
-use Rattle.design_file.specs.FaultLists.{Among, own_or, inner_faults, table_faults, area_faults, document_faults}
+use Rattle.design_file.specs.Documents.{HasMember}
+use Rattle.design_file.specs.steps.FaultLists.{Among, own_or, inner_faults, table_faults, area_faults, document_faults}
 use Rattle.design_file.specs.Faults.{HasFault, IsDocumentFault, TableAt, fault, whole, inside, no_area, in_table}
-use Rattle.design_file.specs.Keys.{Text, below, key_in}
+use Rattle.ios_lines.specs.Words.{Word}
+use Rattle.design_file.specs.Keys.{below, key_in}
 use Rattle.design_file.specs.Values.{entry_fault}
 use Rattle.design_file.specs.declared.fault.Fault.{Fault}
 use Rattle.design_file.specs.declared.key.Key.{Key}
@@ -17,8 +18,8 @@ use Rattle.design_file.proofs.FaultListLaws.{Among-left, Among-one, Among-right,
 
 module _ (document : Members) (f : Fault) where
   -- an entry that has a fault of its own, or else faults inside it
-  own_found : (own : Option DesignKind) (place : Place) (path word : Text) (value : Data) (members : Members) (inner : List Fault) →
-      TableAt document place path members → HasEntry members word value → entry_fault (key_in place word) value ≡ own →
+  own_found : (own : Option DesignKind) (place : Place) (path word : Word) (value : Data) (members : Members) (inner : List Fault) →
+      TableAt document place path members → HasMember members word value → entry_fault (key_in place word) value ≡ own →
       (Among f inner → IsDocumentFault document f) → Among f (own_or own (below path word) inner) → IsDocumentFault document f
   own_found None place path word value all inner at has is within h = within h
   own_found (Some kind) place path word value all inner at has is within h =
@@ -33,8 +34,8 @@ module _ (document : Members) (f : Fault) where
 
   mutual
     -- each fault gathered of the entries of a table, or of some of them, is one of the document
-    found : (members : Members) (place : Place) (path : Text) (all : Members) → TableAt document place path all →
-        ((word : Text) (value : Data) → HasEntry members word value → HasEntry all word value) →
+    found : (members : Members) (place : Place) (path : Word) (all : Members) → TableAt document place path all →
+        ((word : Word) (value : Data) → HasMember members word value → HasMember all word value) →
         Among f (table_faults members place path) → IsDocumentFault document f
     found no_members place path all at sub h = absurd h
     found (member word value more) place path all at sub h =
@@ -42,23 +43,23 @@ module _ (document : Members) (f : Fault) where
         let has = sub word value (inl (refl, refl)) in
         ⊎_elim
         (own_found (entry_fault key value) place path word value all (inner_faults value key (below path word)) at has refl
-        (found_inside value key (below path word) (λ entries inner v k. inside place inner path word all entries at (subst (HasEntry all word) v has) k)))
+        (found_inside value key (below path word) (λ entries inner v k. inside place inner path word all entries at (subst (HasMember all word) v has) k)))
         (found more place path all at (λ w v e. sub w v (inr e)))
         (Among-split f (own_or (entry_fault key value) (below path word) (inner_faults value key (below path word))) (table_faults more place path) h)
 
-    found_inside : (value : Data) (key : Option Key) (path : Text) →
+    found_inside : (value : Data) (key : Option Key) (path : Word) →
         ((entries : Members) (inner : Place) → value ≡ table entries → key ≡ Some (Table inner) → TableAt document inner path entries) →
         Among f (inner_faults value key path) → IsDocumentFault document f
     found_inside (table members) (Some (Table place)) path at h = found members place path members (at members place refl refl) (λ w v e. e) h
     found_inside value key path at h = absurd h
 
   -- an entry's fault is gathered
-  own_listed : (members : Members) (place : Place) (path word : Text) (value : Data) → HasEntry members word value →
+  own_listed : (members : Members) (place : Place) (path word : Word) (value : Data) → HasMember members word value →
       Among f (own_or (entry_fault (key_in place word) value) (below path word) (inner_faults value (key_in place word) (below path word))) →
       Among f (table_faults members place path)
   own_listed no_members place path word value has h = absurd has
   own_listed (member its own more) place path word value (inl e) h =
-      let P : Text → Data → Type 0 = λ w v. Among f
+      let P : Word → Data → Type 0 = λ w v. Among f
       (own_or (entry_fault (key_in place w) v) (below path w) (inner_faults v (key_in place w) (below path w))) in
       Among-left f _ (table_faults more place path) (subst (λ v. P its v) (sym e.1) (subst (λ w. P w value) (sym e.0) h))
   own_listed (member its own more) place path word value (inr e) h =
@@ -67,7 +68,7 @@ module _ (document : Members) (f : Fault) where
       (own_listed more place path word value e h)
 
   -- what is gathered of a table in another is gathered of that
-  inner_listed : (members entries : Members) (outer inner : Place) (path word : Text) → HasEntry members word (table entries) →
+  inner_listed : (members entries : Members) (outer inner : Place) (path word : Word) → HasMember members word (table entries) →
       key_in outer word ≡ Some (Table inner) →
       Among f (table_faults entries inner (below path word)) → Among f (table_faults members outer path)
   inner_listed members entries outer inner path word has is h =
@@ -76,13 +77,13 @@ module _ (document : Members) (f : Fault) where
       own_listed members outer path word (table entries) has (subst P (sym is) h)
 
   -- what is gathered of a table of the document is gathered of the document
-  at_listed : (place : Place) (path : Text) (members : Members) → TableAt document place path members → Among f (table_faults members place path) →
+  at_listed : (place : Place) (path : Word) (members : Members) → TableAt document place path members → Among f (table_faults members place path) →
       Among f (table_faults document Top [])
   at_listed place path tables whole h = h
   at_listed place path tables (inside outer inner over word all entries at has is) h = at_listed outer over all at
       (inner_listed all entries outer inner over word has is h)
 
-  fault_listed : (place : Place) (path : Text) (members : Members) → HasFault place path members f → Among f (table_faults members place path)
+  fault_listed : (place : Place) (path : Word) (members : Members) → HasFault place path members f → Among f (table_faults members place path)
   fault_listed place path members has =
       let P : Option DesignKind → Type 0 = λ o. Among f
       (own_or o (below path has.word) (inner_faults has.value (key_in place has.word) (below path has.word))) in

@@ -4,7 +4,7 @@ use Rattle.toml.specs.Data.{Members}
 use Rattle.net_model.specs.Network.{Network}
 use Rattle.design_file.specs.Designs.{IsDesign}
 use Rattle.design_file.specs.Documents.{IsDocument}
-use Rattle.design_file.specs.Faults.{IsDocumentFault, IsLeastFault, fault}
+use Rattle.design_file.specs.Faults.{IsDocumentFault, IsToldFault, fault}
 use Rattle.design_file.specs.NetworkFaults.{IsNetworkFault}
 use Rattle.design_file.specs.Settling.{settled_routers}
 use Rattle.design_file.specs.declared.design.Design.{Design}
@@ -28,7 +28,7 @@ pub data IsTextFault (text : List ℕ) (f : Fault) : Type 0 where
 
 -- a text is refused by the fault of it that is told, or for want of memory
 abbrev pub RefusesText : List ℕ → DesignRefusal → Type 0
-RefusesText text (Bad kind path) = IsLeastFault (IsTextFault text) (fault kind path)
+RefusesText text (Bad kind path) = IsToldFault (IsTextFault text) (fault kind path)
 RefusesText text OutOfMemory = Unit {0}
 
 -- a design is settled for a network: nothing is wrong in it there, and this is what it settles
@@ -38,5 +38,5 @@ pub record Settles (design : Design) (net : Network) (settled : List SettledRout
 
 -- a design is refused for a network by the fault of it that is told, or for want of memory
 abbrev pub RefusesDesign : Design → Network → DesignRefusal → Type 0
-RefusesDesign design net (Bad kind path) = IsLeastFault (IsNetworkFault design net) (fault kind path)
+RefusesDesign design net (Bad kind path) = IsToldFault (IsNetworkFault design net) (fault kind path)
 RefusesDesign design net OutOfMemory = Unit {0}

@@ -5,25 +5,25 @@ use Rattle.net_model.specs.Refusals.{IsBelow}
 use Rattle.net_model.specs.declared.bounds.TheConstants.{MOST_METRIC}
 use Rattle.net_model.specs.declared.config.Levels.TheVariants.{Two}
 use Rattle.toml.specs.Data.{Data, Members, no_members, member}
-use Rattle.design_file.specs.Documents.{said_at, table_at, entries_of}
-use Rattle.design_file.specs.Keys.{Text}
-use Rattle.design_file.specs.Values.{area_in, levels_in, metric_in, flag_in, is_area}
+use Rattle.design_file.specs.Documents.{said_at, entries_at, entries_of}
+use Rattle.ios_lines.specs.Words.{Word}
+use Rattle.design_file.specs.Values.{as_area, as_levels, as_metric, as_flag, is_area}
 use Rattle.design_file.specs.declared.design.Design.{Design}
 use Rattle.design_file.specs.declared.design.DesignRouter.{DesignRouter}
 use Rattle.design_file.specs.declared.design.DesignInterface.{DesignInterface}
 
 -- what each entry says, by its key and its value
-abbrev pub each_said : {X : Type 0} → (Text → Data → X) → Members → List X
+abbrev pub each_said : {X : Type 0} → (Word → Data → X) → Members → List X
 each_said says no_members = []
 each_said says (member key value more) = says key value ∷ each_said says more
 
 -- what the table of an interface says
-abbrev pub interface_said : Text → Members → DesignInterface
+abbrev pub interface_said : Word → Members → DesignInterface
 interface_said name entries = record {
   name = name;
-  metric = said_at metric_in (codes "metric") entries;
-  levels = said_at levels_in (codes "level") entries;
-  passive = said_at flag_in (codes "passive") entries;
+  metric = said_at as_metric (codes "metric") entries;
+  levels = said_at as_levels (codes "level") entries;
+  passive = said_at as_flag (codes "passive") entries;
 }
 
 -- what the tables of the interfaces say, in the order of their names
@@ -31,14 +31,14 @@ abbrev pub interfaces_said : Members → List DesignInterface
 interfaces_said members = each_said (λ name value. interface_said name (entries_of (Some value))) members
 
 -- what the table of a router says
-abbrev pub router_said : Text → Members → DesignRouter
+abbrev pub router_said : Word → Members → DesignRouter
 router_said name entries = record {
   name = name;
-  area = said_at area_in (codes "area") entries;
-  levels = said_at levels_in (codes "level") entries;
-  metric = said_at metric_in (codes "metric") entries;
-  leak = unwrap_or (said_at flag_in (codes "leak") entries) false;
-  interfaces = interfaces_said (table_at (codes "interfaces") entries);
+  area = said_at as_area (codes "area") entries;
+  levels = said_at as_levels (codes "level") entries;
+  metric = said_at as_metric (codes "metric") entries;
+  leak = unwrap_or (said_at as_flag (codes "leak") entries) false;
+  interfaces = interfaces_said (entries_at (codes "interfaces") entries);
 }
 
 -- what the tables of the routers say, in the order of their names
@@ -47,10 +47,10 @@ routers_said members = each_said (λ name value. router_said name (entries_of (S
 
 -- the design that a document is
 pub record IsDesign (document : Members) (design : Design) : Type 0 where
-  pub area : said_at area_in (codes "area") document ≡ Some design.area
-  pub levels : design.levels ≡ unwrap_or (said_at levels_in (codes "level") document) Two
-  pub metric : design.metric ≡ unwrap_or (said_at metric_in (codes "metric") document) DEFAULT_METRIC
-  pub routers : design.routers ≡ routers_said (table_at (codes "routers") document)
+  pub area : said_at as_area (codes "area") document ≡ Some design.area
+  pub levels : design.levels ≡ unwrap_or (said_at as_levels (codes "level") document) Two
+  pub metric : design.metric ≡ unwrap_or (said_at as_metric (codes "metric") document) DEFAULT_METRIC
+  pub routers : design.routers ≡ routers_said (entries_at (codes "routers") document)
 
 -- a metric is in its range
 abbrev pub IsMetric : ℕ → Type 0
@@ -63,7 +63,7 @@ pub record IsRouterSound (router : DesignRouter) : Type 0 where
   pub interfaces : All (λ (i : DesignInterface). IfSome i.metric IsMetric) router.interfaces
 
 -- a design's areas and metrics are by their grammar
-pub record IsSound (design : Design) : Type 0 where
+pub record IsSoundDesign (design : Design) : Type 0 where
   pub area : IsTrue (is_area design.area)
   pub metric : IsMetric design.metric
   pub routers : All IsRouterSound design.routers

@@ -2,7 +2,7 @@
 use Rattle.std.specs.Prelude.{◌≡◌, ◌⊎◌, List, ℕ, Option, Some, option_and_then, IsUtf8}
 use Rattle.toml.specs.Data.{Data, Members, no_members, member, table, get_member}
 use Rattle.toml.specs.Parse.{parse_document}
-use Rattle.design_file.specs.Keys.{Text}
+use Rattle.ios_lines.specs.Words.{Word}
 
 -- the text is UTF-8 and, as TOML, this document
 pub record IsDocument (text : List ℕ) (document : Members) : Type 0 where
@@ -10,12 +10,12 @@ pub record IsDocument (text : List ℕ) (document : Members) : Type 0 where
   pub parsed : parse_document text ≡ Some document
 
 -- an entry of the table has this key and this value
-abbrev pub HasEntry : Members → Text → Data → Type 0
-HasEntry no_members key value = ⊥
-HasEntry (member word its more) key value = ((word ≡ key) × (its ≡ value)) ⊎ HasEntry more key value
+abbrev pub HasMember : Members → Word → Data → Type 0
+HasMember no_members key value = ⊥
+HasMember (member word its more) key value = ((word ≡ key) × (its ≡ value)) ⊎ HasMember more key value
 
 -- what the value at a key says
-abbrev pub said_at : {T : Type 0} → (Data → Option T) → Text → Members → Option T
+abbrev pub said_at : {T : Type 0} → (Data → Option T) → Word → Members → Option T
 said_at says key members = option_and_then says (get_member key members)
 
 -- the entries of a value that is a table
@@ -24,5 +24,5 @@ entries_of (Some (table members)) = members
 entries_of _ = no_members
 
 -- the table at a key, empty where there is none
-abbrev pub table_at : Text → Members → Members
-table_at key members = entries_of (get_member key members)
+abbrev pub entries_at : Word → Members → Members
+entries_at key members = entries_of (get_member key members)

@@ -7,6 +7,4 @@ pub mod NetworkFaults
 pub mod Settling
 pub mod Answers
 pub mod Laws
-pub mod Parsing
-pub mod FaultLists
-pub mod NetworkFaultLists
+pub mod steps

@@ -5,7 +5,8 @@ use Rattle.net_model.specs.Lookups.{IsNamed}
 use Rattle.net_model.specs.Network.{Network, HasConfiguration}
 use Rattle.net_model.specs.declared.interface.Interface.{Interface}
 use Rattle.design_file.specs.Faults.{fault}
-use Rattle.design_file.specs.Keys.{Text, below}
+use Rattle.ios_lines.specs.Words.{Word}
+use Rattle.design_file.specs.Keys.{below}
 use Rattle.design_file.specs.declared.design.Design.{Design}
 use Rattle.design_file.specs.declared.design.DesignRouter.{DesignRouter}
 use Rattle.design_file.specs.declared.design.DesignInterface.{DesignInterface}
@@ -13,14 +14,14 @@ use Rattle.design_file.specs.declared.fault.Fault.{Fault}
 use Rattle.design_file.specs.declared.refusal.DesignKind.TheVariants.{UnknownRouter, UnknownInterface, AlreadyIsis}
 
 -- the paths of a router and of its interfaces
-abbrev pub router_path : Text → Text
+abbrev pub router_path : Word → Word
 router_path name = below (codes "routers") name
 
-abbrev pub interfaces_path : Text → Text
+abbrev pub interfaces_path : Word → Word
 interfaces_path router = below (router_path router) (codes "interfaces")
 
 -- a router has an interface of this name with an address
-pub record HasAddressed (config : Configuration) (name : Text) : Type 0 where
+pub record HasAddressed (config : Configuration) (name : Word) : Type 0 where
   pub interface : Interface
   pub among : Contains config.interfaces interface
   pub name_is : interface.name ≡ name

@@ -7,7 +7,7 @@ use Rattle.net_model.specs.Network.{Network}
 use Rattle.net_model.specs.declared.config.Levels.{Levels}
 use Rattle.net_model.specs.declared.interface.Interface.{Interface}
 use Rattle.design_file.specs.Designs.{IsMetric}
-use Rattle.design_file.specs.Keys.{Text}
+use Rattle.ios_lines.specs.Words.{Word}
 use Rattle.design_file.specs.Values.{is_area}
 use Rattle.design_file.specs.declared.design.Design.{Design}
 use Rattle.design_file.specs.declared.design.DesignRouter.{DesignRouter}
@@ -17,15 +17,15 @@ use Rattle.design_file.specs.declared.settled.SettledInterface.{SettledInterface
 
 -- ---- what is said of a router or an interface by its name ----
 
-abbrev pub router_named : Text → List DesignRouter → Option DesignRouter
+abbrev pub router_named : Word → List DesignRouter → Option DesignRouter
 router_named name routers = find (λ (r : DesignRouter). bytes_eq r.name name) routers
 
-abbrev pub interface_named : Text → List DesignInterface → Option DesignInterface
+abbrev pub interface_named : Word → List DesignInterface → Option DesignInterface
 interface_named name interfaces = find (λ (i : DesignInterface). bytes_eq i.name name) interfaces
 
 -- ---- what holds for a router: what is said of it, else what is said of all ----
 
-abbrev pub area_for : Design → Option DesignRouter → Text
+abbrev pub area_for : Design → Option DesignRouter → Word
 area_for design None = design.area
 area_for design (Some own) = unwrap_or own.area design.area
 
@@ -119,5 +119,5 @@ pub record FitsRouter (config : Configuration) (settled : SettledRouter) : Type 
   pub interfaces : AreForSome config.interfaces settled.interfaces
 
 -- it is settled for a network: one entry for each router, in the order of their numbers
-abbrev pub Fits : Network → List SettledRouter → Type 0
-Fits net settled = AllZip FitsRouter net settled
+abbrev pub FitsNetwork : Network → List SettledRouter → Type 0
+FitsNetwork net settled = AllZip FitsRouter net settled

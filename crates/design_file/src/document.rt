@@ -1,9 +1,9 @@
 ghost use Rattle.std.specs.Prelude.{◌≡◌, IfOk, codes, option_and_then, option_copied, option_map};
 ghost use Rattle.toml.specs.Data.{get_member};
 ghost use Rattle.toml.specs.View.{table_view, view};
-ghost use Rattle.design_file.specs.Documents.{entries_of, said_at, table_at};
+ghost use Rattle.design_file.specs.Documents.{entries_of, said_at, entries_at};
 ghost use Rattle.design_file.specs.Designs.{AreInOrder, InterfacesAscend, interface_said, interfaces_said, router_said, routers_said};
-ghost use Rattle.design_file.specs.Values.{area_in, flag_in, levels_in, metric_in};
+ghost use Rattle.design_file.specs.Values.{as_area, as_flag, as_levels, as_metric};
 
 use crate::value::{area_in, flag_in, levels_in, metric_in};
 use crate::{DesignInterface, DesignInterfaces, DesignRouter, DesignRouters};
@@ -21,7 +21,7 @@ pub(crate) fn value_at<'a>(table: &'a Table, key: &str) -> Option<&'a Value>
 
 /// The area that the value at the key `area` says.
 pub(crate) fn area_at(alloc: Global, table: &Table) -> Result<Option<Name>, AllocError>
-    ensures { IfOk result (λ area. area ≡ said_at area_in (codes "area") (table_view table.now)) }
+    ensures { IfOk result (λ area. area ≡ said_at as_area (codes "area") (table_view table.now)) }
 {
     let Some(value) = value_at(table, "area") else {
         return Ok(None);
@@ -41,7 +41,7 @@ fn name_of(alloc: Global, text: &str) -> Result<Name, AllocError>
 
 /// The levels that the value at the key `level` says.
 pub(crate) fn levels_at(table: &Table) -> Option<Levels>
-    ensures { result ≡ said_at levels_in (codes "level") (table_view table.now) }
+    ensures { result ≡ said_at as_levels (codes "level") (table_view table.now) }
 {
     match value_at(table, "level") {
         Some(value) => levels_in(value),
@@ -51,7 +51,7 @@ pub(crate) fn levels_at(table: &Table) -> Option<Levels>
 
 /// The metric that the value at the key `metric` says.
 pub(crate) fn metric_at(table: &Table) -> Option<u32>
-    ensures { result ≡ said_at metric_in (codes "metric") (table_view table.now) }
+    ensures { result ≡ said_at as_metric (codes "metric") (table_view table.now) }
 {
     match value_at(table, "metric") {
         Some(value) => metric_in(value),
@@ -61,7 +61,7 @@ pub(crate) fn metric_at(table: &Table) -> Option<u32>
 
 /// The truth that the value at a key says.
 fn flag_at(table: &Table, key: &str) -> Option<bool>
-    ensures { result ≡ said_at flag_in key.now (table_view table.now) }
+    ensures { result ≡ said_at as_flag key.now (table_view table.now) }
 {
     match value_at(table, key) {
         Some(value) => flag_in(value),
@@ -115,7 +115,7 @@ fn interfaces_in(alloc: Global, value: &Value) -> Result<DesignInterfaces, Alloc
 
 /// What the interfaces of a router's table say.
 fn interfaces_at(alloc: Global, table: &Table) -> Result<DesignInterfaces, AllocError>
-    ensures said { IfOk result (λ all. all ≡ interfaces_said (table_at (codes "interfaces") (table_view table.now))) }
+    ensures said { IfOk result (λ all. all ≡ interfaces_said (entries_at (codes "interfaces") (table_view table.now))) }
     ensures ascending { IfOk result InterfacesAscend }
 {
     match value_at(table, "interfaces") {
@@ -175,7 +175,7 @@ fn routers_in(alloc: Global, value: &Value) -> Result<DesignRouters, AllocError>
 
 /// What the routers of a document say.
 pub(crate) fn routers_at(alloc: Global, document: &Table) -> Result<DesignRouters, AllocError>
-    ensures said { IfOk result (λ all. all ≡ routers_said (table_at (codes "routers") (table_view document.now))) }
+    ensures said { IfOk result (λ all. all ≡ routers_said (entries_at (codes "routers") (table_view document.now))) }
     ensures in_order { IfOk result AreInOrder }
 {
     match value_at(document, "routers") {

@@ -1,7 +1,7 @@
 ghost use Rattle.std.specs.Prelude.{◌≡◌, ◌++◌, ◌∷◌, [], ◌↔◌, ◌≤◌, IfOk, IsTrue, OnOk};
 ghost use Rattle.net_model.specs.Refusals.{IsBelow};
-ghost use Rattle.design_file.specs.Faults.{IsTold, fault, rank};
-ghost use Rattle.design_file.specs.FaultLists.{IsLeastOf, IsToldOf};
+ghost use Rattle.design_file.specs.Faults.{IsToldRather, fault, design_kind_rank};
+ghost use Rattle.design_file.specs.steps.FaultLists.{IsToldAmong, IsToldOf};
 ghost use Rattle.design_file.specs.Keys.{below};
 
 use crate::DesignKind;
@@ -47,7 +47,7 @@ pub(crate) fn add(
 
 /// The place of a kind in their order.
 fn rank(kind: DesignKind) -> u8
-    ensures value { result ≡ rank kind }
+    ensures value { result ≡ design_kind_rank kind }
     ensures most { result ≤ 9 }
 {
     kind as u8
@@ -62,7 +62,7 @@ fn is_below(one: &[u8], other: &[u8]) -> bool
 
 /// Whether one fault is told rather than another.
 fn is_told(one: &Fault, other: &Fault) -> bool
-    ensures { IsTrue result ↔ IsTold one.now other.now }
+    ensures { IsTrue result ↔ IsToldRather one.now other.now }
 {
     rank(one.kind) < rank(other.kind)
         || rank(one.kind) == rank(other.kind)
@@ -81,7 +81,7 @@ fn told_of(best: Option<Fault>, other: Fault) -> Fault
 
 /// The fault of a list that is told.
 pub(crate) fn least(faults: Vec<Fault>) -> Option<Fault>
-    ensures { IsLeastOf faults.items result }
+    ensures { IsToldAmong faults.items result }
 {
     let mut best = None;
     for fault in faults {

@@ -1,5 +1,6 @@
 ghost use Rattle.std.specs.Prelude.{◌≡◌, ◌++◌, [], IfOk, OnOk, option_copied};
-ghost use Rattle.design_file.specs.Settling.{before_others, interface_circuit, interface_metric, interface_named, interface_passive, is_isis_interface, settled_interface, settled_interfaces};
+ghost use Rattle.design_file.specs.Settling.{before_others, interface_circuit, interface_metric, interface_named};
+ghost use Rattle.design_file.specs.Settling.{interface_passive, is_isis_interface, settled_interface, settled_interfaces};
 
 use crate::{DesignInterface, SettledInterface, SettledInterfaces};
 use net_addr::Name;

@@ -1,7 +1,8 @@
 ghost use Rattle.std.specs.Prelude.{◌≡◌, ◌++◌, IfOk, OnOk, bytes_eq, option_copied};
 ghost use Rattle.net_model.specs.Refusals.{IsNetwork};
 ghost use Rattle.design_file.specs.Keys.{below};
-ghost use Rattle.design_file.specs.NetworkFaultLists.{config_named, fault_unless, has_addressed, interfaces_faults, isis_fault, isis_faults, network_faults, router_faults, routers_faults};
+ghost use Rattle.design_file.specs.steps.NetworkFaultLists.{config_named, fault_unless, has_addressed, interfaces_faults, isis_fault};
+ghost use Rattle.design_file.specs.steps.NetworkFaultLists.{already_isis_faults, network_faults, router_faults, routers_faults};
 ghost use Rattle.design_file.specs.NetworkFaults.{router_path};
 
 use crate::fault::{Fault, add, below};
@@ -85,7 +86,8 @@ fn add_of_interface(
     interfaces: &[Interface],
     name: &[u8],
 ) -> Result<(), AllocError>
-    ensures { OnOk result (faults.new.items ≡ faults.old.items ++ fault_unless (has_addressed name.now interfaces.now) DesignKind.UnknownInterface (below path.now name.now)) }
+    ensures { OnOk result (faults.new.items
+        ≡ faults.old.items ++ fault_unless (has_addressed name.now interfaces.now) DesignKind.UnknownInterface (below path.now name.now)) }
 {
     if has_addressed(interfaces, name) {
         return Ok(());
@@ -131,7 +133,7 @@ fn router_path(alloc: Global, name: &[u8]) -> Result<Vec<u8>, AllocError>
 
 /// Adds a fault for each router that has an IS-IS process.
 fn add_of_isis(alloc: Global, faults: &mut Vec<Fault>, net: &Net) -> Result<(), AllocError>
-    ensures faults { OnOk result (faults.new.items ≡ faults.old.items ++ isis_faults net.now) }
+    ensures faults { OnOk result (faults.new.items ≡ faults.old.items ++ already_isis_faults net.now) }
     ensures network { OnOk result (IsNetwork net.now) }
 {
     for router in 0..net.routers() {

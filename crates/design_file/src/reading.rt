@@ -1,9 +1,9 @@
 ghost use Rattle.std.specs.Prelude.{◌≡◌, [], IfErr, IfOk, codes};
 ghost use Rattle.toml.specs.View.{table_view};
 ghost use Rattle.design_file.specs.Answers.{RefusesText, SaysDesign};
-ghost use Rattle.design_file.specs.Designs.{AreInOrder, IsDesign, IsSound};
-ghost use Rattle.design_file.specs.FaultLists.{document_faults};
-ghost use Rattle.design_file.specs.Parsing.{IsParsed, IsNotToml};
+ghost use Rattle.design_file.specs.Designs.{AreInOrder, IsDesign, IsSoundDesign};
+ghost use Rattle.design_file.specs.steps.FaultLists.{document_faults};
+ghost use Rattle.design_file.specs.steps.Parsing.{IsParsed, IsNotToml};
 
 use crate::document::{area_at, levels_at, metric_at, routers_at};
 use crate::fault::least;
@@ -20,7 +20,7 @@ use toml::Table;
 /// A text that is none is refused with the lowest kind of what is wrong in it, and the least path of this kind.
 pub fn read_design(alloc: Global, text: &[u8]) -> Result<Design, DesignRefusal>
     ensures ok { IfOk result (SaysDesign text.now) }
-    ensures sound { IfOk result IsSound }
+    ensures sound { IfOk result IsSoundDesign }
     ensures in_order { IfOk result (λ design. AreInOrder design.routers) }
     ensures err { IfErr result (RefusesText text.now) }
 {

@@ -1,8 +1,9 @@
 ghost use Rattle.std.specs.Prelude.{◌≡◌, [], IfErr, IfOk, option_copied};
 ghost use Rattle.net_model.specs.Network.{HasConfiguration};
 ghost use Rattle.design_file.specs.Answers.{RefusesDesign, Settles};
-ghost use Rattle.design_file.specs.Designs.{IsSound};
-ghost use Rattle.design_file.specs.Settling.{Fits, area_for, leak_for, levels_for, metric_for, named_for, router_named, settled_router, settled_routers};
+ghost use Rattle.design_file.specs.Designs.{IsSoundDesign};
+ghost use Rattle.design_file.specs.Settling.{FitsNetwork, area_for, leak_for, levels_for, metric_for, named_for, router_named};
+ghost use Rattle.design_file.specs.Settling.{settled_router, settled_routers};
 
 use crate::fault::least;
 use crate::interface_settling::settled_interfaces;
@@ -16,9 +17,9 @@ use std::alloc::{AllocError, Global};
 ///
 /// A design that can't be settled for it is refused with the lowest kind of what is wrong in it, and the least path of this kind.
 pub fn settle(alloc: Global, design: &Design, net: &Net) -> Result<Settled, DesignRefusal>
-    requires { IsSound design.now }
+    requires { IsSoundDesign design.now }
     ensures ok { IfOk result (Settles design.now net.now) }
-    ensures fits { IfOk result (Fits net.now) }
+    ensures fits { IfOk result (FitsNetwork net.now) }
     ensures err { IfErr result (RefusesDesign design.now net.now) }
 {
     match least(network_faults(alloc, design, net)?) {

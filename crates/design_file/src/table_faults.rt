@@ -1,7 +1,7 @@
 ghost use Rattle.std.specs.Prelude.{◌≡◌, ◌++◌, [], IfOk, OnOk, codes};
 ghost use Rattle.toml.specs.Data.{get_member};
 ghost use Rattle.toml.specs.View.{table_view, view};
-ghost use Rattle.design_file.specs.FaultLists.{area_faults, document_faults, inner_faults, own_or, table_faults};
+ghost use Rattle.design_file.specs.steps.FaultLists.{area_faults, document_faults, inner_faults, own_or, table_faults};
 ghost use Rattle.design_file.specs.Keys.{below, key_in};
 ghost use Rattle.design_file.specs.Values.{entry_fault};
 
@@ -61,7 +61,8 @@ fn add_of_entry(
     path: &[u8],
     value: &Value,
 ) -> Result<(), AllocError>
-    ensures { OnOk result (faults.new.items ≡ faults.old.items ++ own_or (entry_fault key (view value.now)) path.now (inner_faults (view value.now) key path.now)) }
+    ensures { OnOk result (faults.new.items
+        ≡ faults.old.items ++ own_or (entry_fault key (view value.now)) path.now (inner_faults (view value.now) key path.now)) }
 {
     if let Some(kind) = entry_fault(key, value) {
         return add(alloc, faults, kind, path);

@@ -1,7 +1,7 @@
 ghost use Rattle.std.specs.Prelude.{◌≡◌, ◌≤◌, IfSome, is_some, option_map};
 ghost use Rattle.toml.specs.View.{view};
 ghost use Rattle.ios_lines.specs.IsisLines.{grouped_from, is_area_address, is_grouped};
-ghost use Rattle.design_file.specs.Values.{area_in, entry_fault, flag_in, is_area, levels_in, levels_of, metric_in, metric_of, unless, value_fault};
+ghost use Rattle.design_file.specs.Values.{as_area, entry_fault, as_flag, is_area, as_levels, levels_named, as_metric, metric_within, unless, value_fault};
 
 use crate::DesignKind;
 use crate::key::Key;
@@ -9,7 +9,7 @@ use net_model::{Levels, MOST_METRIC};
 use toml::Value;
 
 /// The most bytes of an area: two digits, and six groups of a dot and four digits.
-pub(crate) const MOST_AREA: usize = 32;
+const MOST_AREA: usize = 32;
 
 /// Whether a byte stands at a place of a group: a dot, then four hexadecimal digits.
 fn is_grouped(place: usize, byte: u8) -> bool
@@ -57,7 +57,7 @@ fn is_area(word: &str) -> bool
 
 /// The levels that a word says.
 fn levels_of(word: &str) -> Option<Levels>
-    ensures { result ≡ levels_of word.now }
+    ensures { result ≡ levels_named word.now }
 {
     match word {
         "1" => Some(Levels::One),
@@ -69,7 +69,7 @@ fn levels_of(word: &str) -> Option<Levels>
 
 /// The metric that a number is.
 fn metric_of(number: i64) -> Option<u32>
-    ensures { result ≡ metric_of number }
+    ensures { result ≡ metric_within number }
 {
     if 1 <= number && number <= i64::from(MOST_METRIC) {
         Some(number as u32)
@@ -80,7 +80,7 @@ fn metric_of(number: i64) -> Option<u32>
 
 /// The area that a value says.
 pub(crate) fn area_in(value: &Value) -> Option<&str>
-    ensures { option_map (λ s. s.now) result ≡ area_in (view value.now) }
+    ensures { option_map (λ s. s.now) result ≡ as_area (view value.now) }
 {
     match value {
         Value::String(word) if is_area(word.as_str()) => Some(word.as_str()),
@@ -90,7 +90,7 @@ pub(crate) fn area_in(value: &Value) -> Option<&str>
 
 /// The levels that a value says.
 pub(crate) fn levels_in(value: &Value) -> Option<Levels>
-    ensures { result ≡ levels_in (view value.now) }
+    ensures { result ≡ as_levels (view value.now) }
 {
     match value {
         Value::String(word) => levels_of(word.as_str()),
@@ -100,7 +100,7 @@ pub(crate) fn levels_in(value: &Value) -> Option<Levels>
 
 /// The metric that a value says.
 pub(crate) fn metric_in(value: &Value) -> Option<u32>
-    ensures { result ≡ metric_in (view value.now) }
+    ensures { result ≡ as_metric (view value.now) }
 {
     match value {
         Value::Integer(number) => metric_of(*number),
@@ -110,7 +110,7 @@ pub(crate) fn metric_in(value: &Value) -> Option<u32>
 
 /// The truth that a value says.
 pub(crate) fn flag_in(value: &Value) -> Option<bool>
-    ensures { result ≡ flag_in (view value.now) }
+    ensures { result ≡ as_flag (view value.now) }
 {
     match value {
         Value::Boolean(flag) => Some(*flag),

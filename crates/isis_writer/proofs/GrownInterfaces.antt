@@ -35,7 +35,8 @@ use Rattle.isis_writer.proofs.InterfaceFacts.{counting_grown, mentions_grown, Ne
 abbrev with_isis : Interface → Bool → Bool → ℕ → ℕ → Bool → Interface
 with_isis i one two metric1 metric2 passive = record i { level1 = one; level2 = two; metric1 = metric1; metric2 = metric2; isis_passive = passive }
 
-same_isis : (i : Interface) (a b c d : Bool) (k l m n : ℕ) (p q : Bool) → a ≡ b → c ≡ d → k ≡ l → m ≡ n → p ≡ q → with_isis i a c k m p ≡ with_isis i b d l n q
+same_isis : (i : Interface) (a b c d : Bool) (k l m n : ℕ) (p q : Bool) → a ≡ b → c ≡ d → k ≡ l → m ≡ n → p ≡ q →
+    with_isis i a c k m p ≡ with_isis i b d l n q
 same_isis i a b c d k l m n p q e f g h j =
     ap (λ x. with_isis i x c k m p) e ∙ ap (λ x. with_isis i b x k m p) f ∙ ap (λ x. with_isis i b d x m p) g
     ∙ ap (λ x. with_isis i b d l x p) h ∙ ap (λ x. with_isis i b d l n x) j
@@ -51,7 +52,8 @@ runs_written has levels false None true isis said none = refl
 runs_written has levels false None false isis said none = ap (λ o. has levels && has (value_or o Both)) (none refl)
 
 -- the metric of a level, with the lines that are written
-metric_written : (passive : Bool) (old : Bool) (isis : Option Bool) (metric router : ℕ) (said : Option (Result ℕ ReadKind)) → (old ≡ false → said ≡ None) →
+metric_written : (passive : Bool) (old : Bool) (isis : Option Bool) (metric router : ℕ) (said : Option (Result ℕ ReadKind)) →
+    (old ≡ false → said ≡ None) →
     cond (passive || is_some (later isis (isis_fact passive)))
     (metric_by (good_value (later said (level_fact old metric))) (Some metric) router) DEFAULT_METRIC ≡ metric
 metric_written true true isis metric router said none = refl
@@ -108,7 +110,8 @@ module _ (process : Option ℕ) (ospf : List OspfStatement) (isis : List IsisSta
       let g : InterfaceFacts = grown_facts f old t.passive t.circuit t.metric in
       ap (λ (p : Bool). shown p after.levels after.metric name g) passive
       ∙ ap (λ (l : Levels). shown t.passive l after.metric name g) same
-      ∙ same_isis (interface_with before name f) _ (runs_settled has_one levels t) _ (runs_settled has_two levels t) _ t.metric _ t.metric t.passive t.passive
+      ∙ same_isis (interface_with before name f) _ (runs_settled has_one levels t) _ (runs_settled has_two levels t) _ t.metric _
+      t.metric t.passive t.passive
       (runs_written has_one levels t.passive t.circuit old f.isis f.circuit none.circuit)
       (runs_written has_two levels t.passive t.circuit old f.isis f.circuit none.circuit)
       (metric_written t.passive old f.isis t.metric after.metric f.metric1 none.metric1)

@@ -44,7 +44,8 @@ last_of-append form (x ∷ xs) ys = ap (later (form x)) (last_of-append form xs 
 
 abbrev facts_with : Option (Option PlacedAddress) → Option Bool → Option (Result ℕ ReadKind) → Option (Result ℕ ReadKind) →
     Option (Result ProcessArea ReadKind) → Option (Result Bool ReadKind) →
-    Option Bool → Option (Result Levels ReadKind) → Option (Result ℕ ReadKind) → Option (Result ℕ ReadKind) → Option (Result ℕ ReadKind) → InterfaceFacts
+    Option Bool → Option (Result Levels ReadKind) → Option (Result ℕ ReadKind) → Option (Result ℕ ReadKind) →
+    Option (Result ℕ ReadKind) → InterfaceFacts
 facts_with address shut bandwidth cost area point_to_point isis circuit metric metric1 metric2 = record {
   address = address;
   shut = shut;
@@ -61,7 +62,8 @@ facts_with address shut bandwidth cost area point_to_point isis circuit metric m
 
 same_facts : (a1 a2 : Option (Option PlacedAddress)) (s1 s2 : Option Bool) (b1 b2 : Option (Result ℕ ReadKind))
     (c1 c2 : Option (Result ℕ ReadKind)) (r1 r2 : Option (Result ProcessArea ReadKind))
-    (p1 p2 : Option (Result Bool ReadKind)) (i1 i2 : Option Bool) (l1 l2 : Option (Result Levels ReadKind)) (m1 m2 n1 n2 o1 o2 : Option (Result ℕ ReadKind)) →
+    (p1 p2 : Option (Result Bool ReadKind)) (i1 i2 : Option Bool) (l1 l2 : Option (Result Levels ReadKind))
+    (m1 m2 n1 n2 o1 o2 : Option (Result ℕ ReadKind)) →
     a1 ≡ a2 → s1 ≡ s2 → b1 ≡ b2 → c1 ≡ c2 → r1 ≡ r2 → p1 ≡ p2 → i1 ≡ i2 → l1 ≡ l2 → m1 ≡ m2 → n1 ≡ n2 → o1 ≡ o2 →
     facts_with a1 s1 b1 c1 r1 p1 i1 l1 m1 n1 o1 ≡ facts_with a2 s2 b2 c2 r2 p2 i2 l2 m2 n2 o2
 same_facts a1 a2 s1 s2 b1 b2 c1 c2 r1 r2 p1 p2 i1 i2 l1 l2 m1 m2 n1 n2 o1 o2 a s b c r p i l m n o = cc

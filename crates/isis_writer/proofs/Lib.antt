@@ -1,8 +1,5 @@
-pub mod TextLaws
-pub mod PartLaws
 pub mod NumberLaws
 pub mod ListFacts
-pub mod WrittenSections
 pub mod TitleWords
 pub mod RouterWords
 pub mod MoreSections

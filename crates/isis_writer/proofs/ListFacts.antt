@@ -44,8 +44,3 @@ flat_none f g [] none = refl
 flat_none {A} f g (x ∷ xs) none =
     ap (λ l. l ++ flat_map f (map g xs)) (All-head (λ (y : A). f (g y) ≡ []) x xs none)
     ∙ flat_none f g xs (All-tail (λ (y : A). f (g y) ≡ []) x xs none)
-
--- what holds of each element holds of one in the middle
-pub all_at : {A : Type 0} (P : A → Type 0) (front : List A) (x : A) (back : List A) → All P (front ++ x ∷ back) → P x
-all_at P [] x back all = All-head P x back all
-all_at P (y ∷ front) x back all = all_at P front x back (All-tail P y (front ++ x ∷ back) all)

@@ -104,11 +104,13 @@ names_stay j (s ∷ is) = ap (λ (n : Word). n ∷ names_of (map (λ (x : Interf
     ∙ ap (λ (ns : List Word). s.name ∷ ns) (names_stay j is)
 
 -- sections of other names stay
-others_stay : (j : InterfaceSection) (is : List InterfaceSection) → has j.name (names_of is) ≡ false → map (λ (s : InterfaceSection). grown s j) is ≡ is
+others_stay : (j : InterfaceSection) (is : List InterfaceSection) → has j.name (names_of is) ≡ false →
+    map (λ (s : InterfaceSection). grown s j) is ≡ is
 others_stay j [] none = refl
 others_stay j (s ∷ is) none =
     let parts = or_parts (bytes_eq j.name s.name) (has j.name (names_of is)) none in
-    ap (λ (b : Bool). cond b (record { line = s.line; name = s.name; lines = s.lines ++ j.lines }) s ∷ map (λ (x : InterfaceSection). grown x j) is) parts.0
+    ap (λ (b : Bool). cond b (record { line = s.line; name = s.name; lines = s.lines ++ j.lines }) s ∷ map (λ (x : InterfaceSection). grown x j) is)
+    parts.0
     ∙ ap (λ (xs : List InterfaceSection). s ∷ xs) (others_stay j is parts.1)
 
 one_more : (j : InterfaceSection) (is : List InterfaceSection) → Apart (names_of is) → has j.name (names_of is) ≡ true →

@@ -17,7 +17,7 @@ use Rattle.ios_sections.specs.Processes.{interfaces_in}
 use Rattle.ios_reader.specs.Faults.{section_faults}
 use Rattle.ios_reader.specs.Configurations.{configuration_of}
 use Rattle.ios_reader.proofs.GrownSections.{Grows, nothing_grows}
-use Rattle.design_file.specs.Settling.{Fits, FitsRouter}
+use Rattle.design_file.specs.Settling.{FitsNetwork, FitsRouter}
 use Rattle.design_file.specs.declared.settled.SettledRouter.{SettledRouter}
 use Rattle.isis_writer.specs.Prepared.{numbered_from, settled_lines, numbered_lines, new_lines}
 use Rattle.isis_writer.specs.PreparedConfigurations.{configuration_with, configuration_numbered, prepared}
@@ -51,7 +51,8 @@ contained_at : (net : Network) (c : Configuration) → Contains net c → (v : �
 contained_at net c among = (among.0, slice_get_read net (length net) among.0 c refl among.1 (sym among.2))
 
 -- the first router of the name of a configuration of the network has this configuration
-number_is : (net : Network) (c : Configuration) (u : ℕ) → NamesAscend net → Contains net c → numbered_from 0 c.name net ≡ Some u → HasConfiguration net u c
+number_is : (net : Network) (c : Configuration) (u : ℕ) → NamesAscend net → Contains net c → numbered_from 0 c.name net ≡ Some u →
+    HasConfiguration net u c
 number_is net c u names among e =
     let found : NumberedAt net 0 c.name u = numbered_at net 0 c.name u e in
     let place : found.place ≡ u = let far = found.far in omega (arith, far) in
@@ -72,7 +73,7 @@ fits_at (d ∷ net) (r ∷ settled) (suc u) c router fits at is = fits_at net se
 
 -- ---- what is written ----
 
-pub prepared_grows : (net : Network) (settled : List SettledRouter) → NamesAscend net → Fits net settled → (part : Part) (ends : ℕ) →
+pub prepared_grows : (net : Network) (settled : List SettledRouter) → NamesAscend net → FitsNetwork net settled → (part : Part) (ends : ℕ) →
     section_faults (sections_in part) ends ≡ [] →
     Contains net (configuration_of (sections_in part)) →
     Grows (sections_in part) ends (text_of (new_lines net settled (sections_in part))) (prepared net settled (configuration_of (sections_in part)))

@@ -1,5 +1,6 @@
 -- The prepared text, put together line by line or configuration by configuration.
-use Rattle.std.proofs.Common.{◌≡◌, ℕ, ◌+◌, ◌≤◌, Bool, true, false, not, ◌&&◌, ◌||◌, cond, List, [], ◌∷◌, ◌++◌, length, map, drop, refl}
+use Rattle.std.proofs.Common.{◌≡◌, ℕ, ◌+◌, ◌≤◌, Bool, true, false, not, ◌&&◌, ◌||◌, cond, List, [], ◌∷◌, ◌++◌, length, map}
+use Rattle.std.proofs.Common.{drop, refl}
 use Rattle.std.proofs.Common.{sym, ap, ◌∙◌, append_assoc, append-nil, length-append, arith}
 use Rattle.std.proofs.lemmas.Bool.{and_parts, not-true}
 use Rattle.std.proofs.lemmas.List.{drop-append-le, drop_all, drop_at}
@@ -15,7 +16,8 @@ use Rattle.ios_reader.specs.Places.{between, start_of}
 use Rattle.ios_reader.proofs.RawLines.{IsWholeBefore, AreRaw, joined_raw, HasOneLine, one_line, parts_stay, parts_at_end, open_lines, part_with, whole_next}
 use Rattle.ios_reader.proofs.LinePlaces.{next_begins, up_to}
 use Rattle.isis_writer.specs.Prepared.{new_lines, prepared_parts}
-use Rattle.isis_writer.proofs.PreparedLines.{ends_here, ends_among, put_lines, put_none}
+use Rattle.ios_reader.specs.PutBlocks.{ends_here}
+use Rattle.isis_writer.proofs.PreparedLines.{ends_among, put_lines, put_none}
 
 module _ (net : Network) (settled : List SettledRouter) (text : List ℕ) where
   abbrev block : List ℕ → List ℕ
@@ -28,7 +30,8 @@ module _ (net : Network) (settled : List SettledRouter) (text : List ℕ) where
   record Behind (before : List ℕ) (raws : List (List ℕ)) : Type 0 where
     later : List Part
     parts : parts_of (lines_in text) ≡ parts_of (lines_in before) ++ later
-    some : ends_among before raws ≡ true → (from : ℕ) → from ≤ length before → prepared_parts text net settled from later ≡ drop from before ++ put before raws
+    some : ends_among before raws ≡ true → (from : ℕ) → from ≤ length before →
+        prepared_parts text net settled from later ≡ drop from before ++ put before raws
     none : ends_among before raws ≡ false → later ≡ []
 
   -- a line that is no `end` line outside banners
@@ -57,8 +60,10 @@ module _ (net : Network) (settled : List SettledRouter) (text : List ℕ) where
       }
 
   -- an `end` line outside banners
-  ends_behind : (before raw : List ℕ) (raws : List (List ℕ)) (line : TextLine) → IsOutsideBanners before → IsWholeBefore raw raws → AreRaw (raw ∷ raws) →
-      before ++ (raw ++ joined_raw raws) ≡ text → lines_in raw ≡ line ∷ [] → line.number ≡ 1 → is_end line ≡ true → ends_here before raw ≡ true →
+  ends_behind : (before raw : List ℕ) (raws : List (List ℕ)) (line : TextLine) → IsOutsideBanners before → IsWholeBefore raw raws →
+      AreRaw (raw ∷ raws) →
+      before ++ (raw ++ joined_raw raws) ≡ text → lines_in raw ≡ line ∷ [] → line.number ≡ 1 → is_end line ≡ true →
+      ends_here before raw ≡ true →
       Behind (before ++ raw) raws → Behind before (raw ∷ raws)
   ends_behind before raw raws line outside whole are split is first e here rest =
       let n : ℕ = length (lines_in before) in
@@ -69,7 +74,8 @@ module _ (net : Network) (settled : List SettledRouter) (text : List ℕ) where
       sym (ap (λ (t : List ℕ). start_of t (n + line.number)) split)
       ∙ next_begins before (raw ∷ raws) (n + line.number) outside.whole are (omega (arith, first)) in
       let counted : length (lines_in (before ++ raw)) ≡ n + 1 =
-      ap (λ (l : List TextLine). length l) (lines_in-append before raw outside.whole ∙ ap (λ (l : List TextLine). lines_in before ++ map (further_on n) l) is)
+      ap (λ (l : List TextLine). length l) (lines_in-append before raw outside.whole
+      ∙ ap (λ (l : List TextLine). lines_in before ++ map (further_on n) l) is)
       ∙ length-append (lines_in before) (further_on n line ∷ []) in
       let next : start_of text (n + line.number + 1) ≡ length (before ++ raw) =
       sym (ap (λ (t : List ℕ). start_of t (n + line.number + 1)) joined)
@@ -111,7 +117,8 @@ module _ (net : Network) (settled : List SettledRouter) (text : List ℕ) where
       by_more false more = ap (prepared_parts text net settled (length (before ++ raw))) (rest.none more)
           ∙ sym (put_none net settled (before ++ raw) raws more)
 
-  all_behind : (raws : List (List ℕ)) (before : List ℕ) → IsWholeBefore before raws → AreRaw raws → before ++ joined_raw raws ≡ text → Behind before raws
+  all_behind : (raws : List (List ℕ)) (before : List ℕ) → IsWholeBefore before raws → AreRaw raws →
+      before ++ joined_raw raws ≡ text → Behind before raws
   all_behind [] before whole are split =
       let same : before ≡ text = sym (append-nil before) ∙ split in
       record {

@@ -1,5 +1,6 @@
 -- A prepared text reads as the prepared configurations, and with its last line feed another text may stand behind it.
-use Rattle.std.proofs.Common.{◌≡◌, ℕ, ◌+◌, ◌<◌, ◌≤◌, Bool, true, false, not, cond, List, [], ◌∷◌, ◌++◌, length, map, drop, refl, sym, ap}
+use Rattle.std.proofs.Common.{◌≡◌, ℕ, ◌+◌, ◌<◌, ◌≤◌, Bool, true, false, not, cond, List, [], ◌∷◌, ◌++◌, length, map, drop}
+use Rattle.std.proofs.Common.{refl, sym, ap}
 use Rattle.std.proofs.Common.{subst, ◌∙◌, append_assoc, append-nil, length-append, arith}
 use Rattle.std.specs.Prelude.{All, Contains}
 use Rattle.std.specs.List.{position_or_len}
@@ -15,6 +16,7 @@ use Rattle.net_addr.proofs.PieceFacts.{line_pieces-first}
 use Rattle.net_addr.proofs.PlacedPieces.{text_lines-texts}
 use Rattle.net_model.specs.Configuration.{Configuration}
 use Rattle.net_model.specs.Network.{Network}
+use Rattle.printed_lines.proofs.TextSteps.{ends_whole}
 use Rattle.ios_sections.specs.TextLines.{TextLine, Part, text_line, lines_in, parts_of}
 use Rattle.ios_sections.specs.Sections.{sections_in}
 use Rattle.ios_sections.specs.JoinedLines.{further_on, begins_with_end}
@@ -29,7 +31,8 @@ use Rattle.design_file.specs.declared.settled.SettledRouter.{SettledRouter}
 use Rattle.isis_writer.specs.Prepared.{prepared_text}
 use Rattle.isis_writer.specs.PreparedConfigurations.{prepared, IsToPrepare, PreparedTextLaw, with_last_feed, IsReadBefore, PreparedBeforeLaw, AreToPrepare}
 use Rattle.isis_writer.specs.PreparedConfigurations.{prepared_texts, PreparedTextsLaw}
-use Rattle.isis_writer.proofs.PreparedLines.{ends_among, put_lines, none_ends, EndsWithEnd, ReadsPrepared, put_all}
+use Rattle.ios_reader.proofs.PutBlocks.{EndsWithEnd}
+use Rattle.isis_writer.proofs.PreparedLines.{ends_among, put_lines, none_ends, ReadsPrepared, put_all}
 use Rattle.isis_writer.proofs.PreparedPlaces.{prepared_by_parts}
 
 -- ---- the text ----
@@ -62,9 +65,9 @@ module _ (text : List ℕ) (net : Network) (settled : List SettledRouter) (confi
   put_is : prepared_text text net settled ≡ put_lines net settled [] raws
   put_is = prepared_by_parts net settled text raws (whole_start raws) (are_raw text) (raw_joined text) some_end
 
-  put : ReadsPrepared net settled given.names given.fits (put_lines net settled [] raws) configurations
+  put : ReadsPrepared net settled (put_lines net settled [] raws) configurations
   put =
-      put_all net settled given.names given.fits raws configurations (whole_start raws) (are_raw text) given.among
+      put_all net settled given.names given.fits raws configurations (are_raw text) given.among
       (subst (λ t. ReadsText t configurations) (sym (raw_joined text)) given.reads) some_end
 
   reads_prepared : ReadsText (prepared_text text net settled) (map (prepared net settled) configurations)
@@ -77,11 +80,6 @@ pub prepared_text_reads : PreparedTextLaw
 prepared_text_reads text net settled configurations given = reads_prepared text net settled configurations given
 
 -- ---- its last line feed ----
-
-ends_whole : (xs : List ℕ) → is_of_whole_lines (xs ++ 10 ∷ []) ≡ true
-ends_whole [] = refl
-ends_whole (b ∷ []) = refl
-ends_whole (b ∷ next ∷ more) = ends_whole (next ∷ more)
 
 whole_back : (xs ys : List ℕ) → 0 < length ys → is_of_whole_lines (xs ++ ys) ≡ is_of_whole_lines ys
 whole_back [] ys some = refl
@@ -96,8 +94,10 @@ not_ended [] some off one = absurd (omega (arith, some))
 not_ended (b ∷ []) some off one = ap (λ (t : Bool). cond (not t) (1 + 0) 0) off
 not_ended (b ∷ next ∷ more) some off one = by_feed (is_line_feed b) refl one (λ h. not_ended (next ∷ more) (omega arith) off h)
   where
-    by_feed : (t : Bool) → is_line_feed b ≡ t → length (b ∷ next ∷ more) ≤ cond (not t) (1 + position_or_len is_line_feed (next ∷ more)) 0 + 1 →
-        (length (next ∷ more) ≤ position_or_len is_line_feed (next ∷ more) + 1 → position_or_len is_line_feed (next ∷ more) ≡ length (next ∷ more)) →
+    by_feed : (t : Bool) → is_line_feed b ≡ t → length (b ∷ next ∷ more) ≤ cond (not t) (1 + position_or_len is_line_feed (next ∷ more)) 0
+        + 1 →
+        (length (next ∷ more) ≤ position_or_len is_line_feed (next ∷ more) + 1 →
+        position_or_len is_line_feed (next ∷ more) ≡ length (next ∷ more)) →
         cond (not t) (1 + position_or_len is_line_feed (next ∷ more)) 0 ≡ length (b ∷ next ∷ more)
     by_feed true e one later = absurd (omega (arith, one))
     by_feed false e one later =
@@ -158,13 +158,15 @@ before_others text configurations ends reads = by_whole (is_of_whole_lines text)
   where
     by_whole : (b : Bool) → is_of_whole_lines text ≡ b → IsReadBefore (cond b text (text ++ 10 ∷ [])) configurations
     by_whole true e =
-        let last_whole : is_of_whole_lines ends.last ≡ true = sym (whole_back ends.front ends.last ends.raw.some) ∙ sym (ap is_of_whole_lines ends.is) ∙ e in
+        let last_whole : is_of_whole_lines ends.last ≡ true =
+        sym (whole_back ends.front ends.last ends.raw.some) ∙ sym (ap is_of_whole_lines ends.is) ∙ e in
         let closed : IsClosed (ends.front ++ ends.last) =
         closed_text ends.front ends.last ends.outside
         (record { whole = last_whole; one = ap (λ (ls : List TextLine). length ls) ends.one; ends = ap begins_with_end ends.one ∙ ends.ends }) in
         record { closed = subst IsClosed (sym ends.is) closed; reads = reads }
     by_whole false e =
-        let last_open : is_of_whole_lines ends.last ≡ false = sym (whole_back ends.front ends.last ends.raw.some) ∙ sym (ap is_of_whole_lines ends.is) ∙ e in
+        let last_open : is_of_whole_lines ends.last ≡ false =
+        sym (whole_back ends.front ends.last ends.raw.some) ∙ sym (ap is_of_whole_lines ends.is) ∙ e in
         let same : lines_in (ends.last ++ 10 ∷ []) ≡ lines_in ends.last = same_line ends.last ends.raw last_open in
         let joined : text ++ 10 ∷ [] ≡ ends.front ++ (ends.last ++ 10 ∷ []) = ap (λ (t : List ℕ). t ++ 10 ∷ []) ends.is
         ∙ append_assoc ends.front ends.last (10 ∷ []) in
@@ -204,40 +206,40 @@ back_all P (x ∷ xs) ys all = back_all P xs ys (All-tail P x (xs ++ ys) all)
 -- the first of some prepared texts
 first_read : (text : List ℕ) (texts : List (List ℕ)) (net : Network) (settled : List SettledRouter) (configurations : List Configuration) →
     (given : AreToPrepare (text ∷ texts) net settled configurations) →
-    IsReadBefore (with_last_feed (prepared_text text net settled)) (map (prepared net settled) given.read.first)
+    IsReadBefore (with_last_feed (prepared_text text net settled)) (map (prepared net settled) given.read.one)
 first_read text texts net settled configurations given =
-    let all : All (λ (c : Configuration). Contains net c) (given.read.first ++ given.read.others) =
+    let all : All (λ (c : Configuration). Contains net c) (given.read.one ++ given.read.others) =
     subst (λ l. All (λ (c : Configuration). Contains net c) l) given.read.all given.among in
-    prepared_before_others text net settled given.read.first
+    prepared_before_others text net settled given.read.one
     (record {
       names = given.names;
       fits = given.fits;
-      among = front_all (λ (c : Configuration). Contains net c) given.read.first given.read.others all;
+      among = front_all (λ (c : Configuration). Contains net c) given.read.one given.read.others all;
       reads = given.read.reads;
     })
 
 pub prepared_texts_read : PreparedTextsLaw
 prepared_texts_read text [] net settled configurations given =
-    let own : IsReadBefore (with_last_feed (prepared_text text net settled)) (map (prepared net settled) given.read.first) =
+    let own : IsReadBefore (with_last_feed (prepared_text text net settled)) (map (prepared net settled) given.read.one) =
     first_read text [] net settled configurations given in
-    let alone : configurations ≡ given.read.first =
-    given.read.all ∙ ap (λ l. given.read.first ++ l) given.read.rest ∙ append-nil given.read.first in
+    let alone : configurations ≡ given.read.one =
+    given.read.all ∙ ap (λ l. given.read.one ++ l) given.read.rest ∙ append-nil given.read.one in
     subst (λ t. ReadsText t (map (prepared net settled) configurations)) (sym (append-nil (with_last_feed (prepared_text text net settled))))
     (subst (λ l. ReadsText (with_last_feed (prepared_text text net settled)) (map (prepared net settled) l)) (sym alone) own.reads)
 prepared_texts_read text (next ∷ texts) net settled configurations given =
-    let own : IsReadBefore (with_last_feed (prepared_text text net settled)) (map (prepared net settled) given.read.first) =
+    let own : IsReadBefore (with_last_feed (prepared_text text net settled)) (map (prepared net settled) given.read.one) =
     first_read text (next ∷ texts) net settled configurations given in
-    let all : All (λ (c : Configuration). Contains net c) (given.read.first ++ given.read.others) =
+    let all : All (λ (c : Configuration). Contains net c) (given.read.one ++ given.read.others) =
     subst (λ l. All (λ (c : Configuration). Contains net c) l) given.read.all given.among in
     let others : ReadsText (prepared_texts net settled (next ∷ texts)) (map (prepared net settled) given.read.others) =
     prepared_texts_read next texts net settled given.read.others
     (record {
       names = given.names;
       fits = given.fits;
-      among = back_all (λ (c : Configuration). Contains net c) given.read.first given.read.others all;
+      among = back_all (λ (c : Configuration). Contains net c) given.read.one given.read.others all;
       read = given.read.rest;
     }) in
-    let split : map (prepared net settled) configurations ≡ map (prepared net settled) given.read.first ++ map (prepared net settled) given.read.others =
-    ap (map (prepared net settled)) given.read.all ∙ map-append (prepared net settled) given.read.first given.read.others in
+    let split : map (prepared net settled) configurations ≡ map (prepared net settled) given.read.one ++ map (prepared net settled) given.read.others =
+    ap (map (prepared net settled)) given.read.all ∙ map-append (prepared net settled) given.read.one given.read.others in
     subst (λ l. ReadsText (prepared_texts net settled (text ∷ next ∷ texts)) l) (sym split)
     (joined_texts (with_last_feed (prepared_text text net settled)) (prepared_texts net settled (next ∷ texts)) _ _ own.closed own.reads others)

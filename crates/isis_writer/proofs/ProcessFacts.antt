@@ -61,7 +61,8 @@ module _ {B : Type 0} (form : IsisLine → Option B) where
 
 -- ---- passive interfaces ----
 
-unnamed_passive : (name : Word) (ts : List SettledInterface) → settled_for name ts ≡ None → last_of (isis_passive_said name) (flat_map passive_says ts) ≡ None
+unnamed_passive : (name : Word) (ts : List SettledInterface) → settled_for name ts ≡ None →
+    last_of (isis_passive_said name) (flat_map passive_says ts) ≡ None
 unnamed_passive name [] none = refl
 unnamed_passive name (t ∷ ts) none = by_name (bytes_eq t.name name) refl none (λ h. unnamed_passive name ts h)
   where
@@ -102,7 +103,8 @@ named_passive name (u ∷ ts) t apart found = by_name (bytes_eq u.name name) ref
         last_of (isis_passive_said name) (passive_says u ++ flat_map passive_says ts) ≡ passive_fact t.passive
     by_name true e found rest =
         let same : u ≡ t = cc in
-        let none : settled_for name ts ≡ None = none_behind name ts (subst (λ (n : Word). has n (names_in ts) ≡ false) (same_name u.name name e) apart.0) in
+        let none : settled_for name ts ≡ None =
+        none_behind name ts (subst (λ (n : Word). has n (names_in ts) ≡ false) (same_name u.name name e) apart.0) in
         last_of-append (isis_passive_said name) (passive_says u) (flat_map passive_says ts)
         ∙ ap (later (last_of (isis_passive_said name) (passive_says u))) (unnamed_passive name ts none) ∙ passive_here e u.passive
         ∙ ap (λ (v : SettledInterface). passive_fact v.passive) same
@@ -221,7 +223,8 @@ module _ (number : ℕ) (router : SettledRouter) (n : ℕ) where
   later_fine : list_all (λ (l : IsisLine). is_none (isis_line_fault l)) (later_says router) ≡ true
   later_fine =
       list_all-append (λ (l : IsisLine). is_none (isis_line_fault l)) (leak_says router.leak) (flat_map passive_says router.interfaces)
-      ∙ and_from (list_all (λ (l : IsisLine). is_none (isis_line_fault l)) (leak_says router.leak)) _ (leak_fine router.leak) (passives_fine router.interfaces)
+      ∙ and_from (list_all (λ (l : IsisLine). is_none (isis_line_fault l)) (leak_says router.leak)) _ (leak_fine router.leak)
+      (passives_fine router.interfaces)
 
   pub lines_fine : flat_map isis_statement_faults lines ≡ []
   lines_fine = no_fault_numbered n says later_fine
@@ -250,12 +253,14 @@ module _ (number : ℕ) (router : SettledRouter) (n : ℕ) where
   no_net_numbered m [] none = refl
   no_net_numbered m (l ∷ ls) none =
       let parts = or_parts (is_net_line l) (list_any is_net_line ls) none in
-      ap (λ (b : Bool). cond b (record { line = m; says = l } ∷ filter is_net (isis_says_from (m + 1) ls)) (filter is_net (isis_says_from (m + 1) ls))) parts.0
+      ap (λ (b : Bool). cond b (record { line = m; says = l } ∷ filter is_net (isis_says_from (m + 1) ls)) (filter is_net (isis_says_from (m + 1) ls)))
+      parts.0
       ∙ no_net_numbered (m + 1) ls parts.1
 
   pub one_title : second_titles lines ≡ []
   one_title =
-      ap (λ (l : List IsisStatement). map (λ (s : IsisStatement). fault_at s.line Unsupported) (drop 1 (record { line = n; says = Net (Some its_title) } ∷ l)))
+      ap (λ (l : List IsisStatement). map (λ (s : IsisStatement). fault_at s.line Unsupported)
+      (drop 1 (record { line = n; says = Net (Some its_title) } ∷ l)))
       (no_net_numbered (n + 1 + 1 + 1 + 1) (later_says router) later_no_net)
 
   pub lacks_none : (first : ℕ) → lacking (Some first) lines ≡ []

@@ -1,5 +1,6 @@
 -- The text that is written for a router: a block, with a section of the IS-IS process and one of each interface.
-use Rattle.std.proofs.Common.{◌≡◌, ℕ, ◌+◌, Bool, true, false, cond, List, [], ◌∷◌, ◌++◌, length, map, Some, None, refl, sym, ap, subst, ◌∙◌}
+use Rattle.std.proofs.Common.{◌≡◌, ℕ, ◌+◌, Bool, true, false, cond, List, [], ◌∷◌, ◌++◌, length, map, Some, None, refl, sym, ap, subst}
+use Rattle.std.proofs.Common.{◌∙◌}
 use Rattle.std.proofs.Common.{bytes_eq}
 use Rattle.std.specs.Prelude.{fold}
 use Rattle.std.specs.List.{list_all, flat_map}
@@ -28,7 +29,8 @@ use Rattle.design_file.specs.declared.settled.SettledInterface.{SettledInterface
 use Rattle.design_file.specs.declared.settled.SettledRouter.{SettledRouter}
 use Rattle.isis_writer.specs.RouterLines.{has_old_line, interface_lines, process_lines, router_lines}
 use Rattle.isis_writer.specs.PreparedConfigurations.{settled_for}
-use Rattle.isis_writer.proofs.WrittenSections.{is_fine_line, section_lines_from, section_text, section_fits, section_says}
+use Rattle.printed_sections.specs.PrintedSections.{is_fine_line, section_lines_from, section_text}
+use Rattle.printed_sections.proofs.SectionFacts.{section_fits, section_says}
 use Rattle.isis_writer.proofs.RouterWords.{interface_bodies, interface_head, interface_written, interface_says, interface_read, interface_bodies_fine}
 use Rattle.isis_writer.proofs.RouterWords.{interface_head_fine, interface_head_reads, process_bodies, process_head_words, process_written, process_says}
 use Rattle.isis_writer.proofs.RouterWords.{process_read, process_bodies_fine, AreNamed}
@@ -204,7 +206,8 @@ none_behind name (t ∷ ts) none =
     let parts = or_parts (bytes_eq name t.name) (has name (names_in ts)) none in
     by_test (bytes_eq t.name name) refl parts.0 (none_behind name ts parts.1)
   where
-    by_test : (b : Bool) → bytes_eq t.name name ≡ b → bytes_eq name t.name ≡ false → settled_for name ts ≡ None → cond b (Some t) (settled_for name ts) ≡ None
+    by_test : (b : Bool) → bytes_eq t.name name ≡ b → bytes_eq name t.name ≡ false → settled_for name ts ≡ None →
+        cond b (Some t) (settled_for name ts) ≡ None
     by_test false e off rest = rest
     by_test true e off rest =
         let again : bytes_eq t.name t.name ≡ false = subst (λ (n : Word). bytes_eq n t.name ≡ false) (sym (same_name t.name name e)) off in

@@ -189,8 +189,10 @@ module _ (name : Option Word) (is : List InterfaceSection) (ospf : List OspfSect
         }) process_same
         ∙ ap (λ (l : List IsisStatement). by_parts (map (interface_as_read (router_with process ours l)) longer) (title_in l)
         (router_with process ours l).levels (leaks_in l) (distance_in l)) lines_same
-        ∙ ap (λ (i : List Interface). by_parts i (title_in others) (after process ours others).levels (leaks_in others) (distance_in others)) interfaces_read
-        ∙ ap (λ o. by_parts its (title_given o) (after process ours others).levels (leaks_in others) (distance_in others)) (title_is number router (count + 2))
+        ∙ ap (λ (i : List Interface). by_parts i (title_in others) (after process ours others).levels (leaks_in others) (distance_in others))
+        interfaces_read
+        ∙ ap (λ o. by_parts its (title_given o) (after process ours others).levels (leaks_in others) (distance_in others))
+        (title_is number router (count + 2))
         ∙ ap (λ (l : Levels). by_parts its title l (leaks_in others) (distance_in others)) levels_read
         ∙ ap (λ (b : Bool). by_parts its title router.levels b (distance_in others)) (leak_is number router (count + 2))
         ∙ ap (λ o. by_parts its title router.levels router.leak (value_or o ISIS_DISTANCE)) (distance_is number router (count + 2))
@@ -250,7 +252,8 @@ router_grows part ends number router fine fits =
           (interfaces_grow ss (written_process count number router) (js count)
           ∙ all_grown (js count) is apart (are_among is (behind_process count number router) router.interfaces (names_of is) well.among))
           (ospf_stays ss (written_process count number router) (js count))
-          (isis_grows ss (written_process count number router) (js count) ∙ ap (λ (l : List IsisSection). l ++ written_process count number router ∷ []) none)
+          (isis_grows ss (written_process count number router) (js count)
+          ∙ ap (λ (l : List IsisSection). l ++ written_process count number router ∷ []) none)
           (heads_stay ss (written_process count number router) (js count))
           (grown_fine name is ospf heads ends count number (behind_process count number router) router (all count) known);
       made = λ count.
@@ -262,6 +265,7 @@ router_grows part ends number router fine fits =
           (interfaces_grow ss (written_process count number router) (js count)
           ∙ all_grown (js count) is apart (are_among is (behind_process count number router) router.interfaces (names_of is) well.among))
           (ospf_stays ss (written_process count number router) (js count))
-          (isis_grows ss (written_process count number router) (js count) ∙ ap (λ (l : List IsisSection). l ++ written_process count number router ∷ []) none))
+          (isis_grows ss (written_process count number router) (js count)
+          ∙ ap (λ (l : List IsisSection). l ++ written_process count number router ∷ []) none))
           ∙ ap (λ (l : List Section). configuration_of (ss ++ l)) (sym (block.says count));
     }

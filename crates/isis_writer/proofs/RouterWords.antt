@@ -1,11 +1,10 @@
 -- The lines that are written for a router, by their words, and what they say.
-use Rattle.std.proofs.Common.{◌≡◌, ℕ, ◌<◌, ◌≤◌, ◌^◌, Bool, true, false, not, ◌&&◌, cond, List, [], ◌∷◌, ◌++◌, length, map, Option, Some, None}
+use Rattle.std.proofs.Common.{◌≡◌, ℕ, ◌<◌, ◌≤◌, ◌^◌, Bool, true, false, not, ◌&&◌, cond, List, [], ◌∷◌, ◌++◌, length, map}
+use Rattle.std.proofs.Common.{Option, Some, None}
 use Rattle.std.proofs.Common.{Ok, Err, refl, sym, ap, ◌∙◌, append-nil, arith, codes, bytes_eq, nat_eq, nat_le, nat_lt, decimal}
-use Rattle.std.specs.Prelude.{All}
 use Rattle.std.specs.List.{list_all, list_any, flat_map}
-use Rattle.std.proofs.lemmas.List.Elements.{All-head, All-tail}
 use Rattle.ios_lines.specs.declared.title.Title.{Title}
-use Rattle.std.specs.Char.{IsAsciiDigit, is_ascii_digit}
+use Rattle.std.specs.Char.{is_ascii_digit}
 use Rattle.std.proofs.lemmas.Bool.{and_parts, and_from, le-leb, not-true}
 use Rattle.std.proofs.lemmas.Bool.Decides.{nat_tests}
 use Rattle.std.proofs.lemmas.List.{map-append}
@@ -14,7 +13,7 @@ use Rattle.net_model.specs.declared.bounds.TheConstants.{MOST_DISTANCE, MOST_MET
 use Rattle.net_model.specs.declared.config.Levels.{Levels}
 use Rattle.net_model.specs.declared.config.Levels.TheVariants.{One, Two, Both}
 use Rattle.printed_lines.specs.Words.{spaced, joined}
-use Rattle.printed_lines.proofs.NumberFacts.{decimal-IsNumeral, numbers_read_back}
+use Rattle.printed_lines.proofs.NumberFacts.{numbers_read_back}
 use Rattle.ios_lines.specs.Words.{Word, is_printable, levels_of, at_least, number_from}
 use Rattle.ios_lines.specs.Heads.{head_of, is_interface_name, interface_of}
 use Rattle.ios_lines.specs.InterfaceLines.{interface_line}
@@ -31,36 +30,13 @@ use Rattle.design_file.specs.Values.{is_area}
 use Rattle.design_file.specs.declared.settled.SettledInterface.{SettledInterface}
 use Rattle.design_file.specs.declared.settled.SettledRouter.{SettledRouter}
 use Rattle.isis_writer.specs.PreparedConfigurations.{system_id}
-use Rattle.isis_writer.specs.RouterLines.{level_word, title, leak_lines, passive_lines, process_lines, run_lines, circuit_lines, level_lines, metric_line}
-use Rattle.isis_writer.specs.RouterLines.{level_metric_lines, interface_lines, distance_line, style_line, type_line, title_line}
+use Rattle.isis_writer.specs.RouterLines.{level_word, title, leak_lines, passive_lines, process_lines, run_lines, circuit_lines, level_lines, isis_metric_line}
+use Rattle.isis_writer.specs.RouterLines.{level_metric_lines, interface_lines, idle_distance_line, style_line, type_line, title_line}
 use Rattle.isis_writer.proofs.TitleWords.{router_title, title_fine}
-use Rattle.isis_writer.proofs.WrittenSections.{is_fine, is_fine_line}
+use Rattle.printed_sections.specs.PrintedSections.{is_fine, is_fine_line}
+use Rattle.printed_sections.proofs.SectionFacts.{number_fine}
 
 -- ---- words ----
-
-digits_printable : (b : ℕ) → IsAsciiDigit b → is_printable b ≡ true
-digits_printable b digit = and_from (nat_le 33 b) (nat_le b 126) (le-leb 33 b (let low = digit.0 in omega (arith, low)))
-    (le-leb b 126 (let high = digit.1 in omega (arith, high)))
-
-all_printable : (word : Word) → All IsAsciiDigit word → list_all is_printable word ≡ true
-all_printable [] digits = refl
-all_printable (b ∷ word) digits =
-    and_from (is_printable b) (list_all is_printable word) (digits_printable b (All-head IsAsciiDigit b word digits))
-    (all_printable word (All-tail IsAsciiDigit b word digits))
-
-some_test : (n : ℕ) → 0 < n → nat_lt 0 n ≡ true
-some_test n some = grind (arith, nat_tests)
-
-number_fine : (n : ℕ) → n < 2 ^ 64 → is_fine (decimal n) ≡ true
-number_fine n small =
-    let numeral = decimal-IsNumeral n small in
-    and_from (nat_lt 0 (length (decimal n))) (list_all is_printable (decimal n)) (some_test (length (decimal n)) numeral.some)
-    (all_printable (decimal n) numeral.digits)
-
-levels_fine : (levels : Levels) → is_fine (level_word levels) ≡ true
-levels_fine One = refl
-levels_fine Two = refl
-levels_fine Both = refl
 
 levels_read : (levels : Levels) → levels_of (level_word levels) ≡ Ok levels
 levels_read One = refl
@@ -130,7 +106,8 @@ levels_spaced old (Some levels) = refl
 levels_spaced true None = refl
 levels_spaced false None = refl
 
-circuits_spaced : (old passive : Bool) (circuit : Option Levels) → map spaced (circuit_bodies old passive circuit) ≡ cond passive [] (level_lines old circuit)
+circuits_spaced : (old passive : Bool) (circuit : Option Levels) → map spaced (circuit_bodies old passive circuit) ≡ cond passive []
+    (level_lines old circuit)
 circuits_spaced old true circuit = refl
 circuits_spaced old false circuit = levels_spaced old circuit
 
@@ -143,14 +120,15 @@ pub interface_written : (old : Bool) (i : SettledInterface) → interface_lines 
 interface_written old i =
     let rest : List (List Word) = metric_words i.metric [] ∷ level_metric_words old i.metric in
     let circuits : List (List Word) = circuit_bodies old i.passive i.circuit in
-    let metrics : map spaced rest ≡ metric_line i.metric [] ∷ level_metric_lines old i.metric =
-    ap (λ (l : List (List ℕ)). metric_line i.metric [] ∷ l) (metrics_spaced old i.metric) in
-    let later : map spaced (circuits ++ rest) ≡ circuit_lines old i ++ metric_line i.metric [] ∷ level_metric_lines old i.metric =
+    let metrics : map spaced rest ≡ isis_metric_line i.metric [] ∷ level_metric_lines old i.metric =
+    ap (λ (l : List (List ℕ)). isis_metric_line i.metric [] ∷ l) (metrics_spaced old i.metric) in
+    let later : map spaced (circuits ++ rest) ≡ circuit_lines old i ++ isis_metric_line i.metric [] ∷ level_metric_lines old i.metric =
     map-append spaced circuits rest ∙ ap (λ (l : List (List ℕ)). l ++ map spaced rest) (circuits_spaced old i.passive i.circuit)
     ∙ ap (λ (l : List (List ℕ)). circuit_lines old i ++ l) metrics in
     ap (λ (l : List (List ℕ)). joined (interface_head i.name) ∷ l)
     (sym (map-append spaced (run_words i.passive) (circuits ++ rest)
-    ∙ ap (λ (l : List (List ℕ)). l ++ map spaced (circuits ++ rest)) (runs_spaced i.passive) ∙ ap (λ (l : List (List ℕ)). run_lines i.passive ++ l) later))
+    ∙ ap (λ (l : List (List ℕ)). l ++ map spaced (circuits ++ rest)) (runs_spaced i.passive)
+    ∙ ap (λ (l : List (List ℕ)). run_lines i.passive ++ l) later))
 
 -- what they say
 abbrev run_says : Bool → List InterfaceLine
@@ -242,7 +220,8 @@ metrics_fine false metric fine = refl
 one_metric_fine : (metric : ℕ) → is_fine (decimal metric) ≡ true → is_fine_line (metric_words metric []) ≡ true
 one_metric_fine metric fine = ap (λ (b : Bool). (b && true) && true && true && true) fine
 
-both_fine : (xs ys : List (List Word)) → list_all is_fine_line xs ≡ true → list_all is_fine_line ys ≡ true → list_all is_fine_line (xs ++ ys) ≡ true
+both_fine : (xs ys : List (List Word)) → list_all is_fine_line xs ≡ true → list_all is_fine_line ys ≡ true →
+    list_all is_fine_line (xs ++ ys) ≡ true
 both_fine xs ys one two = list_all-append is_fine_line xs ys ∙ and_from (list_all is_fine_line xs) (list_all is_fine_line ys) one two
 
 pub interface_bodies_fine : (old passive : Bool) (circuit : Option Levels) (metric : ℕ) → IsMetric metric →
@@ -328,7 +307,7 @@ pub process_written : (number : ℕ) (router : SettledRouter) → process_lines 
     (process_bodies number router)
 process_written number router =
     ap (λ (l : List (List ℕ)). joined process_head_words ∷ title_line router.area number ∷ type_line
-    router.levels ∷ style_line ∷ distance_line ∷ l) (sym (later_spaced router))
+    router.levels ∷ style_line ∷ idle_distance_line ∷ l) (sym (later_spaced router))
 
 -- what they say
 abbrev pub leak_says : Bool → List IsisLine
@@ -390,7 +369,8 @@ process_read number router area named =
     let its : Option Title = Some (record { area = router.area; system = system_id number }) in
     ap (λ t. Net t ∷ LevelsLine (levels_of (level_word router.levels)) ∷ MetricStyle true ∷ isis_line distance_words ∷ map isis_line
     (later_words router)) (router_title router.area number area)
-    ∙ ap (λ r. Net its ∷ LevelsLine r ∷ MetricStyle true ∷ isis_line distance_words ∷ map isis_line (later_words router)) (levels_read router.levels)
+    ∙ ap (λ r. Net its ∷ LevelsLine r ∷ MetricStyle true ∷ isis_line distance_words ∷ map isis_line (later_words router))
+    (levels_read router.levels)
     ∙ ap (λ d. Net its ∷ LevelsLine (Ok router.levels) ∷ MetricStyle true ∷ d ∷ map isis_line (later_words router)) distance_read
     ∙ ap (λ (l : List IsisLine). Net its ∷ LevelsLine (Ok router.levels) ∷ MetricStyle true ∷ Distance (Ok MOST_DISTANCE) ∷ l) later
 
@@ -417,7 +397,8 @@ pub process_bodies_fine : (number : ℕ) (router : SettledRouter) → is_area ro
 process_bodies_fine number router area named =
     and_from (is_fine_line (title_words router.area number)) (list_all is_fine_line (first_bodies number router))
     (ap (λ (b : Bool). (b && true) && true && true && true) (title_fine router.area number area))
-    (and_from (is_fine_line (type_words router.levels)) (list_all is_fine_line (style_words ∷ distance_words ∷ later_words router)) (type_fine router.levels)
+    (and_from (is_fine_line (type_words router.levels)) (list_all is_fine_line (style_words ∷ distance_words ∷ later_words router))
+    (type_fine router.levels)
     (and_from (is_fine_line distance_words) (list_all is_fine_line (later_words router))
     (ap (λ (b : Bool). (b && true) && true && true && true) (number_fine MOST_DISTANCE (omega arith)))
     (both_fine (leak_words router.leak) (flat_map passive_words router.interfaces) (leaks_fine router.leak) (passives_fine router.interfaces named))))

@@ -1,5 +1,6 @@
 -- The network entity title that is written reads as its area and its system id.
-use Rattle.std.proofs.Common.{◌≡◌, ℕ, ◌+◌, ◌-◌, ◌*◌, ◌/◌, ◌%◌, ◌<◌, ◌≤◌, Bool, true, false, ◌&&◌, cond, List, [], ◌∷◌, ◌++◌, length, take}
+use Rattle.std.proofs.Common.{◌≡◌, ℕ, ◌+◌, ◌-◌, ◌*◌, ◌/◌, ◌%◌, ◌<◌, ◌≤◌, Bool, true, false, ◌&&◌, cond, List, []}
+use Rattle.std.proofs.Common.{◌∷◌, ◌++◌, length, take}
 use Rattle.std.proofs.Common.{drop, Option, Some, None, refl, ap, ap₂, ◌∙◌, append_assoc, length-append, arith, codes, bytes_eq, nat_eq, nat_le}
 use Rattle.std.proofs.Common.{nat_lt}
 use Rattle.std.specs.List.{list_all}
@@ -14,7 +15,7 @@ use Rattle.ios_lines.specs.declared.title.Title.{Title}
 use Rattle.design_file.specs.Values.{is_area}
 use Rattle.isis_writer.specs.RouterLines.{four_digits, title}
 use Rattle.isis_writer.specs.PreparedConfigurations.{system_id}
-use Rattle.isis_writer.proofs.WrittenSections.{is_fine}
+use Rattle.printed_sections.specs.PrintedSections.{is_fine}
 
 -- ---- digits ----
 
@@ -73,7 +74,8 @@ four true false r s a b c d = absurd cc
 four true true false s a b c d = absurd cc
 four true true true false a b c d = absurd cc
 
-groups_good : (a b c d : ℕ) → is_hex a ≡ true → is_hex b ≡ true → is_hex c ≡ true → is_hex d ≡ true → grouped_from 0 (groups a b c d) ≡ true
+groups_good : (a b c d : ℕ) → is_hex a ≡ true → is_hex b ≡ true → is_hex c ≡ true → is_hex d ≡ true →
+    grouped_from 0 (groups a b c d) ≡ true
 groups_good a b c d ha hb hc hd = four (is_hex a) (is_hex b) (is_hex c) (is_hex d) ha hb hc hd
 
 groups_printable : (a b c d : ℕ) → is_printable a ≡ true → is_printable b ≡ true → is_printable c ≡ true → is_printable d ≡ true →
@@ -154,11 +156,13 @@ title_joined area number = ap (λ (w : Word). w ++ codes ".00") (append_assoc ar
 same_number : (a b c d w x y z : ℕ) → a ≡ w → b ≡ x → c ≡ y → d ≡ z → number_by a b c d ≡ number_by w x y z
 same_number a b c d w x y z p q r s = omega arith
 
-pub router_title : (area : Word) (number : ℕ) → is_area area ≡ true → title_of (title area number) ≡ Some (record { area = area; system = system_id number })
+pub router_title : (area : Word) (number : ℕ) → is_area area ≡ true →
+    title_of (title area number) ≡ Some (record { area = area; system = system_id number })
 router_title area number is =
     let n : ℕ = number + 1 in
     let parts = area_short area is in
-    let value : number_by (hex_value (digit (n / 1000))) (hex_value (digit (n / 100))) (hex_value (digit (n / 10))) (hex_value (digit n)) ≡ system_id number =
+    let value : number_by (hex_value (digit (n / 1000))) (hex_value (digit (n / 100))) (hex_value (digit (n / 10)))
+    (hex_value (digit n)) ≡ system_id number =
     same_number _ _ _ _ (n / 1000 % 10) (n / 100 % 10) (n / 10 % 10) (n % 10)
     (digit_value (n / 1000 % 10) (omega arith)) (digit_value (n / 100 % 10) (omega arith)) (digit_value (n / 10 % 10) (omega arith))
     (digit_value (n % 10) (omega arith)) in

@@ -1,3 +1,4 @@
+pub mod ReadTexts
 pub mod RouterLines
 pub mod Prepared
 pub mod PreparedConfigurations

@@ -1,5 +1,6 @@
 -- What a settled design makes of the configurations that a text is read as: the IS-IS of its routers, and nothing else.
-use Rattle.std.specs.Prelude.{◌≡◌, ℕ, ◌+◌, ◌*◌, ◌/◌, ◌%◌, Bool, true, ◌&&◌, ◌||◌, List, [], ◌∷◌, ◌++◌, Option, Some, None, All, Contains, bytes_eq, find}
+use Rattle.std.specs.Prelude.{ℕ, ◌+◌, ◌*◌, ◌/◌, ◌%◌, Bool, true, ◌&&◌, ◌||◌, List, [], ◌∷◌, ◌++◌, Option, Some}
+use Rattle.std.specs.Prelude.{None, All, Contains, bytes_eq, find}
 use Rattle.std.specs.Prelude.{if◌then◌else◌, map, slice_get, unwrap_or}
 use Rattle.net_addr.specs.JoinedLines.{is_of_whole_lines}
 use Rattle.net_model.specs.Configuration.{Configuration}
@@ -13,10 +14,11 @@ use Rattle.net_model.specs.declared.interface.Interface.{Interface}
 use Rattle.ios_lines.specs.Words.{Word}
 use Rattle.ios_reader.specs.InsertedLines.{IsClosed}
 use Rattle.ios_reader.specs.Texts.{ReadsText}
-use Rattle.design_file.specs.Settling.{Fits}
+use Rattle.design_file.specs.Settling.{FitsNetwork}
 use Rattle.design_file.specs.declared.settled.SettledInterface.{SettledInterface}
 use Rattle.design_file.specs.declared.settled.SettledRouter.{SettledRouter}
 use Rattle.isis_writer.specs.Prepared.{numbered_from, prepared_text}
+use Rattle.isis_writer.specs.ReadTexts.{ReadsTexts}
 
 -- ---- an interface ----
 
@@ -88,7 +90,7 @@ prepared net settled c = configuration_numbered settled (numbered_from 0 c.name 
 -- a text is read as configurations of the routers of a network, no two of which have one name, and for which this is settled
 pub record IsToPrepare (text : List ℕ) (net : Network) (settled : List SettledRouter) (configurations : List Configuration) : Type 0 where
   pub names : NamesAscend net
-  pub fits : Fits net settled
+  pub fits : FitsNetwork net settled
   pub among : All (λ (c : Configuration). Contains net c) configurations
   pub reads : ReadsText text configurations
 
@@ -116,25 +118,12 @@ PreparedBeforeLaw =
 
 -- ---- several texts ----
 
--- a text is read as the first of these configurations, and the others are as Others says
-pub record ReadsFirst (text : List ℕ) (Others : List Configuration → Type 0) (configurations : List Configuration) : Type 0 where
-  pub first : List Configuration
-  pub others : List Configuration
-  pub reads : ReadsText text first
-  pub rest : Others others
-  pub all : configurations ≡ first ++ others
-
--- texts are read as these configurations, one text after the other
-abbrev pub AreRead : List (List ℕ) → List Configuration → Type 0
-AreRead [] configurations = configurations ≡ []
-AreRead (text ∷ texts) configurations = ReadsFirst text (AreRead texts) configurations
-
 -- texts are read as configurations of the routers of a network, no two of which have one name, and for which this is settled
 pub record AreToPrepare (texts : List (List ℕ)) (net : Network) (settled : List SettledRouter) (configurations : List Configuration) : Type 0 where
   pub names : NamesAscend net
-  pub fits : Fits net settled
+  pub fits : FitsNetwork net settled
   pub among : All (λ (c : Configuration). Contains net c) configurations
-  pub read : AreRead texts configurations
+  pub read : ReadsTexts texts configurations
 
 -- the prepared texts, each with its last line feed, one after the other
 abbrev pub prepared_texts : Network → List SettledRouter → List (List ℕ) → List ℕ

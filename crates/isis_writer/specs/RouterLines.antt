@@ -1,6 +1,7 @@
 -- The lines of a prepared configuration: the IS-IS process of a router, idle at distance 255, and its IS-IS interfaces. A line is
 -- its bytes; those of a section begin with a blank.
-use Rattle.std.specs.Prelude.{ℕ, ◌+◌, ◌/◌, ◌%◌, Bool, true, false, ◌&&◌, List, [], ◌∷◌, ◌++◌, Option, Some, None, bytes_eq, codes, decimal, if◌then◌else◌}
+use Rattle.std.specs.Prelude.{ℕ, ◌+◌, ◌/◌, ◌%◌, Bool, true, false, ◌&&◌, List, [], ◌∷◌, ◌++◌, Option, Some, None, bytes_eq, codes}
+use Rattle.std.specs.Prelude.{decimal, if◌then◌else◌}
 use Rattle.std.specs.List.{flat_map, list_any}
 use Rattle.net_model.specs.declared.bounds.TheConstants.{MOST_DISTANCE}
 use Rattle.net_model.specs.declared.config.Levels.{Levels}
@@ -39,8 +40,8 @@ type_line levels = spaced (codes "is-type" ∷ level_word levels ∷ [])
 abbrev pub style_line : List ℕ
 style_line = spaced (codes "metric-style" ∷ codes "wide" ∷ [])
 
-abbrev pub distance_line : List ℕ
-distance_line = spaced (codes "distance" ∷ decimal MOST_DISTANCE ∷ [])
+abbrev pub idle_distance_line : List ℕ
+idle_distance_line = spaced (codes "distance" ∷ decimal MOST_DISTANCE ∷ [])
 
 -- the line that leaks level 2 routes into level 1
 abbrev pub leak_line : List ℕ
@@ -62,7 +63,7 @@ process_head = joined (codes "router" ∷ codes "isis" ∷ [])
 -- the process of a router of this number
 abbrev pub process_lines : ℕ → SettledRouter → List (List ℕ)
 process_lines number router =
-    process_head ∷ title_line router.area number ∷ type_line router.levels ∷ style_line ∷ distance_line
+    process_head ∷ title_line router.area number ∷ type_line router.levels ∷ style_line ∷ idle_distance_line
     ∷ leak_lines router.leak ++ flat_map passive_lines router.interfaces
 
 -- ---- the interfaces ----
@@ -94,12 +95,12 @@ level_lines old None = if old then circuit_line Both ∷ [] else []
 abbrev pub circuit_lines : Bool → SettledInterface → List (List ℕ)
 circuit_lines old interface = if interface.passive then [] else level_lines old interface.circuit
 
-abbrev pub metric_line : ℕ → List Word → List ℕ
-metric_line metric level = spaced (codes "isis" ∷ codes "metric" ∷ decimal metric ∷ level)
+abbrev pub isis_metric_line : ℕ → List Word → List ℕ
+isis_metric_line metric level = spaced (codes "isis" ∷ codes "metric" ∷ decimal metric ∷ level)
 
 -- the metric of each level
 abbrev pub both_level_lines : ℕ → List (List ℕ)
-both_level_lines metric = metric_line metric (codes "level-1" ∷ []) ∷ metric_line metric (codes "level-2" ∷ []) ∷ []
+both_level_lines metric = isis_metric_line metric (codes "level-1" ∷ []) ∷ isis_metric_line metric (codes "level-2" ∷ []) ∷ []
 
 -- the metric holds for each level where an old line is to have no effect
 abbrev pub level_metric_lines : Bool → ℕ → List (List ℕ)
@@ -112,7 +113,7 @@ interface_head name = joined (codes "interface" ∷ name ∷ [])
 abbrev pub interface_lines : Bool → SettledInterface → List (List ℕ)
 interface_lines old interface =
     interface_head interface.name
-    ∷ run_lines interface.passive ++ (circuit_lines old interface ++ metric_line interface.metric [] ∷ level_metric_lines old interface.metric)
+    ∷ run_lines interface.passive ++ (circuit_lines old interface ++ isis_metric_line interface.metric [] ∷ level_metric_lines old interface.metric)
 
 -- all lines of a router of this number, whose old interfaces are these
 abbrev pub router_lines : List InterfaceSection → ℕ → SettledRouter → List (List ℕ)

@@ -1,11 +1,28 @@
 //! Prepared configurations: the IS-IS lines of a settled design, written into the texts of the configurations.
 //!
-//! `specs/RouterLines.antt` is the lines of one router, `specs/Prepared.antt` where they stand. `prepared_text` is the call.
+//! | Notion | Definition | Code |
+//! |---|---|---|
+//! | the lines of one router: its process with a network entity title (ISO 10589), wide metrics (RFC 5305) and leaking (RFC 5302), idle at distance 255, and its interfaces | `specs/RouterLines.antt` | `router_lines.rt` |
+//! | where they stand in a text | `specs/Prepared.antt` | `prepared_text` (`prepared.rt`) |
+//! | what a settled design makes of a configuration | `specs/PreparedConfigurations.antt` | none: `prepared_laws` says that the prepared text is read so |
+//! | what several texts are read as | `specs/ReadTexts.antt` | none: the laws of several texts cite it |
+//!
+//! The proof of `prepared_laws` goes from the lines to the text: what the printed words say (`proofs/TitleWords.antt`,
+//! `RouterWords`, `RouterBlocks`, over the law of `printed_sections`), what the sections say together with those of the old configuration
+//! (`MoreSections`, `ProcessFacts`, `InterfaceFacts`, `GrownInterfaces`, `SettledFacts`, `RouterGrows`), and the blocks of all
+//! routers put into the text (`PreparedGrows`, `PreparedLines`, `PreparedPlaces`, `PreparedReads`) by `ios_reader`'s law of blocks
+//! that are put before `end` lines.
+//!
+//! `prepared_text` reads the text once and writes each byte of it once; besides it looks for each router by its name among those
+//! of the network, and for each settled interface among the sections of its old configuration.
 #![tactic(auto)]
 
-mod laws;
+// The lines of a router, and the text with those of all routers.
 mod prepared;
 mod router_lines;
+
+// That what is written reads back.
+mod laws;
 
 pub use laws::prepared_laws;
 pub use prepared::prepared_text;

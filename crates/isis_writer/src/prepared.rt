@@ -91,7 +91,8 @@ fn add_part(
     requires exact { lines.now ≡ text_lines text.now }
     requires small { ends < 2 ^ 32 }
     ensures next { IfOk result (λ next. next ≡ start_of text.now (ends + 1)) }
-    ensures added { OnOk result (all.new.items ≡ all.old.items ++ (between text.now from (start_of text.now ends) ++ new.now ++ between text.now (start_of text.now ends) (start_of text.now (ends + 1)))) }
+    ensures added { OnOk result (all.new.items ≡ all.old.items
+        ++ (between text.now from (start_of text.now ends) ++ new.now ++ between text.now (start_of text.now ends) (start_of text.now (ends + 1)))) }
 {
     let end = start_of(text, lines, ends);
     let next = start_of(text, lines, ends + 1);

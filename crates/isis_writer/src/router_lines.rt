@@ -1,7 +1,11 @@
 ghost use Rattle.std.specs.Prelude.{◌≡◌, ◌+◌, ◌%◌, ◌<◌, ◌++◌, ◌∷◌, [], IfOk};
 ghost use Rattle.std.specs.List.{flat_map, list_any};
 ghost use Rattle.printed_lines.specs.Texts.{text_of};
-ghost use Rattle.isis_writer.specs.RouterLines.{both_level_lines, circuit_line, circuit_lines, distance_line, four_digits, has_old_line, interface_head, interface_lines, is_old_line, leak_line, leak_lines, level_lines, level_metric_lines, level_word, metric_line, passive_line, passive_lines, process_head, process_lines, router_lines, run_lines, style_line, title, title_line, type_line};
+ghost use Rattle.isis_writer.specs.RouterLines.{both_level_lines, circuit_line, circuit_lines, idle_distance_line, four_digits};
+ghost use Rattle.isis_writer.specs.RouterLines.{has_old_line, interface_head, interface_lines, is_old_line, leak_line};
+ghost use Rattle.isis_writer.specs.RouterLines.{leak_lines, level_lines, level_metric_lines, level_word, isis_metric_line};
+ghost use Rattle.isis_writer.specs.RouterLines.{passive_line, passive_lines, process_head, process_lines, router_lines};
+ghost use Rattle.isis_writer.specs.RouterLines.{run_lines, style_line, title, title_line, type_line};
 
 use design_file::{SettledInterface, SettledRouter};
 use ios_lines::interface_line::{InterfaceLine, InterfaceStatement};
@@ -103,7 +107,7 @@ fn style_line(alloc: Global) -> Result<LineBuilder, OutOfMemory>
 
 /// The line of the distance at which nothing is installed.
 fn distance_line(alloc: Global) -> Result<LineBuilder, OutOfMemory>
-    ensures { IfOk result (λ line. line ≡ distance_line) }
+    ensures { IfOk result (λ line. line ≡ idle_distance_line) }
 {
     LineBuilder::indented(alloc, b"distance")?.number(u64::from(MOST_DISTANCE))
 }
@@ -286,7 +290,7 @@ fn circuit_line(alloc: Global, levels: Levels) -> Result<LineBuilder, OutOfMemor
 
 /// The line of the metric of an interface.
 fn metric_line(alloc: Global, metric: u32) -> Result<LineBuilder, OutOfMemory>
-    ensures { IfOk result (λ line. line ≡ metric_line metric []) }
+    ensures { IfOk result (λ line. line ≡ isis_metric_line metric []) }
 {
     let line = LineBuilder::indented(alloc, b"isis")?.word(b"metric")?;
     line.number(u64::from(metric))
@@ -322,7 +326,7 @@ fn with_both_levels(
 
 /// The line of the metric of an interface in one level.
 fn level_metric_line(alloc: Global, metric: u32, level: &[u8]) -> Result<LineBuilder, OutOfMemory>
-    ensures { IfOk result (λ line. line ≡ metric_line metric (level.now ∷ [])) }
+    ensures { IfOk result (λ line. line ≡ isis_metric_line metric (level.now ∷ [])) }
 {
     metric_line(alloc, metric)?.word(level)
 }

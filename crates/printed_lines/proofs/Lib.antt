@@ -1,3 +1,4 @@
 pub mod LineFacts
 pub mod WordFacts
 pub mod NumberFacts
+pub mod TextSteps

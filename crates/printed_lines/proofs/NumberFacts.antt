@@ -1,5 +1,6 @@
 -- Numbers in decimal and addresses in dotted decimal read back.
-use Rattle.std.proofs.Common.{◌≡◌, ℕ, ◌+◌, ◌*◌, ◌/◌, ◌%◌, ◌^◌, ◌<◌, ◌≤◌, Option, Some, None, List, [], ◌∷◌, ◌++◌, get_or, refl, ap, ◌∙◌, ⊎_elim, append_assoc, arith, length-append}
+use Rattle.std.proofs.Common.{◌≡◌, ℕ, ◌+◌, ◌*◌, ◌/◌, ◌%◌, ◌^◌, ◌<◌, ◌≤◌, Option, Some, None, List, [], ◌∷◌}
+use Rattle.std.proofs.Common.{◌++◌, get_or, refl, ap, ◌∙◌, ⊎_elim, append_assoc, arith, length-append}
 use Rattle.std.specs.Fmt.{decimal}
 use Rattle.std.specs.Char.{IsAsciiDigit}
 use Rattle.std.proofs.lemmas.Bool.{cases_lt}
@@ -15,7 +16,8 @@ use Rattle.printed_lines.specs.ReadBack.{NumbersReadBack, AddressesReadBack}
 
 -- a reader answers the one thing that a word stands for
 pub one_reading :
-    (StandsFor : ℕ → Type 0) (x : ℕ) → StandsFor x → ((y : ℕ) → StandsFor y → y ≡ x) → (read : Option ℕ) → Reads read StandsFor → read ≡ Some x
+    (StandsFor : ℕ → Type 0) (x : ℕ) → StandsFor x → ((y : ℕ) → StandsFor y → y ≡ x) → (read : Option ℕ) →
+    Reads read StandsFor → read ≡ Some x
 one_reading StandsFor x stands only None reads = absurd (reads x stands)
 one_reading StandsFor x stands only (Some y) reads = ap (λ (z : ℕ). Some z) (only y reads)
 

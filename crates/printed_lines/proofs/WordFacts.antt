@@ -1,5 +1,6 @@
 -- Words that are printed with one blank between them, or before each, read as these words.
-use Rattle.std.proofs.Common.{◌≡◌, ◌≢◌, ℕ, ◌+◌, ◌-◌, ◌<◌, Bool, true, false, cond, ltb, List, [], ◌∷◌, ◌++◌, length, take, get_or, map, append-nil, refl, ap, subst, ◌∙◌, arith}
+use Rattle.std.proofs.Common.{◌≡◌, ◌≢◌, ℕ, ◌+◌, ◌-◌, ◌<◌, Bool, true, false, cond, ltb, List, [], ◌∷◌, ◌++◌, length, take}
+use Rattle.std.proofs.Common.{get_or, map, append-nil, refl, ap, subst, ◌∙◌, arith}
 use Rattle.std.specs.List.{All, filter, slice_split, prefix_len}
 use Rattle.std.proofs.lemmas.Bool.Decides.{nat_tests}
 use Rattle.std.proofs.lemmas.List.Elements.{All-append, All-cons, All-head, All-map, All-nil, All-tail, All-weaker}
@@ -23,7 +24,8 @@ no_blanks word fine = All-weaker IsWordByte (λ b. is_blank b ≡ false) no_blan
 
 -- a word and further ones, each after a blank, fall into just these
 first_and_more :
-    (word : List ℕ) (more : List (List ℕ)) → IsPrintedWord word → All IsPrintedWord more → slice_split is_blank (word ++ spaced more) ≡ word ∷ more
+    (word : List ℕ) (more : List (List ℕ)) → IsPrintedWord word → All IsPrintedWord more →
+    slice_split is_blank (word ++ spaced more) ≡ word ∷ more
 first_and_more word [] fine others =
     ap (slice_split is_blank) (append-nil word) ∙ slice_split_none is_blank word (no_blanks word fine)
 first_and_more word (next ∷ more) fine others =
@@ -55,7 +57,8 @@ no_bytes start = grind (arith, nat_tests)
 abbrev span_at : ℕ → List ℕ → Span
 span_at start piece = record { start = start; stop = start + length piece }
 
-none_without_bytes : (start : ℕ) (printed : List (List ℕ)) → All IsPrintedWord printed → filter has_bytes (spans_of start printed) ≡ spans_of start printed
+none_without_bytes : (start : ℕ) (printed : List (List ℕ)) → All IsPrintedWord printed →
+    filter has_bytes (spans_of start printed) ≡ spans_of start printed
 none_without_bytes start [] fine = refl
 none_without_bytes start (word ∷ more) fine =
     let later : List Span = spans_of (start + length word + 1) more in

@@ -21,7 +21,8 @@ LinesReadBack = (printed : List (List ℕ)) → All IsPrintedLine printed → Re
 
 -- a text of one line, made of words, reads as just this line
 abbrev pub LineReadsBack : Type 0
-LineReadsBack = (first : List ℕ) (more : List (List ℕ)) → All IsPrintedWord (first ∷ more) → ReadsAsLines (line first more) (joined (first ∷ more) ∷ [])
+LineReadsBack = (first : List ℕ) (more : List (List ℕ)) → All IsPrintedWord (first ∷ more) →
+    ReadsAsLines (line first more) (joined (first ∷ more) ∷ [])
 
 -- a line reads as these words, which follow one another behind its leading blanks
 pub record ReadsAsWords (bytes : List ℕ) (blanks : ℕ) (printed : List (List ℕ)) : Type 0 where
@@ -31,7 +32,8 @@ pub record ReadsAsWords (bytes : List ℕ) (blanks : ℕ) (printed : List (List 
 
 -- words joined by one blank read as just these words, at indent 0; where a blank stands before each, at indent 1
 abbrev pub WordsReadBack : Type 0
-WordsReadBack = (printed : List (List ℕ)) → All IsPrintedWord printed → ReadsAsWords (joined printed) 0 printed × ReadsAsWords (spaced printed) 1 printed
+WordsReadBack = (printed : List (List ℕ)) → All IsPrintedWord printed → ReadsAsWords (joined printed) 0 printed ×
+    ReadsAsWords (spaced printed) 1 printed
 
 -- words with one blank between them, or before each, are a line that can be printed
 abbrev pub WordsMakeLines : Type 0
@@ -43,7 +45,7 @@ TextsReadBack =
     (printed : List (List (List ℕ))) → All (All IsPrintedWord) printed → map words_in (line_texts (text_of (map joined printed))) ≡ printed
 
 -- a printed word reads as x: it stands for x, and that is what each reader of its grammar answers
-pub record ReadsBack (StandsFor : ℕ → Type 0) (x : ℕ) : Type 0 where
+pub record ReadsBackAs (StandsFor : ℕ → Type 0) (x : ℕ) : Type 0 where
   pub stands : StandsFor x
   pub answer : (read : Option ℕ) → Reads read StandsFor → read ≡ Some x
 
@@ -54,8 +56,8 @@ pub record IsPrintedNumber (digits : List ℕ) : Type 0 where
 
 -- a number in decimal reads as this number
 abbrev pub NumbersReadBack : Type 0
-NumbersReadBack = (n most : ℕ) → n < 2 ^ 64 → n ≤ most → IsPrintedNumber (decimal n) × ReadsBack (IsNumeralUpTo most (decimal n)) n
+NumbersReadBack = (n most : ℕ) → n < 2 ^ 64 → n ≤ most → IsPrintedNumber (decimal n) × ReadsBackAs (IsNumeralUpTo most (decimal n)) n
 
 -- an address in dotted decimal is a word, and reads as this address
 abbrev pub AddressesReadBack : Type 0
-AddressesReadBack = (a : ℕ) → a < 2 ^ 32 → IsPrintedWord (dotted a) × ReadsBack (IsAddressWord (dotted a)) a
+AddressesReadBack = (a : ℕ) → a < 2 ^ 32 → IsPrintedWord (dotted a) × ReadsBackAs (IsAddressWord (dotted a)) a

@@ -1,5 +1,5 @@
 -- The words of printed lines. `decimal n` are the decimal digits of a number, without leading zeros.
-use Rattle.std.specs.Prelude.{ℕ, ◌/◌, ◌%◌, ◌^◌, ◌<◌, ◌≢◌, List, [], ◌∷◌, ◌++◌, length, All, decimal}
+use Rattle.std.specs.Prelude.{ℕ, ◌/◌, ◌%◌, ◌^◌, ◌<◌, ◌≢◌, List, [], ◌∷◌, ◌++◌, length, slice_index_or, All, decimal}
 use Rattle.std.specs.List.{flat_map}
 use Rattle.net_addr.specs.Addresses.{Block}
 
@@ -28,6 +28,10 @@ joined (word ∷ more) = word ++ spaced more
 abbrev pub dotted : ℕ → List ℕ
 dotted a =
     decimal (a / 2 ^ 24) ++ 46 ∷ decimal (a / 2 ^ 16 % 256) ++ 46 ∷ decimal (a / 2 ^ 8 % 256) ++ 46 ∷ decimal (a % 256)
+
+-- a router: its name among those of all routers, in the order of their numbers
+abbrev pub router_word : List (List ℕ) → ℕ → List ℕ
+router_word names u = slice_index_or names u []
 
 -- a prefix: its base, a slash (47) and its length
 abbrev pub prefix_word : Block → List ℕ

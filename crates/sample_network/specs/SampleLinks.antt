@@ -26,9 +26,9 @@ abbrev pub link_before : ℕ → ℕ → ℕ
 link_before n i = if i == 1 then n else i - 1
 
 -- the OSPF cost at both ends: only the last link is dear
-abbrev pub cost_of : ℕ → ℕ → ℕ
-cost_of n l = if l == n then 1000 else 1
+abbrev pub sample_cost : ℕ → ℕ → ℕ
+sample_cost n l = if l == n then 1000 else 1
 
 -- the IS-IS metric at both ends: only the link in the middle of the ring is dear
-abbrev pub metric_of : ℕ → ℕ → ℕ
-metric_of n l = if l == n / 2 then 10000 else 10
+abbrev pub sample_metric : ℕ → ℕ → ℕ
+sample_metric n l = if l == n / 2 then 10000 else 10

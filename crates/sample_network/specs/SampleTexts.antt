@@ -3,11 +3,7 @@
 use Rattle.std.specs.Prelude.{ℕ, zero, suc, ◌+◌, ◌/◌, ◌%◌, List, [], ◌∷◌, ◌++◌, codes, decimal}
 use Rattle.printed_lines.specs.Words.{dotted, joined, spaced}
 use Rattle.printed_lines.specs.Texts.{text_of}
-use Rattle.sample_network.specs.SampleLinks.{cost_of, far_end, link_before, loopback, metric_of, near_end}
-
--- a line is its bytes; those of a section begin with a blank
-abbrev pub Line : Type 0
-Line = List ℕ
+use Rattle.sample_network.specs.SampleLinks.{sample_cost, far_end, link_before, loopback, sample_metric, near_end}
 
 -- the last two decimal digits of a number
 abbrev pub two_digits : ℕ → List ℕ
@@ -15,65 +11,67 @@ two_digits i = (48 + i / 10 % 10) ∷ (48 + i % 10) ∷ []
 
 -- ---- interfaces ----
 
-abbrev pub interface_line : List ℕ → Line
-interface_line name = joined (codes "interface" ∷ name ∷ [])
+abbrev pub sample_interface_line : List ℕ → List ℕ
+sample_interface_line name = joined (codes "interface" ∷ name ∷ [])
 
-abbrev pub address_line : ℕ → List ℕ → Line
-address_line address mask = spaced (codes "ip" ∷ codes "address" ∷ dotted address ∷ mask ∷ [])
+abbrev pub sample_address_line : ℕ → List ℕ → List ℕ
+sample_address_line address mask = spaced (codes "ip" ∷ codes "address" ∷ dotted address ∷ mask ∷ [])
 
-abbrev pub cost_line : ℕ → Line
-cost_line cost = spaced (codes "ip" ∷ codes "ospf" ∷ codes "cost" ∷ decimal cost ∷ [])
+abbrev pub sample_cost_line : ℕ → List ℕ
+sample_cost_line cost = spaced (codes "ip" ∷ codes "ospf" ∷ codes "cost" ∷ decimal cost ∷ [])
 
-abbrev pub run_line : Line
-run_line = spaced (codes "ip" ∷ codes "router" ∷ codes "isis" ∷ [])
+abbrev pub sample_run_line : List ℕ
+sample_run_line = spaced (codes "ip" ∷ codes "router" ∷ codes "isis" ∷ [])
 
-abbrev pub metric_line : ℕ → Line
-metric_line metric = spaced (codes "isis" ∷ codes "metric" ∷ decimal metric ∷ [])
+abbrev pub sample_metric_line : ℕ → List ℕ
+sample_metric_line metric = spaced (codes "isis" ∷ codes "metric" ∷ decimal metric ∷ [])
 
 -- an interface of this name at an end of a link, with the address there
-abbrev pub link_lines : ℕ → List ℕ → ℕ → ℕ → List Line
+abbrev pub link_lines : ℕ → List ℕ → ℕ → ℕ → List (List ℕ)
 link_lines n name address l =
-    interface_line name ∷ address_line address (codes "255.255.255.252") ∷ cost_line (cost_of n l) ∷ run_line ∷ metric_line (metric_of n l) ∷ []
+    sample_interface_line name ∷ sample_address_line address (codes "255.255.255.252") ∷ sample_cost_line (sample_cost n l) ∷ sample_run_line
+    ∷ sample_metric_line (sample_metric n l) ∷ []
 
 -- the link to the next router, and the one to the router before
-abbrev pub next_lines : ℕ → ℕ → List Line
+abbrev pub next_lines : ℕ → ℕ → List (List ℕ)
 next_lines n i = link_lines n (codes "GigabitEthernet0/0") (near_end i) i
 
-abbrev pub before_lines : ℕ → ℕ → List Line
+abbrev pub before_lines : ℕ → ℕ → List (List ℕ)
 before_lines n i = link_lines n (codes "GigabitEthernet0/1") (far_end (link_before n i)) (link_before n i)
 
 -- ---- routers ----
 
 -- a router's name is S and its number
-abbrev pub hostname_line : ℕ → Line
-hostname_line i = joined (codes "hostname" ∷ (codes "S" ++ two_digits i) ∷ [])
+abbrev pub sample_hostname_line : ℕ → List ℕ
+sample_hostname_line i = joined (codes "hostname" ∷ (codes "S" ++ two_digits i) ∷ [])
 
 -- its name and its loopback
-abbrev pub loopback_lines : ℕ → List Line
+abbrev pub loopback_lines : ℕ → List (List ℕ)
 loopback_lines i =
-    hostname_line i ∷ interface_line (codes "Loopback0") ∷ address_line (loopback i) (codes "255.255.255.255") ∷ run_line ∷ []
+    sample_hostname_line i ∷ sample_interface_line (codes "Loopback0") ∷ sample_address_line (loopback i) (codes "255.255.255.255")
+    ∷ sample_run_line ∷ []
 
 -- its OSPF process takes every interface of 10.0.0.0/8 into area 0
-abbrev pub ospf_lines : List Line
-ospf_lines = codes "router ospf 1" ∷ codes " network 10.0.0.0 0.255.255.255 area 0" ∷ []
+abbrev pub sample_ospf_lines : List (List ℕ)
+sample_ospf_lines = codes "router ospf 1" ∷ codes " network 10.0.0.0 0.255.255.255 area 0" ∷ []
 
 -- the network entity title: area 49.0001, a system id that ends with the router's number, the selector 00
-abbrev pub title_line : ℕ → Line
-title_line i = spaced (codes "net" ∷ (codes "49.0001.0000.0000.00" ++ two_digits i ++ codes ".00") ∷ [])
+abbrev pub sample_title_line : ℕ → List ℕ
+sample_title_line i = spaced (codes "net" ∷ (codes "49.0001.0000.0000.00" ++ two_digits i ++ codes ".00") ∷ [])
 
 -- its IS-IS process, idle at distance 255
-abbrev pub isis_lines : ℕ → List Line
-isis_lines i =
-    codes "router isis" ∷ title_line i ∷ codes " is-type level-2-only" ∷ codes " metric-style wide" ∷ codes " distance 255" ∷ []
+abbrev pub sample_isis_lines : ℕ → List (List ℕ)
+sample_isis_lines i =
+    codes "router isis" ∷ sample_title_line i ∷ codes " is-type level-2-only" ∷ codes " metric-style wide" ∷ codes " distance 255" ∷ []
 
 -- the configuration of router i of n
-abbrev pub router_lines : ℕ → ℕ → List Line
-router_lines n i = loopback_lines i ++ next_lines n i ++ before_lines n i ++ ospf_lines ++ isis_lines i ++ codes "end" ∷ []
+abbrev pub sample_router_lines : ℕ → ℕ → List (List ℕ)
+sample_router_lines n i = loopback_lines i ++ next_lines n i ++ before_lines n i ++ sample_ospf_lines ++ sample_isis_lines i ++ codes "end" ∷ []
 
 -- the configurations of the first i routers of n, in the order of their numbers
-abbrev pub routers_to : ℕ → ℕ → List Line
+abbrev pub routers_to : ℕ → ℕ → List (List ℕ)
 routers_to n zero = []
-routers_to n (suc i) = routers_to n i ++ router_lines n (suc i)
+routers_to n (suc i) = routers_to n i ++ sample_router_lines n (suc i)
 
 -- the text of the sample network of n routers
 abbrev pub sample_text : ℕ → List ℕ

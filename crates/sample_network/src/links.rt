@@ -1,5 +1,5 @@
 ghost use Rattle.std.specs.Prelude.{◌≡◌, ◌<◌, ◌≤◌};
-ghost use Rattle.sample_network.specs.SampleLinks.{cost_of, link_before, loopback, metric_of, near_end, far_end};
+ghost use Rattle.sample_network.specs.SampleLinks.{sample_cost, link_before, loopback, sample_metric, near_end, far_end};
 
 /// The loopbacks are 10.0.0.0 and the number of a router.
 const LOOPBACKS: u32 = 0x0a00_0000;
@@ -43,14 +43,14 @@ pub(crate) fn link_before(routers: u32, router: u32) -> u32
 
 /// The OSPF cost of a link, at both of its ends.
 pub(crate) fn cost_of(routers: u32, link: u32) -> u32
-    ensures { result ≡ cost_of routers link }
+    ensures { result ≡ sample_cost routers link }
 {
     if link == routers { 1000 } else { 1 }
 }
 
 /// The IS-IS metric of a link, at both of its ends.
 pub(crate) fn metric_of(routers: u32, link: u32) -> u32
-    ensures { result ≡ metric_of routers link }
+    ensures { result ≡ sample_metric routers link }
 {
     if link == routers / 2 { 10_000 } else { 10 }
 }

@@ -1,6 +1,9 @@
 ghost use Rattle.std.specs.Prelude.{◌≡◌, ◌+◌, ◌%◌, ◌/◌, ◌<◌, ◌≤◌, ◌++◌, ◌∷◌, [], IfOk, codes};
 ghost use Rattle.printed_lines.specs.Texts.{text_of};
-ghost use Rattle.sample_network.specs.SampleTexts.{address_line, before_lines, cost_line, hostname_line, interface_line, isis_lines, link_lines, loopback_lines, metric_line, next_lines, ospf_lines, router_lines, run_line, sample_text, title_line, two_digits};
+ghost use Rattle.sample_network.specs.SampleTexts.{sample_address_line, before_lines, sample_cost_line, sample_hostname_line};
+ghost use Rattle.sample_network.specs.SampleTexts.{sample_interface_line, sample_isis_lines, link_lines, loopback_lines};
+ghost use Rattle.sample_network.specs.SampleTexts.{sample_metric_line, next_lines, sample_ospf_lines, sample_router_lines};
+ghost use Rattle.sample_network.specs.SampleTexts.{sample_run_line, sample_text, sample_title_line, two_digits};
 
 use crate::OutOfMemory;
 use crate::links::{cost_of, far_end, link_before, loopback, metric_of, near_end};
@@ -32,7 +35,7 @@ fn with_router(
     requires first { 1 ≤ router }
     requires last { router ≤ routers }
     requires few { routers < 100 }
-    ensures { IfOk result (λ longer. longer ≡ text ++ text_of (router_lines routers router)) }
+    ensures { IfOk result (λ longer. longer ≡ text ++ text_of (sample_router_lines routers router)) }
 {
     let text = with_loopback(alloc, text, router)?;
     let text = with_next(alloc, text, routers, router)?;
@@ -110,7 +113,7 @@ fn with_link(
 
 /// The text with the OSPF process of a router more.
 fn with_ospf(alloc: Global, text: TextBuilder) -> Result<TextBuilder, OutOfMemory>
-    ensures { IfOk result (λ longer. longer ≡ text ++ text_of ospf_lines) }
+    ensures { IfOk result (λ longer. longer ≡ text ++ text_of sample_ospf_lines) }
 {
     let text = text.line(LineBuilder::start(alloc, b"router ospf 1")?)?;
     text.line(LineBuilder::start(alloc, b" network 10.0.0.0 0.255.255.255 area 0")?)
@@ -118,7 +121,7 @@ fn with_ospf(alloc: Global, text: TextBuilder) -> Result<TextBuilder, OutOfMemor
 
 /// The text with the IS-IS process of a router more.
 fn with_isis(alloc: Global, text: TextBuilder, router: u32) -> Result<TextBuilder, OutOfMemory>
-    ensures { IfOk result (λ longer. longer ≡ text ++ text_of (isis_lines router)) }
+    ensures { IfOk result (λ longer. longer ≡ text ++ text_of (sample_isis_lines router)) }
 {
     let text = text.line(LineBuilder::start(alloc, b"router isis")?)?;
     let text = text.line(title_line(alloc, router)?)?;
@@ -129,7 +132,7 @@ fn with_isis(alloc: Global, text: TextBuilder, router: u32) -> Result<TextBuilde
 
 /// The line that names a router.
 fn hostname_line(alloc: Global, router: u32) -> Result<LineBuilder, OutOfMemory>
-    ensures { IfOk result (λ line. line ≡ hostname_line router) }
+    ensures { IfOk result (λ line. line ≡ sample_hostname_line router) }
 {
     let [tens, units] = two_digits(router);
     LineBuilder::start(alloc, b"hostname")?.word(&[b'S', tens, units])
@@ -137,7 +140,7 @@ fn hostname_line(alloc: Global, router: u32) -> Result<LineBuilder, OutOfMemory>
 
 /// The network entity title of a router.
 fn title_line(alloc: Global, router: u32) -> Result<LineBuilder, OutOfMemory>
-    ensures { IfOk result (λ line. line ≡ title_line router) }
+    ensures { IfOk result (λ line. line ≡ sample_title_line router) }
 {
     let line = LineBuilder::indented(alloc, b"net")?.word(b"49.0001.0000.0000")?;
     let [tens, units] = two_digits(router);
@@ -161,14 +164,14 @@ fn digit(number: u32) -> u8
 
 /// The line that opens the section of an interface.
 fn interface_line(alloc: Global, name: &[u8]) -> Result<LineBuilder, OutOfMemory>
-    ensures { IfOk result (λ line. line ≡ interface_line name.now) }
+    ensures { IfOk result (λ line. line ≡ sample_interface_line name.now) }
 {
     LineBuilder::start(alloc, b"interface")?.word(name)
 }
 
 /// The line of the address of an interface.
 fn address_line(alloc: Global, address: u32, mask: &[u8]) -> Result<LineBuilder, OutOfMemory>
-    ensures { IfOk result (λ line. line ≡ address_line address mask.now) }
+    ensures { IfOk result (λ line. line ≡ sample_address_line address mask.now) }
 {
     let line = LineBuilder::indented(alloc, b"ip")?.word(b"address")?;
     line.address(address)?.word(mask)
@@ -176,7 +179,7 @@ fn address_line(alloc: Global, address: u32, mask: &[u8]) -> Result<LineBuilder,
 
 /// The line of the OSPF cost of an interface.
 fn cost_line(alloc: Global, cost: u32) -> Result<LineBuilder, OutOfMemory>
-    ensures { IfOk result (λ line. line ≡ cost_line cost) }
+    ensures { IfOk result (λ line. line ≡ sample_cost_line cost) }
 {
     let line = LineBuilder::indented(alloc, b"ip")?.word(b"ospf")?;
     line.word(b"cost")?.number(u64::from(cost))
@@ -184,7 +187,7 @@ fn cost_line(alloc: Global, cost: u32) -> Result<LineBuilder, OutOfMemory>
 
 /// The line by which an interface runs IS-IS.
 fn run_line(alloc: Global) -> Result<LineBuilder, OutOfMemory>
-    ensures { IfOk result (λ line. line ≡ run_line) }
+    ensures { IfOk result (λ line. line ≡ sample_run_line) }
 {
     let line = LineBuilder::indented(alloc, b"ip")?.word(b"router")?;
     line.word(b"isis")
@@ -192,7 +195,7 @@ fn run_line(alloc: Global) -> Result<LineBuilder, OutOfMemory>
 
 /// The line of the IS-IS metric of an interface.
 fn metric_line(alloc: Global, metric: u32) -> Result<LineBuilder, OutOfMemory>
-    ensures { IfOk result (λ line. line ≡ metric_line metric) }
+    ensures { IfOk result (λ line. line ≡ sample_metric_line metric) }
 {
     let line = LineBuilder::indented(alloc, b"isis")?.word(b"metric")?;
     line.number(u64::from(metric))

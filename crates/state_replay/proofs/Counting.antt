@@ -1,5 +1,6 @@
 -- How many changes of a router are among changes that begin a run.
-use Rattle.std.proofs.Common.{◌≡◌, ◌≢◌, ℕ, ◌+◌, ◌*◌, ◌<◌, ◌≤◌, inl, inr, List, [], ◌∷◌, length, map, get_or, Contains, AllPairs, refl, ap, subst, ◌∙◌, arith}
+use Rattle.std.proofs.Common.{◌≡◌, ◌≢◌, ℕ, ◌+◌, ◌*◌, ◌<◌, ◌≤◌, inl, inr, List, [], ◌∷◌, length, map, get_or, Contains}
+use Rattle.std.proofs.Common.{AllPairs, refl, ap, subst, ◌∙◌, arith}
 use Rattle.std.specs.List.{All}
 use Rattle.std.proofs.lemmas.Bool.{cases_eq}
 use Rattle.std.proofs.lemmas.List.{length-map}
@@ -68,7 +69,8 @@ counted ranks (c ∷ changes) u pairs = by_change c (counted ranks changes u (pa
     by_change : (d : Change) → IsCounted changes u → (Contains changes d → ⊥) → IsCounted (d ∷ changes) u
     by_change (first v) rest not = elim (cases_eq v u) [
       | inl same ↦
-          let none : rest.firsts ≡ 0 = count_zero changes (first u) rest.firsts rest.first_is (subst (λ (w : ℕ). Contains changes (first w) → ⊥) same not) in
+          let none : rest.firsts ≡ 0 =
+          count_zero changes (first u) rest.firsts rest.first_is (subst (λ (w : ℕ). Contains changes (first w) → ⊥) same not) in
           let more = count_own u (first v) changes same in
           let sum = rest.sum in
           record {
@@ -88,7 +90,8 @@ counted ranks (c ∷ changes) u pairs = by_change c (counted ranks changes u (pa
     ]
     by_change (second v) rest not = elim (cases_eq v u) [
       | inl same ↦
-          let none : rest.seconds ≡ 0 = count_zero changes (second u) rest.seconds rest.second_is (subst (λ (w : ℕ). Contains changes (second w) → ⊥) same not) in
+          let none : rest.seconds ≡ 0 =
+          count_zero changes (second u) rest.seconds rest.second_is (subst (λ (w : ℕ). Contains changes (second w) → ⊥) same not) in
           let more = count_own u (second v) changes same in
           let sum = rest.sum in
           record {
@@ -187,7 +190,8 @@ distinct_places ranks (c ∷ changes) pairs =
     (λ k inside. other_place changes k inside (pairs_first (MayPrecede ranks) c changes pairs))
     (distinct_places ranks changes (pairs_rest (MayPrecede ranks) c changes pairs))
   where
-    other_place : (changes : List Change) (k : ℕ) → Contains (map place_of changes) k → ((d : Change) → Contains changes d → MayPrecede ranks c d) →
+    other_place : (changes : List Change) (k : ℕ) → Contains (map place_of changes) k →
+        ((d : Change) → Contains changes d → MayPrecede ranks c d) →
         place_of c ≢ k
     other_place [] k inside later = absurd (Contains-none k inside)
     other_place (d ∷ changes) k inside later = elim (Contains-cases (place_of d) (map place_of changes) k inside) [
@@ -198,7 +202,8 @@ distinct_places ranks (c ∷ changes) pairs =
 places_below : (n : ℕ) (changes : List Change) → ((c : Change) → Contains changes c → changed c < n) → All (λ k. k < 2 * n) (map place_of changes)
 places_below n changes below k d within = at_place changes (get_or (map place_of changes) k d) (Contains-get_or (map place_of changes) k d within) below
   where
-    at_place : (changes : List Change) (k : ℕ) → Contains (map place_of changes) k → ((c : Change) → Contains changes c → changed c < n) → k < 2 * n
+    at_place : (changes : List Change) (k : ℕ) → Contains (map place_of changes) k → ((c : Change) → Contains changes c → changed c < n) →
+        k < 2 * n
     at_place [] k inside below = absurd (Contains-none k inside)
     at_place (d ∷ changes) k inside below = elim (Contains-cases (place_of d) (map place_of changes) k inside) [
       | inl same ↦ subst (λ (m : ℕ). m < 2 * n) same (place_below n d (below d (Contains-first d changes)))

@@ -1,5 +1,6 @@
 -- Changes that begin a run: what they are by themselves, without the run.
-use Rattle.std.proofs.Common.{◌≡◌, ◌≢◌, ℕ, ◌<◌, ◌⊎◌, inl, inr, List, [], ◌∷◌, ◌++◌, Contains, AllPairs, refl, sym, ap, subst, append_assoc, append-nil, arith}
+use Rattle.std.proofs.Common.{◌≡◌, ◌≢◌, ℕ, ◌<◌, ◌⊎◌, inl, inr, List, [], ◌∷◌, ◌++◌, Contains, AllPairs, refl, sym, ap, subst}
+use Rattle.std.proofs.Common.{append_assoc, append-nil, arith}
 use Rattle.std.proofs.lemmas.Bool.{cases_lt, cases_eq}
 use Rattle.std.proofs.lemmas.List.Elements.{Contains-append_left, Contains-append_right, Contains-append_cases}
 use Rattle.net_model.proofs.Members.{Contains-none, Contains-first, Contains-rest, Contains-cases}
@@ -116,7 +117,8 @@ front_of_run n ranks changes begin =
 pub run_of_front : (n : ℕ) (ranks : List ℕ) (changes : List Change) → IsRanking n ranks → AreInFront n ranks changes → BeginRun n ranks changes
 run_of_front n ranks changes ranking front =
     let along : IsRun n ranks (run_along (flat_of ranks)) = flat_is_run n ranks ranking in
-    let others : Unmade (MayPrecede ranks) changes (run_along (flat_of ranks)) = unmade_of (MayPrecede ranks) changes (run_along (flat_of ranks)) along.in_turn in
+    let others : Unmade (MayPrecede ranks) changes (run_along (flat_of ranks)) =
+    unmade_of (MayPrecede ranks) changes (run_along (flat_of ranks)) along.in_turn in
     record {
       rest = others.rest;
       is_run = record {
@@ -130,7 +132,8 @@ run_of_front n ranks changes ranking front =
             | inr absent ↦ Contains-append_right changes others.rest c (others.whole c ((along.all c).1 below) absent)
           ],
         );
-        in_turn = pairs_append (MayPrecede ranks) changes others.rest front.in_turn others.in_turn (λ c d here later. precede c d here (others.unmade d later) ((along.all d).0 (others.among d later)));
+        in_turn = pairs_append (MayPrecede ranks) changes others.rest front.in_turn others.in_turn (λ c d here later. precede c d here (others.unmade d later)
+            ((along.all d).0 (others.among d later)));
       };
     }
   where
@@ -153,7 +156,8 @@ begin_fewer n ranks changes more begin = record {
 }
 
 -- where no change may come next the run is whole
-pub whole_run : (n : ℕ) (ranks : List ℕ) (changes : List Change) → BeginRun n ranks changes → ((c : Change) → MayComeNext n ranks changes c → ⊥) →
+pub whole_run : (n : ℕ) (ranks : List ℕ) (changes : List Change) → BeginRun n ranks changes →
+    ((c : Change) → MayComeNext n ranks changes c → ⊥) →
     IsRun n ranks changes
 whole_run n ranks changes begin none = by_rest begin.rest begin.is_run
   where

@@ -1,6 +1,7 @@
 -- The lines of a journal: each tells one change at most.
-use Rattle.std.proofs.Common.{◌≡◌, ◌≢◌, ℕ, ◌+◌, ◌-◌, ◌<◌, ◌≤◌, List, ◌++◌, length, get_or, take, drop, refl, sym, ap, subst, ◌∙◌, length-append, arith}
-use Rattle.std.proofs.lemmas.List.{take-append-le, drop-append-le, take_all, drop_all, take-append-drop}
+use Rattle.std.proofs.Common.{◌≡◌, ℕ, ◌+◌, ◌-◌, ◌<◌, ◌≤◌, List, ◌++◌, length, get_or, take, drop, refl, sym, ap}
+use Rattle.std.proofs.Common.{subst, ◌∙◌, length-append, arith}
+use Rattle.std.proofs.lemmas.List.{take-append-le, drop-append-le, take_all, drop_all}
 use Rattle.net_model.specs.Lookups.{IsNamed}
 use Rattle.net_model.specs.Network.{Network}
 use Rattle.net_model.specs.Refusals.{NamesAscend}
@@ -28,7 +29,8 @@ parted line name end same two =
     let cut : length line - 2 ≡ length name = omega (arith, long) in
     record {
       front =
-          ap (λ k. take k line) cut ∙ ap (take (length name)) same ∙ take-append-le (length name) name end (omega arith) ∙ take_all (length name) name (omega arith);
+          ap (λ k. take k line) cut ∙ ap (take (length name)) same ∙ take-append-le (length name) name end (omega arith)
+          ∙ take_all (length name) name (omega arith);
       back =
           ap (λ k. drop k line) cut
           ∙ ap (drop (length name)) same
@@ -70,22 +72,5 @@ module _ (net : Network) (line : List ℕ) where
   parts_of : (c : Change) (told : TellsChange net line c) → IsParted line told.name (ending_of told.half)
   parts_of c told = parted line told.name (ending_of told.half) told.bytes (ending_long told.half)
 
-  pub short_tells_none : length line < 2 → (c : Change) → TellsChange net line c → ⊥
-  short_tells_none short c told = let long = (parts_of c told).long in omega (arith, short, long)
-
-  pub no_half_told : ((half : Half) → drop (length line - 2) line ≢ ending_of half) → (c : Change) → TellsChange net line c → ⊥
-  no_half_told none c told = none told.half (parts_of c told).back
-
   pub no_name_told : ((u : ℕ) → IsNamed net (take (length line - 2) line) u → ⊥) → (c : Change) → TellsChange net line c → ⊥
   no_name_told none c told = none told.router (subst (λ name. IsNamed net name told.router) (sym (parts_of c told).front) told.named)
-
-  pub tells : (u : ℕ) (half : Half) → drop (length line - 2) line ≡ ending_of half → IsNamed net (take (length line - 2) line) u →
-      TellsChange net line (change_of u half)
-  tells u half back named = record {
-    name = take (length line - 2) line;
-    router = u;
-    half = half;
-    bytes = sym (take-append-drop (length line - 2) line) ∙ ap (λ l. take (length line - 2) line ++ l) back;
-    named = named;
-    is = refl;
-  }

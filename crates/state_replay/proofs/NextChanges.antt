@@ -1,5 +1,6 @@
 -- Which change may come next is told by the counts of the changes made.
-use Rattle.std.proofs.Common.{◌≡◌, ◌≢◌, ℕ, ◌+◌, ◌<◌, inl, inr, List, [], ◌∷◌, ◌++◌, length, map, get_or, set, Option, Some, None, Contains, AllPairs, refl, sym, ap, subst, ◌∙◌, arith}
+use Rattle.std.proofs.Common.{◌≡◌, ◌≢◌, ℕ, ◌+◌, ◌<◌, inl, inr, List, [], ◌∷◌, ◌++◌, length, map, get_or, set, Option, Some}
+use Rattle.std.proofs.Common.{None, Contains, AllPairs, refl, sym, ap, subst, ◌∙◌, arith}
 use Rattle.std.specs.Option.{MatchOption}
 use Rattle.std.proofs.lemmas.Bool.{cases_lt, cases_eq}
 use Rattle.std.proofs.lemmas.List.{map-append, length-set, get_or-set_same, get_or-set_other}
@@ -11,9 +12,9 @@ use Rattle.igp_theory.specs.Waves.{Change, first, second, changed, MayPrecede, r
 use Rattle.igp_theory.proofs.FlatOrders.{flat_is_run}
 use Rattle.igp_theory.proofs.OrderedLists.{contains_one, pairs_none, pairs_more, pairs_append, pairs_across}
 use Rattle.igp_theory.proofs.WaveStates.{count_other, count_own, count_append}
-use Rattle.state_replay.specs.Halves.{number_of, change_of}
-use Rattle.state_replay.specs.Journals.{BeginRun, MayComeNext, AreCounts, IsNextOn}
-use Rattle.state_replay.specs.Fitting.{Fits}
+use Rattle.state_replay.specs.Halves.{half_number, change_of}
+use Rattle.state_replay.specs.Journals.{BeginRun, MayComeNext, AreChangeCounts, IsNextOn}
+use Rattle.state_replay.specs.steps.Fitting.{FitsCounts}
 use Rattle.state_replay.specs.declared.half.Half.{Half}
 use Rattle.state_replay.specs.declared.half.Half.TheVariants.{First, Second}
 use Rattle.state_replay.proofs.Fronts.{AreInFront, front_of_run, run_of_front}
@@ -23,7 +24,8 @@ use Rattle.state_replay.proofs.Counting.{none_made, first_made, second_open, bot
 one_more : (ranks : List ℕ) (changes : List Change) (d : Change) → AllPairs (MayPrecede ranks) changes →
     ((c : Change) → Contains changes c → MayPrecede ranks c d) → AllPairs (MayPrecede ranks) (changes ++ d ∷ [])
 one_more ranks changes d pairs each =
-    pairs_append (MayPrecede ranks) changes (d ∷ []) pairs (pairs_more (MayPrecede ranks) d [] (λ c inside. absurd (omega (arith, inside.1))) (pairs_none (MayPrecede ranks)))
+    pairs_append (MayPrecede ranks) changes (d ∷ []) pairs (pairs_more (MayPrecede ranks) d [] (λ c inside. absurd (omega (arith, inside.1)))
+    (pairs_none (MayPrecede ranks)))
     (λ c e here there. subst (λ (x : Change). MayPrecede ranks c x) (contains_one d e there) (each c here))
 
 among_more : (changes : List Change) (d c : Change) → Contains (changes ++ d ∷ []) c → d ≢ c → Contains changes c
@@ -50,7 +52,9 @@ module _ (n : ℕ) (ranks : List ℕ) (changes : List Change) (front : AreInFron
         | inl lower ↦ absurd (absent (front.earlier c (first u) here below lower))
         | inr up ↦ up
       ];
-      half = λ v is same. absent (subst (λ (w : ℕ). Contains changes (first w)) (sym (ap changed same)) (front.halves v (subst (λ (e : Change). Contains changes e) is here)));
+      half =
+          λ v is same. absent (subst (λ (w : ℕ). Contains changes (first w)) (sym (ap changed same))
+          (front.halves v (subst (λ (e : Change). Contains changes e) is here)));
     });
     below = λ c inside. elim (Contains-append_cases changes (first u ∷ []) c inside) [
       | inl here ↦ front.below c here
@@ -71,7 +75,8 @@ module _ (n : ℕ) (ranks : List ℕ) (changes : List Change) (front : AreInFron
       both_of (second v) both = both.1
 
   -- the second change of a router on which the first one is made
-  second_fits : (u : ℕ) → u < n → Contains changes (first u) → (Contains changes (second u) → ⊥) → AreInFront n ranks (changes ++ second u ∷ [])
+  second_fits : (u : ℕ) → u < n → Contains changes (first u) → (Contains changes (second u) → ⊥) →
+      AreInFront n ranks (changes ++ second u ∷ [])
   second_fits u below begun absent = record {
     in_turn = one_more ranks changes (second u) front.in_turn (λ c here. record {
       other = λ same. absent (subst (λ (e : Change). Contains changes e) same here);
@@ -98,19 +103,21 @@ module _ (n : ℕ) (ranks : List ℕ) (changes : List Change) (front : AreInFron
     ]);
   }
 
-  fits_is_next : (done : List ℕ) (u : ℕ) (half : Half) → IsRanking n ranks → AreCounts n changes done → u < n → Fits ranks done u half →
+  fits_is_next : (done : List ℕ) (u : ℕ) (half : Half) → IsRanking n ranks → AreChangeCounts n changes done → u < n →
+      FitsCounts ranks done u half →
       MayComeNext n ranks changes (change_of u half)
   fits_is_next done u First ranking counts below fits =
       run_of_front n ranks (changes ++ first u ∷ []) ranking
       (first_fits u below (none_made n ranks changes u front (sym (counts.count u below) ∙ fits.none))
-      (λ v within lower. both_made n ranks changes v front (sym (counts.count v within) ∙ fits.earlier v (let long = ranking.each in omega (arith, within, long)) lower)))
+      (λ v within lower. both_made n ranks changes v front (sym (counts.count v within) ∙ fits.earlier v (let long = ranking.each in
+      omega (arith, within, long)) lower)))
   fits_is_next done u Second ranking counts below fits =
       let one = sym (counts.count u below) ∙ fits in
       run_of_front n ranks (changes ++ second u ∷ []) ranking
       (second_fits u below (first_made n ranks changes u front one) (second_open n ranks changes u front one))
 
-  pub next_fits : (done : List ℕ) (u : ℕ) (half : Half) → IsRanking n ranks → AreCounts n changes done → u < n →
-      MayComeNext n ranks changes (change_of u half) → Fits ranks done u half
+  pub next_fits : (done : List ℕ) (u : ℕ) (half : Half) → IsRanking n ranks → AreChangeCounts n changes done → u < n →
+      MayComeNext n ranks changes (change_of u half) → FitsCounts ranks done u half
   next_fits done u First ranking counts below next =
       let more : AreInFront n ranks (changes ++ first u ∷ []) = front_of_run n ranks (changes ++ first u ∷ []) next in
       let here : Contains (changes ++ first u ∷ []) (first u) = Contains-append_right changes (first u ∷ []) (first u) (Contains-first (first u) []) in
@@ -118,7 +125,8 @@ module _ (n : ℕ) (ranks : List ℕ) (changes : List Change) (front : AreInFron
         none = counts.count u below ∙ is_none n ranks changes u front (not_yet ranks changes (first u) more.in_turn);
         earlier = λ v within lower.
             let inside : v < n = let long = ranking.each in omega (arith, within, long) in
-            let apart : first u ≢ first v = λ e. let same : rank_of ranks u ≡ rank_of ranks v = ap (λ (x : Change). rank_of ranks (changed x)) e in omega (arith, lower, same) in
+            let apart : first u ≢ first v = λ e. let same : rank_of ranks u ≡ rank_of ranks v = ap (λ (x : Change). rank_of ranks (changed x)) e in
+            omega (arith, lower, same) in
             counts.count v inside
             ∙ is_both n ranks changes v front
             (among_more changes (first u) (first v) (more.earlier (first u) (first v) here inside lower) apart)
@@ -126,35 +134,39 @@ module _ (n : ℕ) (ranks : List ℕ) (changes : List Change) (front : AreInFron
       }
   next_fits done u Second ranking counts below next =
       let more : AreInFront n ranks (changes ++ second u ∷ []) = front_of_run n ranks (changes ++ second u ∷ []) next in
-      let here : Contains (changes ++ second u ∷ []) (second u) = Contains-append_right changes (second u ∷ []) (second u) (Contains-first (second u) []) in
+      let here : Contains (changes ++ second u ∷ []) (second u) =
+      Contains-append_right changes (second u ∷ []) (second u) (Contains-first (second u) []) in
       counts.count u below
-      ∙ is_one n ranks changes u front (among_more changes (second u) (first u) (more.halves u here) (λ e. cc)) (not_yet ranks changes (second u) more.in_turn)
+      ∙ is_one n ranks changes u front (among_more changes (second u) (first u) (more.halves u here) (λ e. cc))
+      (not_yet ranks changes (second u) more.in_turn)
 
 -- the two changes of a router don't fit together
-one_fits : (ranks done : List ℕ) (u : ℕ) (half next : Half) → Fits ranks done u half → Fits ranks done u next → half ≡ next
+one_fits : (ranks done : List ℕ) (u : ℕ) (half next : Half) → FitsCounts ranks done u half → FitsCounts ranks done u next → half ≡ next
 one_fits ranks done u First First one other = refl
 one_fits ranks done u Second Second one other = refl
 one_fits ranks done u First Second one other = let none = one.none in absurd (omega (arith, none, other))
 one_fits ranks done u Second First one other = let none = other.none in absurd (omega (arith, none, one))
 
 -- the change that fits is the one that may come next
-pub fitting_is_next : (ranks done : List ℕ) (u : ℕ) (half : Half) → IsRanking (length ranks) ranks → u < length ranks → Fits ranks done u half →
+pub fitting_is_next : (ranks done : List ℕ) (u : ℕ) (half : Half) → IsRanking (length ranks) ranks → u < length ranks →
+    FitsCounts ranks done u half →
     IsNextOn ranks done u (Some half)
 fitting_is_next ranks done u half ranking below fits changes begin counts its =
     let n : ℕ = length ranks in
     let front : AreInFront n ranks changes = front_of_run n ranks changes begin in (
       λ next. one_fits ranks done u its half (next_fits n ranks changes front done u its ranking counts below next) fits,
-      λ same. fits_is_next n ranks changes front done u its ranking counts below (subst (λ (h : Half). Fits ranks done u h) (sym same) fits),
+      λ same. fits_is_next n ranks changes front done u its ranking counts below (subst (λ (h : Half). FitsCounts ranks done u h) (sym same) fits),
     )
 
-pub none_is_next : (ranks done : List ℕ) (u : ℕ) → IsRanking (length ranks) ranks → u < length ranks → ((half : Half) → Fits ranks done u half → ⊥) →
+pub none_is_next : (ranks done : List ℕ) (u : ℕ) → IsRanking (length ranks) ranks → u < length ranks →
+    ((half : Half) → FitsCounts ranks done u half → ⊥) →
     IsNextOn ranks done u None
 none_is_next ranks done u ranking below none changes begin counts half next =
     none half (next_fits (length ranks) ranks changes (front_of_run (length ranks) ranks changes begin) done u half ranking counts below next)
 
 -- what fits is what may come next
 pub fitting : (ranks done : List ℕ) (u : ℕ) (next : Option Half) → IsRanking (length ranks) ranks → u < length ranks →
-    MatchOption next ((half : Half) → Fits ranks done u half → ⊥) (Fits ranks done u) → IsNextOn ranks done u next
+    MatchOption next ((half : Half) → FitsCounts ranks done u half → ⊥) (FitsCounts ranks done u) → IsNextOn ranks done u next
 fitting ranks done u None ranking below none = none_is_next ranks done u ranking below none
 fitting ranks done u (Some half) ranking below fits = fitting_is_next ranks done u half ranking below fits
 
@@ -168,14 +180,15 @@ changed_is : (u : ℕ) (half : Half) → changed (change_of u half) ≡ u
 changed_is u First = refl
 changed_is u Second = refl
 
-before_fit : (ranks done : List ℕ) (u : ℕ) (half : Half) → Fits ranks done u half → get_or done u 0 + 1 ≡ number_of half
+before_fit : (ranks done : List ℕ) (u : ℕ) (half : Half) → FitsCounts ranks done u half → get_or done u 0 + 1 ≡ half_number half
 before_fit ranks done u First fits = let none = fits.none in omega (arith, none)
 before_fit ranks done u Second fits = omega (arith, fits)
 
-pub counts_more : (n : ℕ) (ranks : List ℕ) (changes : List Change) (done : List ℕ) (u : ℕ) (half : Half) → AreCounts n changes done → u < n →
-    Fits ranks done u half → AreCounts n (changes ++ change_of u half ∷ []) (set done u (number_of half))
+pub counts_more : (n : ℕ) (ranks : List ℕ) (changes : List Change) (done : List ℕ) (u : ℕ) (half : Half) →
+    AreChangeCounts n changes done → u < n →
+    FitsCounts ranks done u half → AreChangeCounts n (changes ++ change_of u half ∷ []) (set done u (half_number half))
 counts_more n ranks changes done u half counts below fits = record {
-  each = length-set done u (number_of half) ∙ counts.each;
+  each = length-set done u (half_number half) ∙ counts.each;
   count = λ v within. elim (cases_eq v u) [
     | inl same ↦
         let long = counts.each in
@@ -184,13 +197,14 @@ counts_more n ranks changes done u half counts below fits = record {
         let before = counts.count v within in
         let now : get_or done v 0 ≡ get_or done u 0 = ap (λ w. get_or done w 0) same in
         let step = before_fit ranks done u half fits in
-        ap (λ w. get_or (set done u (number_of half)) w 0) same ∙ get_or-set_same done u (number_of half) 0 (omega (arith, below, long))
-        ∙ let total : number_of half ≡ changes_on v (map changed (changes ++ change_of u half ∷ [])) = omega (arith, own, more, before, now, step) in total
+        ap (λ w. get_or (set done u (half_number half)) w 0) same ∙ get_or-set_same done u (half_number half) 0 (omega (arith, below, long))
+        ∙ let total : half_number half ≡ changes_on v (map changed (changes ++ change_of u half ∷ [])) =
+        omega (arith, own, more, before, now, step) in total
     | inr apart ↦
         let other = count_other v (change_of u half) [] (λ e. apart (sym e ∙ changed_is u half)) in
         let more = on_more changes (change_of u half) v in
         let before = counts.count v within in
-        get_or-set_other done u v (number_of half) 0 apart
+        get_or-set_other done u v (half_number half) 0 apart
         ∙ let total : get_or done v 0 ≡ changes_on v (map changed (changes ++ change_of u half ∷ [])) = omega (arith, other, more, before) in total
   ];
 }

@@ -1,5 +1,6 @@
 -- Where a journal stands: how far its lines are taken, and that it stands at one place.
-use Rattle.std.proofs.Common.{◌≡◌, ℕ, ◌+◌, ◌*◌, ◌<◌, ◌≤◌, ◌⊎◌, inl, inr, Bool, true, false, List, [], ◌∷◌, ◌++◌, length, map, refl, sym, ap, subst, ◌∙◌, append_assoc, append-nil, length-append, arith}
+use Rattle.std.proofs.Common.{◌≡◌, ℕ, ◌+◌, ◌*◌, ◌<◌, ◌≤◌, ◌⊎◌, inl, inr, Bool, true, false, List, [], ◌∷◌, ◌++◌}
+use Rattle.std.proofs.Common.{length, map, refl, sym, ap, subst, ◌∙◌, append_assoc, length-append, arith}
 use Rattle.std.specs.List.{AllZip}
 use Rattle.std.proofs.lemmas.List.{same_lists, get_or_default}
 use Rattle.std.proofs.lemmas.Slice.Zip.{all_zipped_more, AllZip-long}
@@ -9,8 +10,8 @@ use Rattle.net_model.specs.Refusals.{NamesAscend}
 use Rattle.order_core.specs.Rankings.{IsRanking}
 use Rattle.igp_theory.specs.States.{changes_on}
 use Rattle.igp_theory.specs.Waves.{Change, changed}
-use Rattle.state_replay.specs.Journals.{header, BeginRun, MayComeNext, AreCounts, TellsChange, AreReplayed, Reaches, HasMisfit, IsPlace}
-use Rattle.state_replay.specs.Making.{BeginsWithHeader, IsMade, IsNotMade, MakesChange}
+use Rattle.state_replay.specs.Journals.{journal_header, BeginRun, MayComeNext, AreChangeCounts, TellsChange, AreReplayed, HasReached, HasMisfit, IsPlace}
+use Rattle.state_replay.specs.steps.Making.{BeginsWithHeader, IsMade, IsNotMade, MakesChange}
 use Rattle.state_replay.specs.declared.place.Place.{Place}
 use Rattle.state_replay.specs.declared.place.Place.TheVariants.{Reached, Departs}
 use Rattle.state_replay.proofs.Fronts.{begin_fewer}
@@ -23,20 +24,21 @@ use Rattle.state_replay.proofs.Lines.{told_once}
 -- the lines up to those that are left are taken, and so many changes are made
 pub record IsTaken (net : Network) (ranks journal : List ℕ) (left : List (List ℕ)) (made : ℕ) (done : List ℕ) : Type 0 where
   pub before : List (List ℕ)
-  pub all : line_texts journal ≡ header ∷ before ++ left
+  pub all : line_texts journal ≡ journal_header ∷ before ++ left
   pub changes : List Change
   pub count : made ≡ length changes
   pub replayed : AreReplayed net ranks before changes done
 
-pub taken_few : (net : Network) (ranks journal : List ℕ) (left : List (List ℕ)) (made : ℕ) (done : List ℕ) → IsTaken net ranks journal left made done →
+pub taken_few : (net : Network) (ranks journal : List ℕ) (left : List (List ℕ)) (made : ℕ) (done : List ℕ) →
+    IsTaken net ranks journal left made done →
     made ≤ 2 * length net
 taken_few net ranks journal left made done taken =
     let few = few_changes (length net) ranks taken.changes taken.replayed.begin in
     let count = taken.count in
     omega (arith, few, count)
 
-pub taken_none : (net : Network) (ranks journal : List ℕ) (left : List (List ℕ)) (done : List ℕ) → line_texts journal ≡ header ∷ left →
-    BeginRun (length net) ranks [] → AreCounts (length net) [] done → IsTaken net ranks journal left 0 done
+pub taken_none : (net : Network) (ranks journal : List ℕ) (left : List (List ℕ)) (done : List ℕ) → line_texts journal ≡ journal_header ∷ left →
+    BeginRun (length net) ranks [] → AreChangeCounts (length net) [] done → IsTaken net ranks journal left 0 done
 taken_none net ranks journal left done all begin counts = record {
   before = [];
   all = all;
@@ -50,7 +52,7 @@ pub taken_more : (net : Network) (ranks journal : List ℕ) (line : List ℕ) (l
     IsTaken net ranks journal left (made + 1) more
 taken_more net ranks journal line left made done more taken is = record {
   before = taken.before ++ line ∷ [];
-  all = taken.all ∙ ap (λ l. header ∷ l) (sym (append_assoc taken.before (line ∷ []) left));
+  all = taken.all ∙ ap (λ l. journal_header ∷ l) (sym (append_assoc taken.before (line ∷ []) left));
   changes = taken.changes ++ is.change ∷ [];
   count = let count = taken.count in omega (arith, count, length-append taken.changes (is.change ∷ []));
   replayed = record {
@@ -60,20 +62,10 @@ taken_more net ranks journal line left made done more taken is = record {
   };
 }
 
--- where no line is left the journal has reached these changes
-pub taken_all : (net : Network) (ranks journal : List ℕ) (made : ℕ) (done : List ℕ) → IsTaken net ranks journal [] made done →
-    Reaches net ranks journal made done
-taken_all net ranks journal made done taken = record {
-  lines = taken.before;
-  all = taken.all ∙ ap (λ l. header ∷ l) (append-nil taken.before);
-  changes = taken.changes;
-  count = taken.count;
-  replayed = taken.replayed;
-}
-
 -- where the next line tells no change that may come next it fits no run
 pub taken_misfit : (net : Network) (ranks journal : List ℕ) (line : List ℕ) (left : List (List ℕ)) (made : ℕ) (done : List ℕ) →
-    (taken : IsTaken net ranks journal (line ∷ left) made done) → ((c : Change) → TellsChange net line c → MayComeNext (length net) ranks taken.changes c → ⊥) →
+    (taken : IsTaken net ranks journal (line ∷ left) made done) → ((c : Change) → TellsChange net line c →
+    MayComeNext (length net) ranks taken.changes c → ⊥) →
     HasMisfit net ranks journal (made + 2) done
 taken_misfit net ranks journal line left made done taken misfit = record {
   before = taken.before;
@@ -87,14 +79,17 @@ taken_misfit net ranks journal line left made done taken misfit = record {
 }
 
 -- the first lines of a journal that begins with the header
-pub taken_start : (net : Network) (ranks journal : List ℕ) (lines left : List (List ℕ)) (done : List ℕ) (begins : Bool) → lines ≡ line_texts journal →
-    BeginsWithHeader lines left begins → begins ≡ true → IsRanking (length net) ranks → AreCounts (length net) [] done →
+pub taken_start : (net : Network) (ranks journal : List ℕ) (lines left : List (List ℕ)) (done : List ℕ) (begins : Bool) →
+    lines ≡ line_texts journal →
+    BeginsWithHeader lines left begins → begins ≡ true → IsRanking (length net) ranks → AreChangeCounts (length net) [] done →
     IsTaken net ranks journal left 0 done
 taken_start net ranks journal lines left done begins whole with_header same ranking counts =
-    taken_none net ranks journal left done (sym whole ∙ subst (λ b. BeginsWithHeader lines left b) same with_header) (begin_none (length net) ranks ranking) counts
+    taken_none net ranks journal left done (sym whole ∙ subst (λ b. BeginsWithHeader lines left b) same with_header)
+    (begin_none (length net) ranks ranking) counts
 
 -- the next line, where its change is made
-pub taken_made : (net : Network) (ranks journal : List ℕ) (lines : List (List ℕ)) (line : List ℕ) (left : List (List ℕ)) (made : ℕ) (done more : List ℕ) (fits : Bool) →
+pub taken_made : (net : Network) (ranks journal : List ℕ) (lines : List (List ℕ)) (line : List ℕ) (left : List (List ℕ)) (made : ℕ)
+    (done more : List ℕ) (fits : Bool) →
     lines ≡ line ∷ left → IsTaken net ranks journal lines made done → MakesChange net ranks line done more fits → fits ≡ true →
     IsTaken net ranks journal left (made + 1) more
 taken_made net ranks journal lines line left made done more fits next taken makes same =
@@ -103,7 +98,8 @@ taken_made net ranks journal lines line left made done more fits next taken make
     (subst (λ b. MakesChange net ranks line done more b) same makes here.changes here.replayed.begin here.replayed.counts)
 
 -- and where it isn't
-pub taken_not : (net : Network) (ranks journal : List ℕ) (lines : List (List ℕ)) (line : List ℕ) (left : List (List ℕ)) (made : ℕ) (done more : List ℕ) (fits : Bool) →
+pub taken_not : (net : Network) (ranks journal : List ℕ) (lines : List (List ℕ)) (line : List ℕ) (left : List (List ℕ)) (made : ℕ)
+    (done more : List ℕ) (fits : Bool) →
     lines ≡ line ∷ left → IsTaken net ranks journal lines made done → MakesChange net ranks line done more fits → fits ≡ false →
     HasMisfit net ranks journal (made + 2) more
 taken_not net ranks journal lines line left made done more fits next taken makes same =
@@ -114,7 +110,8 @@ taken_not net ranks journal lines line left made done more fits next taken makes
 
 -- ---- one place ----
 
-one_count : (n : ℕ) (changes others : List Change) (done made : List ℕ) → changes ≡ others → AreCounts n changes done → AreCounts n others made → done ≡ made
+one_count : (n : ℕ) (changes others : List Change) (done made : List ℕ) → changes ≡ others → AreChangeCounts n changes done →
+    AreChangeCounts n others made → done ≡ made
 one_count n changes others done made same one two =
     same_lists done made (one.each ∙ sym two.each)
     (λ u d within.
@@ -163,7 +160,8 @@ told_list net ascending (line ∷ lines) (c ∷ one) (d ∷ other) h k =
     ap (λ x. x ∷ one) (told_once net ascending line c d h.0 k.0) ∙ ap (λ l. d ∷ l) (told_list net ascending lines one other h.1 k.1)
 
 -- a line that tells no change that may come next is no line of changes that begin a run
-no_misfit : (net : Network) (ranks : List ℕ) → NamesAscend net → (before : List (List ℕ)) (text : List ℕ) (after : List (List ℕ)) (changes others : List Change) →
+no_misfit : (net : Network) (ranks : List ℕ) → NamesAscend net → (before : List (List ℕ)) (text : List ℕ) (after : List (List ℕ))
+    (changes others : List Change) →
     AllZip (TellsChange net) before changes → ((c : Change) → TellsChange net text c → MayComeNext (length net) ranks changes c → ⊥) →
     AllZip (TellsChange net) (before ++ text ∷ after) others → BeginRun (length net) ranks others → ⊥
 no_misfit net ranks ascending before text after changes others told misfit all begin =
@@ -171,7 +169,8 @@ no_misfit net ranks ascending before text after changes others told misfit all b
     let same : part.front ≡ changes = told_list net ascending before part.front changes part.told told in
     let longer : BeginRun (length net) ranks ((part.front ++ part.next ∷ []) ++ part.rest) =
     subst (λ l. BeginRun (length net) ranks l) (part.whole ∙ sym (append_assoc part.front (part.next ∷ []) part.rest)) begin in
-    let next : BeginRun (length net) ranks (part.front ++ part.next ∷ []) = begin_fewer (length net) ranks (part.front ++ part.next ∷ []) part.rest longer in
+    let next : BeginRun (length net) ranks (part.front ++ part.next ∷ []) =
+    begin_fewer (length net) ranks (part.front ++ part.next ∷ []) part.rest longer in
     misfit part.next part.told_next (subst (λ l. BeginRun (length net) ranks (l ++ part.next ∷ [])) same next)
 
 -- one list split at two of its items: at the same one, or at one before the other
@@ -194,21 +193,31 @@ splits (x ∷ before) text after (y ∷ others) item rest same =
     elim (splits before text after others item rest tails) [
       | inl one ↦ inl (ap (λ l. x ∷ l) one ∙ ap (λ z. z ∷ others) first)
       | inr apart ↦ elim apart [
-        | inl further ↦ inr (inl (record { between = further.between; is = ap (λ l. y ∷ l) further.is ∙ ap (λ z. z ∷ before ++ text ∷ further.between) (sym first) }))
-        | inr further ↦ inr (inr (record { between = further.between; is = ap (λ l. x ∷ l) further.is ∙ ap (λ z. z ∷ others ++ item ∷ further.between) first }))
+        | inl further ↦ inr (inl (record {
+          between = further.between;
+          is = ap (λ l. y ∷ l) further.is
+              ∙ ap (λ z. z ∷ before ++ text ∷ further.between) (sym first);
+        }))
+        | inr further ↦ inr (inr (record {
+          between = further.between;
+          is = ap (λ l. x ∷ l) further.is
+              ∙ ap (λ z. z ∷ others ++ item ∷ further.between) first;
+        }))
       ]
     ]
 
 module _ (net : Network) (ranks journal : List ℕ) (ascending : NamesAscend net) where
-  one_reached : (k j : ℕ) (done made : List ℕ) → Reaches net ranks journal k done → Reaches net ranks journal j made → (Reached k ≡ Reached j) × (done ≡ made)
+  one_reached : (k j : ℕ) (done made : List ℕ) → HasReached net ranks journal k done → HasReached net ranks journal j made →
+      (Reached k ≡ Reached j) × (done ≡ made)
   one_reached k j done made one two =
       let lines : one.lines ≡ two.lines = let e = sym one.all ∙ two.all in cc in
       let changes : one.changes ≡ two.changes =
-      told_list net ascending two.lines one.changes two.changes (subst (λ l. AllZip (TellsChange net) l one.changes) lines one.replayed.told) two.replayed.told in
+      told_list net ascending two.lines one.changes two.changes (subst (λ l. AllZip (TellsChange net) l one.changes) lines one.replayed.told)
+      two.replayed.told in
       let count : k ≡ j = one.count ∙ ap length changes ∙ sym two.count in
       (ap Reached count, one_count (length net) one.changes two.changes done made changes one.replayed.counts two.replayed.counts)
 
-  reached_or_departs : (k line : ℕ) (done made : List ℕ) → Reaches net ranks journal k done → IsPlace net ranks journal (Departs line) made → ⊥
+  reached_or_departs : (k line : ℕ) (done made : List ℕ) → HasReached net ranks journal k done → IsPlace net ranks journal (Departs line) made → ⊥
   reached_or_departs k line done made one (inl two) = two.other one.lines one.all
   reached_or_departs k line done made one (inr two) =
       let lines : one.lines ≡ two.before ++ two.text ∷ two.after = let e = sym one.all ∙ two.all in cc in
@@ -222,7 +231,8 @@ module _ (net : Network) (ranks journal : List ℕ) (ascending : NamesAscend net
       elim (splits one.before one.text one.after two.before two.text two.after all) [
         | inl same ↦
             let changes : one.changes ≡ two.changes =
-            told_list net ascending two.before one.changes two.changes (subst (λ l. AllZip (TellsChange net) l one.changes) same one.replayed.told) two.replayed.told in
+            told_list net ascending two.before one.changes two.changes (subst (λ l. AllZip (TellsChange net) l one.changes) same one.replayed.told)
+            two.replayed.told in
             let number : line ≡ other = one.number ∙ ap (λ l. length l + 2) same ∙ sym two.number in
             (ap Departs number, one_count (length net) one.changes two.changes done made changes one.replayed.counts two.replayed.counts)
         | inr apart ↦ elim apart [
@@ -233,7 +243,8 @@ module _ (net : Network) (ranks journal : List ℕ) (ascending : NamesAscend net
         ]
       ]
 
-  one_departure : (line other : ℕ) (done made : List ℕ) → IsPlace net ranks journal (Departs line) done → IsPlace net ranks journal (Departs other) made →
+  one_departure : (line other : ℕ) (done made : List ℕ) → IsPlace net ranks journal (Departs line) done →
+      IsPlace net ranks journal (Departs other) made →
       (Departs line ≡ Departs other) × (done ≡ made)
   one_departure line other done made (inl one) (inl two) =
       (ap Departs (one.number ∙ sym two.number), one_count (length net) [] [] done made refl one.counts two.counts)

@@ -5,9 +5,9 @@ use Rattle.state_replay.specs.declared.half.Half.{Half}
 use Rattle.state_replay.specs.declared.half.Half.TheVariants.{First, Second}
 
 -- the number of a change among those of its router
-abbrev pub number_of : Half → ℕ
-number_of First = 1
-number_of Second = 2
+abbrev pub half_number : Half → ℕ
+half_number First = 1
+half_number Second = 2
 
 -- the change of a router
 abbrev pub change_of : ℕ → Half → Change

@@ -1,5 +1,4 @@
 pub mod Halves
 pub mod Journals
 pub mod ReplayLaws
-pub mod Fitting
-pub mod Making
+pub mod steps

@@ -10,11 +10,11 @@ pub enum Half {
 }
 
 impl Half {
-    ghost use Rattle.state_replay.specs.Halves.{number_of};
+    ghost use Rattle.state_replay.specs.Halves.{half_number};
 
     /// Its number, 1 or 2: how many changes its router has made with it.
     pub fn number(self) -> u8
-        ensures { result ≡ number_of self }
+        ensures { result ≡ half_number self }
     {
         match self {
             Half::First => 1,

@@ -1,8 +1,8 @@
 ghost use Rattle.std.specs.Prelude.{◌≡◌, [], length};
 ghost use Rattle.order_core.specs.Rankings.{IsRanking};
 ghost use Rattle.net_model.specs.Refusals.{IsNetwork};
-ghost use Rattle.state_replay.specs.Journals.{AreCounts, IsPlace};
-ghost use Rattle.state_replay.specs.Making.{BeginsWithHeader, MakesChange};
+ghost use Rattle.state_replay.specs.Journals.{AreChangeCounts, IsPlace};
+ghost use Rattle.state_replay.specs.steps.Making.{BeginsWithHeader, MakesChange};
 
 use crate::told::told_change;
 use crate::{Place, next_change};
@@ -38,7 +38,7 @@ pub fn replay(net: &Net, ranks: &[u32], journal: &[u8], done: &mut [u8]) -> Plac
 /// Makes the count of each router 0.
 fn start_counts(net: &Net, done: &mut [u8])
     requires { length done.old ≡ length net.now }
-    ensures counts { AreCounts (length net.now) [] done.new }
+    ensures counts { AreChangeCounts (length net.now) [] done.new }
     ensures network { IsNetwork net.now }
 {
     for router in 0..net.routers() {

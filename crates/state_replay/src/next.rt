@@ -1,7 +1,7 @@
 ghost use Rattle.std.specs.Prelude.{◌≡◌, ◌<◌, ◌↔◌, length, IsTrue, MatchOption};
 ghost use Rattle.order_core.specs.Rankings.{IsRanking};
 ghost use Rattle.state_replay.specs.declared.half.Half.{Half};
-ghost use Rattle.state_replay.specs.Fitting.{Fits, IsOpen};
+ghost use Rattle.state_replay.specs.steps.Fitting.{FitsCounts, IsOpen};
 ghost use Rattle.state_replay.specs.Journals.{IsNextOn};
 
 use crate::Half;
@@ -23,8 +23,8 @@ fn fitting_change(ranks: &[u32], done: &[u8], router: u32) -> Option<Half>
     requires counts { length done.now ≡ length ranks.now }
     requires router { router < length ranks.now }
     ensures { MatchOption result
-        ((half : Half) → Fits ranks.now done.now router half → ⊥)
-        (Fits ranks.now done.now router) }
+        ((half : Half) → FitsCounts ranks.now done.now router half → ⊥)
+        (FitsCounts ranks.now done.now router) }
 {
     let made = done[router as usize];
     if made == 0 && is_open(ranks, done, ranks[router as usize]) {

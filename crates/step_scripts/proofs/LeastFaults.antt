@@ -1,5 +1,6 @@
 -- Which line of an order file is the least faulty one.
-use Rattle.std.proofs.Common.{◌≡◌, ℕ, ◌+◌, ◌<◌, ◌≤◌, Some, None, List, [], ◌∷◌, ◌++◌, length, get_or, take, Contains, refl, sym, ap, subst, ◌∙◌, ⊎_elim, inl, inr, arith}
+use Rattle.std.proofs.Common.{◌≡◌, ℕ, ◌+◌, ◌<◌, ◌≤◌, Some, None, List, [], ◌∷◌, ◌++◌, length, get_or, take, Contains, refl}
+use Rattle.std.proofs.Common.{sym, ap, subst, ◌∙◌, ⊎_elim, inl, inr, arith}
 use Rattle.std.specs.List.{slice_get}
 use Rattle.std.proofs.lemmas.List.{append-nil, length-append}
 use Rattle.std.proofs.lemmas.Slice.Zip.{AllZip-long}
@@ -9,8 +10,8 @@ use Rattle.net_model.specs.Network.{Network}
 use Rattle.net_model.specs.Refusals.{NamesAscend}
 use Rattle.step_scripts.specs.WaveLines.{header_of, wave_on, chain_on, waves_on, chains_on}
 use Rattle.step_scripts.specs.WaveFiles.{all_in, AreOfEach}
-use Rattle.step_scripts.specs.FaultyLines.{HasHeader, IsFaultBehind, IsFaultyLine, IsLeastFaultyLine, HasFaultyEntry, rank}
-use Rattle.step_scripts.specs.ReadWaves.{AreWavesRead, AreRead, IsUnfit, HasUnseated, HasUnknown, NamesRepeat}
+use Rattle.step_scripts.specs.FaultyLines.{HasHeader, IsFaultBehind, IsFaultyLine, IsLeastFaultyLine, HasFaultyEntry, order_kind_rank}
+use Rattle.step_scripts.specs.steps.ReadWaves.{AreWavesRead, AreEntriesRead, IsUnfit, HasUnseated, HasUnknown, NamesRepeat}
 use Rattle.step_scripts.specs.declared.version.Version.{Version}
 use Rattle.step_scripts.specs.declared.kind.OrderKind.{OrderKind}
 use Rattle.step_scripts.specs.declared.kind.OrderKind.TheVariants.{Header, NotInNetwork, Twice, Missing, Wave, Chain}
@@ -25,9 +26,10 @@ use Rattle.step_scripts.proofs.ReadFacts.{no_fault_in, waves_read}
 -- a line that is faulty with this kind by what stands before it, and with no lower one
 pub record IsLowestBehind (net : Network) (version : Version) (before : List (List ℕ)) (line : List ℕ) (kind : OrderKind) : Type 0 where
   pub fault : IsFaultBehind net version before line kind
-  pub lowest : (its : OrderKind) → IsFaultBehind net version before line its → rank kind ≤ rank its
+  pub lowest : (its : OrderKind) → IsFaultBehind net version before line its → order_kind_rank kind ≤ order_kind_rank its
 
-pub first_header : (text : List ℕ) (version : Version) (entries : List (List ℕ)) → line_texts text ≡ header_of version ∷ entries → HasHeader version text
+pub first_header : (text : List ℕ) (version : Version) (entries : List (List ℕ)) → line_texts text ≡ header_of version ∷ entries →
+    HasHeader version text
 first_header text version entries lines = subst (λ l. slice_get l 0 ≡ Some (header_of version)) (sym lines) refl
 
 module _ (net : Network) (network : NamesAscend net) (text : List ℕ) (version : Version) where
@@ -40,7 +42,8 @@ module _ (net : Network) (network : NamesAscend net) (text : List ℕ) (version 
     same_entries its others is = cc (is, lines)
 
   -- a faulty line stands behind what was read
-  behind_entry : (entries rest seats : List (List ℕ)) → line_texts text ≡ header_of version ∷ (entries ++ rest) → AreRead net version entries seats →
+  behind_entry : (entries rest seats : List (List ℕ)) → line_texts text ≡ header_of version ∷ (entries ++ rest) →
+      AreEntriesRead net version entries seats →
       (number : ℕ) (kind : OrderKind) → HasFaultyEntry net text number kind → length entries + 2 ≤ number
   behind_entry entries rest seats lines read number kind f =
       by_part (split_at f.before f.line f.after entries rest (sym (same_entries (entries ++ rest) lines f.version (f.before ++ f.line ∷ f.after) f.lines)))
@@ -48,10 +51,12 @@ module _ (net : Network) (network : NamesAscend net) (text : List ℕ) (version 
       by_part : IsSplitAt f.before f.line f.after entries rest → length entries + 2 ≤ number
       by_part (in_first more is _) =
           let its = same_version (entries ++ rest) lines f.version (f.before ++ f.line ∷ f.after) f.lines in
-          absurd (no_fault_in net network version entries seats read f.before f.line more is kind (subst (λ v. IsFaultBehind net v f.before f.line kind) its f.fault))
+          absurd (no_fault_in net network version entries seats read f.before f.line more is kind
+          (subst (λ v. IsFaultBehind net v f.before f.line kind) its f.fault))
       by_part (in_second front is _) = omega (arith, f.number_is, ap length is, length-append entries front)
 
-  pub behind_read : (entries rest seats : List (List ℕ)) → line_texts text ≡ header_of version ∷ (entries ++ rest) → AreRead net version entries seats →
+  pub behind_read : (entries rest seats : List (List ℕ)) → line_texts text ≡ header_of version ∷ (entries ++ rest) →
+      AreEntriesRead net version entries seats →
       (number : ℕ) (kind : OrderKind) → IsFaultyLine net text number kind → length entries + 2 ≤ number
   behind_read entries rest seats lines read number Header f = absurd (f.1 version (first_header text version (entries ++ rest) lines))
   behind_read entries rest seats lines read number Missing f =
@@ -63,7 +68,8 @@ module _ (net : Network) (network : NamesAscend net) (text : List ℕ) (version 
   behind_read entries rest seats lines read number Chain f = behind_entry entries rest seats lines read number Chain f
 
   -- the line behind what was read
-  module _ (entries : List (List ℕ)) (line : List ℕ) (more seats : List (List ℕ)) (lines : line_texts text ≡ header_of version ∷ (entries ++ line ∷ more)) where
+  module _ (entries : List (List ℕ)) (line : List ℕ) (more seats : List (List ℕ)) (lines : line_texts text ≡ header_of version
+      ∷ (entries ++ line ∷ more)) where
     here_entry : (kind : OrderKind) → IsFaultBehind net version entries line kind → HasFaultyEntry net text (length entries + 2) kind
     here_entry kind fault = record { version = version; before = entries; line = line; after = more; lines = lines; number_is = refl; fault = fault }
 
@@ -84,7 +90,8 @@ module _ (net : Network) (network : NamesAscend net) (text : List ℕ) (version 
         (subst (λ l. IsFaultBehind net version l f.line kind) split.fronts
         (subst (λ v. IsFaultBehind net v f.before f.line kind) its f.fault))
 
-    lowest_here : (kind : OrderKind) → IsLowestBehind net version entries line kind → (its : OrderKind) → IsFaultyLine net text (length entries + 2) its → rank kind ≤ rank its
+    lowest_here : (kind : OrderKind) → IsLowestBehind net version entries line kind → (its : OrderKind) →
+        IsFaultyLine net text (length entries + 2) its → order_kind_rank kind ≤ order_kind_rank its
     lowest_here kind is Header f = absurd (omega (arith, f.0))
     lowest_here kind is NotInNetwork f = is.lowest NotInNetwork (entry_here NotInNetwork f)
     lowest_here kind is Twice f = is.lowest Twice (entry_here Twice f)
@@ -94,7 +101,8 @@ module _ (net : Network) (network : NamesAscend net) (text : List ℕ) (version 
     lowest_here kind is Wave f = is.lowest Wave (entry_here Wave f)
     lowest_here kind is Chain f = is.lowest Chain (entry_here Chain f)
 
-    pub least_here : AreRead net version entries seats → (kind : OrderKind) → IsLowestBehind net version entries line kind → IsLeastFaultyLine net text (length entries + 2) kind
+    pub least_here : AreEntriesRead net version entries seats → (kind : OrderKind) → IsLowestBehind net version entries line kind →
+        IsLeastFaultyLine net text (length entries + 2) kind
     least_here read kind is = record {
       faulty = faulty_here kind is.fault;
       least = behind_read entries (line ∷ more) seats lines read;
@@ -102,73 +110,56 @@ module _ (net : Network) (network : NamesAscend net) (text : List ℕ) (version 
     }
 
   -- where all entries were read and some router has no seat
-  module _ (entries seats : List (List ℕ)) (lines : line_texts text ≡ header_of version ∷ entries) (read : AreRead net version entries seats) where
-    not_behind : (kind : OrderKind) → HasFaultyEntry net text (length entries + 2) kind → ⊥
-    not_behind kind f =
-        let same = same_entries entries lines f.version (f.before ++ f.line ∷ f.after) f.lines in
-        omega (arith, f.number_is, ap length same, length-append f.before (f.line ∷ f.after))
+  module _ (entries seats : List (List ℕ)) (lines : line_texts text ≡ header_of version ∷ entries) (read : AreEntriesRead net version entries seats)
+    where
+      not_behind : (kind : OrderKind) → HasFaultyEntry net text (length entries + 2) kind → ⊥
+      not_behind kind f =
+          let same = same_entries entries lines f.version (f.before ++ f.line ∷ f.after) f.lines in
+          omega (arith, f.number_is, ap length same, length-append f.before (f.line ∷ f.after))
 
-    lowest_behind : (its : OrderKind) → IsFaultyLine net text (length entries + 2) its → 4 ≤ rank its
-    lowest_behind Header f = absurd (omega (arith, f.0))
-    lowest_behind NotInNetwork f = absurd (not_behind NotInNetwork f)
-    lowest_behind Twice f = absurd (not_behind Twice f)
-    lowest_behind Missing f = omega arith
-    lowest_behind Wave f = omega arith
-    lowest_behind Chain f = omega arith
+      lowest_behind : (its : OrderKind) → IsFaultyLine net text (length entries + 2) its → 4 ≤ order_kind_rank its
+      lowest_behind Header f = absurd (omega (arith, f.0))
+      lowest_behind NotInNetwork f = absurd (not_behind NotInNetwork f)
+      lowest_behind Twice f = absurd (not_behind Twice f)
+      lowest_behind Missing f = omega arith
+      lowest_behind Wave f = omega arith
+      lowest_behind Chain f = omega arith
 
-    absent : (u : ℕ) (name : List ℕ) → IsNamed net name u → Contains (all_in (waves_on version entries)) name → Contains (all_in seats) u
-    absent u name named c =
-        let waves = waves_read net network version entries seats read in
-        let among = subst (λ l. Contains (all_in l) name) waves c in
-        let its = zip_partner (IsNamed net) (all_in read.read.waves) (all_in seats) name 0 (zip_flat (IsNamed net) read.read.waves seats read.read.named) among in
-        subst (Contains (all_in seats)) (same_router net network name its.partner u its.related named) its.among
+      absent : (u : ℕ) (name : List ℕ) → IsNamed net name u → Contains (all_in (waves_on version entries)) name → Contains (all_in seats) u
+      absent u name named c =
+          let waves = waves_read net network version entries seats read in
+          let among = subst (λ l. Contains (all_in l) name) waves c in
+          let its =
+          zip_partner (IsNamed net) (all_in read.read.waves) (all_in seats) name 0 (zip_flat (IsNamed net) read.read.waves seats read.read.named) among in
+          subst (Contains (all_in seats)) (same_router net network name its.partner u its.related named) its.among
 
-    pub least_behind : HasUnseated (length net) seats → IsLeastFaultyLine net text (length entries + 2) Missing
-    least_behind missing =
-        let its = has_name net missing.router missing.below in
-        record {
-          faulty = record {
-            version = version;
-            entries = entries;
-            lines = lines;
-            number_is = refl;
-            router = missing.router;
-            name = its.name;
-            named = its.named;
-            absent = λ c. missing.absent (seat_of seats missing.router (absent missing.router its.name its.named c));
-          };
-          least = behind_read entries [] seats (lines ∙ ap (λ l. header_of version ∷ l) (sym (append-nil entries))) read;
-          lowest = lowest_behind;
-        }
-
-first_least : (net : Network) (text : List ℕ) (other : ℕ) (its : OrderKind) → IsFaultyLine net text other its → 1 ≤ other
-first_least net text other Header f = omega (arith, f.0)
-first_least net text other NotInNetwork f = omega (arith, f.number_is)
-first_least net text other Twice f = omega (arith, f.number_is)
-first_least net text other Missing f = omega (arith, f.number_is)
-first_least net text other Wave f = omega (arith, f.number_is)
-first_least net text other Chain f = omega (arith, f.number_is)
-
-rank_some : (kind : OrderKind) → 1 ≤ rank kind
-rank_some Header = omega arith
-rank_some NotInNetwork = omega arith
-rank_some Twice = omega arith
-rank_some Missing = omega arith
-rank_some Wave = omega arith
-rank_some Chain = omega arith
-
--- a text whose first line is no header
-pub least_first : (net : Network) (text : List ℕ) → ((version : Version) → HasHeader version text → ⊥) → IsLeastFaultyLine net text 1 Header
-least_first net text none = record { faulty = (refl, none); least = first_least net text; lowest = λ its _. rank_some its }
+      pub least_behind : HasUnseated (length net) seats → IsLeastFaultyLine net text (length entries + 2) Missing
+      least_behind missing =
+          let its = has_name net missing.router missing.below in
+          record {
+            faulty = record {
+              version = version;
+              entries = entries;
+              lines = lines;
+              number_is = refl;
+              router = missing.router;
+              name = its.name;
+              named = its.named;
+              absent = λ c. missing.absent (seat_of seats missing.router (absent missing.router its.name its.named c));
+            };
+            least = behind_read entries [] seats (lines ∙ ap (λ l. header_of version ∷ l) (sym (append-nil entries))) read;
+            lowest = lowest_behind;
+          }
 
 -- why the line behind what was read has no lower kind
 
 module _ (net : Network) (network : NamesAscend net) (version : Version) where
   -- neither a wave nor a chain
-  pub lowest_no_wave : (before : List (List ℕ)) (line : List ℕ) → wave_on version line ≡ None → chain_on version line ≡ None → IsLowestBehind net version before line Wave
+  pub lowest_no_wave : (before : List (List ℕ)) (line : List ℕ) → wave_on version line ≡ None → chain_on version line ≡ None →
+      IsLowestBehind net version before line Wave
   lowest_no_wave before line no_wave no_chain = record { fault = inl (no_wave, no_chain); lowest = lowest }
     where
-      lowest : (its : OrderKind) → IsFaultBehind net version before line its → 5 ≤ rank its
+      lowest : (its : OrderKind) → IsFaultBehind net version before line its → 5 ≤ order_kind_rank its
       lowest Header f = absurd f
       lowest NotInNetwork f = absurd (let wave = f.wave.wave in cc)
       lowest Twice f = absurd (let wave = f.wave.wave in cc)
@@ -177,10 +168,11 @@ module _ (net : Network) (network : NamesAscend net) (version : Version) where
       lowest Chain f = omega arith
 
   -- any line behind a chain
-  pub lowest_behind_chain : (before : List (List ℕ)) (line : List ℕ) → (chains_on version before ≡ [] → ⊥) → IsLowestBehind net version before line Wave
+  pub lowest_behind_chain : (before : List (List ℕ)) (line : List ℕ) → (chains_on version before ≡ [] → ⊥) →
+      IsLowestBehind net version before line Wave
   lowest_behind_chain before line some = record { fault = inr some; lowest = lowest }
     where
-      lowest : (its : OrderKind) → IsFaultBehind net version before line its → 5 ≤ rank its
+      lowest : (its : OrderKind) → IsFaultBehind net version before line its → 5 ≤ order_kind_rank its
       lowest Header f = absurd f
       lowest NotInNetwork f = absurd (some f.wave.no_chain)
       lowest Twice f = absurd (some f.wave.no_chain)
@@ -195,14 +187,20 @@ module _ (net : Network) (network : NamesAscend net) (version : Version) where
     -- a chain of other names
     pub lowest_chain : chain_on version line ≡ Some names → (AreOfEach read.waves names → ⊥) → IsLowestBehind net version lines line Chain
     lowest_chain chain wrong = record {
-      fault = record { names = names; chain = chain; no_chain = none; wrong = λ each. wrong (subst (λ l. AreOfEach l names) (waves_of version lines read.waves read.each) each) };
+      fault = record {
+        names = names;
+        chain = chain;
+        no_chain = none;
+        wrong =
+            λ each. wrong (subst (λ l. AreOfEach l names) (waves_of version lines read.waves read.each) each);
+      };
       lowest = lowest;
     }
       where
         no : wave_on version line ≡ None
         no = chain_no_wave version line names chain
 
-        lowest : (its : OrderKind) → IsFaultBehind net version lines line its → 6 ≤ rank its
+        lowest : (its : OrderKind) → IsFaultBehind net version lines line its → 6 ≤ order_kind_rank its
         lowest Header f = absurd f
         lowest NotInNetwork f = absurd (let wave = f.wave.wave in let nothing = no in cc)
         lowest Twice f = absurd (let wave = f.wave.wave in let nothing = no in cc)
@@ -217,7 +215,7 @@ module _ (net : Network) (network : NamesAscend net) (version : Version) where
       lowest = lowest;
     }
       where
-        lowest : (its : OrderKind) → IsFaultBehind net version lines line its → 2 ≤ rank its
+        lowest : (its : OrderKind) → IsFaultBehind net version lines line its → 2 ≤ order_kind_rank its
         lowest Header f = absurd f
         lowest NotInNetwork f = omega arith
         lowest Twice f = omega arith
@@ -229,13 +227,15 @@ module _ (net : Network) (network : NamesAscend net) (version : Version) where
     inside is = let long = AllZip-long (IsNamed net) names is.routers is.named in omega (arith, long, is.repeat.within)
 
     -- a name that stood before
-    stood_before : (is : NamesRepeat net names seats) → Contains (all_in (waves_on version lines) ++ take is.repeat.place names) (get_or names is.repeat.place [])
+    stood_before : (is : NamesRepeat net names seats) → Contains (all_in (waves_on version lines) ++ take is.repeat.place names)
+        (get_or names is.repeat.place [])
     stood_before is =
         let place = is.repeat.place in
         let waves = read.waves in
         let zipped = zip_append (IsNamed net) (all_in waves) (all_in seats) (take place names) (take place is.routers)
         (zip_flat (IsNamed net) waves seats read.named) (zip_take (IsNamed net) place names is.routers is.named) in
-        let its = zip_item (IsNamed net) (all_in waves ++ take place names) (all_in seats ++ take place is.routers) (get_or is.routers place 0) [] zipped is.repeat.stood in
+        let its = zip_item (IsNamed net) (all_in waves ++ take place names) (all_in seats ++ take place is.routers) (get_or is.routers place 0) []
+        zipped is.repeat.stood in
         let here = zip_at (IsNamed net) names is.routers place [] 0 is.named (inside is) in
         let same = same_name net its.item (get_or names place []) (get_or is.routers place 0) its.related here in
         subst (λ l. Contains (all_in l ++ take place names) (get_or names place [])) (sym (waves_of version lines waves read.each))
@@ -247,7 +247,7 @@ module _ (net : Network) (network : NamesAscend net) (version : Version) where
       lowest = lowest;
     }
       where
-        lowest : (its : OrderKind) → IsFaultBehind net version lines line its → 3 ≤ rank its
+        lowest : (its : OrderKind) → IsFaultBehind net version lines line its → 3 ≤ order_kind_rank its
         lowest Header f = absurd f
         lowest NotInNetwork f =
             let same : f.names ≡ names = cc (f.wave.wave, says) in

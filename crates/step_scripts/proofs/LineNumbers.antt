@@ -3,7 +3,8 @@ use Rattle.std.proofs.Common.{◌≡◌, ℕ, zero, suc, ◌+◌, ◌<◌, List,
 use Rattle.net_addr.specs.declared.line.Line.{Line}
 use Rattle.net_addr.specs.Lines.{lines_of, text_lines, line_pieces}
 
-numbered_from : (number start : ℕ) (pieces : List (List ℕ)) (k : ℕ) (d : Line) → k < length (lines_of number start pieces) → (get_or (lines_of number start pieces) k d).number ≡ number + k
+numbered_from : (number start : ℕ) (pieces : List (List ℕ)) (k : ℕ) (d : Line) → k < length (lines_of number start pieces) →
+    (get_or (lines_of number start pieces) k d).number ≡ number + k
 numbered_from number start [] k d l = absurd (omega (arith, l))
 numbered_from number start (piece ∷ more) zero d l = omega arith
 numbered_from number start (piece ∷ more) (suc k) d l =

@@ -12,7 +12,7 @@ use Rattle.order_core.specs.Orders.{AreDistinct}
 use Rattle.order_core.specs.Rankings.{IsRanking, rank_of}
 use Rattle.step_scripts.specs.WaveLines.{header_of}
 use Rattle.step_scripts.specs.WaveFiles.{all_in, wave_at, AreWaves, NamesWaves}
-use Rattle.step_scripts.specs.ReadWaves.{AreWavesRead, AreRead, AreRanksOf}
+use Rattle.step_scripts.specs.steps.ReadWaves.{AreWavesRead, AreEntriesRead, AreRanksOf}
 use Rattle.step_scripts.specs.declared.version.Version.{Version}
 use Rattle.step_scripts.specs.declared.version.Version.TheVariants.{One}
 use Rattle.step_scripts.proofs.Zips.{zip_at, zip_flat, zip_item}
@@ -29,7 +29,8 @@ one_alone wave u v long c d =
 one_name : (line : List ℕ) (wave : List (List ℕ)) → Says One line wave → length wave ≡ 1
 one_name line wave says = let same : line ∷ [] ≡ wave = cc in sym (ap length same)
 
-module _ (net : Network) (version : Version) (lines seats : List (List ℕ)) (read : AreWavesRead net version lines seats) (ranks : List ℕ) (is : AreRanksOf (length net) seats ranks) where
+module _ (net : Network) (version : Version) (lines seats : List (List ℕ)) (read : AreWavesRead net version lines seats) (ranks : List ℕ)
+    (is : AreRanksOf (length net) seats ranks) where
   -- a router of the waves is one of the network
   below : (u : ℕ) → Contains (all_in seats) u → u < length net
   below u c =
@@ -60,7 +61,8 @@ module _ (net : Network) (version : Version) (lines seats : List (List ℕ)) (re
   as_long : (w : ℕ) → w < length seats → length (wave_at seats w) ≡ length (get_or read.waves w [])
   as_long w within =
       let two = AllZip-long (AllZip (IsNamed net)) read.waves seats read.named in
-      AllZip-long (IsNamed net) (get_or read.waves w []) (get_or seats w []) (zip_at (AllZip (IsNamed net)) read.waves seats w [] [] read.named (omega (arith, two, within)))
+      AllZip-long (IsNamed net) (get_or read.waves w []) (get_or seats w []) (zip_at (AllZip (IsNamed net)) read.waves seats w [] [] read.named
+      (omega (arith, two, within)))
 
   has_rank : (w : ℕ) → w < length seats → Contains ranks w
   has_rank w within =
@@ -89,14 +91,15 @@ module _ (net : Network) (version : Version) (lines seats : List (List ℕ)) (re
       let two = is.is_in j v in
       let ranks_same : rank_of ranks j ≡ rank_of ranks i =
       get_or_default ranks j 0 d within ∙ sym same ∙ get_or_default ranks i d 0 (omega (arith, before, within)) in
-      let says = subst (λ some. Says some (get_or lines (rank_of ranks i) []) (get_or read.waves (rank_of ranks i) [])) first (on_line (rank_of ranks i) one.within) in
+      let says = subst (λ some. Says some (get_or lines (rank_of ranks i) []) (get_or read.waves (rank_of ranks i) [])) first
+      (on_line (rank_of ranks i) one.within) in
       let long = as_long (rank_of ranks i) one.within ∙ one_name (get_or lines (rank_of ranks i) []) (get_or read.waves (rank_of ranks i) []) says in
       let alone = one_alone (wave_at seats (rank_of ranks i)) i j long one.among (subst (λ w. Contains (wave_at seats w) j) ranks_same two.among) in
       omega (arith, before, alone)
 
 -- entries that were read, where each router has a seat
 module _ (net : Network) (version : Version) (text : List ℕ) (entries seats : List (List ℕ)) (lines : line_texts text ≡ header_of version ∷ entries)
-    (read : AreRead net version entries seats) (ranks : List ℕ) (is : AreRanksOf (length net) seats ranks) where
+    (read : AreEntriesRead net version entries seats) (ranks : List ℕ) (is : AreRanksOf (length net) seats ranks) where
   pub names_waves : NamesWaves net text version ranks
   names_waves = record {
     lines = read.lines;

@@ -5,27 +5,31 @@ use Rattle.std.proofs.lemmas.List.{get_or-map, length-map, map_more}
 use Rattle.std.proofs.lemmas.List.Elements.{Contains-get_or}
 use Rattle.net_model.specs.Lookups.{IsNamed}
 use Rattle.net_model.specs.Network.{Network}
-use Rattle.step_scripts.specs.ReadWaves.{HasUnknown, NamesOneOf}
+use Rattle.step_scripts.specs.steps.ReadWaves.{HasUnknown, NamesOneOf}
 use Rattle.step_scripts.proofs.Zips.{zip_push}
 
 -- what names point to
 abbrev pub bytes_all : List (Bor (List ℕ)) → List (List ℕ)
 bytes_all names = map (λ name. name.now) names
 
-pub unknown_at : (net : Network) (names : List (Bor (List ℕ))) (i : ℕ) (d : Bor (List ℕ)) → i < length names → ((u : ℕ) → IsNamed net (get_or names i d).now u → ⊥) → HasUnknown net (bytes_all names)
+pub unknown_at : (net : Network) (names : List (Bor (List ℕ))) (i : ℕ) (d : Bor (List ℕ)) → i < length names →
+    ((u : ℕ) → IsNamed net (get_or names i d).now u → ⊥) → HasUnknown net (bytes_all names)
 unknown_at net names i d l none =
     let long = length-map names (λ (name : Bor (List ℕ)). name.now) in
     record {
       name = (get_or names i d).now;
-      among = subst (Contains (bytes_all names)) (get_or-map (λ (name : Bor (List ℕ)). name.now) names i d [] l) (Contains-get_or (bytes_all names) i [] (omega (arith, long, l)));
+      among = subst (Contains (bytes_all names)) (get_or-map (λ (name : Bor (List ℕ)). name.now) names i d [] l)
+          (Contains-get_or (bytes_all names) i [] (omega (arith, long, l)));
       unknown = none;
     }
 
 pub named_more : (net : Network) (names : List (Bor (List ℕ))) (i : ℕ) (d : Bor (List ℕ)) (routers : List ℕ) (u : ℕ) → i < length names →
-    AllZip (IsNamed net) (bytes_all (take i names)) routers → IsNamed net (get_or names i d).now u → AllZip (IsNamed net) (bytes_all (take (i + 1) names)) (routers ++ u ∷ [])
+    AllZip (IsNamed net) (bytes_all (take i names)) routers → IsNamed net (get_or names i d).now u →
+    AllZip (IsNamed net) (bytes_all (take (i + 1) names)) (routers ++ u ∷ [])
 named_more net names i d routers u l before here =
     subst (λ some. AllZip (IsNamed net) some (routers ++ u ∷ [])) (sym (map_more (λ (name : Bor (List ℕ)). name.now) names i d l))
     (zip_push (IsNamed net) (bytes_all (take i names)) routers (get_or names i d).now u before here)
 
-pub one_of_at : (net : Network) (wave : List ℕ) (names : List (Bor (List ℕ))) (i : ℕ) (d : Bor (List ℕ)) → i < length names → NamesOneOf net wave (get_or (bytes_all names) i []) → NamesOneOf net wave (get_or names i d).now
+pub one_of_at : (net : Network) (wave : List ℕ) (names : List (Bor (List ℕ))) (i : ℕ) (d : Bor (List ℕ)) → i < length names →
+    NamesOneOf net wave (get_or (bytes_all names) i []) → NamesOneOf net wave (get_or names i d).now
 one_of_at net wave names i d l is = subst (NamesOneOf net wave) (get_or-map (λ (name : Bor (List ℕ)). name.now) names i d [] l) is

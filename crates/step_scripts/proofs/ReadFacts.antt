@@ -1,5 +1,6 @@
 -- What was read of an order file has no faulty line.
-use Rattle.std.proofs.Common.{◌≡◌, ℕ, ◌+◌, ◌<◌, List, [], ◌∷◌, ◌++◌, length, get_or, take, drop, Contains, sym, ap, subst, ◌∙◌, ⊎_elim, arith}
+use Rattle.std.proofs.Common.{◌≡◌, ℕ, ◌+◌, ◌<◌, List, [], ◌∷◌, ◌++◌, length, get_or, take, drop, Contains, sym, ap, subst, ◌∙◌}
+use Rattle.std.proofs.Common.{⊎_elim, arith}
 use Rattle.std.specs.List.{AllZip}
 use Rattle.std.proofs.lemmas.Grind.{flat_map-append}
 use Rattle.std.proofs.lemmas.List.{append-nil, append_assoc, drop_more, take-append-drop}
@@ -10,9 +11,9 @@ use Rattle.net_model.specs.Network.{Network}
 use Rattle.net_model.specs.Refusals.{NamesAscend}
 use Rattle.order_core.specs.Orders.{AreDistinct}
 use Rattle.step_scripts.specs.WaveLines.{wave_on, waves_on, chains_on}
-use Rattle.step_scripts.specs.WaveFiles.{all_in, MayEnd, IsChainOf, AreOfEach}
+use Rattle.step_scripts.specs.WaveFiles.{all_in, MayFollowWaves, IsChainOf, AreOfEach}
 use Rattle.step_scripts.specs.FaultyLines.{IsFaultBehind, NamesNoRouter}
-use Rattle.step_scripts.specs.ReadWaves.{AreWavesRead, AreRead}
+use Rattle.step_scripts.specs.steps.ReadWaves.{AreWavesRead, AreEntriesRead}
 use Rattle.step_scripts.specs.declared.version.Version.{Version}
 use Rattle.step_scripts.specs.declared.kind.OrderKind.{OrderKind}
 use Rattle.step_scripts.specs.declared.kind.OrderKind.TheVariants.{Header, NotInNetwork, Twice, Missing, Wave, Chain}
@@ -27,7 +28,8 @@ all_in-append xs ys = flat_map-append (λ wave. wave) xs ys
 
 module _ (net : Network) (network : NamesAscend net) (version : Version) where
   -- a wave that was read has no name of no router
-  known : (line : List ℕ) (wave : List (List ℕ)) (seat : List ℕ) → Says version line wave → AllZip (IsNamed net) wave seat → (before : List (List ℕ)) → NamesNoRouter net version before line → ⊥
+  known : (line : List ℕ) (wave : List (List ℕ)) (seat : List ℕ) → Says version line wave → AllZip (IsNamed net) wave seat →
+      (before : List (List ℕ)) → NamesNoRouter net version before line → ⊥
   known line wave seat says named before f =
       let same : f.names ≡ wave = cc (f.wave.wave, says) in
       let among = subst (λ l. Contains l f.name) same f.among in
@@ -48,7 +50,8 @@ module _ (net : Network) (network : NamesAscend net) (version : Version) where
       let same = same_router net network (get_or wave place []) its.partner (get_or seat place 0) its.related own in
       let parts : seat ≡ take place seat ++ get_or seat place 0 ∷ drop (place + 1) seat =
       sym (take-append-drop place seat) ∙ ap (λ l. take place seat ++ l) (drop_more seat place 0 inside) in
-      let whole : all_in (seats_front ++ seat ∷ behind) ≡ (all_in seats_front ++ take place seat) ++ get_or seat place 0 ∷ (drop (place + 1) seat ++ all_in behind) =
+      let whole : all_in (seats_front ++ seat ∷ behind) ≡ (all_in seats_front ++ take place seat) ++ get_or seat place 0
+      ∷ (drop (place + 1) seat ++ all_in behind) =
       all_in-append seats_front (seat ∷ behind)
       ∙ ap (λ l. all_in seats_front ++ (l ++ all_in behind)) parts
       ∙ ap (λ l. all_in seats_front ++ l) (append_assoc (take place seat) (get_or seat place 0 ∷ drop (place + 1) seat) (all_in behind))
@@ -57,7 +60,8 @@ module _ (net : Network) (network : NamesAscend net) (version : Version) where
       (subst AreDistinct whole once) (subst (λ v. Contains (all_in seats_front ++ take place seat) v) same its.among)
 
   -- a line among waves that were read isn't faulty
-  no_wave_fault : (lines seats : List (List ℕ)) → AreWavesRead net version lines seats → (before : List (List ℕ)) (line : List ℕ) (after : List (List ℕ)) →
+  no_wave_fault : (lines seats : List (List ℕ)) → AreWavesRead net version lines seats →
+      (before : List (List ℕ)) (line : List ℕ) (after : List (List ℕ)) →
       lines ≡ before ++ line ∷ after → (kind : OrderKind) → IsFaultBehind net version before line kind → ⊥
   no_wave_fault lines seats read before line after parts kind fault =
       by_kind kind fault
@@ -69,7 +73,8 @@ module _ (net : Network) (network : NamesAscend net) (version : Version) where
       here = zip_split (Says version) before line after read.waves each
 
       seat : IsSplit (AllZip (IsNamed net)) here.front here.partner here.back seats
-      seat = zip_split (AllZip (IsNamed net)) here.front here.partner here.back seats (subst (λ l. AllZip (AllZip (IsNamed net)) l seats) here.parts read.named)
+      seat =
+          zip_split (AllZip (IsNamed net)) here.front here.partner here.back seats (subst (λ l. AllZip (AllZip (IsNamed net)) l seats) here.parts read.named)
 
       none : chains_on version before ≡ []
       none = no_chains version before here.front here.before_zip
@@ -80,7 +85,8 @@ module _ (net : Network) (network : NamesAscend net) (version : Version) where
       by_kind Twice f =
           let same : f.names ≡ here.partner = cc (f.wave.wave, here.here) in
           let waves = waves_of version before here.front here.before_zip in
-          fresh here.front seat.front here.partner seat.partner seat.back seat.before_zip seat.here (subst (λ l. AreDistinct (all_in l)) seat.parts read.once) f.place
+          fresh here.front seat.front here.partner seat.partner seat.back seat.before_zip seat.here (subst (λ l. AreDistinct (all_in l)) seat.parts read.once)
+          f.place
           (subst (λ l. f.place < length l) same f.within)
           (subst (λ l. Contains (all_in l ++ take f.place here.partner) (get_or here.partner f.place [])) waves
           (subst (λ l. Contains (all_in (waves_on version before) ++ take f.place l) (get_or l f.place [])) same f.stood))
@@ -102,8 +108,9 @@ module _ (net : Network) (network : NamesAscend net) (version : Version) where
       f.wrong (subst (λ l. AreOfEach l f.names) (sym (waves_of version lines read.waves read.each)) (subst (AreOfEach read.waves) same is.each))
 
   -- the chain is the last line
-  last_fault : (lines seats : List (List ℕ)) (read : AreWavesRead net version lines seats) (front : List (List ℕ)) (line : List ℕ) (after : List (List ℕ)) →
-      MayEnd version read.waves (front ++ line ∷ after) → (kind : OrderKind) → IsFaultBehind net version (lines ++ front) line kind → ⊥
+  last_fault : (lines seats : List (List ℕ)) (read : AreWavesRead net version lines seats) (front : List (List ℕ)) (line : List ℕ)
+      (after : List (List ℕ)) →
+      MayFollowWaves version read.waves (front ++ line ∷ after) → (kind : OrderKind) → IsFaultBehind net version (lines ++ front) line kind → ⊥
   last_fault lines seats read [] line [] ends kind f =
       no_chain_fault lines seats read line ends kind (subst (λ l. IsFaultBehind net version l line kind) (append-nil lines) f)
   last_fault lines seats read [] line (next ∷ after) ends kind f = absurd ends
@@ -111,7 +118,8 @@ module _ (net : Network) (network : NamesAscend net) (version : Version) where
   last_fault lines seats read (first ∷ next ∷ front) line after ends kind f = absurd ends
 
   -- no line of what was read is faulty
-  pub no_fault_in : (entries seats : List (List ℕ)) → AreRead net version entries seats → (before : List (List ℕ)) (line : List ℕ) (after : List (List ℕ)) →
+  pub no_fault_in : (entries seats : List (List ℕ)) → AreEntriesRead net version entries seats →
+      (before : List (List ℕ)) (line : List ℕ) (after : List (List ℕ)) →
       entries ≡ before ++ line ∷ after → (kind : OrderKind) → IsFaultBehind net version before line kind → ⊥
   no_fault_in entries seats read before line after parts kind fault =
       by_part (split_at before line after read.lines read.ending (sym read.parts ∙ parts))
@@ -119,11 +127,11 @@ module _ (net : Network) (network : NamesAscend net) (version : Version) where
       by_part : IsSplitAt before line after read.lines read.ending → ⊥
       by_part (in_first more is rest) = no_wave_fault read.lines seats read.read before line more is kind fault
       by_part (in_second front is rest) =
-          last_fault read.lines seats read.read front line after (subst (MayEnd version read.read.waves) rest read.ends) kind
+          last_fault read.lines seats read.read front line after (subst (MayFollowWaves version read.read.waves) rest read.ends) kind
           (subst (λ l. IsFaultBehind net version l line kind) is fault)
 
   -- the waves among what was read
-  pub waves_read : (entries seats : List (List ℕ)) (read : AreRead net version entries seats) → waves_on version entries ≡ read.read.waves
+  pub waves_read : (entries seats : List (List ℕ)) (read : AreEntriesRead net version entries seats) → waves_on version entries ≡ read.read.waves
   waves_read entries seats read =
       ap (waves_on version) read.parts ∙ filter_map-append (wave_on version) read.lines read.ending
       ∙ ap (λ l. waves_on version read.lines ++ l) (end_no_wave version read.read.waves read.ending read.ends)
@@ -131,5 +139,5 @@ module _ (net : Network) (network : NamesAscend net) (version : Version) where
       ∙ waves_of version read.lines read.read.waves read.read.each
 
   -- waves alone are read
-  pub without_end : (lines seats : List (List ℕ)) → AreWavesRead net version lines seats → AreRead net version lines seats
+  pub without_end : (lines seats : List (List ℕ)) → AreWavesRead net version lines seats → AreEntriesRead net version lines seats
   without_end lines seats read = record { lines = lines; ending = []; parts = sym (append-nil lines); read = read; ends = tt }

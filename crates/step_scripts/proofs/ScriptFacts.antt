@@ -1,5 +1,7 @@
 -- The parts of a script, one after the other, and their lines without comments.
-use Rattle.std.proofs.Common.{◌≡◌, ℕ, suc, ◌+◌, ◌*◌, ◌<◌, ◌≤◌, Bool, true, false, not, ◌&&◌, if◌then◌else◌, List, [], ◌∷◌, ◌++◌, length, filter, get_or, take, drop, Option, Some, None, slice_get, refl, sym, ap, ◌∙◌, append_assoc, append-nil, arith}
+use Rattle.std.proofs.Common.{◌≡◌, ℕ, suc, ◌+◌, ◌*◌, ◌<◌, ◌≤◌, Bool, true, false, not, ◌&&◌, if◌then◌else◌, List, []}
+use Rattle.std.proofs.Common.{◌∷◌, ◌++◌, length, filter, get_or, take, drop, Option, Some, None, slice_get, refl, sym, ap, ◌∙◌, append_assoc}
+use Rattle.std.proofs.Common.{append-nil, arith}
 use Rattle.std.specs.List.{flat_map}
 use Rattle.std.proofs.lemmas.List.{take-append-drop, take_more, length-take-le}
 use Rattle.std.proofs.lemmas.List.Concat.{flat_map-append}
@@ -10,8 +12,10 @@ use Rattle.net_model.specs.declared.bounds.TheConstants.{ISIS_DISTANCE}
 use Rattle.order_core.specs.Rankings.{rank_of, flat_of}
 use Rattle.igp_theory.specs.Waves.{Change, first, second, changed, run_along}
 use Rattle.printed_lines.specs.Texts.{text_of}
+use Rattle.printed_lines.proofs.TextSteps.{text_of-append}
 use Rattle.step_scripts.specs.declared.version.Version.{Version}
-use Rattle.step_scripts.specs.Scripts.{isis_head, distance_line, name_on, change_comment, isis_lines, process_lines, said_of, change_lines, wave_comment, wave_lines, shows_waves, opens_wave, change_part, change_parts, end_lines, is_comment}
+use Rattle.step_scripts.specs.Scripts.{isis_head, distance_line, name_on, change_comment, isis_change_lines, ospf_change_lines, by_configuration, change_lines}
+use Rattle.step_scripts.specs.Scripts.{wave_comment, wave_comments, shows_waves, opens_wave, change_part, change_parts, end_lines, is_comment}
 use Rattle.step_scripts.specs.ScriptLaws.{IsFrontOfScript}
 
 -- ---- parts one after the other ----
@@ -28,10 +32,8 @@ parts_append version net ranks made (c ∷ one) two =
     (parts_append version net ranks (made + 1) one two
     ∙ ap (λ k. change_parts version net ranks (made + 1) one ++ change_parts version net ranks k two)
     (let e : made + 1 + length one ≡ made + suc (length one) = omega arith in e))
-    ∙ sym (append_assoc (change_part version net ranks (made + 1) c) (change_parts version net ranks (made + 1) one) (change_parts version net ranks (made + length (c ∷ one)) two))
-
-pub text_of-append : (one two : List (List ℕ)) → text_of (one ++ two) ≡ text_of one ++ text_of two
-text_of-append one two = flat_map-append (λ (line : List ℕ). line ++ 10 ∷ []) one two
+    ∙ sym (append_assoc (change_part version net ranks (made + 1) c) (change_parts version net ranks (made + 1) one)
+    (change_parts version net ranks (made + length (c ∷ one)) two))
 
 -- the text of the parts for the routers before a place, and for the one there
 pub text_more : (version : Version) (net : Network) (ranks order : List ℕ) (place u d : ℕ) → place < length order → u ≡ get_or order place d →
@@ -40,17 +42,20 @@ pub text_more : (version : Version) (net : Network) (ranks order : List ℕ) (pl
     ++ text_of (change_part version net ranks (2 * place + 2) (second u))
 text_more version net ranks order place u d within is =
     let before : List ℕ = take place order in
-    let long : length (run_along before) ≡ 2 * place = run_length before ∙ ap (λ k. 2 * k) (length-take-le place order (let e : place ≤ length order = omega (arith, within) in e)) in
+    let long : length (run_along before) ≡ 2 * place =
+    run_length before ∙ ap (λ k. 2 * k) (length-take-le place order (let e : place ≤ length order = omega (arith, within) in e)) in
     let taken : take (place + 1) order ≡ before ++ u ∷ [] = take_more order place d within ∙ ap (λ v. before ++ v ∷ []) (sym is) in
     let run : run_along (take (place + 1) order) ≡ run_along before ++ first u ∷ second u ∷ [] =
     ap run_along taken ∙ flat_map-append (λ (v : ℕ). first v ∷ second v ∷ []) before (u ∷ []) in
     let one : List (List ℕ) = change_part version net ranks (2 * place + 1) (first u) in
     let two : List (List ℕ) = change_part version net ranks (2 * place + 2) (second u) in
     let parts : change_parts version net ranks (2 * place) (first u ∷ second u ∷ []) ≡ one ++ two =
-    ap (λ l. one ++ l) (append-nil (change_part version net ranks (2 * place + 1 + 1) (second u)) ∙ ap (λ k. change_part version net ranks k (second u)) (let e : 2 * place + 1 + 1 ≡ 2 * place + 2 = omega arith in e)) in
+    ap (λ l. one ++ l) (append-nil (change_part version net ranks (2 * place + 1 + 1) (second u)) ∙ ap (λ k. change_part version net ranks k (second u))
+    (let e : 2 * place + 1 + 1 ≡ 2 * place + 2 = omega arith in e)) in
     ap (λ r. text_of (change_parts version net ranks 0 r)) run
     ∙ ap text_of (parts_append version net ranks 0 (run_along before) (first u ∷ second u ∷ []))
-    ∙ text_of-append (change_parts version net ranks 0 (run_along before)) (change_parts version net ranks (0 + length (run_along before)) (first u ∷ second u ∷ []))
+    ∙ text_of-append (change_parts version net ranks 0 (run_along before)) (change_parts version net ranks (0 + length (run_along before))
+    (first u ∷ second u ∷ []))
     ∙ ap (λ k. text_of (change_parts version net ranks 0 (run_along before)) ++ text_of (change_parts version net ranks k (first u ∷ second u ∷ [])))
     (let e : 0 + length (run_along before) ≡ 2 * place = omega (arith, long) in e)
     ∙ ap (λ l. text_of (change_parts version net ranks 0 (run_along before)) ++ text_of l) parts
@@ -62,34 +67,37 @@ text_more version net ranks order place u d within is =
 abbrev plain : List ℕ → Bool
 plain line = not (is_comment line)
 
-plain_isis : (c : Configuration) → filter plain (isis_lines c) ≡ isis_lines c
+plain_isis : (c : Configuration) → filter plain (isis_change_lines c) ≡ isis_change_lines c
 plain_isis c = by_isis c.isis c.tag
   where
     by_tag : (tag : List ℕ) → plain (isis_head tag) ≡ true
     by_tag [] = refl
     by_tag (b ∷ tag) = refl
 
-    by_isis : (isis : Bool) (tag : List ℕ) → filter plain (if isis then isis_head tag ∷ distance_line ISIS_DISTANCE ∷ [] else []) ≡ (if isis then isis_head tag ∷ distance_line ISIS_DISTANCE ∷ [] else [])
+    by_isis : (isis : Bool) (tag : List ℕ) → filter plain (if isis then isis_head tag ∷ distance_line ISIS_DISTANCE ∷ [] else [])
+        ≡ (if isis then isis_head tag ∷ distance_line ISIS_DISTANCE ∷ [] else [])
     by_isis false tag = refl
     by_isis true tag = ap (λ (b : Bool). if b then isis_head tag ∷ distance_line ISIS_DISTANCE ∷ [] else distance_line ISIS_DISTANCE ∷ []) (by_tag tag)
 
-plain_process : (process : Option ℕ) → filter plain (process_lines process) ≡ process_lines process
+plain_process : (process : Option ℕ) → filter plain (ospf_change_lines process) ≡ ospf_change_lines process
 plain_process None = refl
 plain_process (Some process) = refl
 
 plain_change : (net : Network) (c : Change) → filter plain (change_lines net c) ≡ change_lines net c
 plain_change net (first u) = by_router (slice_get net u)
   where
-    by_router : (o : Option Configuration) → filter plain (said_of isis_lines o) ≡ said_of isis_lines o
+    by_router : (o : Option Configuration) → filter plain (by_configuration isis_change_lines o) ≡ by_configuration isis_change_lines o
     by_router None = refl
     by_router (Some c) = plain_isis c
 plain_change net (second u) = by_router (slice_get net u)
   where
-    by_router : (o : Option Configuration) → filter plain (said_of (λ (c : Configuration). process_lines c.process) o) ≡ said_of (λ (c : Configuration). process_lines c.process) o
+    by_router : (o : Option Configuration) → filter plain (by_configuration (λ (c : Configuration). ospf_change_lines c.process) o) ≡ by_configuration
+        (λ (c : Configuration). ospf_change_lines c.process) o
     by_router None = refl
     by_router (Some c) = plain_process c.process
 
-plain_wave : (version : Version) (ranks : List ℕ) (c : Change) (more : List (List ℕ)) → filter plain (wave_lines version ranks c ++ more) ≡ filter plain more
+plain_wave : (version : Version) (ranks : List ℕ) (c : Change) (more : List (List ℕ)) →
+    filter plain (wave_comments version ranks c ++ more) ≡ filter plain more
 plain_wave version ranks (first u) more = by_test (shows_waves version && opens_wave ranks u)
   where
     by_test : (b : Bool) → filter plain ((if b then wave_comment (rank_of ranks u + 1) ∷ [] else []) ++ more) ≡ filter plain more
@@ -97,7 +105,8 @@ plain_wave version ranks (first u) more = by_test (shows_waves version && opens_
     by_test false = refl
 plain_wave version ranks (second u) more = refl
 
-plain_part : (version : Version) (net : Network) (ranks : List ℕ) (number : ℕ) (c : Change) → filter plain (change_part version net ranks number c) ≡ change_lines net c
+plain_part : (version : Version) (net : Network) (ranks : List ℕ) (number : ℕ) (c : Change) →
+    filter plain (change_part version net ranks number c) ≡ change_lines net c
 plain_part version net ranks number c =
     plain_wave version ranks c (change_comment number (name_on net (changed c)) ∷ change_lines net c) ∙ plain_change net c
 

@@ -8,13 +8,15 @@ pub data IsSplitAt {A : Type 0} (before : List A) (x : A) (after first second : 
   in_first : (more : List A) → first ≡ before ++ x ∷ more → after ≡ more ++ second → IsSplitAt before x after first second
   in_second : (front : List A) → before ≡ first ++ front → second ≡ front ++ x ∷ after → IsSplitAt before x after first second
 
-further : {A : Type 0} (z b : A) (before : List A) (x : A) (after first second : List A) → z ≡ b → IsSplitAt before x after first second → IsSplitAt (b ∷ before) x after (z ∷ first) second
+further : {A : Type 0} (z b : A) (before : List A) (x : A) (after first second : List A) → z ≡ b → IsSplitAt before x after first second →
+    IsSplitAt (b ∷ before) x after (z ∷ first) second
 further z b before x after first second same (in_first more is rest) =
     in_first more (ap (λ (v : _). v ∷ first) same ∙ ap (λ l. b ∷ l) is) rest
 further z b before x after first second same (in_second front is rest) =
     in_second front (ap (λ (v : _). v ∷ before) (sym same) ∙ ap (λ l. z ∷ l) is) rest
 
-pub split_at : {A : Type 0} (before : List A) (x : A) (after first second : List A) → first ++ second ≡ before ++ x ∷ after → IsSplitAt before x after first second
+pub split_at : {A : Type 0} (before : List A) (x : A) (after first second : List A) → first ++ second ≡ before ++ x ∷ after →
+    IsSplitAt before x after first second
 split_at before x after [] second same = in_second before refl same
 split_at [] x after (z ∷ first) second same =
     let head : z ≡ x = cc in

@@ -1,5 +1,6 @@
 -- What is printed of a wave list reads back.
-use Rattle.std.proofs.Common.{◌≡◌, ◌≢◌, ℕ, ◌+◌, ◌<◌, Bool, true, false, cond, Some, None, List, [], ◌∷◌, ◌++◌, length, get_or, map, Contains, refl, sym, ap, subst, ◌∙◌, ⊎_elim, arith, append-nil}
+use Rattle.std.proofs.Common.{◌≡◌, ◌≢◌, ℕ, ◌+◌, ◌<◌, Bool, true, false, cond, Some, None, List, [], ◌∷◌, ◌++◌, length, get_or}
+use Rattle.std.proofs.Common.{map, Contains, refl, sym, ap, subst, ◌∙◌, ⊎_elim, arith, append-nil}
 use Rattle.std.specs.Prelude.{codes, bytes_eq, nat_lt}
 use Rattle.std.specs.List.{All, AllZip, list_all, slice_split}
 use Rattle.std.proofs.lemmas.Bool.{and_from, and_parts, cases_lt, lt-ltb, ltb-true}
@@ -27,7 +28,7 @@ use Rattle.printed_lines.proofs.LineFacts.{lines_read_back}
 use Rattle.printed_lines.proofs.WordFacts.{words_make_lines}
 use Rattle.step_scripts.specs.WaveLines.{header_of, are_names, named_pieces, names_behind}
 use Rattle.step_scripts.specs.WaveFiles.{all_in, wave_at, AreOfEach, AreWaves, NamesWaves}
-use Rattle.step_scripts.specs.WavesTexts.{waves_in, AreOneOfEach, named, named_line, wave_lines, waves_text}
+use Rattle.step_scripts.specs.WavesTexts.{waves_in, AreOneOfEach, names_at, named_line, wave_lines, waves_text}
 use Rattle.step_scripts.specs.declared.version.Version.TheVariants.{Two}
 use Rattle.step_scripts.proofs.Routers.{has_name}
 use Rattle.step_scripts.proofs.WaveLineFacts.{Says}
@@ -42,11 +43,13 @@ no_blanks : (word : List ℕ) → IsPrintedWord word → All (λ b. is_blank b �
 no_blanks word fine = All-weaker IsWordByte (λ b. is_blank b ≡ false) no_blank word fine.bytes
 
 -- the pieces of joined words are these words
-pieces_are : (word : List ℕ) (more : List (List ℕ)) → IsPrintedWord word → All IsPrintedWord more → slice_split is_blank (word ++ spaced more) ≡ word ∷ more
+pieces_are : (word : List ℕ) (more : List (List ℕ)) → IsPrintedWord word → All IsPrintedWord more →
+    slice_split is_blank (word ++ spaced more) ≡ word ∷ more
 pieces_are word [] fine others = ap (slice_split is_blank) (append-nil word) ∙ slice_split_none is_blank word (no_blanks word fine)
 pieces_are word (next ∷ more) fine others =
     slice_split_at is_blank word 32 (next ++ spaced more) (no_blanks word fine) refl
-    ∙ ap (λ (pieces : List (List ℕ)). word ∷ pieces) (pieces_are next more (All-head IsPrintedWord next more others) (All-tail IsPrintedWord next more others))
+    ∙ ap (λ (pieces : List (List ℕ)). word ∷ pieces) (pieces_are next more (All-head IsPrintedWord next more others)
+    (All-tail IsPrintedWord next more others))
 
 -- words that are printed are names
 all_some : (words : List (List ℕ)) → All IsPrintedWord words → list_all (λ name. nat_lt 0 (length name)) words ≡ true
@@ -60,7 +63,8 @@ names_are words some fine =
     and_from (nat_lt 0 (length words)) (list_all (λ name. nat_lt 0 (length name)) words) (lt-ltb 0 (length words) some) (all_some words fine)
 
 -- a word and names, joined by one blank each, have these names behind this word
-behind_joined : (word : List ℕ) (names : List (List ℕ)) → bytes_eq word word ≡ true → IsPrintedWord word → 0 < length names → All IsPrintedWord names →
+behind_joined : (word : List ℕ) (names : List (List ℕ)) → bytes_eq word word ≡ true → IsPrintedWord word → 0 < length names →
+    All IsPrintedWord names →
     names_behind word (joined (word ∷ names)) ≡ Some names
 behind_joined word names same fine some words =
     ap (named_pieces word) (pieces_are word names fine words)
@@ -68,7 +72,13 @@ behind_joined word names same fine some words =
 
 -- a word of bytes above the blanks can be printed
 above_blanks : (b : ℕ) → 32 < b → IsWordByte b
-above_blanks b l = record { no_space = λ e. omega (arith, e, l); no_tab = λ e. omega (arith, e, l); no_feed = λ e. omega (arith, e, l); no_return = λ e. omega (arith, e, l) }
+above_blanks b l = record {
+  no_space = λ e. omega (arith, e, l);
+  no_tab = λ e. omega (arith, e, l);
+  no_feed = λ e. omega (arith, e, l);
+  no_return =
+      λ e. omega (arith, e, l);
+}
 
 pub plain_word : (word : List ℕ) → 0 < length word → list_all (λ b. nat_lt 32 b) word ≡ true → IsPrintedWord word
 plain_word word some all = record { some = some; bytes = each word all }
@@ -112,7 +122,8 @@ wave_rank ranks w u c =
     ⊎_elim
     (λ below.
     let number = get_or-range_with_len 0 (wave_count ranks) w 0 below in
-    let at = get_or-map (wave_of ranks) (numbers_below (wave_count ranks)) w 0 [] (subst (λ n. w < n) (sym (length-range_with_len 0 (wave_count ranks))) below) in
+    let at =
+    get_or-map (wave_of ranks) (numbers_below (wave_count ranks)) w 0 [] (subst (λ n. w < n) (sym (length-range_with_len 0 (wave_count ranks))) below) in
     let same : get_or (numbers_below (wave_count ranks)) w 0 ≡ w = omega (arith, number) in
     ((wave_routers ranks w u).0 (subst (λ l. Contains l u) (at ∙ ap (wave_of ranks) same) c)).1)
     (λ past. absurd (none_there (subst (λ l. Contains l u) (get_or_past (waves_in ranks) w [] (omega (arith, past, waves_long ranks))) c)))
@@ -132,9 +143,11 @@ count_some (rank ∷ ranks) some = omega arith
 -- the routers of a wave are below the count
 pub wave_below : (ranks : List ℕ) (w n : ℕ) → length ranks ≡ n → All (λ u. u < n) (wave_of ranks w)
 wave_below ranks w n each =
-    All-weaker (Contains (wave_of ranks w)) (λ u. u < n) (λ u c. subst (λ m. u < m) each ((wave_routers ranks w u).0 c).0) (wave_of ranks w) (All-contains_itself (wave_of ranks w))
+    All-weaker (Contains (wave_of ranks w)) (λ u. u < n) (λ u c. subst (λ m. u < m) each ((wave_routers ranks w u).0 c).0) (wave_of ranks w)
+    (All-contains_itself (wave_of ranks w))
 
-chain_below : (n : ℕ) (waves : List (List ℕ)) (chain : List ℕ) → AllZip (λ (wave : List ℕ) (u : ℕ). Contains wave u) waves chain → All (All (λ u. u < n)) waves → All (λ u. u < n) chain
+chain_below : (n : ℕ) (waves : List (List ℕ)) (chain : List ℕ) → AllZip (λ (wave : List ℕ) (u : ℕ). Contains wave u) waves chain →
+    All (All (λ u. u < n)) waves → All (λ u. u < n) chain
 chain_below n [] [] each below = All-nil (λ u. u < n)
 chain_below n [] (u ∷ chain) each below = absurd each
 chain_below n (wave ∷ waves) [] each below = absurd each
@@ -182,38 +195,44 @@ module _ (net : Network) (network : IsNetwork net) where
       let whole = subst IsConfiguration same (network.configurations u its.config l) in
       subst IsPrintedWord its.name_is (record { some = whole.name.some; bytes = All-weaker IsNameByte IsWordByte name_byte its.config.name whole.name.bytes })
 
-  names_words : (routers : List ℕ) → All Below routers → All IsPrintedWord (named (names_of net) routers)
-  names_words routers below = All-map IsPrintedWord (λ u. get_or (names_of net) u []) routers (All-weaker Below (λ u. IsPrintedWord (get_or (names_of net) u [])) name_word routers below)
+  names_words : (routers : List ℕ) → All Below routers → All IsPrintedWord (names_at (names_of net) routers)
+  names_words routers below = All-map IsPrintedWord (λ u. get_or (names_of net) u []) routers
+      (All-weaker Below (λ u. IsPrintedWord (get_or (names_of net) u [])) name_word routers below)
 
-  named_zip : (routers : List ℕ) → All Below routers → AllZip (IsNamed net) (named (names_of net) routers) routers
+  named_zip : (routers : List ℕ) → All Below routers → AllZip (IsNamed net) (names_at (names_of net) routers) routers
   named_zip [] below = tt
   named_zip (u ∷ routers) below = (own_name u (All-head Below u routers below), named_zip routers (All-tail Below u routers below))
 
-  waves_zip : (waves : List (List ℕ)) → All (All Below) waves → AllZip (AllZip (IsNamed net)) (map (named (names_of net)) waves) waves
+  waves_zip : (waves : List (List ℕ)) → All (All Below) waves → AllZip (AllZip (IsNamed net)) (map (names_at (names_of net)) waves) waves
   waves_zip [] below = tt
   waves_zip (wave ∷ waves) below = (named_zip wave (All-head (All Below) wave waves below), waves_zip waves (All-tail (All Below) wave waves below))
 
-  some_named : (routers : List ℕ) → 0 < length routers → 0 < length (named (names_of net) routers)
+  some_named : (routers : List ℕ) → 0 < length routers → 0 < length (names_at (names_of net) routers)
   some_named routers some = omega (arith, some, length-map routers (λ (u : ℕ). get_or (names_of net) u []))
 
   -- the line of a wave says it
-  lines_say : (waves : List (List ℕ)) → All (All Below) waves → All (λ wave. 0 < length wave) waves → AllZip (Says Two) (wave_lines (names_of net) waves) (map (named (names_of net)) waves)
+  lines_say : (waves : List (List ℕ)) → All (All Below) waves → All (λ wave. 0 < length wave) waves →
+      AllZip (Says Two) (wave_lines (names_of net) waves) (map (names_at (names_of net)) waves)
   lines_say [] below some = tt
   lines_say (wave ∷ waves) below some = (
-    behind_joined (codes "wave") (named (names_of net) wave) refl wave_word (some_named wave (All-head (λ (w : List ℕ). 0 < length w) wave waves some))
+    behind_joined (codes "wave") (names_at (names_of net) wave) refl wave_word (some_named wave (All-head (λ (w : List ℕ). 0 < length w) wave waves some))
         (names_words wave (All-head (All Below) wave waves below)),
     lines_say waves (All-tail (All Below) wave waves below) (All-tail (λ (w : List ℕ). 0 < length w) wave waves some),
   )
 
   line_printed : (word : List ℕ) (routers : List ℕ) → IsPrintedWord word → All Below routers → IsPrintedLine (named_line (names_of net) word routers)
-  line_printed word routers fine below = (words_make_lines (word ∷ named (names_of net) routers) (All-cons IsPrintedWord word (named (names_of net) routers) fine (names_words routers below))).0
+  line_printed word routers fine below =
+      (words_make_lines (word ∷ names_at (names_of net) routers) (All-cons IsPrintedWord word (names_at (names_of net) routers) fine
+      (names_words routers below))).0
 
   lines_printed : (waves : List (List ℕ)) → All (All Below) waves → All IsPrintedLine (wave_lines (names_of net) waves)
   lines_printed waves below = All-map IsPrintedLine (named_line (names_of net) (codes "wave")) waves
-      (All-weaker (All Below) (λ wave. IsPrintedLine (named_line (names_of net) (codes "wave") wave)) (λ wave b. line_printed (codes "wave") wave wave_word b) waves below)
+      (All-weaker (All Below) (λ wave. IsPrintedLine (named_line (names_of net) (codes "wave") wave)) (λ wave b.
+      line_printed (codes "wave") wave wave_word b) waves below)
 
   -- the names of a chain are names of each wave
-  chain_each : (waves : List (List ℕ)) (chain : List ℕ) → AllZip (λ (wave : List ℕ) (u : ℕ). Contains wave u) waves chain → AreOfEach (map (named (names_of net)) waves) (named (names_of net) chain)
+  chain_each : (waves : List (List ℕ)) (chain : List ℕ) → AllZip (λ (wave : List ℕ) (u : ℕ). Contains wave u) waves chain →
+      AreOfEach (map (names_at (names_of net)) waves) (names_at (names_of net) chain)
   chain_each [] [] each = tt
   chain_each [] (u ∷ chain) each = absurd each
   chain_each (wave ∷ waves) [] each = absurd each
@@ -221,7 +240,8 @@ module _ (net : Network) (network : IsNetwork net) where
     (
       each.0.0,
       subst (λ n. each.0.0 < n) (sym (length-map wave (λ (v : ℕ). get_or (names_of net) v []))) each.0.1,
-      get_or-map (λ (v : ℕ). get_or (names_of net) v []) wave each.0.0 u (get_or (names_of net) u []) each.0.1 ∙ ap (λ v. get_or (names_of net) v []) each.0.2,
+      get_or-map (λ (v : ℕ). get_or (names_of net) v []) wave each.0.0 u (get_or (names_of net) u []) each.0.1
+          ∙ ap (λ v. get_or (names_of net) v []) each.0.2,
     ),
     chain_each waves chain each.1,
   )
@@ -233,7 +253,7 @@ module _ (net : Network) (network : IsNetwork net) where
     waves_some : All (λ wave. 0 < length wave) (waves_in ranks)
     waves_some = each_wave ranks (λ wave. 0 < length wave) (λ w l. wave_some (length net) ranks w ranking l)
 
-    waves_are : AreWaves net (map (named (names_of net)) (waves_in ranks)) ranks
+    waves_are : AreWaves net (map (names_at (names_of net)) (waves_in ranks)) ranks
     waves_are = record {
       routers = waves_in ranks;
       named = waves_zip (waves_in ranks) waves_below;
@@ -257,16 +277,17 @@ module _ (net : Network) (network : IsNetwork net) where
           lines = lines;
           ending = last ∷ [];
           whole = (lines_read_back (header_of Two ∷ (lines ++ last ∷ [])) printed).texts;
-          waves = map (named (names_of net)) (waves_in ranks);
+          waves = map (names_at (names_of net)) (waves_in ranks);
           each = lines_say (waves_in ranks) waves_below waves_some;
           ends = record {
-            names = named (names_of net) chain;
-            chain = behind_joined (codes "chain") (named (names_of net) chain) refl chain_word (some_named chain chained) (names_words chain below);
+            names = names_at (names_of net) chain;
+            chain = behind_joined (codes "chain") (names_at (names_of net) chain) refl chain_word (some_named chain chained) (names_words chain below);
             each = chain_each (waves_in ranks) chain each;
           };
           are = waves_are;
         }
 
-pub waves_read_back : (net : Network) (ranks chain : List ℕ) → IsNetwork net → 0 < length net → IsRanking (length net) ranks → AreOneOfEach ranks chain →
+pub waves_read_back : (net : Network) (ranks chain : List ℕ) → IsNetwork net → 0 < length net → IsRanking (length net) ranks →
+    AreOneOfEach ranks chain →
     NamesWaves net (waves_text (names_of net) ranks chain) Two ranks
 waves_read_back net ranks chain network some ranking each = names_waves net network ranks ranking some chain each

@@ -1,5 +1,6 @@
 -- A text names one wave list at most, and where it names one no line is faulty.
-use Rattle.std.proofs.Common.{◌≡◌, ◌≢◌, ℕ, ◌<◌, List, [], ◌∷◌, ◌++◌, length, get_or, Contains, refl, sym, ap, subst, ◌∙◌, arith}
+use Rattle.std.proofs.Common.{◌≡◌, ◌≢◌, ℕ, ◌<◌, List, [], ◌∷◌, ◌++◌, length, get_or, Contains, refl, sym, ap, subst, ◌∙◌}
+use Rattle.std.proofs.Common.{arith}
 use Rattle.std.specs.List.{AllZip}
 use Rattle.std.proofs.lemmas.List.{same_lists, get_or_default}
 use Rattle.net_model.specs.Lookups.{IsNamed}
@@ -8,8 +9,8 @@ use Rattle.net_model.specs.Refusals.{NamesAscend}
 use Rattle.net_model.proofs.Names.{named_within}
 use Rattle.step_scripts.specs.WaveLines.{header_of, waves_on}
 use Rattle.step_scripts.specs.WaveFiles.{all_in, wave_at, AreWaves, NamesWaves}
-use Rattle.step_scripts.specs.FaultyLines.{IsFaultyLine, IsLeastFaultyLine, HasFaultyEntry, RefusesWaves, rank}
-use Rattle.step_scripts.specs.ReadWaves.{AreRead}
+use Rattle.step_scripts.specs.FaultyLines.{IsFaultyLine, IsLeastFaultyLine, HasFaultyEntry, RefusesWaves, order_kind_rank}
+use Rattle.step_scripts.specs.steps.ReadWaves.{AreEntriesRead}
 use Rattle.step_scripts.specs.declared.version.Version.{Version}
 use Rattle.step_scripts.specs.declared.kind.OrderKind.{OrderKind}
 use Rattle.step_scripts.specs.declared.kind.OrderKind.TheVariants.{Header, NotInNetwork, Twice, Missing, Wave, Chain}
@@ -24,7 +25,7 @@ use Rattle.step_scripts.proofs.LeastFaults.{first_header}
 
 -- the entries of a text that names a wave list
 module _ (net : Network) (text : List ℕ) (version : Version) (ranks : List ℕ) (n : NamesWaves net text version ranks) where
-  abbrev read_all : AreRead net version (n.lines ++ n.ending) n.are.routers
+  abbrev read_all : AreEntriesRead net version (n.lines ++ n.ending) n.are.routers
   read_all = record {
     lines = n.lines;
     ending = n.ending;
@@ -40,17 +41,19 @@ module _ (net : Network) (text : List ℕ) (version : Version) (ranks : List ℕ
   no_entry network number kind f =
       let same : n.lines ++ n.ending ≡ f.before ++ f.line ∷ f.after = cc (n.whole, f.lines) in
       let its : version ≡ f.version = one_header version f.version (let both : header_of version ≡ header_of f.version = cc (n.whole, f.lines) in both) in
-      let read = subst (λ v. AreRead net v (n.lines ++ n.ending) n.are.routers) its read_all in
+      let read = subst (λ v. AreEntriesRead net v (n.lines ++ n.ending) n.are.routers) its read_all in
       no_fault_in net network f.version (n.lines ++ n.ending) n.are.routers read f.before f.line f.after same kind f.fault
 
 -- waves have one list of ranks
-one_ranks : (net : Network) → NamesAscend net → (waves : List (List (List ℕ))) (one other : List ℕ) → AreWaves net waves one → AreWaves net waves other → one ≡ other
+one_ranks : (net : Network) → NamesAscend net → (waves : List (List (List ℕ))) (one other : List ℕ) → AreWaves net waves one →
+    AreWaves net waves other → one ≡ other
 one_ranks net network waves one other a b =
     same_lists one other (a.each ∙ sym b.each) (λ k d within.
     let lt : k < length net = subst (λ n. k < n) a.each within in
     let in_other : k < length other = subst (λ n. k < n) (sym b.each) lt in
     let its = seat_of a.routers k ((a.once.all k).1 lt) in
-    let routers : a.routers ≡ b.routers = zip_unique (AllZip (IsNamed net)) (λ names us vs. zip_unique (IsNamed net) (same_router net network) names us vs) waves a.routers b.routers a.named b.named in
+    let routers : a.routers ≡ b.routers = zip_unique (AllZip (IsNamed net)) (λ names us vs. zip_unique (IsNamed net) (same_router net network) names us vs)
+    waves a.routers b.routers a.named b.named in
     let there = subst (λ l. Contains (wave_at l its.wave) k) routers its.is_in.among in
     get_or_default one k d 0 within ∙ a.seats its.wave k its.is_in.among ∙ sym (b.seats its.wave k there) ∙ get_or_default other k 0 d in_other)
 
@@ -87,7 +90,7 @@ no_fault net text version ranks number Missing network n f =
 abbrev kind_at : ℕ → OrderKind
 kind_at n = get_or (Header ∷ Header ∷ NotInNetwork ∷ Twice ∷ Missing ∷ Wave ∷ Chain ∷ []) n Header
 
-kind_back : (kind : OrderKind) → kind_at (rank kind) ≡ kind
+kind_back : (kind : OrderKind) → kind_at (order_kind_rank kind) ≡ kind
 kind_back Header = refl
 kind_back NotInNetwork = refl
 kind_back Twice = refl
@@ -96,15 +99,17 @@ kind_back Wave = refl
 kind_back Chain = refl
 
 -- a text has one least faulty line, and one lowest kind on it
-pub one_faulty_line : (net : Network) (text : List ℕ) (l m : ℕ) (k j : OrderKind) → IsLeastFaultyLine net text l k → IsLeastFaultyLine net text m j → (l ≡ m) × (k ≡ j)
+pub one_faulty_line : (net : Network) (text : List ℕ) (l m : ℕ) (k j : OrderKind) → IsLeastFaultyLine net text l k →
+    IsLeastFaultyLine net text m j → (l ≡ m) × (k ≡ j)
 one_faulty_line net text l m k j one other =
     let line : l ≡ m = omega (arith, one.least m j other.faulty, other.least l k one.faulty) in
     let here : IsFaultyLine net text l j = subst (λ n. IsFaultyLine net text n j) (sym line) other.faulty in
     let there : IsFaultyLine net text m k = subst (λ n. IsFaultyLine net text n k) line one.faulty in
-    let ranks : rank k ≡ rank j = omega (arith, one.lowest j here, other.lowest k there) in
+    let ranks : order_kind_rank k ≡ order_kind_rank j = omega (arith, one.lowest j here, other.lowest k there) in
     (line, sym (kind_back k) ∙ ap kind_at ranks ∙ kind_back j)
 
-pub one_refusal : (net : Network) (text : List ℕ) (one other : OrderRefusal) → one ≢ OutOfMemory → other ≢ OutOfMemory → RefusesWaves net text one → RefusesWaves net text other → one ≡ other
+pub one_refusal : (net : Network) (text : List ℕ) (one other : OrderRefusal) → one ≢ OutOfMemory → other ≢ OutOfMemory →
+    RefusesWaves net text one → RefusesWaves net text other → one ≡ other
 one_refusal net text (Bad l k) (Bad m j) first second one two =
     let same = one_faulty_line net text l m k j one two in
     ap (λ n. Bad n k) same.0 ∙ ap (λ kind. Bad m kind) same.1

@@ -1,12 +1,13 @@
 -- What a line of an order file can say: a wave or a chain, and not both.
-use Rattle.std.proofs.Common.{◌≡◌, ℕ, ◌<◌, Bool, true, false, cond, ◌&&◌, Option, Some, None, List, [], ◌∷◌, length, get_or, refl, sym, ap, subst, arith}
+use Rattle.std.proofs.Common.{◌≡◌, ℕ, ◌<◌, Bool, true, false, cond, ◌&&◌, Option, Some, None, List, [], ◌∷◌, length, get_or, refl, sym}
+use Rattle.std.proofs.Common.{ap, subst, arith}
 use Rattle.std.specs.Prelude.{codes, bytes_eq, nat_lt}
 use Rattle.std.specs.List.{AllZip, list_all, slice_split}
 use Rattle.std.proofs.lemmas.Bool.{and_parts, ltb-true}
 use Rattle.std.proofs.lemmas.Slice.Eq.{bytes_eq-Decides}
 use Rattle.net_addr.specs.Blanks.{is_blank}
 use Rattle.step_scripts.specs.WaveLines.{header_of, are_names, named_pieces, wave_on, chain_on, waves_on, chains_on}
-use Rattle.step_scripts.specs.WaveFiles.{MayEnd}
+use Rattle.step_scripts.specs.WaveFiles.{MayFollowWaves}
 use Rattle.step_scripts.specs.declared.version.Version.{Version}
 use Rattle.step_scripts.specs.declared.version.Version.TheVariants.{One, Two}
 
@@ -27,16 +28,19 @@ pub record IsBehind (word first : List ℕ) (rest names : List (List ℕ)) : Typ
   pub names_are : names ≡ rest
   pub are : are_names rest ≡ true
 
-behind : (word first : List ℕ) (rest names : List (List ℕ)) (b : Bool) → (bytes_eq first word && are_names rest) ≡ b → cond b (Some rest) None ≡ Some names → IsBehind word first rest names
+behind : (word first : List ℕ) (rest names : List (List ℕ)) (b : Bool) → (bytes_eq first word && are_names rest) ≡ b →
+    cond b (Some rest) None ≡ Some names → IsBehind word first rest names
 behind word first rest names true is same =
     let both = and_parts (bytes_eq first word) (are_names rest) is in
     record { word_is = (bytes_eq-Decides first word).0 both.0; names_are = cc; are = both.1 }
 behind word first rest names false is same = absurd cc
 
-pub behind_first : (word first : List ℕ) (rest names : List (List ℕ)) → named_pieces word (first ∷ rest) ≡ Some names → IsBehind word first rest names
+pub behind_first : (word first : List ℕ) (rest names : List (List ℕ)) → named_pieces word (first ∷ rest) ≡ Some names →
+    IsBehind word first rest names
 behind_first word first rest names same = behind word first rest names (bytes_eq first word && are_names rest) refl same
 
-another_word : (pieces : List (List ℕ)) (names : List (List ℕ)) → named_pieces (codes "chain") pieces ≡ Some names → named_pieces (codes "wave") pieces ≡ None
+another_word : (pieces : List (List ℕ)) (names : List (List ℕ)) → named_pieces (codes "chain") pieces ≡ Some names →
+    named_pieces (codes "wave") pieces ≡ None
 another_word [] names same = absurd cc
 another_word (first ∷ rest) names same =
     let word = (behind_first (codes "chain") first rest names same).word_is in
@@ -70,27 +74,24 @@ wave_some One line names says = let same : line ∷ [] ≡ names = cc in subst (
 wave_some Two line names says = some_behind (codes "wave") (slice_split is_blank line) names says
 
 -- the waves of lines that are waves
-pub waves_of : (version : Version) (lines : List (List ℕ)) (waves : List (List (List ℕ))) → AllZip (Says version) lines waves → waves_on version lines ≡ waves
+pub waves_of : (version : Version) (lines : List (List ℕ)) (waves : List (List (List ℕ))) → AllZip (Says version) lines waves →
+    waves_on version lines ≡ waves
 waves_of version [] [] each = refl
 waves_of version [] (wave ∷ waves) each = absurd each
 waves_of version (line ∷ lines) [] each = absurd each
 waves_of version (line ∷ lines) (wave ∷ waves) each = rw each.0 (ap (λ l. wave ∷ l) (waves_of version lines waves each.1))
 
 -- no chain is among them
-pub no_chains : (version : Version) (lines : List (List ℕ)) (waves : List (List (List ℕ))) → AllZip (Says version) lines waves → chains_on version lines ≡ []
+pub no_chains : (version : Version) (lines : List (List ℕ)) (waves : List (List (List ℕ))) → AllZip (Says version) lines waves →
+    chains_on version lines ≡ []
 no_chains version [] [] each = refl
 no_chains version [] (wave ∷ waves) each = absurd each
 no_chains version (line ∷ lines) [] each = absurd each
 no_chains version (line ∷ lines) (wave ∷ waves) each = rw (wave_no_chain version line wave each.0) (no_chains version lines waves each.1)
 
 -- no wave is in what may end
-pub end_no_wave : (version : Version) (waves : List (List (List ℕ))) (ending : List (List ℕ)) → MayEnd version waves ending → waves_on version ending ≡ []
+pub end_no_wave : (version : Version) (waves : List (List (List ℕ))) (ending : List (List ℕ)) → MayFollowWaves version waves ending →
+    waves_on version ending ≡ []
 end_no_wave version waves [] ends = refl
 end_no_wave version waves (line ∷ []) ends = rw (chain_no_wave version line ends.names ends.chain) refl
 end_no_wave version waves (line ∷ next ∷ more) ends = absurd ends
-
--- version 1 has no chain
-pub ones_end : (waves : List (List (List ℕ))) (ending : List (List ℕ)) → MayEnd One waves ending → ending ≡ []
-ones_end waves [] ends = refl
-ones_end waves (line ∷ []) ends = absurd (let none = ends.chain in cc)
-ones_end waves (line ∷ next ∷ more) ends = absurd ends

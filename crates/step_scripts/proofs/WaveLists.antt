@@ -1,11 +1,12 @@
 -- Waves of distinct routers: in which one a router stands.
-use Rattle.std.proofs.Common.{◌≡◌, ◌≢◌, ℕ, zero, suc, ◌+◌, ◌<◌, List, [], ◌∷◌, ◌++◌, length, get_or, take, Contains, refl, sym, ap, subst, ◌∙◌, ⊎_elim, arith}
+use Rattle.std.proofs.Common.{◌≡◌, ◌≢◌, ℕ, zero, suc, ◌+◌, ◌<◌, List, [], ◌∷◌, ◌++◌, length, get_or, take, Contains, refl, sym}
+use Rattle.std.proofs.Common.{ap, subst, ◌∙◌, ⊎_elim, arith}
 use Rattle.std.proofs.lemmas.List.Quantifiers.{all_pairs_push}
 use Rattle.std.proofs.lemmas.List.{take_more, get_or_append_left, get_or-append-add, get_or_default, length-append, append_assoc}
 use Rattle.std.proofs.lemmas.List.Elements.{Contains-append_left, Contains-append_right, Contains-append_cases}
 use Rattle.order_core.specs.Orders.{AreDistinct}
 use Rattle.step_scripts.specs.WaveFiles.{all_in, wave_at}
-use Rattle.step_scripts.specs.ReadWaves.{IsIn, HasSeat}
+use Rattle.step_scripts.specs.steps.ReadWaves.{HasSeat}
 
 none_in : {A : Type 0} (x : A) → Contains [] x → ⊥
 none_in x c = omega (arith, c.1)
@@ -16,18 +17,18 @@ in_all [] w u c = absurd (none_in u c)
 in_all (wave ∷ seats) zero u c = Contains-append_left wave (all_in seats) u c
 in_all (wave ∷ seats) (suc w) u c = Contains-append_right wave (all_in seats) u (in_all seats w u c)
 
--- a router of a wave has a seat, and the other way round
-pub seat_in : (seats : List (List ℕ)) (w u : ℕ) → Contains (wave_at seats w) u → IsIn seats u w
-seat_in [] w u c = absurd (none_in u c)
-seat_in (wave ∷ seats) zero u c = record { within = omega arith; among = c }
-seat_in (wave ∷ seats) (suc w) u c = let rest = seat_in seats w u c in record { within = omega (arith, rest.within); among = c }
-
 pub seat_of : (seats : List (List ℕ)) (u : ℕ) → Contains (all_in seats) u → HasSeat seats u
 seat_of [] u c = absurd (none_in u c)
 seat_of (wave ∷ seats) u c =
     ⊎_elim
     (λ here. record { wave = 0; is_in = record { within = omega arith; among = here } })
-    (λ behind. let rest = seat_of seats u behind in record { wave = suc rest.wave; is_in = record { within = omega (arith, rest.is_in.within); among = rest.is_in.among } })
+    (λ behind. let rest = seat_of seats u behind in record {
+      wave = suc rest.wave;
+      is_in = record {
+        within = omega (arith, rest.is_in.within);
+        among = rest.is_in.among;
+      };
+    })
     (Contains-append_cases wave (all_in seats) u c)
 
 -- of two lists without a repeat, end to end, the second one has none
@@ -47,7 +48,8 @@ in_one front back u once c d =
     once c.0 (length front + d.0) u (omega (arith, c.1)) (omega (arith, long, d.1)) (one ∙ c.2 ∙ sym (two ∙ d.2))
 
 -- a router stands in one wave
-pub one_wave : (seats : List (List ℕ)) (u v w : ℕ) → AreDistinct (all_in seats) → Contains (wave_at seats v) u → Contains (wave_at seats w) u → v ≡ w
+pub one_wave : (seats : List (List ℕ)) (u v w : ℕ) → AreDistinct (all_in seats) → Contains (wave_at seats v) u →
+    Contains (wave_at seats w) u → v ≡ w
 one_wave [] u v w once c d = absurd (none_in u c)
 one_wave (wave ∷ seats) u zero zero once c d = refl
 one_wave (wave ∷ seats) u zero (suc w) once c d = absurd (in_one wave (all_in seats) u once c (in_all seats w u d))

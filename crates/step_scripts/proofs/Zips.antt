@@ -1,24 +1,28 @@
 -- Two lists whose items are related place by place.
-use Rattle.std.proofs.Common.{◌≡◌, ℕ, zero, suc, ◌<◌, List, [], ◌∷◌, ◌++◌, length, get_or, take, Contains, refl, ap, subst, ◌∙◌, arith}
+use Rattle.std.proofs.Common.{◌≡◌, ℕ, zero, suc, ◌<◌, List, [], ◌∷◌, ◌++◌, length, get_or, take, Contains, refl, ap, subst, ◌∙◌}
+use Rattle.std.proofs.Common.{arith}
 use Rattle.std.specs.List.{AllZip}
 use Rattle.std.proofs.lemmas.List.Elements.{Contains-get_or}
 use Rattle.std.proofs.lemmas.Slice.Zip.{AllZip-long}
 use Rattle.step_scripts.specs.WaveFiles.{all_in}
 
-pub zip_at : {A B : Type 0} (R : A → B → Type 0) (xs : List A) (ys : List B) (k : ℕ) (d : A) (e : B) → AllZip R xs ys → k < length xs → R (get_or xs k d) (get_or ys k e)
+pub zip_at : {A B : Type 0} (R : A → B → Type 0) (xs : List A) (ys : List B) (k : ℕ) (d : A) (e : B) → AllZip R xs ys → k < length xs →
+    R (get_or xs k d) (get_or ys k e)
 zip_at R [] ys k d e h l = absurd (omega (arith, l))
 zip_at R (x ∷ xs) [] k d e h l = absurd h
 zip_at R (x ∷ xs) (y ∷ ys) zero d e h l = h.0
 zip_at R (x ∷ xs) (y ∷ ys) (suc k) d e h l = zip_at R xs ys k d e h.1 (omega (arith, l))
 
-pub zip_push : {A B : Type 0} (R : A → B → Type 0) (xs : List A) (ys : List B) (x : A) (y : B) → AllZip R xs ys → R x y → AllZip R (xs ++ x ∷ []) (ys ++ y ∷ [])
+pub zip_push : {A B : Type 0} (R : A → B → Type 0) (xs : List A) (ys : List B) (x : A) (y : B) → AllZip R xs ys → R x y →
+    AllZip R (xs ++ x ∷ []) (ys ++ y ∷ [])
 zip_push R [] [] x y h r = (r, tt)
 zip_push R [] (b ∷ ys) x y h r = absurd h
 zip_push R (a ∷ xs) [] x y h r = absurd h
 zip_push R (a ∷ xs) (b ∷ ys) x y h r = (h.0, zip_push R xs ys x y h.1 r)
 
 -- where each item has one partner, the lists of partners are one
-pub zip_unique : {A B : Type 0} (R : A → B → Type 0) → ((x : A) (y z : B) → R x y → R x z → y ≡ z) → (xs : List A) (ys zs : List B) → AllZip R xs ys → AllZip R xs zs → ys ≡ zs
+pub zip_unique : {A B : Type 0} (R : A → B → Type 0) → ((x : A) (y z : B) → R x y → R x z → y ≡ z) → (xs : List A) (ys zs : List B) →
+    AllZip R xs ys → AllZip R xs zs → ys ≡ zs
 zip_unique R one [] [] [] h k = refl
 zip_unique R one [] [] (z ∷ zs) h k = absurd k
 zip_unique R one [] (y ∷ ys) zs h k = absurd h
@@ -27,14 +31,16 @@ zip_unique R one (x ∷ xs) (y ∷ ys) [] h k = absurd k
 zip_unique R one (x ∷ xs) (y ∷ ys) (z ∷ zs) h k =
     ap (λ a. a ∷ ys) (one x y z h.0 k.0) ∙ ap (λ l. z ∷ l) (zip_unique R one xs ys zs h.1 k.1)
 
-pub zip_append : {A B : Type 0} (R : A → B → Type 0) (xs : List A) (ys : List B) (us : List A) (vs : List B) → AllZip R xs ys → AllZip R us vs → AllZip R (xs ++ us) (ys ++ vs)
+pub zip_append : {A B : Type 0} (R : A → B → Type 0) (xs : List A) (ys : List B) (us : List A) (vs : List B) → AllZip R xs ys → AllZip R us vs →
+    AllZip R (xs ++ us) (ys ++ vs)
 zip_append R [] [] us vs h k = k
 zip_append R [] (y ∷ ys) us vs h k = absurd h
 zip_append R (x ∷ xs) [] us vs h k = absurd h
 zip_append R (x ∷ xs) (y ∷ ys) us vs h k = (h.0, zip_append R xs ys us vs h.1 k)
 
 -- lists of lists that are related place by place, end to end
-pub zip_flat : {A B : Type 0} (R : A → B → Type 0) (xs : List (List A)) (ys : List (List B)) → AllZip (AllZip R) xs ys → AllZip R (all_in xs) (all_in ys)
+pub zip_flat : {A B : Type 0} (R : A → B → Type 0) (xs : List (List A)) (ys : List (List B)) → AllZip (AllZip R) xs ys →
+    AllZip R (all_in xs) (all_in ys)
 zip_flat R [] [] h = tt
 zip_flat R [] (y ∷ ys) h = absurd h
 zip_flat R (x ∷ xs) [] h = absurd h
@@ -57,7 +63,8 @@ pub record IsSplit {A B : Type 0} (R : A → B → Type 0) (before : List A) (x 
   pub here : R x partner
   pub after_zip : AllZip R after back
 
-pub zip_split : {A B : Type 0} (R : A → B → Type 0) (before : List A) (x : A) (after : List A) (ys : List B) → AllZip R (before ++ x ∷ after) ys → IsSplit R before x after ys
+pub zip_split : {A B : Type 0} (R : A → B → Type 0) (before : List A) (x : A) (after : List A) (ys : List B) → AllZip R (before ++ x ∷ after) ys →
+    IsSplit R before x after ys
 zip_split R [] x after [] h = absurd h
 zip_split R [] x after (y ∷ ys) h = record { front = []; partner = y; back = ys; parts = refl; before_zip = tt; here = h.0; after_zip = h.1 }
 zip_split R (b ∷ before) x after [] h = absurd h
@@ -79,7 +86,8 @@ pub record HasPartner {A B : Type 0} (R : A → B → Type 0) (ys : List B) (x :
   pub among : Contains ys partner
   pub related : R x partner
 
-pub zip_partner : {A B : Type 0} (R : A → B → Type 0) (xs : List A) (ys : List B) (x : A) (e : B) → AllZip R xs ys → Contains xs x → HasPartner R ys x
+pub zip_partner : {A B : Type 0} (R : A → B → Type 0) (xs : List A) (ys : List B) (x : A) (e : B) → AllZip R xs ys →
+    Contains xs x → HasPartner R ys x
 zip_partner R xs ys x e h c =
     let within : c.0 < length ys = omega (arith, c.1, AllZip-long R xs ys h) in
     record {

@@ -1,5 +1,6 @@
 -- The faulty lines of an order file, counted from 1, and the least of them.
-use Rattle.std.specs.Prelude.{◌≡◌, ℕ, ◌+◌, ◌<◌, ◌≤◌, ◌⊎◌, List, [], ◌∷◌, ◌++◌, length, slice_index_or, take, Some, None, slice_get, Contains}
+use Rattle.std.specs.Prelude.{◌≡◌, ℕ, ◌+◌, ◌<◌, ◌≤◌, ◌⊎◌, List, [], ◌∷◌, ◌++◌, length, slice_index_or, take, Some, None}
+use Rattle.std.specs.Prelude.{slice_get, Contains}
 use Rattle.net_addr.specs.Lines.{line_texts}
 use Rattle.net_model.specs.Lookups.{IsNamed}
 use Rattle.net_model.specs.Network.{Network}
@@ -84,19 +85,19 @@ IsFaultyLine net text number Missing = EndsEarly net text number
 IsFaultyLine net text number kind = HasFaultyEntry net text number kind
 
 -- the place of a kind among the kinds
-abbrev pub rank : OrderKind → ℕ
-rank Header = 1
-rank NotInNetwork = 2
-rank Twice = 3
-rank Missing = 4
-rank Wave = 5
-rank Chain = 6
+abbrev pub order_kind_rank : OrderKind → ℕ
+order_kind_rank Header = 1
+order_kind_rank NotInNetwork = 2
+order_kind_rank Twice = 3
+order_kind_rank Missing = 4
+order_kind_rank Wave = 5
+order_kind_rank Chain = 6
 
 -- the least faulty line of a text, and the lowest kind on it
 pub record IsLeastFaultyLine (net : Network) (text : List ℕ) (number : ℕ) (kind : OrderKind) : Type 0 where
   pub faulty : IsFaultyLine net text number kind
   pub least : (other : ℕ) (its : OrderKind) → IsFaultyLine net text other its → number ≤ other
-  pub lowest : (its : OrderKind) → IsFaultyLine net text number its → rank kind ≤ rank its
+  pub lowest : (its : OrderKind) → IsFaultyLine net text number its → order_kind_rank kind ≤ order_kind_rank its
 
 -- when each refusal comes; want of memory may come at any time
 abbrev pub RefusesWaves : Network → List ℕ → OrderRefusal → Type 0

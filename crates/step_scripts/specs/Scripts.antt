@@ -1,5 +1,6 @@
 -- The script of a migration: along the flat run of a wave list, for each change a comment and the lines that make it.
-use Rattle.std.specs.Prelude.{ℕ, ◌+◌, ◌==◌, ◌&&◌, ◌||◌, not, Bool, true, false, if◌then◌else◌, List, [], ◌∷◌, ◌++◌, slice_index, slice_get, codes, decimal, Option, Some, None, is_some}
+use Rattle.std.specs.Prelude.{ℕ, ◌+◌, ◌==◌, ◌&&◌, ◌||◌, not, Bool, true, false, if◌then◌else◌, List, [], ◌∷◌, ◌++◌}
+use Rattle.std.specs.Prelude.{slice_index, slice_get, codes, decimal, Option, Some, None, is_some}
 use Rattle.std.specs.List.{list_any}
 use Rattle.net_model.specs.Configuration.{Configuration}
 use Rattle.net_model.specs.Network.{Network}
@@ -27,29 +28,29 @@ abbrev pub distance_line : ℕ → List ℕ
 distance_line distance = spaced (codes "distance" ∷ decimal distance ∷ [])
 
 -- a first change: the distance of IS-IS is 115 from here on; without IS-IS there is no line
-abbrev pub isis_lines : Configuration → List (List ℕ)
-isis_lines c = if c.isis then isis_head c.tag ∷ distance_line ISIS_DISTANCE ∷ [] else []
+abbrev pub isis_change_lines : Configuration → List (List ℕ)
+isis_change_lines c = if c.isis then isis_head c.tag ∷ distance_line ISIS_DISTANCE ∷ [] else []
 
 -- a second change: the distance of the OSPF process is 255 from here on; without one there is no line
-abbrev pub process_lines : Option ℕ → List (List ℕ)
-process_lines None = []
-process_lines (Some process) = ospf_head process ∷ distance_line MOST_DISTANCE ∷ []
+abbrev pub ospf_change_lines : Option ℕ → List (List ℕ)
+ospf_change_lines None = []
+ospf_change_lines (Some process) = ospf_head process ∷ distance_line MOST_DISTANCE ∷ []
 
 -- what is said of a router by its configuration
-abbrev pub said_of : {A : Type 0} → (Configuration → List A) → Option Configuration → List A
-said_of f None = []
-said_of f (Some c) = f c
+abbrev pub by_configuration : {A : Type 0} → (Configuration → List A) → Option Configuration → List A
+by_configuration f None = []
+by_configuration f (Some c) = f c
 
 -- the lines that make a change on its router
 abbrev pub change_lines : Network → Change → List (List ℕ)
-change_lines net (first u) = said_of isis_lines (slice_get net u)
-change_lines net (second u) = said_of (λ (c : Configuration). process_lines c.process) (slice_get net u)
+change_lines net (first u) = by_configuration isis_change_lines (slice_get net u)
+change_lines net (second u) = by_configuration (λ (c : Configuration). ospf_change_lines c.process) (slice_get net u)
 
 -- ---- comments ----
 
 -- the name of a router
 abbrev pub name_on : Network → ℕ → List ℕ
-name_on net u = said_of (λ (c : Configuration). c.name) (slice_get net u)
+name_on net u = by_configuration (λ (c : Configuration). c.name) (slice_get net u)
 
 -- the comment before a change, with its number among all changes, from 1, and the name of its router
 abbrev pub change_comment : ℕ → List ℕ → List ℕ
@@ -73,9 +74,9 @@ shows_waves One = false
 shows_waves Two = true
 
 -- in a script that shows them a comment stands before the first change of each wave
-abbrev pub wave_lines : Version → List ℕ → Change → List (List ℕ)
-wave_lines version ranks (first u) = if shows_waves version && opens_wave ranks u then wave_comment (rank_of ranks u + 1) ∷ [] else []
-wave_lines version ranks (second u) = []
+abbrev pub wave_comments : Version → List ℕ → Change → List (List ℕ)
+wave_comments version ranks (first u) = if shows_waves version && opens_wave ranks u then wave_comment (rank_of ranks u + 1) ∷ [] else []
+wave_comments version ranks (second u) = []
 
 -- a router lacks one of the two processes
 abbrev pub lacks_process : Configuration → Bool
@@ -89,7 +90,7 @@ end_lines net = if list_any lacks_process net then end_comment ∷ [] else []
 
 -- the part of a script for a change: its comments, and the lines that make it
 abbrev pub change_part : Version → Network → List ℕ → ℕ → Change → List (List ℕ)
-change_part version net ranks number c = wave_lines version ranks c ++ change_comment number (name_on net (changed c)) ∷ change_lines net c
+change_part version net ranks number c = wave_comments version ranks c ++ change_comment number (name_on net (changed c)) ∷ change_lines net c
 
 -- the parts for changes one after the other, behind so many changes
 abbrev pub change_parts : Version → Network → List ℕ → ℕ → List Change → List (List ℕ)

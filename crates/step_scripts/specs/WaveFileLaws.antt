@@ -22,8 +22,8 @@ WavesOrRefusalLaw =
     NamesWaves net text version ranks → IsFaultyLine net text number kind → ⊥
 
 -- besides want of memory one refusal at most stands
-abbrev pub OneRefusalLaw : Type 0
-OneRefusalLaw =
+abbrev pub OneOrderRefusalLaw : Type 0
+OneOrderRefusalLaw =
     (net : Network) (text : List ℕ) (one other : OrderRefusal) →
     one ≢ OutOfMemory → other ≢ OutOfMemory →
     RefusesWaves net text one → RefusesWaves net text other → one ≡ other

@@ -28,10 +28,10 @@ pub record IsChainOf (version : Version) (waves : List (List (List ℕ))) (line 
   pub each : AreOfEach waves names
 
 -- what may stand after the lines of these waves: nothing, or a chain of them
-abbrev pub MayEnd : Version → List (List (List ℕ)) → List (List ℕ) → Type 0
-MayEnd version waves [] = Unit {0}
-MayEnd version waves (line ∷ []) = IsChainOf version waves line
-MayEnd version waves (line ∷ next ∷ more) = ⊥
+abbrev pub MayFollowWaves : Version → List (List (List ℕ)) → List (List ℕ) → Type 0
+MayFollowWaves version waves [] = Unit {0}
+MayFollowWaves version waves (line ∷ []) = IsChainOf version waves line
+MayFollowWaves version waves (line ∷ next ∷ more) = ⊥
 
 -- waves, by the names of their routers, are the wave list of these ranks: each router of the network stands in one wave,
 -- once, and its rank is the number of this wave
@@ -49,5 +49,5 @@ pub record NamesWaves (net : Network) (text : List ℕ) (version : Version) (ran
   pub whole : line_texts text ≡ header_of version ∷ (lines ++ ending)
   pub waves : List (List (List ℕ))
   pub each : AllZip (λ (line : List ℕ) (wave : List (List ℕ)). wave_on version line ≡ Some wave) lines waves
-  pub ends : MayEnd version waves ending
+  pub ends : MayFollowWaves version waves ending
   pub are : AreWaves net waves ranks

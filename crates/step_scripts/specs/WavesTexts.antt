@@ -20,12 +20,12 @@ abbrev pub AreOneOfEach : List ℕ → List ℕ → Type 0
 AreOneOfEach ranks chain = AllZip (λ (wave : List ℕ) (u : ℕ). Contains wave u) (waves_in ranks) chain
 
 -- the names of some routers, where these are the names of all
-abbrev pub named : List (List ℕ) → List ℕ → List (List ℕ)
-named names routers = map (λ u. slice_index_or names u []) routers
+abbrev pub names_at : List (List ℕ) → List ℕ → List (List ℕ)
+names_at names routers = map (λ u. slice_index_or names u []) routers
 
 -- a line: a word and the names of some routers
 abbrev pub named_line : List (List ℕ) → List ℕ → List ℕ → List ℕ
-named_line names word routers = joined (word ∷ named names routers)
+named_line names word routers = joined (word ∷ names_at names routers)
 
 -- the lines of the waves
 abbrev pub wave_lines : List (List ℕ) → List (List ℕ) → List (List ℕ)

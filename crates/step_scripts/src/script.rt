@@ -2,11 +2,14 @@ ghost use Rattle.std.specs.Prelude.{◌≡◌, ◌+◌, ◌<◌, ◌++◌, [], �
 ghost use Rattle.std.specs.List.{list_any};
 ghost use Rattle.igp_theory.specs.Waves.{first, second};
 ghost use Rattle.printed_lines.specs.Texts.{text_of};
-ghost use Rattle.step_scripts.specs.Scripts.{change_comment, change_lines, change_part, distance_line, end_lines, isis_head, isis_lines, lacks_process, name_on, opens_wave, ospf_head, process_lines, script_text, shows_waves, wave_comment, wave_lines};
+ghost use Rattle.step_scripts.specs.Scripts.{change_comment, change_lines, change_part, end_lines, isis_change_lines};
+ghost use Rattle.step_scripts.specs.Scripts.{lacks_process, name_on, opens_wave, script_text, shows_waves, wave_comment};
+ghost use Rattle.step_scripts.specs.Scripts.{wave_comments};
 
 use crate::Version;
+use crate::change_lines::{with_isis_lines, with_ospf_lines};
 use net_addr::Bytes;
-use net_model::{Config, ISIS_DISTANCE, MOST_DISTANCE, Net};
+use net_model::{Config, Net};
 use order_core::Waves;
 use printed_lines::{LineBuilder, TextBuilder};
 use std::alloc::{AllocError, Global};
@@ -67,7 +70,7 @@ fn with_second(
 {
     let config = net.config(router);
     let text = with_comment(alloc, text, number, config)?;
-    with_process(alloc, text, config.process)
+    with_ospf_lines(alloc, text, config.process)
 }
 
 /// The text with the comment before a wave more, where the script is of version 2 and the router is the first of its wave.
@@ -79,7 +82,7 @@ fn with_wave(
     router: u32,
 ) -> Result<TextBuilder, AllocError>
     requires { router < length waves.now }
-    ensures { IfOk result (λ longer. longer ≡ text ++ text_of (wave_lines version waves.now (first router))) }
+    ensures { IfOk result (λ longer. longer ≡ text ++ text_of (wave_comments version waves.now (first router))) }
 {
     if shows_waves(version) && opens_wave(waves, router) {
         let number = u64::from(waves.ranks()[router as usize]) + 1;
@@ -128,58 +131,13 @@ fn with_comment(
 
 /// The text with the lines more that set the distance of IS-IS to 115.
 fn with_isis(alloc: Global, text: TextBuilder, config: &Config) -> Result<TextBuilder, AllocError>
-    ensures { IfOk result (λ longer. longer ≡ text ++ text_of (isis_lines config.now)) }
+    ensures { IfOk result (λ longer. longer ≡ text ++ text_of (isis_change_lines config.now)) }
 {
     if config.isis {
-        let text = text.line(isis_head(alloc, config.tag.as_slice())?)?;
-        text.line(distance_line(alloc, ISIS_DISTANCE)?)
+        with_isis_lines(alloc, text, config.tag.as_slice())
     } else {
         Ok(text)
     }
-}
-
-/// The line that opens the section of the IS-IS process.
-fn isis_head(alloc: Global, tag: &[u8]) -> Result<LineBuilder, AllocError>
-    ensures { IfOk result (λ line. line ≡ isis_head tag.now) }
-{
-    let line = LineBuilder::start(alloc, b"router")?.word(b"isis")?;
-    if tag.is_empty() {
-        Ok(line)
-    } else {
-        line.word(tag)
-    }
-}
-
-/// The text with the lines more that set the distance of OSPF to 255.
-fn with_process(
-    alloc: Global,
-    text: TextBuilder,
-    process: Option<u32>,
-) -> Result<TextBuilder, AllocError>
-    ensures { IfOk result (λ longer. longer ≡ text ++ text_of (process_lines process)) }
-{
-    match process {
-        Some(process) => {
-            let text = text.line(ospf_head(alloc, process)?)?;
-            text.line(distance_line(alloc, MOST_DISTANCE)?)
-        }
-        None => Ok(text),
-    }
-}
-
-/// The line that opens the section of an OSPF process.
-fn ospf_head(alloc: Global, process: u32) -> Result<LineBuilder, AllocError>
-    ensures { IfOk result (λ line. line ≡ ospf_head process) }
-{
-    let line = LineBuilder::start(alloc, b"router")?.word(b"ospf")?;
-    line.number(u64::from(process))
-}
-
-/// The line of a section that sets the distance of its process.
-fn distance_line(alloc: Global, distance: u8) -> Result<LineBuilder, AllocError>
-    ensures { IfOk result (λ line. line ≡ distance_line distance) }
-{
-    LineBuilder::indented(alloc, b"distance")?.number(u64::from(distance))
 }
 
 /// The text with the comment at its end more, where some router of the network lacks a process.

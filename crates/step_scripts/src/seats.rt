@@ -1,5 +1,5 @@
 ghost use Rattle.std.specs.Prelude.{◌≡◌, ◌<◌, ◌^◌, ◌++◌, ◌∷◌, [], ◌↔◌, ℕ, length, map, Contains, IsTrue, MatchOption, OnOk};
-ghost use Rattle.step_scripts.specs.ReadWaves.{HasSeat, IsIn};
+ghost use Rattle.step_scripts.specs.steps.ReadWaves.{HasSeat, IsIn};
 ghost use Rattle.step_scripts.specs.WaveFiles.{wave_at};
 
 use std::alloc::{AllocError, Global};

@@ -1,4 +1,5 @@
-ghost use Rattle.std.specs.Prelude.{◌≡◌, ◌<◌, ◌≤◌, ◌^◌, ◌↔◌, ◌++◌, ℕ, length, map, slice_range, All, Contains, IfErr, IfNone, IfOk, IfSome, IsTrue, MatchBool, MatchOption, OnOk};
+ghost use Rattle.std.specs.Prelude.{◌≡◌, ◌<◌, ◌≤◌, ◌^◌, ◌↔◌, ◌++◌, ℕ, length, map, slice_range, All, Contains, IfErr, IfNone};
+ghost use Rattle.std.specs.Prelude.{IfOk, IfSome, IsTrue, MatchBool, MatchOption, OnOk};
 ghost use Rattle.std.specs.List.{AllZip};
 ghost use Rattle.net_addr.specs.Lines.{line_texts, text_lines};
 ghost use Rattle.net_addr.specs.Spans.{bytes_of, LiesIn};
@@ -6,7 +7,8 @@ ghost use Rattle.net_model.specs.Lookups.{IsNamed};
 ghost use Rattle.net_model.specs.Refusals.{IsNetwork};
 ghost use Rattle.order_core.specs.Orders.{AreDistinct};
 ghost use Rattle.step_scripts.specs.FaultyLines.{HasHeader, RefusesWaves};
-ghost use Rattle.step_scripts.specs.ReadWaves.{AreEntries, AreFirstWaves, AreRanksOf, AreRead, HasRepeat, HasUnknown, HasUnseated, IsUnfit, NamesOneOf, TakesSeats, texts_of};
+ghost use Rattle.step_scripts.specs.steps.ReadWaves.{AreFileEntries, AreFirstWaves, AreRanksOf, AreEntriesRead, HasRepeat, HasUnknown};
+ghost use Rattle.step_scripts.specs.steps.ReadWaves.{HasUnseated, IsUnfit, NamesOneOf, TakesSeats, bytes_of_lines};
 ghost use Rattle.step_scripts.specs.WaveFiles.{NamesWaves, all_in, wave_at};
 ghost use Rattle.step_scripts.specs.WaveLines.{header_of};
 
@@ -54,9 +56,9 @@ pub fn read_waves(alloc: Global, net: &Net, text: &[u8]) -> Result<WaveFile, Ord
 fn entries_of<'a>(text: &[u8], lines: &'a [Line]) -> Option<(Version, &'a [Line])>
     requires exact { lines.now ≡ text_lines text.now }
     requires inside { All (λ line. LiesIn text.now line.span) lines.now }
-    requires texts { texts_of text.now lines.now ≡ line_texts text.now }
+    requires texts { bytes_of_lines text.now lines.now ≡ line_texts text.now }
     ensures none { IfNone result ((version : Version) → HasHeader version text.now → ⊥) }
-    ensures some { IfSome result (λ found. AreEntries found.0 text.now found.1.now) }
+    ensures some { IfSome result (λ found. AreFileEntries found.0 text.now found.1.now) }
 {
     let (first, entries) = lines.split_first()?;
     let version = version_of(bytes_at(text, first.span))?;
@@ -93,8 +95,8 @@ fn seat_waves(
     entries: &[Line],
 ) -> Result<Seats, OrderRefusal>
     requires network { IsNetwork net.now }
-    requires entries { AreEntries version text.now entries.now }
-    ensures ok { IfOk result (AreFirstWaves net.now version (texts_of text.now entries.now)) }
+    requires entries { AreFileEntries version text.now entries.now }
+    ensures ok { IfOk result (AreFirstWaves net.now version (bytes_of_lines text.now entries.now)) }
     ensures err { IfErr result (RefusesWaves net.now text.now) }
 {
     let mut seats = Seats::new(alloc);
@@ -189,9 +191,9 @@ fn check_ending(
     seats: &Seats,
 ) -> Result<(), OrderRefusal>
     requires network { IsNetwork net.now }
-    requires entries { AreEntries version text.now entries.now }
-    requires first { AreFirstWaves net.now version (texts_of text.now entries.now) seats.now }
-    ensures ok { OnOk result (AreRead net.now version (texts_of text.now entries.now) seats.now) }
+    requires entries { AreFileEntries version text.now entries.now }
+    requires first { AreFirstWaves net.now version (bytes_of_lines text.now entries.now) seats.now }
+    ensures ok { OnOk result (AreEntriesRead net.now version (bytes_of_lines text.now entries.now) seats.now) }
     ensures err { IfErr result (RefusesWaves net.now text.now) }
 {
     let waves = seats.count();

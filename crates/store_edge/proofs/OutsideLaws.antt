@@ -1,25 +1,6 @@
 -- Laws of counts of faults, and of pieces written one after another.
-use Rattle.std.proofs.Common.{◌≡◌, ℕ, ◌≤◌, inl, inr, List, [], ◌++◌, Option, Some, None, append_assoc, append-nil, arith, ap, ◌∙◌, sym}
-use Rattle.std.proofs.lemmas.Bool.{cases_lt}
-use Rattle.store_edge.specs.Faults.{Rose}
+use Rattle.std.proofs.Common.{ℕ, List, ◌++◌, Option, Some, None, append_assoc, ap, ◌∙◌, sym}
 use Rattle.store_edge.specs.Sink.{Adds, AddsFront}
-
--- a count that rose in a part of a time rose in all of it
-pub Rose-later : (before middle after : ℕ) → before ≤ middle → Rose middle after → Rose before after
-Rose-later before middle after never_fell (inl up) = inl (omega arith)
-Rose-later before middle after never_fell (inr last) = inr last
-
-pub Rose-earlier : (before middle after : ℕ) → before ≤ middle → Rose before middle → middle ≤ after → Rose before after
-Rose-earlier before middle after never_fell (inl up) stays = inl (omega arith)
-Rose-earlier before middle after never_fell (inr last) stays = elim (cases_lt middle after) [
-  | inl up ↦ inl (omega arith)
-  | inr down ↦ let same : after ≡ middle = omega arith in inr (same ∙ last)
-]
-
--- a count that stands at 0 didn't rise
-pub Rose-constant : ¬ Rose 0 0
-Rose-constant (inl up) = absurd (omega arith)
-Rose-constant (inr last) = absurd (omega arith)
 
 -- a piece, and then another
 pub Adds-then : (a b c : Option (List ℕ)) (xs ys : List ℕ) → Adds a b xs → Adds b c ys → Adds a c (xs ++ ys)
@@ -28,11 +9,6 @@ Adds-then None None (Some c) xs ys first then' = then'
 Adds-then None (Some b) (Some c) xs ys first then' = first
 Adds-then (Some a) None (Some c) xs ys first then' = absurd then'
 Adds-then (Some a) (Some b) (Some c) xs ys first then' = then' ∙ ap (λ zs. zs ++ ys) first ∙ append_assoc a xs ys
-
--- nothing was written
-pub Adds-nothing : (a : Option (List ℕ)) → Adds a a []
-Adds-nothing None = tt
-Adds-nothing (Some a) = sym (append-nil a)
 
 -- a piece, and then a cut one
 pub AddsFront-then : (a b c : Option (List ℕ)) (xs piece : List ℕ) → Adds a b xs → AddsFront b c piece → AddsFront a c (xs ++ piece)
@@ -50,13 +26,4 @@ AddsFront-longer a b piece more cut = record {
   rest = cut.rest ++ more;
   cut = sym (append_assoc cut.front cut.rest more) ∙ ap (λ zs. zs ++ more) cut.cut;
   adds = cut.adds;
-}
-
--- a whole piece is a front of itself
-pub AddsFront-whole : (a b : Option (List ℕ)) (piece : List ℕ) → Adds a b piece → AddsFront a b piece
-AddsFront-whole a b piece adds = record {
-  front = piece;
-  rest = [];
-  cut = append-nil piece;
-  adds = adds;
 }

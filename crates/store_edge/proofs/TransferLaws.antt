@@ -1,5 +1,6 @@
 -- Bytes that a writer takes one after another.
-use Rattle.std.proofs.Common.{ℕ, ◌+◌, ◌-◌, ◌≤◌, List, ◌++◌, length, take, drop, arith, length-drop, Option, Some, None, Result, Ok, Err, OnErr, append_assoc, ap, ◌∙◌, subst, sym}
+use Rattle.std.proofs.Common.{ℕ, ◌+◌, ◌-◌, ◌≤◌, List, ◌++◌, length, take, drop, arith, length-drop, Option, Some, None, Result, Ok, Err}
+use Rattle.std.proofs.Common.{OnErr, append_assoc, ap, ◌∙◌, subst, sym}
 use Rattle.std.proofs.lemmas.List.{take-append-drop, take_rest}
 use Rattle.std.proofs.Math.Seq.{take-add}
 use Rattle.std.specs.Io.KnownBytes.{Appends, Keeps}

@@ -18,8 +18,8 @@ faults_after (Err Failed) faults = next_count faults
 faults_after (Err OutOfMemory) faults = faults
 
 -- the bytes of the first file with this name
-abbrev pub bytes_of : List (List ℕ × List ℕ) → List ℕ → Option (List ℕ)
-bytes_of files name = lookup (bytes_eq name) files
+abbrev pub file_bytes : List (List ℕ × List ℕ) → List ℕ → Option (List ℕ)
+file_bytes files name = lookup (bytes_eq name) files
 
 -- files in memory: names with their bytes, the numbers of the reads that fail, the names asked for, and the faults
 pub record MemoryFilesState : Type 0 where
@@ -30,7 +30,7 @@ pub record MemoryFilesState : Type 0 where
 
 -- the next read of this name fails: its number is one that fails, counted from 1, or there is no file of that name
 abbrev pub ReadFails : MemoryFilesState → List ℕ → Type 0
-ReadFails state name = Contains state.failing (length state.asked + 1) ⊎ (bytes_of state.files name ≡ None)
+ReadFails state name = Contains state.failing (length state.asked + 1) ⊎ (file_bytes state.files name ≡ None)
 
 -- files in memory that never fail, and the names asked for
 pub record SureFilesState : Type 0 where

@@ -16,7 +16,7 @@ pub record AddsFront (before after : Option (List ℕ)) (piece : List ℕ) : Typ
   pub adds : Adds before after front
 
 -- bytes that are kept, and how many there is room for in all
-pub record Kept : Type 0 where
+pub record BytesWithRoom : Type 0 where
   pub bytes : List ℕ
   pub room : ℕ
 

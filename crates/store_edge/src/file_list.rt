@@ -1,6 +1,6 @@
 ghost use Rattle.std.specs.Prelude.{◌≡◌};
 ghost use Rattle.std.specs.Option.{option_copied};
-ghost use Rattle.store_edge.specs.Files.{bytes_of};
+ghost use Rattle.store_edge.specs.Files.{file_bytes};
 
 use net_addr::{Bytes, Name};
 use std::marker::Model;
@@ -43,7 +43,7 @@ impl FileList {
 
     /// The bytes of the first file with this name.
     pub(crate) fn find(&self, name: &[u8]) -> Option<&Bytes>
-        ensures { option_copied result ≡ bytes_of self.now name.now }
+        ensures { option_copied result ≡ file_bytes self.now name.now }
     {
         first_of(self.all.as_slice(), name)
     }
@@ -51,7 +51,7 @@ impl FileList {
 
 /// The bytes of the first of these files that has this name.
 fn first_of<'a>(files: &'a [(Name, Bytes)], name: &[u8]) -> Option<&'a Bytes>
-    ensures { option_copied result ≡ bytes_of files.now name.now }
+    ensures { option_copied result ≡ file_bytes files.now name.now }
 {
     for file in files {
         if name == file.0.as_slice() {

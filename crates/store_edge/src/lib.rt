@@ -1,19 +1,38 @@
 //! The outside: files to read and a sink to write to, as traits, in memory and real.
+//!
+//! | Notion | Definition | Code |
+//! |---|---|---|
+//! | what a read answers, tells and counts | `specs/Files.antt` | the trait `Files` (`files.rt`) |
+//! | what a write answers, tells and counts | `specs/Sink.antt` | the trait `Sink` (`sink.rt`) |
+//! | a count of faults that rose | `specs/Faults.antt` | in both traits |
+//! | bytes moved between a reader or a writer and memory | `specs/Transfer.antt` | `transfer.rt` |
+//!
+//! The program runs on `RealFiles` and `RealSink`, whose bytes the operating system holds. `MemoryFiles` and `MemorySink` fail at
+//! the calls that they are told to; `SureFiles` and `SureSink` never fail, and show that what a caller owes can be met. All four
+//! are for the tests of this crate and of its callers, so that these need no disk.
+//!
+//! A read takes time of the bytes that it gives, a write of those that it takes; in memory a read looks besides for its name among
+//! those of the files.
 #![tactic(auto)]
 
+// What a caller sees: the two traits.
+mod files;
+mod sink;
+
+// Real files, and a real sink.
+mod real_files;
+mod real_sink;
+mod transfer;
+
+// In memory: files and a sink that fail at some calls, and such as never fail.
 mod calls;
 mod file_list;
-mod files;
 mod kept;
 mod memory_files;
 mod memory_sink;
 mod names;
-mod real_files;
-mod real_sink;
-mod sink;
 mod sure_files;
 mod sure_sink;
-mod transfer;
 
 pub use calls::Calls;
 pub use file_list::FileList;
@@ -26,6 +45,4 @@ pub use sink::{Failed, Sink};
 pub use std::alloc::AllocError as OutOfMemory;
 pub use sure_files::SureFiles;
 pub use sure_sink::SureSink;
-
-#[cfg(test)]
-mod tests;
+pub use transfer::read_front;

@@ -1,6 +1,6 @@
 ghost use Rattle.std.specs.Prelude.{◌≡◌, ◌≢◌, ◌≤◌, ℕ, List, [], length, take, IfOk, IfSome, IfNone, Err, IsOk, Some};
 ghost use Rattle.store_edge.specs.Faults.{Rose};
-ghost use Rattle.store_edge.specs.Files.{asked_after, faults_after, bytes_of, ReadFails, MemoryFilesState};
+ghost use Rattle.store_edge.specs.Files.{asked_after, faults_after, file_bytes, ReadFails, MemoryFilesState};
 
 use crate::calls::Calls;
 use crate::file_list::FileList;
@@ -43,7 +43,7 @@ impl MemoryFiles {
     /// The bytes that the next read gives, None where it fails.
     fn next(&self, name: &str) -> Option<&Bytes>
         ensures none { IfNone result (ReadFails self.now name.now) }
-        ensures some { IfSome result (λ bytes. (ReadFails self.now name.now → ⊥) × (bytes_of self.now.files name.now ≡ Some bytes.now)) }
+        ensures some { IfSome result (λ bytes. (ReadFails self.now name.now → ⊥) × (file_bytes self.now.files name.now ≡ Some bytes.now)) }
     {
         if self.failing.has(self.asked.len() as u64 + 1) {
             return None;
@@ -53,7 +53,7 @@ impl MemoryFiles {
 }
 
 impl Files for MemoryFiles {
-    ghost content = { λ files name. bytes_of files.files name };
+    ghost content = { λ files name. file_bytes files.files name };
 
     ghost faults = { λ files. files.faults };
 
@@ -61,9 +61,9 @@ impl Files for MemoryFiles {
 
     /// Unless memory runs out it fails exactly where the number of the call is one that fails, or no file has the name.
     fn read(&mut self, alloc: Global, name: &str, most: u64) -> Result<Bytes, FileAnswer>
-        ensures told { IfOk result (λ bytes. IfSome (bytes_of self.old.files name.now) (λ text. bytes ≡ take most text)) }
+        ensures told { IfOk result (λ bytes. IfSome (file_bytes self.old.files name.now) (λ text. bytes ≡ take most text)) }
         ensures at_most { IfOk result (λ bytes. length bytes ≤ most) }
-        ensures contents_stay { (other : List ℕ) → bytes_of self.new.files other ≡ bytes_of self.old.files other }
+        ensures contents_stay { (other : List ℕ) → file_bytes self.new.files other ≡ file_bytes self.old.files other }
         ensures asked { self.new.asked ≡ asked_after result self.old.asked name.now }
 
         ensures failed { result ≡ Err FileAnswer.Failed → Rose self.old.faults self.new.faults }

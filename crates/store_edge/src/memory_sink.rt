@@ -64,7 +64,11 @@ impl Sink for MemorySink {
 
         ensures fails { OnErr result (WriteFails self.old piece.now) }
         ensures succeeds { OnOk result (piece.now ≢ [] → WriteFails self.old piece.now → ⊥) }
-        ensures kept { OnOk result (piece.now ≢ [] → self.new ≡ record self.old { bytes = self.old.bytes ++ piece.now; writes = next_count self.old.writes }) }
+        ensures kept { OnOk result (piece.now ≢ [] → self.new ≡ record self.old {
+          bytes = self.old.bytes ++ piece.now;
+          writes =
+              next_count self.old.writes;
+        }) }
         ensures lost { OnErr result (self.new ≡ record self.old { writes = next_count self.old.writes; faults = next_count self.old.faults }) }
     {
         if piece.is_empty() {

@@ -1,5 +1,5 @@
 ghost use Rattle.std.specs.Prelude.{◌≡◌, [], Some, unwrap_or};
-ghost use Rattle.store_edge.specs.Files.{bytes_of, SureFilesState};
+ghost use Rattle.store_edge.specs.Files.{file_bytes, SureFilesState};
 
 use crate::file_list::FileList;
 use crate::files::{FileAnswer, Files};
@@ -8,7 +8,7 @@ use net_addr::{Bytes, Name};
 use std::alloc::Global;
 use std::marker::Model;
 
-/// Files in memory that never fail: a name that isn't there has no bytes.
+/// Files in memory that never fail, for tests: a name that isn't there has no bytes.
 #[derive(Debug, Drop)]
 pub struct SureFiles {
     files: FileList,
@@ -36,7 +36,7 @@ impl SureFiles {
 }
 
 impl Files for SureFiles {
-    ghost content = { λ files name. Some (unwrap_or (bytes_of files.files name) []) };
+    ghost content = { λ files name. Some (unwrap_or (file_bytes files.files name) []) };
 
     ghost faults = { λ _. 0 };
 

@@ -6,7 +6,7 @@ use crate::sink::{Failed, Sink};
 use std::alloc::{AllocError as OutOfMemory, Global};
 use std::marker::Model;
 
-/// A sink in memory that never fails. It tells its bytes as long as they fit into its room: from the first write
+/// A sink in memory that never fails, for tests. It tells its bytes as long as they fit into its room: from the first write
 /// that passes the room on it no longer does.
 #[derive(Debug, Drop)]
 pub struct SureSink {

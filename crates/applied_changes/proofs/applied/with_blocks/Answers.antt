@@ -3,9 +3,10 @@ use Rattle.std.specs.List.{slice_range}
 use Rattle.igp_theory.specs.States.{state_of}
 use Rattle.igp_theory.specs.declared.phase.Phase.{Phase}
 use Rattle.ios_sections.specs.TextLines.{is_end, parts_after}
+use Rattle.ios_reader.specs.Places.{between, start_of}
 use Rattle.applied_changes.specs.NamedPhases.{phase_named}
 use Rattle.applied_changes.specs.steps.AppliedParts.{applied_parts}
-use Rattle.applied_changes.proofs.PartSteps.{at_end, at_other}
+use Rattle.ios_reader.proofs.PartSteps.{at_end, at_other}
 use Rattle.applied_changes.proofs.applied.with_blocks.Goals.{then-is_end+in_ok-block+in_ok-from, else-is_end}
 use Rattle.applied_changes.proofs.applied.with_blocks.Goals as goal
 
@@ -23,14 +24,17 @@ loop-i-preserved c =
           let ends : is_end x ≡ true = sym c.is_end.ensures ∙ w.if-is_end.true in
           let added = rw w.number.ensures at w.in_ok-from.ensures.added in
           let next = rw w.number.ensures at w.in_ok-from.ensures.next in
+          let head = between text c.loop-i.from (start_of text x.number) in
           record {
             start = omega (arith, w.start-is);
             rest = ap (λ (v : Vec ℕ Global). F v.items c.if-is_end.from c.if-is_end.start) w.all-is
                 ∙ ap₂ (F w.add_block.new.all.items) w.from-is w.start-is
                 ∙ ap (λ (items : List ℕ). F items w.in_ok-from.from (i + 1)) added
-                ∙ at_end phases text counted i x c.loop-i-test.true c.index-counted-i.is c.loop-i.start c.loop-i.from w.in_ok-from.from
-                c.loop-i.all.items w.as_slice.result.now _
-                ends next (w.as_slice.ensures ∙ w.in_ok-block.ensures) c.loop-i.invariant.rest;
+                ∙ at_end (applied_parts phases text) counted i x c.loop-i-test.true c.index-counted-i.is c.loop-i.start c.loop-i.from
+                w.in_ok-from.from c.loop-i.all.items (head ++ w.as_slice.result.now) _ ends
+                (λ more. sym (ap₂ (λ (n : ℕ) (t : List ℕ). (head ++ t) ++ applied_parts phases text n more) next
+                (w.as_slice.ensures ∙ w.in_ok-block.ensures)))
+                c.loop-i.invariant.rest;
           }
       | else-is_end w ↦
           let other : is_end x ≡ false = sym c.is_end.ensures ∙ w.if-is_end.false in
@@ -38,7 +42,7 @@ loop-i-preserved c =
             start = omega (arith, w.start-is, c.loop-i.invariant.start);
             rest = ap (λ (v : Vec ℕ Global). F v.items c.if-is_end.from c.if-is_end.start) w.all-is
                 ∙ ap₂ (F c.loop-i.all.items) w.from-is w.start-is
-                ∙ at_other phases text counted i x c.loop-i-test.true c.index-counted-i.is c.loop-i.start c.loop-i.from c.loop-i.all.items _
+                ∙ at_other (applied_parts phases text) counted i x c.loop-i-test.true c.index-counted-i.is c.loop-i.start c.loop-i.from c.loop-i.all.items _
                 c.loop-i.invariant.start other c.loop-i.invariant.rest;
           }
     ]

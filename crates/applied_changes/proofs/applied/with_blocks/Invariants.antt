@@ -9,6 +9,7 @@ use Rattle.applied_changes.proofs.applied.with_blocks.Given as goal
 abbrev pub invariant-loop-i : goal.invariant-loop-i
 invariant-loop-i l = record {
   start : l.start ≤ l.i;
-  rest : l.all.items ++ applied_parts (phase_named l.net (state_of l.order l.changes)) l.text l.from (parts_after (slice_range l.counted l.start l.i) (drop l.i l.counted))
+  rest : l.all.items ++ applied_parts (phase_named l.net (state_of l.order l.changes)) l.text l.from
+      (parts_after (slice_range l.counted l.start l.i) (drop l.i l.counted))
       ≡ applied_parts (phase_named l.net (state_of l.order l.changes)) l.text 0 (parts_after [] l.counted);
 }

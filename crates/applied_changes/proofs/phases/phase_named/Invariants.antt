@@ -4,4 +4,5 @@ use Rattle.applied_changes.specs.NamedPhases.{phase_from}
 use Rattle.applied_changes.proofs.phases.phase_named.Given as goal
 
 abbrev pub invariant-loop-router : goal.invariant-loop-router
-invariant-loop-router l = phase_from l.router (drop l.router l.net) (state_of l.order l.changes) l.name ≡ phase_from 0 l.net (state_of l.order l.changes) l.name
+invariant-loop-router l =
+    phase_from l.router (drop l.router l.net) (state_of l.order l.changes) l.name ≡ phase_from 0 l.net (state_of l.order l.changes) l.name

@@ -1,5 +1,5 @@
-use Rattle.design_file.specs.FaultLists.{IsLeastOf}
+use Rattle.design_file.specs.steps.FaultLists.{IsToldAmong}
 use Rattle.design_file.proofs.fault.least.Given as goal
 
 abbrev pub invariant-loop-fault : goal.invariant-loop-fault
-invariant-loop-fault l = IsLeastOf l.yielded l.best
+invariant-loop-fault l = IsToldAmong l.yielded l.best

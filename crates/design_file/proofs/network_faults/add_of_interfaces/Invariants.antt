@@ -1,5 +1,5 @@
 use Rattle.std.proofs.Common.{◌≡◌, ◌++◌, drop}
-use Rattle.design_file.specs.NetworkFaultLists.{interfaces_faults}
+use Rattle.design_file.specs.steps.NetworkFaultLists.{interfaces_faults}
 use Rattle.design_file.proofs.network_faults.add_of_interfaces.Given as goal
 
 abbrev pub invariant-loop-one : goal.invariant-loop-one

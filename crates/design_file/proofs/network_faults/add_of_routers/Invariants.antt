@@ -1,5 +1,5 @@
 use Rattle.std.proofs.Common.{◌≡◌, ◌++◌, drop}
-use Rattle.design_file.specs.NetworkFaultLists.{routers_faults}
+use Rattle.design_file.specs.steps.NetworkFaultLists.{routers_faults}
 use Rattle.design_file.proofs.network_faults.add_of_routers.Given as goal
 
 abbrev pub invariant-loop-router : goal.invariant-loop-router

@@ -1,5 +1,5 @@
 use Rattle.std.proofs.Common.{◌≡◌, drop}
-use Rattle.design_file.specs.NetworkFaultLists.{config_named}
+use Rattle.design_file.specs.steps.NetworkFaultLists.{config_named}
 use Rattle.design_file.proofs.network_faults.config_named.Given as goal
 
 abbrev pub invariant-loop-router : goal.invariant-loop-router

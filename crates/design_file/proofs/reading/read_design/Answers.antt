@@ -1,6 +1,6 @@
 use Rattle.std.proofs.Common.{◌∙◌, List, Some, subst, sym}
 use Rattle.toml.specs.View.{table_view}
-use Rattle.design_file.specs.FaultLists.{IsLeastOf}
+use Rattle.design_file.specs.steps.FaultLists.{IsToldAmong}
 use Rattle.design_file.specs.declared.fault.Fault.{Fault}
 use Rattle.design_file.proofs.AnswerLaws.{says_design, text_refused}
 use Rattle.design_file.proofs.SoundLaws.{design_sound}
@@ -9,7 +9,7 @@ use Rattle.design_file.proofs.reading.read_design.Goals as goal
 pub returns-in-Some-clause-err : goal.returns-in-Some-clause-err
 returns-in-Some-clause-err c =
     text_refused c.args.text.now (table_view c.in_ok-document.document) c.in-Some.fault c.in_ok-document.ensures
-    (subst (λ (l : List Fault). IsLeastOf l (Some c.in-Some.fault)) c.in_ok-document_faults.ensures c.in-Some.ensures)
+    (subst (λ (l : List Fault). IsToldAmong l (Some c.in-Some.fault)) c.in_ok-document_faults.ensures c.in-Some.ensures)
 
 pub returns-clause-ok : goal.returns-clause-ok
 returns-clause-ok c =

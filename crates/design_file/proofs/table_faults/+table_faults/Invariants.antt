@@ -1,6 +1,6 @@
 use Rattle.std.proofs.Common.{◌≡◌, ◌++◌}
 use Rattle.toml.specs.View.{members_view}
-use Rattle.design_file.specs.FaultLists.{table_faults}
+use Rattle.design_file.specs.steps.FaultLists.{table_faults}
 use Rattle.design_file.proofs.table_faults.+table_faults.Given as goal
 
 abbrev pub invariant-add_of_table-entries : goal.invariant-add_of_table-entries

@@ -3,7 +3,7 @@ use Rattle.std.specs.List.{flat_map}
 use Rattle.printed_lines.specs.Texts.{text_of}
 use Rattle.design_file.specs.declared.settled.SettledInterface.{SettledInterface}
 use Rattle.isis_writer.specs.RouterLines.{has_old_line, interface_lines, process_lines}
-use Rattle.isis_writer.proofs.TextLaws.{then_lines}
+use Rattle.printed_lines.proofs.TextSteps.{then_lines}
 use Rattle.isis_writer.proofs.router_lines.with_router.Goals as goal
 
 pub returns : goal.returns

@@ -1,18 +1,18 @@
 use Rattle.std.proofs.Common.{◌≡◌, ◌∙◌, [], ◌∷◌, List, ℕ, IfOk, codes, subst}
-use Rattle.sample_network.specs.SampleTexts.{Line, title_line}
-use Rattle.sample_network.proofs.TextFacts.{last_line, then_line}
+use Rattle.sample_network.specs.SampleTexts.{sample_title_line}
+use Rattle.printed_lines.proofs.TextSteps.{last_line, then_line}
 use Rattle.sample_network.proofs.text.with_isis.Goals as goal
 
 pub returns : goal.returns
 returns c =
     let head = codes "router isis" in
-    let title = title_line c.args.router in
+    let title = sample_title_line c.args.router in
     let levels = codes " is-type level-2-only" in
     let style = codes " metric-style wide" in
     let distance = codes " distance 255" in
-    let styles : List Line = style ∷ distance ∷ [] in
-    let types : List Line = levels ∷ styles in
-    let titles : List Line = title ∷ types in
+    let styles : List (List ℕ) = style ∷ distance ∷ [] in
+    let types : List (List ℕ) = levels ∷ styles in
+    let titles : List (List ℕ) = title ∷ types in
     let all = last_line c.in_ok-text-4.text c.in_ok-start-4.field-0 distance c.in_ok-start-4.ensures
     ∙ then_line c.in_ok-text-3.text c.in_ok-start-3.field-0 style c.in_ok-text-4.text (distance ∷ []) c.in_ok-start-3.ensures c.in_ok-text-4.ensures
     ∙ then_line c.in_ok-text-2.text c.in_ok-start-2.field-0 levels c.in_ok-text-3.text styles c.in_ok-start-2.ensures c.in_ok-text-3.ensures

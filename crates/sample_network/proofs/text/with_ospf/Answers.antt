@@ -1,5 +1,5 @@
 use Rattle.std.proofs.Common.{◌≡◌, ◌∙◌, [], ◌∷◌, List, ℕ, IfOk, codes, subst}
-use Rattle.sample_network.proofs.TextFacts.{last_line, then_line}
+use Rattle.printed_lines.proofs.TextSteps.{last_line, then_line}
 use Rattle.sample_network.proofs.text.with_ospf.Goals as goal
 
 pub returns : goal.returns

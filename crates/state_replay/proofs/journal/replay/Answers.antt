@@ -5,7 +5,8 @@ use Rattle.state_replay.proofs.journal.replay.Goals as goal
 pub loop-line-init : goal.loop-line-init
 loop-line-init c =
     let begins : c.begins_journal.result ≡ true = search rules in
-    taken_start c.args.net.now c.args.ranks.now c.args.journal.now c.new-lines.result c.begins_journal.new.lines c.start_counts.new.done c.begins_journal.result
+    taken_start c.args.net.now c.args.ranks.now c.args.journal.now c.new-lines.result c.begins_journal.new.lines c.start_counts.new.done
+    c.begins_journal.result
     c.new-lines.ensures c.begins_journal.ensures begins c.requires.ranking c.start_counts.ensures.counts
 
 pub overflow_add-result : goal.overflow_add-result

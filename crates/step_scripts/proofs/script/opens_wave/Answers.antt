@@ -8,7 +8,8 @@ use Rattle.step_scripts.proofs.script.opens_wave.Goals as goal
 below_count : (ranks held : List ℕ) (u : ℕ) → held ≡ ranks → u < length ranks → get_or held u 0 < wave_count ranks
 below_count ranks held u same within =
     let long = ap length same in
-    rank_below_count ranks (get_or held u 0) (subst (λ (l : List ℕ). Contains l (get_or held u 0)) same (Contains-get_or held u 0 (omega (arith, long, within))))
+    rank_below_count ranks (get_or held u 0) (subst (λ (l : List ℕ). Contains l (get_or held u 0)) same
+    (Contains-get_or held u 0 (omega (arith, long, within))))
 
 pub wave-requires : goal.wave-requires
 wave-requires c = below_count c.args.waves.now c.ranks.result.now c.args.router c.ranks.ensures.ranks c.requires

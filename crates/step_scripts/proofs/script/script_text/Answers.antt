@@ -9,19 +9,23 @@ use Rattle.step_scripts.proofs.ScriptFacts.{text_more}
 use Rattle.step_scripts.proofs.script.script_text.Goals as goal
 
 -- the routers of the flat run are those of the network
-flat_below : (ranks flat : List ℕ) (count place : ℕ) → flat ≡ flat_of ranks → length ranks ≡ count → place < length flat → get_or flat place 0 < count
+flat_below : (ranks flat : List ℕ) (count place : ℕ) → flat ≡ flat_of ranks → length ranks ≡ count → place < length flat →
+    get_or flat place 0 < count
 flat_below ranks flat count place same each within =
-    let among : Contains (flat_of ranks) (get_or flat place 0) = subst (λ (l : List ℕ). Contains l (get_or flat place 0)) same (Contains-get_or flat place 0 within) in
+    let among : Contains (flat_of ranks) (get_or flat place 0) =
+    subst (λ (l : List ℕ). Contains l (get_or flat place 0)) same (Contains-get_or flat place 0 within) in
     let below = ((flat_is_order ranks).all (get_or flat place 0)).0 among in
     omega (arith, below, each)
 
 pub with_first-requires-clause-router : goal.with_first-requires-clause-router
 with_first-requires-clause-router c =
-    flat_below c.args.waves.now c.flat-router-items.result.now (length c.args.net.now) c.loop-place.place c.flat-router-items.ensures c.requires c.loop-place-test.true
+    flat_below c.args.waves.now c.flat-router-items.result.now (length c.args.net.now) c.loop-place.place c.flat-router-items.ensures
+    c.requires c.loop-place-test.true
 
 pub with_second-requires : goal.with_second-requires
 with_second-requires c =
-    flat_below c.args.waves.now c.flat-router-items.result.now (length c.args.net.now) c.loop-place.place c.flat-router-items.ensures c.requires c.loop-place-test.true
+    flat_below c.args.waves.now c.flat-router-items.result.now (length c.args.net.now) c.loop-place.place c.flat-router-items.ensures
+    c.requires c.loop-place-test.true
 
 pub loop-place-preserved : goal.loop-place-preserved
 loop-place-preserved c =
@@ -31,6 +35,7 @@ loop-place-preserved c =
     c.in_ok-text-2.ensures
     ∙ ap (λ (t : List ℕ). t ++ text_of (change_part c.args.version c.args.net.now c.args.waves.now (2 * c.loop-place.place + 2) (second u)))
     (c.in_ok-text.ensures
-    ∙ ap (λ (t : List ℕ). t ++ text_of (change_part c.args.version c.args.net.now c.args.waves.now (2 * c.loop-place.place + 1) (first u))) c.loop-place.invariant)
+    ∙ ap (λ (t : List ℕ). t ++ text_of (change_part c.args.version c.args.net.now c.args.waves.now (2 * c.loop-place.place + 1) (first u)))
+    c.loop-place.invariant)
     ∙ sym (text_more c.args.version c.args.net.now c.args.waves.now (flat_of c.args.waves.now) c.loop-place.place u 0 within
     (ap (λ (l : List ℕ). get_or l c.loop-place.place 0) c.flat-router-items.ensures))

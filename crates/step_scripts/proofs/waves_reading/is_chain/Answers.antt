@@ -3,7 +3,7 @@ use Rattle.std.proofs.lemmas.Bool.{false≢true}
 use Rattle.std.proofs.lemmas.List.{length-map}
 use Rattle.std.specs.Borrow.{Bor}
 use Rattle.std.specs.Prelude.{ℕ, List}
-use Rattle.step_scripts.specs.ReadWaves.{NamesOneOf}
+use Rattle.step_scripts.specs.steps.ReadWaves.{NamesOneOf}
 use Rattle.step_scripts.proofs.NamesOnLines.{bytes_all, one_of_at}
 use Rattle.step_scripts.proofs.Zips.{zip_at, zip_from}
 use Rattle.step_scripts.proofs.waves_reading.is_chain.Goals as goal
@@ -14,7 +14,8 @@ returns-then-not-names_one_of c = (
   λ each.
       let within : c.loop-place.place < length c.args.seats.now = omega (arith, c.loop-place-test.true, c.if-names-count.false, c.count.ensures) in
       let here = zip_at (NamesOneOf c.args.net.now) c.args.seats.now (bytes_all c.args.names.now) c.loop-place.place [] [] each within in
-      absurd (false≢true (sym c.if-not-names_one_of.true ∙ c.names_one_of.ensures.1 (one_of_at c.args.net.now _ c.args.names.now c.loop-place.place _ c.loop-place-test.true here))),
+      absurd (false≢true (sym c.if-not-names_one_of.true
+      ∙ c.names_one_of.ensures.1 (one_of_at c.args.net.now _ c.args.names.now c.loop-place.place _ c.loop-place-test.true here))),
 )
 
 pub returns : goal.returns

@@ -1,5 +1,5 @@
 use Rattle.std.proofs.Common.{ℕ, ◌<◌, [], map, get_or}
-use Rattle.step_scripts.specs.ReadWaves.{NamesOneOf}
+use Rattle.step_scripts.specs.steps.ReadWaves.{NamesOneOf}
 use Rattle.step_scripts.specs.WaveFiles.{wave_at}
 use Rattle.step_scripts.proofs.waves_reading.is_chain.Given as goal
 

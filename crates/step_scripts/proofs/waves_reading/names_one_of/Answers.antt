@@ -11,5 +11,6 @@ pub returns-in-Some : goal.returns-in-Some
 returns-in-Some c = (
   λ has. record { router = c.in-Some.router; named = c.in-Some.ensures; among = c.has.ensures.0 has },
   λ is. c.has.ensures.1
-      (subst (Contains (wave_at c.args.seats.now c.args.wave)) (same_router c.args.net.now c.requires.network.ascending c.args.name.now is.router c.in-Some.router is.named c.in-Some.ensures) is.among),
+      (subst (Contains (wave_at c.args.seats.now c.args.wave)) (same_router c.args.net.now c.requires.network.ascending c.args.name.now is.router
+      c.in-Some.router is.named c.in-Some.ensures) is.among),
 )

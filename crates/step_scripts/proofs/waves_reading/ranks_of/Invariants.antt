@@ -1,4 +1,4 @@
-use Rattle.step_scripts.specs.ReadWaves.{AreRanksOf}
+use Rattle.step_scripts.specs.steps.ReadWaves.{AreRanksOf}
 use Rattle.step_scripts.proofs.waves_reading.ranks_of.Given as goal
 
 abbrev pub invariant-loop-router : goal.invariant-loop-router

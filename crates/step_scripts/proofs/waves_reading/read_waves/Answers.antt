@@ -4,7 +4,7 @@ use Rattle.order_core.specs.Orders.{AreDistinct}
 use Rattle.order_core.specs.Rankings.{IsRanking}
 use Rattle.step_scripts.specs.FaultyLines.{IsLeastFaultyLine}
 use Rattle.step_scripts.specs.WaveFiles.{NamesWaves}
-use Rattle.step_scripts.specs.ReadWaves.{texts_of}
+use Rattle.step_scripts.specs.steps.ReadWaves.{bytes_of_lines}
 use Rattle.step_scripts.specs.declared.kind.OrderKind.TheVariants.{Missing}
 use Rattle.step_scripts.proofs.LeastFaults.{least_behind}
 use Rattle.step_scripts.proofs.NamedWaves.{names_waves, ones_read, ranking_read}
@@ -35,15 +35,18 @@ returns-in_default-2-clause-err c =
     let entries = c.in-Some.ensures.some in
     let missing = rw (c.in_default-2.is, c.routers-routers.ensures.count) at c.in_ok-ranks.ensures in
     let count = count_lines c.args.text.now c.in-Some.version c.in_ok-all.all c.in-Some.entries.now c.in_ok-all.ensures.texts entries in
-    subst (λ n. IsLeastFaultyLine c.args.net.now c.args.text.now n Missing) (sym count ∙ ap (λ (l : List Line). length l + 1) (sym c.as_slice-in_default-2.ensures))
-    (least_behind c.args.net.now c.routers-routers.ensures.network.ascending c.args.text.now c.in-Some.version (texts_of c.args.text.now c.in-Some.entries.now) c.in_ok-seats.seats
+    subst (λ n. IsLeastFaultyLine c.args.net.now c.args.text.now n Missing) (sym count
+    ∙ ap (λ (l : List Line). length l + 1) (sym c.as_slice-in_default-2.ensures))
+    (least_behind c.args.net.now c.routers-routers.ensures.network.ascending c.args.text.now c.in-Some.version
+    (bytes_of_lines c.args.text.now c.in-Some.entries.now) c.in_ok-seats.seats
     entries.lines c.in_ok-check_ending.ensures.ok missing)
 
 pub from_ranks-requires-clause-ranking : goal.from_ranks-requires-clause-ranking
 from_ranks-requires-clause-ranking c =
     let ranks = rw (c.in-Some-2.is, c.routers-routers.ensures.count) at c.in_ok-ranks.ensures in
     subst (λ l. IsRanking (length l) l) (sym c.as_slice-2.ensures.value)
-    (ranking_read c.args.net.now c.in-Some.version c.args.text.now (texts_of c.args.text.now c.in-Some.entries.now) c.in_ok-seats.seats c.in-Some.ensures.some.lines
+    (ranking_read c.args.net.now c.in-Some.version c.args.text.now (bytes_of_lines c.args.text.now c.in-Some.entries.now) c.in_ok-seats.seats
+    c.in-Some.ensures.some.lines
     c.in_ok-check_ending.ensures.ok c.in-Some-2.ranks.items ranks)
 
 pub invariant_of-result : goal.invariant_of-result
@@ -51,7 +54,8 @@ invariant_of-result c =
     let ranks = rw (c.in-Some-2.is, c.routers-routers.ensures.count) at c.in_ok-ranks.ensures in
     record {
       ones = λ one. subst AreDistinct (sym (c.in_ok-waves.ensures ∙ c.as_slice-2.ensures.value))
-          (ones_read c.args.net.now c.in-Some.version c.args.text.now (texts_of c.args.text.now c.in-Some.entries.now) c.in_ok-seats.seats c.in-Some.ensures.some.lines
+          (ones_read c.args.net.now c.in-Some.version c.args.text.now (bytes_of_lines c.args.text.now c.in-Some.entries.now) c.in_ok-seats.seats
+          c.in-Some.ensures.some.lines
           c.in_ok-check_ending.ensures.ok c.in-Some-2.ranks.items ranks one);
     }
 
@@ -59,5 +63,6 @@ pub returns-clause-ok : goal.returns-clause-ok
 returns-clause-ok c =
     let ranks = rw (c.in-Some-2.is, c.routers-routers.ensures.count) at c.in_ok-ranks.ensures in
     subst (NamesWaves c.args.net.now c.args.text.now c.in-Some.version) (sym (c.in_ok-waves.ensures ∙ c.as_slice-2.ensures.value))
-    (names_waves c.args.net.now c.in-Some.version c.args.text.now (texts_of c.args.text.now c.in-Some.entries.now) c.in_ok-seats.seats c.in-Some.ensures.some.lines
+    (names_waves c.args.net.now c.in-Some.version c.args.text.now (bytes_of_lines c.args.text.now c.in-Some.entries.now) c.in_ok-seats.seats
+    c.in-Some.ensures.some.lines
     c.in_ok-check_ending.ensures.ok c.in-Some-2.ranks.items ranks)

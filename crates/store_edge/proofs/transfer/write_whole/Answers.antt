@@ -9,5 +9,6 @@ returns-in_err-done-clause-cut g c =
 pub loop-done-preserved : goal.loop-done-preserved
 loop-done-preserved g c = record {
   within = more_within c.args.piece.now c.loop-done.done c.in_ok-done.field-0 c.loop-done.invariant.within c.in_ok-done.ensures.within;
-  taken = more_taken _ (g.W.Write.contents c.loop-done.writer) _ c.args.piece.now c.loop-done.done c.in_ok-done.field-0 c.loop-done.invariant.taken c.in_ok-done.ensures.taken;
+  taken = more_taken _ (g.W.Write.contents c.loop-done.writer) _ c.args.piece.now c.loop-done.done c.in_ok-done.field-0 c.loop-done.invariant.taken
+      c.in_ok-done.ensures.taken;
 }

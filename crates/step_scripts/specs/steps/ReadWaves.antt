@@ -1,5 +1,6 @@
 -- How far the lines of an order file have been read: the entries are the lines behind the header, the seats the routers of the waves.
-use Rattle.std.specs.Prelude.{◌≡◌, ℕ, ◌+◌, ◌<◌, ◌≤◌, List, [], ◌∷◌, ◌++◌, length, slice_index_or, take, map, All, Contains, Some, None}
+use Rattle.std.specs.Prelude.{◌≡◌, ℕ, ◌+◌, ◌<◌, ◌≤◌, List, [], ◌∷◌, ◌++◌, length, slice_index_or, take, map, All, Contains}
+use Rattle.std.specs.Prelude.{Some, None}
 use Rattle.std.specs.List.{AllZip}
 use Rattle.net_addr.specs.Lines.{line_texts}
 use Rattle.net_addr.specs.Spans.{bytes_of, LiesIn}
@@ -9,18 +10,18 @@ use Rattle.net_model.specs.Network.{Network}
 use Rattle.order_core.specs.Orders.{AreDistinct}
 use Rattle.order_core.specs.Rankings.{rank_of}
 use Rattle.step_scripts.specs.WaveLines.{header_of, wave_on}
-use Rattle.step_scripts.specs.WaveFiles.{all_in, wave_at, MayEnd}
+use Rattle.step_scripts.specs.WaveFiles.{all_in, wave_at, MayFollowWaves}
 use Rattle.step_scripts.specs.declared.version.Version.{Version}
 use Rattle.step_scripts.specs.declared.kind.OrderKind.{OrderKind}
 use Rattle.step_scripts.specs.declared.kind.OrderKind.TheVariants.{Header, NotInNetwork, Twice, Missing, Wave, Chain}
 
 -- the bytes of some lines
-abbrev pub texts_of : List ℕ → List Line → List (List ℕ)
-texts_of text lines = map (λ line. bytes_of text line.span) lines
+abbrev pub bytes_of_lines : List ℕ → List Line → List (List ℕ)
+bytes_of_lines text lines = map (λ line. bytes_of text line.span) lines
 
 -- a text's lines are the header of this version and these
-pub record AreEntries (version : Version) (text : List ℕ) (entries : List Line) : Type 0 where
-  pub lines : line_texts text ≡ header_of version ∷ texts_of text entries
+pub record AreFileEntries (version : Version) (text : List ℕ) (entries : List Line) : Type 0 where
+  pub lines : line_texts text ≡ header_of version ∷ bytes_of_lines text entries
   pub numbers : (k : ℕ) (d : Line) → k < length entries → (slice_index_or entries k d).number ≡ k + 2
   pub inside : All (λ line. LiesIn text line.span) entries
 
@@ -32,12 +33,12 @@ pub record AreWavesRead (net : Network) (version : Version) (entries : List (Lis
   pub once : AreDistinct (all_in seats)
 
 -- these entries are waves of distinct routers, and maybe a chain of them
-pub record AreRead (net : Network) (version : Version) (entries : List (List ℕ)) (seats : List (List ℕ)) : Type 0 where
+pub record AreEntriesRead (net : Network) (version : Version) (entries : List (List ℕ)) (seats : List (List ℕ)) : Type 0 where
   pub lines : List (List ℕ)
   pub ending : List (List ℕ)
   pub parts : entries ≡ lines ++ ending
   pub read : AreWavesRead net version lines seats
-  pub ends : MayEnd version read.waves ending
+  pub ends : MayFollowWaves version read.waves ending
 
 -- the first entries are waves with these seats, and the next one is none
 pub record AreFirstWaves (net : Network) (version : Version) (entries : List (List ℕ)) (seats : List (List ℕ)) : Type 0 where

@@ -14,6 +14,6 @@ pub record FitsFirst (ranks done : List ℕ) (u : ℕ) : Type 0 where
   pub earlier : IsOpen ranks done (rank_of ranks u)
 
 -- a change of a router fits: its first one, or its second one after the first
-abbrev pub Fits : List ℕ → List ℕ → ℕ → Half → Type 0
-Fits ranks done u First = FitsFirst ranks done u
-Fits ranks done u Second = slice_index done u ≡ 1
+abbrev pub FitsCounts : List ℕ → List ℕ → ℕ → Half → Type 0
+FitsCounts ranks done u First = FitsFirst ranks done u
+FitsCounts ranks done u Second = slice_index done u ≡ 1

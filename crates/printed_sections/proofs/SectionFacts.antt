@@ -1,25 +1,28 @@
--- A printed section: a line of words, and lines of words with a blank before each. How it reads.
-use Rattle.std.proofs.Common.{◌≡◌, ℕ, ◌+◌, ◌<◌, ◌≤◌, Bool, true, false, not, ◌&&◌, ◌||◌, cond, List, [], ◌∷◌, ◌++◌, length, map, refl, sym, ap}
-use Rattle.std.proofs.Common.{◌∙◌, append-nil, arith, codes, nat_eq, nat_le, nat_lt}
+-- A printed section, line by line: how it reads.
+use Rattle.std.proofs.Common.{◌≡◌, ℕ, ◌+◌, ◌<◌, ◌≤◌, Bool, true, false, not, ◌&&◌, ◌||◌, cond, List, [], ◌∷◌, ◌++◌}
+use Rattle.std.proofs.Common.{length, map, refl, sym, ap}
+use Rattle.std.proofs.Common.{◌∙◌, ◌^◌, append-nil, arith, codes, decimal, nat_eq, nat_le, nat_lt}
 use Rattle.std.specs.Prelude.{All, filter, slice_index}
 use Rattle.std.specs.List.{list_all, list_any, prefix_len, before_first}
+use Rattle.std.specs.Char.{IsAsciiDigit}
 use Rattle.std.specs.Str.Lines.{strip_carriage_return}
-use Rattle.std.proofs.lemmas.Bool.{and_parts, or_from, leb-true, ltb-true, not-true}
+use Rattle.std.proofs.lemmas.Bool.{and_from, and_parts, or_from, le-leb, leb-true, ltb-true, not-true}
+use Rattle.std.proofs.lemmas.Bool.Decides.{nat_tests}
 use Rattle.std.proofs.lemmas.List.{take_all}
-use Rattle.std.proofs.lemmas.List.Elements.{All-cons, All-nil}
+use Rattle.std.proofs.lemmas.List.Elements.{All-cons, All-head, All-nil, All-tail}
 use Rattle.net_addr.specs.declared.line.Line.{Line}
 use Rattle.net_addr.specs.Blanks.{indent_of, words_in}
 use Rattle.net_addr.specs.Spans.{bytes_of}
 use Rattle.net_addr.specs.Lines.{line_of, text_lines}
 use Rattle.net_addr.specs.JoinedLines.{is_of_whole_lines}
-use Rattle.net_addr.proofs.JoinedFacts.{is_of_whole_lines-append}
 use Rattle.net_addr.proofs.PlacedPieces.{text_lines-texts}
 use Rattle.printed_lines.specs.Words.{IsWordByte, IsPrintedWord, joined, spaced}
 use Rattle.printed_lines.specs.Texts.{IsPrintedLine, text_of}
 use Rattle.printed_lines.specs.ReadBack.{ReadsAsWords}
 use Rattle.printed_lines.proofs.LineFacts.{lines_read_back, line_pieces-text_of}
+use Rattle.printed_lines.proofs.TextSteps.{text_whole}
 use Rattle.printed_lines.proofs.WordFacts.{words_read_back, words_make_lines}
-use Rattle.printed_lines.proofs.NumberFacts.{IsWordByte-above_blank}
+use Rattle.printed_lines.proofs.NumberFacts.{IsWordByte-above_blank, decimal-IsNumeral}
 use Rattle.ios_lines.specs.Words.{Word, word_at, says, lacks, is_printable}
 use Rattle.ios_lines.specs.Heads.{head_of}
 use Rattle.ios_sections.specs.TextLines.{TextLine, text_line, lines_in, carets, opens_banner, outside_banners, counts, counted_lines, is_end}
@@ -28,31 +31,9 @@ use Rattle.ios_sections.specs.Sections.{section_of, section_with}
 use Rattle.ios_sections.specs.JoinedLines.{further_on, begins_banner, sections_among, sections_further_on}
 use Rattle.ios_sections.proofs.JoinedFacts.{lines_in-append}
 use Rattle.ios_reader.specs.InsertedLines.{IsBlock}
-
-abbrev pub line_with : ℕ → ℕ → List ℕ → List Word → TextLine
-line_with number indent bytes words = record { number = number; indent = indent; bytes = bytes; words = words }
-
--- ---- whole lines ----
-
-ends_whole : (xs : List ℕ) → is_of_whole_lines (xs ++ 10 ∷ []) ≡ true
-ends_whole [] = refl
-ends_whole (b ∷ []) = refl
-ends_whole (b ∷ next ∷ more) = ends_whole (next ∷ more)
-
-text_whole : (lines : List (List ℕ)) → is_of_whole_lines (text_of lines) ≡ true
-text_whole [] = refl
-text_whole (line ∷ lines) = is_of_whole_lines-append (line ++ 10 ∷ []) (text_of lines) (ends_whole line) (text_whole lines)
+use Rattle.printed_sections.specs.PrintedSections.{is_fine, is_fine_line, line_with, section_lines_from, section_text}
 
 -- ---- words that can be printed ----
-
--- a word has bytes, all of them printable
-abbrev pub is_fine : Word → Bool
-is_fine word = nat_lt 0 (length word) && list_all is_printable word
-
--- a line has words, none of which says that the line is more than a line of a section
-abbrev pub is_fine_line : List Word → Bool
-is_fine_line words =
-    list_all is_fine words && not (lacks words 0) && not (nat_eq (slice_index (word_at words 0) 0) 33) && not (says words 0 (codes "banner"))
 
 printable_bytes : (word : List ℕ) → list_all is_printable word ≡ true → All IsWordByte word
 printable_bytes [] fine = All-nil IsWordByte
@@ -68,6 +49,26 @@ printed_words (word ∷ words) fine =
     let own : (nat_lt 0 (length word) ≡ true) × (list_all is_printable word ≡ true) =
     and_parts (nat_lt 0 (length word)) (list_all is_printable word) parts.0 in
     All-cons IsPrintedWord word words (record { some = ltb-true 0 (length word) own.0; bytes = printable_bytes word own.1 }) (printed_words words parts.1)
+
+-- a number in decimal is a word that can be printed
+digits_printable : (b : ℕ) → IsAsciiDigit b → is_printable b ≡ true
+digits_printable b digit = and_from (nat_le 33 b) (nat_le b 126) (le-leb 33 b (let low = digit.0 in omega (arith, low)))
+    (le-leb b 126 (let high = digit.1 in omega (arith, high)))
+
+all_printable : (word : Word) → All IsAsciiDigit word → list_all is_printable word ≡ true
+all_printable [] digits = refl
+all_printable (b ∷ word) digits =
+    and_from (is_printable b) (list_all is_printable word) (digits_printable b (All-head IsAsciiDigit b word digits))
+    (all_printable word (All-tail IsAsciiDigit b word digits))
+
+pub some_test : (n : ℕ) → 0 < n → nat_lt 0 n ≡ true
+some_test n some = grind (arith, nat_tests)
+
+pub number_fine : (n : ℕ) → n < 2 ^ 64 → is_fine (decimal n) ≡ true
+number_fine n small =
+    let numeral = decimal-IsNumeral n small in
+    and_from (nat_lt 0 (length (decimal n))) (list_all is_printable (decimal n)) (some_test (length (decimal n)) numeral.some)
+    (all_printable (decimal n) numeral.digits)
 
 -- what a line that is fine has
 record FineLine (words : List Word) : Type 0 where
@@ -132,19 +133,17 @@ module _ (bytes : List ℕ) (indent : ℕ) (words : List Word) (printed : IsPrin
       ∙ ap (λ w. line_with 1 indent bytes w ∷ []) reads.words
 
   -- a line, and then others
-  line_more : (more : List (List ℕ)) → lines_in (text_of (bytes ∷ more)) ≡ line_with 1 indent bytes words ∷ map (further_on 1) (lines_in (text_of more))
+  line_more : (more : List (List ℕ)) → lines_in (text_of (bytes ∷ more)) ≡ line_with 1 indent bytes words ∷ map (further_on 1)
+      (lines_in (text_of more))
   line_more more =
-      let one : lines_in (bytes ++ 10 ∷ []) ≡ line_with 1 indent bytes words ∷ [] = sym (ap lines_in (append-nil (bytes ++ 10 ∷ []))) ∙ single_line in
-      let whole : is_of_whole_lines (bytes ++ 10 ∷ []) ≡ true = sym (ap is_of_whole_lines (append-nil (bytes ++ 10 ∷ []))) ∙ text_whole (bytes ∷ []) in
+      let one : lines_in (bytes ++ 10 ∷ []) ≡ line_with 1 indent bytes words ∷ [] =
+      sym (ap lines_in (append-nil (bytes ++ 10 ∷ []))) ∙ single_line in
+      let whole : is_of_whole_lines (bytes ++ 10 ∷ []) ≡ true = sym (ap is_of_whole_lines (append-nil (bytes ++ 10 ∷ [])))
+      ∙ text_whole (bytes ∷ []) in
       lines_in-append (bytes ++ 10 ∷ []) (text_of more) whole
       ∙ ap (λ (ls : List TextLine). ls ++ map (further_on (length ls)) (lines_in (text_of more))) one
 
 -- ---- the lines of a section ----
-
--- lines of words with a blank before each, numbered from here
-abbrev pub section_lines_from : ℕ → List (List Word) → List TextLine
-section_lines_from n [] = []
-section_lines_from n (words ∷ more) = line_with n 1 (spaced words) words ∷ section_lines_from (n + 1) more
 
 later_lines : (k n : ℕ) (bodies : List (List Word)) → map (further_on k) (section_lines_from n bodies) ≡ section_lines_from (k + n) bodies
 later_lines k n [] = refl
@@ -162,7 +161,8 @@ bodies_read (words ∷ more) fine =
     ∙ ap (λ (ls : List TextLine). line_with 1 1 (spaced words) words ∷ ls) (later_lines 1 1 more)
 
 -- lines that count, and open no banner
-all_count : (l : TextLine) (ls : List TextLine) → begins_banner l ≡ false → counts l ≡ true → counted_lines ls ≡ ls → counted_lines (l ∷ ls) ≡ l ∷ ls
+all_count : (l : TextLine) (ls : List TextLine) → begins_banner l ≡ false → counts l ≡ true → counted_lines ls ≡ ls →
+    counted_lines (l ∷ ls) ≡ l ∷ ls
 all_count l ls banner counted rest =
     let opens : opens_banner l ≡ false = ap (λ (b : Bool). b && nat_eq (carets l.bytes) 1) banner in
     ap (λ (b : Bool). filter counts (l ∷ outside_banners b ls)) opens
@@ -214,10 +214,6 @@ bodies_in_section n (words ∷ more) =
     ap (λ (ls : List TextLine). filter (λ (line : TextLine). nat_eq line.indent (first_indent ls)) ls) inside ∙ bodies_kept n (words ∷ more)
 
 -- ---- a section ----
-
--- the section as it is printed
-abbrev pub section_text : List Word → List (List Word) → List ℕ
-section_text head bodies = text_of (joined head ∷ map spaced bodies)
 
 module _ (head : List Word) (bodies : List (List Word)) (fine_head : is_fine_line head ≡ true)
     (not_end : says head 0 (codes "end") ≡ false) (fine : list_all is_fine_line bodies ≡ true) where

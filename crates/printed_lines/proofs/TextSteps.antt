@@ -1,28 +1,33 @@
--- Texts with more lines.
-use Rattle.std.proofs.Common.{◌≡◌, ◌<◌, ◌+◌, ℕ, List, [], ◌∷◌, ◌++◌, length, get_or, drop, append_assoc, append-nil, ap, sym, ◌∙◌}
+-- Texts that grow by their lines, and that they are of whole lines.
+use Rattle.std.proofs.Common.{◌≡◌, ◌<◌, ◌+◌, ℕ, true, List, [], ◌∷◌, ◌++◌, length, get_or, drop, append_assoc, append-nil, refl, ap}
+use Rattle.std.proofs.Common.{sym, ◌∙◌}
 use Rattle.std.specs.List.{flat_map}
 use Rattle.std.proofs.lemmas.List.{drop_more}
 use Rattle.std.proofs.lemmas.List.Concat.{flat_map-append}
+use Rattle.net_addr.specs.JoinedLines.{is_of_whole_lines}
+use Rattle.net_addr.proofs.JoinedFacts.{is_of_whole_lines-append}
 use Rattle.printed_lines.specs.Texts.{text_of}
 
+-- the text of some lines and then of others
+pub text_of-append : (lines others : List (List ℕ)) → text_of (lines ++ others) ≡ text_of lines ++ text_of others
+text_of-append lines others = flat_map-append (λ (line : List ℕ). line ++ 10 ∷ []) lines others
+
 -- a text with some lines more, and then others
-pub more_lines : (text : List ℕ) (lines others : List (List ℕ)) → (text ++ text_of lines) ++ text_of others ≡ text ++ text_of (lines ++ others)
-more_lines text lines others =
-    append_assoc text (text_of lines) (text_of others)
-    ∙ sym (ap (λ t. text ++ t) (flat_map-append (λ (line : List ℕ). line ++ 10 ∷ []) lines others))
+pub then_lines : (text longer : List ℕ) (lines others : List (List ℕ)) → longer ≡ text ++ text_of lines →
+    longer ++ text_of others ≡ text ++ text_of (lines ++ others)
+then_lines text longer lines others is =
+    ap (λ t. t ++ text_of others) is
+    ∙ append_assoc text (text_of lines) (text_of others)
+    ∙ sym (ap (λ t. text ++ t) (text_of-append lines others))
 
 -- a text with a line more, and then others
-pub more_after : (text line : List ℕ) (others : List (List ℕ)) → ((text ++ line) ++ 10 ∷ []) ++ text_of others ≡ text ++ text_of (line ∷ others)
+more_after : (text line : List ℕ) (others : List (List ℕ)) → ((text ++ line) ++ 10 ∷ []) ++ text_of others ≡ text ++ text_of (line ∷ others)
 more_after text line others =
     append_assoc (text ++ line) (10 ∷ []) (text_of others)
     ∙ append_assoc text line (10 ∷ text_of others)
     ∙ sym (ap (λ t. text ++ t) (append_assoc line (10 ∷ []) (text_of others)))
 
 -- the same, where they are known by what they are
-pub then_lines : (text longer : List ℕ) (lines others : List (List ℕ)) → longer ≡ text ++ text_of lines →
-    longer ++ text_of others ≡ text ++ text_of (lines ++ others)
-then_lines text longer lines others is = ap (λ t. t ++ text_of others) is ∙ more_lines text lines others
-
 pub then_line : (text line said longer : List ℕ) (others : List (List ℕ)) → line ≡ said → longer ≡ (text ++ line) ++ 10 ∷ [] →
     longer ++ text_of others ≡ text ++ text_of (said ∷ others)
 then_line text line said longer others same is =
@@ -41,3 +46,14 @@ more_of lines_of xs i x done longer all within read is before =
     ∙ ap (λ y. done ++ text_of (lines_of y ++ flat_map lines_of (drop (i + 1) xs))) read
     ∙ sym (ap (λ ys. done ++ text_of (flat_map lines_of ys)) (drop_more xs i x within))
     ∙ before
+
+-- ---- whole lines ----
+
+pub ends_whole : (xs : List ℕ) → is_of_whole_lines (xs ++ 10 ∷ []) ≡ true
+ends_whole [] = refl
+ends_whole (b ∷ []) = refl
+ends_whole (b ∷ next ∷ more) = ends_whole (next ∷ more)
+
+pub text_whole : (lines : List (List ℕ)) → is_of_whole_lines (text_of lines) ≡ true
+text_whole [] = refl
+text_whole (line ∷ lines) = is_of_whole_lines-append (line ++ 10 ∷ []) (text_of lines) (ends_whole line) (text_whole lines)

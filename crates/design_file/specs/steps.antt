@@ -1,0 +1,3 @@
+pub mod Parsing
+pub mod FaultLists
+pub mod NetworkFaultLists
