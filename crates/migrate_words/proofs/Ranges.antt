@@ -20,7 +20,8 @@ abbrev IsFull : List Text → Shape → Type 0
 IsFull rest line = level_fault line [] nothing_held rest false [] ≡ [] → Full (rows_after line.rules [] rest)
 
 -- so it is of the subcommand that is found
-found_is_full : (words : List Text) (finds : FindsLine (built command_line) (subcommand_of command_line words)) → Full (rows_after finds.line.rules [] finds.rest)
+found_is_full : (words : List Text) (finds : FindsLine (built command_line) (subcommand_of command_line words)) →
+    Full (rows_after finds.line.rules [] finds.rest)
 unfolding command_line
 found_is_full words finds =
     found_hit (IsFull finds.rest) (λ s. answers_to finds.name (label_of s)) (built command_line).subs finds.line (
@@ -77,7 +78,8 @@ some_values id rows values full all = go (find (row_named id) rows) refl all
 
     go : (found : Option Row) → find (row_named id) rows ≡ found → option_map (λ r. r.values) found ≡ Some values → 0 < length values
     go None found e = absurd (true≢false (sym (ap is_some e)))
-    go (Some r) found e = one_or_more values (subst (λ (some : List Text). HasSome some) (some_is r.values values e) (found_full (row_named id) rows r full found))
+    go (Some r) found e =
+        one_or_more values (subst (λ (some : List Text). HasSome some) (some_is r.values values e) (found_full (row_named id) rows r full found))
 
 -- a budget is in its range
 budget_within : (given : Option Text) (budget : ℕ) → IsBudget given budget → (1 ≤ budget) × (budget ≤ 100000)

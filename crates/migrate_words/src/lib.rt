@@ -17,6 +17,3 @@ pub use file_names::FileNames;
 pub use laws::words_laws;
 pub use reading::read_command;
 pub use refusal::WordsRefused;
-
-#[cfg(test)]
-mod tests;

@@ -4,7 +4,7 @@ ghost use Rattle.clap.specs.Simple.{new_shape};
 ghost use Rattle.migrate_words.specs.CommandLine.{budget_option, command_line, config_files, one_text};
 ghost use Rattle.migrate_words.specs.CommandLine.{check_line, plan_line, prepare_line, refute_line};
 ghost use Rattle.migrate_words.specs.CommandLine.{replay_line, sample_line, scripts_line};
-ghost use Rattle.migrate_words.specs.LineSteps.{IsLine, IsRule, IsWhole, bare_line, with_argument};
+ghost use Rattle.migrate_words.specs.steps.LineSteps.{IsLine, IsRule, IsWhole, bare_line, with_argument};
 ghost use Rattle.clap.specs.Words.{Rule, with_subcommand};
 
 use clap::{Arg, ArgAction, Command};
@@ -14,13 +14,13 @@ use std::alloc::{AllocError, Global};
 pub(crate) fn command_line<'a>(alloc: Global) -> Result<Command<'a>, AllocError>
     ensures { IfOk result (IsWhole command_line) }
 {
-    let line = with_line(top(alloc), check_line(alloc)?)?;
-    let line = with_line(line, prepare_line(alloc)?)?;
-    let line = with_line(line, plan_line(alloc)?)?;
-    let line = with_line(line, refute_line(alloc)?)?;
-    let line = with_line(line, scripts_line(alloc)?)?;
-    let line = with_line(line, replay_line(alloc)?)?;
-    with_line(line, sample_line(alloc)?)
+    let line = with_line(Ok(top(alloc)), check_line(alloc));
+    let line = with_line(line, prepare_line(alloc));
+    let line = with_line(line, plan_line(alloc));
+    let line = with_line(line, refute_line(alloc));
+    let line = with_line(line, scripts_line(alloc));
+    let line = with_line(line, replay_line(alloc));
+    with_line(line, sample_line(alloc))
 }
 
 /// The command line with no subcommand yet.
@@ -33,8 +33,25 @@ fn top<'a>(alloc: Global) -> Command<'a>
         .subcommand_required(true)
 }
 
+/// The command line with one more subcommand, where there was memory for both.
+fn with_line<'a>(
+    line: Result<Command<'a>, AllocError>,
+    subcommand: Result<Command<'a>, AllocError>,
+) -> Result<Command<'a>, AllocError>
+    ensures { IfOk result (λ r. (whole : App) (sub : Shape) → IfOk line.entry (IsWhole whole) → IfOk subcommand.entry (IsLine sub)
+        → IsWhole (with_subcommand whole sub) r) }
+{
+    match (line, subcommand) {
+        (Ok(line), Ok(subcommand)) => with_subcommand(line, subcommand),
+        (Err(fault), _) | (_, Err(fault)) => Err(fault),
+    }
+}
+
 /// The command line with one more subcommand.
-fn with_line<'a>(line: Command<'a>, subcommand: Command<'a>) -> Result<Command<'a>, AllocError>
+fn with_subcommand<'a>(
+    line: Command<'a>,
+    subcommand: Command<'a>,
+) -> Result<Command<'a>, AllocError>
     ensures { IfOk result (λ r. (whole : App) (sub : Shape) → IsWhole whole line.entry → IsLine sub subcommand.entry → IsWhole (with_subcommand whole sub) r) }
 {
     line.subcommand(subcommand)

@@ -3,7 +3,7 @@ use Rattle.std.proofs.lemmas.Result.{IfOk-weaker}
 use Rattle.clap.specs.Words.{Rule, Shape}
 use Rattle.clap.specs.Simple.{new_shape}
 use Rattle.migrate_words.specs.CommandLine.{config_files, one_text}
-use Rattle.migrate_words.specs.LineSteps.{with_argument}
+use Rattle.migrate_words.specs.steps.LineSteps.{with_argument}
 use Rattle.migrate_words.proofs.lines.prepare_line.Goals as goal
 
 pub returns : goal.returns

@@ -1,8 +1,7 @@
-use Rattle.std.proofs.Common.{◌∙◌, ◌||◌, ap, ap₂}
-use Rattle.std.proofs.lemmas.Result.{IfOk-weaker}
-use Rattle.clap.specs.Words.{App, with_subcommand}
+use Rattle.std.proofs.lemmas.Result.{IfOk-at_ok, IfOk-weaker}
+use Rattle.migrate_words.specs.steps.LineSteps.{IsLine, IsWhole}
 use Rattle.migrate_words.proofs.lines.with_line.Goals as goal
 
-pub returns : goal.returns
-returns c = IfOk-weaker c.subcommand.result _ _ (λ r adds whole sub is line.
-    (adds.shape line.1 ∙ ap₂ with_subcommand is.0 (ap (λ (a : App). a.top) line.0), adds.globals ∙ ap₂ (λ a b. a || b) is.1 line.1)) c.subcommand.ensures
+pub returns-in-Ok-Ok : goal.returns-in-Ok-Ok
+returns-in-Ok-Ok c = IfOk-weaker c.with_subcommand.result _ _ (λ r more whole sub is line.
+    more whole sub (IfOk-at_ok (IsWhole whole) c.in-Ok-Ok.is-0 is) (IfOk-at_ok (IsLine sub) c.in-Ok-Ok.is-1 line)) c.with_subcommand.ensures
