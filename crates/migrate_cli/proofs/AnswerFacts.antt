@@ -15,11 +15,11 @@ use Rattle.migrate_cli.specs.Answers.IsAnswer.{refused_words, many_files, read_f
 use Rattle.migrate_cli.specs.Answers.MayAsk.{asks_none, asks_some}
 use Rattle.migrate_cli.specs.Calls.{Call}
 use Rattle.migrate_cli.specs.CallWords.AreRefused.{not_taken, number_off}
-use Rattle.migrate_cli.specs.CommandFiles.{config_names, files_of}
+use Rattle.migrate_cli.specs.CommandFiles.{files_of, text_names}
 use Rattle.migrate_cli.specs.Reading.{AreRead, AreWithin, names_of}
-use Rattle.migrate_cli.specs.Stops.{StopFaults, MayRead, HasRead}
-use Rattle.migrate_cli.specs.Stops.MayRead.{none_yet, so_far}
-use Rattle.migrate_cli.specs.Unread.{IsUnread, UnreadAnswer}
+use Rattle.migrate_cli.specs.steps.Stops.{StopFaults, MayRead, HasRead}
+use Rattle.migrate_cli.specs.steps.Stops.MayRead.{none_yet, so_far}
+use Rattle.migrate_cli.specs.steps.Unread.{IsUnread, UnreadAnswer}
 use Rattle.migrate_cli.specs.Verdicts.{IsVerdict}
 use Rattle.migrate_cli.specs.declared.configurations.Unread.{Unread}
 use Rattle.migrate_cli.specs.declared.configurations.Unread.TheVariants.{Bad, OutOfMemory as NoMemoryToRead}
@@ -65,7 +65,8 @@ refusal_answer call before refused (Ok a) is answer = answered_at_once call befo
 refusal_answer call before refused (Err e) is answer = answered_at_once call before (Err e) tt
 
 -- where memory may run out in reading, the call may have asked for those names
-may_ask : {call : Call} {asked : List (List ℕ)} (request : Request) → AsksForFew call.words request → MayRead call.content (files_of request) asked → MayAsk call asked
+may_ask : {call : Call} {asked : List (List ℕ)} (request : Request) → AsksForFew call.words request → MayRead call.content (files_of request) asked →
+    MayAsk call asked
 may_ask request ask none_yet = asks_none
 may_ask request ask (so_far asked texts file up) = asks_some request asked texts file ask up
 
@@ -135,7 +136,8 @@ refusal_no_fault (NetLimit _ _) status e = subst NoFault (same_Some Limit status
 refusal_no_fault NoMemory status e = absurd (Prim.cc e)
 refusal_no_fault _ status e = subst NoFault (same_Some Refused status e) ((λ f. Prim.cc f), (λ f. Prim.cc f))
 
-pub verdict_no_fault : {request : Request} {own texts : List (List ℕ)} {status : Status} {text : List ℕ} → IsVerdict request own texts status text → NoFault status
+pub verdict_no_fault : {request : Request} {own texts : List (List ℕ)} {status : Status} {text : List ℕ} → IsVerdict request own texts status text →
+    NoFault status
 verdict_no_fault (faulty_configuration _ _ _ _) = (λ e. Prim.cc e, λ e. Prim.cc e)
 verdict_no_fault (no_network _ refusal status _ _ given) = refusal_no_fault refusal status given
 verdict_no_fault (off_start _ _ _ _ _ _ _) = (λ e. Prim.cc e, λ e. Prim.cc e)
@@ -172,7 +174,8 @@ refusal_agrees (Ok a) status count no_fault same = faults_agree a.status count c
 refusal_agrees (Err e) status count no_fault same = tt
 
 -- with the answer that reading stopped
-pub stop_agrees : (stop : Stop) (before after : ℕ) (r : Result Answer AllocError) → StopFaults stop before after → IfOk r (λ (a : Answer). StopAnswer stop a.status a.text)
+pub stop_agrees : (stop : Stop) (before after : ℕ) (r : Result Answer AllocError) → StopFaults stop before after →
+    IfOk r (λ (a : Answer). StopAnswer stop a.status a.text)
     → IfOk r (λ (a : Answer). FaultsAgree a.status before after)
 stop_agrees (Fault file) before after (Ok a) faults answer = record { read_fault = λ _. faults; unless_read_fault = λ no. absurd (no answer.0) }
 stop_agrees (Long file) before after (Ok a) faults answer =
@@ -193,7 +196,8 @@ words_agree NoMemoryForWords count (Ok a) answer = absurd answer
 words_agree refused count (Err e) answer = tt
 
 -- why configurations aren't read is the verdict
-pub unread_verdict : (request : Request) (own texts : List (List ℕ)) (unread : Unread) (r : Result Answer AllocError) → IsUnread (config_names request) texts unread
+pub unread_verdict : (request : Request) (own texts : List (List ℕ)) (unread : Unread) (r : Result Answer AllocError) →
+    IsUnread (text_names request) texts unread
     → IfOk r (λ (a : Answer). UnreadAnswer unread a.status a.text) → IfOk r (λ (a : Answer). IsVerdict request own texts a.status a.text)
 unread_verdict request own texts (Bad file line kind) (Ok a) is answer =
     subst (λ s. IsVerdict request own texts s a.text) (sym answer.0)

@@ -1,5 +1,6 @@
 -- Where the files that an answer asks for are told, it is the one answer of the call besides a read fault.
 use Rattle.std.proofs.Common.{◌≡◌, ◌≢◌, ◌⊎◌, inl, inr, ℕ, ◌<◌, ◌≤◌, List, [], ◌∷◌, ◌++◌, length, All, refl, sym, subst, ◌∙◌, append-nil, arith}
+use Rattle.migrate_words.specs.Asked.{Asks}
 use Rattle.migrate_words.specs.Requests.{Request}
 use Rattle.migrate_words.proofs.OneRequest.{one_request}
 use Rattle.migrate_words.proofs.TakenLaws.{numbers}
@@ -10,15 +11,16 @@ use Rattle.migrate_cli.specs.AnswerLaws.MayEnd.{as_answered, by_read_fault}
 use Rattle.migrate_cli.specs.Answers.{IsAnswer}
 use Rattle.migrate_cli.specs.Answers.IsAnswer.{refused_words, many_files, read_fault, long_file, long_files, judged}
 use Rattle.migrate_cli.specs.Calls.{Call}
-use Rattle.migrate_cli.specs.CallWords.{AreRefused, AskFor, TellsWordsRefused}
-use Rattle.migrate_cli.specs.CallWords.AreRefused.{not_taken, number_off, not_landed}
-use Rattle.migrate_cli.specs.CommandFiles.{HasLanded, config_names, config_texts, files_of, own_texts}
+use Rattle.migrate_cli.specs.CallWords.{AreRefused, TellsWordsRefused}
+use Rattle.migrate_cli.specs.CallWords.AreRefused.{not_taken, number_off}
+use Rattle.migrate_cli.specs.CommandFiles.{config_names, config_texts, files_of, own_texts}
 use Rattle.migrate_cli.specs.Reading.{Contents, File, AreRead, AreWithin, names_of}
 use Rattle.migrate_cli.specs.Verdicts.{IsVerdict}
 use Rattle.migrate_cli.specs.declared.status.Status.{Status}
 use Rattle.migrate_cli.specs.declared.status.Status.TheVariants.{Words, ReadFault, Limit}
 use Rattle.migrate_cli.proofs.ReadingFacts.{AreRead-length}
-use Rattle.migrate_cli.proofs.StopLaws.{StopsAfter, IsBrokenSo, IsToldOf, long_breaks, total_breaks, told_with, told_files, told_up_to, one_list, none_past, same_place, same_limit}
+use Rattle.migrate_cli.proofs.StopLaws.{StopsAfter, IsBrokenSo, IsToldOf, long_breaks, total_breaks, told_with, told_files, told_up_to, one_list, none_past}
+use Rattle.migrate_cli.proofs.StopLaws.{same_place, same_limit}
 use Rattle.migrate_cli.proofs.StopLaws.IsBrokenSo.{too_long, too_many}
 use Rattle.migrate_cli.proofs.SameAnswers.{AreSame}
 use Rattle.migrate_cli.proofs.VerdictLaws.{one_verdict}
@@ -93,7 +95,7 @@ module _ (content : Contents) (request : Request) where
 
 pub data OfWords (call : Call) : List (List ℕ) → Status → List ℕ → Type 0 where
   refused : (text : List ℕ) → AreRefused call.words text → OfWords call [] Words text
-  asks : {asked : List (List ℕ)} {status : Status} {answer : List ℕ} (request : Request) → AskFor call.words request
+  asks : {asked : List (List ℕ)} {status : Status} {answer : List ℕ} (request : Request) → Asks call.words request
       → OfFiles call.content request asked status answer → OfWords call asked status answer
 
 -- each answer, step by step
@@ -124,17 +126,14 @@ steps_of read (judged request texts status text ask reads within verdict) =
     asks request ask.asked (all_read texts ask.few reads within verdict)
 
 -- words that are refused ask for nothing
-pub refused_or_asks : (words : List (List ℕ)) (line : List ℕ) (request : Request) → AreRefused words line → AskFor words request → ⊥
-refused_or_asks words line request (not_taken _ none _) ask = none ask.asks.taken
-refused_or_asks words line request (number_off off) ask = (numbers words).none off request ask.asks
-refused_or_asks words line request (not_landed other given none) ask =
-    none (subst HasLanded (one_request words request other ask.asks given) ask.landed)
+pub refused_or_asks : (words : List (List ℕ)) (line : List ℕ) (request : Request) → AreRefused words line → Asks words request → ⊥
+refused_or_asks words line request (not_taken _ none _) ask = none ask.taken
+refused_or_asks words line request (number_off off) ask = (numbers words).none off request ask
 
 -- and say so first
 tells : (words : List (List ℕ)) (text : List ℕ) → AreRefused words text → TellsWordsRefused text
 tells words text (not_taken _ _ told) = told
 tells words text (number_off _) = record { detail = []; text_is = sym (append-nil words_refused_text) }
-tells words text (not_landed _ _ _) = record { detail = []; text_is = sym (append-nil words_refused_text) }
 
 one_of_words : (call : Call) {p q : List (List ℕ)} {s z : Status} {t w : List ℕ} → All (IsTold call.content) p → OfWords call p s t
     → OfWords call q z w → SameAnswer p s t q z w
@@ -142,7 +141,7 @@ one_of_words call tell (refused t one) (refused w other) = (refl, refl, words_re
 one_of_words call tell (refused t one) (asks request ask _) = absurd (refused_or_asks call.words t request one ask)
 one_of_words call tell (asks request ask _) (refused w other) = absurd (refused_or_asks call.words w request other ask)
 one_of_words call {q = q} {z = z} {w = w} tell (asks one ask files) (asks other again also) =
-    let one_thing = one_request call.words one other ask.asks again.asks in
+    let one_thing = one_request call.words one other ask again in
     one_of_files call.content one tell files (subst (λ request. OfFiles call.content request q z w) (sym one_thing) also)
 
 -- a call has one answer

@@ -1,7 +1,7 @@
 -- What a command decides on has one verdict of it.
 use Rattle.std.proofs.Common.{◌≡◌, ◌∙◌, ◌∷◌, [], ℕ, List, sym, subst}
 use Rattle.net_model.specs.Refusals.{NamesAscend}
-use Rattle.migrate_words.specs.Requests.{Request, check, prepare, refute, scripts, replay, plan}
+use Rattle.migrate_words.specs.Requests.{Request, check, prepare, plan, refute, scripts, replay, sample}
 use Rattle.migrate_cli.specs.CheckVerdict.{IsCheckVerdict}
 use Rattle.migrate_cli.specs.PrepareVerdict.{IsPrepareVerdict}
 use Rattle.migrate_cli.specs.RefuteVerdict.{IsRefuteVerdict}
@@ -14,6 +14,7 @@ use Rattle.migrate_cli.proofs.PrepareLaws.{one_prepare_verdict, prepare_no_fault
 use Rattle.migrate_cli.proofs.PlanLaws.{one_plan_verdict, plan_no_fault}
 use Rattle.migrate_cli.proofs.RefuteLaws.{one_refute_verdict, refute_no_fault}
 use Rattle.migrate_cli.proofs.ReplayLaws.{one_replay_verdict, replay_no_fault}
+use Rattle.migrate_cli.proofs.SampleLaws.{one_sample_verdict, sample_no_fault}
 use Rattle.migrate_cli.proofs.ScriptsLaws.{one_scripts_verdict, scripts_no_fault}
 use Rattle.migrate_cli.proofs.SameAnswers.{AreSame, NoFault}
 
@@ -44,7 +45,7 @@ one_command_verdict (replay file _ _) input {z = z} {w = w} ascending one other 
     one_replay_verdict file one.0 one.1 input.net ascending one.3
     (subst (λ text. IsReplayVerdict file text one.1 input.net z w) (sym order)
     (subst (λ text. IsReplayVerdict file other.0 text input.net z w) (sym journal) other.3))
-one_command_verdict _ input ascending one other = absurd one
+one_command_verdict (sample routers) input ascending one other = one_sample_verdict routers input.net one.1 other.1
 
 -- and it is no fault of reading or of writing
 pub command_no_fault : (request : Request) (input : Input) (status : Status) (text : List ℕ) → IsCommandVerdict request input status text → NoFault status
@@ -54,4 +55,4 @@ command_no_fault (plan _ _) input status text verdict = plan_no_fault verdict.1
 command_no_fault (refute _ _) input status text verdict = refute_no_fault verdict.2
 command_no_fault (scripts _ _) input status text verdict = scripts_no_fault verdict.2
 command_no_fault (replay _ _ _) input status text verdict = replay_no_fault verdict.3
-command_no_fault _ input status text verdict = absurd verdict
+command_no_fault (sample _) input status text verdict = sample_no_fault verdict.1

@@ -50,7 +50,8 @@ waves_decide (safe_waves _) = yes
 waves_decide (unsafe_wave _ _ _ _) = no
 
 -- an order file that names a wave list has no other verdict
-check_of_waves : {file text answer : List ℕ} {version : Version} {ranks : List ℕ} {net : Network} {status : Status} → NamesAscend net → NamesWaves net text version ranks
+check_of_waves : {file text answer : List ℕ} {version : Version} {ranks : List ℕ} {net : Network} {status : Status} → NamesAscend net →
+    NamesWaves net text version ranks
     → IsCheckVerdict file text net status answer → Decides status
 check_of_waves {text = text} {version = version} {ranks = ranks} {net = net} ascending names (faulty_order n k least) =
     absurd (no_fault net text version ranks n k ascending names least.faulty)
@@ -65,7 +66,8 @@ one_network texts net other a b =
     IsNetworkOf-unique b.configs net other make.network b.make.network
 
 -- nothing of some texts is refused before a command's own verdict
-judged_alone : (request : Request) (own texts : List (List ℕ)) (net : Network) {status : Status} {answer : List ℕ} → GiveNetwork texts net → (NeedsStart request → IsAtStart net)
+pub judged_alone : (request : Request) (own texts : List (List ℕ)) (net : Network) {status : Status} {answer : List ℕ} → GiveNetwork texts net →
+    (NeedsStart request → IsAtStart net)
     → IsVerdict request own texts status answer → IsCommandVerdict request (record { own = own; configs = texts; net = net }) status answer
 judged_alone request own texts net gives start (faulty_configuration _ _ _ first) = absurd (none_refused first gives.configs gives.read)
 judged_alone request own texts net gives start (no_network all refusal status read refuses given) =
@@ -82,7 +84,8 @@ module _ (call : Call) (request : Request) (texts : List (List ℕ)) (net : Netw
   abbrev pub input : Input
   input = record { own = own_texts request texts; configs = config_texts request texts; net = net }
 
-  files_judged : {asked : List (List ℕ)} {status : Status} {answer : List ℕ} → OfFiles call.content request asked status answer → IsCommandVerdict request input status answer
+  files_judged : {asked : List (List ℕ)} {status : Status} {answer : List ℕ} → OfFiles call.content request asked status answer →
+      IsCommandVerdict request input status answer
   files_judged (above many) = absurd (few_or_many call.content request many accepted.asked.few)
   files_judged (stopped before file read text _ _ stop _) =
       let tell = told_files call.content (files_of request) accepted.told in
@@ -96,18 +99,20 @@ module _ (call : Call) (request : Request) (texts : List (List ℕ)) (net : Netw
   words_judged : {asked : List (List ℕ)} {status : Status} {answer : List ℕ} → OfWords call asked status answer → IsCommandVerdict request input status answer
   words_judged (refused text are) = absurd (refused_or_asks call.words text request are accepted.asked.asked)
   words_judged {asked} {status} {answer} (asks some ask files) =
-      let same = one_request call.words some request ask.asks accepted.asked.asked.asks in
+      let same = one_request call.words some request ask accepted.asked.asked in
       files_judged (subst (λ other. OfFiles call.content other asked status answer) same files)
 
   -- an answer that is no fault of reading is the command's own verdict
-  pub accepted_verdict : (asked : List (List ℕ)) (status : Status) (answer : List ℕ) → status ≢ ReadFault → IsAnswer call asked status answer → IsCommandVerdict request input status answer
+  pub accepted_verdict : (asked : List (List ℕ)) (status : Status) (answer : List ℕ) → status ≢ ReadFault → IsAnswer call asked status answer →
+      IsCommandVerdict request input status answer
   accepted_verdict asked status answer no_fault one = words_judged (steps_of no_fault one)
 
 -- the network of some texts has ascending names
 names_ascend : {texts : List (List ℕ)} {net : Network} → GiveNetwork texts net → NamesAscend net
 names_ascend gives = gives.make.network.ascending
 
-pub check_decides : (call : Call) → AcceptsCheck call → (asked : List (List ℕ)) (status : Status) (answer : List ℕ) → status ≢ ReadFault → IsAnswer call asked status answer → Decides status
+pub check_decides : (call : Call) → AcceptsCheck call → (asked : List (List ℕ)) (status : Status) (answer : List ℕ) → status ≢ ReadFault →
+    IsAnswer call asked status answer → Decides status
 check_decides call it asked status answer no_fault one =
     let verdict = accepted_verdict call (check it.file it.configs) it.texts it.net it.accepted asked status answer no_fault one in
     let lists : it.text ∷ [] ≡ verdict.0 ∷ [] = sym it.text_is ∙ verdict.1 in
@@ -115,13 +120,15 @@ check_decides call it asked status answer no_fault one =
     check_of_waves (names_ascend it.accepted.gives) (subst (λ t. NamesWaves it.net t it.version it.ranks) same it.names) verdict.2
 
 -- a wave list has a script
-scripts_of_waves : {file text : List ℕ} {net : Network} {status : Status} {answer : List ℕ} {version : Version} {ranks : List ℕ} → NamesAscend net → NamesWaves net text version ranks
+scripts_of_waves : {file text : List ℕ} {net : Network} {status : Status} {answer : List ℕ} {version : Version} {ranks : List ℕ} → NamesAscend net →
+    NamesWaves net text version ranks
     → IsScriptsVerdict file text net status answer → Writes status
 scripts_of_waves {text = text} {net = net} {version = version} {ranks = ranks} ascending names (faulty_scripts n k least) =
     absurd (no_fault net text version ranks n k ascending names least.faulty)
 scripts_of_waves ascending names (script_of _ _ _) = written
 
-pub scripts_write : (call : Call) → AcceptsScripts call → (asked : List (List ℕ)) (status : Status) (answer : List ℕ) → status ≢ ReadFault → IsAnswer call asked status answer → Writes status
+pub scripts_write : (call : Call) → AcceptsScripts call → (asked : List (List ℕ)) (status : Status) (answer : List ℕ) → status ≢ ReadFault →
+    IsAnswer call asked status answer → Writes status
 scripts_write call it asked status answer no_fault one =
     let verdict = accepted_verdict call (scripts it.file it.configs) it.texts it.net it.accepted asked status answer no_fault one in
     let lists : it.text ∷ [] ≡ verdict.0 ∷ [] = sym it.text_is ∙ verdict.1 in
@@ -133,13 +140,15 @@ journal_decides : {net : Network} {ranks journal text : List ℕ} {status : Stat
 journal_decides (reached _ _ _ _ _) = yes
 journal_decides (departs _ _ _) = no
 
-replay_of_waves : {file text journal : List ℕ} {net : Network} {status : Status} {answer : List ℕ} {version : Version} {ranks : List ℕ} → NamesAscend net → NamesWaves net text version ranks
+replay_of_waves : {file text journal : List ℕ} {net : Network} {status : Status} {answer : List ℕ} {version : Version} {ranks : List ℕ} → NamesAscend net →
+    NamesWaves net text version ranks
     → IsReplayVerdict file text journal net status answer → Decides status
 replay_of_waves {text = text} {net = net} {version = version} {ranks = ranks} ascending names (faulty_replay n k least) =
     absurd (no_fault net text version ranks n k ascending names least.faulty)
 replay_of_waves ascending names (replay_of _ _ _ _ _ verdict) = journal_decides verdict
 
-pub replay_decides : (call : Call) → AcceptsReplay call → (asked : List (List ℕ)) (status : Status) (answer : List ℕ) → status ≢ ReadFault → IsAnswer call asked status answer → Decides status
+pub replay_decides : (call : Call) → AcceptsReplay call → (asked : List (List ℕ)) (status : Status) (answer : List ℕ) → status ≢ ReadFault →
+    IsAnswer call asked status answer → Decides status
 replay_decides call it asked status answer no_fault one =
     let verdict = accepted_verdict call (replay it.file it.journal_file it.configs) it.texts it.net it.accepted asked status answer no_fault one in
     let lists : it.text ∷ it.journal ∷ [] ≡ verdict.0 ∷ verdict.1 ∷ [] = sym it.texts_are ∙ verdict.2 in

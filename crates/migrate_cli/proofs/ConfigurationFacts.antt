@@ -1,12 +1,14 @@
 -- Configurations read file by file.
-use Rattle.std.proofs.Common.{◌≡◌, ℕ, zero, suc, ◌+◌, ◌<◌, List, [], ◌∷◌, ◌++◌, length, take, get_or, refl, arith, ap, ◌∙◌, sym, subst, append_assoc, append-nil}
+use Rattle.std.proofs.Common.{◌≡◌, ℕ, zero, suc, ◌+◌, ◌<◌, List, [], ◌∷◌, ◌++◌, length, take, get_or, refl, arith, ap, ◌∙◌, sym, subst, append_assoc}
+use Rattle.std.proofs.Common.{append-nil}
 use Rattle.std.proofs.lemmas.List.{take_more}
 use Rattle.ios_reader.specs.Texts.{ReadsText, IsRefusedText}
 use Rattle.ios_reader.specs.declared.kind.ReadKind.{ReadKind}
 use Rattle.net_model.specs.Configuration.{Configuration}
-use Rattle.migrate_cli.specs.Configurations.{ReadsTexts, IsFirstRefused}
+use Rattle.isis_writer.specs.ReadTexts.{ReadsTexts}
+use Rattle.migrate_cli.specs.Configurations.{IsFirstRefused}
 use Rattle.migrate_cli.specs.Configurations.IsFirstRefused.{here, later}
-use Rattle.migrate_cli.specs.Unread.{IsUnreadText, IsUnread}
+use Rattle.migrate_cli.specs.steps.Unread.{IsUnreadText, IsUnread}
 use Rattle.migrate_cli.specs.declared.configurations.Unread.{Unread}
 use Rattle.migrate_cli.specs.declared.configurations.Unread.TheVariants.{Bad, OutOfMemory}
 
@@ -36,7 +38,8 @@ ReadsTexts-next texts i text configs more within at first reads =
     subst (λ some. ReadsTexts some (configs ++ more)) e (ReadsTexts-more (take i texts) text configs more first reads)
 
 -- after texts that were read the first faulty one
-pub first_refused : (names texts : List (List ℕ)) (i : ℕ) (name text : List ℕ) (configs : List Configuration) (line : ℕ) (kind : ReadKind) → length names ≡ length texts
+pub first_refused : (names texts : List (List ℕ)) (i : ℕ) (name text : List ℕ) (configs : List Configuration) (line : ℕ) (kind : ReadKind) →
+    length names ≡ length texts
     → i < length texts → name ≡ get_or names i name → text ≡ get_or texts i text → ReadsTexts (take i texts) configs → IsRefusedText text line kind
     → IsFirstRefused names texts name line kind
 first_refused names [] i name text configs line kind lengths within named at first refused = absurd (omega arith)

@@ -13,7 +13,7 @@ use Rattle.loop_finder.specs.declared.fault.Fault.TheVariants.{Loop, Missing}
 use Rattle.order_core.specs.declared.turn.Tag.{Tag}
 use Rattle.order_core.specs.declared.turn.Tag.TheVariants.{Old, New, Both}
 use Rattle.order_core.specs.declared.turn.Turn.{Turn}
-use Rattle.migrate_cli.specs.Faults.{NamesRouters}
+use Rattle.migrate_cli.specs.steps.Faults.{NamesRouters}
 
 -- a list of one element more
 All-cons : {X : Type 0} (P : X → Type 0) (x : X) (xs : List X) → P x → All P xs → All P (x ∷ xs)
@@ -33,7 +33,8 @@ module _ (net : Network) (old new : Tables) (a : ℕ) where
   each_within : (first : Turn) (turns : List Turn) → EachToNext (λ (r s : Turn). IsTag net old new a r s.router) first turns
       → All (λ (turn : Turn). turn.router < length net) turns
   each_within first [] tags = λ k d within. absurd (omega arith)
-  each_within first (turn ∷ []) tags = All-cons (λ (t : Turn). t.router < length net) turn [] (tag_within turn first.router tags) (λ k d within. absurd (omega arith))
+  each_within first (turn ∷ []) tags =
+      All-cons (λ (t : Turn). t.router < length net) turn [] (tag_within turn first.router tags) (λ k d within. absurd (omega arith))
   each_within first (turn ∷ next ∷ turns) tags =
       All-cons (λ (t : Turn). t.router < length net) turn (next ∷ turns) (tag_within turn next.router tags.0) (each_within first (next ∷ turns) tags.1)
 
@@ -48,12 +49,14 @@ pub loop_within : (net : Network) (old new : Tables) (state : State) (a : ℕ) (
     → All (λ (turn : Turn). turn.router < length net) turns
 loop_within net old new state a turns (loop_arises _ _ _ _ tags) = around_within net old new a turns tags
 
-pub missing_within : (net : Network) (old new : Tables) (state : State) (a u : ℕ) (turns : List Turn) → IsFault net old new state (told_fault (Missing a u) turns)
+pub missing_within : (net : Network) (old new : Tables) (state : State) (a u : ℕ) (turns : List Turn) →
+    IsFault net old new state (told_fault (Missing a u) turns)
     → u < length net
 missing_within net old new state a u turns (missing_step _ _ must _ _) = must.router
 
 -- so are all routers that an answer tells, where no ring was told before
-pub names_routers : (net : Network) (old new : Tables) (state : State) (fault : Fault) (before turns : List Turn) → IsFault net old new state (told_fault fault turns)
+pub names_routers : (net : Network) (old new : Tables) (state : State) (fault : Fault) (before turns : List Turn) →
+    IsFault net old new state (told_fault fault turns)
     → KeepsRing (Some fault) before turns → before ≡ [] → NamesRouters (length net) fault turns
 names_routers net old new state (Loop a) before turns fault kept none = record { named = tt; turned = loop_within net old new state a turns fault }
 names_routers net old new state (Missing a u) before turns fault kept none = record {
@@ -62,7 +65,8 @@ names_routers net old new state (Missing a u) before turns fault kept none = rec
 }
 
 -- the same of the fault of a set of states, as that of a wave
-pub loop_within_over : (net : Network) (old new : Tables) (states : State → Type 0) (a : ℕ) (turns : List Turn) → IsFaultOver net old new states (told_fault (Loop a) turns)
+pub loop_within_over : (net : Network) (old new : Tables) (states : State → Type 0) (a : ℕ) (turns : List Turn) →
+    IsFaultOver net old new states (told_fault (Loop a) turns)
     → All (λ (turn : Turn). turn.router < length net) turns
 loop_within_over net old new states a turns (loop_over_all _ _ _ tags) = around_within net old new a turns tags
 

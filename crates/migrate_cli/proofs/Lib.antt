@@ -12,6 +12,9 @@ mod PrepareFacts
 mod PrepareLaws
 mod PlanTables
 mod PlanLaws
+mod OriginatedFacts
+mod SampleLaws
+mod SampleFacts
 mod RefuteLaws
 mod ReplayLaws
 mod ScriptsLaws
@@ -26,4 +29,5 @@ mod PrepareCompleteness
 mod NetworkFacts
 mod PlanCompletenessLaws
 mod PlanClaimLaws
+mod SampleClaimLaws
 mod PrepareReadBack

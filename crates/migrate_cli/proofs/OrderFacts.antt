@@ -25,7 +25,8 @@ same_tables_back same = record {
 pub verdict_over : {net : Network} {old new old' new' : Tables} {order : List ℕ} {status : Status} {text : List ℕ} → HaveSameTables net old new old' new'
     → IsOrderVerdict net old new order status text → IsOrderVerdict net old' new' order status text
 verdict_over same (safe seamless) = safe (seamless_over same seamless)
-verdict_over same (unsafe state fault broken first) = unsafe state fault (λ seamless. broken (seamless_over (same_tables_back same) seamless)) (first_fault_over same first)
+verdict_over same (unsafe state fault broken first) =
+    unsafe state fault (λ seamless. broken (seamless_over (same_tables_back same) seamless)) (first_fault_over same first)
 
 -- and a wave list too
 pub waves_verdict_over : {net : Network} {old new old' new' : Tables} {ranks : List ℕ} {status : Status} {text : List ℕ} → HaveSameTables net old new old' new'

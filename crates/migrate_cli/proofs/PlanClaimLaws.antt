@@ -13,7 +13,8 @@ use Rattle.net_model.specs.declared.refusal.NetRefusal.TheVariants.{Limit as Too
 use Rattle.order_core.specs.Rankings.{flat_of}
 use Rattle.order_search.specs.Trees.{branch_count}
 use Rattle.order_search.specs.declared.found.Found.TheVariants.{Waves, Refuted}
-use Rattle.plan_theory.specs.Laws.{AreSeamlessWithOrder, NothingIsSeamless}
+use Rattle.plan_theory.specs.Laws.{AreSeamlessWithOrder}
+use Rattle.igp_theory.specs.Waves.{HasNoneSeamless}
 use Rattle.plan_theory.proofs.Meaning.{plan_means}
 use Rattle.plan_theory.specs.declared.planned.Planned.TheVariants.{Searched}
 use Rattle.planned_texts.proofs.ReadBack.{chain_tagged, plan_reads_back}
@@ -86,7 +87,7 @@ plan_holds {budget} {net} some network (waves ranks pairs chain trail ends found
 plan_holds {budget} {net} some network (refuted tree ends refutes) =
     let old = OspfEntry net in
     let new = IsisEntry net in
-    let means : NothingIsSeamless net old new =
+    let means : HasNoneSeamless net old new =
     plan_means net old new budget (Searched (Refuted tree)) (record { ends = ends; is_found = refutes }) in
     record {
       no_waves_deliver = λ ranks ranking deliver.
@@ -135,7 +136,7 @@ module _ (call : Call) (configs : List (List ℕ)) (before after : Outside) wher
   answer_means budget asks adds (long_file _ _ _ _ _ _ _) = tt
   answer_means budget asks adds (long_files _ _ _ _ _ _ _ _) = tt
   answer_means budget asks adds (judged request texts status text ask read within verdict) =
-      let same : request ≡ plan budget configs = one_request call.words request (plan budget configs) ask.asked.asks asks in
+      let same : request ≡ plan budget configs = one_request call.words request (plan budget configs) ask.asked asks in
       verdict_means budget texts (subst (λ (r : Request). AreRead call.content (files_of r) texts) same read) adds
       (subst (λ (r : Request). IsVerdict r (own_texts r texts) (config_texts r texts) status text) same verdict)
 

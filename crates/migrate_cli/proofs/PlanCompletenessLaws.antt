@@ -14,7 +14,8 @@ use Rattle.igp_theory.specs.Isis.{IsisEntry}
 use Rattle.igp_theory.specs.Ospf.{OspfEntry}
 use Rattle.migrate_cli.proofs.CompletenessLaws.{accepted_verdict}
 
-plans : {budget : ℕ} {net : Network} {status : Status} {text : List ℕ} → IsPlanOver net (OspfEntry net) (IsisEntry net) budget status text → Plans net status
+pub plans : {budget : ℕ} {net : Network} {status : Status} {text : List ℕ} → IsPlanOver net (OspfEntry net) (IsisEntry net) budget status text →
+    Plans net status
 plans (unsound_old _ unsound _) = unsound_end (λ ends. unsound ends.first)
 plans (unsound_new _ _ unsound _) = unsound_end (λ ends. unsound ends.last)
 plans (by_waves _ _ _ _ ends _) = waves ends

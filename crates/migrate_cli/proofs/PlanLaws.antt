@@ -6,10 +6,10 @@ use Rattle.igp_theory.specs.Isis.{IsisEntry}
 use Rattle.igp_theory.specs.Loops.{Fault, IsFault, loop, missing}
 use Rattle.igp_theory.specs.Ospf.{OspfEntry}
 use Rattle.igp_theory.specs.Routes.{Tables}
-use Rattle.igp_theory.specs.States.{State}
+use Rattle.igp_theory.specs.States.{State, all_new, all_old}
 use Rattle.igp_theory.proofs.FaultLaws.{faulty_not_sound}
 use Rattle.order_search.specs.declared.found.Found.TheVariants.{Waves, Refuted, Spent}
-use Rattle.plan_theory.specs.Plans.{IsPlanned, all_new, all_old, fault_told}
+use Rattle.plan_theory.specs.Plans.{IsPlanned, fault_told}
 use Rattle.plan_theory.specs.declared.planned.EndFault.{EndFault}
 use Rattle.plan_theory.specs.declared.planned.EndFault.TheVariants.{Loop, Missing}
 use Rattle.plan_theory.specs.declared.planned.Planned.{Planned}
@@ -19,7 +19,7 @@ use Rattle.planned_texts.proofs.ReadBack.{plan_printable}
 use Rattle.migration_report.specs.EndTexts.{EndFaultBelow}
 use Rattle.migrate_cli.specs.PlanVerdict.{IsPlanOver, IsPlanVerdict}
 use Rattle.migrate_cli.specs.PlanVerdict.IsPlanOver.{unsound_old, unsound_new, waves, refuted, spent}
-use Rattle.migrate_cli.specs.PlannedAnswers.{HasText, plan_status, plan_text}
+use Rattle.migrate_cli.specs.steps.PlannedAnswers.{IsTellable, plan_status, plan_text}
 use Rattle.migrate_cli.specs.declared.status.Status.{Status}
 use Rattle.migrate_cli.proofs.FaultFacts.{loop_within, missing_within}
 use Rattle.migrate_cli.proofs.SameAnswers.{AreSame, NoFault}
@@ -65,7 +65,7 @@ end_within : (net : Network) (old new : Tables) (state : State) (fault : EndFaul
 end_within net old new state (Loop a turns) is = loop_within net old new state a turns is
 end_within net old new state (Missing a u) is = missing_within net old new state a u [] is
 
-pub has_text : (net : Network) (old new : Tables) (budget : ℕ) (planned : Planned) → IsPlanned net old new budget planned → HasText net planned
+pub has_text : (net : Network) (old new : Tables) (budget : ℕ) (planned : Planned) → IsPlanned net old new budget planned → IsTellable net planned
 has_text net old new budget (UnsoundOld fault) is = end_within net old new all_old fault is
 has_text net old new budget (UnsoundNew fault) is = end_within net old new all_new fault is.last
 has_text net old new budget (Searched found) is = plan_printable old new net budget found is.is_found
@@ -80,7 +80,8 @@ one_plan_verdict budget net first second =
     (one.status_is ∙ ap plan_status same ∙ sym other.status_is, one.text_is ∙ ap (plan_text (names_of net)) same ∙ sym other.text_is)
 
 -- which is no fault of reading or of writing
-no_fault_over : {net : Network} {old new : Tables} {budget : ℕ} {status : Status} {text : List ℕ} → IsPlanOver net old new budget status text → NoFault status
+pub no_fault_over : {net : Network} {old new : Tables} {budget : ℕ} {status : Status} {text : List ℕ} → IsPlanOver net old new budget status text →
+    NoFault status
 no_fault_over (unsound_old _ _ _) = (λ e. Prim.cc e, λ e. Prim.cc e)
 no_fault_over (unsound_new _ _ _ _) = (λ e. Prim.cc e, λ e. Prim.cc e)
 no_fault_over (waves _ _ _ _ _ _) = (λ e. Prim.cc e, λ e. Prim.cc e)

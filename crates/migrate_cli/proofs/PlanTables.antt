@@ -1,4 +1,4 @@
--- Over tables with the same entries at the routers of the network `plan` answers the same.
+-- Over tables with the same entries at the routers of the network the same is planned.
 use Rattle.std.proofs.Common.{ℕ, List, []}
 use Rattle.net_model.specs.Network.{Network}
 use Rattle.igp_theory.specs.Laws.{HaveSameTables}
@@ -8,17 +8,19 @@ use Rattle.igp_theory.proofs.SameTables.{fault_over, loop_over, same_tables_sym,
 use Rattle.igp_theory.proofs.WaveFaultLaws.{seamless_waves_over, waves_fault_over}
 use Rattle.order_core.specs.Pairs.{Pair}
 use Rattle.order_core.specs.declared.turn.Turn.{Turn}
-use Rattle.order_search.specs.Answers.{AreFoundWaves, IsFoundNode, IsRefutation, IsSpent}
+use Rattle.order_search.specs.Answers.{AreFoundWaves, IsFound, IsFoundNode, IsRefutation, IsSpent}
 use Rattle.order_search.specs.Meanings.{Meaning}
 use Rattle.order_search.specs.Places.{IsEarned, StandsAt}
 use Rattle.order_search.specs.Trees.{IsTreeNode, Place}
+use Rattle.order_search.specs.declared.found.Found.{Found}
+use Rattle.order_search.specs.declared.found.Found.TheVariants.{Waves, Refuted, Spent}
 use Rattle.order_search.specs.declared.tree.Node.{Node}
 use Rattle.order_search.specs.declared.tree.Node.TheVariants.{Branch, Leaf, Unvisited}
 use Rattle.order_search.proofs.Fills.{Fill-weaker}
+use Rattle.plan_theory.specs.Plans.{IsPlanned}
 use Rattle.plan_theory.specs.WavesMeaning.{IsPickedFault, waves_meaning}
-use Rattle.migrate_cli.specs.PlanVerdict.{IsPlanOver}
-use Rattle.migrate_cli.specs.PlanVerdict.IsPlanOver.{unsound_old, unsound_new, waves, refuted, spent}
-use Rattle.migrate_cli.specs.declared.status.Status.{Status}
+use Rattle.plan_theory.specs.declared.planned.Planned.{Planned}
+use Rattle.plan_theory.specs.declared.planned.Planned.TheVariants.{UnsoundOld, UnsoundNew, Searched}
 
 module _ (net : Network) (old new old' new' : Tables) (same : HaveSameTables net old new old' new') where
   abbrev m : Meaning
@@ -105,10 +107,13 @@ module _ (net : Network) (old new old' new' : Tables) (same : HaveSameTables net
   ends_over : AreSoundEnds net old new → AreSoundEnds net old' new'
   ends_over ends = record { first = sound_over same ends.first; last = sound_over same ends.last }
 
-  pub plan_over : {budget : ℕ} {status : Status} {text : List ℕ} → IsPlanOver net old new budget status text → IsPlanOver net old' new' budget status text
-  plan_over (unsound_old fault unsound is) = unsound_old fault (λ sound. unsound (sound_over (same_tables_sym same) sound)) (fault_over same is)
-  plan_over (unsound_new fault first unsound is) =
-      unsound_new fault (sound_over same first) (λ sound. unsound (sound_over (same_tables_sym same) sound)) (fault_over same is)
-  plan_over (waves ranks pairs chain trail ends found) = waves ranks pairs chain trail (ends_over ends) (found_waves_over found)
-  plan_over (refuted tree ends refutes) = refuted tree (ends_over ends) (refutation_over refutes)
-  plan_over (spent tree ends is) = spent tree (ends_over ends) (spent_over is)
+  found_over : (budget : ℕ) (found : Found) → IsFound m budget found → IsFound m' budget found
+  found_over budget (Waves ranks pairs chain trail) is = found_waves_over is
+  found_over budget (Refuted tree) is = refutation_over is
+  found_over budget (Spent tree) is = spent_over is
+
+  -- so the same is planned
+  pub planned_over : (budget : ℕ) (planned : Planned) → IsPlanned net old new budget planned → IsPlanned net old' new' budget planned
+  planned_over budget (UnsoundOld fault) is = fault_over same is
+  planned_over budget (UnsoundNew fault) is = record { first = sound_over same is.first; last = fault_over same is.last }
+  planned_over budget (Searched found) is = record { ends = ends_over is.ends; is_found = found_over budget found is.is_found }

@@ -10,21 +10,21 @@ use Rattle.net_model.specs.declared.refusal.NetRefusal.{NetRefusal}
 use Rattle.net_model.specs.declared.refusal.NetRefusal.TheVariants.{Limit as NetLimit, OutOfMemory as NoMemory}
 use Rattle.ios_reader.specs.Texts.{ReadsText}
 use Rattle.design_file.specs.Answers.{SaysDesign, Settles}
-use Rattle.design_file.specs.Settling.{Fits}
+use Rattle.design_file.specs.Settling.{FitsNetwork}
 use Rattle.design_file.specs.declared.design.Design.{Design}
 use Rattle.design_file.specs.declared.settled.SettledRouter.{SettledRouter}
-use Rattle.isis_writer.specs.PreparedConfigurations.{AreRead as AreReadAs, prepared as prepared_configuration, prepared_texts}
+use Rattle.isis_writer.specs.PreparedConfigurations.{prepared as prepared_configuration, prepared_texts}
 use Rattle.isis_writer.proofs.PreparedReads.{prepared_texts_read}
 use Rattle.migrate_words.proofs.OneRequest.{one_request}
 use Rattle.migrate_words.proofs.Ranges.{ranges}
+use Rattle.migrate_words.specs.Asked.{Asks}
 use Rattle.migrate_words.specs.Requests.{Request, prepare}
 use Rattle.migrate_cli.specs.Answers.{AsksForFew, IsAnswer}
 use Rattle.migrate_cli.specs.Answers.IsAnswer.{refused_words, many_files, read_fault, long_file, long_files, judged}
 use Rattle.migrate_cli.specs.Calls.{Call, Outside}
-use Rattle.migrate_cli.specs.CallWords.{AskFor}
 use Rattle.migrate_cli.specs.CommandFiles.{config_texts, design_file, files_of, own_texts}
 use Rattle.migrate_cli.specs.CommandVerdicts.{IsCommandVerdict}
-use Rattle.migrate_cli.specs.Configurations.{GiveNetwork, ReadsTexts}
+use Rattle.migrate_cli.specs.Configurations.{GiveNetwork}
 use Rattle.migrate_cli.specs.PrepareReadBack.{HasPrepared}
 use Rattle.migrate_cli.specs.PrepareVerdict.{IsPrepareVerdict}
 use Rattle.migrate_cli.specs.PrepareVerdict.IsPrepareVerdict.{no_design, unsettled, prepared}
@@ -81,7 +81,7 @@ record IsPrepared (design : List ℕ) (configs : List (List ℕ)) (net : Network
   settled : List SettledRouter
   says : SaysDesign design said
   settles : Settles said net settled
-  fits : Fits net settled
+  fits : FitsNetwork net settled
   text_is : text ≡ prepared_texts net settled configs
 
 prepared_done : {file design : List ℕ} {configs : List (List ℕ)} {net : Network} {status : Status} {text : List ℕ} →
@@ -103,17 +103,8 @@ config_count file configs (t ∷ texts) within =
 
 -- ---- prepared texts are read as the configurations of all of them ----
 
-are_read : (texts : List (List ℕ)) (configs : List Configuration) → ReadsTexts texts configs → AreReadAs texts configs
-are_read [] configs none = none
-are_read (text ∷ texts) configs first = record {
-  first = first.one;
-  others = first.others;
-  reads = first.reads;
-  rest = are_read texts first.others first.rest;
-  all = first.all;
-}
-
-network_read : (texts : List (List ℕ)) (net : Network) (settled : List SettledRouter) (gives : GiveNetwork texts net) → Fits net settled → 0 < length texts →
+network_read : (texts : List (List ℕ)) (net : Network) (settled : List SettledRouter) (gives : GiveNetwork texts net) →
+    FitsNetwork net settled → 0 < length texts →
     ReadsText (prepared_texts net settled texts) (map (prepared_configuration net settled) gives.configs)
 network_read [] net settled gives fits some = absurd (omega arith)
 network_read (text ∷ texts) net settled gives fits some = prepared_texts_read text texts net settled gives.configs (record {
@@ -122,16 +113,16 @@ network_read (text ∷ texts) net settled gives fits some = prepared_texts_read 
   among =
       All-permutation (Contains net) net gives.configs (IsPermutation-sym gives.configs net gives.make.network.same)
       (All-contains_itself net);
-  read = are_read (text ∷ texts) gives.configs gives.read;
+  read = gives.read;
 })
 
 -- what was written is read back
 pub reads_back : (call : Call) (before after : Outside) (asked : List (List ℕ)) (status : Status) (text : List ℕ) →
     IsAnswer call asked status text → Adds before.written after.written text →
-    (file : List ℕ) (configs : List (List ℕ)) → AskFor call.words (prepare file configs) → status ≡ Done → HasPrepared call file configs before after
+    (file : List ℕ) (configs : List (List ℕ)) → Asks call.words (prepare file configs) → status ≡ Done → HasPrepared call file configs before after
 reads_back call before after asked status text answer adds file configs ask done =
     let it = judged_done answer done in
-    let same : it.request ≡ prepare file configs = one_request call.words it.request (prepare file configs) it.ask.asked.asks ask.asks in
+    let same : it.request ≡ prepare file configs = one_request call.words it.request (prepare file configs) it.ask.asked ask in
     let request : Request = prepare file configs in
     let read = subst (λ (r : Request). AreRead call.content (files_of r) it.texts) same it.read in
     let within = subst (λ (r : Request). AreWithin (files_of r) it.texts) same it.within in
@@ -139,7 +130,7 @@ reads_back call before after asked status text answer adds file configs ask done
     let command = command_done verdict done in
     let made = prepared_done command.verdict.2 done in
     let some : 0 < length (config_texts request it.texts) =
-    let files : 0 < length configs = ranges call.words request ask.asks in
+    let files : 0 < length configs = ranges call.words request ask in
     let count = config_count file configs it.texts within in
     omega (arith, files, count) in
     record {

@@ -46,7 +46,8 @@ pub AreWithin-none : AreWithin [] []
 AreWithin-none = record { each = tt; together = lit≤ tt }
 
 -- the first of some texts that are short enough are
-front_short : (content : Contents) (files more : List File) (texts others : List (List ℕ)) → AreRead content files texts → AreShort (files ++ more) (texts ++ others)
+front_short : (content : Contents) (files more : List File) (texts others : List (List ℕ)) → AreRead content files texts →
+    AreShort (files ++ more) (texts ++ others)
     → AreShort files texts
 front_short content [] more [] others read short = tt
 front_short content [] more (t ∷ texts) others read short = absurd read
@@ -63,7 +64,8 @@ front_total content (f ∷ files) more (t ∷ texts) others read =
     let rest : total_of files texts ≤ total_of (files ++ more) (texts ++ others) = front_total content files more texts others read.1 in omega (arith, rest)
 
 -- the first of some texts within the limits are within them
-pub within_front : (content : Contents) (files more : List File) (texts others : List (List ℕ)) → AreRead content files texts → AreWithin (files ++ more) (texts ++ others)
+pub within_front : (content : Contents) (files more : List File) (texts others : List (List ℕ)) → AreRead content files texts →
+    AreWithin (files ++ more) (texts ++ others)
     → AreWithin files texts
 within_front content files more texts others read h =
     let less : total_of files texts ≤ total_of (files ++ more) (texts ++ others) = front_total content files more texts others read in

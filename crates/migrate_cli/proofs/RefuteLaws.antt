@@ -6,7 +6,7 @@ use Rattle.igp_theory.specs.Isis.{IsisEntry}
 use Rattle.igp_theory.specs.Laws.{HaveSameTables}
 use Rattle.igp_theory.specs.Ospf.{OspfEntry}
 use Rattle.igp_theory.specs.Routes.{Tables}
-use Rattle.refutation_check.specs.Verdicts.{IsVerdict, RefutesWhereClosed}
+use Rattle.refutation_check.specs.Verdicts.{IsTextVerdict, RefutesWhereClosed}
 use Rattle.refutation_check.specs.declared.verdict.Verdict.{Verdict}
 use Rattle.refutation_check.specs.declared.verdict.Verdict.TheVariants.{Closed, Unfinished, Wrong}
 use Rattle.refutation_check.specs.declared.verdict.WrongKind.{WrongKind}
@@ -24,7 +24,7 @@ use Rattle.migrate_cli.proofs.SameAnswers.{AreSame, NoFault}
 record OfVerdict (net : Network) (old new : Tables) (tree : List ℕ) (status : Status) (text : List ℕ) : Type 0 where
   verdict : Verdict
   network : IsNetwork net
-  is : IsVerdict net old new tree verdict
+  is : IsTextVerdict net old new tree verdict
   status_is : status ≡ verdict_status verdict
   text_is : text ≡ verdict_text verdict
 
@@ -52,13 +52,13 @@ refute_no_fault (wrong _ _ _ _) = (λ e. Prim.cc e, λ e. Prim.cc e)
 
 -- what is answered where this was found
 pub tree_verdict : (net : Network) (old new : Tables) (tree text : List ℕ) (status : Status) (verdict : Verdict) → IsNetwork net →
-    IsVerdict net old new tree verdict → RefutesWhereClosed net old new verdict → status ≡ verdict_status verdict → text ≡ verdict_text verdict →
+    IsTextVerdict net old new tree verdict → RefutesWhereClosed net old new verdict → status ≡ verdict_status verdict → text ≡ verdict_text verdict →
     IsTreeVerdict net old new tree status text
 tree_verdict net old new tree text status verdict network is means status_is text_is =
     subst (λ (s : Status). IsTreeVerdict net old new tree s text) (sym status_is)
     (subst (λ (t : List ℕ). IsTreeVerdict net old new tree (verdict_status verdict) t) (sym text_is) (by_verdict verdict is means))
   where
-    by_verdict : (v : Verdict) → IsVerdict net old new tree v → RefutesWhereClosed net old new v →
+    by_verdict : (v : Verdict) → IsTextVerdict net old new tree v → RefutesWhereClosed net old new v →
         IsTreeVerdict net old new tree (verdict_status v) (verdict_text v)
     by_verdict (Closed b l) i m = closed b l network i m
     by_verdict (Unfinished u) i m = unfinished u network i

@@ -5,7 +5,7 @@ use Rattle.igp_theory.specs.Waves.{Change}
 use Rattle.net_model.specs.Network.{Network}
 use Rattle.net_model.specs.Refusals.{NamesAscend}
 use Rattle.net_model.specs.RouterNames.{names_of}
-use Rattle.state_replay.specs.Journals.{AreCounts, BeginRun, IsNextOn}
+use Rattle.state_replay.specs.Journals.{AreChangeCounts, BeginRun, IsNextOn}
 use Rattle.state_replay.specs.declared.half.Half.{Half}
 use Rattle.state_replay.specs.declared.place.Place.TheVariants.{Reached, Departs}
 use Rattle.state_replay.proofs.Places.{one_place}
@@ -20,7 +20,7 @@ use Rattle.migrate_cli.specs.declared.status.Status.{Status}
 use Rattle.migrate_cli.proofs.SameAnswers.{AreSame, NoFault}
 
 -- after changes with these counts a router has one change that may come next
-same_next : (ranks done : List ℕ) (changes : List Change) → BeginRun (length ranks) ranks changes → AreCounts (length ranks) changes done
+same_next : (ranks done : List ℕ) (changes : List Change) → BeginRun (length ranks) ranks changes → AreChangeCounts (length ranks) changes done
     → (u : ℕ) (one other : Option Half) → IsNextOn ranks done u one → IsNextOn ranks done u other → one ≡ other
 same_next ranks done changes begin counts u None None is its = refl
 same_next ranks done changes begin counts u None (Some half) is its = absurd (is changes begin counts half ((its changes begin counts half).1 refl))
@@ -28,7 +28,7 @@ same_next ranks done changes begin counts u (Some half) None is its = absurd (it
 same_next ranks done changes begin counts u (Some half) (Some next) is its =
     ap (λ h. Some h) ((its changes begin counts half).0 ((is changes begin counts half).1 refl))
 
-same_nexts : (ranks done : List ℕ) (changes : List Change) → BeginRun (length ranks) ranks changes → AreCounts (length ranks) changes done
+same_nexts : (ranks done : List ℕ) (changes : List Change) → BeginRun (length ranks) ranks changes → AreChangeCounts (length ranks) changes done
     → (one other : List (Option Half)) → AreNext ranks done (length ranks) one → AreNext ranks done (length ranks) other → one ≡ other
 same_nexts ranks done changes begin counts one other is its =
     same_lists one other (is.each ∙ sym its.each)
@@ -45,9 +45,10 @@ one_journal_verdict net ranks journal ascending each (reached made done nexts pl
     let same = one_place net ranks journal ascending (Reached made) (Reached many) done counts place its in
     let made_same : made ≡ many = cc (same.0) in
     let run : BeginRun (length ranks) ranks place.changes = subst (λ n. BeginRun n ranks place.changes) (sym each) place.replayed.begin in
-    let counted : AreCounts (length ranks) place.changes done = subst (λ n. AreCounts n place.changes done) (sym each) place.replayed.counts in
+    let counted : AreChangeCounts (length ranks) place.changes done = subst (λ n. AreChangeCounts n place.changes done) (sym each) place.replayed.counts in
     let these : AreNext ranks done (length ranks) nexts = subst (λ n. AreNext ranks done n nexts) (sym each) is in
-    let those : AreNext ranks done (length ranks) others = subst (λ n. AreNext ranks done n others) (sym each) (subst (λ d. AreNext ranks d (length net) others) (sym same.1) are) in
+    let those : AreNext ranks done (length ranks) others =
+    subst (λ n. AreNext ranks done n others) (sym each) (subst (λ d. AreNext ranks d (length net) others) (sym same.1) are) in
     let nexts_same : nexts ≡ others = same_nexts ranks done place.changes run counted nexts others these those in
     (refl, λ i. reached_text (names_of net) (made_same i) (2 * length net) (nexts_same i) (length net))
 one_journal_verdict net ranks journal ascending each (reached made done nexts place is) (departs line counts its) =

@@ -1,15 +1,17 @@
 -- Where the reading of several files stands after one more.
-use Rattle.std.proofs.Common.{◌≡◌, ℕ, zero, suc, ◌+◌, ◌<◌, List, [], ◌∷◌, ◌++◌, length, take, drop, map, get_or, Option, Ok, Err, IfSome, arith, ap, ◌∙◌, refl, sym, subst, append-nil, append_assoc}
+use Rattle.std.proofs.Common.{◌≡◌, ℕ, zero, suc, ◌+◌, ◌<◌, List, [], ◌∷◌, ◌++◌, length, take, drop, map, get_or, Option, Ok, Err, IfSome, arith, ap, ◌∙◌, refl}
+use Rattle.std.proofs.Common.{sym, subst, append-nil, append_assoc}
 use Rattle.std.proofs.lemmas.List.{take_more, map-append}
 use Rattle.migrate_cli.specs.Reading.{Contents, File, names_of, IsReadOf, AreRead, AreWithin, ReadUpTo, total_of}
 use Rattle.migrate_cli.proofs.ReadingFacts.{AreRead-more, AreWithin-more, total_of-more, within_front}
-use Rattle.migrate_cli.specs.Stops.{Kept, StopsAt, IsFrontOf, HasAsked, IsNextText, MayRead, HasRead}
-use Rattle.migrate_cli.specs.Stops.MayRead.{none_yet, so_far}
+use Rattle.migrate_cli.specs.steps.Stops.{KeptTexts, StopsAt, IsFrontOf, HasAsked, IsNextText, MayRead, HasRead}
+use Rattle.migrate_cli.specs.steps.Stops.MayRead.{none_yet, so_far}
 use Rattle.migrate_cli.specs.declared.reading.Stop.{Stop}
 use Rattle.migrate_cli.specs.declared.reading.Stop.TheVariants.{Fault, Long, Total, OutOfMemory}
 
 -- what is read of a file goes by what it holds
-pub IsReadOf-same : (content other : Contents) (file : File) (text : List ℕ) → content file.name ≡ other file.name → IsReadOf content file text → IsReadOf other file text
+pub IsReadOf-same : (content other : Contents) (file : File) (text : List ℕ) → content file.name ≡ other file.name → IsReadOf content file text →
+    IsReadOf other file text
 IsReadOf-same content other file text same read = record {
   told = subst (λ (held : Option (List ℕ)). IfSome held (λ whole. text ≡ take (file.most + 1) whole)) same read.told;
   at_most = read.at_most;
@@ -37,7 +39,8 @@ StopsAt-same content other file before (Total number) same stops = record {
 StopsAt-same content other file before OutOfMemory same stops = tt
 
 -- the names asked for up to a file
-abbrev up_to : (content : Contents) (files before after : List File) (texts : List (List ℕ)) (file : File) (asked : List (List ℕ)) → files ≡ before ++ file ∷ after
+abbrev up_to : (content : Contents) (files before after : List File) (texts : List (List ℕ)) (file : File) (asked : List (List ℕ)) →
+    files ≡ before ++ file ∷ after
     → AreRead content before texts → AreWithin before texts → asked ≡ file.name ∷ [] → ReadUpTo content files (names_of before ++ asked) texts file
 up_to content files before after texts file asked files_are read within alone = record {
   before = before;
@@ -51,9 +54,11 @@ up_to content files before after texts file asked files_are read within alone = 
 -- what is read of several files is nothing, or ends with what is read of the last one
 data EndsRead (content : Contents) : List File → List (List ℕ) → Type 0 where
   nothing : EndsRead content [] []
-  last : (files : List File) (texts : List (List ℕ)) (file : File) (text : List ℕ) → AreRead content files texts → EndsRead content (files ++ file ∷ []) (texts ++ text ∷ [])
+  last : (files : List File) (texts : List (List ℕ)) (file : File) (text : List ℕ) → AreRead content files texts →
+      EndsRead content (files ++ file ∷ []) (texts ++ text ∷ [])
 
-one_before : {content : Contents} {files : List File} {texts : List (List ℕ)} (file : File) (text : List ℕ) → IsReadOf content file text → EndsRead content files texts
+one_before : {content : Contents} {files : List File} {texts : List (List ℕ)} (file : File) (text : List ℕ) → IsReadOf content file text →
+    EndsRead content files texts
     → EndsRead content (file ∷ files) (text ∷ texts)
 one_before file text read nothing = last [] [] file text tt
 one_before file text read (last files texts end end_text rest) = last (file ∷ files) (text ∷ texts) end end_text (read, rest)
@@ -82,7 +87,8 @@ from_end {content} files after files_are within (last before texts file text rea
       within = within_front content before (file ∷ []) texts (text ∷ []) read within;
     })
 
-pub read_so_far : (content : Contents) (files before after : List File) (texts : List (List ℕ)) → files ≡ before ++ after → AreRead content before texts → AreWithin before texts
+pub read_so_far : (content : Contents) (files before after : List File) (texts : List (List ℕ)) → files ≡ before ++ after →
+    AreRead content before texts → AreWithin before texts
     → MayRead content files (names_of before)
 read_so_far content files before after texts files_are read within = from_end files after files_are within (ends_read content before texts read)
 
@@ -162,21 +168,24 @@ map_take_more f xs i x within at =
     ap (map f) (take_more xs i x within) ∙ map-append f (take i xs) (get_or xs i x ∷ []) ∙ ap (λ z. map f (take i xs) ++ f z ∷ []) (sym at)
 
 -- one more file among several was read
-pub read_more : (content other : Contents) (files : List File) (file : File) (before after : Kept) → other file.name ≡ content file.name → AreRead content files before.all
+pub read_more : (content other : Contents) (files : List File) (file : File) (before after : KeptTexts) → other file.name ≡ content file.name →
+    AreRead content files before.all
     → IsNextText other file before after → AreRead content (files ++ file ∷ []) after.all
 read_more content other files file before after same read next =
     subst (AreRead content (files ++ file ∷ [])) (sym next.last)
     (AreRead-more content files before.all file next.text read (IsReadOf-same other content file next.text same next.read))
 
 -- within the limits
-pub within_more : (other : Contents) (files : List File) (file : File) (before after : Kept) → before.counted ≡ total_of files before.all → AreWithin files before.all
+pub within_more : (other : Contents) (files : List File) (file : File) (before after : KeptTexts) → before.counted ≡ total_of files before.all →
+    AreWithin files before.all
     → IsNextText other file before after → AreWithin (files ++ file ∷ []) after.all
 within_more other files file before after is within next =
     subst (AreWithin (files ++ file ∷ [])) (sym next.last)
     (AreWithin-more files before.all file next.text within next.short (omega (arith, is, next.more, next.together)))
 
 -- with its bytes that count
-pub counted_more : (other : Contents) (files : List File) (file : File) (before after : Kept) → before.counted ≡ total_of files before.all → AreWithin files before.all
+pub counted_more : (other : Contents) (files : List File) (file : File) (before after : KeptTexts) → before.counted ≡ total_of files before.all →
+    AreWithin files before.all
     → IsNextText other file before after → after.counted ≡ total_of (files ++ file ∷ []) after.all
 counted_more other files file before after is within next =
     let more = total_of-more files before.all file next.text within.each in

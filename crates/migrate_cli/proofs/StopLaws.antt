@@ -1,12 +1,13 @@
 -- Where the files up to one are told, reading stops at it or it doesn't.
-use Rattle.std.proofs.Common.{◌≡◌, ℕ, ◌+◌, ◌<◌, ◌≤◌, List, [], ◌∷◌, ◌++◌, Option, Some, None, IsSome, IfSome, length, take, All, refl, sym, ap, subst, ◌∙◌, append_assoc, arith}
+use Rattle.std.proofs.Common.{◌≡◌, ℕ, ◌+◌, ◌<◌, ◌≤◌, List, [], ◌∷◌, ◌++◌, Option, Some, None, IsSome, IfSome, length, take, All, refl, sym, ap, subst, ◌∙◌}
+use Rattle.std.proofs.Common.{append_assoc, arith}
 use Rattle.std.proofs.lemmas.List.{map-append}
 use Rattle.std.proofs.lemmas.List.Elements.{All-head, All-tail, All-cons, All-contains, Contains-append_right}
 use Rattle.net_model.proofs.Members.{Contains-first}
 use Rattle.migration_report.specs.Texts.{long_file_text, long_files_text}
 use Rattle.migrate_cli.specs.AnswerLaws.{IsTold}
 use Rattle.migrate_cli.specs.Reading.{Contents, File, names_of, IsReadOf, AreRead, counted, total_of, IsShort, AreShort, AreWithin}
-use Rattle.migrate_cli.specs.Stops.{IsFrontOf}
+use Rattle.migrate_cli.specs.steps.Stops.{IsFrontOf}
 use Rattle.migrate_cli.specs.declared.status.Status.{Status}
 use Rattle.migrate_cli.specs.declared.status.Status.TheVariants.{Limit}
 use Rattle.migrate_cli.proofs.ReadingFacts.{AreRead-more, total_of-more, within_front}
@@ -36,7 +37,8 @@ told_up_to content before file asked asked_are tell =
 -- ---- limits ----
 
 -- the last of texts that are short enough is
-last_short : (files : List File) (texts : List (List ℕ)) (file : File) (text : List ℕ) → length texts ≡ length files → AreShort (files ++ file ∷ []) (texts ++ text ∷ [])
+last_short : (files : List File) (texts : List (List ℕ)) (file : File) (text : List ℕ) → length texts ≡ length files →
+    AreShort (files ++ file ∷ []) (texts ++ text ∷ [])
     → IsShort file text
 last_short [] [] file text same short = short.0
 last_short [] (t ∷ texts) file text same short = absurd (omega (arith, same))
@@ -51,7 +53,8 @@ long_breaks files texts file text same above h =
     omega (arith, above, short)
 
 -- more bytes break the limit of all
-pub total_breaks : (files : List File) (texts : List (List ℕ)) (file : File) (text : List ℕ) (number : ℕ) → AreShort files texts → number ≡ total_of files texts + counted file text
+pub total_breaks : (files : List File) (texts : List (List ℕ)) (file : File) (text : List ℕ) (number : ℕ) → AreShort files texts →
+    number ≡ total_of files texts + counted file text
     → 67108864 < number → AreWithin (files ++ file ∷ []) (texts ++ text ∷ []) → ⊥
 total_breaks files texts file text number short is above h =
     let more = total_of-more files texts file text short in
@@ -165,7 +168,8 @@ module _ (content : Contents) where
       let parted = subst (λ some. AreWithin some ((texts ++ text ∷ []) ++ front.rest)) (sym (append_assoc before (file ∷ []) rest)) whole in
       stop.broken (within_front content (before ++ file ∷ []) rest (texts ++ text ∷ []) front.rest with_it parted)
 
-  module _ (files b c : List File) (n m : File) (tell : All (IsToldOf content) (b ++ n ∷ [])) (ts ss : List (List ℕ)) (t s : List ℕ) (one : StopsAfter content files b n ts t) (other : StopsAfter content files c m ss s) where
+  module _ (files b c : List File) (n m : File) (tell : All (IsToldOf content) (b ++ n ∷ [])) (ts ss : List (List ℕ)) (t s : List ℕ)
+      (one : StopsAfter content files b n ts t) (other : StopsAfter content files c m ss s) where
     told_before : All (IsToldOf content) b
     told_before = All-front (IsToldOf content) b (n ∷ []) tell
 

@@ -3,7 +3,8 @@ use Rattle.std.proofs.Common.{◌≡◌, ℕ, List, [], ◌∷◌, ◌++◌, ref
 use Rattle.net_model.specs.Configuration.{Configuration}
 use Rattle.ios_reader.specs.declared.kind.ReadKind.{ReadKind}
 use Rattle.ios_reader.proofs.TextLaws.{one_reading as one_text, read_or_refused, one_refusal}
-use Rattle.migrate_cli.specs.Configurations.{ReadsTexts, IsFirstRefused}
+use Rattle.isis_writer.specs.ReadTexts.{ReadsTexts}
+use Rattle.migrate_cli.specs.Configurations.{IsFirstRefused}
 use Rattle.migrate_cli.specs.Configurations.IsFirstRefused.{here, later}
 
 -- texts give one list of configurations

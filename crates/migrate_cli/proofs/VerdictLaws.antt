@@ -13,9 +13,10 @@ use Rattle.migrate_words.specs.Requests.{Request}
 use Rattle.migration_report.specs.Kinds.{read_kind_name}
 use Rattle.migration_report.specs.Texts.{faulty_text, network_text, off_start_text}
 use Rattle.migrate_cli.specs.RefusalStatus.{refusal_status}
-use Rattle.migrate_cli.specs.CommandFiles.{NeedsStart, config_names}
+use Rattle.migrate_cli.specs.CommandFiles.{NeedsStart, text_names}
 use Rattle.migrate_cli.specs.CommandVerdicts.{IsCommandVerdict}
-use Rattle.migrate_cli.specs.Configurations.{ReadsTexts, IsFirstRefused, IsAtStart}
+use Rattle.isis_writer.specs.ReadTexts.{ReadsTexts}
+use Rattle.migrate_cli.specs.Configurations.{IsFirstRefused, IsAtStart}
 use Rattle.migrate_cli.specs.Verdicts.{IsVerdict}
 use Rattle.migrate_cli.specs.Verdicts.IsVerdict.{faulty_configuration, no_network, off_start, of_command}
 use Rattle.migrate_cli.specs.declared.status.Status.{Status}
@@ -69,7 +70,8 @@ data OfConfigurations (request : Request) (own texts : List (List ℕ)) (configs
   makes : {status : Status} {answer : List ℕ} (net : Network) → MakeNetwork configs net → OfNetwork request own texts net status answer
       → OfConfigurations request own texts configs status answer
 
-refused_or_made : (configs : List Configuration) (net : Network) {status : Status} {text : List ℕ} → IsRefusedSo configs status text → MakeNetwork configs net → ⊥
+refused_or_made : (configs : List Configuration) (net : Network) {status : Status} {text : List ℕ} → IsRefusedSo configs status text →
+    MakeNetwork configs net → ⊥
 refused_or_made configs net {status} a make = no_memory a.refusal status a.status_is (MakeNetwork-refused configs net a.refusal make a.refuses)
 
 one_of_configurations : (request : Request) (own texts : List (List ℕ)) (configs : List Configuration) {s z : Status} {t w : List ℕ}
@@ -84,9 +86,10 @@ one_of_configurations request own texts configs {z = z} {w = w} (makes net make 
 -- ---- the texts ----
 
 data OfTexts (request : Request) (own texts : List (List ℕ)) : Status → List ℕ → Type 0 where
-  unread : (bad : List ℕ) (number : ℕ) (kind : ReadKind) → IsFirstRefused (config_names request) texts bad number kind
+  unread : (bad : List ℕ) (number : ℕ) (kind : ReadKind) → IsFirstRefused (text_names request) texts bad number kind
       → OfTexts request own texts Refused (faulty_text bad number (read_kind_name kind))
-  reads : {status : Status} {answer : List ℕ} (configs : List Configuration) → ReadsTexts texts configs → OfConfigurations request own texts configs status answer
+  reads : {status : Status} {answer : List ℕ} (configs : List Configuration) → ReadsTexts texts configs →
+      OfConfigurations request own texts configs status answer
       → OfTexts request own texts status answer
 
 one_of_texts : (request : Request) (own texts : List (List ℕ)) {s z : Status} {t w : List ℕ} → OfTexts request own texts s t

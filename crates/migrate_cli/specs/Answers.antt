@@ -3,12 +3,13 @@ use Rattle.std.specs.Prelude.{◌≡◌, ◌≢◌, ℕ, ◌<◌, ◌≤◌, Lis
 use Rattle.std.specs.declared.alloc.AllocError.{AllocError}
 use Rattle.store_edge.specs.Faults.{Rose}
 use Rattle.store_edge.specs.Sink.{Adds, AddsFront}
+use Rattle.migrate_words.specs.Asked.{Asks}
 use Rattle.migrate_words.specs.Requests.{Request}
 use Rattle.migrate_words.specs.declared.refusal.WordsRefused.{WordsRefused}
 use Rattle.migrate_words.specs.declared.refusal.WordsRefused.TheVariants.{Words as NotTaken, Number, OutOfMemory as NoMemory}
 use Rattle.migration_report.specs.Texts.{long_file_text, long_files_text, many_files_text, read_fault_text, words_refused_text}
 use Rattle.migrate_cli.specs.Calls.{Call, Outside}
-use Rattle.migrate_cli.specs.CallWords.{AreRefused, AskFor, TellsWordsRefused}
+use Rattle.migrate_cli.specs.CallWords.{AreRefused, TellsWordsRefused}
 use Rattle.migrate_cli.specs.CommandFiles.{config_names, config_texts, files_of, own_texts}
 use Rattle.migrate_cli.specs.Reading.{File, AreRead, AreWithin, IsTooLong, PassesTotal, ReadUpTo, names_of, total_of}
 use Rattle.migrate_cli.specs.Verdicts.{IsVerdict}
@@ -21,13 +22,13 @@ use Rattle.migrate_cli.specs.declared.status.Status.TheVariants.{Words, ReadFaul
 
 -- the words ask for this, and the configurations are no more files than there may be
 pub record AsksForFew (words : List (List ℕ)) (request : Request) : Type 0 where
-  pub asked : AskFor words request
+  pub asked : Asks words request
   pub few : length (config_names request) ≤ FILES_MOST
 
 -- each case, with the names that are asked for, and the status and the text that answer it
 pub data IsAnswer (call : Call) : List (List ℕ) → Status → List ℕ → Type 0 where
   refused_words : (text : List ℕ) → AreRefused call.words text → IsAnswer call [] Words text
-  many_files : (request : Request) → AskFor call.words request → FILES_MOST < length (config_names request) →
+  many_files : (request : Request) → Asks call.words request → FILES_MOST < length (config_names request) →
       IsAnswer call [] Limit (many_files_text (length (config_names request)))
   read_fault : (request : Request) (asked texts : List (List ℕ)) (file : File) → AsksForFew call.words request →
       ReadUpTo call.content (files_of request) asked texts file →

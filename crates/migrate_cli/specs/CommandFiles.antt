@@ -1,6 +1,7 @@
--- What each command reads, and which commands there are so far.
-use Rattle.std.specs.Prelude.{ℕ, List, [], ◌∷◌, ◌++◌, length, map, take, drop, true, false}
+-- What each command reads, and the texts of its configurations.
+use Rattle.std.specs.Prelude.{ℕ, List, [], ◌∷◌, ◌++◌, codes, length, map, take, drop, true, false}
 use Rattle.migrate_words.specs.Requests.{Request, check, prepare, plan, refute, scripts, replay, sample}
+use Rattle.sample_network.specs.SampleTexts.{sample_text}
 use Rattle.migrate_cli.specs.Reading.{File}
 use Rattle.migrate_cli.specs.declared.files.TheConstants.{FILE_MOST, DESIGN_MOST}
 
@@ -44,19 +45,20 @@ files_of request = own_files request ++ map config_file (config_names request)
 abbrev pub own_texts : Request → List (List ℕ) → List (List ℕ)
 own_texts request texts = take (length (own_files request)) texts
 
--- of the texts that a command reads, those of the configurations
+-- the commands that read files: all but `sample`, whose configurations are one text that is made
+abbrev pub ReadsFiles : Request → Type 0
+ReadsFiles (sample routers) = ⊥
+ReadsFiles _ = Unit {0}
+
+-- the texts of the configurations of a command that reads these texts: those of its files, or the one that is made
 abbrev pub config_texts : Request → List (List ℕ) → List (List ℕ)
+config_texts (sample routers) texts = sample_text routers ∷ []
 config_texts request texts = drop (length (own_files request)) texts
 
--- the commands that there are so far
-abbrev pub HasLanded : Request → Type 0
-HasLanded (check order configs) = Unit {0}
-HasLanded (prepare design configs) = Unit {0}
-HasLanded (plan budget configs) = Unit {0}
-HasLanded (refute tree configs) = Unit {0}
-HasLanded (scripts order configs) = Unit {0}
-HasLanded (replay order journal configs) = Unit {0}
-HasLanded _ = ⊥
+-- and their names: those of the files, or `sample`
+abbrev pub text_names : Request → List (List ℕ)
+text_names (sample routers) = codes "sample" ∷ []
+text_names request = config_names request
 
 -- the commands that ask that every router is where a migration starts
 abbrev pub NeedsStart : Request → Type 0

@@ -1,12 +1,13 @@
 -- The verdict of each command, in a file of its own.
 use Rattle.std.specs.Prelude.{◌≡◌, ℕ, List, [], ◌∷◌}
 use Rattle.net_model.specs.Network.{Network}
-use Rattle.migrate_words.specs.Requests.{Request, check, prepare, refute, scripts, replay, plan}
+use Rattle.migrate_words.specs.Requests.{Request, check, prepare, plan, refute, scripts, replay, sample}
 use Rattle.migrate_cli.specs.CheckVerdict.{IsCheckVerdict}
 use Rattle.migrate_cli.specs.PrepareVerdict.{IsPrepareVerdict}
 use Rattle.migrate_cli.specs.PlanVerdict.{IsPlanVerdict}
 use Rattle.migrate_cli.specs.RefuteVerdict.{IsRefuteVerdict}
 use Rattle.migrate_cli.specs.ReplayVerdict.{IsReplayVerdict}
+use Rattle.migrate_cli.specs.SampleVerdict.{IsSampleVerdict}
 use Rattle.migrate_cli.specs.ScriptsVerdict.{IsScriptsVerdict}
 use Rattle.migrate_cli.specs.declared.status.Status.{Status}
 
@@ -26,4 +27,4 @@ IsCommandVerdict (refute _ _) input status text = (tree : List ℕ) × (input.ow
 IsCommandVerdict (scripts file _) input status text = (order : List ℕ) × (input.own ≡ order ∷ []) × IsScriptsVerdict file order input.net status text
 IsCommandVerdict (replay file _ _) input status text =
     (order : List ℕ) × (journal : List ℕ) × (input.own ≡ order ∷ journal ∷ []) × IsReplayVerdict file order journal input.net status text
-IsCommandVerdict _ input status text = ⊥
+IsCommandVerdict (sample routers) input status text = (input.own ≡ []) × IsSampleVerdict routers input.net status text

@@ -4,7 +4,8 @@ use Rattle.igp_theory.specs.Isis.{IsisEntry}
 use Rattle.igp_theory.specs.Ospf.{OspfEntry}
 use Rattle.net_model.specs.Network.{Network}
 use Rattle.migrate_words.specs.Requests.{Request, check, refute, scripts, replay}
-use Rattle.refutation_check.specs.Verdicts.{HasNoneSeamless, IsClosedText}
+use Rattle.refutation_check.specs.Verdicts.{IsClosedText}
+use Rattle.igp_theory.specs.Waves.{HasNoneSeamless}
 use Rattle.step_scripts.specs.WaveFiles.{NamesWaves}
 use Rattle.step_scripts.specs.declared.version.Version.{Version}
 use Rattle.store_edge.specs.Faults.{Rose}

@@ -1,24 +1,12 @@
 -- The configurations of several files, and the network that they make.
-use Rattle.std.specs.Prelude.{◌≡◌, ℕ, List, [], ◌∷◌, ◌++◌}
+use Rattle.std.specs.Prelude.{ℕ, List, ◌∷◌}
 use Rattle.ios_reader.specs.Texts.{ReadsText, IsRefusedText}
 use Rattle.ios_reader.specs.declared.kind.ReadKind.{ReadKind}
+use Rattle.isis_writer.specs.ReadTexts.{ReadsTexts}
 use Rattle.net_model.specs.Configuration.{Configuration}
 use Rattle.net_model.specs.Network.{Network}
 use Rattle.net_model.specs.OffStarts.{StartsOff}
 use Rattle.net_model.specs.Refusals.{MakeNetwork}
-
--- a text gives the first configurations of these, and the others are as Others says
-pub record ReadsFirst (text : List ℕ) (Others : List Configuration → Type 0) (configs : List Configuration) : Type 0 where
-  pub one : List Configuration
-  pub others : List Configuration
-  pub reads : ReadsText text one
-  pub rest : Others others
-  pub all : configs ≡ one ++ others
-
--- no text has a faulty line, and these are the configurations of all, in order
-abbrev pub ReadsTexts : List (List ℕ) → List Configuration → Type 0
-ReadsTexts [] configs = configs ≡ []
-ReadsTexts (text ∷ texts) configs = ReadsFirst text (ReadsTexts texts) configs
 
 -- the first of some files whose text has a faulty line, with its first faulty line and the least kind on it
 pub data IsFirstRefused : List (List ℕ) → List (List ℕ) → List ℕ → ℕ → ReadKind → Type 0 where

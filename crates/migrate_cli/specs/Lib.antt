@@ -1,17 +1,15 @@
 pub mod Reading
-pub mod FilesRead
 pub mod Calls
 pub mod CommandFiles
 pub mod CallWords
-pub mod Stops
 pub mod Codes
 pub mod Configurations
-pub mod Unread
 pub mod RefusalStatus
 pub mod CheckVerdict
 pub mod PrepareVerdict
-pub mod PlannedAnswers
 pub mod PlanVerdict
+pub mod OriginatedPrefixes
+pub mod SampleVerdict
 pub mod RefuteVerdict
 pub mod ReplayVerdict
 pub mod ScriptsVerdict
@@ -23,5 +21,6 @@ pub mod Completeness
 pub mod PrepareCompleteness
 pub mod PlanCompleteness
 pub mod PlanClaim
+pub mod SampleClaim
 pub mod PrepareReadBack
-pub mod Faults
+pub mod steps

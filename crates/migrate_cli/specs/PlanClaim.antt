@@ -88,4 +88,5 @@ MeansOf call configs before after _ = Unit {0}
 
 -- where the words ask for a `plan`, its status means that
 abbrev pub PlanPromises : Call → Outside → Outside → Status → Type 0
-PlanPromises call before after result = (budget : ℕ) (configs : List (List ℕ)) → Asks call.words (plan budget configs) → MeansOf call configs before after result
+PlanPromises call before after result = (budget : ℕ) (configs : List (List ℕ)) → Asks call.words (plan budget configs) →
+    MeansOf call configs before after result

@@ -19,16 +19,16 @@ pub record AcceptsPlan (call : Call) : Type 0 where
   pub accepted : IsAccepted call (plan budget configs) texts net
 
 -- both ends of the migration are sound: the state in which every router is Old, and that in which every router is New
-abbrev pub HasSoundEnds : Network → Type 0
-HasSoundEnds net = AreSoundEnds net (OspfEntry net) (IsisEntry net)
+abbrev pub EndsAreSound : Network → Type 0
+EndsAreSound net = AreSoundEnds net (OspfEntry net) (IsisEntry net)
 
 -- between sound ends it ends with waves, with a refutation, or with its budget spent; without them it says so; or there was
 -- no memory
 pub data Plans (net : Network) : Status → Type 0 where
-  waves : HasSoundEnds net → Plans net Done
-  refutation : HasSoundEnds net → Plans net Negative
-  budget_spent : HasSoundEnds net → Plans net Spent
-  unsound_end : ¬ HasSoundEnds net → Plans net Unsound
+  waves : EndsAreSound net → Plans net Done
+  refutation : EndsAreSound net → Plans net Negative
+  budget_spent : EndsAreSound net → Plans net Spent
+  unsound_end : ¬ EndsAreSound net → Plans net Unsound
   no_memory : Plans net Memory
 
 -- where nothing of the input of `plan` is refused and no fault rises, it plans

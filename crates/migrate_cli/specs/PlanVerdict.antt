@@ -8,11 +8,10 @@ use Rattle.igp_theory.specs.LoopLaws.{AreSoundEnds}
 use Rattle.igp_theory.specs.Loops.{Fault, IsFault}
 use Rattle.igp_theory.specs.Ospf.{OspfEntry}
 use Rattle.igp_theory.specs.Routes.{Tables}
-use Rattle.igp_theory.specs.States.{IsSound}
+use Rattle.igp_theory.specs.States.{IsSound, all_new, all_old}
 use Rattle.order_core.specs.Pairs.{Pair}
 use Rattle.order_search.specs.Answers.{AreFoundWaves, IsRefutation, IsSpent}
 use Rattle.order_search.specs.declared.tree.Node.{Node}
-use Rattle.plan_theory.specs.Plans.{all_new, all_old}
 use Rattle.plan_theory.specs.WavesMeaning.{waves_meaning}
 use Rattle.refutation_check.specs.TreeTexts.{tree_text}
 use Rattle.step_scripts.specs.WavesTexts.{waves_text}

@@ -7,9 +7,9 @@ use Rattle.design_file.specs.Answers.{SaysDesign, Settles}
 use Rattle.design_file.specs.declared.design.Design.{Design}
 use Rattle.design_file.specs.declared.settled.SettledRouter.{SettledRouter}
 use Rattle.isis_writer.specs.PreparedConfigurations.{prepared}
+use Rattle.migrate_words.specs.Asked.{Asks}
 use Rattle.migrate_words.specs.Requests.{prepare}
 use Rattle.migrate_cli.specs.Calls.{Call, Outside}
-use Rattle.migrate_cli.specs.CallWords.{AskFor}
 use Rattle.migrate_cli.specs.CommandFiles.{config_texts, files_of, own_texts}
 use Rattle.migrate_cli.specs.Configurations.{GiveNetwork}
 use Rattle.migrate_cli.specs.Reading.{AreRead, AreWithin}
@@ -38,4 +38,4 @@ pub record HasPrepared (call : Call) (file : List ℕ) (configs : List (List ℕ
 -- where a call asks for `prepare` and ends with `Done`, it has done so
 abbrev pub PrepareReadsBack : Call → Outside → Outside → Status → Type 0
 PrepareReadsBack call before after result =
-    (file : List ℕ) (configs : List (List ℕ)) → AskFor call.words (prepare file configs) → result ≡ Done → HasPrepared call file configs before after
+    (file : List ℕ) (configs : List (List ℕ)) → Asks call.words (prepare file configs) → result ≡ Done → HasPrepared call file configs before after

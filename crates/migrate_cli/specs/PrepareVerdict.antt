@@ -2,7 +2,7 @@
 use Rattle.std.specs.Prelude.{◌≡◌, ℕ, List}
 use Rattle.net_model.specs.Network.{Network}
 use Rattle.design_file.specs.Answers.{RefusesDesign, RefusesText, SaysDesign, Settles}
-use Rattle.design_file.specs.Settling.{Fits}
+use Rattle.design_file.specs.Settling.{FitsNetwork}
 use Rattle.design_file.specs.declared.design.Design.{Design}
 use Rattle.design_file.specs.declared.refusal.DesignKind.{DesignKind}
 use Rattle.design_file.specs.declared.refusal.DesignRefusal.{DesignRefusal}
@@ -21,7 +21,7 @@ pub data IsPrepareVerdict (file design : List ℕ) (configs : List (List ℕ)) (
       IsPrepareVerdict file design configs net Refused (refused_design_text file path kind)
   unsettled : (said : Design) (kind : DesignKind) (path : List ℕ) → SaysDesign design said → RefusesDesign said net (Bad kind path) →
       IsPrepareVerdict file design configs net Refused (refused_design_text file path kind)
-  prepared : (said : Design) (settled : List SettledRouter) → SaysDesign design said → Settles said net settled → Fits net settled →
+  prepared : (said : Design) (settled : List SettledRouter) → SaysDesign design said → Settles said net settled → FitsNetwork net settled →
       IsPrepareVerdict file design configs net Done (prepared_texts net settled configs)
 
 -- the answer that a design is refused

@@ -5,7 +5,8 @@ use Rattle.net_model.specs.Refusals.{IsNetwork}
 use Rattle.igp_theory.specs.Isis.{IsisEntry}
 use Rattle.igp_theory.specs.Ospf.{OspfEntry}
 use Rattle.igp_theory.specs.Routes.{Tables}
-use Rattle.refutation_check.specs.Verdicts.{HasNoneSeamless, IsClosedText, IsFirstWrongLine, IsUnfinishedText}
+use Rattle.refutation_check.specs.Verdicts.{IsClosedText, IsFirstWrongLine, IsUnfinishedText}
+use Rattle.igp_theory.specs.Waves.{HasNoneSeamless}
 use Rattle.refutation_check.specs.declared.verdict.Verdict.{Verdict}
 use Rattle.refutation_check.specs.declared.verdict.Verdict.TheVariants.{Closed, Unfinished, Wrong}
 use Rattle.refutation_check.specs.declared.verdict.WrongKind.{WrongKind}

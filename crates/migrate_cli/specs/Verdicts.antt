@@ -10,15 +10,16 @@ use Rattle.migrate_words.specs.Requests.{Request}
 use Rattle.migration_report.specs.Kinds.{read_kind_name}
 use Rattle.migration_report.specs.Texts.{faulty_text, network_text, off_start_text}
 use Rattle.migrate_cli.specs.RefusalStatus.{refusal_status}
-use Rattle.migrate_cli.specs.CommandFiles.{NeedsStart, config_names}
+use Rattle.migrate_cli.specs.CommandFiles.{NeedsStart, text_names}
 use Rattle.migrate_cli.specs.CommandVerdicts.{IsCommandVerdict}
-use Rattle.migrate_cli.specs.Configurations.{ReadsTexts, IsFirstRefused, GiveNetwork, IsAtStart}
+use Rattle.isis_writer.specs.ReadTexts.{ReadsTexts}
+use Rattle.migrate_cli.specs.Configurations.{IsFirstRefused, GiveNetwork, IsAtStart}
 use Rattle.migrate_cli.specs.declared.status.Status.{Status}
 use Rattle.migrate_cli.specs.declared.status.Status.TheVariants.{Refused}
 
 -- each case, with the status and the text that answer it, by the texts of a command's own files and of the configurations
 pub data IsVerdict (request : Request) (own configs : List (List ℕ)) : Status → List ℕ → Type 0 where
-  faulty_configuration : (file : List ℕ) (number : ℕ) (kind : ReadKind) → IsFirstRefused (config_names request) configs file number kind →
+  faulty_configuration : (file : List ℕ) (number : ℕ) (kind : ReadKind) → IsFirstRefused (text_names request) configs file number kind →
       IsVerdict request own configs Refused (faulty_text file number (read_kind_name kind))
   no_network : (all : List Configuration) (refusal : NetRefusal) (status : Status) → ReadsTexts configs all → Refuses refusal all →
       refusal_status refusal ≡ Some status → IsVerdict request own configs status (network_text refusal)

@@ -9,7 +9,7 @@ ghost use Rattle.loop_finder.specs.Faults.{told_fault};
 ghost use Rattle.migration_report.specs.Texts.{safe_text, unsafe_text, waves_safe_text, waves_unsafe_text};
 ghost use Rattle.net_model.specs.RouterNames.{names_of};
 ghost use Rattle.route_core.specs.Tables.{HasEntry};
-ghost use Rattle.migrate_cli.specs.Faults.{NamesRouters};
+ghost use Rattle.migrate_cli.specs.steps.Faults.{NamesRouters};
 ghost use Rattle.migrate_cli.specs.CheckVerdict.{IsCheckVerdict, IsOrderVerdict, IsWavesVerdict};
 
 use crate::answer::{Answer, refuse};

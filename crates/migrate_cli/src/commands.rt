@@ -1,6 +1,6 @@
 ghost use Rattle.std.specs.Prelude.{◌≤◌, ◌↔◌, All, IfOk, IsTrue, length, ◌<◌};
 ghost use Rattle.migrate_words.specs.Requests.{request_of, IsInRange};
-ghost use Rattle.migrate_cli.specs.CommandFiles.{HasLanded, NeedsStart, own_files};
+ghost use Rattle.migrate_cli.specs.CommandFiles.{NeedsStart, own_files};
 ghost use Rattle.migrate_cli.specs.CommandVerdicts.{IsCommandVerdict};
 ghost use Rattle.migrate_cli.specs.Reading.{AreShort};
 
@@ -12,26 +12,12 @@ use crate::plan::judge_plan;
 use crate::prepare::judge_prepare;
 use crate::refute::judge_refute;
 use crate::replay::judge_replay;
+use crate::sample::judge_sample;
 use crate::scripts::judge_scripts;
 use migrate_words::Command;
 use net_addr::Bytes;
 use net_model::Net;
 use std::alloc::Global;
-
-/// Whether there is this command yet.
-pub fn has_landed(command: &Command<'_>) -> bool
-    ensures { IsTrue result ↔ HasLanded (request_of command.now) }
-{
-    match command {
-        Command::Check { .. }
-        | Command::Prepare { .. }
-        | Command::Plan { .. }
-        | Command::Refute { .. }
-        | Command::Scripts { .. }
-        | Command::Replay { .. } => true,
-        _ => false,
-    }
-}
 
 /// Whether a command asks that every router is where a migration starts.
 pub fn needs_start(command: &Command<'_>) -> bool
@@ -48,12 +34,12 @@ pub fn judge_command(
     configs: &[Bytes],
     net: &Net,
 ) -> Result<Answer, OutOfMemory>
-    requires landed { HasLanded (request_of command.now) }
     requires range { IsInRange (request_of command.now) }
     requires some { 0 < length net.now }
     requires own { AreShort (own_files (request_of command.now)) own.now }
     requires configs { All (λ text. length text ≤ FILE_MOST) configs.now }
-    ensures { IfOk result (λ answer. IsCommandVerdict (request_of command.now) (record { own = own.now; configs = configs.now; net = net.now }) answer.status answer.text) }
+    ensures { IfOk result (λ answer. IsCommandVerdict (request_of command.now)
+        (record { own = own.now; configs = configs.now; net = net.now }) answer.status answer.text) }
 {
     match command {
         Command::Check { order, .. } => judge_check(alloc, order, &own[0], net),
@@ -62,6 +48,6 @@ pub fn judge_command(
         Command::Refute { .. } => judge_refute(alloc, &own[0], net),
         Command::Scripts { order, .. } => judge_scripts(alloc, order, &own[0], net),
         Command::Replay { order, .. } => judge_replay(alloc, order, &own[0], &own[1], net),
-        _ => unreachable!(),
+        Command::Sample { routers } => judge_sample(alloc, *routers, net),
     }
 }

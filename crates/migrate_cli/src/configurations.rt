@@ -1,7 +1,7 @@
 ghost use Rattle.std.specs.Prelude.{◌≡◌, ◌≤◌, All, IfErr, IfOk, length, map};
 ghost use Rattle.ios_reader.specs.Texts.{ReadsText};
-ghost use Rattle.migrate_cli.specs.Configurations.{ReadsTexts};
-ghost use Rattle.migrate_cli.specs.Unread.{IsUnread, IsUnreadText};
+ghost use Rattle.isis_writer.specs.ReadTexts.{ReadsTexts};
+ghost use Rattle.migrate_cli.specs.steps.Unread.{IsUnread, IsUnreadText};
 
 use crate::files::FILE_MOST;
 use ios_reader::{ReadKind, ReadRefusal, read_configs};

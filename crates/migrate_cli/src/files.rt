@@ -1,7 +1,7 @@
 ghost use Rattle.std.specs.Prelude.{◌≡◌, IfOk, map};
 ghost use Rattle.migrate_words.specs.Requests.{request_of};
-ghost use Rattle.migrate_cli.specs.CommandFiles.{config_file, config_names, design_file, files_of, own_files, text_file};
-ghost use Rattle.migrate_cli.specs.FilesRead.{file_of};
+ghost use Rattle.migrate_cli.specs.CommandFiles.{config_file, config_names, design_file, files_of, own_files, text_file, text_names};
+ghost use Rattle.migrate_cli.specs.steps.FilesRead.{file_of};
 
 use crate::OutOfMemory;
 use migrate_words::Command;
@@ -71,6 +71,16 @@ pub fn config_names<'a, 'b>(command: &'b Command<'a>) -> &'b [&'a str]
         Command::Scripts { configs, .. } => configs.as_slice(),
         Command::Replay { configs, .. } => configs.as_slice(),
         Command::Sample { .. } => &[],
+    }
+}
+
+/// The names of the texts of configurations of a command: those of its files, or `sample` for the one that is made.
+pub fn text_names<'a, 'b>(command: &'b Command<'a>) -> &'b [&'a str]
+    ensures { map (λ name. name.now) result.now ≡ text_names (request_of command.now) }
+{
+    match command {
+        Command::Sample { .. } => &["sample"],
+        _ => config_names(command),
     }
 }
 

@@ -11,12 +11,14 @@ mod configurations;
 mod files;
 mod judging;
 mod laws;
+mod originated;
 mod plan;
 mod prepare;
 mod reading;
 mod refute;
 mod replay;
 mod run_call;
+mod sample;
 mod scripts;
 mod sending;
 mod status;
@@ -25,8 +27,3 @@ pub use laws::one_answer;
 pub use run_call::run;
 pub use status::Status;
 pub use std::alloc::AllocError as OutOfMemory;
-
-#[cfg(test)]
-mod hops_tests;
-#[cfg(test)]
-mod tests;

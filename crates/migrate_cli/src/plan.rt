@@ -1,10 +1,13 @@
 ghost use Rattle.std.specs.Prelude.{◌≡◌, ◌<◌, ◌≤◌, IfOk, length};
+ghost use Rattle.igp_theory.specs.Isis.{IsisEntry};
+ghost use Rattle.igp_theory.specs.Ospf.{OspfEntry};
+ghost use Rattle.net_model.specs.Refusals.{IsNetwork};
 ghost use Rattle.net_model.specs.RouterNames.{names_of};
-ghost use Rattle.plan_theory.specs.Plans.{fault_told};
+ghost use Rattle.plan_theory.specs.Plans.{IsPlanned, fault_told};
 ghost use Rattle.route_core.specs.Tables.{HasEntry};
 ghost use Rattle.migration_report.specs.EndTexts.{EndFaultBelow, unsound_text};
-ghost use Rattle.migrate_cli.specs.PlanVerdict.{IsPlanOver, IsPlanVerdict};
-ghost use Rattle.migrate_cli.specs.PlannedAnswers.{HasText, found_status, plan_status, plan_text};
+ghost use Rattle.migrate_cli.specs.PlanVerdict.{IsPlanVerdict};
+ghost use Rattle.migrate_cli.specs.steps.PlannedAnswers.{IsTellable, found_status, plan_status, plan_text};
 
 use crate::answer::Answer;
 use crate::{OutOfMemory, Status};
@@ -20,41 +23,51 @@ use route_core::RouteSource;
 use std::alloc::Global;
 use wave_oracle::plan_waves;
 
-/// The answer to a network, by the routes of OSPF and of IS-IS: what is planned with a budget of so many branches.
+/// The answer to a network: what is planned of it with a budget of so many branches.
 pub fn judge_plan(alloc: Global, budget: u32, net: &Net) -> Result<Answer, OutOfMemory>
     requires budget { 1 ≤ budget }
     requires some { 0 < length net.now }
     ensures { IfOk result (λ answer. IsPlanVerdict budget net.now answer.status answer.text) }
 {
+    let planned = plan_network(alloc, budget, net)?;
+    planned_answer(alloc, net, &planned)
+}
+
+/// What is planned of a network, by the routes of OSPF and of IS-IS, with a budget of so many branches.
+pub fn plan_network(alloc: Global, budget: u32, net: &Net) -> Result<Planned, OutOfMemory>
+    requires budget { 1 ≤ budget }
+    requires some { 0 < length net.now }
+    ensures network { IsNetwork net.now }
+    ensures planned { IfOk result (IsPlanned net.now (OspfEntry net.now) (IsisEntry net.now) budget) }
+{
     let routers = net.routers();
     prove!(routers > 0);
     let old = OspfRoutes::build(alloc, net)?;
     let new = IsisRoutes::build(alloc, net)?;
-    judge_between(alloc, budget, net, &old, &new)
+    plan_between(alloc, budget, net, &old, &new)
 }
 
-/// The answer to a network, by the tables of two sources.
-fn judge_between<O: RouteSource, N: RouteSource>(
+/// What is planned of a network, by the tables of two sources.
+fn plan_between<O: RouteSource, N: RouteSource>(
     alloc: Global,
     budget: u32,
     net: &Net,
     old: &O,
     new: &N,
-) -> Result<Answer, OutOfMemory>
+) -> Result<Planned, OutOfMemory>
     requires budget { 1 ≤ budget }
     requires some { 0 < length net.now }
     requires old_routers { O.routers old.now ≡ length net.now }
     requires new_routers { N.routers new.now ≡ length net.now }
-    ensures { IfOk result (λ answer. IsPlanOver net.now (HasEntry (O.table old.now)) (HasEntry (N.table new.now)) budget answer.status answer.text) }
+    ensures { IfOk result (IsPlanned net.now (HasEntry (O.table old.now)) (HasEntry (N.table new.now)) budget) }
 {
     let mixed = Mixed::build(alloc, net, old, new)?;
-    let planned = plan_waves(alloc, &mixed, budget)?;
-    planned_answer(alloc, net, &planned)
+    plan_waves(alloc, &mixed, budget)
 }
 
 /// The answer that this is planned.
-fn planned_answer(alloc: Global, net: &Net, planned: &Planned) -> Result<Answer, OutOfMemory>
-    requires { HasText net.now planned.now }
+pub fn planned_answer(alloc: Global, net: &Net, planned: &Planned) -> Result<Answer, OutOfMemory>
+    requires { IsTellable net.now planned.now }
     ensures status { IfOk result (λ answer. answer.status ≡ plan_status planned.now) }
     ensures text { IfOk result (λ answer. answer.text ≡ plan_text (names_of net.now) planned.now) }
 {

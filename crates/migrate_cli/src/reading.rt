@@ -1,7 +1,7 @@
 ghost use Rattle.std.specs.Prelude.{◌≡◌, ◌+◌, ◌≤◌, ℕ, All, List, [], length, map, IfOk, IfErr, OnOk};
-ghost use Rattle.migrate_cli.specs.FilesRead.{file_of};
+ghost use Rattle.migrate_cli.specs.steps.FilesRead.{file_of};
 ghost use Rattle.migrate_cli.specs.Reading.{IsReadOf, IsShort, counted};
-ghost use Rattle.migrate_cli.specs.Stops.{CountsFaults, HasAsked, HasRead, IsNextText, StopsAlone, StopsAt};
+ghost use Rattle.migrate_cli.specs.steps.Stops.{CountsFaults, HasAsked, HasRead, IsNextText, StopsAlone, StopsAt};
 
 use crate::files::{FILE_MOST, Wanted};
 use net_addr::Bytes;
@@ -32,9 +32,9 @@ pub struct Texts {
 }
 
 impl Model for Texts {
-    ghost use Rattle.migrate_cli.specs.Stops.{Kept};
+    ghost use Rattle.migrate_cli.specs.steps.Stops.{KeptTexts};
 
-    ghost Value = { Kept };
+    ghost Value = { KeptTexts };
 
     ghost view = { λ x. record { all = x.all.items; counted = x.counted } };
 }

@@ -11,9 +11,9 @@ ghost use Rattle.migrate_cli.specs.PrepareCompleteness.{PrepareWrites};
 ghost use Rattle.migrate_cli.specs.PlanClaim.{PlanPromises};
 ghost use Rattle.migrate_cli.specs.PlanCompleteness.{PlanDecides};
 ghost use Rattle.migrate_cli.specs.PrepareReadBack.{PrepareReadsBack};
+ghost use Rattle.migrate_cli.specs.SampleClaim.{SampleDecides, SamplePromises};
 
 use crate::answer::{Answer, refuse};
-use crate::commands::has_landed;
 use crate::files::{config_names, files_of};
 use crate::judging::judge;
 use crate::reading::{Stop, read_texts};
@@ -33,43 +33,161 @@ const FILES_MOST: usize = 200;
 /// byte is written.
 pub fn run<F: Files, S: Sink>(alloc: Global, words: &[String], files: &mut F, out: &mut S) -> Status
     ensures answers { let call : Call = record { words = map string_bytes words.now; content = F.content files.old } in
-        let before : Outside = record { asked = F.asked files.old; file_faults = F.faults files.old; written = S.written out.old; sink_faults = S.faults out.old } in
-        let after : Outside = record { asked = F.asked files.new; file_faults = F.faults files.new; written = S.written out.new; sink_faults = S.faults out.new } in
+        let before : Outside = record {
+          asked = F.asked files.old;
+          file_faults = F.faults files.old;
+          written = S.written out.old;
+          sink_faults = S.faults out.old;
+        } in
+        let after : Outside = record {
+          asked = F.asked files.new;
+          file_faults = F.faults files.new;
+          written = S.written out.new;
+          sink_faults = S.faults out.new;
+        } in
         Answers call before after result }
     ensures exact { let call : Call = record { words = map string_bytes words.now; content = F.content files.old } in
         EndsByAnswer call result }
     ensures plan_promises { let call : Call = record { words = map string_bytes words.now; content = F.content files.old } in
-        let before : Outside = record { asked = F.asked files.old; file_faults = F.faults files.old; written = S.written out.old; sink_faults = S.faults out.old } in
-        let after : Outside = record { asked = F.asked files.new; file_faults = F.faults files.new; written = S.written out.new; sink_faults = S.faults out.new } in
+        let before : Outside = record {
+          asked = F.asked files.old;
+          file_faults = F.faults files.old;
+          written = S.written out.old;
+          sink_faults = S.faults out.old;
+        } in
+        let after : Outside = record {
+          asked = F.asked files.new;
+          file_faults = F.faults files.new;
+          written = S.written out.new;
+          sink_faults = S.faults out.new;
+        } in
         PlanPromises call before after result }
     ensures plan_decides { let call : Call = record { words = map string_bytes words.now; content = F.content files.old } in
-        let before : Outside = record { asked = F.asked files.old; file_faults = F.faults files.old; written = S.written out.old; sink_faults = S.faults out.old } in
-        let after : Outside = record { asked = F.asked files.new; file_faults = F.faults files.new; written = S.written out.new; sink_faults = S.faults out.new } in
+        let before : Outside = record {
+          asked = F.asked files.old;
+          file_faults = F.faults files.old;
+          written = S.written out.old;
+          sink_faults = S.faults out.old;
+        } in
+        let after : Outside = record {
+          asked = F.asked files.new;
+          file_faults = F.faults files.new;
+          written = S.written out.new;
+          sink_faults = S.faults out.new;
+        } in
         PlanDecides call before after result }
     ensures check_decides { let call : Call = record { words = map string_bytes words.now; content = F.content files.old } in
-        let before : Outside = record { asked = F.asked files.old; file_faults = F.faults files.old; written = S.written out.old; sink_faults = S.faults out.old } in
-        let after : Outside = record { asked = F.asked files.new; file_faults = F.faults files.new; written = S.written out.new; sink_faults = S.faults out.new } in
+        let before : Outside = record {
+          asked = F.asked files.old;
+          file_faults = F.faults files.old;
+          written = S.written out.old;
+          sink_faults = S.faults out.old;
+        } in
+        let after : Outside = record {
+          asked = F.asked files.new;
+          file_faults = F.faults files.new;
+          written = S.written out.new;
+          sink_faults = S.faults out.new;
+        } in
         CheckDecides call before after result }
     ensures refute_decides { let call : Call = record { words = map string_bytes words.now; content = F.content files.old } in
-        let before : Outside = record { asked = F.asked files.old; file_faults = F.faults files.old; written = S.written out.old; sink_faults = S.faults out.old } in
-        let after : Outside = record { asked = F.asked files.new; file_faults = F.faults files.new; written = S.written out.new; sink_faults = S.faults out.new } in
+        let before : Outside = record {
+          asked = F.asked files.old;
+          file_faults = F.faults files.old;
+          written = S.written out.old;
+          sink_faults = S.faults out.old;
+        } in
+        let after : Outside = record {
+          asked = F.asked files.new;
+          file_faults = F.faults files.new;
+          written = S.written out.new;
+          sink_faults = S.faults out.new;
+        } in
         RefuteDecides call before after result }
     ensures replay_decides { let call : Call = record { words = map string_bytes words.now; content = F.content files.old } in
-        let before : Outside = record { asked = F.asked files.old; file_faults = F.faults files.old; written = S.written out.old; sink_faults = S.faults out.old } in
-        let after : Outside = record { asked = F.asked files.new; file_faults = F.faults files.new; written = S.written out.new; sink_faults = S.faults out.new } in
+        let before : Outside = record {
+          asked = F.asked files.old;
+          file_faults = F.faults files.old;
+          written = S.written out.old;
+          sink_faults = S.faults out.old;
+        } in
+        let after : Outside = record {
+          asked = F.asked files.new;
+          file_faults = F.faults files.new;
+          written = S.written out.new;
+          sink_faults = S.faults out.new;
+        } in
         ReplayDecides call before after result }
     ensures scripts_write { let call : Call = record { words = map string_bytes words.now; content = F.content files.old } in
-        let before : Outside = record { asked = F.asked files.old; file_faults = F.faults files.old; written = S.written out.old; sink_faults = S.faults out.old } in
-        let after : Outside = record { asked = F.asked files.new; file_faults = F.faults files.new; written = S.written out.new; sink_faults = S.faults out.new } in
+        let before : Outside = record {
+          asked = F.asked files.old;
+          file_faults = F.faults files.old;
+          written = S.written out.old;
+          sink_faults = S.faults out.old;
+        } in
+        let after : Outside = record {
+          asked = F.asked files.new;
+          file_faults = F.faults files.new;
+          written = S.written out.new;
+          sink_faults = S.faults out.new;
+        } in
         ScriptsWrites call before after result }
     ensures prepare_writes { let call : Call = record { words = map string_bytes words.now; content = F.content files.old } in
-        let before : Outside = record { asked = F.asked files.old; file_faults = F.faults files.old; written = S.written out.old; sink_faults = S.faults out.old } in
-        let after : Outside = record { asked = F.asked files.new; file_faults = F.faults files.new; written = S.written out.new; sink_faults = S.faults out.new } in
+        let before : Outside = record {
+          asked = F.asked files.old;
+          file_faults = F.faults files.old;
+          written = S.written out.old;
+          sink_faults = S.faults out.old;
+        } in
+        let after : Outside = record {
+          asked = F.asked files.new;
+          file_faults = F.faults files.new;
+          written = S.written out.new;
+          sink_faults = S.faults out.new;
+        } in
         PrepareWrites call before after result }
     ensures prepare_reads_back { let call : Call = record { words = map string_bytes words.now; content = F.content files.old } in
-        let before : Outside = record { asked = F.asked files.old; file_faults = F.faults files.old; written = S.written out.old; sink_faults = S.faults out.old } in
-        let after : Outside = record { asked = F.asked files.new; file_faults = F.faults files.new; written = S.written out.new; sink_faults = S.faults out.new } in
+        let before : Outside = record {
+          asked = F.asked files.old;
+          file_faults = F.faults files.old;
+          written = S.written out.old;
+          sink_faults = S.faults out.old;
+        } in
+        let after : Outside = record {
+          asked = F.asked files.new;
+          file_faults = F.faults files.new;
+          written = S.written out.new;
+          sink_faults = S.faults out.new;
+        } in
         PrepareReadsBack call before after result }
+    ensures sample_promises { let call : Call = record { words = map string_bytes words.now; content = F.content files.old } in
+        let before : Outside = record {
+          asked = F.asked files.old;
+          file_faults = F.faults files.old;
+          written = S.written out.old;
+          sink_faults = S.faults out.old;
+        } in
+        let after : Outside = record {
+          asked = F.asked files.new;
+          file_faults = F.faults files.new;
+          written = S.written out.new;
+          sink_faults = S.faults out.new;
+        } in
+        SamplePromises call before after result }
+    ensures sample_decides { let call : Call = record { words = map string_bytes words.now; content = F.content files.old } in
+        let before : Outside = record {
+          asked = F.asked files.old;
+          file_faults = F.faults files.old;
+          written = S.written out.old;
+          sink_faults = S.faults out.old;
+        } in
+        let after : Outside = record {
+          asked = F.asked files.new;
+          file_faults = F.faults files.new;
+          written = S.written out.new;
+          sink_faults = S.faults out.new;
+        } in
+        SampleDecides call before after result }
     ensures read_fault { result ≡ Status.ReadFault → Rose (F.faults files.old) (F.faults files.new) }
     ensures write_fault { result ≡ Status.WriteFault → Rose (S.faults out.old) (S.faults out.new) }
     ensures unless_write_fault { result ≢ Status.WriteFault → S.faults out.new ≡ S.faults out.old }
@@ -123,12 +241,10 @@ fn answer_command<F: Files>(
     files: &mut F,
 ) -> Result<Answer, OutOfMemory>
     requires { IsInRange (request_of command.now) }
-    ensures answer { (words : List (List ℕ)) → Asks words (request_of command.now) → HasAnswer (record { words = words; content = F.content files.old }) (F.asked files.old) (F.asked files.new) result }
+    ensures answer { (words : List (List ℕ)) → Asks words (request_of command.now) → HasAnswer (record { words = words; content = F.content files.old })
+        (F.asked files.old) (F.asked files.new) result }
     ensures faults { IfOk result (λ answer. FaultsAgree answer.status (F.faults files.old) (F.faults files.new)) }
 {
-    if !has_landed(command) {
-        return refuse_alone(alloc);
-    }
     let number = config_names(command).len();
     if number > FILES_MOST {
         let number = number as u64;

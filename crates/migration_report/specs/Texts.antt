@@ -8,9 +8,8 @@ use Rattle.loop_finder.specs.declared.fault.Fault.{Fault}
 use Rattle.loop_finder.specs.declared.fault.Fault.TheVariants.{Loop, Missing}
 use Rattle.order_core.specs.Turns.{routers_of}
 use Rattle.order_core.specs.declared.turn.Turn.{Turn}
-use Rattle.printed_lines.specs.Words.{dotted, prefix_word}
+use Rattle.printed_lines.specs.Words.{dotted, prefix_word, router_word}
 use Rattle.printed_lines.specs.Texts.{line}
-use Rattle.migration_report.specs.Words.{name_of}
 use Rattle.migration_report.specs.Kinds.{read_kind_name, order_kind_name, limit_name}
 use Rattle.migration_report.specs.declared.report.Report.{Report}
 use Rattle.migration_report.specs.declared.report.Report.TheVariants.{Safe, Unsafe, WavesSafe, WavesUnsafe}
@@ -19,11 +18,11 @@ use Rattle.migration_report.specs.declared.refusal.Refusal.TheVariants.{Words, R
 
 -- the names of the routers of a ring, in order
 abbrev pub ring_words : List (List ℕ) → List Turn → List (List ℕ)
-ring_words names ring = map (name_of names) (routers_of ring)
+ring_words names ring = map (router_word names) (routers_of ring)
 
 -- what is wrong in a state, and at which address, by the names of the routers
 abbrev pub fault_words : List (List ℕ) → WholeFault → List (List ℕ)
-fault_words names (missing a u) = dotted a ∷ codes "missing" ∷ name_of names u ∷ []
+fault_words names (missing a u) = dotted a ∷ codes "missing" ∷ router_word names u ∷ []
 fault_words names (loop a ring) = dotted a ∷ codes "loop" ∷ ring_words names ring
 
 -- an order is safe: the count of its changes

@@ -1,7 +1,7 @@
 -- What is printed of a tree file.
 use Rattle.std.specs.Prelude.{ℕ, List, [], ◌∷◌, codes, decimal}
 use Rattle.printed_lines.specs.Texts.{line}
-use Rattle.refutation_check.specs.WrongLines.{number_of}
+use Rattle.refutation_check.specs.WrongLines.{kind_number}
 use Rattle.refutation_check.specs.declared.verdict.Verdict.{Verdict}
 use Rattle.refutation_check.specs.declared.verdict.Verdict.TheVariants.{Closed, Unfinished, Wrong}
 use Rattle.refutation_check.specs.declared.verdict.WrongKind.{WrongKind}
@@ -17,7 +17,7 @@ open_text unvisited = line (codes "open") (decimal unvisited ∷ [])
 
 -- the number of the first wrong line, and its lowest kind by number and name
 abbrev pub wrong_text : ℕ → WrongKind → List ℕ
-wrong_text number kind = line (codes "wrong") (decimal number ∷ decimal (number_of kind) ∷ wrong_kind_name kind ∷ [])
+wrong_text number kind = line (codes "wrong") (decimal number ∷ decimal (kind_number kind) ∷ wrong_kind_name kind ∷ [])
 
 -- what is found of a tree file
 abbrev pub verdict_text : Verdict → List ℕ

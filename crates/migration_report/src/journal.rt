@@ -1,6 +1,6 @@
 ghost use Rattle.std.specs.Prelude.{◌≡◌, ◌<◌, ◌*◌, ◌++◌, IfOk, length};
 ghost use Rattle.net_model.specs.RouterNames.{names_of};
-ghost use Rattle.migration_report.specs.Words.{name_of};
+ghost use Rattle.printed_lines.specs.Words.{router_word};
 ghost use Rattle.migration_report.specs.JournalTexts.{departs_text, next_text, next_texts, or_done, reached_text};
 
 use crate::report::router_name;
@@ -60,7 +60,7 @@ fn add_next(
     next: Option<Half>,
 ) -> Result<TextBuilder, AllocError>
     requires { router < length net.now }
-    ensures { IfOk result (λ longer. longer ≡ text ++ next_text (name_of (names_of net.now) router) next) }
+    ensures { IfOk result (λ longer. longer ≡ text ++ next_text (router_word (names_of net.now) router) next) }
 {
     let Some(half) = next else {
         return Ok(text);

@@ -1,8 +1,7 @@
 ghost use Rattle.std.specs.Prelude.{◌≡◌, ◌<◌, ◌++◌, All, IfOk, length};
-ghost use Rattle.printed_lines.specs.Words.{spaced};
+ghost use Rattle.printed_lines.specs.Words.{spaced, router_word};
 ghost use Rattle.loop_finder.specs.Faults.{told_fault};
 ghost use Rattle.net_model.specs.RouterNames.{names_of};
-ghost use Rattle.migration_report.specs.Words.{name_of};
 ghost use Rattle.migration_report.specs.Texts.{FaultBelow, ReportBelow, fault_words, report_text, ring_words};
 
 use loop_finder::Fault;
@@ -111,7 +110,7 @@ fn ring_words(mut line: LineBuilder, net: &Net, ring: &[Turn]) -> Result<LineBui
 /// The name of a router.
 pub(crate) fn router_name(net: &Net, router: u32) -> &[u8]
     requires { router < length net.now }
-    ensures { result.now ≡ name_of (names_of net.now) router }
+    ensures { result.now ≡ router_word (names_of net.now) router }
 {
     net.config(router).name.as_slice()
 }

@@ -1,5 +1,5 @@
 ghost use Rattle.std.specs.Prelude.{◌≡◌, IfOk};
-ghost use Rattle.refutation_check.specs.WrongLines.{number_of};
+ghost use Rattle.refutation_check.specs.WrongLines.{kind_number};
 ghost use Rattle.migration_report.specs.Kinds.{wrong_kind_name};
 ghost use Rattle.migration_report.specs.TreeVerdictTexts.{closed_text, open_text, verdict_text, wrong_text};
 
@@ -45,14 +45,14 @@ fn wrong_text(alloc: Global, line: u32, kind: WrongKind) -> Result<Bytes, AllocE
 {
     LineBuilder::start(alloc, b"wrong")?
         .number(u64::from(line))?
-        .number(u64::from(number_of(kind)))?
+        .number(u64::from(kind_number(kind)))?
         .word(wrong_kind_name(kind))?
         .finish()
 }
 
 /// The number of a kind of wrong line.
-fn number_of(kind: WrongKind) -> u32
-    ensures { result ≡ number_of kind }
+fn kind_number(kind: WrongKind) -> u32
+    ensures { result ≡ kind_number kind }
 {
     match kind {
         WrongKind::Form => 1,

@@ -20,7 +20,8 @@ returns-in-Err-Bad c =
     let net = c.args.net.now in
     let line = c.in-Err-Bad.line in
     let kind = c.in-Err-Bad.kind in
-    from_refusal c.refuse.result Refused (faulty_text c.args.file.now line (order_kind_name kind)) (λ s t. IsCheckVerdict c.args.file.now c.args.text.now net s t)
+    from_refusal c.refuse.result Refused (faulty_text c.args.file.now line (order_kind_name kind)) (λ s t.
+    IsCheckVerdict c.args.file.now c.args.text.now net s t)
     c.refuse.ensures.status c.refuse.ensures.text
     (faulty_order line kind
     (subst (λ text. IsLeastFaultyLine net text line kind) c.as_slice.ensures
@@ -39,7 +40,8 @@ returns-in-One c =
     let net = c.args.net.now in
     let text = c.args.text.now in
     let ranks = c.in-Ok.read.waves in
-    let names = subst (λ version. NamesWaves net text version ranks) c.in-One.is (subst (λ t. NamesWaves net t c.in-Ok.read.version ranks) c.as_slice.ensures c.in-Ok.ensures.ok) in
+    let names = subst (λ version. NamesWaves net text version ranks) c.in-One.is (subst (λ t. NamesWaves net t c.in-Ok.read.version ranks)
+    c.as_slice.ensures c.in-Ok.ensures.ok) in
     IfOk-weaker c.judge_order.result (λ a. IsOrderVerdict net (OspfEntry net) (IsisEntry net) c.flat.result.now a.status a.text)
     (λ a. IsCheckVerdict c.args.file.now text net a.status a.text)
     (λ a verdict. of_order ranks a.status a.text names
@@ -51,7 +53,8 @@ returns c =
     let net = c.args.net.now in
     let text = c.args.text.now in
     let ranks = c.in-Ok.read.waves in
-    let names = subst (λ version. NamesWaves net text version ranks) c.in-Two.is (subst (λ t. NamesWaves net t c.in-Ok.read.version ranks) c.as_slice.ensures c.in-Ok.ensures.ok) in
+    let names = subst (λ version. NamesWaves net text version ranks) c.in-Two.is (subst (λ t. NamesWaves net t c.in-Ok.read.version ranks)
+    c.as_slice.ensures c.in-Ok.ensures.ok) in
     IfOk-weaker c.judge_waves.result (λ a. IsWavesVerdict net (OspfEntry net) (IsisEntry net) ranks a.status a.text)
     (λ a. IsCheckVerdict c.args.file.now text net a.status a.text)
     (λ a verdict. of_waves ranks a.status a.text names verdict)

@@ -7,7 +7,7 @@ use Rattle.net_model.specs.RouterNames.{names_of}
 use Rattle.order_core.specs.Rankings.{IsRanking}
 use Rattle.route_core.specs.Tables.{HasEntry}
 use Rattle.migration_report.specs.Texts.{waves_safe_text, waves_unsafe_text}
-use Rattle.migrate_cli.specs.Faults.{NamesRouters}
+use Rattle.migrate_cli.specs.steps.Faults.{NamesRouters}
 use Rattle.migrate_cli.specs.CheckVerdict.{IsWavesVerdict}
 use Rattle.migrate_cli.specs.CheckVerdict.IsWavesVerdict.{safe_waves, unsafe_wave}
 use Rattle.migrate_cli.specs.declared.status.Status.{Status}
@@ -33,7 +33,8 @@ returns-in-None g c =
     let seamless = moved (λ net old new. AreSeamlessWaves net (HasEntry (table_old old)) (HasEntry (table_new new)) ranks)
     (ap (λ m. m.net) same ∙ c.in_ok-mixed.ensures.net) (ap (λ m. m.old) same ∙ c.in_ok-mixed.ensures.old) (ap (λ m. m.new) same ∙ c.in_ok-mixed.ensures.new)
     (subst (AreSeamlessWaves m.net (HasEntry (table_old m.old)) (HasEntry (table_new m.new))) c.ranks.ensures.ranks (c.in-None.ensures.seamless.0 refl)) in
-    let Q : Status → List ℕ → Type 0 = λ s t. IsWavesVerdict c.args.net.now (HasEntry (table_old c.args.old.now)) (HasEntry (table_new c.args.new.now)) ranks s t in
+    let Q : Status → List ℕ → Type 0 =
+    λ s t. IsWavesVerdict c.args.net.now (HasEntry (table_old c.args.old.now)) (HasEntry (table_new c.args.new.now)) ranks s t in
     from_refusal c.safe_waves.result Done (waves_safe_text (2 * length c.args.net.now) c.count.result) Q c.safe_waves.ensures.status c.safe_waves.ensures.text
     (subst (λ n. Q Done (waves_safe_text (2 * length c.args.net.now) n)) (sym c.count.ensures) (safe_waves seamless))
 
@@ -58,14 +59,17 @@ returns g c =
     let same = c.in_ok-finder.ensures.mixture in
     let found = c.in-Some.ensures.fault in
     let fault = told_fault c.in-Some.fault c.waves_fault.new.self.ring in
-    let first = subst (λ (some : List ℕ). IsWavesFault c.args.net.now (HasEntry (table_old c.args.old.now)) (HasEntry (table_new c.args.new.now)) some found.wave fault) c.ranks.ensures.ranks
+    let first = subst (λ (some : List ℕ). IsWavesFault c.args.net.now (HasEntry (table_old c.args.old.now)) (HasEntry (table_new c.args.new.now)) some
+    found.wave fault) c.ranks.ensures.ranks
     (moved (λ net old new. IsWavesFault net (HasEntry (table_old old)) (HasEntry (table_new new)) c.ranks.result.now found.wave fault)
     (ap (λ m. m.net) same ∙ c.in_ok-mixed.ensures.net) (ap (λ m. m.old) same ∙ c.in_ok-mixed.ensures.old) (ap (λ m. m.new) same ∙ c.in_ok-mixed.ensures.new)
     found.is_fault) in
-    let Q : Status → List ℕ → Type 0 = λ s t. IsWavesVerdict c.args.net.now (HasEntry (table_old c.args.old.now)) (HasEntry (table_new c.args.new.now)) ranks s t in
+    let Q : Status → List ℕ → Type 0 =
+    λ s t. IsWavesVerdict c.args.net.now (HasEntry (table_old c.args.old.now)) (HasEntry (table_new c.args.new.now)) ranks s t in
     from_refusal c.unsafe_wave.result Negative (waves_unsafe_text (names_of c.args.net.now) c.in-Some.wave (told_fault c.in-Some.fault c.ring.result.now)) Q
     c.unsafe_wave.ensures.status c.unsafe_wave.ensures.text
     (subst (λ turns. Q Negative (waves_unsafe_text (names_of c.args.net.now) c.in-Some.wave (told_fault c.in-Some.fault turns))) (sym c.ring.ensures)
     (subst (λ n. Q Negative (waves_unsafe_text (names_of c.args.net.now) n fault)) (sym found.number_is)
     (unsafe_wave found.wave fault
-    (λ seamless. waves_fault_unsound c.args.net.now (HasEntry (table_old c.args.old.now)) (HasEntry (table_new c.args.new.now)) ranks found.wave fault first seamless) first)))
+    (λ seamless. waves_fault_unsound c.args.net.now (HasEntry (table_old c.args.old.now)) (HasEntry (table_new c.args.new.now)) ranks found.wave fault
+    first seamless) first)))

@@ -1,7 +1,7 @@
 use Rattle.std.proofs.Common.{◌≡◌, ◌+◌, ◌++◌, ◌<◌, length, List, [], ℕ, map, take, get_or, sym, ap, ◌∙◌, subst, arith}
 use Rattle.std.specs.Borrow.{Bor}
 use Rattle.std.proofs.lemmas.List.{length-map, get_or-map}
-use Rattle.migrate_cli.specs.Configurations.{ReadsTexts}
+use Rattle.isis_writer.specs.ReadTexts.{ReadsTexts}
 use Rattle.migrate_cli.proofs.ConfigurationFacts.{unread_first, ReadsTexts-next}
 use Rattle.migrate_cli.proofs.StopFacts.{element}
 use Rattle.migrate_cli.proofs.configurations.read_all.Goals as goal
@@ -26,4 +26,5 @@ loop-i-preserved c =
     let texts = c.args.texts.now in
     let all : c.append.new.self.items ≡ c.loop-i.all.items ++ c.in-Ok.more.items = grind arith in
     subst (ReadsTexts (take (c.loop-i.i + 1) texts)) (sym all)
-    (ReadsTexts-next texts c.loop-i.i c.index-texts-i.result c.loop-i.all.items c.in-Ok.more.items c.loop-i-test.true c.index-texts-i.is c.loop-i.invariant c.in-Ok.ensures.ok)
+    (ReadsTexts-next texts c.loop-i.i c.index-texts-i.result c.loop-i.all.items c.in-Ok.more.items c.loop-i-test.true c.index-texts-i.is
+    c.loop-i.invariant c.in-Ok.ensures.ok)

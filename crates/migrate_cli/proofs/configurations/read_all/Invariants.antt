@@ -1,5 +1,5 @@
 use Rattle.std.proofs.Common.{take}
-use Rattle.migrate_cli.specs.Configurations.{ReadsTexts}
+use Rattle.isis_writer.specs.ReadTexts.{ReadsTexts}
 use Rattle.migrate_cli.proofs.configurations.read_all.Given as goal
 
 -- the configurations of the first texts

@@ -1,24 +1,26 @@
-use Rattle.std.proofs.lemmas.Result.{IfOk-weaker}
 use Rattle.igp_theory.specs.Isis.{IsisEntry}
 use Rattle.igp_theory.specs.Ospf.{OspfEntry}
-use Rattle.isis_routes.specs.RouteTables as isis
-use Rattle.ospf_routes.specs.RouteTables as ospf
-use Rattle.route_core.specs.Tables.{HasEntry}
-use Rattle.migrate_cli.specs.PlanVerdict.{IsPlanOver, IsPlanVerdict}
-use Rattle.migrate_cli.proofs.PlanTables.{plan_over}
+use Rattle.net_model.specs.RouterNames.{names_of}
+use Rattle.migrate_cli.specs.PlanVerdict.{IsPlanVerdict}
+use Rattle.migrate_cli.specs.steps.PlannedAnswers.{plan_status, plan_text}
+use Rattle.migrate_cli.proofs.AnswerFacts.{from_refusal}
+use Rattle.migrate_cli.proofs.PlanLaws.{has_text, plan_of}
 use Rattle.migrate_cli.proofs.plan.judge_plan.Goals as goal
+
+pub planned_answer-requires : goal.planned_answer-requires
+planned_answer-requires c =
+    let net = c.args.net.now in
+    has_text net (OspfEntry net) (IsisEntry net) c.args.budget c.in_ok-planned.planned c.in_ok-planned.ensures.planned
 
 pub returns : goal.returns
 returns c =
     let net = c.args.net.now in
     let budget = c.args.budget in
-    IfOk-weaker c.judge_between.result
-    (λ a. IsPlanOver net (HasEntry (ospf.table_at c.in_ok-old.old)) (HasEntry (isis.table_at c.in_ok-new.new)) budget a.status a.text)
-    (λ a. IsPlanVerdict budget net a.status a.text)
-    (λ a plan. record {
+    let planned = c.in_ok-planned.planned in
+    from_refusal c.planned_answer.result (plan_status planned) (plan_text (names_of net) planned)
+    (λ s t. IsPlanVerdict budget net s t) c.planned_answer.ensures.status c.planned_answer.ensures.text
+    (record {
       some = c.requires.some;
-      network = c.routers-routers.ensures.network;
-      plan = plan_over net (HasEntry (ospf.table_at c.in_ok-old.old)) (HasEntry (isis.table_at c.in_ok-new.new)) (OspfEntry net) (IsisEntry net)
-          (record { same_old = c.in_ok-old.ensures.entries; same_new = c.in_ok-new.ensures.entries }) plan;
+      network = c.in_ok-planned.ensures.network;
+      plan = plan_of net (OspfEntry net) (IsisEntry net) budget planned c.in_ok-planned.ensures.planned;
     })
-    c.judge_between.ensures

@@ -1,8 +1,8 @@
 use Rattle.std.proofs.Common.{◌≡◌, ◌+◌, ◌++◌, ◌∷◌, [], take, drop, map, get_or, false, sym, ◌∙◌, ap, subst, arith}
-use Rattle.migrate_cli.specs.FilesRead.{file_of}
+use Rattle.migrate_cli.specs.steps.FilesRead.{file_of}
 use Rattle.migrate_cli.specs.declared.files.Wanted.{Wanted}
 use Rattle.migrate_cli.specs.Reading.{AreRead, AreWithin, names_of, total_of}
-use Rattle.migrate_cli.specs.Stops.{StopsAt, StopFaults}
+use Rattle.migrate_cli.specs.steps.Stops.{StopsAt, StopFaults}
 use Rattle.migrate_cli.proofs.StopFacts.{stops_among, StopsAt-same, read_more, within_more, counted_more, asked_more, element, map_around, map_take_more}
 use Rattle.migrate_cli.proofs.reading.read_texts.Goals as goal
 
@@ -17,9 +17,11 @@ returns-in-Err-clause-read g c =
     let file = file_of item in
     let held = c.loop-file.invariant in
     let around = map_around file_of all i item (omega arith) at in
-    let stops = StopsAt-same (g.F.Files.content c.loop-file.files) content file c.loop-file.texts.counted c.in-Err.stop (held.contents_stay file.name) c.in-Err.ensures.stop in
+    let stops = StopsAt-same (g.F.Files.content c.loop-file.files) content file c.loop-file.texts.counted c.in-Err.stop (held.contents_stay file.name)
+    c.in-Err.ensures.stop in
     stops_among content (map file_of all) (map file_of (take i all)) (map file_of (drop (i + 1) all)) c.loop-file.texts.all file
-    (g.F.Files.asked c.args.files.now) (g.F.Files.asked c.loop-file.files) (g.F.Files.asked c.read_next.new.files) c.in-Err.stop around held.read held.within held.asked
+    (g.F.Files.asked c.args.files.now) (g.F.Files.asked c.loop-file.files) (g.F.Files.asked c.read_next.new.files) c.in-Err.stop around
+    held.read held.within held.asked
     (subst (λ n. StopsAt content file n c.in-Err.stop) held.counted stops) c.in-Err.ensures.asked
 
 pub returns-in-Err-clause-faults : goal.returns-in-Err-clause-faults
@@ -43,10 +45,12 @@ loop-file-preserved g c =
     let new = c.read_next.new.self in
     let files : map file_of (take (i + 1) all) ≡ before ++ file ∷ [] = map_take_more file_of all i item (omega arith) at in
     record {
-      read = subst (λ some. AreRead content some new.all) (sym files) (read_more content other before file old new (held.contents_stay file.name) held.read next);
+      read =
+          subst (λ some. AreRead content some new.all) (sym files) (read_more content other before file old new (held.contents_stay file.name) held.read next);
       within = subst (λ some. AreWithin some new.all) (sym files) (within_more other before file old new held.counted held.within next);
       counted = counted_more other before file old new held.counted held.within next ∙ ap (λ some. total_of some new.all) (sym files);
-      asked = asked_more before file (g.F.Files.asked c.args.files.now) (g.F.Files.asked c.loop-file.files) (g.F.Files.asked c.read_next.new.files) held.asked c.in_default.ensures.asked
+      asked = asked_more before file (g.F.Files.asked c.args.files.now) (g.F.Files.asked c.loop-file.files) (g.F.Files.asked c.read_next.new.files) held.asked
+          c.in_default.ensures.asked
           ∙ ap (λ some. g.F.Files.asked c.args.files.now ++ names_of some) (sym files);
       contents_stay = λ name. c.in_default.ensures.contents_stay name ∙ held.contents_stay name;
       faults_stand = c.in_default.ensures.faults ∙ held.faults_stand;

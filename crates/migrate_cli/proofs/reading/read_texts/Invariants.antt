@@ -1,5 +1,5 @@
 use Rattle.std.proofs.Common.{◌≡◌, ℕ, List, ◌++◌, map, take}
-use Rattle.migrate_cli.specs.FilesRead.{file_of}
+use Rattle.migrate_cli.specs.steps.FilesRead.{file_of}
 use Rattle.migrate_cli.specs.Reading.{AreRead, AreWithin, names_of, total_of}
 use Rattle.migrate_cli.proofs.reading.read_texts.Given as goal
 

@@ -15,6 +15,7 @@ returns c =
     IfOk-weaker c.judge_tree.result
     (λ a. IsTreeVerdict net (HasEntry (ospf.table_at c.in_ok-old.old)) (HasEntry (isis.table_at c.in_ok-new.new)) tree a.status a.text)
     (λ a. IsRefuteVerdict tree net a.status a.text)
-    (λ a verdict. tree_verdict_over net (HasEntry (ospf.table_at c.in_ok-old.old)) (HasEntry (isis.table_at c.in_ok-new.new)) (OspfEntry net) (IsisEntry net) tree
+    (λ a verdict. tree_verdict_over net (HasEntry (ospf.table_at c.in_ok-old.old)) (HasEntry (isis.table_at c.in_ok-new.new))
+    (OspfEntry net) (IsisEntry net) tree
     (record { same_old = c.in_ok-old.ensures.entries; same_new = c.in_ok-new.ensures.entries }) verdict)
     c.judge_tree.ensures

@@ -1,7 +1,7 @@
 use Rattle.std.proofs.Common.{ℕ, List, subst}
 use Rattle.net_model.specs.Refusals.{IsNetwork}
 use Rattle.route_core.specs.Tables.{HasEntry}
-use Rattle.refutation_check.specs.Verdicts.{IsVerdict, RefutesWhereClosed}
+use Rattle.refutation_check.specs.Verdicts.{IsTextVerdict, RefutesWhereClosed}
 use Rattle.migrate_cli.proofs.OrderFacts.{moved}
 use Rattle.migrate_cli.proofs.RefuteLaws.{tree_verdict}
 use Rattle.migrate_cli.proofs.refute.judge_tree.Goals as goal
@@ -14,11 +14,13 @@ returns g c =
     let found = c.in_ok-verdict.verdict in
     let tree = c.args.tree.now in
     let text = c.as_slice.result.now in
-    let verdict = moved (λ net old new. IsVerdict net (HasEntry (table_old old)) (HasEntry (table_new new)) text found)
+    let verdict = moved (λ net old new. IsTextVerdict net (HasEntry (table_old old)) (HasEntry (table_new new)) text found)
     same.net same.old same.new c.in_ok-verdict.ensures.verdict in
     let means = moved (λ net old new. RefutesWhereClosed net (HasEntry (table_old old)) (HasEntry (table_new new)) found)
     same.net same.old same.new c.in_ok-verdict.ensures.refutes in
-    tree_verdict c.args.net.now (HasEntry (table_old c.args.old.now)) (HasEntry (table_new c.args.new.now)) tree c.in_ok-text.text c.verdict_status-status.result found
+    tree_verdict c.args.net.now (HasEntry (table_old c.args.old.now)) (HasEntry (table_new c.args.new.now)) tree c.in_ok-text.text
+    c.verdict_status-status.result found
     (subst IsNetwork same.net c.verify.ensures.network)
-    (subst (λ (t : List ℕ). IsVerdict c.args.net.now (HasEntry (table_old c.args.old.now)) (HasEntry (table_new c.args.new.now)) t found) c.as_slice.ensures verdict)
+    (subst (λ (t : List ℕ). IsTextVerdict c.args.net.now (HasEntry (table_old c.args.old.now)) (HasEntry (table_new c.args.new.now)) t found)
+    c.as_slice.ensures verdict)
     means c.verdict_status-status.ensures c.in_ok-text.ensures

@@ -3,36 +3,24 @@ use Rattle.std.specs.Borrow.{Bor}
 use Rattle.std.proofs.lemmas.List.{length-map}
 use Rattle.std.proofs.lemmas.Result.{IfOk-weaker}
 use Rattle.migrate_words.specs.Requests.{request_of}
-use Rattle.migration_report.specs.Texts.{many_files_text, words_refused_text}
+use Rattle.migration_report.specs.Texts.{many_files_text}
 use Rattle.migrate_cli.specs.Answers.{AsksForFew, FaultsAgree, IsAnswer, MayAsk}
-use Rattle.migrate_cli.specs.Answers.IsAnswer.{judged, many_files, refused_words}
+use Rattle.migrate_cli.specs.Answers.IsAnswer.{judged, many_files}
 use Rattle.migrate_cli.specs.Calls.{Call}
-use Rattle.migrate_cli.specs.CallWords.AreRefused.{not_landed}
-use Rattle.migrate_cli.specs.CommandFiles.{HasLanded, config_names, config_texts, files_of, own_texts}
-use Rattle.migrate_cli.specs.FilesRead.{file_of}
+use Rattle.migrate_cli.specs.CommandFiles.{config_names, config_texts, files_of, own_texts}
+use Rattle.migrate_cli.specs.steps.FilesRead.{file_of}
 use Rattle.migrate_cli.specs.Reading.{AreRead, AreWithin, File, names_of}
-use Rattle.migrate_cli.specs.Stops.{HasRead}
+use Rattle.migrate_cli.specs.steps.Stops.{HasRead}
 use Rattle.migrate_cli.specs.Verdicts.{IsVerdict}
-use Rattle.migrate_cli.specs.declared.status.Status.TheVariants.{Limit, Words}
+use Rattle.migrate_cli.specs.declared.status.Status.TheVariants.{Limit}
 use Rattle.migrate_cli.proofs.AnswerFacts.{answered, answered_at_once, faults_agree, from_refusal, may_ask_all, stop_answer, verdict_no_fault}
 use Rattle.migrate_cli.proofs.FileFacts.{All-mapped, small_files}
 use Rattle.migrate_cli.proofs.run_call.answer_command.Goals as goal
-
-pub returns-then-not-has_landed-clause-answer : goal.returns-then-not-has_landed-clause-answer
-returns-then-not-has_landed-clause-answer g c = λ words asks.
-    let request = request_of c.args.command.now in
-    let call : Call = record { words = words; content = g.F.Files.content c.args.files.now } in
-    let none : HasLanded request → ⊥ = λ landed. let holds = c.has_landed.ensures.1 landed in grind (arith, holds) in
-    let r = c.refuse_alone.result in
-    answered_at_once call (g.F.Files.asked c.args.files.now) r
-    (from_refusal r Words words_refused_text (λ s t. IsAnswer call [] s t) c.refuse_alone.ensures.status c.refuse_alone.ensures.text
-    (refused_words words_refused_text (not_landed request asks none)))
 
 pub returns-then-number-gt-FILES_MOST-clause-answer : goal.returns-then-number-gt-FILES_MOST-clause-answer
 returns-then-number-gt-FILES_MOST-clause-answer g c = λ words asks.
     let request = request_of c.args.command.now in
     let call : Call = record { words = words; content = g.F.Files.content c.args.files.now } in
-    let landed : HasLanded request = c.has_landed.ensures.0 (grind arith) in
     let names = c.config_names-number.result.now in
     let bytes : Bor (List ℕ) → List ℕ = λ name. name.now in
     let count : length names ≡ length (config_names request) = sym (length-map names bytes) ∙ ap length c.config_names-number.ensures in
@@ -40,7 +28,7 @@ returns-then-number-gt-FILES_MOST-clause-answer g c = λ words asks.
     let r = c.refuse.result in
     answered_at_once call (g.F.Files.asked c.args.files.now) r
     (from_refusal r Limit (many_files_text (length names)) (λ s t. IsAnswer call [] s t) c.refuse.ensures.status c.refuse.ensures.text
-    (subst (λ n. IsAnswer call [] Limit (many_files_text n)) (sym count) (many_files request (record { asks = asks; landed = landed }) many)))
+    (subst (λ n. IsAnswer call [] Limit (many_files_text n)) (sym count) (many_files request asks many)))
 
 pub returns-in_default-clause-answer : goal.returns-in_default-clause-answer
 returns-in_default-clause-answer g c = λ words asks.
@@ -60,12 +48,11 @@ returns-in-Ok-read_texts-clause-answer g c = λ words asks.
     let call : Call = record { words = words; content = content } in
     let before = g.F.Files.asked c.args.files.now in
     let after = g.F.Files.asked c.read_texts.new.files in
-    let landed : HasLanded request = c.has_landed.ensures.0 (grind arith) in
     let names = c.config_names-number.result.now in
     let bytes : Bor (List ℕ) → List ℕ = λ name. name.now in
     let count : length names ≡ length (config_names request) = sym (length-map names bytes) ∙ ap length c.config_names-number.ensures in
     let few : length (config_names request) ≤ 200 = grind (arith, count) in
-    let ask : AsksForFew words request = record { asked = record { asks = asks; landed = landed }; few = few } in
+    let ask : AsksForFew words request = record { asked = asks; few = few } in
     let files : map file_of c.as_slice.result.now ≡ files_of request = ap (map file_of) c.as_slice.ensures.value ∙ c.in-Ok.ensures in
     let has : HasRead content (files_of request) before after (Ok c.in-Ok-read_texts.texts) =
     subst (λ some. HasRead content some before after (Ok c.in-Ok-read_texts.texts)) files c.in-Ok-read_texts.ensures.read in
@@ -99,12 +86,11 @@ returns-clause-answer g c = λ words asks.
     let call : Call = record { words = words; content = content } in
     let before = g.F.Files.asked c.args.files.now in
     let after = g.F.Files.asked c.read_texts.new.files in
-    let landed : HasLanded request = c.has_landed.ensures.0 (grind arith) in
     let names = c.config_names-number.result.now in
     let bytes : Bor (List ℕ) → List ℕ = λ name. name.now in
     let count : length names ≡ length (config_names request) = sym (length-map names bytes) ∙ ap length c.config_names-number.ensures in
     let few : length (config_names request) ≤ 200 = grind (arith, count) in
-    let ask : AsksForFew words request = record { asked = record { asks = asks; landed = landed }; few = few } in
+    let ask : AsksForFew words request = record { asked = asks; few = few } in
     let files : map file_of c.as_slice.result.now ≡ files_of request = ap (map file_of) c.as_slice.ensures.value ∙ c.in-Ok.ensures in
     let stop = c.in-Err.stop in
     let has : HasRead content (files_of request) before after (Err stop) =

@@ -13,6 +13,7 @@ use Rattle.migrate_cli.proofs.PrepareCompleteness.{prepare_writes}
 use Rattle.migrate_cli.proofs.PlanClaimLaws.{plan_promises}
 use Rattle.migrate_cli.proofs.PlanCompletenessLaws.{plan_decides}
 use Rattle.migrate_cli.proofs.PrepareReadBack.{reads_back}
+use Rattle.migrate_cli.proofs.SampleClaimLaws.{sample_decides, sample_promises}
 use Rattle.migrate_cli.proofs.run_call.run.Goals as goal
 
 pub returns-in_default-clause-answers : goal.returns-in_default-clause-answers
@@ -28,6 +29,12 @@ returns-in_default-clause-plan_promises g c = plan_promises _ _ _ _ (returns-in_
 
 pub returns-in_default-clause-plan_decides : goal.returns-in_default-clause-plan_decides
 returns-in_default-clause-plan_decides g c = λ _ _. none_planned
+
+pub returns-in_default-clause-sample_promises : goal.returns-in_default-clause-sample_promises
+returns-in_default-clause-sample_promises g c = sample_promises _ _ _ _ (returns-in_default-clause-answers g c)
+
+pub returns-in_default-clause-sample_decides : goal.returns-in_default-clause-sample_decides
+returns-in_default-clause-sample_decides g c = λ _ _. none_planned
 
 pub returns-in_default-clause-check_decides : goal.returns-in_default-clause-check_decides
 returns-in_default-clause-check_decides g c = λ _ _. memory
@@ -65,6 +72,14 @@ pub returns-in-Ok-send-clause-plan_decides : goal.returns-in-Ok-send-clause-plan
 returns-in-Ok-send-clause-plan_decides g c = λ accepts calm.
     let h = c.in-Ok.ensures.answer in
     plan_decides _ accepts h.asked c.in-Ok.answer.status c.in-Ok.answer.text (λ fault. calm.files (c.in-Ok.ensures.faults.read_fault fault)) h.answers
+
+pub returns-in-Ok-send-clause-sample_promises : goal.returns-in-Ok-send-clause-sample_promises
+returns-in-Ok-send-clause-sample_promises g c = sample_promises _ _ _ _ (returns-in-Ok-send-clause-answers g c)
+
+pub returns-in-Ok-send-clause-sample_decides : goal.returns-in-Ok-send-clause-sample_decides
+returns-in-Ok-send-clause-sample_decides g c = λ accepts calm.
+    let h = c.in-Ok.ensures.answer in
+    sample_decides _ accepts h.asked c.in-Ok.answer.status c.in-Ok.answer.text h.answers
 
 pub returns-in-Ok-send-clause-check_decides : goal.returns-in-Ok-send-clause-check_decides
 returns-in-Ok-send-clause-check_decides g c = λ accepts calm.
@@ -114,6 +129,12 @@ returns-clause-plan_promises g c = plan_promises _ _ _ _ (returns-clause-answers
 
 pub returns-clause-plan_decides : goal.returns-clause-plan_decides
 returns-clause-plan_decides g c = λ accepts calm. absurd (calm.sink c.in-Err.ensures.failed)
+
+pub returns-clause-sample_promises : goal.returns-clause-sample_promises
+returns-clause-sample_promises g c = sample_promises _ _ _ _ (returns-clause-answers g c)
+
+pub returns-clause-sample_decides : goal.returns-clause-sample_decides
+returns-clause-sample_decides g c = λ accepts calm. absurd (calm c.in-Err.ensures.failed)
 
 pub returns-clause-check_decides : goal.returns-clause-check_decides
 returns-clause-check_decides g c = λ accepts calm. absurd (calm.sink c.in-Err.ensures.failed)

@@ -7,7 +7,7 @@ use Rattle.migrate_cli.specs.declared.reading.Stop.TheVariants.{Fault, Long, Tot
 use Rattle.migrate_cli.specs.declared.reading.TheConstants.{CONFIGS_MOST}
 
 -- texts that were read, and how many of their bytes count
-pub record Kept : Type 0 where
+pub record KeptTexts : Type 0 where
   pub all : List (List ℕ)
   pub counted : ℕ
 
@@ -57,7 +57,7 @@ pub record HasAsked {A : Type 0} (name : List ℕ) (before after : List (List �
   pub asks_for : AsksFor name asked answer
 
 -- one more text, within its limit, stands after those that were kept before, and the bytes that count are within theirs
-pub record IsNextText (content : Contents) (file : File) (before after : Kept) : Type 0 where
+pub record IsNextText (content : Contents) (file : File) (before after : KeptTexts) : Type 0 where
   pub text : List ℕ
   pub read : IsReadOf content file text
   pub short : IsShort file text
@@ -85,12 +85,12 @@ StopsAmong content files asked (Total number) = StopsIn content files asked (Tot
 StopsAmong content files asked OutOfMemory = MayRead content files asked
 
 -- all were read, and are within the limits; or the reading stopped
-abbrev pub Reads : Contents → List File → List (List ℕ) → Result Kept Stop → Type 0
+abbrev pub Reads : Contents → List File → List (List ℕ) → Result KeptTexts Stop → Type 0
 Reads content files asked (Ok kept) = (asked ≡ names_of files) × AreRead content files kept.all × AreWithin files kept.all
 Reads content files asked (Err stop) = StopsAmong content files asked stop
 
 -- some names were asked for, and so much was read of the files
-pub record HasRead (content : Contents) (files : List File) (asked_before asked_after : List (List ℕ)) (answer : Result Kept Stop) : Type 0 where
+pub record HasRead (content : Contents) (files : List File) (asked_before asked_after : List (List ℕ)) (answer : Result KeptTexts Stop) : Type 0 where
   pub asked : List (List ℕ)
   pub asked_is : asked_after ≡ asked_before ++ asked
   pub reads : Reads content files asked answer

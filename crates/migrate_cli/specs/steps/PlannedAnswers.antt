@@ -31,7 +31,7 @@ plan_text names (UnsoundNew fault) = unsound_text New names (fault_told fault)
 plan_text names (Searched found) = planned_text names found
 
 -- a plan has a text: it is of the routers of the network
-abbrev pub HasText : Network → Planned → Type 0
-HasText net (UnsoundOld fault) = EndFaultBelow (length net) fault
-HasText net (UnsoundNew fault) = EndFaultBelow (length net) fault
-HasText net (Searched found) = IsPrintable net found
+abbrev pub IsTellable : Network → Planned → Type 0
+IsTellable net (UnsoundOld fault) = EndFaultBelow (length net) fault
+IsTellable net (UnsoundNew fault) = EndFaultBelow (length net) fault
+IsTellable net (Searched found) = IsPrintable net found

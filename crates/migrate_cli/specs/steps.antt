@@ -1,0 +1,6 @@
+pub mod FilesRead
+pub mod Stops
+pub mod Unread
+pub mod PlannedAnswers
+pub mod SampleAnswers
+pub mod Faults
