@@ -14,6 +14,8 @@ pub fn made(alloc: Global, name: &str) -> Result<Option<Vec<u8>>> {
     let text = match name {
         "made/16-mib.cfg" => comment(alloc, "!", FILE_MOST)?,
         "made/16-mib-and-a-byte.cfg" => comment(alloc, "!", FILE_MOST + 1)?,
+        "made/alone-up-to-16-mib.cfg" => alone_and_comment(alloc, FILE_MOST)?,
+        "made/alone-up-to-16-mib-and-a-byte.cfg" => alone_and_comment(alloc, FILE_MOST + 1)?,
         "made/1-mib.toml" => comment(alloc, "#", DESIGN_MOST)?,
         "made/1-mib-and-a-byte.toml" => comment(alloc, "#", DESIGN_MOST + 1)?,
         "made/2000-loopbacks.cfg" => loopbacks(alloc, 2000)?,
@@ -37,6 +39,23 @@ pub fn made(alloc: Global, name: &str) -> Result<Option<Vec<u8>>> {
 fn comment(alloc: Global, mark: &str, length: usize) -> Result<String> {
     Ok(mark.repeat(alloc, length)?)
 }
+
+/// A router by itself, and behind its `end` one line of a comment, so many bytes together.
+fn alone_and_comment(alloc: Global, length: usize) -> Result<String> {
+    let mut text = String::from_str(alloc, ALONE)?;
+    let rest = comment(alloc, "!", length.saturating_sub(ALONE.len()))?;
+    text.push_str(rest.as_str())?;
+    Ok(text)
+}
+
+/// A router by itself.
+const ALONE: &str = "hostname R1
+interface Loopback0
+ ip address 10.0.0.1 255.255.255.255
+router ospf 1
+ network 0.0.0.0 255.255.255.255 area 0
+end
+";
 
 /// A router with so many up loopbacks and nothing else, at most 65,536.
 fn loopbacks(alloc: Global, count: u32) -> Result<String> {

@@ -2,9 +2,9 @@
 use Rattle.std.specs.Prelude.{◌≡◌, ◌≢◌, ℕ, ◌<◌, List, All, Contains}
 use Rattle.std.proofs.Common.{subst, sym}
 use Rattle.order_core.specs.Pairs.{Pair}
+use Rattle.order_core.specs.Turns.{RanksSomeOldFirst}
 use Rattle.order_core.specs.Rankings.{KeepsPairs}
 use Rattle.order_core.specs.declared.turn.Turn.{Turn}
-use Rattle.order_search.specs.Meanings.{RanksSomeOldFirst}
 use Rattle.order_search.specs.TwoTurns.{two_turns, RanksSomeOldFirst-two}
 
 -- each pair is of two numbers below n, the lower one first

@@ -2,35 +2,42 @@
 //! what no clause says. They stand in a crate of their own, since a crate with tests is proved twice.
 #![tactic(auto)]
 
+// Configurations and designs as texts.
 #[cfg(test)]
 mod applied;
-#[cfg(test)]
-mod classes;
 #[cfg(test)]
 mod configurations;
 #[cfg(test)]
 mod designs;
 #[cfg(test)]
-mod faults;
-#[cfg(test)]
-mod isis_tables;
-#[cfg(test)]
-mod mixtures;
-#[cfg(test)]
-mod networks;
-#[cfg(test)]
-mod orders;
-#[cfg(test)]
-mod ospf_tables;
-#[cfg(test)]
-mod plans;
-#[cfg(test)]
 mod prepared;
 #[cfg(test)]
 mod samples;
+
+// The network and its route tables.
+#[cfg(test)]
+mod isis_tables;
+#[cfg(test)]
+mod networks;
+#[cfg(test)]
+mod ospf_tables;
+#[cfg(test)]
+mod zones;
+
+// Mixed forwarding and its faults.
+#[cfg(test)]
+mod classes;
+#[cfg(test)]
+mod faults;
+#[cfg(test)]
+mod mixtures;
+
+// Orders, wave lists and plans.
+#[cfg(test)]
+mod orders;
+#[cfg(test)]
+mod plans;
 #[cfg(test)]
 mod trees;
 #[cfg(test)]
 mod waves;
-#[cfg(test)]
-mod zones;

@@ -3,7 +3,7 @@ use std::test::Fail;
 
 /// The configurations of the sample network of three routers, worked out by its rules: link 3 costs 1000 for OSPF, and link 1,
 /// since 3 / 2 is 1, has the metric 10000.
-pub(crate) const FIRST: &[u8] = b"hostname S01
+const FIRST: &[u8] = b"hostname S01
 interface Loopback0
  ip address 10.0.0.1 255.255.255.255
  ip router isis
@@ -27,7 +27,7 @@ router isis
 end
 ";
 
-pub(crate) const SECOND: &[u8] = b"hostname S02
+const SECOND: &[u8] = b"hostname S02
 interface Loopback0
  ip address 10.0.0.2 255.255.255.255
  ip router isis
@@ -51,7 +51,7 @@ router isis
 end
 ";
 
-pub(crate) const THIRD: &[u8] = b"hostname S03
+const THIRD: &[u8] = b"hostname S03
 interface Loopback0
  ip address 10.0.0.3 255.255.255.255
  ip router isis

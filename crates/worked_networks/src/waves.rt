@@ -12,107 +12,7 @@ use std::alloc::{AllocError, Global};
 use std::process::Abort;
 use std::test::Fail;
 use step_scripts::{OrderRefusal, read_waves};
-
-/// Four routers, each linked with two or three others, at costs that take OSPF the one way round and IS-IS the other.
-const SQUARE: &[u8] = b"hostname R1
-interface Loopback0
- ip address 10.0.0.1 255.255.255.255
- ip router isis
-interface GigabitEthernet0/0
- ip address 10.0.12.1 255.255.255.252
- ip ospf cost 1
- ip router isis
- isis metric 10
-interface GigabitEthernet0/1
- ip address 10.0.13.1 255.255.255.252
- ip ospf cost 10
- ip router isis
- isis metric 10
-interface GigabitEthernet0/2
- ip address 10.0.14.1 255.255.255.252
- ip ospf cost 1
- ip router isis
- isis metric 100
-router ospf 1
- network 10.0.0.0 0.0.255.255 area 0
-router isis
- net 49.0001.0000.0000.0001.00
- is-type level-2-only
- metric-style wide
- distance 255
-end
-hostname R2
-interface Loopback0
- ip address 10.0.0.2 255.255.255.255
- ip router isis
-interface GigabitEthernet0/0
- ip address 10.0.12.2 255.255.255.252
- ip ospf cost 1
- ip router isis
- isis metric 10
-interface GigabitEthernet0/1
- ip address 10.0.23.1 255.255.255.252
- ip ospf cost 1
- ip router isis
- isis metric 100
-interface GigabitEthernet0/2
- ip address 10.0.24.1 255.255.255.252
- ip ospf cost 10
- ip router isis
- isis metric 10
-router ospf 1
- network 10.0.0.0 0.0.255.255 area 0
-router isis
- net 49.0001.0000.0000.0002.00
- is-type level-2-only
- metric-style wide
- distance 255
-end
-hostname R3
-interface Loopback0
- ip address 10.0.0.3 255.255.255.255
- ip router isis
-interface GigabitEthernet0/0
- ip address 10.0.13.2 255.255.255.252
- ip ospf cost 10
- ip router isis
- isis metric 10
-interface GigabitEthernet0/1
- ip address 10.0.23.2 255.255.255.252
- ip ospf cost 1
- ip router isis
- isis metric 100
-router ospf 1
- network 10.0.0.0 0.0.255.255 area 0
-router isis
- net 49.0001.0000.0000.0003.00
- is-type level-2-only
- metric-style wide
- distance 255
-end
-hostname R4
-interface Loopback0
- ip address 10.0.0.4 255.255.255.255
- ip router isis
-interface GigabitEthernet0/0
- ip address 10.0.14.2 255.255.255.252
- ip ospf cost 1
- ip router isis
- isis metric 100
-interface GigabitEthernet0/1
- ip address 10.0.24.2 255.255.255.252
- ip ospf cost 10
- ip router isis
- isis metric 10
-router ospf 1
- network 10.0.0.0 0.0.255.255 area 0
-router isis
- net 49.0001.0000.0000.0004.00
- is-type level-2-only
- metric-style wide
- distance 255
-end
-";
+use test_networks::{SQUARE, linked_text};
 
 /// The wave list in which four routers have these ranks, as an order file; where it leaves a wave empty, those before it.
 fn order_file(alloc: Global, ranks: &[u32]) -> Result<String, AllocError> {
@@ -179,7 +79,8 @@ fn count_faults<O: RouteSource, N: RouteSource>(
 /// No wave list of these routers is seamless, whether it has one wave or four.
 #[test]
 fn a_network_without_a_seamless_wave_list(rt: HostRuntime) -> Result<(), Fail> {
-    let net = Net::build(rt.alloc(), read(&rt, rt.alloc(), SQUARE)?)?;
+    let text = linked_text(rt.alloc(), 4, &SQUARE)?;
+    let net = Net::build(rt.alloc(), read(&rt, rt.alloc(), text.as_bytes())?)?;
     let old = OspfRoutes::build(rt.alloc(), &net)?;
     let new = IsisRoutes::build(rt.alloc(), &net)?;
     let mixed = Mixed::build(rt.alloc(), &net, &old, &new)?;

@@ -1,4 +1,5 @@
-use Rattle.std.proofs.Common.{◌≡◌, ◌≢◌, ◌∙◌, ℕ, zero, suc, ◌<◌, List, [], ◌∷◌, ◌++◌, length, get_or, All, ap, sym, subst, arith}
+use Rattle.std.proofs.Common.{◌≡◌, ◌≢◌, ◌∙◌, ℕ, zero, suc, ◌<◌, List, [], ◌∷◌, ◌++◌, length, get_or, All, ap, sym, subst}
+use Rattle.std.proofs.Common.{arith}
 use Rattle.std.specs.List.{AllPairs}
 use Rattle.std.proofs.lemmas.List.Elements.{All-nil, All-push}
 use Rattle.std.proofs.lemmas.List.Quantifiers.{all_pairs_push}
@@ -19,7 +20,8 @@ after_one : (a b : Interface) → Apart a b → (k : ℕ) (d : Interface) → k 
 after_one a b apart zero d within = apart
 after_one a b apart (suc k) d within = absurd (omega arith)
 
-after_two : (a b c : Interface) → Apart a c → Apart b c → (k : ℕ) (d : Interface) → k < length (a ∷ b ∷ []) → Apart (get_or (a ∷ b ∷ []) k d) c
+after_two : (a b c : Interface) → Apart a c → Apart b c → (k : ℕ) (d : Interface) → k < length (a ∷ b ∷ []) →
+    Apart (get_or (a ∷ b ∷ []) k d) c
 after_two a b c one two zero d within = one
 after_two a b c one two (suc zero) d within = two
 after_two a b c one two (suc (suc k)) d within = absurd (omega arith)
@@ -35,9 +37,11 @@ three_kept a b c is_a is_b is_c =
     All-push IsInterface (a ∷ b ∷ []) c (All-push IsInterface (a ∷ []) b (All-push IsInterface [] a (All-nil IsInterface) is_a) is_b) is_c
 
 -- one interface after the other
-pushed : (none one two three given : List Interface) (a b c : Interface) → none ≡ [] → one ≡ none ++ a ∷ [] → two ≡ one ++ b ∷ [] → three ≡ two ++ c ∷ [] → given ≡ three → a ∷ b ∷ c ∷ [] ≡ given
+pushed : (none one two three given : List Interface) (a b c : Interface) → none ≡ [] → one ≡ none ++ a ∷ [] → two ≡ one ++ b ∷ [] →
+    three ≡ two ++ c ∷ [] → given ≡ three → a ∷ b ∷ c ∷ [] ≡ given
 pushed none one two three given a b c e f g h k =
-    sym (k ∙ h ∙ ap (λ (l : List Interface). l ++ c ∷ []) (g ∙ ap (λ (l : List Interface). l ++ b ∷ []) (f ∙ ap (λ (l : List Interface). l ++ a ∷ []) e)))
+    sym (k ∙ h ∙ ap (λ (l : List Interface). l ++ c ∷ []) (g ∙ ap (λ (l : List Interface). l ++ b ∷ []) (f
+    ∙ ap (λ (l : List Interface). l ++ a ∷ []) e)))
 
 pub returns-clause-kept : goal.returns-clause-kept
 returns-clause-kept c =
@@ -45,7 +49,8 @@ returns-clause-kept c =
     let y : Interface = c.args.one in
     let z : Interface = c.args.two in
     subst (λ (l : List Interface). All IsInterface l)
-    (pushed c.new-all.result.items c.push.new.self.items c.push-2.new.self.items c.push-3.new.self.items c.from_vec.result x y z c.new-all.ensures.items c.in_ok-push.ensures.items c.in_ok-push-2.ensures.items c.in_ok-push-3.ensures.items c.from_vec.ensures)
+    (pushed c.new-all.result.items c.push.new.self.items c.push-2.new.self.items c.push-3.new.self.items c.from_vec.result x y z c.new-all.ensures.items
+    c.in_ok-push.ensures.items c.in_ok-push-2.ensures.items c.in_ok-push-3.ensures.items c.from_vec.ensures)
     (three_kept x y z c.requires.kept.0 c.requires.kept.1 c.requires.kept.2)
 
 pub returns-clause-apart : goal.returns-clause-apart
@@ -54,7 +59,8 @@ returns-clause-apart c =
     let y : Interface = c.args.one in
     let z : Interface = c.args.two in
     subst (λ (l : List Interface). AllPairs Apart l)
-    (pushed c.new-all.result.items c.push.new.self.items c.push-2.new.self.items c.push-3.new.self.items c.from_vec.result x y z c.new-all.ensures.items c.in_ok-push.ensures.items c.in_ok-push-2.ensures.items c.in_ok-push-3.ensures.items c.from_vec.ensures)
+    (pushed c.new-all.result.items c.push.new.self.items c.push-2.new.self.items c.push-3.new.self.items c.from_vec.result x y z c.new-all.ensures.items
+    c.in_ok-push.ensures.items c.in_ok-push-2.ensures.items c.in_ok-push-3.ensures.items c.from_vec.ensures)
     (three_apart x y z
     (names_differ x y 0 1 c.requires.zero c.requires.one (λ e. absurd (omega arith)))
     (names_differ x z 0 2 c.requires.zero c.requires.two (λ e. absurd (omega arith)))

@@ -18,7 +18,10 @@ after_two a b c one two (suc (suc k)) d within = absurd (omega arith)
 order_of_three : (a b c : ℕ) → a < 3 → b < 3 → c < 3 → a ≢ b → a ≢ c → b ≢ c → IsOrder 3 (a ∷ b ∷ c ∷ [])
 order_of_three a b c is_a is_b is_c ab ac bc = record {
   once = once;
-  all = λ u. (λ among. All-contains (λ v. v < 3) (a ∷ b ∷ c ∷ []) u below among, λ lt. Contains-from_distinct (a ∷ b ∷ c ∷ []) 3 once below refl u lt);
+  all = λ u. (
+    λ among. All-contains (λ v. v < 3) (a ∷ b ∷ c ∷ []) u below among,
+    λ lt. Contains-from_distinct (a ∷ b ∷ c ∷ []) 3 once below refl u lt,
+  );
 }
   where
     once : AllPairs (λ u v. u ≢ v) (a ∷ b ∷ c ∷ [])
@@ -27,7 +30,9 @@ order_of_three a b c is_a is_b is_c ab ac bc = record {
         (after_two a b c ac bc)
 
     below : All (λ v. v < 3) (a ∷ b ∷ c ∷ [])
-    below = All-cons (λ v. v < 3) a (b ∷ c ∷ []) is_a (All-cons (λ v. v < 3) b (c ∷ []) is_b (All-cons (λ v. v < 3) c [] is_c (All-nil (λ v. v < 3))))
+    below =
+        All-cons (λ v. v < 3) a (b ∷ c ∷ []) is_a (All-cons (λ v. v < 3) b (c ∷ []) is_b (All-cons (λ v. v < 3) c [] is_c (All-nil (λ v. v < 3))))
 
 pub returns : goal.returns
-returns c = order_of_three c.args.a c.args.b c.args.c c.requires.below.0 c.requires.below.1 c.requires.below.2 c.requires.apart.0 c.requires.apart.1 c.requires.apart.2
+returns c = order_of_three c.args.a c.args.b c.args.c c.requires.below.0 c.requires.below.1 c.requires.below.2 c.requires.apart.0
+    c.requires.apart.1 c.requires.apart.2

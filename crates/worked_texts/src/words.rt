@@ -1,0 +1,122 @@
+use migrate_words::{Command, FileNames, WordsRefused, read_command};
+use std::alloc::Global;
+use std::test::Fail;
+
+/// The words of a call, which stand in a line with one blank between them.
+fn words_of(alloc: Global, line: &str) -> Result<Vec<String>, Fail> {
+    let mut all = Vec::new(alloc);
+    for word in line.split(' ') {
+        all.push(String::from_str(alloc, word)?)?;
+    }
+    Ok(all)
+}
+
+/// A line with each name of a list after it.
+fn with_names(line: &mut String, names: &FileNames<'_>) -> Result<(), Fail> {
+    for name in names.as_slice() {
+        line.push(' ')?;
+        line.push_str(name)?;
+    }
+    Ok(())
+}
+
+/// A command, told in one line: its name, its number, its files.
+fn told(alloc: Global, command: &Command<'_>) -> Result<String, Fail> {
+    let (mut line, configs) = match command {
+        Command::Check { order, configs } => (format!(in alloc; "check {order}:")?, configs),
+        Command::Prepare { design, configs } => (format!(in alloc; "prepare {design}:")?, configs),
+        Command::Plan { budget, configs } => (format!(in alloc; "plan {budget}:")?, configs),
+        Command::Refute { tree, configs } => (format!(in alloc; "refute {tree}:")?, configs),
+        Command::Scripts { order, configs } => (format!(in alloc; "scripts {order}:")?, configs),
+        Command::Replay {
+            order,
+            journal,
+            configs,
+        } => (format!(in alloc; "replay {order} {journal}:")?, configs),
+        Command::Sample { routers } => return Ok(format!(in alloc; "sample {routers}")?),
+    };
+    with_names(&mut line, configs)?;
+    Ok(line)
+}
+
+/// What is made of the words of a call, in one line.
+fn answer(alloc: Global, words: &[String]) -> Result<String, Fail> {
+    match read_command(alloc, words) {
+        Ok(command) => told(alloc, &command),
+        Err(WordsRefused::Words(_)) => Ok(String::from_str(alloc, "refused")?),
+        Err(WordsRefused::Number) => Ok(String::from_str(alloc, "off its range")?),
+        Err(WordsRefused::OutOfMemory) => Err(Fail::from("out of memory")),
+    }
+}
+
+/// Words, and what is made of them. Two blanks have an empty word between them.
+static CASES: [(&str, &str); 35] = [
+    ("check o.txt a.cfg", "check o.txt: a.cfg"),
+    ("check o.txt a.cfg b.cfg", "check o.txt: a.cfg b.cfg"),
+    ("prepare d.toml a.cfg", "prepare d.toml: a.cfg"),
+    ("plan a.cfg b.cfg", "plan 10000: a.cfg b.cfg"),
+    ("plan --budget 7 a.cfg", "plan 7: a.cfg"),
+    ("plan --budget 007 a.cfg", "plan 7: a.cfg"),
+    ("plan --budget 1 a.cfg", "plan 1: a.cfg"),
+    ("plan --budget 100000 a.cfg", "plan 100000: a.cfg"),
+    ("plan a.cfg --budget=5 b.cfg", "plan 5: a.cfg b.cfg"),
+    ("refute t.txt a.cfg", "refute t.txt: a.cfg"),
+    ("scripts o.txt a.cfg", "scripts o.txt: a.cfg"),
+    (
+        "replay o.txt j.txt a.cfg b.cfg",
+        "replay o.txt j.txt: a.cfg b.cfg",
+    ),
+    ("sample 3", "sample 3"),
+    ("sample 60", "sample 60"),
+    ("check -- o.txt a.cfg", "check o.txt: a.cfg"),
+    ("check o.txt -- --help", "check o.txt: --help"),
+    ("check help check", "check help: check"),
+    ("check - a.cfg", "check -: a.cfg"),
+    ("check  a.cfg", "check : a.cfg"),
+    ("plan --budget 0 a.cfg", "off its range"),
+    ("plan --budget 100001 a.cfg", "off its range"),
+    ("plan --budget  a.cfg", "off its range"),
+    ("sample 2", "off its range"),
+    ("sample 61", "off its range"),
+    ("sample x", "off its range"),
+    ("", "refused"),
+    ("explain o.txt a.cfg", "refused"),
+    ("check o.txt", "refused"),
+    ("check --help", "refused"),
+    ("help", "refused"),
+    ("plan", "refused"),
+    ("plan --budget a.cfg", "refused"),
+    ("plan --budget 5 --budget 5 a.cfg", "refused"),
+    ("sample", "refused"),
+    ("sample 3 4", "refused"),
+];
+
+#[test]
+fn words_are_read(rt: HostRuntime) -> Result<(), Fail> {
+    let nothing = answer(rt.alloc(), &[])?;
+    assert!(rt; nothing.as_str() == "refused");
+    for (line, expected) in &CASES {
+        let words = words_of(rt.alloc(), line)?;
+        let read = answer(rt.alloc(), words.as_slice())?;
+        assert!(rt; read.as_str() == *expected);
+    }
+    Ok(())
+}
+
+static NAMES: [&str; 7] = [
+    "check", "prepare", "plan", "refute", "scripts", "replay", "sample",
+];
+
+#[test]
+fn help_tells_the_commands(rt: HostRuntime) -> Result<(), Fail> {
+    let words = words_of(rt.alloc(), "--help")?;
+    let text = match read_command(rt.alloc(), words.as_slice()) {
+        Err(WordsRefused::Words(text)) => text,
+        Err(WordsRefused::OutOfMemory) => return Err(Fail::from("out of memory")),
+        _ => return Err(Fail::from("no help")),
+    };
+    for name in &NAMES {
+        assert!(rt; text.as_str().contains(name));
+    }
+    Ok(())
+}
