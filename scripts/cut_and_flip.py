@@ -45,6 +45,7 @@ SCRIPT = (
 SUMMARY = (
     rb"sample \d+\nprefixes \d+\nbranches \d+\nwaves \d+\nfirst " + NAME + rb"\nlast " + NAME + rb"\n"
 )
+END = rb"end[ \t]*\r?\n"
 NETWORK = (
     rb"refused network (?:TwoNames " + NAME
     + rb"|(?:BorderWithoutBackbone|NotAtStart) " + NAME
@@ -66,7 +67,7 @@ TEXTS = {
         6: LIMIT,
     },
     "prepare": {
-        0: rb"(?s:.*\n)",
+        0: rb"(?:(?s:.*)\n)?" + END,
         5: LINE_REFUSED + rb"|refused FILE [^\n]+ " + KIND + rb"\n",
         6: LIMIT,
     },

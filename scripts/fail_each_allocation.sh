@@ -1,12 +1,12 @@
 #!/bin/sh
 # Refuses each growth of memory in turn: scripts/fail_each_allocation.sh PROGRAM [WORD...]
 #
-# PROGRAM is a built one, as crates/migrate/out/migrate. The call of these words, or without words one call of each
-# command on the examples, is made once with ample memory, where its growths (calls of malloc and realloc) are counted,
+# PROGRAM is a built one, as crates/migrate/out/migrate. The call of these words, or without words some calls of
+# each command on the examples, is made once with ample memory, where its growths (calls of malloc and realloc) are counted,
 # and then once for each of them, which is refused. Each of these runs has to end by itself with status 9 and nothing
 # written; or exactly as with ample memory, since a list that is collected asks for the room of its guessed length
-# first, and goes on without it. Where a run ends otherwise, it is told, and the script ends with 1. A command that
-# isn't there yet is passed over. It needs a C compiler, `cc`, and isn't part of the gate.
+# first, and goes on without it. Where a run ends otherwise, it is told, and the script ends with 1. It needs a C
+# compiler, `cc`, and isn't part of the gate.
 #
 # The tests of a crate, which `rt test` leaves as out/NAME_tests, are such a program too, a test's name the word:
 # scripts/fail_each_allocation.sh --tests PROGRAM does so for each of them, and counts how they ended.
@@ -77,7 +77,7 @@ end_of_test() {
     status=$?
     if [ "$status" -eq "$ample_status" ]; then
         echo "as with ample memory"
-    elif [ "$status" -lt 124 ] && grep -qiE 'out of memory|AllocError|OutOfMemory' "$work/out" "$work/err"; then
+    elif [ "$status" -lt 124 ] && grep -qiE 'out of memory|AllocError|AllocFailed|OutOfMemory' "$work/out" "$work/err"; then
         echo "want of memory"
     else
         echo "status $status"
@@ -92,10 +92,6 @@ refuse_each() {
     ample_status=$?
     cp "$work/out" "$work/ample"
     growths=$(cat "$work/growths")
-    if [ "$end_of" = end_of_program ] && [ "$ample_status" -eq 2 ]; then
-        echo "$2: isn't there yet, or its words are refused"
-        return 0
-    fi
     : >"$work/ends"
     number=1
     while [ "$number" -le "$growths" ]; do
@@ -113,14 +109,19 @@ refuse_each_command() {
     cd "$here/examples" || exit 2
     triangle="triangle/r1.cfg triangle/r2.cfg triangle/r3.cfg"
     square="square/r1.cfg square/r2.cfg square/r3.cfg square/r4.cfg"
+    border="border/r1.cfg border/r2.cfg border/r3.cfg border/r4.cfg"
+    levels="levels/r1.cfg levels/r2.cfg levels/r3.cfg levels/r4.cfg"
     design=
     [ ! -f design/design.toml ] || design="design/design.toml design/r1.cfg design/r2.cfg design/r3.cfg"
     wrong=0
     # The words have no blanks, so they may be split.
     # shellcheck disable=SC2086
-    for call in "check triangle/safe.txt $triangle" "check triangle/waves.txt $triangle" "refute square/tree.txt $square" \
-        "scripts triangle/waves.txt $triangle" "replay triangle/waves.txt triangle/journal.txt $triangle" \
-        "prepare $design" "plan $triangle" "plan $square" "sample 3"; do
+    for call in "check triangle/safe.txt $triangle" "check triangle/waves.txt $triangle" "check triangle/unsafe.txt $triangle" \
+        "check border/safe.txt $border" "check triangle/safe.txt square/r1.cfg square/r1.cfg" "check missing.txt $triangle" \
+        "refute square/tree.txt $square" "refute square/order.txt $square" "scripts triangle/waves.txt $triangle" \
+        "replay triangle/waves.txt triangle/journal.txt $triangle" "replay triangle/waves.txt triangle/safe.txt $triangle" \
+        "prepare $design" "prepare design/safe.txt design/r1.cfg" "plan $triangle" "plan $levels" "plan $square" \
+        "plan --budget 1 $square" "plan triangle/r1.cfg" "sample 3" "check" "explain a.cfg" "plan --budget 0 a.cfg" "--help"; do
         refuse_each end_of_program "$1" $call || wrong=1
     done
     return $wrong
