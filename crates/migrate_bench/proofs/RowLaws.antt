@@ -2,7 +2,7 @@
 use Rattle.std.proofs.Common.{◌≡◌, ℕ, ◌+◌, ◌<◌, List, [], ◌∷◌, ◌++◌, length, get_or, sym, subst, arith}
 use Rattle.std.proofs.lemmas.List.{get_or_append_left, get_or_push}
 use Rattle.std.proofs.lemmas.List.Elements.{All-push, All-get_or, All-from_get_or}
-use Rattle.migrate_bench.specs.Rows.{IsRow}
+use Rattle.migrate_bench.specs.Rows.{ListsRouters}
 use borrow.Author.Count.{below_more}
 
 -- a row within the routers stays within them with one more
@@ -16,14 +16,14 @@ within_grows row i count below within k short =
 
 -- what holds of each row so far, and of one more
 pub rows_more : (count : ℕ) (rows : List (List ℕ)) (row : List ℕ) (v : ℕ) →
-    length rows ≡ v → ((w : ℕ) → w < v → IsRow count (get_or rows w [])) → IsRow count row →
-    (w : ℕ) → w < v + 1 → IsRow count (get_or (rows ++ row ∷ []) w [])
+    length rows ≡ v → ((w : ℕ) → w < v → ListsRouters count (get_or rows w [])) → ListsRouters count row →
+    (w : ℕ) → w < v + 1 → ListsRouters count (get_or (rows ++ row ∷ []) w [])
 rows_more count rows row v long before last =
-    below_more (λ w. IsRow count (get_or (rows ++ row ∷ []) w [])) v
+    below_more (λ w. ListsRouters count (get_or (rows ++ row ∷ []) w [])) v
     (λ w below.
     let near : w < length rows = omega arith in
     let kept : get_or (rows ++ row ∷ []) w [] ≡ get_or rows w [] =
     get_or_append_left rows (row ∷ []) [] w near
     in
-    subst (IsRow count) (sym kept) (before w below))
-    (let new : get_or (rows ++ row ∷ []) v [] ≡ row = get_or_push rows row [] v long in subst (IsRow count) (sym new) last)
+    subst (ListsRouters count) (sym kept) (before w below))
+    (let new : get_or (rows ++ row ∷ []) v [] ≡ row = get_or_push rows row [] v long in subst (ListsRouters count) (sym new) last)

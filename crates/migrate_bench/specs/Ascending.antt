@@ -1,9 +1,9 @@
 -- The oracle that is searched over: only the ranking is good in which each number has itself as its rank.
 use Rattle.std.specs.Prelude.{◌≡◌, ℕ, ◌<◌, ◌≤◌, List}
 use Rattle.std.proofs.Common.{subst, sym}
+use Rattle.order_core.specs.Turns.{RanksSomeOldFirst}
 use Rattle.order_core.specs.Rankings.{rank_of}
 use Rattle.order_core.specs.declared.turn.Turn.{Turn}
-use Rattle.order_search.specs.Meanings.{RanksSomeOldFirst}
 use Rattle.order_search.specs.TwoTurns.{two_turns, RanksSomeOldFirst-two}
 
 -- of two numbers below n the lower has the lower rank
@@ -11,7 +11,7 @@ abbrev pub IsAscending : ℕ → List ℕ → Type 0
 IsAscending n ranks = (a b : ℕ) → a < b → b < n → rank_of ranks a < rank_of ranks b
 
 -- the turns are those of two numbers below n, the lower one Old and the higher one New
-pub record AreRising (n : ℕ) (turns : List Turn) : Type 0 where
+pub record AreRisingTurns (n : ℕ) (turns : List Turn) : Type 0 where
   pub lower : ℕ
   pub higher : ℕ
   pub rise : lower < higher
@@ -19,7 +19,8 @@ pub record AreRising (n : ℕ) (turns : List Turn) : Type 0 where
   pub are : turns ≡ two_turns lower higher
 
 -- an ascending ranking ranks the lower of them first
-pub RanksSomeOldFirst-ascending : (n : ℕ) (turns : List Turn) (ranks : List ℕ) → AreRising n turns → IsAscending n ranks → RanksSomeOldFirst ranks turns
+pub RanksSomeOldFirst-ascending : (n : ℕ) (turns : List Turn) (ranks : List ℕ) → AreRisingTurns n turns → IsAscending n ranks →
+    RanksSomeOldFirst ranks turns
 RanksSomeOldFirst-ascending n turns ranks rising ascending =
     subst (λ (ts : List Turn). RanksSomeOldFirst ranks ts) (sym rising.are)
     (RanksSomeOldFirst-two ranks rising.lower rising.higher (ascending rising.lower rising.higher rising.rise rising.within))

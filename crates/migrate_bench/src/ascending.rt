@@ -29,11 +29,11 @@ impl Ascending {
 impl Oracle for Ascending {
     ghost use Rattle.std.specs.Prelude.{[]};
     ghost use Rattle.order_search.specs.Meanings.{KeepsPairs-nil};
-    ghost use Rattle.migrate_bench.specs.Ascending.{IsAscending, AreRising, RanksSomeOldFirst-ascending};
+    ghost use Rattle.migrate_bench.specs.Ascending.{IsAscending, AreRisingTurns, RanksSomeOldFirst-ascending};
 
     ghost good = { λ o ranks. IsAscending o.size ranks };
 
-    ghost real = { λ o address turns. AreRising o.size turns };
+    ghost real = { λ o address turns. AreRisingTurns o.size turns };
 
     ghost picked = { λ o ranks address turns. Unit {0} };
 

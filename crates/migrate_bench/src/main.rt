@@ -19,24 +19,29 @@
 //! - `migrate_bench plan FILE...`: mixed forwarding over the network of these files, and its plan.
 #![tactic(auto)]
 
-mod areas;
-mod ascending;
-mod configurations;
-mod entries;
-mod exchanges;
+// The tasks.
 mod faults;
-mod mesh;
 mod plans;
 mod preparations;
 mod reading;
 mod refutations;
 mod searches;
-mod seconds;
-mod shape;
 mod tables;
+mod walks;
+
+// What is measured: the arguments, files, made networks and oracles.
+mod areas;
+mod ascending;
+mod configurations;
+mod entries;
+mod exchanges;
+mod mesh;
+mod shape;
 mod task;
 mod texts;
-mod walks;
+
+// Seconds.
+mod seconds;
 
 use anyhow::Result;
 use faults::Asked;

@@ -2,7 +2,7 @@ ghost use Rattle.std.specs.Prelude.{◌≡◌, ◌<◌, ◌≤◌, ℕ, [], Cont
 ghost use Rattle.std.proofs.Common.{subst, arith, sym};
 ghost use Rattle.std.proofs.lemmas.List.Elements.{Contains-get_or};
 ghost use Rattle.std.proofs.lemmas.List.{get_or_default};
-ghost use Rattle.migrate_bench.specs.Rows.{IsRow};
+ghost use Rattle.migrate_bench.specs.Rows.{ListsRouters};
 
 use crate::shape::Shape;
 use std::alloc::{AllocError, Global};
@@ -11,11 +11,11 @@ use walk_core::CostGraph;
 
 /// The neighbours of a router.
 #[derive(Drop)]
-struct Neighbours {
+struct Neighbors {
     all: Vec<u32>,
 }
 
-impl Model for Neighbours {
+impl Model for Neighbors {
     ghost use Rattle.std.specs.Prelude.{List, ℕ};
 
     ghost Value = { List ℕ };
@@ -27,9 +27,9 @@ impl Model for Neighbours {
 #[derive(Drop)]
 pub struct Mesh {
     count: u32,
-    rows: Vec<Neighbours>,
+    rows: Vec<Neighbors>,
     ghost whole: { vec_len rows ≡ count },
-    ghost row: { (u : ℕ) → u < count → IsRow count (slice_index_or rows.items u []) },
+    ghost row: { (u : ℕ) → u < count → ListsRouters count (slice_index_or rows.items u []) },
 }
 
 impl Mesh {
@@ -37,19 +37,19 @@ impl Mesh {
     pub fn new(alloc: Global, shape: Shape, count: u32) -> Result<Mesh, AllocError> {
         let mut rows = Vec::new(alloc);
         for u in 0..count {
-            rows.push(Neighbours::beside(alloc, shape, count, u)?)?;
+            rows.push(Neighbors::beside(alloc, shape, count, u)?)?;
         }
         Ok(Mesh { count, rows })
     }
 }
 
-impl Neighbours {
+impl Neighbors {
     ghost use Rattle.std.specs.Prelude.{IfOk};
-    ghost use Rattle.migrate_bench.specs.Rows.{IsRow};
+    ghost use Rattle.migrate_bench.specs.Rows.{ListsRouters};
 
     /// The routers that a link joins to u.
-    fn beside(alloc: Global, shape: Shape, count: u32, u: u32) -> Result<Neighbours, AllocError>
-        ensures { IfOk result (λ row. IsRow count row) }
+    fn beside(alloc: Global, shape: Shape, count: u32, u: u32) -> Result<Neighbors, AllocError>
+        ensures { IfOk result (λ row. ListsRouters count row) }
     {
         let mut all = Vec::new(alloc);
         for v in 0..count {
@@ -57,7 +57,7 @@ impl Neighbours {
                 all.push(v)?;
             }
         }
-        Ok(Neighbours { all })
+        Ok(Neighbors { all })
     }
 }
 

@@ -1,7 +1,7 @@
 use Rattle.std.proofs.Common.{◌≡◌, ◌+◌, [], ◌∷◌, ◌++◌, ℕ, ap, ◌∙◌, arith, Vec, Global, vec_len}
 use Rattle.migrate_bench.proofs.RowLaws.{within_grows}
-use Rattle.migrate_bench.proofs.mesh.Neighbours.beside.Goals as goal
-use Rattle.migrate_bench.proofs.mesh.Neighbours.beside.Goals.{then-joins+in_ok-push, else-joins}
+use Rattle.migrate_bench.proofs.mesh.Neighbors.beside.Goals as goal
+use Rattle.migrate_bench.proofs.mesh.Neighbors.beside.Goals.{then-joins+in_ok-push, else-joins}
 
 pub loop-v-preserved : goal.loop-v-preserved
 loop-v-preserved c =

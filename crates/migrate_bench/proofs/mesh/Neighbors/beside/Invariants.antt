@@ -1,5 +1,5 @@
 use Rattle.std.proofs.Common.{◌<◌, ◌≤◌, ℕ, vec_len, length, get_or}
-use Rattle.migrate_bench.proofs.mesh.Neighbours.beside.Given as goal
+use Rattle.migrate_bench.proofs.mesh.Neighbors.beside.Given as goal
 
 abbrev pub invariant-loop-v : goal.invariant-loop-v
 invariant-loop-v l = record {
