@@ -1,6 +1,6 @@
 -- What a router in Middle does, and what a mixture of phases does.
-use Rattle.std.proofs.Common.{◌≡◌, ℕ, ◌≤◌, ◌⊎◌, inl, inr, arith}
-use Rattle.std.proofs.lemmas.Bool.{cases_lt}
+use Rattle.std.proofs.Common.{◌≡◌, ℕ, ◌≤◌, ◌⊎◌, inl, inr, ⊎_elim, arith, sym, ◌∙◌}
+use Rattle.std.proofs.lemmas.Bool.{cases_lt, cases_order}
 use Rattle.net_addr.specs.Addresses.{Block, ContainsAddress}
 use Rattle.net_model.specs.Network.{Network}
 use Rattle.igp_theory.specs.Forwarding.{Usable, Counts, connected_counts, old_counts, new_counts, Uses, HasStep}
@@ -29,82 +29,74 @@ middle_counts (connected_counts h) = inl (connected_counts h)
 middle_counts (old_counts _ c has is set entry) = inl (old_counts tt c has is set entry)
 middle_counts (new_counts _ entry) = inr (new_counts tt entry)
 
+-- Old and New are the halves of Middle: what counts in either counts in Middle, and what counts in Middle in one of them
+pub record AreHalves (counts : Phase → Block → ℕ → Usable → Type 0) (half other : Phase) : Type 0 where
+  pub inside : (p : Block) (d : ℕ) (x : Usable) → counts half p d x → counts Middle p d x
+  pub outside : (p : Block) (d : ℕ) (x : Usable) → counts other p d x → counts Middle p d x
+  pub split : (p : Block) (d : ℕ) (x : Usable) → counts Middle p d x → counts half p d x ⊎ counts other p d x
+
+pub old_half : {net : Network} {old new : Tables} {u : ℕ} → AreHalves (Counts net old new u) Old New
+old_half = record { inside = λ p d x h. old_in_middle h; outside = λ p d x h. new_in_middle h; split = λ p d x h. middle_counts h }
+
+pub new_half : {net : Network} {old new : Tables} {u : ℕ} → AreHalves (Counts net old new u) New Old
+new_half = record { inside = λ p d x h. new_in_middle h; outside = λ p d x h. old_in_middle h; split = λ p d x h. ⊎_elim inr inl (middle_counts h) }
+
+module _ {net : Network} {old new : Tables} {u : ℕ} {half other : Phase} (halves : AreHalves (Counts net old new u) half other) where
+  -- what is used in Middle and counts in a half is used in that half
+  pub half_of_middle : {a : ℕ} {x : Usable} (uses : Uses net old new u Middle a x) → Counts net old new u half uses.prefix uses.distance x →
+      Uses net old new u half a x
+  half_of_middle uses counts = record {
+    prefix = uses.prefix;
+    distance = uses.distance;
+    counts = counts;
+    contains = uses.contains;
+    longest = λ q d y h. uses.longest q d y (halves.inside q d y h);
+    lowest = λ q d y h. uses.lowest q d y (halves.inside q d y h);
+  }
+
+  -- what is used in a half is used in Middle, where each entry that counts in the other is shorter, or as long and no closer
+  pub half_wins : {a : ℕ} {x : Usable} (best : Uses net old new u half a x) →
+      ((q : Block) (d : ℕ) (y : Usable) → Counts net old new u other q d y → ContainsAddress q a → q.len ≤ best.prefix.len) →
+      ((q : Block) (d : ℕ) (y : Usable) → Counts net old new u other q d y → ContainsAddress q a → q.len ≡ best.prefix.len → best.distance ≤ d) →
+      Uses net old new u Middle a x
+  half_wins best shorter farther = record {
+    prefix = best.prefix;
+    distance = best.distance;
+    counts = halves.inside best.prefix best.distance _ best.counts;
+    contains = best.contains;
+    longest = λ q d y h inside. ⊎_elim (λ k. best.longest q d y k inside) (λ k. shorter q d y k inside) (halves.split q d y h);
+    lowest = λ q d y h inside same. ⊎_elim (λ k. best.lowest q d y k inside same) (λ k. farther q d y k inside same) (halves.split q d y h);
+  }
+
+  -- so is it where what is used in the other half is shorter, or as long and no closer
+  pub better_wins : {a : ℕ} {x y : Usable} (best : Uses net old new u half a x) (less : Uses net old new u other a y) →
+      less.prefix.len ≤ best.prefix.len → (less.prefix.len ≡ best.prefix.len → best.distance ≤ less.distance) → Uses net old new u Middle a x
+  better_wins best less shorter farther = half_wins best
+      (λ q d y h inside. omega (arith, shorter, less.longest q d y h inside))
+      (λ q d y h inside same.
+      let len : less.prefix.len ≡ best.prefix.len = omega (arith, shorter, same, less.longest q d y h inside) in
+      omega (arith, farther len, less.lowest q d y h inside (same ∙ sym len)))
+
 -- a router in Middle uses for each address what it uses in Old or what it uses in New
 pub middle_is_old_or_new : {net : Network} {old new : Tables} {u a : ℕ} {x : Usable} →
     Uses net old new u Middle a x → Uses net old new u Old a x ⊎ Uses net old new u New a x
-middle_is_old_or_new {net} {old} {new} {u} {a} {x} uses =
-    elim (middle_counts uses.counts) [
-      | inl counts ↦ inl (record {
-        prefix = uses.prefix;
-        distance = uses.distance;
-        counts = counts;
-        contains = uses.contains;
-        longest = λ q d other h. uses.longest q d other (old_in_middle h);
-        lowest = λ q d other h. uses.lowest q d other (old_in_middle h);
-      })
-      | inr counts ↦ inr (record {
-        prefix = uses.prefix;
-        distance = uses.distance;
-        counts = counts;
-        contains = uses.contains;
-        longest = λ q d other h. uses.longest q d other (new_in_middle h);
-        lowest = λ q d other h. uses.lowest q d other (new_in_middle h);
-      })
-    ]
-
--- what is used in Old is used in Middle, where each entry that counts in New is shorter, or as long
--- and no closer
-pub old_wins : {net : Network} {old new : Tables} {u a : ℕ} {x : Usable} (one : Uses net old new u Old a x) →
-    ((q : Block) (d : ℕ) (other : Usable) → Counts net old new u New q d other → ContainsAddress q a → q.len ≤ one.prefix.len) →
-    ((q : Block) (d : ℕ) (other : Usable) → Counts net old new u New q d other → ContainsAddress q a → q.len ≡ one.prefix.len →
-    one.distance ≤ d) →
-    Uses net old new u Middle a x
-old_wins {net} {old} {new} {u} {a} one shorter farther = record {
-  prefix = one.prefix;
-  distance = one.distance;
-  counts = old_in_middle one.counts;
-  contains = one.contains;
-  longest = λ q d other h inside. elim (middle_counts h) [ inl k ↦ one.longest q d other k inside | inr k ↦ shorter q d other k inside ];
-  lowest = λ q d other h inside same. elim (middle_counts h) [ inl k ↦ one.lowest q d other k inside same | inr k ↦ farther q d other k inside same ];
-}
-
-pub new_wins : {net : Network} {old new : Tables} {u a : ℕ} {x : Usable} (one : Uses net old new u New a x) →
-    ((q : Block) (d : ℕ) (other : Usable) → Counts net old new u Old q d other → ContainsAddress q a → q.len ≤ one.prefix.len) →
-    ((q : Block) (d : ℕ) (other : Usable) → Counts net old new u Old q d other → ContainsAddress q a → q.len ≡ one.prefix.len →
-    one.distance ≤ d) →
-    Uses net old new u Middle a x
-new_wins {net} {old} {new} {u} {a} one shorter farther = record {
-  prefix = one.prefix;
-  distance = one.distance;
-  counts = new_in_middle one.counts;
-  contains = one.contains;
-  longest = λ q d other h inside. elim (middle_counts h) [ inl k ↦ shorter q d other k inside | inr k ↦ one.longest q d other k inside ];
-  lowest = λ q d other h inside same. elim (middle_counts h) [ inl k ↦ farther q d other k inside same | inr k ↦ one.lowest q d other k inside same ];
-}
+middle_is_old_or_new uses = elim (middle_counts uses.counts) [
+  | inl counts ↦ inl (half_of_middle old_half uses counts)
+  | inr counts ↦ inr (half_of_middle new_half uses counts)
+]
 
 -- where Old and New both use something, Middle uses one of the two
 pub middle_uses_one : {net : Network} {old new : Tables} {u a : ℕ} {x y : Usable} →
     Uses net old new u Old a x → Uses net old new u New a y →
     Uses net old new u Middle a x ⊎ Uses net old new u Middle a y
-middle_uses_one one two =
-    elim (cases_lt one.prefix.len two.prefix.len) [
-      | inl below ↦ inr (new_wins two
-          (λ q d other h inside. let k : q.len ≤ one.prefix.len = one.longest q d other h inside in omega arith)
-          (λ q d other h inside same. let k : q.len ≤ one.prefix.len = one.longest q d other h inside in absurd (omega arith)))
-      | inr above ↦ elim (cases_lt two.prefix.len one.prefix.len) [
-        | inl below ↦ inl (old_wins one
-            (λ q d other h inside. let k : q.len ≤ two.prefix.len = two.longest q d other h inside in omega arith)
-            (λ q d other h inside same. let k : q.len ≤ two.prefix.len = two.longest q d other h inside in absurd (omega arith)))
-        | inr equal ↦ elim (cases_lt two.distance one.distance) [
-          | inl closer ↦ inr (new_wins two
-              (λ q d other h inside. let k : q.len ≤ one.prefix.len = one.longest q d other h inside in omega arith)
-              (λ q d other h inside same. let k : one.distance ≤ d = one.lowest q d other h inside (omega arith) in omega arith))
-          | inr closer ↦ inl (old_wins one
-              (λ q d other h inside. let k : q.len ≤ two.prefix.len = two.longest q d other h inside in omega arith)
-              (λ q d other h inside same. let k : two.distance ≤ d = two.lowest q d other h inside (omega arith) in omega arith))
-        ]
-      ]
-    ]
+middle_uses_one one two = elim (cases_order one.prefix.len two.prefix.len) [
+  | inr (inl below) ↦ inr (better_wins new_half two one (omega arith) (λ same. absurd (omega arith)))
+  | inr (inr above) ↦ inl (better_wins old_half one two (omega arith) (λ same. absurd (omega arith)))
+  | inl same ↦ elim (cases_lt one.distance two.distance) [
+    | inl closer ↦ inl (better_wins old_half one two (omega arith) (λ _. omega arith))
+    | inr farther ↦ inr (better_wins new_half two one (omega arith) (λ _. farther))
+  ]
+]
 
 -- where a router has a step in Old and one in New, it has one in every phase
 pub every_phase_steps : {net : Network} {old new : Tables} {u a : ℕ} →

@@ -15,39 +15,7 @@ use Rattle.igp_theory.specs.Routes.{Tables}
 use Rattle.igp_theory.specs.declared.phase.Phase.{Phase}
 use Rattle.igp_theory.specs.declared.phase.Phase.TheVariants.{Old, Middle, New}
 use Rattle.igp_theory.proofs.BestCounted.{Place, one, nothing, uses_or_none}
-use Rattle.igp_theory.proofs.ForwardingLaws.{old_in_middle, new_in_middle, middle_counts, old_wins, new_wins}
-
--- what is used in Middle and counts in Old is used in Old
-old_of_middle : {net : Network} {old new : Tables} {u a : ℕ} {x : Usable} (uses : Uses net old new u Middle a x) →
-    Counts net old new u Old uses.prefix uses.distance x → Uses net old new u Old a x
-old_of_middle uses counts = record {
-  prefix = uses.prefix;
-  distance = uses.distance;
-  counts = counts;
-  contains = uses.contains;
-  longest = λ q d other h. uses.longest q d other (old_in_middle h);
-  lowest = λ q d other h. uses.lowest q d other (old_in_middle h);
-}
-
-new_of_middle : {net : Network} {old new : Tables} {u a : ℕ} {x : Usable} (uses : Uses net old new u Middle a x) →
-    Counts net old new u New uses.prefix uses.distance x → Uses net old new u New a x
-new_of_middle uses counts = record {
-  prefix = uses.prefix;
-  distance = uses.distance;
-  counts = counts;
-  contains = uses.contains;
-  longest = λ q d other h. uses.longest q d other (new_in_middle h);
-  lowest = λ q d other h. uses.lowest q d other (new_in_middle h);
-}
-
--- each entry that counts in New is shorter than this one, or as long and no closer. `strict`: or farther
-record OldIsBetter (net : Network) (old new : Tables) (u a len distance : ℕ) : Type 0 where
-  shorter : (q : Block) (d : ℕ) (y : Usable) → Counts net old new u New q d y → ContainsAddress q a → q.len ≤ len
-  farther : (q : Block) (d : ℕ) (y : Usable) → Counts net old new u New q d y → ContainsAddress q a → q.len ≡ len → distance < d
-
-record NewIsBetter (net : Network) (old new : Tables) (u a len distance : ℕ) : Type 0 where
-  shorter : (q : Block) (d : ℕ) (y : Usable) → Counts net old new u Old q d y → ContainsAddress q a → q.len ≤ len
-  farther : (q : Block) (d : ℕ) (y : Usable) → Counts net old new u Old q d y → ContainsAddress q a → q.len ≡ len → distance < d
+use Rattle.igp_theory.proofs.ForwardingLaws.{AreHalves, middle_counts, old_half, new_half, half_of_middle, half_wins}
 
 steps_as : {net : Network} {old new : Tables} {u a h : ℕ} (phase other : Phase) →
     ((x : Usable) → Uses net old new u phase a x → Uses net old new u other a x) → Steps net old new u phase a h → Steps net old new u other a h
@@ -61,50 +29,55 @@ acts_as net old new u a phase over back = record {
   steps = λ h. (steps_as Middle phase over, steps_as phase Middle back);
 }
 
--- where the best of Old is better than everything in New
-as_old : (net : Network) (old new : Tables) (u a : ℕ) (x : Usable) (best : Uses net old new u Old a x) →
-    OldIsBetter net old new u a best.prefix.len best.distance → MiddleActsAsIn net old new u a Old
-as_old net old new u a x best better = acts_as net old new u a Old
-    (λ z uses. elim (middle_counts uses.counts) [
-      | inl counts ↦ old_of_middle uses counts
-      | inr counts ↦
-          let up : best.prefix.len ≤ uses.prefix.len = uses.longest best.prefix best.distance x (old_in_middle best.counts) best.contains in
-          let down : uses.prefix.len ≤ best.prefix.len = better.shorter uses.prefix uses.distance z counts uses.contains in
-          let len : uses.prefix.len ≡ best.prefix.len = omega (arith, up, down) in
-          let near : uses.distance ≤ best.distance = uses.lowest best.prefix best.distance x (old_in_middle best.counts) best.contains (sym len) in
-          let far : best.distance < uses.distance = better.farther uses.prefix uses.distance z counts uses.contains len in
-          absurd (omega (arith, near, far))
-    ])
-    (λ z uses.
-    let up : best.prefix.len ≤ uses.prefix.len = uses.longest best.prefix best.distance x best.counts best.contains in
-    let down : uses.prefix.len ≤ best.prefix.len = best.longest uses.prefix uses.distance z uses.counts uses.contains in
-    let len : best.prefix.len ≡ uses.prefix.len = omega (arith, up, down) in
-    let near : uses.distance ≤ best.distance = uses.lowest best.prefix best.distance x best.counts best.contains len in
-    old_wins uses
-    (λ q d y counts inside. let k = better.shorter q d y counts inside in omega (arith, k, len))
-    (λ q d y counts inside same. let k = better.farther q d y counts inside (same ∙ sym len) in omega (arith, k, near)))
+module _ {net : Network} {old new : Tables} {u : ℕ} {half other : Phase} (halves : AreHalves (Counts net old new u) half other) {a : ℕ} {x : Usable}
+    (best : Uses net old new u half a x) where
+  -- what is used in Middle is no worse than the best of a half
+  no_shorter : {z : Usable} (uses : Uses net old new u Middle a z) → best.prefix.len ≤ uses.prefix.len
+  no_shorter uses = uses.longest best.prefix best.distance x (halves.inside best.prefix best.distance x best.counts) best.contains
 
-as_new : (net : Network) (old new : Tables) (u a : ℕ) (x : Usable) (best : Uses net old new u New a x) →
-    NewIsBetter net old new u a best.prefix.len best.distance → MiddleActsAsIn net old new u a New
-as_new net old new u a x best better = acts_as net old new u a New
-    (λ z uses. elim (middle_counts uses.counts) [
-      | inr counts ↦ new_of_middle uses counts
-      | inl counts ↦
-          let up : best.prefix.len ≤ uses.prefix.len = uses.longest best.prefix best.distance x (new_in_middle best.counts) best.contains in
-          let down : uses.prefix.len ≤ best.prefix.len = better.shorter uses.prefix uses.distance z counts uses.contains in
-          let len : uses.prefix.len ≡ best.prefix.len = omega (arith, up, down) in
-          let near : uses.distance ≤ best.distance = uses.lowest best.prefix best.distance x (new_in_middle best.counts) best.contains (sym len) in
-          let far : best.distance < uses.distance = better.farther uses.prefix uses.distance z counts uses.contains len in
-          absurd (omega (arith, near, far))
-    ])
-    (λ z uses.
-    let up : best.prefix.len ≤ uses.prefix.len = uses.longest best.prefix best.distance x best.counts best.contains in
-    let down : uses.prefix.len ≤ best.prefix.len = best.longest uses.prefix uses.distance z uses.counts uses.contains in
-    let len : best.prefix.len ≡ uses.prefix.len = omega (arith, up, down) in
-    let near : uses.distance ≤ best.distance = uses.lowest best.prefix best.distance x best.counts best.contains len in
-    new_wins uses
-    (λ q d y counts inside. let k = better.shorter q d y counts inside in omega (arith, k, len))
-    (λ q d y counts inside same. let k = better.farther q d y counts inside (same ∙ sym len) in omega (arith, k, near)))
+  no_farther : {z : Usable} (uses : Uses net old new u Middle a z) → best.prefix.len ≡ uses.prefix.len → uses.distance ≤ best.distance
+  no_farther uses same = uses.lowest best.prefix best.distance x (halves.inside best.prefix best.distance x best.counts) best.contains same
+
+  -- and what a half uses is as good as its best
+  as_long : {z : Usable} (uses : Uses net old new u half a z) → best.prefix.len ≡ uses.prefix.len
+  as_long {z} uses = omega (
+    arith,
+    uses.longest best.prefix best.distance x best.counts best.contains,
+    best.longest uses.prefix uses.distance z uses.counts uses.contains,
+  )
+
+  as_close : {z : Usable} (uses : Uses net old new u half a z) → uses.distance ≤ best.distance
+  as_close uses = uses.lowest best.prefix best.distance x best.counts best.contains (as_long uses)
+
+  -- where the best of a half is better than everything in the other
+  as_half : ((q : Block) (d : ℕ) (y : Usable) → Counts net old new u other q d y → ContainsAddress q a → q.len ≤ best.prefix.len) →
+      ((q : Block) (d : ℕ) (y : Usable) → Counts net old new u other q d y → ContainsAddress q a → q.len ≡ best.prefix.len → best.distance < d) →
+      MiddleActsAsIn net old new u a half
+  as_half shorter farther = acts_as net old new u a half
+      (λ z uses. elim (halves.split uses.prefix uses.distance z uses.counts) [
+        | inl counts ↦ half_of_middle halves uses counts
+        | inr counts ↦
+            let len : best.prefix.len ≡ uses.prefix.len = omega (arith, no_shorter uses, shorter uses.prefix uses.distance z counts uses.contains) in
+            absurd (omega (arith, no_farther uses len, farther uses.prefix uses.distance z counts uses.contains (sym len)))
+      ])
+      (λ z uses.
+      let len = as_long uses in
+      half_wins halves uses
+      (λ q d y counts inside. omega (arith, len, shorter q d y counts inside))
+      (λ q d y counts inside same. omega (arith, as_close uses, farther q d y counts inside (same ∙ sym len))))
+
+  -- where it is better than the best of the other
+  as_better : {y : Usable} (less : Uses net old new u other a y) → less.prefix.len ≤ best.prefix.len →
+      (less.prefix.len ≡ best.prefix.len → best.distance < less.distance) → MiddleActsAsIn net old new u a half
+  as_better less shorter farther = as_half
+      (λ q d z counts inside. omega (arith, shorter, less.longest q d z counts inside))
+      (λ q d z counts inside same.
+      let len : less.prefix.len ≡ best.prefix.len = omega (arith, shorter, same, less.longest q d z counts inside) in
+      omega (arith, farther len, less.lowest q d z counts inside (same ∙ sym len)))
+
+  -- where the other uses nothing
+  as_only : ((q : Block) (d : ℕ) (y : Usable) → Counts net old new u other q d y → ContainsAddress q a → ⊥) → MiddleActsAsIn net old new u a half
+  as_only none = as_half (λ q d z counts inside. absurd (none q d z counts inside)) (λ q d z counts inside same. absurd (none q d z counts inside))
 
 -- Distances: a connected prefix stands at 0, the old table at a distance from 1 on other than 115, the new one at 115
 
@@ -136,41 +109,24 @@ as_connected net old new u a x y best other apart same near = acts_as net old ne
     (λ z uses.
     let down : uses.prefix.len ≤ best.prefix.len = elim (middle_counts uses.counts) [
       | inl counts ↦ best.longest uses.prefix uses.distance z counts uses.contains
-      | inr counts ↦ let k : uses.prefix.len ≤ other.prefix.len = other.longest uses.prefix uses.distance z counts uses.contains in omega (arith, k, same)
+      | inr counts ↦ omega (arith, other.longest uses.prefix uses.distance z counts uses.contains, same)
     ] in
-    let up : best.prefix.len ≤ uses.prefix.len = uses.longest best.prefix best.distance x (old_in_middle best.counts) best.contains in
-    let closer : uses.distance ≤ best.distance =
-    uses.lowest best.prefix best.distance x (old_in_middle best.counts) best.contains (omega (arith, up, down)) in
-    old_of_middle uses (near_counts apart (omega (arith, closer, near)) uses.counts))
+    let closer = no_farther old_half best uses (omega (arith, no_shorter old_half best uses, down)) in
+    half_of_middle old_half uses (near_counts apart (omega (arith, closer, near)) uses.counts))
     (λ z uses.
-    let up : best.prefix.len ≤ uses.prefix.len = uses.longest best.prefix best.distance x best.counts best.contains in
-    let down : uses.prefix.len ≤ best.prefix.len = best.longest uses.prefix uses.distance z uses.counts uses.contains in
-    let closer : uses.distance ≤ best.distance = uses.lowest best.prefix best.distance x best.counts best.contains (omega (arith, up, down)) in
-    old_wins uses
-    (λ q d w counts inside. let k : q.len ≤ other.prefix.len = other.longest q d w counts inside in omega (arith, k, same, up))
-    (λ q d w counts inside len. omega (arith, closer, near)))
+    half_wins old_half uses
+    (λ q d w counts inside. omega (arith, other.longest q d w counts inside, same, as_long old_half best uses))
+    (λ q d w counts inside len. omega (arith, as_close old_half best uses, near)))
 
 -- both use something
 as_one : (net : Network) (old new : Tables) (u a : ℕ) (x y : Usable) (best : Uses net old new u Old a x) (other : Uses net old new u New a y) →
     ApartAt net u → MiddleActsAsIn net old new u a Old ⊎ MiddleActsAsIn net old new u a New
 as_one net old new u a x y best other apart = elim (cases_order best.prefix.len other.prefix.len) [
-  | inr (inl below) ↦ inr (as_new net old new u a y other (record {
-    shorter = λ q d z counts inside. let k : q.len ≤ best.prefix.len = best.longest q d z counts inside in omega (arith, k, below);
-    farther = λ q d z counts inside len. let k : q.len ≤ best.prefix.len = best.longest q d z counts inside in absurd (omega (arith, k, below, len));
-  }))
-  | inr (inr above) ↦ inl (as_old net old new u a x best (record {
-    shorter = λ q d z counts inside. let k : q.len ≤ other.prefix.len = other.longest q d z counts inside in omega (arith, k, above);
-    farther = λ q d z counts inside len. let k : q.len ≤ other.prefix.len = other.longest q d z counts inside in absurd (omega (arith, k, above, len));
-  }))
+  | inr (inl below) ↦ inr (as_better new_half other best (omega arith) (λ same. absurd (omega arith)))
+  | inr (inr above) ↦ inl (as_better old_half best other (omega arith) (λ same. absurd (omega arith)))
   | inl same ↦ elim (cases_order best.distance other.distance) [
-    | inr (inl closer) ↦ inl (as_old net old new u a x best (record {
-      shorter = λ q d z counts inside. let k : q.len ≤ other.prefix.len = other.longest q d z counts inside in omega (arith, k, same);
-      farther = λ q d z counts inside len. let k : other.distance ≤ d = other.lowest q d z counts inside (len ∙ same) in omega (arith, k, closer);
-    }))
-    | inr (inr farther) ↦ inr (as_new net old new u a y other (record {
-      shorter = λ q d z counts inside. let k : q.len ≤ best.prefix.len = best.longest q d z counts inside in omega (arith, k, same);
-      farther = λ q d z counts inside len. let k : best.distance ≤ d = best.lowest q d z counts inside (len ∙ sym same) in omega (arith, k, farther);
-    }))
+    | inr (inl closer) ↦ inl (as_better old_half best other (omega arith) (λ _. closer))
+    | inr (inr farther) ↦ inr (as_better new_half other best (omega arith) (λ _. farther))
     | inl tie ↦ elim (new_distance other.counts) [
       | inl zero ↦ inl (as_connected net old new u a x y best other apart same (tie ∙ zero))
       | inr table ↦ absurd (old_distance apart best.counts (tie ∙ table))
@@ -189,16 +145,10 @@ middle_acts net old new u a network below =
           elim (uses_or_none w Old a) [
             | one x best ↦ elim (uses_or_none w New a) [
               | one y other ↦ as_one net (HasEntry old) (HasEntry new) u a x y best other (apart net u network)
-              | nothing none ↦ inl (as_old net (HasEntry old) (HasEntry new) u a x best (record {
-                shorter = λ q d z counts inside. absurd (none q d z counts inside);
-                farther = λ q d z counts inside len. absurd (none q d z counts inside);
-              }))
+              | nothing none ↦ inl (as_only old_half best none)
             ]
             | nothing empty ↦ elim (uses_or_none w New a) [
-              | one y other ↦ inr (as_new net (HasEntry old) (HasEntry new) u a y other (record {
-                shorter = λ q d z counts inside. absurd (empty q d z counts inside);
-                farther = λ q d z counts inside len. absurd (empty q d z counts inside);
-              }))
+              | one y other ↦ inr (as_only new_half other empty)
               | nothing none ↦ inl (acts_as net (HasEntry old) (HasEntry new) u a Old
                   (λ z uses. elim (middle_counts uses.counts) [
                     | inl counts ↦ absurd (empty uses.prefix uses.distance z counts uses.contains)

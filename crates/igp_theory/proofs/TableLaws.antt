@@ -14,7 +14,8 @@ use Rattle.walk_core.proofs.WalkLaws.{SameOffers, same_offers_sym, best_cost_ove
 use Rattle.route_core.specs.Hops.{AreHops}
 use Rattle.route_core.specs.declared.entry.Entry.{Entry}
 use Rattle.route_core.specs.declared.entry.Entry.TheVariants.{Via, Discard}
-use Rattle.igp_theory.specs.Isis.{RunsTwo, OffersOne, OneHop, TwoHop, DownHop, DefaultCost, DefaultHop, IsOne, IsTwo, IsDown, IsisEntry, level_one, level_two}
+use Rattle.igp_theory.specs.Isis.{RunsLevelTwo, OffersLevelOne, LevelOneHop, LevelTwoHop, DownHop, DefaultCost, DefaultHop}
+use Rattle.igp_theory.specs.Isis.{HasLevelOneRoute, HasLevelTwoRoute, HasDownRoute, IsisEntry, level_one, level_two}
 use Rattle.igp_theory.specs.Isis.{down, default_route}
 use Rattle.igp_theory.specs.Laws.{KeepsOneArea, IsOspfNeighbor, IsIsisNeighbor, Forwards}
 use Rattle.igp_theory.specs.Ospf.{OffersSubnet, OfOthers, BackboneSummary, BorderCost, Summary, into_backbone, into_area, IntraAreaCost, IntraAreaHop}
@@ -199,24 +200,25 @@ ospf_entry_unique {net} {u} {p} {e} {f} (inter_area _ cost route one) (inter_are
 pub isis_entry_unique : {net : Network} {u : ℕ} {p : Block} {e f : Entry} → IsisEntry net u p e →
     IsisEntry net u p f → e ≡ f
 isis_entry_unique {net} {u} {p} {e} {f} (level_one _ is one) (level_one _ again other) =
-    forwarding_entry_unique (OneHop net p u) e f one other
+    forwarding_entry_unique (LevelOneHop net p u) e f one other
 isis_entry_unique (level_one _ is one) (level_two _ none two other) = absurd (none is)
 isis_entry_unique (level_one _ is one) (down _ none no_two route other) = absurd (none is)
 isis_entry_unique (level_one _ is one) (default_route _ none no_two no_down all cost route other) = absurd (none is)
 isis_entry_unique (level_two _ none two one) (level_one _ is other) = absurd (none is)
 isis_entry_unique {net} {u} {p} {e} {f} (level_two _ none two one) (level_two _ again still other) =
-    forwarding_entry_unique (TwoHop net p u) e f one other
-isis_entry_unique (level_two _ none two one) (down _ no_one no_two route other) = absurd (no_two two)
-isis_entry_unique (level_two _ none two one) (default_route _ no_one no_two no_down all cost route other) = absurd (no_two two)
-isis_entry_unique (down _ no_one no_two route one) (level_one _ is other) = absurd (no_one is)
-isis_entry_unique (down _ no_one no_two route one) (level_two _ none two other) = absurd (no_two two)
-isis_entry_unique {net} {u} {p} {e} {f} (down _ no_one no_two route one) (down _ no_1 no_2 again other) =
+    forwarding_entry_unique (LevelTwoHop net p u) e f one other
+isis_entry_unique (level_two _ none two one) (down _ without_level_one no_two route other) = absurd (no_two two)
+isis_entry_unique (level_two _ none two one) (default_route _ without_level_one no_two no_down all cost route other) = absurd (no_two two)
+isis_entry_unique (down _ without_level_one no_two route one) (level_one _ is other) = absurd (without_level_one is)
+isis_entry_unique (down _ without_level_one no_two route one) (level_two _ none two other) = absurd (no_two two)
+isis_entry_unique {net} {u} {p} {e} {f} (down _ without_level_one no_two route one) (down _ no_1 no_2 again other) =
     forwarding_entry_unique (DownHop net p u) e f one other
-isis_entry_unique (down _ no_one no_two route one) (default_route _ no_1 no_2 no_down all cost far other) = absurd (no_down route)
-isis_entry_unique (default_route _ no_one no_two no_down all cost route one) (level_one _ is other) = absurd (no_one is)
-isis_entry_unique (default_route _ no_one no_two no_down all cost route one) (level_two _ none two other) = absurd (no_two two)
-isis_entry_unique (default_route _ no_one no_two no_down all cost route one) (down _ no_1 no_2 again other) = absurd (no_down again)
-isis_entry_unique {net} {u} {p} {e} {f} (default_route _ no_one no_two no_down all cost route one) (default_route _ no_1 no_2 no_3 same c again other) =
+isis_entry_unique (down _ without_level_one no_two route one) (default_route _ no_1 no_2 no_down all cost far other) = absurd (no_down route)
+isis_entry_unique (default_route _ without_level_one no_two no_down all cost route one) (level_one _ is other) = absurd (without_level_one is)
+isis_entry_unique (default_route _ without_level_one no_two no_down all cost route one) (level_two _ none two other) = absurd (no_two two)
+isis_entry_unique (default_route _ without_level_one no_two no_down all cost route one) (down _ no_1 no_2 again other) = absurd (no_down again)
+isis_entry_unique {net} {u} {p} {e} {f} (default_route _ without_level_one no_two no_down all cost route one)
+    (default_route _ no_1 no_2 no_3 same c again other) =
     forwarding_entry_unique (DefaultHop net u) e f one other
 
 -- Hops are neighbors
@@ -237,11 +239,11 @@ ospf_hop_is_neighbor {net} {u} {h} {p} {e} (inter_area _ cost route forwards) le
 pub isis_hop_is_neighbor : {net : Network} {u h : ℕ} {p : Block} {e : Entry} → IsisEntry net u p e →
     EntryLeadsTo e h → IsIsisNeighbor net u h
 isis_hop_is_neighbor {net} {u} {h} {p} {e} (level_one _ is forwards) leads =
-    let hop : OneHop net p u h = entry_leads_to_hop (OneHop net p u) e h forwards leads in
+    let hop : LevelOneHop net p u h = entry_leads_to_hop (LevelOneHop net p u) e h forwards leads in
     let arc = best_hop_is_arc hop.best in
     record { cost = arc.0; adjacent = inl arc.1 }
 isis_hop_is_neighbor {net} {u} {h} {p} {e} (level_two _ none two forwards) leads =
-    let hop : TwoHop net p u h = entry_leads_to_hop (TwoHop net p u) e h forwards leads in
+    let hop : LevelTwoHop net p u h = entry_leads_to_hop (LevelTwoHop net p u) e h forwards leads in
     let arc = best_hop_is_arc hop.best in
     record { cost = arc.0; adjacent = inr arc.1 }
 isis_hop_is_neighbor {net} {u} {h} {p} {e} (down _ none no_two route forwards) leads =
@@ -281,7 +283,7 @@ forwards_by_hop hop e h forwards is_hop = (h, hop_is_led_to hop e h forwards is_
 subnet_is_connected : {net : Network} {n w c : ℕ} {p : Block} → OffersSubnet net n p w c → Connected net w p
 subnet_is_connected offers = record { interface = offers.interface; up = offers.up; subnet = offers.subnet }
 
-one_is_connected : {net : Network} {w c : ℕ} {p : Block} → OffersOne net p w c → Connected net w p
+one_is_connected : {net : Network} {w c : ℕ} {p : Block} → OffersLevelOne net p w c → Connected net w p
 one_is_connected offers = record { interface = offers.interface; up = offers.up; subnet = offers.subnet }
 
 -- an intra-area route to a prefix that isn't connected has a hop
@@ -299,21 +301,21 @@ inter_area_has_hop {net} {p} {u} {c} costs =
     let hop = best_hop_of_cost costs.best (λ same. costs.best.attained.offered.other (sym same)) in
     (hop.0, record { area = costs.area; listens = costs.listens; best = hop.1 })
 
-one_has_hop : {net : Network} {p : Block} {u : ℕ} → (Connected net u p → ⊥) → IsOne net p u →
-    (h : ℕ) × OneHop net p u h
+one_has_hop : {net : Network} {p : Block} {u : ℕ} → (Connected net u p → ⊥) → HasLevelOneRoute net p u →
+    (h : ℕ) × LevelOneHop net p u h
 one_has_hop {net} {p} {u} away is =
     let At : ℕ → Type 0 = λ w. Connected net w p in
     let best = is.costs.best in
     let hop = best_hop_of_cost best (λ same. away (subst At (sym same) (one_is_connected best.attained.offered))) in
     (hop.0, record { runs = is.costs.runs; best = hop.1 })
 
-two_has_hop : {net : Network} {p : Block} {u : ℕ} → IsTwo net p u → (h : ℕ) × TwoHop net p u h
+two_has_hop : {net : Network} {p : Block} {u : ℕ} → HasLevelTwoRoute net p u → (h : ℕ) × LevelTwoHop net p u h
 two_has_hop {net} {p} {u} is =
     let best = is.costs.best in
     let hop = best_hop_of_cost best (λ same. best.attained.offered.other (sym same)) in
     (hop.0, record { runs = is.costs.runs; best = hop.1 })
 
-down_has_hop : {net : Network} {p : Block} {u : ℕ} → IsDown net p u → (h : ℕ) × DownHop net p u h
+down_has_hop : {net : Network} {p : Block} {u : ℕ} → HasDownRoute net p u → (h : ℕ) × DownHop net p u h
 down_has_hop {net} {p} {u} is =
     let best = is.costs.best in
     let hop = best_hop_of_cost best (λ same. best.attained.offered.other (sym same)) in
@@ -322,8 +324,8 @@ down_has_hop {net} {p} {u} is =
 -- a router that runs level 1 alone isn't attached
 default_has_hop : {net : Network} {u c : ℕ} → DefaultCost net u c → (h : ℕ) × DefaultHop net u h
 default_has_hop {net} {u} {c} costs =
-    let Runs : ℕ → Type 0 = λ w. RunsTwo net w in
-    let hop = best_hop_of_cost costs.best (λ same. costs.alone (subst Runs (sym same) costs.best.attained.offered.attached.runs_two)) in
+    let Runs : ℕ → Type 0 = λ w. RunsLevelTwo net w in
+    let hop = best_hop_of_cost costs.best (λ same. costs.alone (subst Runs (sym same) costs.best.attained.offered.attached.runs_level_two)) in
     (hop.0, record { runs = costs.runs; alone = costs.alone; best = hop.1 })
 
 pub ospf_entry_forwards : {net : Network} {u : ℕ} {p : Block} {e : Entry} → OspfEntry net u p e →
@@ -338,9 +340,9 @@ ospf_entry_forwards {net} {u} {p} {e} (inter_area _ cost route forwards) =
 
 pub isis_entry_forwards : {net : Network} {u : ℕ} {p : Block} {e : Entry} → IsisEntry net u p e → Forwards e
 isis_entry_forwards {net} {u} {p} {e} (level_one away is forwards) =
-    let hop = one_has_hop away is in forwards_by_hop (OneHop net p u) e hop.0 forwards hop.1
+    let hop = one_has_hop away is in forwards_by_hop (LevelOneHop net p u) e hop.0 forwards hop.1
 isis_entry_forwards {net} {u} {p} {e} (level_two _ none two forwards) =
-    let hop = two_has_hop two in forwards_by_hop (TwoHop net p u) e hop.0 forwards hop.1
+    let hop = two_has_hop two in forwards_by_hop (LevelTwoHop net p u) e hop.0 forwards hop.1
 isis_entry_forwards {net} {u} {p} {e} (down _ none no_two route forwards) =
     let hop = down_has_hop route in forwards_by_hop (DownHop net p u) e hop.0 forwards hop.1
 isis_entry_forwards {net} {u} {p} {e} (default_route _ none no_two no_down all cost route forwards) =

@@ -1,6 +1,6 @@
 -- OSPF: intra-area routes, ranges and summaries, inter-area routes, the table (RFC 2328).
 use Rattle.std.specs.Prelude.{◌≡◌, ◌≢◌, ℕ, ◌≤◌, Bool, true, false, Some, None, IsTrue, Contains}
-use Rattle.net_addr.specs.Addresses.{Block, Covers}
+use Rattle.net_addr.specs.Addresses.{Block, Covers, default_prefix}
 use Rattle.net_model.specs.Configuration.{Configuration}
 use Rattle.net_model.specs.Network.{Network, HasConfiguration, UpInterface, Connected, InArea, IsBorderRouter, Adjacent}
 use Rattle.net_model.specs.declared.area.Range.{Range}
@@ -135,10 +135,6 @@ pub record IsTotallyStubby (net : Network) (b n : ℕ) : Type 0 where
   pub stub : Stub
   pub has : HasStub net b n stub
   pub alone : IsTrue stub.no_summary
-
--- the prefix of all addresses, 0.0.0.0/0
-abbrev pub default_prefix : Block
-default_prefix = record { base = 0; len = 0 }
 
 -- what a border router announces into an area n other than the backbone
 pub data AreaSummary (net : Network) (n : ℕ) (p : Block) (b cost : ℕ) : Type 0 where

@@ -12,7 +12,8 @@ abbrev pub NoDot : List ℕ → Type 0
 NoDot word = AllByRecursion (λ b. b ≢ 46) word
 
 NoDot-digits : (word : List ℕ) → All IsAsciiDigit word → NoDot word
-NoDot-digits word digits = recursion_from_All (λ b. b ≢ 46) word (λ k d below e. let range : (48 ≤ get_or word k d) × (get_or word k d ≤ 57) = digits k d below in omega arith)
+NoDot-digits word digits =
+    recursion_from_All (λ b. b ≢ 46) word (λ k d below e. let range : (48 ≤ get_or word k d) × (get_or word k d ≤ 57) = digits k d below in omega arith)
 
 no_dot : {word : List ℕ} → IsOctet word → NoDot word
 no_dot {word} octet = NoDot-digits word octet.numeral.numeral.digits
@@ -42,7 +43,8 @@ NoDot-take word i before k d below e =
     before k inside (get_or_default word k 0 d real ∙ sym (get_or-take i word k d inside) ∙ e)
 
 -- what stands before the first dot is the only part that can be cut off
-pub cut_at_dot : (word part rest : List ℕ) (i : ℕ) → i < length word → get_or word i 0 ≡ 46 → ((k : ℕ) → k < i → get_or word k 0 ≢ 46) → IsOctet part → word ≡ part ++ 46 ∷ rest → part ≡ take i word
+pub cut_at_dot : (word part rest : List ℕ) (i : ℕ) → i < length word → get_or word i 0 ≡ 46 → ((k : ℕ) → k < i → get_or word k 0 ≢ 46) →
+    IsOctet part → word ≡ part ++ 46 ∷ rest → part ≡ take i word
 cut_at_dot word part rest i within dot before octet e =
     let here : word ≡ take i word ++ 46 ∷ drop (i + 1) word =
     sym (take-append-drop i word) ∙ ap (λ (w : List ℕ). take i word ++ w) (drop_more word i 0 within ∙ ap (λ (b : ℕ). b ∷ drop (i + 1) word) dot) in
@@ -50,7 +52,8 @@ cut_at_dot word part rest i within dot before octet e =
     (cut_unique part rest (take i word) (drop (i + 1) word) (no_dot octet) clear (sym e ∙ here)).0
 
 -- what follows an octet and a dot is the same for each way to read them
-pub same_rest : (word : List ℕ) (n : ℕ) (rest : List ℕ) → CutsOctet word n rest → (part more : List ℕ) → IsOctet part → word ≡ part ++ 46 ∷ more → (n ≡ decimal_value part) × (rest ≡ more)
+pub same_rest : (word : List ℕ) (n : ℕ) (rest : List ℕ) → CutsOctet word n rest → (part more : List ℕ) → IsOctet part → word ≡ part ++ 46 ∷ more →
+    (n ≡ decimal_value part) × (rest ≡ more)
 same_rest word n rest cut part more octet e =
     let same : (cut.part ≡ part) × (rest ≡ more) =
     cut_unique cut.part rest part more (no_dot cut.octet) (no_dot octet) (sym cut.joined ∙ e) in
@@ -60,7 +63,8 @@ same_rest word n rest cut part more octet e =
 pub IsAddressWord-unique : (word : List ℕ) (a b : ℕ) → IsAddressWord word a → IsAddressWord word b → a ≡ b
 IsAddressWord-unique word a b x y =
     let one : (x.first ≡ y.first) × (x.second ++ 46 ∷ (x.third ++ 46 ∷ x.fourth) ≡ y.second ++ 46 ∷ (y.third ++ 46 ∷ y.fourth)) =
-    cut_unique x.first (x.second ++ 46 ∷ (x.third ++ 46 ∷ x.fourth)) y.first (y.second ++ 46 ∷ (y.third ++ 46 ∷ y.fourth)) (no_dot x.first_octet) (no_dot y.first_octet) (sym x.joined ∙ y.joined) in
+    cut_unique x.first (x.second ++ 46 ∷ (x.third ++ 46 ∷ x.fourth)) y.first (y.second ++ 46 ∷ (y.third ++ 46 ∷ y.fourth)) (no_dot x.first_octet)
+    (no_dot y.first_octet) (sym x.joined ∙ y.joined) in
     let two : (x.second ≡ y.second) × (x.third ++ 46 ∷ x.fourth ≡ y.third ++ 46 ∷ y.fourth) =
     cut_unique x.second (x.third ++ 46 ∷ x.fourth) y.second (y.third ++ 46 ∷ y.fourth) (no_dot x.second_octet) (no_dot y.second_octet) one.1 in
     let three : (x.third ≡ y.third) × (x.fourth ≡ y.fourth) =
@@ -72,13 +76,16 @@ IsAddressWord-unique word a b x y =
     omega (arith, x.value, y.value)
 
 -- what is left after one, two and three cuts of an address
-pub rest_one : (word : List ℕ) (n : ℕ) (rest : List ℕ) (a : ℕ) → CutsOctet word n rest → (x : IsAddressWord word a) → rest ≡ x.second ++ 46 ∷ (x.third ++ 46 ∷ x.fourth)
+pub rest_one : (word : List ℕ) (n : ℕ) (rest : List ℕ) (a : ℕ) → CutsOctet word n rest → (x : IsAddressWord word a) →
+    rest ≡ x.second ++ 46 ∷ (x.third ++ 46 ∷ x.fourth)
 rest_one word n rest a cut x = (same_rest word n rest cut x.first (x.second ++ 46 ∷ (x.third ++ 46 ∷ x.fourth)) x.first_octet x.joined).1
 
-pub rest_two : (word : List ℕ) (n : ℕ) (rest : List ℕ) (m : ℕ) (later : List ℕ) (a : ℕ) → CutsOctet word n rest → CutsOctet rest m later → (x : IsAddressWord word a) → later ≡ x.third ++ 46 ∷ x.fourth
+pub rest_two : (word : List ℕ) (n : ℕ) (rest : List ℕ) (m : ℕ) (later : List ℕ) (a : ℕ) → CutsOctet word n rest → CutsOctet rest m later →
+    (x : IsAddressWord word a) → later ≡ x.third ++ 46 ∷ x.fourth
 rest_two word n rest m later a cut next x =
     (same_rest rest m later next x.second (x.third ++ 46 ∷ x.fourth) x.second_octet (rest_one word n rest a cut x)).1
 
-pub rest_three : (word : List ℕ) (n : ℕ) (rest : List ℕ) (m : ℕ) (later : List ℕ) (k : ℕ) (last : List ℕ) (a : ℕ) → CutsOctet word n rest → CutsOctet rest m later → CutsOctet later k last → (x : IsAddressWord word a) → last ≡ x.fourth
+pub rest_three : (word : List ℕ) (n : ℕ) (rest : List ℕ) (m : ℕ) (later : List ℕ) (k : ℕ) (last : List ℕ) (a : ℕ) → CutsOctet word n rest →
+    CutsOctet rest m later → CutsOctet later k last → (x : IsAddressWord word a) → last ≡ x.fourth
 rest_three word n rest m later k last a cut next third x =
     (same_rest later k last third x.third x.fourth x.third_octet (rest_two word n rest m later a cut next x)).1

@@ -1,5 +1,5 @@
 -- Blocks of addresses as intervals, and as parts of one another.
-use Rattle.std.proofs.Common.{◌≡◌, ℕ, ◌+◌, ◌-◌, ◌*◌, ◌/◌, ◌%◌, ◌^◌, ◌<◌, ◌≤◌, arith, refl, sym, subst, ap, ◌∙◌}
+use Rattle.std.proofs.Common.{◌≡◌, ℕ, ◌+◌, ◌-◌, ◌*◌, ◌/◌, ◌%◌, ◌^◌, ◌<◌, ◌≤◌, arith, sym, subst, ap, ◌∙◌}
 use Rattle.std.proofs.lemmas.Nat.{pow_pos, div-mul-add, mod-mul-add, shr-shr}
 use Rattle.net_addr.specs.Addresses.{Block, block_at, first_bits, ContainsAddress, Covers, IsBlock}
 
@@ -26,10 +26,6 @@ block_around a n len short below e h = record {
 -- the block of a length that begins with the first bits of an address
 pub IsBlock-around : (a n len : ℕ) → len ≤ 32 → a < 2 ^ 32 → n ≡ 2 ^ (32 - len) → IsBlock (block_at (a / n * n) len)
 IsBlock-around a n len short below e = block_around a n len short below e (subst (λ (m : ℕ). 0 < m) (sym e) (pow_pos (32 - len)))
-
--- a block contains the address that it begins with
-pub ContainsAddress-base : (p : Block) → ContainsAddress p p.base
-ContainsAddress-base p = refl
 
 same_quotient_bounds : (a b n : ℕ) → 0 < n → b % n ≡ 0 → a / n ≡ b / n → (b ≤ a) × (a < b + n)
 same_quotient_bounds a b n h e same =
@@ -88,35 +84,3 @@ Covers-common p q a block shorter in_p in_q = record {
       ∙ sym (first_bits_shorter p.len q.len a shorter block.short)
       ∙ in_p;
 }
-
--- covering is reflexive and transitive
-pub Covers-itself : (p : Block) → Covers p p
-Covers-itself p = record { longer = omega arith; inside = refl }
-
-pub Covers-through : (p q r : Block) → IsBlock q → Covers p q → Covers q r → Covers p r
-Covers-through p q r block upper lower = record {
-  longer = omega (arith, upper.longer, lower.longer);
-  inside = ContainsAddress-covers p q r.base block upper lower.inside;
-}
-
-lone_multiple : (b n : ℕ) → n ≡ 2 ^ 32 → b < 2 ^ 32 → b % n ≡ 0 → b ≡ 0
-lone_multiple b n whole below clear =
-    let within : b % 2 ^ 32 ≡ 0 = subst (λ (m : ℕ). b % m ≡ 0) whole clear in omega arith
-
--- a block of length 32 is one address, and the block of length 0 is all of them
-pub ContainsAddress-host : (p : Block) (a : ℕ) → IsBlock p → p.len ≡ 32 → ContainsAddress p a → a ≡ p.base
-ContainsAddress-host p a block host inside =
-    let one : block_size p ≡ 1 = ap (λ (len : ℕ). 2 ^ (32 - len)) host in
-    let bounds : (p.base ≤ a) × (a < p.base + block_size p) = ContainsAddress-bounds p a block inside in
-    omega arith
-
-pub ContainsAddress-all : (p : Block) (a : ℕ) → IsBlock p → p.len ≡ 0 → a < 2 ^ 32 → ContainsAddress p a
-ContainsAddress-all p a block none below =
-    let whole : block_size p ≡ 2 ^ 32 = ap (λ (len : ℕ). 2 ^ (32 - len)) none in
-    let first : p.base ≡ 0 = lone_multiple p.base (block_size p) whole block.address block.clear in
-    ContainsAddress-between p a block (omega arith) (omega arith)
-
--- blocks that cover each other are one
-pub same_block-covers : (p q : Block) → IsBlock p → IsBlock q → Covers p q → Covers q p → p ≡ q
-same_block-covers p q left right over under =
-    same_block p q q.base left right (omega (arith, over.longer, under.longer)) over.inside refl

@@ -1,8 +1,9 @@
 -- Laws of the longest match: one more prefix, other prefixes and addresses, and that there is one.
-use Rattle.std.proofs.Common.{◌≡◌, ℕ, zero, suc, ◌<◌, ◌≤◌, ◌↔◌, List, [], ◌∷◌, ◌++◌, length, slice_get, Option, Some, None, Contains, IfSome, refl, sym, arith, subst, ⊎_elim}
+use Rattle.std.proofs.Common.{◌≡◌, ℕ, zero, suc, ◌<◌, ◌≤◌, ◌↔◌, List, [], ◌∷◌, ◌++◌, length, slice_get, Option, Some, None, Contains}
+use Rattle.std.proofs.Common.{IfSome, refl, sym, arith, subst, ⊎_elim}
 use Rattle.std.proofs.lemmas.Bool.{cases_lt}
 use Rattle.std.proofs.lemmas.List.Elements.{Contains-push, Contains-append_left, Contains-push_cases}
-use Rattle.std.proofs.lemmas.Option.{slice_get_within, get_or_from_slice_get}
+use Rattle.std.proofs.lemmas.Option.{slice_get_within}
 use Rattle.net_addr.specs.Addresses.{Block, ContainsAddress, IsBlock}
 use Rattle.net_addr.specs.LongestMatches.{IsLongestMatch, HasNoMatch, MatchAt, IsMatch, TakesLonger}
 use Rattle.net_addr.specs.declared.matches.Match.{Match}
@@ -54,10 +55,6 @@ slice_get-push_old (z ∷ xs) y (suc i) x h = slice_get-push_old xs y i x h
 pub slice_get-push_new : {X : Type 0} (xs : List X) (y : X) → slice_get (xs ++ y ∷ []) (length xs) ≡ Some y
 slice_get-push_new [] y = refl
 slice_get-push_new (z ∷ xs) y = slice_get-push_new xs y
-
--- what stands at a place of a list is in the list
-pub Contains-stands : {X : Type 0} (xs : List X) (i : ℕ) (x : X) → slice_get xs i ≡ Some x → Contains xs x
-Contains-stands xs i x h = (i, slice_get_within xs i x h, get_or_from_slice_get xs i x x h)
 
 -- a prefix that doesn't contain the address, or isn't longer, changes nothing
 kept : (xs : List Block) (a : ℕ) (next : Block) (found : Match) → MatchAt xs a found → (ContainsAddress next a → next.len ≤ found.len)

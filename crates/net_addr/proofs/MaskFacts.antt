@@ -1,7 +1,6 @@
 -- A mask of `len` ones is what lacks a block of that length to all 32 bits.
-use Rattle.std.proofs.Common.{◌≡◌, ℕ, zero, suc, ◌+◌, ◌-◌, ◌*◌, ◌/◌, ◌%◌, ◌^◌, ◌<◌, ◌≤◌, List, arith, sym, ap, subst, Option, Some, None, ⊎_elim, ◌∙◌}
-use Rattle.std.proofs.lemmas.Nat.{pow_pos, pow_below, div-mul-add, mod-mul-add}
-use Rattle.std.proofs.lemmas.Bool.{cases_lt}
+use Rattle.std.proofs.Common.{◌≡◌, ℕ, zero, suc, ◌+◌, ◌-◌, ◌*◌, ◌/◌, ◌%◌, ◌^◌, ◌<◌, ◌≤◌, List, arith, sym, ap, subst, Option, Some, None, ◌∙◌}
+use Rattle.std.proofs.lemmas.Nat.{pow_pos, div-mul-add, mod-mul-add}
 use Rattle.net_addr.specs.AddressWords.{IsAddressWord, IsMask, IsMaskWord}
 use Rattle.net_addr.specs.Readers.{Reads}
 use Rattle.net_addr.proofs.AddressWordFacts.{IsAddressWord-unique}
@@ -34,22 +33,3 @@ pub Reads-mask : (word : List ℕ) (a : ℕ) (r : Option ℕ) → IsAddressWord 
 Reads-mask word a None written none = λ len stands.
     none len (subst (λ (x : ℕ). IsMask x len) (IsAddressWord-unique word stands.address a stands.written written) stands.mask)
 Reads-mask word a (Some len) written mask = record { address = a; written = written; mask = mask }
-
--- a mask has one count of ones, and a word stands for at most one
-pub IsMask-unique : (a l m : ℕ) → IsMask a l → IsMask a m → l ≡ m
-IsMask-unique a l m x y =
-    let same : 2 ^ (32 - l) ≡ 2 ^ (32 - m) = omega (arith, IsMask-sum a l x, IsMask-sum a m y) in
-    let fits_x : l ≤ 32 = x.most in
-    let fits_y : m ≤ 32 = y.most in
-    ⊎_elim
-    (λ (less : l < m). let wider : 2 ^ (32 - m) < 2 ^ (32 - l) = pow_below (32 - m) (32 - l) (omega arith) in absurd (omega arith))
-    (λ (more : m ≤ l).
-    ⊎_elim
-    (λ (less : m < l). let wider : 2 ^ (32 - l) < 2 ^ (32 - m) = pow_below (32 - l) (32 - m) (omega arith) in absurd (omega arith))
-    (λ (most : l ≤ m). omega arith)
-    (cases_lt m l))
-    (cases_lt l m)
-
-pub IsMaskWord-unique : (word : List ℕ) (l m : ℕ) → IsMaskWord word l → IsMaskWord word m → l ≡ m
-IsMaskWord-unique word l m x y =
-    IsMask-unique y.address l m (subst (λ (a : ℕ). IsMask a l) (IsAddressWord-unique word x.address y.address x.written y.written) x.mask) y.mask

@@ -1,5 +1,6 @@
 -- What holds of decimal numbers.
-use Rattle.std.proofs.Common.{◌≡◌, ℕ, ◌+◌, ◌-◌, ◌*◌, ◌^◌, ◌<◌, ◌≤◌, List, [], ◌∷◌, ◌++◌, length, take, drop, get_or, arith, refl, sym, ap, subst, lit<, ◌∙◌, length-append}
+use Rattle.std.proofs.Common.{◌≡◌, ℕ, ◌+◌, ◌-◌, ◌*◌, ◌^◌, ◌<◌, ◌≤◌, List, [], ◌∷◌, ◌++◌, length, take, drop, get_or, arith, refl, sym, ap}
+use Rattle.std.proofs.Common.{subst, lit<, ◌∙◌, length-append}
 use Rattle.std.proofs.lemmas.Nat.{pow-add}
 use Rattle.std.proofs.Math.Nat.{one-le-pow, le-mul_of_pos_right}
 use Rattle.std.proofs.lemmas.List.{take_more, take-append-drop, take_all, get_or_default}
@@ -25,7 +26,8 @@ decimal_value-push xs digit =
     decimal_value-append xs (digit ∷ []) ∙ omega arith
 
 -- one more digit of a word
-pub decimal_value_more : (word : List ℕ) (i : ℕ) → i < length word → decimal_value (take (i + 1) word) ≡ 10 * decimal_value (take i word) + (get_or word i 0 - 48)
+pub decimal_value_more : (word : List ℕ) (i : ℕ) → i < length word →
+    decimal_value (take (i + 1) word) ≡ 10 * decimal_value (take i word) + (get_or word i 0 - 48)
 decimal_value_more word i within = ap decimal_value (take_more word i 0 within) ∙ decimal_value-push (take i word) (get_or word i 0)
 
 grows : (a b c : ℕ) → 1 ≤ b → a ≤ a * b + c
@@ -40,7 +42,8 @@ decimal_value-take word i =
     (grows (decimal_value (take i word)) (10 ^ length (drop i word)) (decimal_value (drop i word)) (one-le-pow (length (drop i word)) 10 (lit< tt)))
 
 -- a word one of whose bytes is no digit, or whose value up to a digit is above `most`, is no numeral up to `most`
-pub no_numeral : (most : ℕ) (word : List ℕ) (i value : ℕ) → i < length word → decimal_value (take i word) ≡ value → ¬ (IsAsciiDigit (get_or word i 0) × (10 * value + (get_or word i 0 - 48) ≤ most)) → (n : ℕ) → ¬ (IsNumeralUpTo most word n)
+pub no_numeral : (most : ℕ) (word : List ℕ) (i value : ℕ) → i < length word → decimal_value (take i word) ≡ value →
+    ¬ (IsAsciiDigit (get_or word i 0) × (10 * value + (get_or word i 0 - 48) ≤ most)) → (n : ℕ) → ¬ (IsNumeralUpTo most word n)
 no_numeral most word i value within read off n stands =
     let part : decimal_value (take (i + 1) word) ≤ decimal_value word = decimal_value-take word (i + 1) in
     let more : decimal_value (take (i + 1) word) ≡ 10 * decimal_value (take i word) + (get_or word i 0 - 48) = decimal_value_more word i within in
@@ -49,7 +52,8 @@ no_numeral most word i value within read off n stands =
     off (stands.numeral.digits i 0 within, omega arith)
 
 -- a word of digits, read to its end
-pub whole_numeral : (most : ℕ) (word : List ℕ) (i value : ℕ) → 0 < length word → length word ≤ i → ((k : ℕ) → k < i → IsAsciiDigit (get_or word k 0)) → decimal_value (take i word) ≡ value → value ≤ most → IsNumeralUpTo most word value
+pub whole_numeral : (most : ℕ) (word : List ℕ) (i value : ℕ) → 0 < length word → length word ≤ i →
+    ((k : ℕ) → k < i → IsAsciiDigit (get_or word k 0)) → decimal_value (take i word) ≡ value → value ≤ most → IsNumeralUpTo most word value
 whole_numeral most word i value some all digits read small = record {
   numeral = record {
     some = some;

@@ -1,5 +1,6 @@
 -- How a text falls into pieces, taken from its start.
-use Rattle.std.proofs.Common.{◌≡◌, ℕ, ◌+◌, ◌-◌, ◌<◌, ◌≤◌, Bool, List, [], ◌∷◌, ◌++◌, length, take, drop, append_assoc, append-nil, length-drop, arith, refl, sym, ap, subst, ◌∙◌, ⊎_elim}
+use Rattle.std.proofs.Common.{◌≡◌, ℕ, ◌+◌, ◌-◌, ◌<◌, ◌≤◌, Bool, List, [], ◌∷◌, ◌++◌, length, take, drop, append_assoc, append-nil}
+use Rattle.std.proofs.Common.{length-drop, arith, refl, sym, ap, subst, ◌∙◌, ⊎_elim}
 use Rattle.std.specs.List.{slice_range, slice_split, position_or_len}
 use Rattle.std.proofs.lemmas.Bool.{cases_lt}
 use Rattle.std.proofs.lemmas.Bool.Decides.{nat_tests}
@@ -23,13 +24,15 @@ pub last_stays : (piece : List ℕ) → 0 < length piece → without_empty_last 
 last_stays piece some = grind (arith, nat_tests)
 
 -- the first line of a text that isn't empty, and the others
-pub line_pieces-first : (xs : List ℕ) (n : ℕ) → n ≡ position_or_len is_line_feed xs → 0 < length xs → line_pieces xs ≡ take n xs ∷ line_pieces (drop (n + 1) xs)
+pub line_pieces-first : (xs : List ℕ) (n : ℕ) → n ≡ position_or_len is_line_feed xs → 0 < length xs →
+    line_pieces xs ≡ take n xs ∷ line_pieces (drop (n + 1) xs)
 line_pieces-first xs n place some =
     ⊎_elim
     (λ (found : n < length xs).
     let inside : position_or_len is_line_feed xs < length xs = omega arith in
     let parts : slice_split is_line_feed xs ≡ take n xs ∷ slice_split is_line_feed (drop (n + 1) xs) =
-    subst (λ (m : ℕ). slice_split is_line_feed xs ≡ take m xs ∷ slice_split is_line_feed (drop (m + 1) xs)) (sym place) (slice_split_first is_line_feed xs 0 inside) in
+    subst (λ (m : ℕ). slice_split is_line_feed xs ≡ take m xs ∷ slice_split is_line_feed (drop (m + 1) xs)) (sym place)
+    (slice_split_first is_line_feed xs 0 inside) in
     ap without_empty_last parts
     ∙ keeps_first (take n xs) (slice_split is_line_feed (drop (n + 1) xs)) (some_pieces is_line_feed (drop (n + 1) xs)))
     (λ (none : length xs ≤ n).
@@ -42,18 +45,24 @@ line_pieces-first xs n place some =
     (cases_lt n (length xs))
 
 -- the first line from a place on, and the lines behind it
-pub lines_of-first : (text : List ℕ) (number start n : ℕ) → start < length text → n ≡ position_or_len is_line_feed (drop start text) → n ≤ length (drop start text) → lines_of number start (line_pieces (drop start text)) ≡ line_of number start (slice_range text start (start + n)) ∷ lines_of (number + 1) (start + n + 1) (line_pieces (drop (start + n + 1) text))
+pub lines_of-first : (text : List ℕ) (number start n : ℕ) → start < length text → n ≡ position_or_len is_line_feed (drop start text) →
+    n ≤ length (drop start text) →
+    lines_of number start (line_pieces (drop start text)) ≡ line_of number start (slice_range text start (start + n)) ∷ lines_of (number + 1)
+    (start + n + 1) (line_pieces (drop (start + n + 1) text))
 lines_of-first text number start n inside place within =
     let some : 0 < length (drop start text) = omega (arith, length-drop start text) in
-    let pieces : line_pieces (drop start text) ≡ take n (drop start text) ∷ line_pieces (drop (n + 1) (drop start text)) = line_pieces-first (drop start text) n place some in
+    let pieces : line_pieces (drop start text) ≡ take n (drop start text) ∷ line_pieces (drop (n + 1) (drop start text)) =
+    line_pieces-first (drop start text) n place some in
     let count : length (take n (drop start text)) ≡ n = length-take-le n (drop start text) within in
     let behind : drop (n + 1) (drop start text) ≡ drop (start + n + 1) text =
     let far : start + (n + 1) ≡ start + n + 1 = omega arith in drop-drop (n + 1) start text ∙ ap (λ (k : ℕ). drop k text) far in
     let part : take n (drop start text) ≡ slice_range text start (start + n) =
     let wide : n ≡ start + n - start = omega arith in ap (λ (k : ℕ). take k (drop start text)) wide in
     ap (lines_of number start) pieces
-    ∙ ap (λ (piece : List ℕ). line_of number start piece ∷ lines_of (number + 1) (start + length (take n (drop start text)) + 1) (line_pieces (drop (n + 1) (drop start text)))) part
-    ∙ ap (λ (k : ℕ). line_of number start (slice_range text start (start + n)) ∷ lines_of (number + 1) (start + k + 1) (line_pieces (drop (n + 1) (drop start text)))) count
+    ∙ ap (λ (piece : List ℕ). line_of number start piece ∷ lines_of (number + 1) (start + length (take n (drop start text)) + 1)
+    (line_pieces (drop (n + 1) (drop start text)))) part
+    ∙ ap (λ (k : ℕ). line_of number start (slice_range text start (start + n)) ∷ lines_of (number + 1) (start + k + 1)
+    (line_pieces (drop (n + 1) (drop start text)))) count
     ∙ ap (λ (after : List ℕ). line_of number start (slice_range text start (start + n)) ∷ lines_of (number + 1) (start + n + 1) (line_pieces after)) behind
 
 -- one more line of a list that is filled from the left
@@ -61,7 +70,8 @@ pub one_more : {X : Type 0} (front rest all : List X) (x : X) (whole : List X) �
 one_more front rest all x whole filled first = append_assoc front (x ∷ []) rest ∙ ap (λ w. front ++ w) (sym first) ∙ filled
 
 -- at the end of the text no line is left
-pub lines_of-end : (text : List ℕ) (front : List Line) (number start : ℕ) → front ++ lines_of number start (line_pieces (drop start text)) ≡ text_lines text → length text ≤ start → front ≡ text_lines text
+pub lines_of-end : (text : List ℕ) (front : List Line) (number start : ℕ) →
+    front ++ lines_of number start (line_pieces (drop start text)) ≡ text_lines text → length text ≤ start → front ≡ text_lines text
 lines_of-end text front number start filled end =
     let rest : drop start text ≡ [] = drop_all start text end in
     sym (append-nil front) ∙ ap (λ (after : List ℕ). front ++ lines_of number start (line_pieces after)) (sym rest) ∙ filled

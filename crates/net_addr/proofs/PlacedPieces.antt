@@ -1,5 +1,6 @@
 -- The pieces of a text stand in it one after another, so their spans hold just their bytes.
-use Rattle.std.proofs.Common.{◌≡◌, ℕ, ◌+◌, ◌-◌, ◌<◌, ◌≤◌, Bool, true, false, cond, eqb, List, [], ◌∷◌, ◌++◌, length, take, drop, get_or, map, append_assoc, length-drop, length-append, arith, refl, sym, ap, subst, ◌∙◌}
+use Rattle.std.proofs.Common.{◌≡◌, ℕ, ◌+◌, ◌-◌, ◌<◌, ◌≤◌, Bool, true, false, cond, eqb, List, [], ◌∷◌, ◌++◌, length, take, drop, get_or}
+use Rattle.std.proofs.Common.{map, append_assoc, length-drop, length-append, arith, refl, sym, ap, subst, ◌∙◌}
 use Rattle.std.specs.List.{slice_range, slice_split, onto_first, All}
 use Rattle.std.specs.Str.Lines.{strip_carriage_return}
 use Rattle.std.proofs.lemmas.List.{append-nil, take-append-drop, take_at, drop-drop}
@@ -30,7 +31,8 @@ StandsAt-bytes text start piece stands =
     let wide : start + length piece - start ≡ length piece = omega arith in
     ap (λ (n : ℕ). take n (drop start text)) wide ∙ ap (take (length piece)) stands.here ∙ take_at piece stands.rest (length piece) refl
 
-step_on : (text : List ℕ) (start x : ℕ) (xs : List ℕ) → start ≤ length text → drop start text ≡ x ∷ xs → (start + 1 ≤ length text) × (drop (start + 1) text ≡ xs)
+step_on : (text : List ℕ) (start x : ℕ) (xs : List ℕ) → start ≤ length text → drop start text ≡ x ∷ xs →
+    (start + 1 ≤ length text) × (drop (start + 1) text ≡ xs)
 step_on text start x xs inside e = (
   omega (arith, length-drop start text, ap length e),
   sym (drop-drop 1 start text) ∙ ap (drop 1) e,
@@ -39,7 +41,8 @@ step_on text start x xs inside e = (
 placed_on : (text : List ℕ) (start later : ℕ) (pieces : List (List ℕ)) → later ≡ start → ArePlaced text later pieces → ArePlaced text start pieces
 placed_on text start later pieces e placed = subst (λ (n : ℕ). ArePlaced text n pieces) e placed
 
-onto_placed : (text : List ℕ) (start x : ℕ) (pieces : List (List ℕ)) → 0 < length pieces → start ≤ length text → drop start text ≡ x ∷ drop (start + 1) text → ArePlaced text (start + 1) pieces → ArePlaced text start (onto_first x pieces)
+onto_placed : (text : List ℕ) (start x : ℕ) (pieces : List (List ℕ)) → 0 < length pieces → start ≤ length text →
+    drop start text ≡ x ∷ drop (start + 1) text → ArePlaced text (start + 1) pieces → ArePlaced text start (onto_first x pieces)
 onto_placed text start x [] some inside e placed = absurd (omega arith)
 onto_placed text start x (piece ∷ more) some inside e placed = (
   record { rest = placed.0.rest; here = e ∙ ap (λ (w : List ℕ). x ∷ w) placed.0.here; inside = inside },
@@ -47,7 +50,8 @@ onto_placed text start x (piece ∷ more) some inside e placed = (
 )
 
 -- what a test cuts a part of a text into stands there
-pub ArePlaced-slice_split : (p : ℕ → Bool) (text : List ℕ) (start : ℕ) (xs ys : List ℕ) → start ≤ length text → drop start text ≡ xs ++ ys → ArePlaced text start (slice_split p xs)
+pub ArePlaced-slice_split : (p : ℕ → Bool) (text : List ℕ) (start : ℕ) (xs ys : List ℕ) → start ≤ length text → drop start text ≡ xs ++ ys →
+    ArePlaced text start (slice_split p xs)
 ArePlaced-slice_split p text start [] ys inside e = (record { rest = ys; here = e; inside = inside }, tt)
 ArePlaced-slice_split p text start (x ∷ xs) ys inside e =
     let next : (start + 1 ≤ length text) × (drop (start + 1) text ≡ xs ++ ys) = step_on text start x (xs ++ ys) inside e in
@@ -62,7 +66,8 @@ ArePlaced-slice_split p text start (x ∷ xs) ys inside e =
     ]
 
 -- the pieces of a text, without an empty last one, still stand in it
-ArePlaced-without_empty_last : (text : List ℕ) (start : ℕ) (pieces : List (List ℕ)) → ArePlaced text start pieces → ArePlaced text start (without_empty_last pieces)
+ArePlaced-without_empty_last : (text : List ℕ) (start : ℕ) (pieces : List (List ℕ)) → ArePlaced text start pieces →
+    ArePlaced text start (without_empty_last pieces)
 ArePlaced-without_empty_last text start [] placed = tt
 ArePlaced-without_empty_last text start (piece ∷ []) placed =
     elim (eqb (length piece) 0) as (λ b. ArePlaced text start (cond b [] (piece ∷ []))) [ true ↦ tt | false ↦ placed ]
@@ -98,7 +103,8 @@ StandsAt-start text start piece part first stands = record {
 }
 
 -- the spans of lines hold the bytes of their pieces without a carriage return
-lines_of-texts : (text : List ℕ) (number start : ℕ) (pieces : List (List ℕ)) → ArePlaced text start pieces → map (λ (line : Line). bytes_of text line.span) (lines_of number start pieces) ≡ map strip_carriage_return pieces
+lines_of-texts : (text : List ℕ) (number start : ℕ) (pieces : List (List ℕ)) → ArePlaced text start pieces →
+    map (λ (line : Line). bytes_of text line.span) (lines_of number start pieces) ≡ map strip_carriage_return pieces
 lines_of-texts text number start [] placed = refl
 lines_of-texts text number start (piece ∷ more) placed =
     let here : slice_range text start (start + length (strip_carriage_return piece)) ≡ strip_carriage_return piece =
@@ -112,10 +118,12 @@ lines_of-texts text number start (piece ∷ more) placed =
 pub text_lines-texts : (text : List ℕ) → map (λ (line : Line). bytes_of text line.span) (text_lines text) ≡ line_texts text
 text_lines-texts text = lines_of-texts text 1 0 (line_pieces text) (line_pieces-placed text)
 
-pub StandsAt-lies : (text : List ℕ) (start : ℕ) (piece : List ℕ) → StandsAt text start piece → LiesIn text (record { start = start; stop = start + length piece })
+pub StandsAt-lies : (text : List ℕ) (start : ℕ) (piece : List ℕ) → StandsAt text start piece →
+    LiesIn text (record { start = start; stop = start + length piece })
 StandsAt-lies text start piece stands = record { ordered = omega arith; inside = StandsAt-end text start piece stands }
 
-lines_of-inside : (text : List ℕ) (number start : ℕ) (pieces : List (List ℕ)) → ArePlaced text start pieces → All (λ (line : Line). LiesIn text line.span) (lines_of number start pieces)
+lines_of-inside : (text : List ℕ) (number start : ℕ) (pieces : List (List ℕ)) → ArePlaced text start pieces →
+    All (λ (line : Line). LiesIn text line.span) (lines_of number start pieces)
 lines_of-inside text number start [] placed = All-nil (λ (line : Line). LiesIn text line.span)
 lines_of-inside text number start (piece ∷ more) placed =
     All-cons (λ (line : Line). LiesIn text line.span) (line_of number start piece) (lines_of (number + 1) (start + length piece + 1) more)

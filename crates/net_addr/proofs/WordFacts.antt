@@ -1,5 +1,6 @@
 -- How the words of a span are found one after another.
-use Rattle.std.proofs.Common.{◌≡◌, ℕ, ◌+◌, ◌-◌, ◌<◌, ◌≤◌, Bool, true, false, cond, ltb, List, [], ◌∷◌, ◌++◌, length, take, drop, map, append-nil, append_assoc, arith, refl, sym, ap, subst, ◌∙◌, ⊎_elim}
+use Rattle.std.proofs.Common.{◌≡◌, ℕ, ◌+◌, ◌-◌, ◌<◌, ◌≤◌, Bool, true, false, cond, ltb, List, [], ◌∷◌, ◌++◌, length, take, drop, map}
+use Rattle.std.proofs.Common.{append-nil, append_assoc, arith, refl, sym, ap, subst, ◌∙◌, ⊎_elim}
 use Rattle.std.specs.List.{slice_range, slice_split, position_or_len, filter, All}
 use Rattle.std.proofs.lemmas.Bool.{cases_lt}
 use Rattle.std.proofs.lemmas.Bool.Decides.{nat_tests}
@@ -21,7 +22,9 @@ no_word : (m : ℕ) → filter has_bytes (span_at m (m + 0) ∷ []) ≡ []
 no_word m = grind (arith, nat_tests)
 
 -- the first word of some bytes, if any, and the others
-pub words_first : (xs : List ℕ) (start n : ℕ) → n ≡ position_or_len is_blank xs → n ≤ length xs → filter has_bytes (spans_of start (slice_split is_blank xs)) ≡ filter has_bytes (span_at start (start + n) ∷ []) ++ filter has_bytes (spans_of (start + n + 1) (slice_split is_blank (drop (n + 1) xs)))
+pub words_first : (xs : List ℕ) (start n : ℕ) → n ≡ position_or_len is_blank xs → n ≤ length xs →
+    filter has_bytes (spans_of start (slice_split is_blank xs)) ≡ filter has_bytes (span_at start (start + n) ∷ []) ++ filter has_bytes
+    (spans_of (start + n + 1) (slice_split is_blank (drop (n + 1) xs)))
 words_first xs start n place within =
     ⊎_elim
     (λ (found : n < length xs).
@@ -39,7 +42,8 @@ words_first xs start n place within =
     ∙ ap (λ (k : ℕ). filter has_bytes (span_at start (start + k) ∷ [])) (sym all)
     ∙ sym (append-nil (filter has_bytes (span_at start (start + n) ∷ [])))
     ∙ ap (λ (w : List Span). filter has_bytes (span_at start (start + n) ∷ []) ++ w) (sym (no_word (start + n + 1)))
-    ∙ ap (λ (after : List ℕ). filter has_bytes (span_at start (start + n) ∷ []) ++ filter has_bytes (spans_of (start + n + 1) (slice_split is_blank after))) (sym rest))
+    ∙ ap (λ (after : List ℕ). filter has_bytes (span_at start (start + n) ∷ []) ++ filter has_bytes
+    (spans_of (start + n + 1) (slice_split is_blank after))) (sym rest))
     (cases_lt n (length xs))
 
 -- what is left of a span behind a piece
@@ -52,15 +56,22 @@ slice_range-drop text start stop n =
     ∙ sym (between_is text (start + n + 1) stop)
 
 -- one more piece of a span
-pub words_more : (text : List ℕ) (front all : List Span) (start stop n : ℕ) → n ≡ position_or_len is_blank (slice_range text start stop) → n ≤ length (slice_range text start stop) → front ++ filter has_bytes (spans_of start (slice_split is_blank (slice_range text start stop))) ≡ all → (front ++ filter has_bytes (span_at start (start + n) ∷ [])) ++ filter has_bytes (spans_of (start + n + 1) (slice_split is_blank (slice_range text (start + n + 1) stop))) ≡ all
+pub words_more : (text : List ℕ) (front all : List Span) (start stop n : ℕ) → n ≡ position_or_len is_blank (slice_range text start stop) →
+    n ≤ length (slice_range text start stop) → front ++ filter has_bytes (spans_of start (slice_split is_blank (slice_range text start stop))) ≡ all →
+    (front ++ filter has_bytes (span_at start (start + n) ∷ [])) ++ filter has_bytes
+    (spans_of (start + n + 1) (slice_split is_blank (slice_range text (start + n + 1) stop))) ≡ all
 words_more text front all start stop n place within filled =
-    append_assoc front (filter has_bytes (span_at start (start + n) ∷ [])) (filter has_bytes (spans_of (start + n + 1) (slice_split is_blank (slice_range text (start + n + 1) stop))))
-    ∙ ap (λ (after : List ℕ). front ++ (filter has_bytes (span_at start (start + n) ∷ []) ++ filter has_bytes (spans_of (start + n + 1) (slice_split is_blank after)))) (sym (slice_range-drop text start stop n))
+    append_assoc front (filter has_bytes (span_at start (start + n) ∷ []))
+    (filter has_bytes (spans_of (start + n + 1) (slice_split is_blank (slice_range text (start + n + 1) stop))))
+    ∙ ap (λ (after : List ℕ). front ++
+    (filter has_bytes (span_at start (start + n) ∷ []) ++ filter has_bytes (spans_of (start + n + 1) (slice_split is_blank after))))
+    (sym (slice_range-drop text start stop n))
     ∙ ap (λ (w : List Span). front ++ w) (sym (words_first (slice_range text start stop) start n place within))
     ∙ filled
 
 -- at the end of a span no word is left
-pub words_end : (text : List ℕ) (front all : List Span) (start stop : ℕ) → stop ≤ start → front ++ filter has_bytes (spans_of start (slice_split is_blank (slice_range text start stop))) ≡ all → front ≡ all
+pub words_end : (text : List ℕ) (front all : List Span) (start stop : ℕ) → stop ≤ start →
+    front ++ filter has_bytes (spans_of start (slice_split is_blank (slice_range text start stop))) ≡ all → front ≡ all
 words_end text front all start stop end filled =
     let none : stop - start ≡ 0 = omega arith in
     let rest : slice_range text start stop ≡ [] = ap (λ (n : ℕ). take n (drop start text)) none in
@@ -72,15 +83,21 @@ words_end text front all start stop end filled =
 same_test : (start n : ℕ) → ltb start (start + n) ≡ ltb 0 n
 same_test start n = grind (arith, nat_tests)
 
-either_way : (b : Bool) (text : List ℕ) (span : Span) (piece : List ℕ) (spans : List Span) (pieces : List (List ℕ)) → bytes_of text span ≡ piece → map (bytes_of text) spans ≡ pieces → map (bytes_of text) (cond b (span ∷ spans) spans) ≡ cond b (piece ∷ pieces) pieces
-either_way true text span piece spans pieces here others = ap (λ (w : List ℕ). w ∷ map (bytes_of text) spans) here ∙ ap (λ (ws : List (List ℕ)). piece ∷ ws) others
+either_way : (b : Bool) (text : List ℕ) (span : Span) (piece : List ℕ) (spans : List Span) (pieces : List (List ℕ)) → bytes_of text span ≡ piece →
+    map (bytes_of text) spans ≡ pieces → map (bytes_of text) (cond b (span ∷ spans) spans) ≡ cond b (piece ∷ pieces) pieces
+either_way true text span piece spans pieces here others = ap (λ (w : List ℕ). w ∷ map (bytes_of text) spans) here
+    ∙ ap (λ (ws : List (List ℕ)). piece ∷ ws) others
 either_way false text span piece spans pieces here others = others
 
-spans_of-texts : (text : List ℕ) (start : ℕ) (pieces : List (List ℕ)) → ArePlaced text start pieces → map (bytes_of text) (filter has_bytes (spans_of start pieces)) ≡ filter (λ (piece : List ℕ). ltb 0 (length piece)) pieces
+spans_of-texts : (text : List ℕ) (start : ℕ) (pieces : List (List ℕ)) → ArePlaced text start pieces →
+    map (bytes_of text) (filter has_bytes (spans_of start pieces)) ≡ filter (λ (piece : List ℕ). ltb 0 (length piece)) pieces
 spans_of-texts text start [] placed = refl
 spans_of-texts text start (piece ∷ more) placed =
-    ap (λ (b : Bool). map (bytes_of text) (cond b (span_at start (start + length piece) ∷ filter has_bytes (spans_of (start + length piece + 1) more)) (filter has_bytes (spans_of (start + length piece + 1) more)))) (same_test start (length piece))
-    ∙ either_way (ltb 0 (length piece)) text (span_at start (start + length piece)) piece (filter has_bytes (spans_of (start + length piece + 1) more)) (filter (λ (part : List ℕ). ltb 0 (length part)) more)
+    ap (λ (b : Bool). map (bytes_of text)
+    (cond b (span_at start (start + length piece) ∷ filter has_bytes (spans_of (start + length piece + 1) more))
+    (filter has_bytes (spans_of (start + length piece + 1) more)))) (same_test start (length piece))
+    ∙ either_way (ltb 0 (length piece)) text (span_at start (start + length piece)) piece
+    (filter has_bytes (spans_of (start + length piece + 1) more)) (filter (λ (part : List ℕ). ltb 0 (length part)) more)
     (StandsAt-bytes text start piece placed.0)
     (spans_of-texts text (start + length piece + 1) more placed.1)
 

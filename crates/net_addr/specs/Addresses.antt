@@ -10,6 +10,10 @@ pub record Block : Type 0 where
 abbrev pub block_at : ℕ → ℕ → Block
 block_at base len = record { base = base; len = len }
 
+-- the prefix of all addresses, 0.0.0.0/0
+abbrev pub default_prefix : Block
+default_prefix = block_at 0 0
+
 -- the first `len` bits of a 32-bit number
 abbrev pub first_bits : ℕ → ℕ → ℕ
 first_bits len a = a / 2 ^ (32 - len)

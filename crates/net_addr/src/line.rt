@@ -40,13 +40,6 @@ impl Model for LineList {
 }
 
 impl LineList {
-    /// The list with these lines.
-    pub fn from_vec(all: Vec<Line>) -> LineList
-        ensures { result ≡ all.items }
-    {
-        LineList { all }
-    }
-
     /// The lines of the list.
     pub fn as_slice(&self) -> &[Line]
         ensures { result.now ≡ self.now }

@@ -78,8 +78,8 @@ impl Prefix {
     pub fn contains(self, a: u32) -> bool
         ensures { IsTrue result ↔ ContainsAddress self a }
     {
-        let size = block_size(self.len);
-        u64::from(a) / size == u64::from(self.base) / size
+        let past = 32 - u32::from(self.len);
+        u64::from(a) >> past == u64::from(self.base) >> past
     }
 
     /// Whether each address of `other` is one of this prefix's.
@@ -95,5 +95,5 @@ pub(crate) fn block_size(len: u8) -> u64
     requires { len ≤ 32 }
     ensures { result ≡ 2 ^ (32 - len) }
 {
-    2u64.pow(32 - u32::from(len))
+    1u64 << (32 - u32::from(len))
 }

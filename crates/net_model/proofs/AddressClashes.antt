@@ -4,16 +4,16 @@ use Rattle.net_model.specs.Conditions.{HaveOneAddress}
 use Rattle.net_model.specs.Configuration.{Configuration}
 use Rattle.net_model.specs.Least.{IsBest}
 use Rattle.net_model.specs.Network.{Network, HasConfiguration}
-use Rattle.net_model.specs.steps.Scans.{ClashOnAddress, OffersAddress}
+use Rattle.net_model.specs.steps.Scans.{IsMutual, ClashOnAddress, OffersAddress}
 use Rattle.net_model.proofs.Adjacency.{UpInterface-among}
 use Rattle.net_model.proofs.Bests.{Any-from, IsBest-same}
 use Rattle.net_model.proofs.NetworkFacts.{UpInterface-within}
 use Rattle.net_model.proofs.RouterFacts.{UpInterface-from}
 
-pub HaveOneAddress-within : (net : Network) (u v a : ℕ) → HaveOneAddress net u v a → v < length net
+HaveOneAddress-within : (net : Network) (u v a : ℕ) → HaveOneAddress net u v a → v < length net
 HaveOneAddress-within net u v a h = UpInterface-within net v h.two h.interfaces.two_up
 
-pub HaveOneAddress-sym : (net : Network) (u v a : ℕ) → HaveOneAddress net u v a → HaveOneAddress net v u a
+HaveOneAddress-sym : (net : Network) (u v a : ℕ) → HaveOneAddress net u v a → HaveOneAddress net v u a
 HaveOneAddress-sym net u v a h = record {
   one = h.two;
   two = h.one;
@@ -22,6 +22,9 @@ HaveOneAddress-sym net u v a h = record {
   two_address = h.one_address;
   unshared = ⊎_elim (λ e. inl (sym e)) (λ r. inr (⊎_elim inr inl r)) h.unshared;
 }
+
+pub HaveOneAddress-mutual : (net : Network) → IsMutual (HaveOneAddress net) (length net)
+HaveOneAddress-mutual net = record { within = HaveOneAddress-within net; back = HaveOneAddress-sym net }
 
 module _ (net : Network) (u v : ℕ) (c d : Configuration) (near : HasConfiguration net u c) (far : HasConfiguration net v d) (same : Bool)
     (same_is : IsTrue same ↔ (u ≡ v)) where

@@ -5,16 +5,16 @@ use Rattle.net_model.specs.Conditions.{RunTwoAreas}
 use Rattle.net_model.specs.Configuration.{Configuration}
 use Rattle.net_model.specs.Least.{IsBest, IsBlockAtMost}
 use Rattle.net_model.specs.Network.{Network, HasConfiguration}
-use Rattle.net_model.specs.steps.Scans.{AreInTwoAreas, ClashOnArea, OffersDest}
+use Rattle.net_model.specs.steps.Scans.{IsMutual, AreInTwoAreas, ClashOnArea, OffersDest}
 use Rattle.net_model.proofs.Adjacency.{UpInterface-among}
 use Rattle.net_model.proofs.Bests.{Any-from, IsBest-same}
 use Rattle.net_model.proofs.NetworkFacts.{UpInterface-within}
 use Rattle.net_model.proofs.RouterFacts.{UpInterface-from}
 
-pub RunTwoAreas-within : (net : Network) (u v : ℕ) (p : Block) → RunTwoAreas net u v p → v < length net
+RunTwoAreas-within : (net : Network) (u v : ℕ) (p : Block) → RunTwoAreas net u v p → v < length net
 RunTwoAreas-within net u v p h = UpInterface-within net v h.two h.two_up
 
-pub RunTwoAreas-sym : (net : Network) (u v : ℕ) (p : Block) → RunTwoAreas net u v p → RunTwoAreas net v u p
+RunTwoAreas-sym : (net : Network) (u v : ℕ) (p : Block) → RunTwoAreas net u v p → RunTwoAreas net v u p
 RunTwoAreas-sym net u v p h = record {
   one = h.two;
   two = h.one;
@@ -28,6 +28,9 @@ RunTwoAreas-sym net u v p h = record {
   two_runs = h.one_runs;
   apart = λ e. h.apart (sym e);
 }
+
+pub RunTwoAreas-mutual : (net : Network) → IsMutual (RunTwoAreas net) (length net)
+RunTwoAreas-mutual net = record { within = RunTwoAreas-within net; back = RunTwoAreas-sym net }
 
 module _ (net : Network) (u v : ℕ) (c d : Configuration) (near : HasConfiguration net u c) (far : HasConfiguration net v d) where
   from_list : (p : Block) → Any (OffersDest d.interfaces p) c.interfaces → RunTwoAreas net u v p

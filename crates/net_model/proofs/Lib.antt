@@ -10,9 +10,9 @@ mod PairFacts
 pub mod RouterFacts
 mod AddressClashes
 mod AreaClashes
+mod ClaimFacts
 mod BorderFacts
 mod SystemClashes
 mod StubClashes
 mod BuildFacts
 pub mod RefusalLaws
-pub mod SortedNames

@@ -1,17 +1,16 @@
 -- What follows of routers, their interfaces and their adjacencies, over networks as plain data.
-use Rattle.std.proofs.Common.{◌≡◌, ℕ, ◌<◌, ◌≤◌, List, length, get_or, Option, Some, None, IfSome, IsTrue, refl, sym, subst, ⊎_elim, arith}
+use Rattle.std.proofs.Common.{◌≡◌, ℕ, ◌<◌, List, length, get_or, Some, subst, ⊎_elim, arith}
 use Rattle.std.proofs.lemmas.Bool.{cases_lt, cases_eq}
-use Rattle.std.proofs.lemmas.List.Elements.{All-contains, Contains-get_or}
-use Rattle.std.proofs.lemmas.Option.{slice_get_within, same_Some, get_or_from_slice_get}
-use Rattle.net_addr.specs.Addresses.{Block, IsBlock}
-use Rattle.net_addr.proofs.LongestMatchLaws.{one_longest_match}
+use Rattle.std.proofs.lemmas.List.Elements.{All-contains}
+use Rattle.std.proofs.lemmas.Option.{slice_get_within, get_or_from_slice_get}
+use Rattle.net_addr.specs.Addresses.{Block}
 use Rattle.net_model.specs.Configuration.{Configuration, IsConfiguration, IsInterface}
-use Rattle.net_model.specs.Lookups.{IsNamed, LeastArc, LongestConnected}
-use Rattle.net_model.specs.Network.{Network, HasConfiguration, UpInterface, Connected, InArea, Adjacent, cost_in, MayJoin}
+use Rattle.net_model.specs.Lookups.{IsNamed}
+use Rattle.net_model.specs.Network.{Network, HasConfiguration, UpInterface, InArea, Adjacent}
 use Rattle.net_model.specs.Refusals.{IsBelow, IsNetwork, NamesAscend}
 use Rattle.net_model.specs.declared.interface.Interface.{Interface}
 use Rattle.net_model.specs.declared.zone.Zone.{Zone}
-use Rattle.net_model.specs.declared.zone.Zone.TheVariants.{Area, One, Two}
+use Rattle.net_model.specs.declared.zone.Zone.TheVariants.{Area}
 use Rattle.net_model.proofs.Names.{IsBelow-irrefl, named_at, named_within}
 
 -- a router's number is below the count of routers
@@ -20,9 +19,6 @@ HasConfiguration-within net u c h = slice_get_within net u c h
 
 pub UpInterface-within : (net : Network) (u : ℕ) (i : Interface) → UpInterface net u i → u < length net
 UpInterface-within net u i h = slice_get_within net u h.config h.router
-
-pub Connected-within : (net : Network) (u : ℕ) (p : Block) → Connected net u p → u < length net
-Connected-within net u p h = UpInterface-within net u h.interface h.up
 
 pub InArea-within : (net : Network) (u n : ℕ) → InArea net u n → u < length net
 InArea-within net u n h = UpInterface-within net u h.interface h.up
@@ -33,11 +29,6 @@ Adjacent-from_within net z u v cost a = UpInterface-within net u a.near a.near_u
 pub Adjacent-to_within : (net : Network) (z : Zone) (u v cost : ℕ) → Adjacent net z u v cost → v < length net
 Adjacent-to_within net z u v cost a = UpInterface-within net v a.far a.far_up
 
--- an interface of a configuration, by its place in the list
-pub UpInterface-at : (net : Network) (u : ℕ) (c : Configuration) (k : ℕ) (d : Interface) → HasConfiguration net u c → k < length c.interfaces →
-    IsTrue (get_or c.interfaces k d).up → UpInterface net u (get_or c.interfaces k d)
-UpInterface-at net u c k d h within up = record { config = c; router = h; among = Contains-get_or c.interfaces k d within; up = up }
-
 -- what every configuration of a network keeps, and what its interfaces keep
 pub HasConfiguration-keeps : (net : Network) (u : ℕ) (c : Configuration) → IsNetwork net → HasConfiguration net u c → IsConfiguration c
 HasConfiguration-keeps net u c n h =
@@ -47,60 +38,10 @@ pub UpInterface-keeps : (net : Network) (u : ℕ) (i : Interface) → IsNetwork 
 UpInterface-keeps net u i n up =
     All-contains IsInterface up.config.interfaces i (HasConfiguration-keeps net u up.config n up.router).interfaces up.among
 
-block_of : (o : Option Block) (p : Block) → o ≡ Some p → IfSome o IsBlock → IsBlock p
-block_of None p e h = cc
-block_of (Some q) p e h = subst IsBlock (same_Some q p e) h
-
-pub Connected-block : (net : Network) (u : ℕ) (p : Block) → IsNetwork net → Connected net u p → IsBlock p
-Connected-block net u p n h =
-    block_of h.interface.subnet p h.subnet (UpInterface-keeps net u h.interface n h.up).prefix
-
-cost_in-range : (z : Zone) (i : Interface) → IsInterface i → (1 ≤ cost_in z i) × (cost_in z i ≤ 16777214)
-cost_in-range (Area _) i h = (h.cost.0, omega (arith, h.cost.1))
-cost_in-range One i h = h.metric1
-cost_in-range Two i h = h.metric2
-
--- an arc costs at least 1, and at most 16777214
-pub Adjacent-cost : (net : Network) (z : Zone) (u v cost : ℕ) → IsNetwork net → Adjacent net z u v cost → (1 ≤ cost) × (cost ≤ 16777214)
-Adjacent-cost net z u v cost n a =
-    subst (λ k. (1 ≤ k) × (k ≤ 16777214)) a.costs (cost_in-range z a.near (UpInterface-keeps net u a.near n a.near_up))
-
-MayJoin-sym : (z : Zone) (c d : Configuration) → MayJoin z c d → MayJoin z d c
-MayJoin-sym (Area _) c d h = tt
-MayJoin-sym One c d h = sym h
-MayJoin-sym Two c d h = tt
-
--- adjacency is mutual; the other router sends at the cost of its own interface
-pub Adjacent-back : (net : Network) (z : Zone) (u v cost : ℕ) → (a : Adjacent net z u v cost) → Adjacent net z v u (cost_in z a.far)
-Adjacent-back net z u v cost a = record {
-  apart = λ e. a.apart (sym e);
-  subnet = a.subnet;
-  near = a.far;
-  far = a.near;
-  near_up = a.far_up;
-  far_up = a.near_up;
-  near_subnet = a.far_subnet;
-  far_subnet = a.near_subnet;
-  near_link = a.far_link;
-  far_link = a.near_link;
-  near_runs = a.far_runs;
-  far_runs = a.near_runs;
-  joined = MayJoin-sym z a.near_up.config a.far_up.config a.joined;
-  costs = refl;
-}
-
 -- routers that are adjacent in an OSPF area have interfaces in it
 pub Adjacent-in_area : (net : Network) (n u v cost : ℕ) → Adjacent net (Area n) u v cost → InArea net u n × InArea net v n
 Adjacent-in_area net n u v cost a =
     (record { interface = a.near; up = a.near_up; area = a.near_runs.0 }, record { interface = a.far; up = a.far_up; area = a.far_runs.0 })
-
--- the answers are the only ones
-pub LeastArc-unique : (net : Network) (z : Zone) (u v c d : ℕ) → LeastArc net z u v c → LeastArc net z u v d → c ≡ d
-LeastArc-unique net z u v c d h k = omega (arith, h.least d k.adjacent, k.least c h.adjacent)
-
-pub LongestConnected-unique : (net : Network) (u a : ℕ) (p q : Block) → IsNetwork net → LongestConnected net u a p → LongestConnected net u a q → p ≡ q
-LongestConnected-unique net u a p q n h k =
-    one_longest_match (Connected net u) a p q (Connected-block net u p n h.is_offered) (Connected-block net u q n k.is_offered) h k
 
 named_apart : (net : Network) (name : List ℕ) (u v : ℕ) → NamesAscend net → IsNamed net name u → IsNamed net name v → u < v → ⊥
 named_apart net name u v up h k l =

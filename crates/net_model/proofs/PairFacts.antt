@@ -1,5 +1,5 @@
 -- The first pair that a scan finds is the least, and where it finds none no two routers clash.
-use Rattle.std.proofs.Common.{◌≡◌, ℕ, ◌<◌, ◌≤◌, List, length, ⊎_elim, refl, sym, ap, subst, ◌∙◌, arith}
+use Rattle.std.proofs.Common.{◌≡◌, ℕ, ◌<◌, ◌≤◌, List, ⊎_elim, refl, sym, ap, subst, ◌∙◌, arith}
 use Rattle.std.proofs.lemmas.Option.{same_Some}
 use Rattle.std.proofs.lemmas.Bool.{cases_lt, cases_order}
 use Rattle.net_model.specs.Configuration.{Configuration}
@@ -7,38 +7,39 @@ use Rattle.net_model.specs.Least.{ComesNoLater, IsLeastPair, NoneClash}
 use Rattle.net_model.specs.Least.ComesNoLater.{by_first, by_second, by_item}
 use Rattle.net_model.specs.Lookups.{IsNamed}
 use Rattle.net_model.specs.Network.{Network}
-use Rattle.net_model.specs.RouterNames.{IsFirstNamedPair, IsLeastNamedPair, IsLowestNamed}
-use Rattle.net_model.specs.steps.Scans.{IsFirstPair, NonePair}
+use Rattle.net_model.specs.RouterNames.{IsLeastNamedPair, IsLowestNamed}
+use Rattle.net_model.specs.steps.Scans.{IsFirstPartner, IsMutual, NonePartner}
 
-module _ {A : Type 0} (AtMost : A → A → Type 0) (Clash : ℕ → ℕ → A → Type 0) (count : ℕ) (within : (u v : ℕ) (a : A) → Clash u v a → v < count) where
-  pub IsLeastPair-first : (one two : ℕ) (item : A) → IsFirstPair AtMost Clash count one two item → IsLeastPair AtMost Clash one two item
-  IsLeastPair-first one two item f = record {
-    ordered = f.partner.ordered;
-    clash = f.partner.clash;
+module _ {A : Type 0} (AtMost : A → A → Type 0) (Clash : ℕ → ℕ → A → Type 0) (count : ℕ) (ways : IsMutual Clash count) where
+  pub IsLeastPair-first : (one two : ℕ) (item : A) → IsFirstPartner AtMost (Clash one) count one two item →
+      ((u : ℕ) → u < one → NonePartner (Clash u) count u) → IsLeastPair AtMost Clash one two item
+  IsLeastPair-first one two item partner none_before = record {
+    ordered = partner.ordered;
+    clash = partner.clash;
     least = λ u v other up c.
         ⊎_elim
         (λ same. of_one u v other (sym same) up c)
-        (λ apart. ⊎_elim (λ l. absurd (f.none_before u l v other up (within u v other c) c)) by_first apart)
+        (λ apart. ⊎_elim (λ l. absurd (none_before u l v other up (ways.within u v other c) c)) by_first apart)
         (cases_order u one);
   }
     where
       of_two : (v : ℕ) (other : A) → two ≡ v → Clash one v other → ComesNoLater AtMost one two item one v other
-      of_two v other e c = by_item refl e (f.partner.least other (subst (λ w. Clash one w other) (sym e) c))
+      of_two v other e c = by_item refl e (partner.least other (subst (λ w. Clash one w other) (sym e) c))
 
       of_one : (u v : ℕ) (other : A) → one ≡ u → u ≤ v → Clash u v other → ComesNoLater AtMost one two item u v other
       of_one u v other e up c =
           let here = subst (λ w. Clash w v other) (sym e) c in
           subst (λ w. ComesNoLater AtMost one two item w v other) e
           (⊎_elim (λ same. of_two v other (sym same) here)
-          (λ apart. ⊎_elim (λ l. absurd (f.partner.none_before v other (omega arith) l here)) (by_second refl) apart)
+          (λ apart. ⊎_elim (λ l. absurd (partner.none_before v other (omega arith) l here)) (by_second refl) apart)
           (cases_order v two))
 
-  pub NoneClash-from : ((u v : ℕ) (a : A) → Clash u v a → Clash v u a) → NonePair Clash count → NoneClash Clash
-  NoneClash-from back none u v a c =
-      ⊎_elim
-      (λ l. none u (omega (arith, within v u a (back u v a c))) v a (omega arith) (within u v a c) c)
-      (λ g. none v (within u v a c) u a g (within v u a (back u v a c)) (back u v a c))
-      (cases_lt u v)
+  pub NoneClash-from : ((u : ℕ) → u < count → NonePartner (Clash u) count u) → NoneClash Clash
+  NoneClash-from none u v a c =
+      let back = ways.back u v a c in
+      let u_in = ways.within v u a back in
+      let v_in = ways.within u v a c in
+      ⊎_elim (λ l. none u u_in v a (omega arith) v_in c) (λ g. none v v_in u a g u_in back) (cases_lt u v)
 
 ascending_same : {A : Type 0} → (AtMost : A → A → Type 0) (u v : ℕ) (a : A) (w x : ℕ) (b : A) → ((a b : A) → AtMost a b → AtMost b a → a ≡ b) →
     ComesNoLater AtMost u v a w x b → ComesNoLater AtMost w x b u v a → (u ≡ w) × (v ≡ x) × (a ≡ b)
@@ -57,18 +58,6 @@ pub IsLeastPair-unique : {A : Type 0} → (AtMost : A → A → Type 0) (Clash :
     ((a b : A) → AtMost a b → AtMost b a → a ≡ b) → IsLeastPair AtMost Clash u v a → IsLeastPair AtMost Clash w x b → (u ≡ w) × (v ≡ x) × (a ≡ b)
 IsLeastPair-unique AtMost Clash u v a w x b anti h k =
     ascending_same AtMost u v a w x b anti (h.least w x b k.ordered k.clash) (k.least u v a h.ordered h.clash)
-
--- the names of the first pair are those of the least
-pub IsLeastNamedPair-first : {A : Type 0} → (AtMost : A → A → Type 0) (Clash : ℕ → ℕ → A → Type 0) (net : Network) →
-    ((u v : ℕ) (a : A) → Clash u v a → v < length net)
-    → (one two : List ℕ) (item : A) → IsFirstNamedPair AtMost Clash net one two item → IsLeastNamedPair AtMost Clash net one two item
-IsLeastNamedPair-first AtMost Clash net within one two item f = record {
-  first = f.first;
-  second = f.second;
-  pair = IsLeastPair-first AtMost Clash (length net) within f.first f.second item f.pair;
-  one_is = f.one_is;
-  two_is = f.two_is;
-}
 
 -- a router has one name
 name-unique : (net : Network) (u v : ℕ) (a b : List ℕ) → IsNamed net a u → IsNamed net b v → u ≡ v → a ≡ b

@@ -1,14 +1,14 @@
 -- Configurations make one network or are refused, and in one way.
 use Rattle.std.proofs.Common.{◌≡◌, ◌≢◌, ℕ, suc, ◌≤◌, List, [], ◌∷◌, Contains, refl, sym, ap, subst, ◌∙◌, ⊎_elim, arith}
 use Rattle.std.specs.Cmp.Lexicographic.{nat_list_cmp_total}
-use Rattle.std.proofs.lemmas.List.Sorted.{Contains-permutation, IsPermutation-sym, IsPermutation-refl}
+use Rattle.std.proofs.lemmas.List.Sorted.{Contains-permutation, IsPermutation-sym}
 use Rattle.net_addr.specs.Addresses.{Block}
 use Rattle.net_model.specs.Conditions.{HaveOneAddress, RunTwoAreas, LacksBackbone, HaveOneSystem, DifferOnStub, ospf_cost_sum, isis_metric_sum, IsConsistent}
 use Rattle.net_model.specs.Configuration.{Configuration}
 use Rattle.net_model.specs.Least.{IsBlockAtMost}
 use Rattle.net_model.specs.Limits.{CountsDests, IsWithinLimits}
 use Rattle.net_model.specs.Network.{Network}
-use Rattle.net_model.specs.Refusals.{IsBelow, NamesAscend, IsNetworkOf, MakeNetwork, IsNetwork, TwoHaveName, IsLeastDouble, IsAbove, HoldsOfNetwork}
+use Rattle.net_model.specs.Refusals.{IsBelow, NamesAscend, IsNetworkOf, MakeNetwork, TwoHaveName, IsLeastDouble, IsAbove, HoldsOfNetwork}
 use Rattle.net_model.specs.Refusals.{RefusesNetwork, Refuses}
 use Rattle.net_model.specs.declared.bounds.TheConstants.{MOST_COST, MOST_PATH_METRIC}
 use Rattle.net_model.specs.declared.refusal.LimitWhat.{LimitWhat}
@@ -110,10 +110,6 @@ MakeNetwork-refused configs net (Limit what number) m h = absurd (limit_exceeded
 MakeNetwork-refused configs net (TwoNames name) m h = absurd (TwoHaveName-none configs net name m.network h.1.double)
 MakeNetwork-refused configs net OutOfMemory m h = refl
 MakeNetwork-refused configs net refusal m h = absurd (refused_by_network configs net refusal m h)
-
--- a network makes itself, so no refusal but want of memory stands of it
-pub IsNetwork-makes : (net : Network) → IsNetwork net → MakeNetwork net net
-IsNetwork-makes net n = record { limits = n.limits; network = record { same = IsPermutation-refl net; ascending = n.ascending }; consistent = n.consistent }
 
 same_limit : (configs : List Configuration) (what other : LimitWhat) (m n : ℕ) → Refuses (Limit what m) configs → Refuses (Limit other n) configs →
     Limit what m ≡ Limit other n

@@ -5,8 +5,8 @@ use Rattle.std.proofs.lemmas.Option.{slice_get_read}
 use Rattle.net_model.specs.Conditions.{HasStubLine}
 use Rattle.net_model.specs.Configuration.{Configuration}
 use Rattle.net_model.specs.Least.{IsLowest}
-use Rattle.net_model.specs.Network.{Network, HasConfiguration, UpInterface, InArea}
-use Rattle.net_model.specs.steps.Scans.{RunsArea, HaveStub}
+use Rattle.net_model.specs.Network.{Network, HasConfiguration, UpInterface, InArea, RunsArea}
+use Rattle.net_model.specs.steps.Scans.{HaveStub}
 use Rattle.net_model.specs.declared.area.Stub.{Stub}
 use Rattle.net_model.specs.declared.interface.Interface.{Interface}
 use Rattle.net_model.proofs.Adjacency.{HasConfiguration-unique, UpInterface-among}

@@ -3,22 +3,25 @@ use Rattle.std.proofs.Common.{ℕ, ◌<◌, ◌≤◌, length, Option, Any, inl,
 use Rattle.net_model.specs.Conditions.{DifferOnStub}
 use Rattle.net_model.specs.Configuration.{Configuration}
 use Rattle.net_model.specs.Least.{IsBest}
-use Rattle.net_model.specs.Network.{Network, HasConfiguration}
-use Rattle.net_model.specs.steps.Scans.{ClashOnStub, OffersArea, RunsArea}
+use Rattle.net_model.specs.Network.{Network, HasConfiguration, RunsArea}
+use Rattle.net_model.specs.steps.Scans.{IsMutual, ClashOnStub, OffersArea}
 use Rattle.net_model.proofs.Adjacency.{UpInterface-among}
 use Rattle.net_model.proofs.Bests.{Any-from, IsBest-same}
 use Rattle.net_model.proofs.NetworkFacts.{InArea-within}
 use Rattle.net_model.proofs.RouterFacts.{UpInterface-from, InArea-from, any_from_InArea, HasStubLine-from, any_from_HasStubLine}
 
-pub DifferOnStub-within : (net : Network) (u v a : ℕ) → DifferOnStub net u v a → v < length net
+DifferOnStub-within : (net : Network) (u v a : ℕ) → DifferOnStub net u v a → v < length net
 DifferOnStub-within net u v a h = InArea-within net v a h.two_in
 
-pub DifferOnStub-sym : (net : Network) (u v a : ℕ) → DifferOnStub net u v a → DifferOnStub net v u a
+DifferOnStub-sym : (net : Network) (u v a : ℕ) → DifferOnStub net u v a → DifferOnStub net v u a
 DifferOnStub-sym net u v a h = record {
   one_in = h.two_in;
   two_in = h.one_in;
   differ = ⊎_elim (λ l. inr (l.1, l.0)) (λ r. inl (r.1, r.0)) h.differ;
 }
+
+pub DifferOnStub-mutual : (net : Network) → IsMutual (DifferOnStub net) (length net)
+DifferOnStub-mutual net = record { within = DifferOnStub-within net; back = DifferOnStub-sym net }
 
 module _ (net : Network) (u v : ℕ) (c d : Configuration) (near : HasConfiguration net u c) (far : HasConfiguration net v d) where
   from_list : (a : ℕ) → Any (OffersArea c d a) c.interfaces → DifferOnStub net u v a

@@ -44,8 +44,8 @@ pub record LacksBackbone (net : Network) (u : ℕ) : Type 0 where
   pub outside : InArea net u 0 → ⊥
 
 -- what an interface adds to the sum of OSPF costs: its cost, where it is up and runs OSPF
-abbrev pub ospf_cost : Interface → ℕ
-ospf_cost i = if i.up then (if is_some i.area then i.cost else 0) else 0
+abbrev pub summed_cost : Interface → ℕ
+summed_cost i = if i.up then (if is_some i.area then i.cost else 0) else 0
 
 -- what a range adds: the cost that its line states
 abbrev pub stated_cost : Option ℕ → ℕ
@@ -55,7 +55,7 @@ stated_cost (Some cost) = cost
 -- what a router adds: the costs of its up OSPF interfaces, of its ranges and of its stub areas' defaults
 abbrev pub ospf_costs : Configuration → ℕ
 ospf_costs c =
-    sum_by ospf_cost c.interfaces
+    sum_by summed_cost c.interfaces
     + sum_by (λ (r : Range). stated_cost r.cost) c.ranges
     + sum_by (λ (s : Stub). s.default_cost) c.stubs
 

@@ -4,13 +4,13 @@ use Rattle.net_model.specs.declared.config.Levels.{Levels}
 use Rattle.net_model.specs.declared.config.Levels.TheVariants.{One, Two, Both}
 
 -- level 1 is among them
-abbrev pub has_one : Levels → Bool
-has_one One = true
-has_one Two = false
-has_one Both = true
+abbrev pub has_level_one : Levels → Bool
+has_level_one One = true
+has_level_one Two = false
+has_level_one Both = true
 
 -- level 2 is among them
-abbrev pub has_two : Levels → Bool
-has_two One = false
-has_two Two = true
-has_two Both = true
+abbrev pub has_level_two : Levels → Bool
+has_level_two One = false
+has_level_two Two = true
+has_level_two Both = true

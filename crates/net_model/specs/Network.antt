@@ -27,6 +27,11 @@ pub record Connected (net : Network) (u : ℕ) (p : Block) : Type 0 where
   pub up : UpInterface net u interface
   pub subnet : interface.subnet ≡ Some p
 
+-- the interface is up and runs OSPF in the area
+pub record RunsArea (area : ℕ) (i : Interface) : Type 0 where
+  pub up : IsTrue i.up
+  pub area_is : i.area ≡ Some area
+
 -- router u has an up interface that runs OSPF in area n
 pub record InArea (net : Network) (u n : ℕ) : Type 0 where
   pub interface : Interface

@@ -1,10 +1,9 @@
 -- The names of routers, and routers that clash by their names.
-use Rattle.std.specs.Prelude.{ℕ, List, length, map}
+use Rattle.std.specs.Prelude.{ℕ, List, map}
 use Rattle.net_model.specs.Configuration.{Configuration}
 use Rattle.net_model.specs.Least.{IsLeastPair, IsLowest}
 use Rattle.net_model.specs.Lookups.{IsNamed}
 use Rattle.net_model.specs.Network.{Network}
-use Rattle.net_model.specs.steps.Scans.{IsFirstPair}
 
 -- the names of the routers of a network, in the order of their numbers
 abbrev pub names_of : Network → List (List ℕ)
@@ -21,13 +20,5 @@ pub record IsLeastNamedPair {A : Type 0} (AtMost : A → A → Type 0) (Clash : 
   pub first : ℕ
   pub second : ℕ
   pub pair : IsLeastPair AtMost Clash first second item
-  pub one_is : IsNamed net one first
-  pub two_is : IsNamed net two second
-
--- the routers of the first pair that clashes have these names, and this is the least item that they clash in
-pub record IsFirstNamedPair {A : Type 0} (AtMost : A → A → Type 0) (Clash : ℕ → ℕ → A → Type 0) (net : Network) (one two : List ℕ) (item : A) : Type 0 where
-  pub first : ℕ
-  pub second : ℕ
-  pub pair : IsFirstPair AtMost Clash (length net) first second item
   pub one_is : IsNamed net one first
   pub two_is : IsNamed net two second

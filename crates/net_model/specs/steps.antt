@@ -1,3 +1,4 @@
 pub mod Doubles
 pub mod Subnets
 pub mod Scans
+pub mod Claims

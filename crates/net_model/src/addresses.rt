@@ -1,13 +1,15 @@
-ghost use Rattle.std.specs.Prelude.{◌≤◌, ◌↔◌, ℕ, length, Any, IfErr, IsTrue, OnOk};
+ghost use Rattle.std.specs.Prelude.{◌≡◌, ◌^◌, ◌<◌, ◌≤◌, ◌↔◌, ℕ, length, Any, IfErr, IfOk, IsTrue, OnOk};
+ghost use Rattle.std.specs.Bool.{OnTrue};
 ghost use Rattle.net_model.specs.Conditions.{AddressesDiffer, HaveOneAddress};
 ghost use Rattle.net_model.specs.Least.{IsBest};
 ghost use Rattle.net_model.specs.Refusals.{MayRefuse};
 ghost use Rattle.net_model.specs.steps.Scans.{ClashOnAddress, OffersAddress};
 
+use crate::claims::{Claim, Claims, claims_agree};
 use crate::links::lower;
 use crate::pairs::{Clash, first_clash};
 use crate::{Config, Interface, MOST_ROUTERS, NetRefusal};
-use std::alloc::Global;
+use std::alloc::{AllocError, Global};
 
 /// Refuses an address that two up interfaces have, if they belong to one router or one of them is no loopback.
 pub fn check_addresses(alloc: Global, configs: &[Config]) -> Result<(), NetRefusal>
@@ -15,6 +17,9 @@ pub fn check_addresses(alloc: Global, configs: &[Config]) -> Result<(), NetRefus
     ensures ok { OnOk result (AddressesDiffer configs.now) }
     ensures err { IfErr result (λ e. MayRefuse e configs.now) }
 {
+    if addresses_differ(alloc, configs)? {
+        return Ok(());
+    }
     match first_clash::<OneAddress>(alloc, configs)? {
         Some(pair) => Err(NetRefusal::AddressTwice {
             one: pair.one,
@@ -22,6 +27,49 @@ pub fn check_addresses(alloc: Global, configs: &[Config]) -> Result<(), NetRefus
             address: pair.item,
         }),
         None => Ok(()),
+    }
+}
+
+/// Whether each address is of one router, which has it once. Then no pair of routers needs to be looked at.
+fn addresses_differ(alloc: Global, configs: &[Config]) -> Result<bool, AllocError>
+    requires { length configs.now < 2 ^ 32 }
+    ensures { IfOk result (λ apart. OnTrue apart (AddressesDiffer configs.now)) }
+{
+    let agree = claims_agree::<AddressClaims>(alloc, configs)?;
+    Ok(agree && own_addresses_differ(configs))
+}
+
+/// Whether each router has its addresses once.
+fn own_addresses_differ(configs: &[Config]) -> bool
+    requires { length configs.now < 2 ^ 32 }
+    ensures { OnTrue result ((u a : ℕ) → u < length configs.now → HaveOneAddress configs.now u u a → ⊥) }
+{
+    for router in 0..configs.len() as u32 {
+        match OneAddress::least(configs, router, router) {
+            Some(_) => return false,
+            None => {}
+        }
+    }
+    true
+}
+
+/// An up interface claims its address for its router.
+struct AddressClaims;
+
+impl Claims for AddressClaims {
+    ghost use Rattle.net_model.specs.steps.Claims.{address_claim};
+
+    ghost claimed = { address_claim };
+
+    fn claim(router: u32, interface: &Interface) -> Option<Claim> {
+        if interface.up {
+            Some(Claim {
+                key: interface.address,
+                value: router,
+            })
+        } else {
+            None
+        }
     }
 }
 

@@ -2,8 +2,10 @@ ghost use Rattle.std.specs.Prelude.{◌≡◌, ◌≤◌, ◌↔◌, ◌||◌, �
 ghost use Rattle.net_model.specs.Conditions.{AddressesDiffer, PassesAreas, RunTwoAreas};
 ghost use Rattle.net_model.specs.Least.{IsBest, IsBlockAtMost};
 ghost use Rattle.net_model.specs.Refusals.{MayRefuse};
-ghost use Rattle.net_model.specs.steps.Scans.{AreInTwoAreas, ClashOnArea, OffersDest, RunsArea, first_block};
+ghost use Rattle.net_model.specs.Network.{RunsArea};
+ghost use Rattle.net_model.specs.steps.Scans.{AreInTwoAreas, ClashOnArea, OffersDest, first_block};
 
+use crate::claims::{Claim, Claims, claims_agree};
 use crate::links::share_subnet;
 use crate::pairs::{Clash, first_clash};
 use crate::{Config, Interface, MOST_ROUTERS, NetRefusal};
@@ -17,6 +19,9 @@ pub fn check_areas(alloc: Global, configs: &[Config]) -> Result<(), NetRefusal>
     ensures ok { OnOk result (PassesAreas configs.now) }
     ensures err { IfErr result (λ e. MayRefuse e configs.now) }
 {
+    if claims_agree::<AreaClaims>(alloc, configs)? {
+        return Ok(());
+    }
     match first_clash::<TwoAreas>(alloc, configs)? {
         Some(pair) => Err(NetRefusal::PrefixInTwoAreas {
             one: pair.one,
@@ -24,6 +29,25 @@ pub fn check_areas(alloc: Global, configs: &[Config]) -> Result<(), NetRefusal>
             dest: pair.item,
         }),
         None => Ok(()),
+    }
+}
+
+/// An up interface that runs OSPF claims the first address of its subnet for its area.
+struct AreaClaims;
+
+impl Claims for AreaClaims {
+    ghost use Rattle.net_model.specs.steps.Claims.{area_claim};
+
+    ghost claimed = { area_claim };
+
+    fn claim(_router: u32, interface: &Interface) -> Option<Claim> {
+        match (interface.subnet, interface.area) {
+            (Some(subnet), Some(area)) if interface.up => Some(Claim {
+                key: subnet.base(),
+                value: area,
+            }),
+            _ => None,
+        }
     }
 }
 

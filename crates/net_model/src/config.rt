@@ -16,18 +16,18 @@ pub enum Levels {
 }
 
 impl Levels {
-    ghost use Rattle.net_model.specs.LevelSets.{has_one, has_two};
+    ghost use Rattle.net_model.specs.LevelSets.{has_level_one, has_level_two};
 
     /// Whether level 1 is among them.
-    pub fn has_one(self) -> bool
-        ensures { result ≡ has_one self }
+    pub fn has_level_one(self) -> bool
+        ensures { result ≡ has_level_one self }
     {
         matches!(self, Levels::One | Levels::Both)
     }
 
     /// Whether level 2 is among them.
-    pub fn has_two(self) -> bool
-        ensures { result ≡ has_two self }
+    pub fn has_level_two(self) -> bool
+        ensures { result ≡ has_level_two self }
     {
         matches!(self, Levels::Two | Levels::Both)
     }
@@ -85,6 +85,17 @@ impl Model for Config {
     ghost view = { config_view };
 
     ghost invariant = { IsConfig };
+}
+
+impl Config {
+    ghost use Rattle.std.specs.Prelude.{◌≡◌, bytes_eq};
+
+    /// Whether the router has this name.
+    pub fn has_name(&self, name: &[u8]) -> bool
+        ensures { result ≡ bytes_eq self.now.name name.now }
+    {
+        self.name.as_slice() == name
+    }
 }
 
 /// Configurations, one for each router, in any order.

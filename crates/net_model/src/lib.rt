@@ -1,26 +1,54 @@
 //! Router configurations and the network that they make: what a plan is computed from.
+//!
+//! | File | What it holds | By |
+//! |---|---|---|
+//! | `config`, `interface`, `area` | what a configuration says (`Configuration`) | RFC 2328, appendix C; RFC 5305 |
+//! | `bounds` | the greatest numbers, and the limits | the same |
+//! | `net` | `Net`, and what is asked of it (`Network`, `Lookups`) | |
+//! | `zone`, `links` | areas and levels; who is adjacent there (`Links`) | RFC 2328, section 16.1; RFC 1195 |
+//! | `subnets` | the longest prefix that is connected at a router | RFC 1812, section 5.2.4.3 |
+//! | `starts` | routers that aren't where a migration starts (`OffStarts`) | |
+//! | `refusal` | why configurations make no network, in order (`Refusals`) | |
+//! | `limits`, `naming` | too many routers, interfaces or prefixes (`Limits`); a name twice | |
+//! | `addresses`, `areas`, `borders` | conditions on a network (`Conditions`) | RFC 2328, section 3.3 |
+//! | `sums`, `systems`, `stubs` | more of them | RFC 2328, section 3.6, appendix B; RFC 5305; RFC 1195 |
+//! | `pairs`, `claims` | the first two routers that clash; whether none can | |
+//! | `laws` | there is one network, or one refusal (`BuildLaws`) | |
+//!
+//! `Net::build` takes the time of sorting names, prefixes and addresses, of comparing the interfaces of each router with
+//! each other, and system ids and stub lines by pairs of routers; where an address or a subnet's area is refused, of
+//! comparing all pairs of interfaces. `Net::arc` compares the interfaces of two routers; other questions go over one
+//! router's interfaces, or over the routers.
 #![tactic(auto)]
 
-mod addresses;
+// What configurations say.
 mod area;
-mod areas;
-mod borders;
 mod bounds;
 mod config;
 mod interface;
-mod laws;
-mod limits;
+
+// The network, and what is asked of it.
 mod links;
-mod naming;
 mod net;
+mod starts;
+mod subnets;
+mod zone;
+
+// What refuses it.
+mod addresses;
+mod areas;
+mod borders;
+mod claims;
+mod limits;
+mod naming;
 mod pairs;
 mod refusal;
-mod starts;
 mod stubs;
-mod subnets;
 mod sums;
 mod systems;
-mod zone;
+
+// Laws.
+mod laws;
 
 pub use area::{Range, Ranges, Stub, Stubs};
 pub use bounds::{
@@ -30,7 +58,7 @@ pub use bounds::{
 pub use config::{Config, Configs, Distances, Levels};
 pub use interface::{Interface, Interfaces};
 pub use laws::build_laws;
-pub use links::{cost_in, joins_some, may_join};
+pub use links::{cost_in, may_join};
 pub use net::Net;
 pub use refusal::{LimitWhat, NetRefusal};
 pub use zone::Zone;

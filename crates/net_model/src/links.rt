@@ -38,7 +38,7 @@ fn link_cost(zone: Zone, near: &Interface, fars: &[Interface]) -> Option<u32>
 }
 
 /// Whether an interface makes its router adjacent in the zone to that of the others (RFC 2328, section 16.1; RFC 1195).
-pub fn joins_some(zone: Zone, near: &Interface, fars: &[Interface]) -> bool
+fn joins_some(zone: Zone, near: &Interface, fars: &[Interface]) -> bool
     ensures { IsTrue result ↔ Any (Joins zone near.now) fars.now }
 {
     fars.iter().any(|far| joins(zone, near, far))

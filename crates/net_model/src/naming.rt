@@ -48,7 +48,7 @@ fn two_names(alloc: Global, config: &Config) -> NetRefusal
 }
 
 /// The first place whose configuration has the name of the next one.
-pub fn first_double(configs: &[Config]) -> Option<usize>
+fn first_double(configs: &[Config]) -> Option<usize>
     ensures { MatchOption result (NoDoubles configs.now (length configs.now)) (IsFirstDouble configs.now) }
 {
     for next in 1..configs.len() {

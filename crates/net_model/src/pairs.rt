@@ -1,9 +1,9 @@
 ghost use Rattle.std.specs.Prelude.{◌≡◌, ◌^◌, ◌<◌, ℕ, length, IfOk, IfSome, MatchOption};
-ghost use Rattle.net_model.specs.Least.{IsBest};
+ghost use Rattle.net_model.specs.Least.{IsBest, IsLeastPair, NoneClash};
 ghost use Rattle.net_model.specs.Network.{Network};
 ghost use Rattle.net_model.specs.Lookups.{IsNamed};
-ghost use Rattle.net_model.specs.RouterNames.{IsFirstNamedPair};
-ghost use Rattle.net_model.specs.steps.Scans.{IsFirstPair, IsFirstPartner, NonePair, NonePartner};
+ghost use Rattle.net_model.specs.RouterNames.{IsLeastNamedPair};
+ghost use Rattle.net_model.specs.steps.Scans.{IsFirstPartner, IsMutual, NonePartner};
 
 use crate::Config;
 use net_addr::Name;
@@ -28,7 +28,7 @@ pub trait Clash {
 }
 
 /// Two routers that clash, by their names, and the item in which they do.
-#[derive(Debug, Drop)]
+#[derive(Drop)]
 pub struct NamedPair<T: Copy + Drop> {
     /// The name of the first router.
     pub one: Name,
@@ -39,7 +39,7 @@ pub struct NamedPair<T: Copy + Drop> {
 }
 
 /// Two routers that clash, and the item in which they do.
-#[derive(Clone, Copy, Debug)]
+#[derive(Clone, Copy)]
 struct Pair<T: Copy> {
     /// The first router.
     one: u32,
@@ -55,9 +55,9 @@ pub fn first_clash<C: Clash>(
     configs: &[Config],
 ) -> Result<Option<NamedPair<C::Item>>, AllocError>
     requires { length configs.now < 2 ^ 32 }
-    ensures { IfOk result (λ found. MatchOption found
-        (NonePair (C.clash configs.now) (length configs.now))
-        (λ p. IsFirstNamedPair C.at_most (C.clash configs.now) configs.now p.one p.two p.item)) }
+    ensures { IfOk result (λ found. IsMutual (C.clash configs.now) (length configs.now) → MatchOption found
+        (NoneClash (C.clash configs.now))
+        (λ p. IsLeastNamedPair C.at_most (C.clash configs.now) configs.now p.one p.two p.item)) }
 {
     match first_pair::<C>(configs) {
         Some(pair) => Ok(Some(NamedPair {
@@ -82,9 +82,11 @@ pub fn name_of(alloc: Global, configs: &[Config], router: u32) -> Result<Name, A
 /// The first pair of routers that clash, with their least item.
 fn first_pair<C: Clash>(configs: &[Config]) -> Option<Pair<C::Item>>
     requires { length configs.now < 2 ^ 32 }
-    ensures { MatchOption result
-        (NonePair (C.clash configs.now) (length configs.now))
-        (λ p. IsFirstPair C.at_most (C.clash configs.now) (length configs.now) p.one p.two p.item) }
+    ensures least { IsMutual (C.clash configs.now) (length configs.now) → MatchOption result
+        (NoneClash (C.clash configs.now))
+        (λ p. IsLeastPair C.at_most (C.clash configs.now) p.one p.two p.item) }
+    ensures one { IfSome result (λ p. p.one < length configs.now) }
+    ensures two { IfSome result (λ p. p.two < length configs.now) }
 {
     for one in 0..configs.len() as u32 {
         if let Some(pair) = first_partner::<C>(configs, one) {

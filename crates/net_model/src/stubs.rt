@@ -68,8 +68,8 @@ fn clashing_area(interface: &Interface, one: &Config, two: &Config) -> Option<u3
 fn clash(area: u32, one: &Config, two: &Config) -> bool
     ensures { IsTrue result ↔ ClashOnStub area one.now two.now }
 {
-    has_area(two.interfaces.as_slice(), area)
-        && one_has_stub(area, one.stubs.as_slice(), two.stubs.as_slice())
+    one_has_stub(area, one.stubs.as_slice(), two.stubs.as_slice())
+        && has_area(two.interfaces.as_slice(), area)
 }
 
 /// Whether a stub line for the area is in one of the lists alone.

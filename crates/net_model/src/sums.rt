@@ -1,5 +1,5 @@
 ghost use Rattle.std.specs.Prelude.{◌≡◌, ◌<◌, ◌^◌, if◌then◌else◌, IfErr, OnOk, sum_by};
-ghost use Rattle.net_model.specs.Conditions.{PassesBorders, PassesIsisMetrics, PassesOspfCosts, isis_metric, isis_metric_sum, ospf_cost, ospf_cost_sum};
+ghost use Rattle.net_model.specs.Conditions.{PassesBorders, PassesIsisMetrics, PassesOspfCosts, isis_metric, isis_metric_sum, summed_cost, ospf_cost_sum};
 ghost use Rattle.net_model.specs.Conditions.{ospf_costs, stated_cost};
 ghost use Rattle.net_model.specs.Refusals.{MayRefuse, carried};
 
@@ -54,7 +54,7 @@ fn router_costs(config: &Config) -> u64
 
 /// The sum of the costs of up OSPF interfaces.
 fn interface_costs(interfaces: &[Interface]) -> u64
-    ensures { result ≡ carried (sum_by ospf_cost interfaces.now) }
+    ensures { result ≡ carried (sum_by summed_cost interfaces.now) }
 {
     let mut sum = 0u64;
     for interface in interfaces {
@@ -65,7 +65,7 @@ fn interface_costs(interfaces: &[Interface]) -> u64
 
 /// The interface's OSPF cost, if it is up and runs OSPF.
 fn own_cost(interface: &Interface) -> u32
-    ensures { result ≡ ospf_cost interface.now }
+    ensures { result ≡ summed_cost interface.now }
 {
     if interface.up && interface.area.is_some() {
         interface.cost

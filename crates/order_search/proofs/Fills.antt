@@ -1,7 +1,8 @@
 -- Nodes that fill places: one node more, some more, other open places after them.
-use Rattle.std.proofs.Common.{◌≡◌, ◌+◌, List, [], ◌∷◌, ◌++◌, append_assoc, arith, subst, sym, refl, ap}
+use Rattle.std.proofs.Common.{◌≡◌, ℕ, zero, suc, ◌+◌, replicate, List, [], ◌∷◌, ◌++◌, append_assoc, arith, subst, sym, refl, ap}
 use Rattle.order_search.specs.Trees.{Place, Fill, places_below, branch_count}
 use Rattle.order_search.specs.declared.tree.Node.{Node}
+use Rattle.order_search.specs.declared.tree.Node.TheVariants.{Unvisited}
 
 -- one more node fills the first open place
 pub Fill-push : (P : Place → Node → Type 0) (places left : List Place) (place : Place) (nodes : List Node) (node : Node) →
@@ -40,3 +41,7 @@ Fill-frame P (q ∷ a) b more (n ∷ nodes) fill = (
 pub branch_count-append : (nodes more : List Node) → branch_count (nodes ++ more) ≡ branch_count nodes + branch_count more
 branch_count-append [] more = omega arith
 branch_count-append (n ∷ nodes) more = omega (arith, branch_count-append nodes more)
+
+pub branch_count-unvisited : (k : ℕ) → branch_count (replicate k Unvisited) ≡ 0
+branch_count-unvisited zero = refl
+branch_count-unvisited (suc k) = omega (arith, branch_count-unvisited k)

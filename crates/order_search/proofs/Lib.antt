@@ -4,6 +4,7 @@ pub mod Turned
 mod LeafFacts
 mod CursorFacts
 mod RankFacts
+mod SameMeanings
 mod SearchSteps
 pub mod TreeRefutes
 pub mod OneAnswer

@@ -1,6 +1,6 @@
 -- One answer: where one branch at most is picked for a ranking, and none for a good one, what the search may answer is one.
-use Rattle.std.proofs.Common.{◌≡◌, ℕ, zero, suc, ◌+◌, ◌≤◌, ◌⊎◌, inl, inr, List, [], ◌∷◌, ◌++◌, length, replicate, arith}
-use Rattle.std.proofs.Common.{subst, sym, refl, ap, ◌∙◌}
+use Rattle.std.proofs.Common.{◌≡◌, ℕ, suc, ◌+◌, ◌≤◌, ◌⊎◌, inl, inr, List, [], ◌∷◌, ◌++◌, length, replicate, arith}
+use Rattle.std.proofs.Common.{subst, sym, refl, ap, ◌∙◌, ⊎_elim}
 use Rattle.std.specs.List.{All}
 use Rattle.std.proofs.lemmas.List.{append-nil, same_from_push}
 use Rattle.std.proofs.lemmas.List.Elements.{All-head, All-tail}
@@ -14,7 +14,7 @@ use Rattle.order_search.specs.Meanings.{Meaning}
 use Rattle.order_search.specs.Places.{IsLayered, IsClosedByLast, StandsAt}
 use Rattle.order_search.specs.Answers.{IsFoundNode, AreFoundWaves, IsRefutation, IsSpent, IsFound}
 use Rattle.order_search.specs.Laws.{PicksOne}
-use Rattle.order_search.proofs.Fills.{branch_count-append}
+use Rattle.order_search.proofs.Fills.{branch_count-append, branch_count-unvisited}
 use Rattle.order_search.proofs.TreeRefutes.{cycle_leads}
 use Rattle.order_search.specs.declared.tree.Node.{Node}
 use Rattle.order_search.specs.declared.tree.Node.TheVariants.{Branch, Leaf, Unvisited}
@@ -166,30 +166,28 @@ more_branches : (nodes more others : List Node) → others ≡ nodes ++ more →
 more_branches nodes more others grown some =
     omega (arith, ap (λ (xs : List Node). branch_count xs) grown, branch_count-append nodes more, some)
 
-stops : (m : Meaning) → PicksOne m.good m.picked → (s t : Stop m) → Stops m s t
-stops m picks s t =
-    let both = meet m picks (m.base ∷ []) (s.place ∷ s.later) (t.place ∷ t.later) s.before t.before s.stands.fills t.stands.fills
-    s.stands.visited t.stands.visited in
-    elim both [
-      | inl on ↦ elim (what_follows m picks s.place s.later (t.place ∷ t.later) s.ranks on.more s.stands.layered on.fills on.visited) [
-        | nothing places none ↦
-            let place : s.place ≡ t.place = cc in
-            let rest : s.later ≡ t.later = cc in
-            let ends : t.before ≡ s.before = on.grown ∙ ap (λ (xs : List Node). s.before ++ xs) none ∙ append-nil s.before in
-            same (sym ends) place rest
-            (layered_once m.size t.place s.ranks t.ranks (subst (λ (p : Place). IsLayered m.size p s.ranks) place s.stands.layered) t.stands.layered)
-        | branch some bad ↦ earlier (more_branches s.before on.more t.before on.grown some) bad
-      ]
-      | inr on ↦ elim (what_follows m picks t.place t.later (s.place ∷ s.later) t.ranks on.more t.stands.layered on.fills on.visited) [
-        | nothing places none ↦
-            let place : s.place ≡ t.place = cc in
-            let rest : s.later ≡ t.later = cc in
-            let ends : s.before ≡ t.before = on.grown ∙ ap (λ (xs : List Node). t.before ++ xs) none ∙ append-nil t.before in
-            same ends place rest
-            (layered_once m.size t.place s.ranks t.ranks (subst (λ (p : Place). IsLayered m.size p s.ranks) place s.stands.layered) t.stands.layered)
-        | branch some bad ↦ later (more_branches t.before on.more s.before on.grown some) bad
-      ]
+stops_on : (m : Meaning) → PicksOne m.good m.picked → (s t : Stop m) →
+    GoesOn (IsFoundNode m) s.before t.before (s.place ∷ s.later) (t.place ∷ t.later) → Stops m s t
+stops_on m picks s t on =
+    elim (what_follows m picks s.place s.later (t.place ∷ t.later) s.ranks on.more s.stands.layered on.fills on.visited) [
+      | nothing places none ↦
+          let place : s.place ≡ t.place = cc in
+          let rest : s.later ≡ t.later = cc in
+          let ends : t.before ≡ s.before = on.grown ∙ ap (λ (xs : List Node). s.before ++ xs) none ∙ append-nil s.before in
+          same (sym ends) place rest
+          (layered_once m.size t.place s.ranks t.ranks (subst (λ (p : Place). IsLayered m.size p s.ranks) place s.stands.layered) t.stands.layered)
+      | branch some bad ↦ earlier (more_branches s.before on.more t.before on.grown some) bad
     ]
+
+turned : (m : Meaning) (s t : Stop m) → Stops m t s → Stops m s t
+turned m s t (same before place rest ranks) = same (sym before) (sym place) (sym rest) (sym ranks)
+turned m s t (earlier more bad) = later more bad
+turned m s t (later more bad) = earlier more bad
+
+stops : (m : Meaning) → PicksOne m.good m.picked → (s t : Stop m) → Stops m s t
+stops m picks s t = ⊎_elim (stops_on m picks s t) (λ on. turned m s t (stops_on m picks t s on))
+    (meet m picks (m.base ∷ []) (s.place ∷ s.later) (t.place ∷ t.later) s.before t.before s.stands.fills t.stands.fills
+    s.stands.visited t.stands.visited)
 
 -- a closed tree has a branch at each place with a layered list, which isn't good
 closed_goes_on : (m : Meaning) → PicksOne m.good m.picked → (tree : List Node) → IsClosedTree (IsFoundNode m) m.base tree → (s : Stop m) →
@@ -222,14 +220,10 @@ closed_once m picks tree other closed too =
 
 -- The three answers
 
-none_unvisited : (k : ℕ) → branch_count (replicate k Unvisited) ≡ 0
-none_unvisited zero = refl
-none_unvisited (suc k) = omega (arith, none_unvisited k)
-
 -- the branches of nodes that end with unvisited places stand before these
 branches_before : (before nodes : List Node) (k : ℕ) → nodes ≡ before ++ replicate k Unvisited → branch_count nodes ≡ branch_count before
 branches_before before nodes k ends =
-    omega (arith, ap (λ (xs : List Node). branch_count xs) ends, branch_count-append before (replicate k Unvisited), none_unvisited k)
+    omega (arith, ap (λ (xs : List Node). branch_count xs) ends, branch_count-append before (replicate k Unvisited), branch_count-unvisited k)
 
 abbrev waves_stop : (m : Meaning) (budget : ℕ) (ranks : List ℕ) (pairs : List Pair) (chain : List ℕ) (trail : List Node) →
     AreFoundWaves m budget ranks pairs chain trail → Stop m

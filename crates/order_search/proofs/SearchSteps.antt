@@ -1,58 +1,58 @@
 -- The steps of the search: at a place, after a branch, at the next place, and what is found at the end.
 use Rattle.std.proofs.Common.{◌≡◌, ◌≢◌, ℕ, zero, suc, ◌+◌, ◌-◌, ◌*◌, ◌/◌, ◌<◌, ◌≤◌, inl, List, [], ◌∷◌, ◌++◌}
-use Rattle.std.proofs.Common.{length, take, map, replicate, arith, subst, sym, refl, ap, ◌∙◌}
+use Rattle.std.proofs.Common.{length, vec_len, take, map, replicate, arith, subst, sym, refl, ap, ◌∙◌}
 use Rattle.std.specs.List.{All}
-use Rattle.std.proofs.lemmas.List.{take_all, length-append, length_push, length-take-le, get_or_append_left, get_or_push}
+use Rattle.std.specs.Vec.{with_items}
+use Rattle.std.proofs.lemmas.List.{with_items_is, take_all, length-append, length_push, length-take-le, get_or_append_left, get_or_push}
 use Rattle.std.proofs.lemmas.List.Elements.{All-nil, All-cons, All-head, All-tail, All-append, All-push, Contains-append_left}
 use Rattle.order_core.specs.Pairs.{Pair, Leads}
 use Rattle.order_core.specs.Turns.{child_pairs}
 use Rattle.order_core.specs.declared.turn.Turn.{Turn}
 use Rattle.precedence_set.specs.Layers.{IsChain, IsLayeredChain}
 use Rattle.precedence_set.proofs.LayerFacts.{layers_fewest, layers_unique}
-use Rattle.order_search.specs.Trees.{Place, Real, Fill, IsVisited, HasOneChild, branch_count}
-use Rattle.order_search.specs.Meanings.{Meaning, Picked, Break, IsBase}
+use Rattle.order_search.specs.Trees.{Place, Fill, IsVisited, HasOneChild, branch_count}
+use Rattle.order_search.specs.Meanings.{Meaning, Break, IsBase}
 use Rattle.order_search.specs.Places.{IsLayered}
 use Rattle.order_search.specs.Answers.{IsFoundNode, AreFoundWaves, IsRefutation, IsSpent, IsFound}
-use Rattle.order_search.specs.steps.Waiting.{child_of, place_of, places_of, children_below, AreChildren, AreFresh, IsUnder}
+use Rattle.order_search.specs.steps.Waiting.{Standing, child_of, place_of, places_of, children_below, AreChildren, AreFresh, IsUnder}
 use Rattle.order_search.specs.steps.Leaves.{IsLeaf, GrowsLeaves}
-use Rattle.order_search.specs.steps.Steps.{AreWavesOf}
+use Rattle.order_search.specs.steps.Steps.{IsSearching, IsAsked, EndsBy, EndsOrGoesOn, IsEndOf}
 use Rattle.order_search.specs.declared.child.Child.{Child}
+use Rattle.order_search.specs.declared.ending.Ending.{Ending}
+use Rattle.order_search.specs.declared.ending.Ending.TheVariants.{Good, Spent as Stops, Closed}
 use Rattle.order_search.specs.declared.tree.Node.{Node}
 use Rattle.order_search.specs.declared.tree.Node.TheVariants.{Branch, Leaf, Unvisited}
 use Rattle.order_search.specs.declared.found.Found.{Found}
-use Rattle.order_search.specs.declared.found.Found.TheVariants.{Spent}
-use Rattle.order_search.proofs.Fills.{Fill-push, Fill-append, Fill-weaker, branch_count-append}
+use Rattle.order_search.specs.declared.stand.Stand.{Stand}
+use Rattle.order_search.proofs.Fills.{Fill-push, Fill-append, Fill-weaker, branch_count-append, branch_count-unvisited}
 use Rattle.order_search.proofs.FreshPairs.{AreFresh-base, fresh_bound}
 use Rattle.order_search.proofs.RankFacts.{MayBeChild, kids_may}
 use Rattle.order_search.proofs.Turned.{AreTurned, AreTurned-fill}
 
--- the search stands at a place, whose pairs are assumed
-pub record IsSearching (m : Meaning) (budget : ℕ) (nodes : List Node) (pairs : List Pair) (children : List Child) (branches : ℕ) : Type 0 where
-  pub fills : Fill (IsFoundNode m) (m.base ∷ []) nodes (pairs ∷ places_of pairs children)
-  pub visited : All IsVisited nodes
-  pub under : IsUnder m.size m.base pairs children
-  pub counted : branch_count nodes ≡ branches
-  pub within : branches ≤ budget
-  pub line : All HasOneChild nodes → (children ≡ []) × (length pairs ≡ length m.base + branches)
-
 -- the place has become a branch, and the next child waits
-pub record IsBranched (m : Meaning) (budget : ℕ) (nodes : List Node) (pairs : List Pair) (children : List Child) (branches : ℕ) : Type 0 where
-  pub fills : Fill (IsFoundNode m) (m.base ∷ []) nodes (places_of pairs children)
-  pub visited : All IsVisited nodes
-  pub under : IsUnder m.size m.base pairs children
-  pub counted : branch_count nodes ≡ branches
-  pub within : branches ≤ budget
-  pub line : All HasOneChild nodes → (c : Child) × (children ≡ c ∷ []) × (c.above + 1 ≡ length m.base + branches)
+pub record IsBranched (m : Meaning) (budget : ℕ) (s : Stand) : Type 0 where
+  pub fills : Fill (IsFoundNode m) (m.base ∷ []) s.tree (places_of s.held.pairs s.waiting)
+  pub visited : All IsVisited s.tree
+  pub under : IsUnder m.size m.base s.held.pairs s.waiting
+  pub counted : branch_count s.tree ≡ s.branches
+  pub within : s.branches ≤ budget
+  pub line : All HasOneChild s.tree → (c : Child) × (s.waiting ≡ c ∷ []) × (c.above + 1 ≡ length m.base + s.branches)
 
 -- at first it stands at the place that assumes the base alone
-pub IsSearching-begin : (m : Meaning) (budget : ℕ) (pairs : List Pair) → IsBase m.size m.base → pairs ≡ m.base → IsSearching m budget [] pairs [] 0
-IsSearching-begin m budget pairs is begun = record {
-  fills = ap (λ (place : Place). place ∷ []) (sym begun);
-  visited = All-nil IsVisited;
-  under = record { fresh = subst (λ (xs : List Pair). AreFresh m.size m.base xs) (sym begun) (AreFresh-base m.size m.base is); waiting = tt };
-  counted = refl;
-  within = omega arith;
-  line = λ all. (refl, omega (arith, ap (λ (xs : List Pair). length xs) begun));
+pub IsSearching-begin : (m : Meaning) (budget : ℕ) (s : Stand) → IsBase m.size m.base → s.held.routers ≡ m.size → vec_len s.ranks ≡ m.size →
+    s.held.pairs ≡ m.base → s.tree ≡ [] → s.waiting ≡ [] → s.branches ≡ 0 → IsSearching m budget s
+IsSearching-begin m budget s is routers room begun bare none first = record {
+  routers = routers;
+  room = room;
+  fills = rw (bare, none) (ap (λ (place : Place). place ∷ []) (sym begun));
+  visited = subst (λ (nodes : List Node). All IsVisited nodes) (sym bare) (All-nil IsVisited);
+  under = record {
+    fresh = subst (λ (xs : List Pair). AreFresh m.size m.base xs) (sym begun) (AreFresh-base m.size m.base is);
+    waiting = subst (λ (cs : List Child). AreChildren m.size m.base s.held.pairs cs) (sym none) tt;
+  };
+  counted = ap branch_count bare ∙ sym first;
+  within = omega (arith, first);
+  line = λ all. (none, omega (arith, first, ap (λ (xs : List Pair). length xs) begun));
 }
 
 -- what holds of all nodes holds of the first ones, and of the last one
@@ -73,34 +73,32 @@ chain_of n pairs ranks chain layered chained =
     chained.is_chain
 
 -- a ranking that the search found good
-pub waves_are_found : (m : Meaning) (budget : ℕ) (nodes : List Node) (pairs : List Pair) (children : List Child) (branches : ℕ)
-    (ranks chain : List ℕ) →
-    IsSearching m budget nodes pairs children branches → IsLayered m.size pairs ranks → m.good ranks → IsLayeredChain m.size pairs chain →
-    AreFoundWaves m budget ranks pairs chain (nodes ++ Unvisited ∷ [])
-waves_are_found m budget nodes pairs children branches ranks chain searching layered is_good chained =
-    let is_chain = chain_of m.size pairs ranks chain layered chained in
-    let trail : List Node = nodes ++ Unvisited ∷ [] in
-    let all = AreTurned-fill (IsFoundNode m) m.base trail (m.base ∷ []) (pairs ∷ places_of pairs children) nodes
-    (λ node has. Contains-append_left nodes (Unvisited ∷ []) node has)
+waves_are_found : (m : Meaning) (budget : ℕ) (s : Stand) (chain : List ℕ) → IsAsked m budget s → m.good s.ranks.items →
+    IsLayeredChain m.size s.held.pairs chain →
+    AreFoundWaves m budget s.ranks.items s.held.pairs chain (s.tree ++ Unvisited ∷ [])
+waves_are_found m budget s chain asked is_good chained =
+    let searching = asked.searching in
+    let layered = asked.layered in
+    let pairs : List Pair = s.held.pairs in
+    let is_chain = chain_of m.size pairs s.ranks.items chain layered chained in
+    let trail : List Node = s.tree ++ Unvisited ∷ [] in
+    let all = AreTurned-fill (IsFoundNode m) m.base trail (m.base ∷ []) (pairs ∷ places_of pairs s.waiting) s.tree
+    (λ node has. Contains-append_left s.tree (Unvisited ∷ []) node has)
     (All-cons (AreTurned m.base trail) m.base [] (λ pair has. inl has) (All-nil (AreTurned m.base trail))) searching.fills in
     record {
       is_good = is_good;
       leads = record {
-        before = nodes;
-        later = places_of pairs children;
+        before = s.tree;
+        later = places_of pairs s.waiting;
         ends = refl;
         stands = record { visited = searching.visited; fills = searching.fills; layered = layered };
       };
-      within = omega (arith, branch_count-append nodes (Unvisited ∷ []), searching.counted, searching.within);
+      within = omega (arith, branch_count-append s.tree (Unvisited ∷ []), searching.counted, searching.within);
       chained = is_chain;
-      fewest = λ others ranking keeps. layers_fewest m.size pairs ranks others layered.below layered.layers ranking.each keeps;
+      fewest = λ others ranking keeps. layers_fewest m.size pairs s.ranks.items others layered.below layered.layers ranking.each keeps;
       neighbours = λ k lt. (is_chain.back k lt).holds.before;
-      turned = All-head (AreTurned m.base trail) pairs (places_of pairs children) all;
+      turned = All-head (AreTurned m.base trail) pairs (places_of pairs s.waiting) all;
     }
-
-branch_count-unvisited : (k : ℕ) → branch_count (replicate k Unvisited) ≡ 0
-branch_count-unvisited zero = refl
-branch_count-unvisited (suc k) = omega (arith, branch_count-unvisited k)
 
 length-places_of : (pairs : List Pair) (children : List Child) → length (places_of pairs children) ≡ length children
 length-places_of pairs [] = refl
@@ -118,26 +116,26 @@ half_square (suc m) b le =
     subst (λ (k : ℕ). b ≤ suc m * k / 2) (sym back) (half b (suc m * m) (omega (arith, le, square)))
 
 -- the search stops where the budget is spent
-pub stop_is_spent : (m : Meaning) (budget : ℕ) (nodes : List Node) (pairs : List Pair) (children : List Child) (branches count : ℕ) (ranks : List ℕ) →
-    IsSearching m budget nodes pairs children branches → IsLayered m.size pairs ranks → ¬ m.good ranks → branches ≡ budget →
-    count ≡ length children + 1 →
-    IsSpent m budget (nodes ++ replicate count Unvisited)
-stop_is_spent m budget nodes pairs children branches count ranks searching layered bad all count_is =
-    let e : count ≡ suc (length (places_of pairs children)) = omega (arith, count_is, length-places_of pairs children) in
+stop_is_spent : (m : Meaning) (budget : ℕ) (s : Stand) → IsAsked m budget s → ¬ m.good s.ranks.items → s.branches ≡ budget →
+    IsSpent m budget (s.tree ++ replicate (length s.waiting + 1) Unvisited)
+stop_is_spent m budget s asked bad all =
+    let count : ℕ = length s.waiting + 1 in
+    let searching = asked.searching in
+    let e : count ≡ suc (length (places_of s.held.pairs s.waiting)) = omega (arith, length-places_of s.held.pairs s.waiting) in
     record {
       stopped = record {
-        before = nodes;
-        place = pairs;
-        later = places_of pairs children;
-        ranks = ranks;
-        ends = ap (λ (k : ℕ). nodes ++ replicate k Unvisited) e;
-        stands = record { visited = searching.visited; fills = searching.fills; layered = layered };
+        before = s.tree;
+        place = s.held.pairs;
+        later = places_of s.held.pairs s.waiting;
+        ranks = s.ranks.items;
+        ends = ap (λ (k : ℕ). s.tree ++ replicate k Unvisited) e;
+        stands = record { visited = searching.visited; fills = searching.fills; layered = asked.layered };
         bad = bad;
-        spent = omega (arith, branch_count-append nodes (replicate count Unvisited), branch_count-unvisited count, searching.counted, all);
+        spent = omega (arith, branch_count-append s.tree (replicate count Unvisited), branch_count-unvisited count, searching.counted, all);
       };
       path = λ one.
-          let line = searching.line (All-front HasOneChild nodes (replicate count Unvisited) one) in
-          half_square m.size budget (fresh_bound m.size m.base pairs budget searching.under.fresh (omega (arith, line.1, all)));
+          let line = searching.line (All-front HasOneChild s.tree (replicate count Unvisited) one) in
+          half_square m.size budget (fresh_bound m.size m.base s.held.pairs budget searching.under.fresh (omega (arith, line.1, all)));
     }
 
 -- the children of a branch, at the pairs that it assumes
@@ -174,36 +172,65 @@ only [] one = absurd (omega (arith, one))
 only (p ∷ []) one = (p, refl)
 only (p ∷ q ∷ kids) one = absurd (omega (arith, one))
 
+-- the place is visited: its layered list is known
+pub IsAsked-visited : (m : Meaning) (budget : ℕ) (s : Stand) (held : Standing) (ranks : List ℕ) → IsSearching m budget s → held ≡ s.held →
+    length ranks ≡ m.size → IsLayered s.held.routers s.held.pairs ranks →
+    IsAsked m budget (record s { held = held; ranks = with_items s.ranks ranks }) × ((with_items s.ranks ranks).items ≡ ranks)
+IsAsked-visited m budget s held ranks is same long layered =
+    let written : (with_items s.ranks ranks).items ≡ ranks = with_items_is s.ranks ranks (omega (arith, long, is.room)) in (
+      subst (λ (h : Standing). IsAsked m budget (record s { held = h; ranks = with_items s.ranks ranks })) (sym same) (record {
+        searching = record {
+          routers = is.routers;
+          room = is.room;
+          fills = is.fills;
+          visited = is.visited;
+          under = is.under;
+          counted = is.counted;
+          within = is.within;
+          line = is.line;
+        };
+        layered = subst (λ (n : ℕ). IsLayered n s.held.pairs (with_items s.ranks ranks).items) is.routers
+            (subst (λ (xs : List ℕ). IsLayered s.held.routers s.held.pairs xs) (sym written) layered);
+      }),
+      written,
+    )
+
 -- the place becomes a branch
-pub branch_is_made : (m : Meaning) (budget : ℕ) (nodes : List Node) (pairs : List Pair) (children : List Child) (branches : ℕ) (ranks : List ℕ)
-    (address : ℕ) (turns : List Turn) →
-    IsSearching m budget nodes pairs children branches → IsLayered m.size pairs ranks → Break m.real m.picked m.size ranks address turns →
-    branches < budget →
-    IsBranched m budget (nodes ++ Branch address turns ∷ []) pairs (children_below pairs turns children) (branches + 1)
-branch_is_made m budget nodes pairs children branches ranks address turns searching layered told free =
+pub branch_is_made : (m : Meaning) (budget : ℕ) (s : Stand) (ranks : List ℕ) (address : ℕ) (turns told_turns : List Turn) →
+    IsAsked m budget s × (s.ranks.items ≡ ranks) → Break m.real m.picked m.size ranks address told_turns → turns ≡ told_turns → s.branches ≢ budget →
+    IsBranched m budget (record s {
+      tree = s.tree ++ Branch address turns ∷ [];
+      waiting = children_below s.held.pairs turns s.waiting;
+      branches = s.branches + 1;
+    })
+branch_is_made m budget s ranks address turns told_turns (asked, written) breaks same more =
+    let searching = asked.searching in
+    let told = subst (λ (ts : List Turn). Break m.real m.picked m.size s.ranks.items address ts) (sym same)
+    (subst (λ (xs : List ℕ). Break m.real m.picked m.size xs address told_turns) (sym written) breaks) in
+    let pairs : List Pair = s.held.pairs in
     let above : ℕ = length pairs in
     let node : IsFoundNode m pairs (Branch address turns) = record {
       is_node = (told.is_real, told.both);
-      earned = record { ranks = ranks; layered = layered; pick = told.pick };
+      earned = record { ranks = s.ranks.items; layered = asked.layered; pick = told.pick };
       least_cycle = tt;
     } in
     record {
-      fills = subst (λ (ps : List Place). Fill (IsFoundNode m) (m.base ∷ []) (nodes ++ Branch address turns ∷ []) ps)
-          (sym (places_of-kids pairs above (child_pairs turns) children refl))
-          (Fill-push (IsFoundNode m) (m.base ∷ []) (places_of pairs children) pairs nodes (Branch address turns) searching.fills node);
-      visited = All-push IsVisited nodes (Branch address turns) searching.visited tt;
+      fills = subst (λ (ps : List Place). Fill (IsFoundNode m) (m.base ∷ []) (s.tree ++ Branch address turns ∷ []) ps)
+          (sym (places_of-kids pairs above (child_pairs turns) s.waiting refl))
+          (Fill-push (IsFoundNode m) (m.base ∷ []) (places_of pairs s.waiting) pairs s.tree (Branch address turns) searching.fills node);
+      visited = All-push IsVisited s.tree (Branch address turns) searching.visited tt;
       under = record {
         fresh = searching.under.fresh;
-        waiting = AreChildren-kids m.size m.base pairs above (child_pairs turns) children searching.under.fresh.long refl
-            (kids_may m.real m.picked m.size pairs ranks address turns layered told) searching.under.waiting;
+        waiting = AreChildren-kids m.size m.base pairs above (child_pairs turns) s.waiting searching.under.fresh.long refl
+            (kids_may m.real m.picked m.size pairs s.ranks.items address turns asked.layered told) searching.under.waiting;
       };
-      counted = omega (arith, branch_count-append nodes (Branch address turns ∷ []), searching.counted);
-      within = omega (arith, free);
+      counted = omega (arith, branch_count-append s.tree (Branch address turns ∷ []), searching.counted);
+      within = omega (arith, more, searching.within);
       line = λ one.
-          let before = searching.line (All-front HasOneChild nodes (Branch address turns ∷ []) one) in
-          let kid = only (child_pairs turns) (All-last HasOneChild nodes (Branch address turns) one) in (
+          let before = searching.line (All-front HasOneChild s.tree (Branch address turns ∷ []) one) in
+          let kid = only (child_pairs turns) (All-last HasOneChild s.tree (Branch address turns) one) in (
             child_of above kid.0,
-            ap (λ (kids : List Pair). map (child_of above) kids ++ children) kid.1 ∙ ap (λ (cs : List Child). child_of above kid.0 ∷ cs) before.0,
+            ap (λ (kids : List Pair). map (child_of above) kids ++ s.waiting) kid.1 ∙ ap (λ (cs : List Child). child_of above kid.0 ∷ cs) before.0,
             omega (arith, before.1),
           );
     }
@@ -241,117 +268,74 @@ no_children : (pairs : List Pair) (children : List Child) → places_of pairs ch
 no_children pairs [] none = refl
 no_children pairs (c ∷ children) none = cc
 
+-- what a branch's nodes are once leaves have followed
+grown_from : (m : Meaning) (budget : ℕ) (b : Stand) (nodes : List Node) (after : List Place) → IsBranched m budget b →
+    GrowsLeaves b.tree nodes (places_of b.held.pairs b.waiting) after →
+    Fill (IsFoundNode m) (m.base ∷ []) nodes after × All IsVisited nodes × (branch_count nodes ≡ b.branches)
+grown_from m budget b nodes after branched grown =
+    let before : List Place = places_of b.held.pairs b.waiting in (
+      subst (λ (xs : List Node). Fill (IsFoundNode m) (m.base ∷ []) xs after) (sym grown.grown)
+          (Fill-append (IsFoundNode m) (m.base ∷ []) before after b.tree grown.leaves branched.fills
+          (Fill-weaker IsLeaf (IsFoundNode m) (IsFoundNode-leaf m) before after grown.leaves grown.fills)),
+      subst (λ (xs : List Node). All IsVisited xs) (sym grown.grown)
+          (All-append IsVisited b.tree grown.leaves branched.visited (leaves_visited before after grown.leaves grown.fills)),
+      ap branch_count grown.grown ∙ branch_count-append b.tree grown.leaves
+          ∙ omega (arith, leaves_count before after grown.leaves grown.fills, branched.counted),
+    )
+
 -- the next child that closes no cycle becomes the place
-pub place_is_next : (m : Meaning) (budget : ℕ) (nodes new : List Node) (pairs after : List Pair) (children rest : List Child) (branches : ℕ) →
-    IsBranched m budget nodes pairs children branches →
-    GrowsLeaves nodes new (places_of pairs children) (after ∷ places_of after rest) → IsUnder m.size m.base after rest →
-    IsSearching m budget new after rest branches
-place_is_next m budget nodes new pairs after children rest branches branched grown under = record {
-  fills = subst (λ (xs : List Node). Fill (IsFoundNode m) (m.base ∷ []) xs (after ∷ places_of after rest)) (sym grown.grown)
-      (Fill-append (IsFoundNode m) (m.base ∷ []) (places_of pairs children) (after ∷ places_of after rest) nodes grown.leaves branched.fills
-      (Fill-weaker IsLeaf (IsFoundNode m) (IsFoundNode-leaf m) (places_of pairs children) (after ∷ places_of after rest) grown.leaves grown.fills));
-  visited = subst (λ (xs : List Node). All IsVisited xs) (sym grown.grown)
-      (All-append IsVisited nodes grown.leaves branched.visited
-      (leaves_visited (places_of pairs children) (after ∷ places_of after rest) grown.leaves grown.fills));
-  under = under;
-  counted = omega (
-    arith,
-    ap branch_count grown.grown,
-    branch_count-append nodes grown.leaves,
-    leaves_count (places_of pairs children)
-        (after ∷ places_of after rest) grown.leaves grown.fills,
-    branched.counted,
-  );
-  within = branched.within;
-  line = λ one.
-      let child = branched.line (All-front HasOneChild nodes grown.leaves (subst (λ (xs : List Node). All HasOneChild xs) grown.grown one)) in
-      let c = child.0 in
-      let fill : Fill IsLeaf (place_of pairs c ∷ []) grown.leaves (after ∷ places_of after rest) = subst
-      (λ (cs : List Child). Fill IsLeaf (places_of pairs cs) grown.leaves (after ∷ places_of after rest)) child.1 grown.fills in
-      let are : AreChildren m.size m.base pairs (c ∷ []) = subst (λ (cs : List Child). AreChildren m.size m.base pairs cs) child.1 branched.under.waiting in
-      let there = one_place (place_of pairs c) after (places_of after rest) grown.leaves fill in (
-        no_children after rest there.1,
-        omega (
-          arith,
-          ap (λ (xs : List Pair). length xs) there.0,
-          length_push (take c.above pairs) (c.before, c.after),
-          length-take-le c.above pairs
-              are.0.within,
-          child.2,
-        ),
-      );
-}
+pub place_is_next : (m : Meaning) (budget : ℕ) (b s : Stand) → IsBranched m budget b →
+    GrowsLeaves b.tree s.tree (places_of b.held.pairs b.waiting) (s.held.pairs ∷ places_of s.held.pairs s.waiting) →
+    IsUnder m.size m.base s.held.pairs s.waiting → s.branches ≡ b.branches → s.held.routers ≡ m.size → vec_len s.ranks ≡ m.size →
+    IsSearching m budget s
+place_is_next m budget b s branched grown under same routers room =
+    let after : List Place = s.held.pairs ∷ places_of s.held.pairs s.waiting in
+    let is = grown_from m budget b s.tree after branched grown in
+    record {
+      routers = routers;
+      room = room;
+      fills = is.0;
+      visited = is.1;
+      under = under;
+      counted = is.2 ∙ sym same;
+      within = omega (arith, branched.within, same);
+      line = λ one.
+          let child = branched.line (All-front HasOneChild b.tree grown.leaves (subst (λ (xs : List Node). All HasOneChild xs) grown.grown one)) in
+          let c = child.0 in
+          let fill : Fill IsLeaf (place_of b.held.pairs c ∷ []) grown.leaves after = subst
+          (λ (cs : List Child). Fill IsLeaf (places_of b.held.pairs cs) grown.leaves after) child.1 grown.fills in
+          let are : AreChildren m.size m.base b.held.pairs (c ∷ []) = subst
+          (λ (cs : List Child). AreChildren m.size m.base b.held.pairs cs) child.1 branched.under.waiting in
+          let there = one_place (place_of b.held.pairs c) s.held.pairs (places_of s.held.pairs s.waiting) grown.leaves fill in
+          let long = length_push (take c.above b.held.pairs) (c.before, c.after) in
+          let above = length-take-le c.above b.held.pairs are.0.within in
+          (no_children s.held.pairs s.waiting there.1, omega (arith, ap (λ (xs : List Pair). length xs) there.0, long, above, child.2, same));
+    }
 
 -- where no child is left, the tree is closed
-pub tree_is_closed : (m : Meaning) (budget : ℕ) (nodes new : List Node) (pairs : List Pair) (children : List Child) (branches : ℕ) →
-    IsBranched m budget nodes pairs children branches →
-    GrowsLeaves nodes new (places_of pairs children) [] → IsRefutation m budget new
-tree_is_closed m budget nodes new pairs children branches branched grown = record {
-  closed = record {
-    tree = subst (λ (xs : List Node). Fill (IsFoundNode m) (m.base ∷ []) xs []) (sym grown.grown)
-        (Fill-append (IsFoundNode m) (m.base ∷ []) (places_of pairs children) [] nodes grown.leaves branched.fills
-        (Fill-weaker IsLeaf (IsFoundNode m) (IsFoundNode-leaf m) (places_of pairs children) [] grown.leaves grown.fills));
-    visited = subst (λ (xs : List Node). All IsVisited xs) (sym grown.grown)
-        (All-append IsVisited nodes grown.leaves branched.visited (leaves_visited (places_of pairs children) [] grown.leaves grown.fills));
-  };
-  within = omega (
-    arith,
-    ap branch_count grown.grown,
-    branch_count-append nodes grown.leaves,
-    leaves_count (places_of pairs children) [] grown.leaves grown.fills,
-    branched.counted,
-    branched.within,
-  );
-}
+pub tree_is_closed : (m : Meaning) (budget : ℕ) (b : Stand) (nodes : List Node) → IsBranched m budget b →
+    GrowsLeaves b.tree nodes (places_of b.held.pairs b.waiting) [] → IsRefutation m budget nodes
+tree_is_closed m budget b nodes branched grown =
+    let is = grown_from m budget b nodes [] branched grown in
+    record { closed = record { tree = is.0; visited = is.1 }; within = omega (arith, is.2, branched.within) }
 
--- what is told of a ranking stays told where what is real and picked stays
-pub Break-moved : (real real' : Real) (picked picked' : Picked) (n n' : ℕ) (ranks : List ℕ) (address : ℕ) (turns : List Turn) →
-    (real address turns → real' address turns) →
-    (picked ranks address turns → picked' ranks address turns) → n ≡ n' → Break real picked n ranks address turns →
-    Break real' picked' n' ranks address turns
-Break-moved real real' picked picked' n n' ranks address turns keeps_real keeps_picked same told = record {
-  is_real = keeps_real told.is_real;
-  pick = keeps_picked told.pick;
-  distinct = told.distinct;
-  below = subst (λ (k : ℕ). All (λ (t : Turn). t.router < k) turns) same told.below;
-  both = told.both;
-  no_later = told.no_later;
-}
+-- what was found where the search ends
+pub IsFound-end : (m : Meaning) (budget : ℕ) (s : Stand) (ending : Ending) (found : Found) → EndsBy m budget s ending → IsEndOf s ending found →
+    IsFound m budget found
+IsFound-end m budget s Good found ends waves =
+    let chained = subst (λ (n : ℕ). IsLayeredChain n s.held.pairs waves.chain) ends.0.searching.routers waves.chained in
+    subst (λ (f : Found). IsFound m budget f) (sym waves.is) (waves_are_found m budget s waves.chain ends.0 ends.1 chained)
+IsFound-end m budget s Stops found ends is =
+    subst (λ (f : Found). IsFound m budget f) (sym is) (stop_is_spent m budget s ends.0 ends.1 ends.2)
+IsFound-end m budget s Closed found ends is = subst (λ (f : Found). IsFound m budget f) (sym is) ends
 
--- the step of the search that makes a branch, in the words of its calls
-pub branch_step : (m : Meaning) (told_real : Real) (told_picked : Picked) (told_n routers budget : ℕ) (nodes : List Node) (pairs held : List Pair)
-    (children : List Child) (branches : ℕ) (ranks : List ℕ) (address : ℕ) (turns told_turns : List Turn) →
-    IsSearching m budget nodes pairs children branches → IsLayered routers pairs ranks → routers ≡ m.size →
-    Break told_real told_picked told_n ranks address told_turns →
-    (told_real address told_turns → m.real address told_turns) → (told_picked ranks address told_turns → m.picked ranks address told_turns) →
-    told_n ≡ m.size →
-    branches ≢ budget → turns ≡ told_turns → held ≡ pairs →
-    IsBranched m budget (nodes ++ Branch address turns ∷ []) held (children_below held turns children) (branches + 1)
-branch_step m told_real told_picked told_n routers budget nodes pairs held children branches ranks address turns told_turns searching layered routers_is
-    told keeps_real keeps_picked n_is more turns_is held_is =
-    let here = Break-moved told_real m.real told_picked m.picked told_n m.size ranks address told_turns keeps_real keeps_picked n_is told in
-    let layered_here = subst (λ (n : ℕ). IsLayered n pairs ranks) routers_is layered in
-    let free : branches < budget = omega (arith, searching.within, more) in
-    let branched = branch_is_made m budget nodes pairs children branches ranks address told_turns searching layered_here here free in
-    subst (λ (ts : List Turn). IsBranched m budget (nodes ++ Branch address ts ∷ []) held (children_below held ts children) (branches + 1)) (sym turns_is)
-    (subst (λ (xs : List Pair). IsBranched m budget (nodes ++ Branch address told_turns ∷ []) xs (children_below xs told_turns children) (branches + 1))
-    (sym held_is) branched)
-
--- the waves that were found, in the words of the search's calls
-pub IsFound-waves : (m : Meaning) (budget routers : ℕ) (nodes : List Node) (pairs held : List Pair) (children : List Child) (branches : ℕ)
-    (ranks told : List ℕ) (found : Found) →
-    IsSearching m budget nodes pairs children branches → IsLayered m.size pairs ranks → m.good ranks → routers ≡ m.size →
-    held ≡ pairs → told ≡ ranks →
-    AreWavesOf routers held told (nodes ++ Unvisited ∷ []) found → IsFound m budget found
-IsFound-waves m budget routers nodes pairs held children branches ranks told found searching layered is_good routers_is held_is told_is waves =
-    let trail : List Node = nodes ++ Unvisited ∷ [] in
-    let chained = subst (λ (n : ℕ). IsLayeredChain n pairs waves.chain) routers_is
-    (subst (λ (xs : List Pair). IsLayeredChain routers xs waves.chain) held_is waves.chained) in
-    let is = waves_are_found m budget nodes pairs children branches ranks waves.chain searching layered is_good chained in
-    subst (λ (f : Found). IsFound m budget f) (sym waves.is)
-    (subst (λ (xs : List ℕ). AreFoundWaves m budget xs held waves.chain trail) (sym told_is)
-    (subst (λ (xs : List Pair). AreFoundWaves m budget ranks xs waves.chain trail) (sym held_is) is))
-
-pub IsFound-spent : (m : Meaning) (budget : ℕ) (tree : List Node) (found : Found) → IsSpent m budget tree →
-    found ≡ Spent tree → IsFound m budget found
-IsFound-spent m budget tree found is e = subst (λ (f : Found). IsFound m budget f) (sym e) is
+-- what an end needs holds where the search ends
+pub EndsOrGoesOn-ends : (m : Meaning) (budget : ℕ) (s : Stand) (ending : Ending) → 1 ≤ m.size → m.size ≤ 1000 → EndsBy m budget s ending → EndsOrGoesOn s ending
+EndsOrGoesOn-ends m budget s Good some few ends =
+    let routers = ends.0.searching.routers in (
+      omega (arith, some, routers),
+      omega (arith, few, routers),
+      subst (λ (n : ℕ). IsLayered n s.held.pairs s.ranks.items) (sym routers) ends.0.layered,
+    )
+EndsOrGoesOn-ends m budget s Stops some few ends = tt
+EndsOrGoesOn-ends m budget s Closed some few ends = tt

@@ -1,4 +1,4 @@
-ghost use Rattle.std.specs.Prelude.{◌≡◌, ℕ, List, ◌+◌, ◌<◌, ◌≤◌, ◌∷◌, [], ◌++◌, ◌↔◌, IfOk, OnOk, length, map, replicate};
+ghost use Rattle.std.specs.Prelude.{◌≡◌, ℕ, List, ◌+◌, ◌<◌, ◌≤◌, ◌∷◌, [], ◌++◌, ◌↔◌, IfOk, OnOk, length, map};
 ghost use Rattle.std.specs.Prelude.{Contains};
 ghost use Rattle.std.specs.Bool.{OnTrue, OnFalse};
 ghost use Rattle.order_core.specs.Pairs.{Pair};
@@ -9,15 +9,17 @@ ghost use Rattle.order_search.specs.Places.{IsLayered};
 ghost use Rattle.order_search.specs.Answers.{IsFound};
 ghost use Rattle.order_search.specs.steps.Waiting.{child_of, places_of, children_below, IsUnder};
 ghost use Rattle.order_search.specs.steps.Leaves.{GrowsLeaves};
-ghost use Rattle.order_search.specs.steps.Steps.{AreWavesOf};
+ghost use Rattle.order_search.specs.steps.Steps.{IsSearching, SameMeaning, StepsTo};
 
 use crate::assumptions::Assumptions;
+use crate::ending::{Ending, end};
 use crate::found::Found;
 use crate::oracle::{Answer, Oracle};
 use crate::places::next_place;
+use crate::stand::Stand;
 use crate::tree::{Node, Tree};
 use crate::waiting::Waiting;
-use order_core::{Turn, Turns, Waves};
+use order_core::{Turn, Turns};
 use std::alloc::{AllocError, Global};
 
 /// Searches for a ranking that is good, place by place: at a place it asks the oracle for the layered list of the
@@ -40,26 +42,69 @@ pub fn search<Q: Oracle>(alloc: Global, oracle: &mut Q, budget: u32) -> Result<F
     ensures real_stays { (a : ℕ) (t : List Turn) → Q.real oracle.new a t ↔ Q.real oracle.old a t }
     ensures picked_stays { (ranks : List ℕ) (a : ℕ) (t : List Turn) → Q.picked oracle.new ranks a t ↔ Q.picked oracle.old ranks a t }
 {
-    let size = oracle.size();
-    let mut held = Assumptions::new(alloc, size, oracle.base())?;
-    let mut ranks = vec![in alloc; 0; size as usize]?;
-    let mut tree = Tree::new(alloc)?;
-    let mut waiting = Waiting::new(alloc);
-    let mut branches = 0;
+    let mut stand = Stand::new(alloc, &*oracle)?;
     loop {
-        let address = match visit(oracle, &mut held, &mut ranks) {
-            Answer::Fine => return found_waves(alloc, tree, held, ranks),
-            Answer::Breaks { address } => address,
-        };
-        if branches == budget {
-            return stopped(tree, waiting);
-        }
-        branches += 1;
-        let turns = oracle.turns();
-        if !go_below(alloc, &mut tree, &mut held, &mut waiting, address, turns)? {
-            return Ok(Found::Refuted { tree });
+        match take_step(alloc, oracle, &mut stand, budget)? {
+            Some(ending) => return end(alloc, stand, ending),
+            None => {}
         }
     }
+}
+
+/// Visits the place where the search stands, and goes on to the next one. What ends the search, if something does.
+fn take_step<Q: Oracle>(
+    alloc: Global,
+    oracle: &mut Q,
+    stand: &mut Stand,
+    budget: u32,
+) -> Result<Option<Ending>, AllocError>
+    requires few { Q.size oracle.old ≤ 1000 }
+    requires searching { IsSearching (record {
+      good = Q.good oracle.old;
+      real = Q.real oracle.old;
+      picked = Q.picked oracle.old;
+      size = Q.size oracle.old;
+      base = Q.base oracle.old;
+    }) budget stand.old }
+    ensures step { IfOk result (StepsTo (record {
+      good = Q.good oracle.old;
+      real = Q.real oracle.old;
+      picked = Q.picked oracle.old;
+      size = Q.size oracle.old;
+      base = Q.base oracle.old;
+    }) budget stand.old.branches stand.new) }
+    ensures same { SameMeaning (record {
+      good = Q.good oracle.old;
+      real = Q.real oracle.old;
+      picked = Q.picked oracle.old;
+      size = Q.size oracle.old;
+      base = Q.base oracle.old;
+    }) (record {
+      good = Q.good oracle.new;
+      real = Q.real oracle.new;
+      picked = Q.picked oracle.new;
+      size = Q.size oracle.new;
+      base = Q.base oracle.new;
+    }) }
+{
+    let address = match visit(oracle, &mut stand.held, &mut stand.ranks) {
+        Answer::Fine => return Ok(Some(Ending::Good)),
+        Answer::Breaks { address } => address,
+    };
+    if stand.branches == budget {
+        return Ok(Some(Ending::Spent));
+    }
+    stand.branches += 1;
+    let turns = oracle.turns();
+    let more = go_below(
+        alloc,
+        &mut stand.tree,
+        &mut stand.held,
+        &mut stand.waiting,
+        address,
+        turns,
+    )?;
+    Ok(if more { None } else { Some(Ending::Closed) })
 }
 
 /// Asks the oracle for the layered list of the assumed pairs.
@@ -80,38 +125,6 @@ fn visit<Q: Oracle>(oracle: &mut Q, held: &mut Assumptions, ranks: &mut [u32]) -
 {
     held.layers(ranks);
     oracle.ask(ranks)
-}
-
-/// The waves that were found, with their pairs, the chain, and the nodes up to their place.
-fn found_waves(
-    alloc: Global,
-    mut tree: Tree,
-    mut held: Assumptions,
-    ranks: Vec<u32>,
-) -> Result<Found, AllocError>
-    requires some { 0 < held.routers }
-    requires few { held.routers ≤ 1000 }
-    requires layered { IsLayered held.routers held.pairs ranks.items }
-    ensures { IfOk result (AreWavesOf held.routers held.pairs ranks.items (tree ++ Node.Unvisited ∷ [])) }
-{
-    let waves = Waves::from_ranks(alloc, &ranks)?;
-    tree.push(Node::Unvisited)?;
-    let chain = held.chain(ranks);
-    Ok(Found::Waves {
-        waves,
-        pairs: held.into_pairs(),
-        chain,
-        trail: tree,
-    })
-}
-
-/// The tree where the budget is spent: the place that was asked stays unvisited, and so do those that wait.
-fn stopped(mut tree: Tree, mut waiting: Waiting) -> Result<Found, AllocError>
-    ensures { IfOk result (λ found. found ≡ Found.Spent (tree ++ replicate (length waiting + 1) Node.Unvisited)) }
-{
-    tree.push(Node::Unvisited)?;
-    leave_unvisited(&mut tree, &mut waiting)?;
-    Ok(Found::Spent { tree })
 }
 
 /// Makes the place a branch, and goes on to the next place. Whether there is one.
@@ -156,14 +169,4 @@ fn branch_on(
     waiting.push(alloc, turns, above)?;
     let turns = Turns::from_vec(Vec::from_slice(alloc, turns)?);
     tree.push(Node::Branch { address, turns })
-}
-
-/// Adds an unvisited place for each child that waits.
-fn leave_unvisited(tree: &mut Tree, waiting: &mut Waiting) -> Result<(), AllocError>
-    ensures { OnOk result (tree.new ≡ tree.old ++ replicate (length waiting.old) Node.Unvisited) }
-{
-    while let Some(_child) = waiting.next() {
-        tree.push(Node::Unvisited)?;
-    }
-    Ok(())
 }

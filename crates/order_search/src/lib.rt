@@ -7,6 +7,8 @@
 //! | `tree` | trees of places as lists of nodes (`Trees`) |
 //! | `laws` | what a closed tree means, and that there is one answer (`Laws`) |
 //! | `depth_first` | the search: one place after another, until the budget of branches is spent |
+//! | `stand` | where the search stands: its place, the nodes before it, what waits |
+//! | `ending` | what ends it, and what was found there |
 //! | `places` | from one place to the next, past children whose pair closes a cycle (`Places`) |
 //! | `assumptions` | the pairs that are assumed now, over `precedence_set` |
 //! | `waiting`, `siblings`, `child` | the children that wait to be visited |
@@ -24,7 +26,9 @@ mod tree;
 
 // The search.
 mod depth_first;
+mod ending;
 mod places;
+mod stand;
 
 // What is assumed, and what waits.
 mod assumptions;

@@ -120,9 +120,9 @@ pub parent_is : (n : ℕ) (pairs : List Pair) (layers parents : List ℕ) (none 
 parent_is n pairs layers parents none v k below are many lowest found v_in there = elim (are.each v v_in) [
   | inl bare ↦ absurd (omega (arith, bare.0, there))
   | inr above ↦ elim (found v (omega (arith, v_in, are.whole))) [
-    | inl no_one ↦
+    | inl without_level_one ↦
         let u_in = (pair_below n pairs below above.0 v above.1.before).0 in
-        absurd (omega (arith, no_one, u_in, many, lowest above.0 v above.1.before (sym above.2)))
+        absurd (omega (arith, without_level_one, u_in, many, lowest above.0 v above.1.before (sym above.2)))
     | inr by ↦ record {
       holds = record { before = by.0; there = omega (arith, by.1, there) };
       least = λ q q_is. lowest q v q_is.before (omega (arith, q_is.there, there));

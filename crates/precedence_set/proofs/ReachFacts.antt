@@ -1,49 +1,16 @@
 -- What v reaches, marked and listed: one router more, the routers after one, and all.
-use Rattle.std.proofs.Common.{◌≡◌, ◌≢◌, ℕ, zero, suc, ◌+◌, ◌<◌, ◌≤◌, ◌⊎◌, inl, inr, Bool, true, false, List, [], ◌∷◌}
+use Rattle.std.proofs.Common.{◌≡◌, ◌≢◌, ℕ, suc, ◌+◌, ◌<◌, ◌≤◌, ◌⊎◌, inl, inr, Bool, true, false, List, [], ◌∷◌}
 use Rattle.std.proofs.Common.{length, get_or, set, Option, Some, None, arith, subst, sym, refl, ap, ◌∙◌}
 use Rattle.std.specs.List.{Contains}
-use Rattle.std.proofs.lemmas.Bool.{cases_lt, cases_eq, false≢true}
-use Rattle.std.proofs.lemmas.List.{get_or-set_same, get_or-set_other, get_or_past, get_or_default}
+use Rattle.std.proofs.lemmas.Bool.{cases_lt, cases_eq}
+use Rattle.std.proofs.lemmas.List.{get_or-set_same, get_or-set_other, get_or_default}
 use Rattle.std.proofs.lemmas.List.Elements.{Contains-get_or}
 use Rattle.order_core.specs.Pairs.{Pair, IsPath, Reaches}
 use Rattle.order_core.specs.Marks.{IsMarked}
+use Rattle.order_core.proofs.Marked.{marked_count-none, marked_count-more}
 use Rattle.order_core.proofs.Paths.{Reaches-itself, Reaches-step, Reaches-trans}
-use Rattle.precedence_set.specs.steps.Marks.{marked_count, AreListed}
+use Rattle.precedence_set.specs.steps.Marks.{AreListed}
 use Rattle.precedence_set.specs.steps.Walking.{pair_at, IsFirstFrom}
-
--- How many are marked
-
-pub marked_in : (marks : List Bool) (r : ℕ) → IsMarked marks r → r < length marks
-marked_in marks r marked = elim (cases_lt r (length marks)) [
-  | inl lt ↦ lt
-  | inr ge ↦ absurd (false≢true (sym (get_or_past marks r false ge) ∙ marked))
-]
-
-pub marked_count-le : (marks : List Bool) → marked_count marks ≤ length marks
-marked_count-le [] = omega arith
-marked_count-le (true ∷ marks) = omega (arith, marked_count-le marks)
-marked_count-le (false ∷ marks) = omega (arith, marked_count-le marks)
-
-marked_count-none : (marks : List Bool) → ((r : ℕ) → ¬ IsMarked marks r) → marked_count marks ≡ 0
-marked_count-none [] bare = refl
-marked_count-none (true ∷ marks) bare = absurd (bare 0 refl)
-marked_count-none (false ∷ marks) bare = marked_count-none marks (λ r. bare (suc r))
-
-pub marked_count-more : (marks : List Bool) (r : ℕ) → r < length marks → ¬ IsMarked marks r →
-    marked_count (set marks r true) ≡ marked_count marks + 1
-marked_count-more [] r r_in fresh = absurd (omega (arith, r_in))
-marked_count-more (true ∷ marks) zero r_in fresh = absurd (fresh refl)
-marked_count-more (false ∷ marks) zero r_in fresh = refl
-marked_count-more (true ∷ marks) (suc r) r_in fresh = ap (λ (n : ℕ). n + 1) (marked_count-more marks r (omega (arith, r_in)) fresh)
-marked_count-more (false ∷ marks) (suc r) r_in fresh = marked_count-more marks r (omega (arith, r_in)) fresh
-
--- where a router isn't marked, not all are
-pub marked_count-room : (marks : List Bool) (r : ℕ) → r < length marks → ¬ IsMarked marks r → marked_count marks < length marks
-marked_count-room [] r r_in fresh = absurd (omega (arith, r_in))
-marked_count-room (true ∷ marks) zero r_in fresh = absurd (fresh refl)
-marked_count-room (false ∷ marks) zero r_in fresh = omega (arith, marked_count-le marks)
-marked_count-room (true ∷ marks) (suc r) r_in fresh = omega (arith, marked_count-room marks r (omega (arith, r_in)) fresh)
-marked_count-room (false ∷ marks) (suc r) r_in fresh = omega (arith, marked_count-room marks r (omega (arith, r_in)) fresh)
 
 -- One router more
 

@@ -1,17 +1,17 @@
 -- The walk from v that looks for u: the path on which it stands, and the routers from which it hasn't come back.
 use Rattle.std.proofs.Common.{◌≡◌, ◌≢◌, ℕ, zero, suc, ◌+◌, ◌-◌, ◌*◌, ◌<◌, ◌≤◌, inl, inr, List, [], ◌∷◌, length}
-use Rattle.std.proofs.Common.{length-set, get_or, set, take, Bool, true, false, Option, Some, None, arith, subst, sym, refl, ap, ◌∙◌, below_more}
+use Rattle.std.proofs.Common.{length-set, get_or, set, take, Bool, false, Option, Some, None, arith, subst, sym, refl, ap, ◌∙◌, below_more}
 use Rattle.std.specs.List.{Contains}
 use Rattle.std.specs.Option.{IfSome, IfNone, OnSome}
 use Rattle.std.proofs.lemmas.List.{get_or-set_same, get_or-set_other, get_or-take, get_or_default, length-take-le}
 use Rattle.std.proofs.lemmas.List.Elements.{All-contains, All-cons}
 use Rattle.std.proofs.lemmas.Bool.{cases_lt, cases_eq, false≢true}
 use Rattle.order_core.specs.Pairs.{Pair, Reaches, IsPath, AreBelow, HasNoCycle}
-use Rattle.order_core.specs.Marks.{IsMarked}
+use Rattle.order_core.specs.Marks.{IsMarked, marked_count}
 use Rattle.order_core.proofs.DistinctLists.{AllPairs-cons, length-le_from_distinct}
+use Rattle.order_core.proofs.Marked.{marked_count-taken}
 use Rattle.order_core.proofs.Paths.{Reaches-itself, Reaches-step, Reaches-trans, Leads-step}
 use Rattle.precedence_set.specs.LeastCycle.{GoesBack, IsLeastCycle}
-use Rattle.precedence_set.specs.steps.Marks.{marked_count}
 
 -- w is assumed after x, and no marked router of a lower number is
 pub record IsLowestAhead (pairs : List Pair) (marks : List Bool) (x w : ℕ) : Type 0 where
@@ -290,15 +290,6 @@ IsWalking-end n pairs u v marks (x ∷ y ∷ path) (suc (suc m)) two walking end
         let far : suc (length (take m path)) ≡ suc (suc m) - 1 = omega (arith, long) in
         subst (λ (a : ℕ). IsLowestAhead pairs marks a u) (sym (at (length (take m path)) (omega (arith, long))
         ∙ ap (λ (j : ℕ). get_or (x ∷ y ∷ path) j 0) far)) end
-
--- How many routers are marked
-
-pub marked_count-taken : (marks : List Bool) (r : ℕ) → IsMarked marks r → marked_count (set marks r false) + 1 ≡ marked_count marks
-marked_count-taken [] r marked = absurd (false≢true marked)
-marked_count-taken (true ∷ marks) zero marked = refl
-marked_count-taken (false ∷ marks) zero marked = absurd (false≢true marked)
-marked_count-taken (true ∷ marks) (suc r) marked = ap (λ (n : ℕ). n + 1) (marked_count-taken marks r marked)
-marked_count-taken (false ∷ marks) (suc r) marked = marked_count-taken marks r marked
 
 -- What is found after the last router of the path
 

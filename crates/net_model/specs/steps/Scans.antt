@@ -3,6 +3,7 @@ use Rattle.std.specs.Prelude.{◌≡◌, ◌≢◌, ℕ, ◌<◌, ◌≤◌, nat
 use Rattle.net_addr.specs.Addresses.{Block}
 use Rattle.net_model.specs.Configuration.{Configuration}
 use Rattle.net_model.specs.Links.{ShareSubnet}
+use Rattle.net_model.specs.Network.{RunsArea}
 use Rattle.net_model.specs.declared.area.Stub.{Stub}
 use Rattle.net_model.specs.declared.interface.Interface.{Interface}
 
@@ -18,14 +19,10 @@ pub record IsFirstPartner {A : Type 0} (AtMost : A → A → Type 0) (Clash : �
 abbrev pub NonePartner : {A : Type 0} → (ℕ → A → Type 0) → ℕ → ℕ → Type 0
 NonePartner {A} Clash count one = (v : ℕ) (item : A) → one ≤ v → v < count → Clash v item → ⊥
 
--- router one is the first below count that clashes with one that isn't below it, and two is its first partner
-pub record IsFirstPair {A : Type 0} (AtMost : A → A → Type 0) (Clash : ℕ → ℕ → A → Type 0) (count one two : ℕ) (item : A) : Type 0 where
-  pub partner : IsFirstPartner AtMost (Clash one) count one two item
-  pub none_before : (u : ℕ) → u < one → NonePartner (Clash u) count u
-
--- no two routers below count clash
-abbrev pub NonePair : {A : Type 0} → (ℕ → ℕ → A → Type 0) → ℕ → Type 0
-NonePair Clash count = (u : ℕ) → u < count → NonePartner (Clash u) count u
+-- routers that clash are below count, and clash both ways
+pub record IsMutual {A : Type 0} (Clash : ℕ → ℕ → A → Type 0) (count : ℕ) : Type 0 where
+  pub within : (u v : ℕ) (item : A) → Clash u v item → v < count
+  pub back : (u v : ℕ) (item : A) → Clash u v item → Clash v u item
 
 -- two up interfaces have one address and may not: they are of one router, as `same` says, or one is no loopback
 pub record ClashOnAddress (same : Bool) (i j : Interface) : Type 0 where
@@ -56,11 +53,6 @@ ClashOnArea i j = AreInTwoAreas i j × ShareSubnet i j
 -- the interface has the subnet, and one of the others runs it in another area
 abbrev pub OffersDest : List Interface → Block → Interface → Type 0
 OffersDest others dest i = (i.subnet ≡ Some dest) × Any (ClashOnArea i) others
-
--- the interface is up and runs OSPF in the area
-pub record RunsArea (area : ℕ) (i : Interface) : Type 0 where
-  pub up : IsTrue i.up
-  pub area_is : i.area ≡ Some area
 
 -- the interfaces are in two areas, and none is in area 0
 pub record LeaveBackbone (interfaces : List Interface) : Type 0 where

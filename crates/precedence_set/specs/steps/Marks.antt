@@ -1,13 +1,7 @@
--- Marked routers: how many they are, and a list of them.
-use Rattle.std.specs.Prelude.{◌≡◌, ℕ, ◌+◌, ◌<◌, Bool, true, false, List, [], ◌∷◌, slice_index}
-use Rattle.order_core.specs.Marks.{IsMarked}
+-- Marked routers in a list.
+use Rattle.std.specs.Prelude.{◌≡◌, ℕ, ◌<◌, Bool, List, slice_index}
+use Rattle.order_core.specs.Marks.{IsMarked, marked_count}
 use Rattle.precedence_set.specs.steps.Sorting.{StandsBelow}
-
--- how many of the places are true
-abbrev pub marked_count : List Bool → ℕ
-marked_count [] = 0
-marked_count (true ∷ marks) = marked_count marks + 1
-marked_count (false ∷ marks) = marked_count marks
 
 -- the first places of a list have the marked routers, and are as many
 pub record AreListed (marks : List Bool) (list : List ℕ) (count : ℕ) : Type 0 where

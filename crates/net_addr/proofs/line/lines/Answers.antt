@@ -17,7 +17,8 @@ loop-start-preserved c =
     let within : c.piece_len.result ≤ length (drop c.loop-start.start c.args.text.now) =
     subst (λ (xs : List ℕ). c.piece_len.result ≤ length xs) part c.piece_len.ensures.bound in
     let first : lines_of c.loop-start.number c.loop-start.start (line_pieces (drop c.loop-start.start c.args.text.now))
-    ≡ c.line_between.result ∷ lines_of (c.loop-start.number + 1) (c.loop-start.start + c.piece_len.result + 1) (line_pieces (drop (c.loop-start.start + c.piece_len.result + 1) c.args.text.now)) =
+    ≡ c.line_between.result ∷ lines_of (c.loop-start.number + 1) (c.loop-start.start + c.piece_len.result + 1)
+    (line_pieces (drop (c.loop-start.start + c.piece_len.result + 1) c.args.text.now)) =
     rw c.line_between.ensures
     (lines_of-first c.args.text.now c.loop-start.number c.loop-start.start c.piece_len.result c.loop-start-test.true place within) in
     record {

@@ -19,4 +19,5 @@ loop-byte-preserved c = record {
 pub returns : goal.returns
 returns c =
     let some : 0 < length c.args.word.now = grind (arith, c.if-is_empty.ensures) in
-    whole_numeral c.args.most c.args.word.now c.loop-byte.byte-index c.loop-byte.value some (omega arith) c.loop-byte.invariant.digits c.loop-byte.invariant.value c.loop-byte.invariant.within
+    whole_numeral c.args.most c.args.word.now c.loop-byte.byte-index c.loop-byte.value some
+    (omega arith) c.loop-byte.invariant.digits c.loop-byte.invariant.value c.loop-byte.invariant.within

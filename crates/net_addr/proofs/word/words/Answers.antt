@@ -16,11 +16,13 @@ loop-start-preserved c =
 pub returns-clause-inside : goal.returns-clause-inside
 returns-clause-inside c =
     let all : c.from_vec.result ≡ word_spans c.args.text.now c.args.span =
-    c.from_vec.ensures ∙ words_end c.args.text.now c.loop-start.all.items (word_spans c.args.text.now c.args.span) c.loop-start.start c.args.span.stop c.loop-start-test.false c.loop-start.invariant in
+    c.from_vec.ensures ∙ words_end c.args.text.now c.loop-start.all.items
+    (word_spans c.args.text.now c.args.span) c.loop-start.start c.args.span.stop c.loop-start-test.false c.loop-start.invariant in
     subst (All (LiesIn c.args.text.now)) (sym all) (word_spans-inside c.args.text.now c.args.span c.requires.inside)
 
 pub returns-clause-texts : goal.returns-clause-texts
 returns-clause-texts c =
     let all : c.from_vec.result ≡ word_spans c.args.text.now c.args.span =
-    c.from_vec.ensures ∙ words_end c.args.text.now c.loop-start.all.items (word_spans c.args.text.now c.args.span) c.loop-start.start c.args.span.stop c.loop-start-test.false c.loop-start.invariant in
+    c.from_vec.ensures ∙ words_end c.args.text.now c.loop-start.all.items
+    (word_spans c.args.text.now c.args.span) c.loop-start.start c.args.span.stop c.loop-start-test.false c.loop-start.invariant in
     ap (map (bytes_of c.args.text.now)) all ∙ word_spans-texts c.args.text.now c.args.span c.requires.inside

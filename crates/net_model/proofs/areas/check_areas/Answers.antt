@@ -1,32 +1,19 @@
-use Rattle.std.proofs.Common.{length}
 use Rattle.std.proofs.lemmas.Option.{MatchOption-at_none, MatchOption-at_some}
-use Rattle.net_addr.specs.Addresses.{Block}
-use Rattle.net_model.specs.Least.{IsBlockAtMost}
-use Rattle.net_model.specs.Conditions.{RunTwoAreas}
-use Rattle.net_model.specs.Network.{Network}
-use Rattle.net_model.specs.RouterNames.{IsFirstNamedPair}
-use Rattle.net_model.specs.steps.Scans.{NonePair}
-use Rattle.net_model.specs.declared.pairs.NamedPair.{NamedPair}
-use Rattle.net_model.proofs.PairFacts.{IsLeastNamedPair-first, NoneClash-from}
-use Rattle.net_model.proofs.AreaClashes.{RunTwoAreas-within, RunTwoAreas-sym}
+use Rattle.std.proofs.lemmas.Bool.{OnTrue_at}
+use Rattle.net_model.proofs.ClaimFacts.{AreasAgree-claimed}
+use Rattle.net_model.proofs.AreaClashes.{RunTwoAreas-mutual}
 use Rattle.net_model.proofs.areas.check_areas.Goals as goal
 
--- what the scan says where it finds no pair, and of the pair that it finds
-abbrev NoPair : Network → Type 0
-NoPair net = NonePair (RunTwoAreas net) (length net)
-
-abbrev First : Network → NamedPair Block → Type 0
-First net p = IsFirstNamedPair IsBlockAtMost (RunTwoAreas net) net p.one p.two p.item
+pub returns-then-branch-clause-ok : goal.returns-then-branch-clause-ok
+returns-then-branch-clause-ok c =
+    (c.requires.addresses, AreasAgree-claimed c.args.configs.now (OnTrue_at c.if-branch.true c.in_ok-claims_agree.ensures))
 
 pub returns-in-Some-clause-err : goal.returns-in-Some-clause-err
 returns-in-Some-clause-err c =
-    let net = c.args.configs.now in
-    let pair = c.in-Some.pair in
-    let first = MatchOption-at_some (NoPair net) (First net) pair c.in-Some.is c.in_ok-pair.ensures in
-    (c.requires.addresses, IsLeastNamedPair-first IsBlockAtMost (RunTwoAreas net) net (RunTwoAreas-within net) pair.one pair.two pair.item first)
+    let least = MatchOption-at_some _ _ c.in-Some.pair c.in-Some.is (c.in_ok-pair.ensures (RunTwoAreas-mutual c.args.configs.now)) in
+    (c.requires.addresses, least)
 
 pub returns-in-None-clause-ok : goal.returns-in-None-clause-ok
 returns-in-None-clause-ok c =
-    let net = c.args.configs.now in
-    let none = MatchOption-at_none (NoPair net) (First net) c.in-None.is c.in_ok-pair.ensures in
-    (c.requires.addresses, NoneClash-from IsBlockAtMost (RunTwoAreas net) (length net) (RunTwoAreas-within net) (RunTwoAreas-sym net) none)
+    let none = MatchOption-at_none _ _ c.in-None.is (c.in_ok-pair.ensures (RunTwoAreas-mutual c.args.configs.now)) in
+    (c.requires.addresses, none)

@@ -1,6 +1,7 @@
 -- Each step of the walk lists the router where the next pair leads.
 use Rattle.std.proofs.Common.{ℕ, ◌<◌, Option, length, get_or, arith, subst, sym}
-use Rattle.precedence_set.proofs.ReachFacts.{IsReachingOn, IsReachingOn-begin, IsReachingOn-step, IsReachingOn-end, marked_count-le, marked_in}
+use Rattle.order_core.proofs.Marked.{marked_count-le, marked_in}
+use Rattle.precedence_set.proofs.ReachFacts.{IsReachingOn, IsReachingOn-begin, IsReachingOn-step, IsReachingOn-end}
 use Rattle.precedence_set.proofs.SuccessorFacts.{IsFirstFrom-first, IsFirstFrom-next, left_after, left_after-smaller}
 use Rattle.precedence_set.proofs.reaching.list_after.Goals as goal
 

@@ -2,7 +2,8 @@
 use Rattle.std.proofs.Common.{◌<◌, length, arith, sym, ◌∙◌}
 use Rattle.std.proofs.lemmas.Bool.{false≢true}
 use Rattle.order_core.specs.Marks.{IsMarked}
-use Rattle.precedence_set.proofs.ReachFacts.{AreListed-more, marked_count-room}
+use Rattle.order_core.proofs.Marked.{marked_count-room}
+use Rattle.precedence_set.proofs.ReachFacts.{AreListed-more}
 use Rattle.precedence_set.proofs.reaching.list_one.Goals as goal
 
 pub offset_bounds-list-count : goal.offset_bounds-list-count

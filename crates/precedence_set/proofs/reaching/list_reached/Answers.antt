@@ -1,6 +1,7 @@
 -- Each turn of the loop walks over the pairs from one router more.
 use Rattle.std.proofs.Common.{arith}
-use Rattle.precedence_set.proofs.ReachFacts.{AreListed-none, IsReaching-step, IsReaching-end, marked_count-le}
+use Rattle.order_core.proofs.Marked.{marked_count-le}
+use Rattle.precedence_set.proofs.ReachFacts.{AreListed-none, IsReaching-step, IsReaching-end}
 use Rattle.precedence_set.proofs.reaching.list_reached.Goals as goal
 
 pub list_one-count-requires-clause-listed : goal.list_one-count-requires-clause-listed

@@ -1,5 +1,5 @@
 use Rattle.std.proofs.Common.{◌+◌, ◌-◌, ◌*◌, length}
-use Rattle.precedence_set.specs.steps.Marks.{marked_count}
+use Rattle.order_core.specs.Marks.{marked_count}
 use Rattle.precedence_set.proofs.TraceFacts.{IsWalking}
 use Rattle.precedence_set.proofs.tracing.way_back.Given as goal
 

@@ -6,5 +6,6 @@ use Rattle.net_addr.proofs.prefix.Prefix.last.Goals as goal
 
 pub overflow_cast-result : goal.overflow_cast-result
 overflow_cast-result c =
-    let below : last_address (block_at c.self.inside.base c.self.inside.len) < 2 ^ 32 = last_address-below (block_at c.self.inside.base c.self.inside.len) c.self.invariant in
+    let below : last_address (block_at c.self.inside.base c.self.inside.len) < 2 ^ 32 =
+    last_address-below (block_at c.self.inside.base c.self.inside.len) c.self.invariant in
     omega arith

@@ -1,7 +1,7 @@
 -- A layered list is a ranking.
 use Rattle.std.proofs.Common.{refl}
 use Rattle.precedence_set.proofs.LayerFacts.{layers_rank}
-use Rattle.order_search.proofs.depth_first.found_waves.Goals as goal
+use Rattle.order_search.proofs.ending.found_waves.Goals as goal
 
 pub from_ranks-requires-clause-ranking : goal.from_ranks-requires-clause-ranking
 from_ranks-requires-clause-ranking c =

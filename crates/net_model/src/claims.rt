@@ -1,0 +1,99 @@
+ghost use Rattle.std.specs.Prelude.{◌≡◌, ℕ, ◌<◌, ◌^◌, ◌∷◌, [], ◌++◌, ◌↔◌, length, Contains, Option, IfOk, OnOk};
+ghost use Rattle.std.specs.List.{filter_map};
+ghost use Rattle.std.specs.Bool.{OnTrue};
+ghost use Rattle.std.specs.List.Sorted.{IsNonDecreasingBy};
+ghost use Rattle.net_model.specs.declared.interface.Interface.{Interface};
+ghost use Rattle.net_model.specs.steps.Claims.{ClaimsAgree, HoldsClaims, NeighboursAgree};
+
+use crate::{Config, Interface};
+use std::alloc::{AllocError, Global};
+
+/// What an interface claims: a key, for a value.
+#[derive(Clone, Copy)]
+pub struct Claim {
+    /// An address, or the first one of a subnet.
+    pub key: u32,
+    /// A router, or an area.
+    pub value: u32,
+}
+
+/// What is claimed.
+pub trait Claims {
+    ghost use Rattle.net_model.specs.declared.claims.Claim.{Claim};
+
+    /// What an interface of a router claims, if anything.
+    ghost claimed: { ℕ → Interface → Option Claim };
+
+    /// What an interface of a router claims, if anything.
+    fn claim(router: u32, interface: &Interface) -> Option<Claim>
+        ensures { result ≡ claimed router interface.now };
+}
+
+/// Whether each key is claimed for one value alone. Takes the time of sorting the claims.
+pub fn claims_agree<C: Claims>(alloc: Global, configs: &[Config]) -> Result<bool, AllocError>
+    requires { length configs.now < 2 ^ 32 }
+    ensures { IfOk result (λ agree. OnTrue agree (ClaimsAgree C.claimed configs.now)) }
+{
+    let mut claims = all_claims::<C>(alloc, configs)?;
+    sort_by_key(&mut claims);
+    Ok(neighbours_agree(&claims))
+}
+
+/// What all interfaces claim.
+fn all_claims<C: Claims>(alloc: Global, configs: &[Config]) -> Result<Vec<Claim>, AllocError>
+    requires { length configs.now < 2 ^ 32 }
+    ensures { IfOk result (λ claims. HoldsClaims C.claimed configs.now (length configs.now) claims.items) }
+{
+    let mut claims = Vec::new(alloc);
+    for router in 0..configs.len() as u32 {
+        let config = &configs[router as usize];
+        push_claims::<C>(&mut claims, router, config.interfaces.as_slice())?;
+    }
+    Ok(claims)
+}
+
+/// Adds what the interfaces of a router claim.
+fn push_claims<C: Claims>(
+    claims: &mut Vec<Claim>,
+    router: u32,
+    interfaces: &[Interface],
+) -> Result<(), AllocError>
+    ensures { OnOk result (claims.new.items ≡ claims.old.items ++ filter_map (C.claimed router) interfaces.now) }
+{
+    for interface in interfaces {
+        push_claim(claims, C::claim(router, interface))?;
+    }
+    Ok(())
+}
+
+/// Adds a claim, if there is one.
+fn push_claim(claims: &mut Vec<Claim>, claim: Option<Claim>) -> Result<(), AllocError>
+    ensures { OnOk result (claims.new.items ≡ claims.old.items ++ filter_map (λ c. c) (claim ∷ [])) }
+{
+    match claim {
+        Some(claim) => Ok(claims.push(claim)?),
+        None => Ok(()),
+    }
+}
+
+/// Puts claims in the order of their keys.
+fn sort_by_key(claims: &mut Vec<Claim>)
+    ensures kept { (x : Claim) → Contains claims.new.items x ↔ Contains claims.old.items x }
+    ensures sorted { IsNonDecreasingBy (λ x. x.key) claims.new.items }
+{
+    claims.sort_unstable_by_key(|claim| claim.key);
+}
+
+/// Whether neighbours with one key have one value.
+fn neighbours_agree(claims: &[Claim]) -> bool
+    ensures { OnTrue result (NeighboursAgree claims.now (length claims.now)) }
+{
+    for next in 1..claims.len() {
+        let one = claims[next - 1];
+        let two = claims[next];
+        if one.key == two.key && one.value != two.value {
+            return false;
+        }
+    }
+    true
+}
