@@ -5,7 +5,7 @@ use Rattle.std.proofs.lemmas.List.Elements.{Contains-push, Contains-append_left,
 use borrow.Author.Count.{below_more}
 use Rattle.walk_core.specs.declared.hops.Departure.{Departure}
 use Rattle.walk_core.specs.Walks.{Arcs, FirstHop}
-use Rattle.walk_core.specs.Distances.{distance_at, distance_between, AreDistances, KnowsEnds}
+use Rattle.walk_core.specs.Distances.{distance_at, distance_between, AreLeastDistances, KnowsEnds}
 use Rattle.walk_core.specs.steps.Departures.{LeavesTo, AreDepartures, Begins, BeginsAt}
 use Rattle.walk_core.proofs.HopLaws.{BeginsLeast, begins_least_from_first_hop, first_hop_from_begins_least}
 
@@ -57,7 +57,7 @@ hops_listed_more ds rows v distance hops more i item in_range is kept added list
 
 -- the first hops are the ends of departures that begin
 pub begins_at_is_first_hop : (arc : Arcs) (root : ℕ) (ds : List Departure) (rows : List (List (Option ℕ))) (distances : List (Option ℕ))
-    (v h : ℕ) → AreDepartures arc root ds → KnowsEnds arc root rows → AreDistances arc root distances →
+    (v h : ℕ) → AreDepartures arc root ds → KnowsEnds arc root rows → AreLeastDistances arc root distances →
     BeginsAt ds rows v (distance_at distances v) h ↔ FirstHop arc root v h
 begins_at_is_first_hop arc root ds rows distances v h departures ends least = (
   λ at.

@@ -7,14 +7,14 @@ use Rattle.std.proofs.lemmas.List.Elements.{Contains-get_or}
 use borrow.Author.Count.{below_more}
 use Rattle.walk_core.specs.declared.segment.Port.{Port}
 use Rattle.walk_core.specs.BestOffers.{total_with}
-use Rattle.walk_core.specs.steps.Cheapest.{HasCost, IsCheapest, NoneHasCost}
-use Rattle.walk_core.specs.Distances.{distance_at}
+use Rattle.walk_core.specs.steps.Cheapest.{HasCost, NoneHasCost}
+use Rattle.walk_core.specs.Distances.{distance_at, IsDistanceRow}
 use Rattle.walk_core.specs.steps.Flooding.{cost_onto, segment_at, AreAllAtMost, IsLevel}
-use Rattle.walk_core.specs.steps.Relaxing.{HaveRoom, IsAtMost, IsTightFrom, Relaxes, weight_of}
+use Rattle.walk_core.specs.steps.Relaxing.{AreWalked, HaveRoom, IsAtMost, IsTightFrom, Relaxes, weight_of}
 use Rattle.walk_core.specs.Segments.{SendsOn, Sends, SendsAcross, AreSegments}
 use Rattle.walk_core.specs.Walks.{Arcs}
-use Rattle.walk_core.proofs.LoopLaws.{AddsLoops}
-use Rattle.walk_core.proofs.RelaxLaws.{IsRelaxed, relaxed}
+use Rattle.walk_core.proofs.LoopLaws.{AddsLoops, distances_loops}
+use Rattle.walk_core.proofs.RelaxLaws.{IsRelaxed, relaxed, distances_from_tight}
 
 -- what holds of the first places holds of one more, where nothing changed since
 pub holds_more : {D : Type 0} (P : D → ℕ → Type 0) (now after : D) (i : ℕ) (fell more : Bool) →
@@ -91,19 +91,7 @@ all_at_most ds ports i most none past each port among =
 pub at_most_more : (distance : Option ℕ) (most more : ℕ) → IsAtMost distance most → most ≤ more → IsAtMost distance more
 at_most_more distance most more is less = record { value = is.value; is = is.is; below = omega (arith, is.below) }
 
--- where nothing fell to the least cost of coming onto a segment it is level
-pub level_lowered : (ports : List Port) (old new : List (Option ℕ)) (found : ℕ) (fell : Bool) → IsCheapest (cost_onto old) ports found →
-    OnFalse fell (new ≡ old) → OnFalse fell (AreAllAtMost new ports found) → OnFalse fell (IsLevel ports new)
-level_lowered ports old new found true cheapest same lowered = tt
-level_lowered ports old new found false cheapest same lowered = λ near d near_among is port among.
-    let was : distance_at old near.vertex ≡ Some d = subst (λ (ds : List (Option ℕ)). distance_at ds near.vertex ≡ Some d) same is in
-    let least : found ≤ d + near.cost = cheapest.least (d + near.cost) (record {
-      thing = near;
-      among = near_among;
-      costs = ap (λ (o : Option ℕ). total_with o near.cost) was;
-    }) in
-    at_most_more (distance_at new port.vertex) found (d + near.cost) (lowered port among) least
-
+-- a segment none of whose vertices has a distance is level
 pub level_unreached : (ports : List Port) (ds : List (Option ℕ)) → NoneHasCost (cost_onto ds) ports → IsLevel ports ds
 level_unreached ports ds none = λ near d near_among is port among.
     absurd (none (d + near.cost) (record {
@@ -136,18 +124,32 @@ pub sends_below : (segments : List (List Port)) (count u v c : ℕ) → AreSegme
 sends_below segments count u v c are over =
     subst (λ (n : ℕ). n < count) over.over.to (are over.segment over.among over.over.far over.over.far_among).vertex
 
+-- an arc of segments is one over the segment of some place
+pub sends_at_place : (segments : List (List Port)) (u v c : ℕ) → Sends segments u v c →
+    (place : ℕ) × (place < length segments) × SendsOn (segment_at segments place) u v c
+sends_at_place segments u v c arc =
+    let at : segment_at segments arc.among.0 ≡ arc.segment = get_or_default segments arc.among.0 [] arc.segment arc.among.1 ∙ arc.among.2 in
+    (arc.among.0, arc.among.1, subst (λ (s : List Port). SendsOn s u v c) (sym at) arc.over)
+
 -- the ports that are read at a place are those of its segment
 pub ports_are : (segments : List (List Port)) (place : ℕ) (read given : List Port) → place < length segments →
     read ≡ get_or segments place read → given ≡ read → given ≡ segment_at segments place
 ports_are segments place read given within is same = same ∙ (is ∙ get_or_default segments place read [] within)
 
--- where nothing fell all ports are lowered
-pub lowered_all : (fell : Bool) (ds : List (Option ℕ)) (ports : List Port) (i most : ℕ) (none : Port) → length ports ≤ i →
-    OnFalse fell ((j : ℕ) → j < i → IsAtMost (distance_at ds (get_or ports j none).vertex) most) → OnFalse fell (AreAllAtMost ds ports most)
-lowered_all true ds ports i most none past each = tt
-lowered_all false ds ports i most none past each = all_at_most ds ports i most none past each
-
 -- what holds below one number holds below a lower one
 pub below_all : (fell : Bool) (P : ℕ → Type 0) (n m : ℕ) → m ≤ n → OnFalse fell ((j : ℕ) → j < n → P j) → OnFalse fell ((j : ℕ) → j < m → P j)
 below_all true P n m less each = tt
 below_all false P n m less each = λ j below. each j (omega (arith, below, less))
+
+-- distances that are costs of walks and leave every segment level are a row
+pub row_of_level : (segments : List (List Port)) (count root : ℕ) (ds : List (Option ℕ)) → root < count → AreSegments count segments → length ds ≡ count →
+    HaveRoom ds → AreWalked (Sends segments) root ds → ((i : ℕ) → i < length segments → IsLevel (segment_at segments i) ds) →
+    IsDistanceRow (SendsAcross segments) count root ds
+row_of_level segments count root ds below are long room walked level = record {
+  least = distances_loops (SendsAcross segments) (Sends segments) (sends_loops segments) root ds
+      (distances_from_tight (Sends segments) count root ds below
+      (λ u v cost in_range over. sends_below segments count u v cost are over)
+      (λ u in_range. tight_level segments ds level u) walked);
+  within = omega (arith, long);
+  near = λ v d is. let within = room.room v d is in omega (arith, within, long);
+}

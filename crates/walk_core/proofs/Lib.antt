@@ -11,3 +11,5 @@ pub mod LoopLaws
 pub mod FloodLaws
 pub mod SegmentHopLaws
 pub mod SegmentSteps
+pub mod RowLaws
+pub mod StaleLaws

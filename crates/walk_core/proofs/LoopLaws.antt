@@ -2,7 +2,7 @@
 use Rattle.std.proofs.Common.{◌≡◌, ◌≢◌, ℕ, ◌≤◌, ◌↔◌, List, [], ◌∷◌, Option, sym, subst, inl, inr, arith}
 use Rattle.std.proofs.lemmas.Bool.{cases_eq}
 use Rattle.walk_core.specs.Walks.{Arcs, Leg, Walks, walk_cost, LeastCost}
-use Rattle.walk_core.specs.Distances.{AreDistances}
+use Rattle.walk_core.specs.Distances.{AreLeastDistances}
 use Rattle.walk_core.proofs.WalkLaws.{least_cost_at_most, least_cost_from, walks_over}
 
 -- the loose relation has the arcs, and besides them at most arcs from a vertex to itself
@@ -50,8 +50,8 @@ least_cost_loops arc loose adds u v d = (
 )
 
 -- distances over a relation with loops are those without them
-pub distances_loops : (arc loose : Arcs) → AddsLoops arc loose → (u : ℕ) (distances : List (Option ℕ)) → AreDistances loose u distances →
-    AreDistances arc u distances
+pub distances_loops : (arc loose : Arcs) → AddsLoops arc loose → (u : ℕ) (distances : List (Option ℕ)) → AreLeastDistances loose u distances →
+    AreLeastDistances arc u distances
 distances_loops arc loose adds u distances are = record {
   least = λ v d. (
     λ is. (least_cost_loops arc loose adds u v d).0 ((are.least v d).0 is),

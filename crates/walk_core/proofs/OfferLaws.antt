@@ -9,7 +9,7 @@ use Rattle.std.specs.List.Sorted.{IsStrictlyIncreasing}
 use Rattle.walk_core.specs.Walks.{Arcs}
 use Rattle.walk_core.specs.Offers.{Offers, OfferCosts, BestCost, BestHop}
 use Rattle.walk_core.specs.Reach.{Reach, distance_of, HasHop, AreLeastWalks, AreNear}
-use Rattle.walk_core.specs.BestOffers.{ListsOffer, total_with, total_of, HasTotal, NoneTotals, IsBestTotal, least_cost_of, IsHopOver, IsHopTowards}
+use Rattle.walk_core.specs.BestOffers.{ListsOffer, total_with, total_towards, HasTotal, NoneTotals, IsBestTotal, least_cost_of, IsHopOver, IsHopTowards}
 use Rattle.walk_core.specs.BestOffers.{AreHopsTowards, AreInRange}
 use Rattle.walk_core.specs.declared.offers.Offer.{Offer}
 use Rattle.walk_core.proofs.WalkLaws.{best_cost_unique}
@@ -20,11 +20,11 @@ has_total_kept reach front o c has = record { offer = has.offer; among = Contain
 
 -- an offer of one more is one of the first ones, or that one
 has_total_cases : (reach : Reach) (front : List Offer) (o : Offer) (c : ℕ) → HasTotal reach (front ++ o ∷ []) c →
-    HasTotal reach front c ⊎ (total_of reach o ≡ Some c)
+    HasTotal reach front c ⊎ (total_towards reach o ≡ Some c)
 has_total_cases reach front o c has =
     elim (Contains-push_cases front o has.offer has.among) [
       | inl among ↦ inl (record { offer = has.offer; among = among; total = has.total })
-      | inr same ↦ inr (subst (λ (x : Offer). total_of reach x ≡ Some c) (sym same) has.total)
+      | inr same ↦ inr (subst (λ (x : Offer). total_towards reach x ≡ Some c) (sym same) has.total)
     ]
 
 -- the least of two numbers is one of them
@@ -34,13 +34,13 @@ lesser a b = elim (cases_lt a b) [ inl less ↦ inl (omega arith) | inr more ↦
 -- the best of the first offers and of one more
 pub best_more : (reach : Reach) (front : List Offer) (o : Offer) (best : Option ℕ) →
     MatchOption best (NoneTotals reach front) (IsBestTotal reach front) →
-    MatchOption (least_cost_of best (total_of reach o)) (NoneTotals reach (front ++ o ∷ [])) (IsBestTotal reach (front ++ o ∷ []))
-best_more reach front o best so_far = go best (total_of reach o) refl so_far
+    MatchOption (least_cost_of best (total_towards reach o)) (NoneTotals reach (front ++ o ∷ [])) (IsBestTotal reach (front ++ o ∷ []))
+best_more reach front o best so_far = go best (total_towards reach o) refl so_far
   where
-    here : (x : ℕ) → total_of reach o ≡ Some x → HasTotal reach (front ++ o ∷ []) x
+    here : (x : ℕ) → total_towards reach o ≡ Some x → HasTotal reach (front ++ o ∷ []) x
     here x is = record { offer = o; among = Contains-push front o; total = is }
 
-    go : (b t : Option ℕ) → total_of reach o ≡ t → MatchOption b (NoneTotals reach front) (IsBestTotal reach front) →
+    go : (b t : Option ℕ) → total_towards reach o ≡ t → MatchOption b (NoneTotals reach front) (IsBestTotal reach front) →
         MatchOption (least_cost_of b t) (NoneTotals reach (front ++ o ∷ [])) (IsBestTotal reach (front ++ o ∷ []))
     go None None is none = λ c has. elim (has_total_cases reach front o c has) [
       | inl earlier ↦ none c earlier
@@ -159,13 +159,13 @@ hop_towards_is_best_hop arc u reach offer offers c h walks same best = (there, b
 
 -- a step of the loop that looks for the best total
 pub best_step : (reach : Reach) (offers : List Offer) (i : ℕ) (d : Offer) (best total next : Option ℕ) → i < length offers →
-    total ≡ total_of reach (get_or offers i d) → next ≡ least_cost_of best total →
+    total ≡ total_towards reach (get_or offers i d) → next ≡ least_cost_of best total →
     MatchOption best (NoneTotals reach (take i offers)) (IsBestTotal reach (take i offers)) →
     MatchOption next (NoneTotals reach (take (i + 1) offers)) (IsBestTotal reach (take (i + 1) offers))
 best_step reach offers i d best total next within is least so_far =
     let o : Offer = get_or offers i d in
     let Goal : Option ℕ → List Offer → Type 0 = λ n l. MatchOption n (NoneTotals reach l) (IsBestTotal reach l) in
-    let next_is : next ≡ least_cost_of best (total_of reach o) = least ∙ ap (λ (t : Option ℕ). least_cost_of best t) is in
+    let next_is : next ≡ least_cost_of best (total_towards reach o) = least ∙ ap (λ (t : Option ℕ). least_cost_of best t) is in
     subst (λ (l : List Offer). Goal next l) (sym (take_more offers i d within))
     (subst (λ (n : Option ℕ). Goal n (take i offers ++ o ∷ [])) (sym next_is) (best_more reach (take i offers) o best so_far))
 
@@ -201,7 +201,7 @@ hops_step reach offers i o cost n old new within is before adds =
       | inr same ↦ (adds h).1 (inr (
         both.0,
         record {
-          total = subst (λ (x : Offer). total_of reach x ≡ Some cost) (sym same) both.1.total;
+          total = subst (λ (x : Offer). total_towards reach x ≡ Some cost) (sym same) both.1.total;
           hop = subst (λ (x : Offer). HasHop reach x.at h) (sym same) both.1.hop;
         },
       ))

@@ -10,7 +10,7 @@ use Rattle.std.proofs.lemmas.Option.{slice_get_within, slice_get-get_or, same_So
 use borrow.Author.Count.{below_more}
 use Rattle.walk_core.specs.declared.hops.Departure.{Departure}
 use Rattle.walk_core.specs.Walks.{Arcs, FirstHop, walk_cost}
-use Rattle.walk_core.specs.Distances.{distance_at, AreDistances, KnowsEnds, IsDistanceRow, AreDistanceRows}
+use Rattle.walk_core.specs.Distances.{distance_at, AreLeastDistances, KnowsEnds, IsDistanceRow, AreDistanceRows}
 use Rattle.walk_core.specs.steps.Departures.{AreDepartures, BeginsAt}
 use Rattle.walk_core.specs.Reach.{Reach, AreAscending, AreLeastWalks, AreNear, AreWalksBelow}
 use Rattle.walk_core.proofs.WalkLaws.{first_hop_has_least_cost}
@@ -40,21 +40,21 @@ rows_more arc count n rows row are is = record {
 
 -- the rows of the first ends, and of one more
 pub known_more : (arc : Arcs) (ends : ℕ → ℕ × ℕ) (rows : List (List (Option ℕ))) (i to : ℕ) (row : List (Option ℕ)) → to < length rows → to ≡ (ends i).0 →
-    ((j : ℕ) → j < i → AreDistances arc (ends j).0 (get_or rows (ends j).0 [])) → AreDistances arc to row →
-    (j : ℕ) → j < i + 1 → AreDistances arc (ends j).0 (get_or (set rows to row) (ends j).0 [])
-known_more arc ends rows i to row within is before here = below_more (λ j. AreDistances arc (ends j).0 (get_or (set rows to row) (ends j).0 [])) i old new
+    ((j : ℕ) → j < i → AreLeastDistances arc (ends j).0 (get_or rows (ends j).0 [])) → AreLeastDistances arc to row →
+    (j : ℕ) → j < i + 1 → AreLeastDistances arc (ends j).0 (get_or (set rows to row) (ends j).0 [])
+known_more arc ends rows i to row within is before here = below_more (λ j. AreLeastDistances arc (ends j).0 (get_or (set rows to row) (ends j).0 [])) i old new
   where
-    at_end : AreDistances arc to (get_or (set rows to row) to [])
-    at_end = subst (λ (r : List (Option ℕ)). AreDistances arc to r) (sym (get_or-set_same rows to row [] within)) here
+    at_end : AreLeastDistances arc to (get_or (set rows to row) to [])
+    at_end = subst (λ (r : List (Option ℕ)). AreLeastDistances arc to r) (sym (get_or-set_same rows to row [] within)) here
 
-    old : (j : ℕ) → j < i → AreDistances arc (ends j).0 (get_or (set rows to row) (ends j).0 [])
+    old : (j : ℕ) → j < i → AreLeastDistances arc (ends j).0 (get_or (set rows to row) (ends j).0 [])
     old j below = elim (cases_eq (ends j).0 to) [
-      | inl same ↦ subst (λ (n : ℕ). AreDistances arc n (get_or (set rows to row) n [])) (sym same) at_end
-      | inr other ↦ subst (λ (r : List (Option ℕ)). AreDistances arc (ends j).0 r) (sym (get_or-set_other rows to (ends j).0 row [] other)) (before j below)
+      | inl same ↦ subst (λ (n : ℕ). AreLeastDistances arc n (get_or (set rows to row) n [])) (sym same) at_end
+      | inr other ↦ subst (λ (r : List (Option ℕ)). AreLeastDistances arc (ends j).0 r) (sym (get_or-set_other rows to (ends j).0 row [] other)) (before j below)
     ]
 
-    new : AreDistances arc (ends i).0 (get_or (set rows to row) (ends i).0 [])
-    new = subst (λ (n : ℕ). AreDistances arc n (get_or (set rows to row) n [])) is at_end
+    new : AreLeastDistances arc (ends i).0 (get_or (set rows to row) (ends i).0 [])
+    new = subst (λ (n : ℕ). AreLeastDistances arc n (get_or (set rows to row) n [])) is at_end
 
 -- the list of vertex v has the departures that begin a way to v
 abbrev pub AreHopsOf : List Departure → List (List (Option ℕ)) → List (Option ℕ) → ℕ → List ℕ → Type 0
@@ -62,8 +62,8 @@ AreHopsOf ds rows distances v hops = (h : ℕ) → Contains hops h ↔ BeginsAt 
 
 -- distances and first hops for every vertex are the least walks
 pub are_least_walks : (arc : Arcs) (root count : ℕ) (ds : List Departure) (rows : List (List (Option ℕ))) (reach : Reach) →
-    AreDepartures arc root ds → KnowsEnds arc root rows → AreDistances arc root reach.distances →
-    length reach.distances ≡ count → (listed : ℕ) → length reach.hops ≡ listed → (listed ≡ count) ⊎ (length ds ≡ 0) →
+    AreDepartures arc root ds → KnowsEnds arc root rows → AreLeastDistances arc root reach.distances →
+    length reach.distances ≤ count → (listed : ℕ) → length reach.hops ≡ listed → (listed ≡ count) ⊎ (length ds ≡ 0) →
     ((v : ℕ) → v < listed → AreHopsOf ds rows reach.distances v (get_or reach.hops v [])) →
     AreLeastWalks arc root reach
 are_least_walks arc root count ds rows reach departures ends least long listed hops_long all lists = record {

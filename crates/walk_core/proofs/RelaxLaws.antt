@@ -6,7 +6,7 @@ use Rattle.std.proofs.lemmas.Bool.{cases_eq}
 use Rattle.std.proofs.lemmas.List.{length-replicate}
 use borrow.Author.Count.{below_more}
 use Rattle.walk_core.specs.Walks.{Arcs, Leg, Walks, walk_cost, LeastCost}
-use Rattle.walk_core.specs.Distances.{distance_at, AreDistances}
+use Rattle.walk_core.specs.Distances.{distance_at, AreLeastDistances}
 use Rattle.walk_core.proofs.WalkLaws.{least_cost_from, least_cost_unique}
 use Rattle.walk_core.specs.steps.Relaxing.{WalkCosts, AreWalked, IsAtMost, IsTightFrom, missing, HaveRoom, weight_of, total_weight, Relaxes}
 
@@ -346,7 +346,7 @@ no_walk_undercuts arc count ds ends tight u (leg ∷ legs) v d in_range is leads
 -- costs of walks that no arc undercuts are the least costs
 pub distances_from_tight : (arc : Arcs) (count root : ℕ) (ds : List (Option ℕ)) → root < count →
     ((u v c : ℕ) → u < count → arc u v c → v < count) →
-    ((u : ℕ) → u < count → IsTightFrom arc u ds) → AreWalked arc root ds → AreDistances arc root ds
+    ((u : ℕ) → u < count → IsTightFrom arc u ds) → AreWalked arc root ds → AreLeastDistances arc root ds
 distances_from_tight arc count root ds in_range ends tight walked =
     let reached : (v : ℕ) (legs : List Leg) → Walks arc root legs v →
     IsAtMost (distance_at ds v) (walk_cost legs) =

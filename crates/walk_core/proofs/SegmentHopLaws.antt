@@ -1,5 +1,5 @@
 -- First hops over segments: the nearest vertices of the segments that the root sends on.
-use Rattle.std.proofs.Common.{◌≡◌, ◌≢◌, ℕ, ◌⊎◌, ◌+◌, ◌<◌, ◌≤◌, ◌↔◌, List, [], ◌∷◌, Option, Some, None, length, get_or, refl, sym, ap, subst, ◌∙◌, arith, inl}
+use Rattle.std.proofs.Common.{◌≡◌, ◌≢◌, ℕ, ◌+◌, ◌<◌, ◌≤◌, ◌↔◌, List, [], ◌∷◌, ◌++◌, Option, Some, None, length, get_or, refl, sym, ap, subst, ◌∙◌, arith, inl}
 use Rattle.std.proofs.Common.{inr, Contains}
 use Rattle.std.proofs.Math.ListN.{get_or-eq_default}
 use Rattle.std.proofs.lemmas.Bool.{cases_eq, cases_lt}
@@ -8,15 +8,16 @@ use Rattle.walk_core.specs.declared.outlets.Outlet.{Outlet}
 use Rattle.walk_core.specs.declared.segment.Port.{Port}
 use Rattle.walk_core.specs.Walks.{Arcs, Leg, walk_cost, LeastCost, FirstHop}
 use Rattle.walk_core.specs.steps.Cheapest.{HasCost, IsCheapestCost}
-use Rattle.walk_core.specs.Distances.{distance_at, distance_between, AreDistances, AreDistanceRows}
+use Rattle.walk_core.specs.Distances.{distance_at, distance_between, AreLeastDistances, IsDistanceRow, AreDistanceRows}
 use Rattle.walk_core.specs.steps.Flooding.{segment_at}
-use Rattle.walk_core.specs.Reach.{Reach, AreLeastWalks, distance_of, HasHop}
-use Rattle.walk_core.specs.steps.SegmentWalks.{beyond_port, IsEndAt, AreWalksFrom, reach_at, KnowsBeyond, IsOutlet, HasOutlet, AreOutlets, GoesOut}
+use Rattle.walk_core.specs.Reach.{Reach, AreLeastWalks, AreWalksBelow, distance_of, HasHop}
+use Rattle.walk_core.specs.steps.SegmentWalks.{beyond_port, IsEndAt, AreWalksFrom, reach_at, KnowsBeyond, IsOutlet, HasOutlet}
+use Rattle.walk_core.specs.steps.SegmentWalks.{AreOutlets, AreAllOutlets, GoesOut, AreHopsOut}
 use Rattle.walk_core.specs.Segments.{SendsOn, SendsAcross, AreSegments}
 use Rattle.walk_core.proofs.FloodLaws.{segment_among}
 use Rattle.walk_core.proofs.HopLaws.{BeginsLeast, begins_least_from_first_hop, first_hop_from_begins_least}
+use Rattle.walk_core.proofs.ReachLaws.{walks_more}
 use Rattle.walk_core.proofs.WalkLaws.{first_hop_has_least_cost, least_cost_at_most, least_cost_unique}
-use Rattle.walk_core.proofs.SegmentSteps.{AreListsBelow}
 
 -- what is known before the first hops are
 pub record HopsAreReady (segments : List (List Port)) (count root : ℕ) (rows : List (List (Option ℕ))) (beyond : List Reach)
@@ -25,7 +26,7 @@ pub record HopsAreReady (segments : List (List Port)) (count root : ℕ) (rows :
   pub from_each : AreDistanceRows (SendsAcross segments) count count rows
   pub from_segments : KnowsBeyond rows segments count (length segments) beyond
   pub ways_out : AreOutlets segments root (length segments) outlets
-  pub from_root : AreDistances (SendsAcross segments) root distances
+  pub from_root : AreLeastDistances (SendsAcross segments) root distances
 
 -- a way out over an outlet begins a least walk
 pub hop_from_outlet : (segments : List (List Port)) (count root : ℕ) (rows : List (List (Option ℕ))) (beyond : List Reach)
@@ -179,10 +180,9 @@ outlet_from_hop segments count root rows beyond outlets distances v h ready with
 
 -- distances and first hops for every vertex are the least walks
 pub walks_of_lists : (segments : List (List Port)) (count root : ℕ) (rows : List (List (Option ℕ))) (beyond : List Reach)
-    (outlets : List Outlet) (reach : Reach) (listed : ℕ) → HopsAreReady segments count root rows beyond outlets reach.distances →
-    length reach.distances ≡ count → AreListsBelow beyond outlets reach.distances listed reach.hops → (listed ≡ count) ⊎ (length outlets ≡ 0) →
-    AreLeastWalks (SendsAcross segments) root reach
-walks_of_lists segments count root rows beyond outlets reach listed ready long lists all = record {
+    (outlets : List Outlet) (reach : Reach) → HopsAreReady segments count root rows beyond outlets reach.distances →
+    length reach.distances ≤ count → AreHopsOut beyond outlets count reach → AreLeastWalks (SendsAcross segments) root reach
+walks_of_lists segments count root rows beyond outlets reach ready long out = record {
   distances = ready.from_root.least;
   unreached = ready.from_root.none;
   hops = λ v h. (there v h, back v h);
@@ -211,12 +211,12 @@ walks_of_lists segments count root rows beyond outlets reach listed ready long l
     ]
 
     there : (v h : ℕ) → HasHop reach v h → FirstHop (SendsAcross segments) root v h
-    there v h has = elim (cases_lt v listed) [
+    there v h has = elim (cases_lt v out.listed) [
       | inl below ↦
-          let goes = (lists.lists v below h).0 has in
+          let goes = (out.lists.lists v below h).0 has in
           hop_from_outlet segments count root rows beyond outlets reach.distances v h ready (goes_below v h goes) goes
       | inr past ↦
-          let no_list : get_or reach.hops v [] ≡ [] = get_or-eq_default reach.hops [] (omega (arith, past, lists.long)) in
+          let no_list : get_or reach.hops v [] ≡ [] = get_or-eq_default reach.hops [] (omega (arith, past, out.lists.long)) in
           let none : Contains [] h = subst (λ (l : List ℕ). Contains l h) no_list has in
           absurd (omega (arith, none.1))
     ]
@@ -225,10 +225,29 @@ walks_of_lists segments count root rows beyond outlets reach listed ready long l
     back v h first =
         let within = first_below v h first in
         let goes = outlet_from_hop segments count root rows beyond outlets reach.distances v h ready within first in
-        elim (cases_lt v listed) [
-          | inl below ↦ (lists.lists v below h).1 goes
-          | inr past ↦ elim all [
+        elim (cases_lt v out.listed) [
+          | inl below ↦ (out.lists.lists v below h).1 goes
+          | inr past ↦ elim out.all [
             | inl full ↦ absurd (omega (arith, full, past, within))
             | inr alone ↦ absurd (omega (arith, alone, goes.among.1))
           ]
         ]
+
+-- the walks from one more vertex, by its row and its first hops
+pub walks_from_more : (segments : List (List Port)) (count root : ℕ) (rows : List (List (Option ℕ))) (beyond : List Reach)
+    (outlets : List (List Outlet)) (reach : Reach) (walks : List Reach) → AreSegments count segments → root < count →
+    AreDistanceRows (SendsAcross segments) count count rows → KnowsBeyond rows segments count (length segments) beyond →
+    AreAllOutlets segments count outlets → reach.distances ≡ get_or rows root [] → AreHopsOut beyond (get_or outlets root []) count reach →
+    AreWalksBelow (SendsAcross segments) count root walks → AreWalksBelow (SendsAcross segments) count (root + 1) (walks ++ reach ∷ [])
+walks_from_more segments count root rows beyond outlets reach walks are below from knows listed is out before =
+    let row : IsDistanceRow (SendsAcross segments) count root reach.distances =
+    subst (λ (l : List (Option ℕ)). IsDistanceRow (SendsAcross segments) count root l) (sym is) (from.each root below) in
+    let ready : HopsAreReady segments count root rows beyond (get_or outlets root []) reach.distances = record {
+      are = are;
+      from_each = from;
+      from_segments = knows;
+      ways_out = listed.each root below;
+      from_root = row.least;
+    } in
+    walks_more (SendsAcross segments) count root walks reach before
+    (walks_of_lists segments count root rows beyond (get_or outlets root []) reach ready row.within out) row.near

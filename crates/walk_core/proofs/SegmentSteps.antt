@@ -1,9 +1,11 @@
 -- Walks over segments, one port, outlet, vertex or segment after another.
-use Rattle.std.proofs.Common.{◌≡◌, ℕ, ◌⊎◌, ◌+◌, ◌<◌, ◌≤◌, ◌↔◌, List, [], ◌∷◌, ◌++◌, Option, None, length, length-append, get_or, take, sym, ap, subst, ◌∙◌}
+use Rattle.std.proofs.Common.{◌≡◌, ℕ, ◌⊎◌, ◌+◌, ◌<◌, ◌≤◌, ◌↔◌, List, [], ◌∷◌, ◌++◌, Option, Some, None, true, false}
+use Rattle.std.proofs.Common.{length, length-append, get_or, take, sym, ap, subst, ◌∙◌}
 use Rattle.std.proofs.Common.{arith, inl, inr, Contains}
 use Rattle.std.proofs.lemmas.List.{get_or_append_left, get_or_push}
 use Rattle.std.proofs.lemmas.List.Elements.{Contains-append_left, Contains-append_right, Contains-append_cases, Contains-push, Contains-push_cases}
 use Rattle.std.specs.List.Sorted.{IsStrictlyIncreasing}
+use Rattle.std.specs.Option.{is_some}
 use borrow.Author.Count.{below_more}
 use Rattle.walk_core.specs.declared.outlets.Outlet.{Outlet}
 use Rattle.walk_core.specs.declared.segment.Port.{Port}
@@ -12,7 +14,7 @@ use Rattle.walk_core.specs.steps.Cheapest.{IsCheapestCost}
 use Rattle.walk_core.specs.Distances.{distance_at}
 use Rattle.walk_core.specs.Reach.{Reach, AreAscending, distance_of, listed_hops_of, HasHop}
 use Rattle.walk_core.specs.steps.SegmentWalks.{beyond_port, IsPortAt, IsEndAt, AreWalksFrom, reach_at, KnowsBeyond}
-use Rattle.walk_core.specs.steps.SegmentWalks.{IsOutlet, HasOutlet, ListsPorts, AreOutlets, IsSumOf, GoesOver, GoesOut}
+use Rattle.walk_core.specs.steps.SegmentWalks.{IsOutlet, HasOutlet, ListsPorts, AreOutlets, AreAllOutlets, IsSumOf, GoesOver, GoesOut, AreListsBelow}
 use Rattle.walk_core.proofs.ReachLaws.{ascending_more}
 
 -- what holds of each element so far and of one more holds of all of them
@@ -76,6 +78,23 @@ end_no rows front port v distance ends are isnt h = (
     | inl earlier ↦ (are h).1 earlier
     | inr now ↦ absurd (isnt now.0)
   ],
+)
+
+-- to a vertex without a distance nothing leads
+pub no_end_unreached : (rows : List (List (Option ℕ))) (ports : List Port) (v : ℕ) (distance : Option ℕ) → is_some distance ≡ false → (h : ℕ) →
+    Contains [] h ↔ IsEndAt rows ports v distance h
+no_end_unreached rows ports v (Some d) none h = absurd (let k : true ≡ false = none in cc)
+no_end_unreached rows ports v None none h = (
+  λ has. absurd (omega (arith, has.1)),
+  λ end. absurd (let k : None ≡ Some end.is_at.beyond = end.is_at.whole in cc),
+)
+
+pub no_way_unreached : (beyond : List Reach) (outlets : List Outlet) (v : ℕ) (distance : Option ℕ) → is_some distance ≡ false → (h : ℕ) →
+    Contains [] h ↔ GoesOut beyond outlets v distance h
+no_way_unreached beyond outlets v (Some d) none h = absurd (let k : true ≡ false = none in cc)
+no_way_unreached beyond outlets v None none h = (
+  λ has. absurd (omega (arith, has.1)),
+  λ goes. absurd (let k : None ≡ Some (goes.outlet.cost + goes.over.sum.beyond) = goes.over.sum.whole_is in cc),
 )
 
 -- the ways out so far, and one more outlet
@@ -160,6 +179,14 @@ outlets_end segments root place i outlets past are = record {
       (λ port among is. are.here among.0 (omega (arith, among.1, past)) port among.2 is);
 }
 
+-- the outlets of one more vertex
+pub outlets_vertex : (segments : List (List Port)) (n : ℕ) (all : List (List Outlet)) (outlets : List Outlet) → AreAllOutlets segments n all →
+    AreOutlets segments n (length segments) outlets → AreAllOutlets segments (n + 1) (all ++ outlets ∷ [])
+outlets_vertex segments n all outlets are is = record {
+  long = omega (arith, length-append all (outlets ∷ []), are.long);
+  each = each_at_more [] (λ u l. AreOutlets segments u (length segments) l) all n outlets are.long are.each is;
+}
+
 -- the hops over an outlet come to the others
 pub adds_over : (beyond : List Reach) (outlet : Outlet) (v : ℕ) (distance : Option ℕ) (reach : Reach) (old hops new : List ℕ) →
     reach ≡ reach_at beyond outlet.place → hops ≡ listed_hops_of reach v → IsSumOf outlet.cost (distance_of reach v) distance → new ≡ old ++ hops →
@@ -212,12 +239,7 @@ knows_segment rows segments count n beyond reach knows from = record {
       from;
 }
 
--- the hop lists of the vertices below n
-pub record AreListsBelow (beyond : List Reach) (outlets : List Outlet) (distances : List (Option ℕ)) (n : ℕ) (hops : List (List ℕ)) : Type 0 where
-  pub long : length hops ≡ n
-  pub lists : (w : ℕ) → w < n → (h : ℕ) → Contains (get_or hops w []) h ↔ GoesOut beyond outlets w (distance_at distances w) h
-  pub ascending : AreAscending hops
-
+-- the hop list of one more vertex
 pub lists_one_more : (beyond : List Reach) (outlets : List Outlet) (distances : List (Option ℕ)) (n : ℕ) (hops : List (List ℕ)) (list : List ℕ) →
     AreListsBelow beyond outlets distances n hops → ((h : ℕ) → Contains list h ↔ GoesOut beyond outlets n (distance_at distances n) h) →
     IsStrictlyIncreasing list → AreListsBelow beyond outlets distances (n + 1) (hops ++ list ∷ [])

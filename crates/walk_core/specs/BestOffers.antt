@@ -16,8 +16,8 @@ abbrev pub total_with : Option ℕ → ℕ → Option ℕ
 total_with None asks = None
 total_with (Some distance) asks = Some (distance + asks)
 
-abbrev pub total_of : Reach → Offer → Option ℕ
-total_of reach offer = total_with (distance_of reach offer.at) offer.asks
+abbrev pub total_towards : Reach → Offer → Option ℕ
+total_towards reach offer = total_with (distance_of reach offer.at) offer.asks
 
 -- the sum fits 64 bits
 abbrev pub FitsTotal : Reach → Offer → Type 0
@@ -31,7 +31,7 @@ AreInRange reach offers = All (FitsTotal reach) offers
 pub record HasTotal (reach : Reach) (offers : List Offer) (cost : ℕ) : Type 0 where
   pub offer : Offer
   pub among : Contains offers offer
-  pub total : total_of reach offer ≡ Some cost
+  pub total : total_towards reach offer ≡ Some cost
 
 -- no offer is reached
 abbrev pub NoneTotals : Reach → List Offer → Type 0
@@ -52,12 +52,12 @@ least_cost_of (Some x) (Some y) = Some (min x y)
 pub record IsHopTowards (reach : Reach) (offers : List Offer) (cost h : ℕ) : Type 0 where
   pub offer : Offer
   pub among : Contains offers offer
-  pub total : total_of reach offer ≡ Some cost
+  pub total : total_towards reach offer ≡ Some cost
   pub hop : HasHop reach offer.at h
 
 -- h is a first hop towards an offer, which costs this in all
 pub record IsHopOver (reach : Reach) (offer : Offer) (cost h : ℕ) : Type 0 where
-  pub total : total_of reach offer ≡ Some cost
+  pub total : total_towards reach offer ≡ Some cost
   pub hop : HasHop reach offer.at h
 
 -- the hops below n towards the offers that cost this, in ascending order

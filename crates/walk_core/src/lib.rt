@@ -15,10 +15,11 @@
 //! | `union` | numbers below a bound, and in order |
 //!
 //! A segment of n ports is relaxed in time n, and not in that of its n(n - 1) arcs: from its least entry, the least
-//! distance of a vertex and the cost of its port, no other one of them gains. So all roots of n vertices with p ports
-//! take time n p for each sweep that lets distances fall, and n p once for the vertices of each segment that are nearest
-//! to each vertex; the first hops of a root are then read, not searched. A caller that is proved: `ZoneWalks::build` of
-//! `zone_graph`.
+//! distance of a vertex and the cost of its port, no other one of them gains. It is relaxed again only once it is
+//! stale, when the distance of one of its vertices fell. So all roots of n vertices with p ports take time n p where
+//! distances spread along the segments in order, and n p once for the vertices of each segment that are nearest to each
+//! vertex; the first hops of a root are then read, not searched. A root without a port takes no time of its own. A
+//! caller that is proved: `ZoneWalks::build` of `zone_graph`.
 #![tactic(auto)]
 
 // graphs

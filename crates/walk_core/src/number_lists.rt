@@ -30,7 +30,7 @@ impl Model for NumberLists {
 }
 
 impl NumberLists {
-    ghost use Rattle.std.specs.Prelude.{◌≡◌, ◌++◌, ◌∷◌, [], OnOk, slice_index_or};
+    ghost use Rattle.std.specs.Prelude.{◌≡◌, ◌++◌, ◌∷◌, [], IfOk, OnOk, slice_index_or};
 
     /// No lists.
     pub fn none(alloc: Global) -> NumberLists
@@ -40,6 +40,16 @@ impl NumberLists {
             numbers: Vec::new(alloc),
             spans: Vec::new(alloc),
         }
+    }
+
+    /// No lists, with room for so many of one number each.
+    pub fn with_room(alloc: Global, count: usize) -> Result<NumberLists, OutOfMemory>
+        ensures { IfOk result (λ lists. lists ≡ []) }
+    {
+        Ok(NumberLists {
+            numbers: Vec::with_capacity(alloc, count)?,
+            spans: Vec::with_capacity(alloc, count)?,
+        })
     }
 
     /// Adds a list behind the others.

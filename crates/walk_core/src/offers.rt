@@ -15,7 +15,7 @@ pub struct Offer {
 }
 
 impl LeastWalks {
-    ghost use Rattle.walk_core.specs.BestOffers.{AreInRange, FitsTotal, IsBestTotal, NoneTotals, AreHopsTowards, IsHopOver, total_of};
+    ghost use Rattle.walk_core.specs.BestOffers.{AreInRange, FitsTotal, IsBestTotal, NoneTotals, AreHopsTowards, IsHopOver, total_towards};
 
     /// What the best of some offers costs at the root, and `None` where none is reached.
     pub fn best_cost(&self, offers: &[Offer]) -> Option<u64>
@@ -71,7 +71,7 @@ impl LeastWalks {
     /// What an offer costs at the root in all, and `None` where it isn't reached.
     fn total(&self, offer: &Offer) -> Option<u64>
         requires { FitsTotal self.now offer.now }
-        ensures { result ≡ total_of self.now offer.now }
+        ensures { result ≡ total_towards self.now offer.now }
     {
         let distance = self.distance(offer.at)?;
         Some(distance + offer.asks)

@@ -2,14 +2,14 @@ ghost use Rattle.std.specs.Prelude.{◌≡◌, ◌<◌, ◌↔◌, ◌⊎◌, �
 ghost use Rattle.std.specs.List.Sorted.{IsStrictlyIncreasing};
 ghost use Rattle.walk_core.specs.steps.Cheapest.{IsCheapestCost};
 ghost use Rattle.walk_core.specs.Distances.{AreDistanceRows, IsDistanceRow, distance_between};
-ghost use Rattle.walk_core.specs.Reach.{AreLeastWalks, AreNear, AreWalksBelow};
-ghost use Rattle.walk_core.specs.steps.SegmentWalks.{AreOutlets, AreWalksFrom, GoesOut, GoesOver, IsEndAt, IsPortAt, IsSumOf, KnowsBeyond, beyond_port};
+ghost use Rattle.walk_core.specs.Reach.{AreWalksBelow};
+ghost use Rattle.walk_core.specs.steps.SegmentWalks.{AreAllOutlets, AreHopsOut, AreWalksFrom, GoesOut, GoesOver, IsEndAt, IsPortAt, IsSumOf, KnowsBeyond, beyond_port};
 ghost use Rattle.walk_core.specs.Segments.{AreSegments, SendsAcross};
 
 use crate::flood::distances_over;
 use crate::number_lists::NumberLists;
 use crate::offers::least_of;
-use crate::outlets::{Outlet, outlets_of};
+use crate::outlets::{Outlet, Outlets, all_outlets, is_lone};
 use crate::rows::{Distances, distance_between};
 use crate::segment::{Port, Segment};
 use crate::union::put_in_order;
@@ -25,34 +25,53 @@ pub fn segment_walks(
     requires { AreSegments count segments.now }
     ensures { IfOk result (λ all. AreWalksBelow (SendsAcross segments.now) count count all.items) }
 {
-    let rows = rows_over(alloc, segments, count)?;
+    let outlets = all_outlets(alloc, segments, count)?;
+    let rows = rows_over(alloc, segments, outlets.as_slice(), count)?;
     let beyond = all_beyond(alloc, segments, rows.as_slice(), count)?;
     let mut all = Vec::new(alloc);
     for root in 0..count {
         let distances = rows[root as usize].copied()?;
-        all.push(walks_from(
-            alloc,
-            segments,
-            rows.as_slice(),
-            beyond.as_slice(),
-            distances,
-            count,
-            root,
-        )?)?;
+        let ports = outlets[root as usize].as_slice();
+        all.push(walks_from(alloc, ports, beyond.as_slice(), distances, count)?)?;
     }
     Ok(all)
 }
 
 /// The distances from every vertex.
-fn rows_over(alloc: Global, segments: &[Segment], count: u32) -> Result<Vec<Distances>, OutOfMemory>
-    requires { AreSegments count segments.now }
+fn rows_over(
+    alloc: Global,
+    segments: &[Segment],
+    outlets: &[Outlets],
+    count: u32,
+) -> Result<Vec<Distances>, OutOfMemory>
+    requires segments { AreSegments count segments.now }
+    requires outlets { AreAllOutlets segments.now count outlets.now }
     ensures { IfOk result (λ rows. AreDistanceRows (SendsAcross segments.now) count count rows.items) }
 {
     let mut rows = Vec::new(alloc);
     for root in 0..count {
-        rows.push(distances_over(alloc, segments, count, root)?)?;
+        rows.push(row_over(alloc, segments, outlets, count, root)?)?;
     }
     Ok(rows)
+}
+
+/// The distances from the root.
+fn row_over(
+    alloc: Global,
+    segments: &[Segment],
+    outlets: &[Outlets],
+    count: u32,
+    root: u32,
+) -> Result<Distances, OutOfMemory>
+    requires root { root < count }
+    requires segments { AreSegments count segments.now }
+    requires outlets { AreAllOutlets segments.now count outlets.now }
+    ensures { IfOk result (IsDistanceRow (SendsAcross segments.now) count root) }
+{
+    if is_lone(outlets[root as usize].as_slice()) {
+        return Distances::of_lone(alloc, root);
+    }
+    distances_over(alloc, segments, outlets, count, root)
 }
 
 /// The least walks that begin on each segment, by the distances from the vertices.
@@ -81,8 +100,8 @@ fn walks_beyond(
 ) -> Result<LeastWalks, OutOfMemory>
     ensures { IfOk result (AreWalksFrom rows.now ports.now count) }
 {
-    let mut distances = Vec::new(alloc);
-    let mut hops = NumberLists::none(alloc);
+    let mut distances = Vec::with_capacity(alloc, count as usize)?;
+    let mut hops = NumberLists::with_room(alloc, count as usize)?;
     let mut ends = Vec::new(alloc);
     for v in 0..count {
         let distance = nearest(ports, rows, v);
@@ -119,6 +138,9 @@ fn find_ends(
     ensures ascending { OnOk result (IsStrictlyIncreasing ends.new.items) }
 {
     ends.clear();
+    if distance.is_none() {
+        return Ok(());
+    }
     for port in ports {
         if is_at(*port, rows, v, distance) {
             ends.push(port.vertex)?;
@@ -138,29 +160,23 @@ fn is_at(port: Port, rows: &[Distances], v: u32, distance: Option<u64>) -> bool
     }
 }
 
-/// The least walks from the root, by its distances and the walks from the segments.
+/// The walks from a vertex at these distances, with the first hops over its ports by the walks from the segments.
 fn walks_from(
     alloc: Global,
-    segments: &[Segment],
-    rows: &[Distances],
+    outlets: &[Outlet],
     beyond: &[LeastWalks],
     distances: Distances,
     count: u32,
-    root: u32,
 ) -> Result<LeastWalks, OutOfMemory>
-    requires segments { AreSegments count segments.now }
-    requires root { root < count }
-    requires rows { AreDistanceRows (SendsAcross segments.now) count count rows.now }
-    requires beyond { KnowsBeyond rows.now segments.now count (length segments.now) beyond.now }
-    requires row { IsDistanceRow (SendsAcross segments.now) count root distances }
-    ensures least { IfOk result (AreLeastWalks (SendsAcross segments.now) root) }
-    ensures near { IfOk result (AreNear count) }
+    requires { All (λ o. o.place < length beyond.now) outlets.now }
+    ensures distances { IfOk result (λ walks. walks.distances ≡ distances) }
+    ensures hops { IfOk result (AreHopsOut beyond.now outlets.now count) }
 {
-    let outlets = outlets_of(alloc, segments, root)?;
-    let mut hops = NumberLists::none(alloc);
+    let listed = most_listed(outlets, count);
+    let mut hops = NumberLists::with_room(alloc, listed as usize)?;
     let mut found = Vec::new(alloc);
-    for v in 0..most_listed(outlets.as_slice(), count) {
-        find_hops(&mut found, outlets.as_slice(), beyond, v, distances.at(v))?;
+    for v in 0..listed {
+        find_hops(&mut found, outlets, beyond, v, distances.at(v))?;
         hops.push(found.as_slice())?;
     }
     Ok(LeastWalks { distances, hops })
@@ -170,7 +186,7 @@ fn walks_from(
 fn most_listed(outlets: &[Outlet], count: u32) -> u32
     ensures { (result ≡ count) ⊎ (length outlets.now ≡ 0) }
 {
-    if outlets.is_empty() { 0 } else { count }
+    if is_lone(outlets) { 0 } else { count }
 }
 
 /// Finds the first hops towards v, which is at this distance from the root, in ascending order.
@@ -186,6 +202,9 @@ fn find_hops(
     ensures ascending { OnOk result (IsStrictlyIncreasing found.new.items) }
 {
     found.clear();
+    if distance.is_none() {
+        return Ok(());
+    }
     for outlet in outlets {
         add_hops(found, *outlet, beyond, v, distance)?;
     }

@@ -1,6 +1,6 @@
 ghost use Rattle.std.specs.Prelude.{◌≡◌, ◌+◌, ◌*◌, ◌^◌, ◌<◌, ◌≤◌, ◌↔◌, ℕ, length, IsTrue, Some, slice_set, if◌then◌else◌, IfOk};
 ghost use Rattle.std.specs.Bool.{OnTrue, OnFalse};
-ghost use Rattle.walk_core.specs.Distances.{distance_at, AreDistances};
+ghost use Rattle.walk_core.specs.Distances.{distance_at, AreLeastDistances};
 ghost use Rattle.walk_core.specs.steps.Relaxing.{weight_of, HaveRoom, IsTightFrom, Relaxes};
 
 use crate::rows::Distances;
@@ -14,7 +14,7 @@ pub fn distances_from<G: CostGraph>(
     root: u32,
 ) -> Result<Distances, OutOfMemory>
     requires { root < G.vertex_count graph.now }
-    ensures least { IfOk result (λ ds. AreDistances (G.has_arc graph.now) root ds) }
+    ensures least { IfOk result (λ ds. AreLeastDistances (G.has_arc graph.now) root ds) }
     ensures whole { IfOk result (λ ds. length ds ≡ G.vertex_count graph.now) }
     ensures near { IfOk result (λ ds. (v d : ℕ) → distance_at ds v ≡ Some d →
         d < G.vertex_count graph.now * 2 ^ 32) }

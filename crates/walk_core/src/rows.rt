@@ -7,30 +7,32 @@ use std::alloc::Global;
 use std::marker::Model;
 
 /// The distances from one vertex, by the number of the other: the least cost of a walk there, and None where no walk
-/// leads.
+/// leads. Those before the first one that is there take no memory.
 #[derive(Debug, Drop)]
 pub struct Distances {
-    all: Vec<Option<u64>>,
+    none_before: u32,
+    others: Vec<Option<u64>>,
 }
 
 impl Model for Distances {
-    ghost use Rattle.std.specs.Prelude.{List, Option, ℕ};
+    ghost use Rattle.std.specs.Prelude.{List, Option, None, ℕ, ◌++◌, replicate};
 
     ghost Value = { List (Option ℕ) };
 
-    ghost view = { λ x. x.all.items };
+    ghost view = { λ x. replicate x.none_before None ++ x.others.items };
 }
 
 impl Distances {
-    ghost use Rattle.std.specs.Prelude.{◌≡◌, [], IfOk};
+    ghost use Rattle.std.specs.Prelude.{◌≡◌, ◌++◌, ◌∷◌, [], Some, None, replicate, IfOk};
     ghost use Rattle.walk_core.specs.Distances.{distance_at};
 
     /// No distances.
-    pub fn none(alloc: Global) -> Distances
+    fn none(alloc: Global) -> Distances
         ensures { result ≡ [] }
     {
         Distances {
-            all: Vec::new(alloc),
+            none_before: 0,
+            others: Vec::new(alloc),
         }
     }
 
@@ -38,14 +40,30 @@ impl Distances {
     pub fn from_vec(all: Vec<Option<u64>>) -> Distances
         ensures { result ≡ all.items }
     {
-        Distances { all }
+        Distances {
+            none_before: 0,
+            others: all,
+        }
+    }
+
+    /// The distances from a vertex that reaches itself alone.
+    pub fn of_lone(alloc: Global, root: u32) -> Result<Distances, OutOfMemory>
+        ensures { IfOk result (λ row. row ≡ replicate root None ++ Some 0 ∷ []) }
+    {
+        Ok(Distances {
+            none_before: root,
+            others: vec![in alloc; Some(0)]?,
+        })
     }
 
     /// The distance of v, and None where there is none.
     pub fn at(&self, v: u32) -> Option<u64>
         ensures { result ≡ distance_at self.now v }
     {
-        distance_at(self.all.as_slice(), v)
+        if v < self.none_before {
+            return None;
+        }
+        distance_at(self.others.as_slice(), v - self.none_before)
     }
 
     /// The same distances once more.
@@ -53,7 +71,8 @@ impl Distances {
         ensures { IfOk result (λ copy. copy ≡ self.now) }
     {
         Ok(Distances {
-            all: self.all.clone()?,
+            none_before: self.none_before,
+            others: self.others.clone()?,
         })
     }
 }

@@ -1,9 +1,9 @@
 -- Least walks that begin on a segment, and the first hops of its vertices by them.
-use Rattle.std.specs.Prelude.{◌≡◌, ℕ, ◌+◌, ◌<◌, ◌↔◌, List, [], length, Option, Some, Contains, slice_index_or}
+use Rattle.std.specs.Prelude.{◌≡◌, ℕ, ◌+◌, ◌<◌, ◌↔◌, ◌⊎◌, List, [], length, Option, Some, Contains, slice_index_or}
 use Rattle.walk_core.specs.steps.Cheapest.{IsCheapestCost}
-use Rattle.walk_core.specs.Distances.{distance_between}
+use Rattle.walk_core.specs.Distances.{distance_at, distance_between}
 use Rattle.walk_core.specs.steps.Flooding.{segment_at}
-use Rattle.walk_core.specs.Reach.{Reach, distance_of, HasHop}
+use Rattle.walk_core.specs.Reach.{Reach, AreAscending, distance_of, HasHop}
 use Rattle.walk_core.specs.declared.outlets.Outlet.{Outlet}
 use Rattle.walk_core.specs.declared.segment.Port.{Port}
 
@@ -63,6 +63,11 @@ pub record AreOutlets (segments : List (List Port)) (root n : ℕ) (outlets : Li
   pub each : (outlet : Outlet) → Contains outlets outlet → IsOutlet segments root outlet
   pub every : (i : ℕ) → i < n → ListsPorts (segment_at segments i) i root outlets
 
+-- the outlets of each vertex below n
+pub record AreAllOutlets (segments : List (List Port)) (n : ℕ) (all : List (List Outlet)) : Type 0 where
+  pub long : length all ≡ n
+  pub each : (u : ℕ) → u < n → AreOutlets segments u (length segments) (slice_index_or all u [])
+
 -- a whole distance is a cost and the rest
 pub record IsSumOf (cost : ℕ) (rest whole : Option ℕ) : Type 0 where
   pub beyond : ℕ
@@ -79,3 +84,15 @@ pub record GoesOut (beyond : List Reach) (outlets : List Outlet) (v : ℕ) (dist
   pub outlet : Outlet
   pub among : Contains outlets outlet
   pub over : GoesOver beyond outlet v distance h
+
+-- the hop lists of the vertices below n
+pub record AreListsBelow (beyond : List Reach) (outlets : List Outlet) (distances : List (Option ℕ)) (n : ℕ) (hops : List (List ℕ)) : Type 0 where
+  pub long : length hops ≡ n
+  pub lists : (w : ℕ) → w < n → (h : ℕ) → Contains (slice_index_or hops w []) h ↔ GoesOut beyond outlets w (distance_at distances w) h
+  pub ascending : AreAscending hops
+
+-- the hop lists of all vertices, or none where there is no outlet
+pub record AreHopsOut (beyond : List Reach) (outlets : List Outlet) (count : ℕ) (reach : Reach) : Type 0 where
+  pub listed : ℕ
+  pub lists : AreListsBelow beyond outlets reach.distances listed reach.hops
+  pub all : (listed ≡ count) ⊎ (length outlets ≡ 0)

@@ -1,28 +1,45 @@
-use Rattle.std.proofs.Common.{◌≡◌, ℕ, ◌||◌, List, Option, Contains, length, get_or, sym, ap, subst, ◌∙◌, arith}
-use Rattle.std.specs.Bool.{OnFalse}
+use Rattle.std.proofs.Common.{◌≡◌, ℕ, ◌<◌, ◌||◌, Bool, List, [], Option, Contains, length, get_or, sym, ap, subst, ◌∙◌, arith}
 use Rattle.std.proofs.lemmas.List.Elements.{Contains-get_or}
-use Rattle.walk_core.specs.Distances.{distance_at}
 use Rattle.walk_core.specs.steps.Flooding.{segment_at}
-use Rattle.walk_core.specs.steps.Relaxing.{IsAtMost}
+use Rattle.walk_core.specs.steps.SegmentWalks.{AreOutlets}
 use Rattle.walk_core.specs.Segments.{AreSegments, Sends}
 use Rattle.walk_core.specs.declared.segment.Port.{Port}
-use Rattle.walk_core.proofs.FloodLaws.{holds_more, IsLowered, lowered, lowered_all, ports_are, segment_among}
-use Rattle.walk_core.proofs.RelaxLaws.{relaxes_on}
+use Rattle.walk_core.proofs.FloodLaws.{IsLowered, lowered, ports_are, segment_among}
+use Rattle.walk_core.proofs.RelaxLaws.{relaxes_none, relaxes_on}
+use Rattle.walk_core.proofs.StaleLaws.{level_at_end, lowering_more, lowering_none, outlets_within}
 use Rattle.walk_core.proofs.flood.lower.Goals as goal
-use Rattle.walk_core.proofs.flood.lower.Goals.{then-relax, else-relax}
+use Rattle.walk_core.proofs.flood.lower.Goals.{then-lower_vertex, else-lower_vertex}
 
-pub relax-requires : goal.relax-requires
-relax-requires c =
+-- the vertex of the port is one of the graph
+vertex_below : (segments : List (List Port)) (place i n : ℕ) (given : List Port) → place < length segments → given ≡ segment_at segments place →
+    i < length given → AreSegments n segments → (get_or given i (record { vertex = 0; cost = 0 })).vertex < n
+vertex_below segments place i n given in_place is within are =
     let none : Port = record { vertex = 0; cost = 0 } in
+    let among : Contains (segment_at segments place) (get_or given i none) =
+    subst (λ (l : List Port). Contains l (get_or given i none)) is (Contains-get_or given i none within) in
+    (are (segment_at segments place) (segment_among segments place in_place) (get_or given i none) among).vertex
+
+pub lower_vertex-requires : goal.lower_vertex-requires
+lower_vertex-requires c =
     let given : List Port = c.as_slice-port-items.result.now in
     let segments : List (List Port) = c.args.segments.now in
+    let i : ℕ = c.loop-port.port-index in
+    let v : ℕ = (get_or given i (record { vertex = 0; cost = 0 })).vertex in
     let ports = ports_are segments c.args.place c.index-segments-place.result given c.requires.place c.index-segments-place.is c.as_slice-port-items.ensures in
-    let port : Port = get_or given c.loop-port.port-index none in
-    let among : Contains (segment_at segments c.args.place) port =
-    subst (λ (l : List Port). Contains l port) ports (Contains-get_or given c.loop-port.port-index none c.loop-port-test.true)
-    in
-    let is = c.requires.segments (segment_at segments c.args.place) (segment_among segments c.args.place c.requires.place) port among in
-    omega (arith, is.vertex, c.loop-port.auto.distances)
+    let below : v < length c.args.distances.now =
+    vertex_below segments c.args.place i (length c.args.distances.now) given c.requires.place ports c.loop-port-test.true c.requires.segments in
+    let listed : AreOutlets segments v (length segments) (get_or c.args.outlets.now v []) = c.requires.outlets.each v below in
+    record {
+      vertex = omega (arith, below, c.loop-port.auto.distances);
+      outlets = omega (arith, below, c.requires.outlets.long);
+      places = outlets_within segments v (length c.loop-port.stale) (get_or c.args.outlets.now v []) listed c.loop-port.invariant.lowering.settled.long;
+    }
+
+pub loop-port-init : goal.loop-port-init
+loop-port-init c = record {
+  relaxes = relaxes_none c.requires.room;
+  lowering = lowering_none c.args.segments.now c.args.place c.args.found c.args.distances.now c.args.stale.now c.requires.found c.requires.settled;
+}
 
 pub loop-port-preserved : goal.loop-port-preserved
 loop-port-preserved c =
@@ -32,43 +49,43 @@ loop-port-preserved c =
     let segment : List Port = segment_at segments c.args.place in
     let i : ℕ = c.loop-port.port-index in
     let now : List (Option ℕ) = c.loop-port.distances in
-    let after : List (Option ℕ) = c.relax.new.distances in
+    let after : List (Option ℕ) = c.lower_vertex.new.distances in
     let found : ℕ = c.args.found in
+    let fell : Bool = c.lower_vertex.result in
     let before = c.loop-port.invariant in
     let ports : given ≡ segment = ports_are segments c.args.place c.index-segments-place.result given c.requires.place c.index-segments-place.is
     c.as_slice-port-items.ensures in
     let port : Port = get_or given i none in
     let among : Contains segment port = subst (λ (l : List Port). Contains l port) ports (Contains-get_or given i none c.loop-port-test.true) in
     let are : AreSegments (length now) segments = subst (λ (n : ℕ). AreSegments n segments) (sym c.loop-port.auto.distances) c.requires.segments in
-    let step : IsLowered (Sends segments) segment now after port.vertex found c.relax.result =
-    lowered segments c.args.place now after port found c.relax.result c.requires.place are before.relaxes.room before.entry among
-    c.relax.ensures.falls c.relax.ensures.after
+    let below : port.vertex < length c.args.distances.now =
+    vertex_below segments c.args.place i (length c.args.distances.now) given c.requires.place ports c.loop-port-test.true c.requires.segments in
+    let step : IsLowered (Sends segments) segment now after port.vertex found fell =
+    lowered segments c.args.place now after port found fell c.requires.place are before.relaxes.room before.lowering.entry among
+    c.lower_vertex.ensures.falls c.lower_vertex.ensures.after
     in
-    let here : OnFalse c.relax.result (IsAtMost (distance_at after (get_or segment i none).vertex) found) =
-    subst (λ (l : List Port). OnFalse c.relax.result (IsAtMost (distance_at after (get_or l i none).vertex) found)) ports step.tight
-    in
-    let fell : c.if-relax.fell ≡ (c.relax.result || c.loop-port.fell) =
-    elim c.if-relax.branch [
-      | then-relax w ↦ rw w.if-relax.true (w.fell-is ∙ w.if-relax.true)
-      | else-relax w ↦ rw w.if-relax.false w.fell-is
+    let either : c.if-lower_vertex.fell ≡ (fell || c.loop-port.fell) =
+    elim c.if-lower_vertex.branch [
+      | then-lower_vertex w ↦ rw w.if-lower_vertex.true (w.fell-is ∙ w.if-lower_vertex.true)
+      | else-lower_vertex w ↦ rw w.if-lower_vertex.false w.fell-is
     ]
     in
-    rw fell (record {
-      relaxes = relaxes_on c.loop-port.fell c.relax.result before.relaxes step.relaxes;
-      entry = step.entry;
-      lowered = holds_more (λ (ds : List (Option ℕ)) (j : ℕ). IsAtMost (distance_at ds (get_or segment j none).vertex) found) now after i c.loop-port.fell
-          c.relax.result
-          before.lowered step.relaxes.same here;
+    rw either (record {
+      relaxes = relaxes_on c.loop-port.fell fell before.relaxes step.relaxes;
+      lowering = lowering_more segments c.args.place found i now after c.loop-port.stale c.lower_vertex.new.stale
+          (get_or c.args.outlets.now port.vertex []) port fell before.lowering step (ap (λ (l : List Port). get_or l i none) (sym ports)) (omega (arith, below, c.loop-port.auto.distances))
+          (c.requires.outlets.each port.vertex below) c.lower_vertex.ensures.after c.lower_vertex.ensures.marks c.lower_vertex.ensures.kept
+          c.lower_vertex.auto.stale;
     })
 
-pub returns-clause-lowered : goal.returns-clause-lowered
-returns-clause-lowered c =
-    let none : Port = record { vertex = 0; cost = 0 } in
+pub returns-clause-settled : goal.returns-clause-settled
+returns-clause-settled c = c.loop-port.invariant.lowering.settled
+
+pub returns-clause-level : goal.returns-clause-level
+returns-clause-level c =
     let given : List Port = c.as_slice-port-items.result.now in
     let segments : List (List Port) = c.args.segments.now in
-    let segment : List Port = segment_at segments c.args.place in
-    let ports : given ≡ segment = ports_are segments c.args.place c.index-segments-place.result given c.requires.place c.index-segments-place.is
-    c.as_slice-port-items.ensures in
-    let past = c.loop-port-test.false in
-    lowered_all c.loop-port.fell c.loop-port.distances segment c.loop-port.port-index c.args.found none
-    (omega (arith, past, ap length ports)) c.loop-port.invariant.lowered
+    let ports : given ≡ segment_at segments c.args.place = ports_are segments c.args.place c.index-segments-place.result given c.requires.place
+    c.index-segments-place.is c.as_slice-port-items.ensures in
+    level_at_end segments c.args.place c.args.found c.loop-port.port-index c.loop-port.distances c.loop-port.stale
+    (omega (arith, c.loop-port-test.false, ap (λ (l : List Port). length l) ports)) c.loop-port.invariant.lowering

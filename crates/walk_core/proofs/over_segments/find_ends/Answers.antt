@@ -1,8 +1,8 @@
-use Rattle.std.proofs.Common.{◌≡◌, ◌++◌, ◌∷◌, [], ◌+◌, ◌↔◌, ℕ, List, Vec, Global, Contains, take, get_or, sym, ap, subst, ◌∙◌}
+use Rattle.std.proofs.Common.{not, ◌≡◌, ◌++◌, ◌∷◌, [], ◌+◌, ◌↔◌, ℕ, List, Vec, Global, Contains, take, get_or, sym, ap, subst, ◌∙◌}
 use Rattle.std.proofs.lemmas.List.{take_more, take_all}
 use Rattle.walk_core.specs.steps.SegmentWalks.{IsEndAt}
 use Rattle.walk_core.specs.declared.segment.Port.{Port}
-use Rattle.walk_core.proofs.SegmentSteps.{no_ends, end_yes, end_no}
+use Rattle.walk_core.proofs.SegmentSteps.{no_ends, no_end_unreached, end_yes, end_no}
 use Rattle.walk_core.proofs.over_segments.find_ends.Goals as goal
 use Rattle.walk_core.proofs.over_segments.find_ends.Goals.{then-is_at+in_ok-push, else-is_at}
 
@@ -42,3 +42,8 @@ returns-clause-exact c h =
       λ has. (are h).0 ((c.put_in_order.ensures.kept h).0 has),
       λ end. (c.put_in_order.ensures.kept h).1 ((are h).1 end),
     )
+
+pub returns-then-is_none-clause-exact : goal.returns-then-is_none-clause-exact
+returns-then-is_none-clause-exact c =
+    subst (λ (l : List ℕ). (h : ℕ) → Contains l h ↔ IsEndAt c.args.rows.now c.args.ports.now c.args.v c.args.distance h) (sym c.clear.ensures.items)
+    (no_end_unreached c.args.rows.now c.args.ports.now c.args.v c.args.distance (c.is_none.ensures ∙ ap not c.if-is_none.true))

@@ -1,8 +1,8 @@
-use Rattle.std.proofs.Common.{◌≡◌, ◌++◌, ◌∷◌, [], ◌+◌, ◌↔◌, ℕ, List, Contains, take, get_or, sym, subst}
+use Rattle.std.proofs.Common.{not, ◌≡◌, ◌++◌, ◌∷◌, [], ◌+◌, ◌↔◌, ℕ, List, Contains, take, get_or, sym, ap, subst, ◌∙◌}
 use Rattle.std.proofs.lemmas.List.{take_more, take_all}
 use Rattle.walk_core.specs.steps.SegmentWalks.{GoesOut}
 use Rattle.walk_core.specs.declared.outlets.Outlet.{Outlet}
-use Rattle.walk_core.proofs.SegmentSteps.{no_way_out, way_out_more}
+use Rattle.walk_core.proofs.SegmentSteps.{no_way_out, no_way_unreached, way_out_more}
 use Rattle.walk_core.proofs.over_segments.find_hops.Goals as goal
 
 pub loop-outlet-init : goal.loop-outlet-init
@@ -32,3 +32,8 @@ returns-clause-exact c h =
       λ has. (are h).0 ((c.put_in_order.ensures.kept h).0 has),
       λ goes. (c.put_in_order.ensures.kept h).1 ((are h).1 goes),
     )
+
+pub returns-then-is_none-clause-exact : goal.returns-then-is_none-clause-exact
+returns-then-is_none-clause-exact c =
+    subst (λ (l : List ℕ). (h : ℕ) → Contains l h ↔ GoesOut c.args.beyond.now c.args.outlets.now c.args.v c.args.distance h) (sym c.clear.ensures.items)
+    (no_way_unreached c.args.beyond.now c.args.outlets.now c.args.v c.args.distance (c.is_none.ensures ∙ ap not c.if-is_none.true))

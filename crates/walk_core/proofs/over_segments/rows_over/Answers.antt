@@ -8,8 +8,8 @@ pub loop-root-preserved : goal.loop-root-preserved
 loop-root-preserved c =
     subst (λ (l : List (List (Option ℕ))). AreDistanceRows (SendsAcross c.args.segments.now) c.args.count (c.loop-root.root + 1) l)
     (sym c.in_ok-push.ensures.items)
-    (rows_more (SendsAcross c.args.segments.now) c.args.count c.loop-root.root c.loop-root.rows.items c.in_ok-distances_over.field-0 c.loop-root.invariant
-    c.in_ok-distances_over.ensures)
+    (rows_more (SendsAcross c.args.segments.now) c.args.count c.loop-root.root c.loop-root.rows.items c.in_ok-row_over.field-0 c.loop-root.invariant
+    c.in_ok-row_over.ensures)
 
 pub returns : goal.returns
 returns c =

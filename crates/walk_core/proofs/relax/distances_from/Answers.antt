@@ -1,7 +1,7 @@
 use Rattle.std.proofs.Common.{◌≡◌, ◌<◌, ◌++◌, replicate, None, Some, refl, arith, length, length-set, take, drop, ℕ, List, Option, sym, subst, ◌∙◌}
 use Rattle.std.proofs.lemmas.List.{length-replicate}
 use Rattle.std.proofs.lemmas.Grind.{common_steps}
-use Rattle.walk_core.specs.Distances.{AreDistances}
+use Rattle.walk_core.specs.Distances.{AreLeastDistances}
 use Rattle.walk_core.specs.steps.Relaxing.{AreWalked}
 use Rattle.walk_core.proofs.RelaxLaws.{room_at_first, walked_at_first, distances_from_tight}
 use Rattle.walk_core.proofs.relax.distances_from.Goals as goal
@@ -29,10 +29,10 @@ returns-clause-least g c =
     let walked : AreWalked arc c.args.root last =
     c.relax_all.ensures.relaxes.walked c.args.root (rw c.deref_mut.ensures.value c.loop.invariant.walked)
     in
-    let least : AreDistances arc c.args.root last =
+    let least : AreLeastDistances arc c.args.root last =
     distances_from_tight arc count c.args.root last c.requires
     (λ u v cost in_range over. laws.end_is_vertex c.args.graph.now u v cost in_range over)
     c.loop-test.ensures.tight walked
     in
-    let P : List (Option ℕ) → Type 0 = λ ds. AreDistances arc c.args.root ds in
+    let P : List (Option ℕ) → Type 0 = λ ds. AreLeastDistances arc c.args.root ds in
     subst P (sym (c.from_vec.ensures ∙ whole)) least

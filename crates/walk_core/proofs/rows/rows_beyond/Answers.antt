@@ -1,5 +1,5 @@
 use Rattle.std.proofs.Common.{◌≡◌, ℕ, ◌<◌, List, [], Option, length, length-set, get_or, arith, ap, sym, subst, ◌∙◌}
-use Rattle.walk_core.specs.Distances.{AreDistances}
+use Rattle.walk_core.specs.Distances.{AreLeastDistances}
 use Rattle.walk_core.proofs.ReachLaws.{known_more}
 use Rattle.walk_core.proofs.rows.rows_beyond.Goals as goal
 
@@ -33,4 +33,4 @@ returns g c =
     λ h cost over.
     let at = laws.arc_is_counted c.args.graph.now c.args.root h cost c.requires over in
     let known = c.loop-i.invariant.known at.0 (omega (arith, at.1)) in
-    subst (λ (p : ℕ × ℕ). AreDistances arc p.0 (get_or c.loop-i.rows.items p.0 [])) at.2 known
+    subst (λ (p : ℕ × ℕ). AreLeastDistances arc p.0 (get_or c.loop-i.rows.items p.0 [])) at.2 known

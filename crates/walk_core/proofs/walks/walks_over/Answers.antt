@@ -42,4 +42,4 @@ returns-clause-least g c =
     ds c.args.rows.now
     (record { distances = c.args.distances; hops = c.loop-v.hops })
     c.in_ok-departures.ensures c.requires.ends c.requires.row.least
-    c.requires.row.whole c.loop-v.v c.loop-v.invariant.long all c.loop-v.invariant.lists
+    c.requires.row.within c.loop-v.v c.loop-v.invariant.long all c.loop-v.invariant.lists
