@@ -5,7 +5,7 @@ use Rattle.std.proofs.lemmas.Option.{none-some, same_Some}
 use Rattle.std.proofs.lemmas.List.{take_more}
 use Rattle.std.proofs.lemmas.List.Elements.{Contains-append_left, Contains-push, Contains-push_cases}
 use Rattle.walk_core.specs.Reach.{Reach, distance_of, HasHop}
-use Rattle.walk_core.specs.BestOffers.{AreHopsTowards, HasTotal, NoneTotals, IsBestTotal, total_of, total_with}
+use Rattle.walk_core.specs.BestOffers.{AreHopsTowards, HasTotal, NoneTotals, IsBestTotal, total_towards, total_with}
 use Rattle.walk_core.specs.declared.offers.Offer.{Offer}
 use Rattle.route_tables.specs.BestRoutes.{AreBestHops}
 use Rattle.route_tables.specs.Routings.{AreHopsTo, IsReached}
@@ -16,30 +16,30 @@ use Rattle.route_tables.specs.steps.BestSoFar.{IsBestAt, IsBestSoFar, IsBetterOf
 total_kept : (reach : Reach) (front : List Offer) (o : Offer) (c : ℕ) → HasTotal reach front c → HasTotal reach (front ++ o ∷ []) c
 total_kept reach front o c has = record { offer = has.offer; among = Contains-append_left front (o ∷ []) has.offer has.among; total = has.total }
 
-total_here : (reach : Reach) (front : List Offer) (o : Offer) (c : ℕ) → total_of reach o ≡ Some c → HasTotal reach (front ++ o ∷ []) c
+total_here : (reach : Reach) (front : List Offer) (o : Offer) (c : ℕ) → total_towards reach o ≡ Some c → HasTotal reach (front ++ o ∷ []) c
 total_here reach front o c is = record { offer = o; among = Contains-push front o; total = is }
 
 -- an offer of one more is one of the first ones, or that one
 total_cases : (reach : Reach) (front : List Offer) (o : Offer) (c : ℕ) → HasTotal reach (front ++ o ∷ []) c →
-    HasTotal reach front c ⊎ (total_of reach o ≡ Some c)
+    HasTotal reach front c ⊎ (total_towards reach o ≡ Some c)
 total_cases reach front o c has = elim (Contains-push_cases front o has.offer has.among) [
   | inl among ↦ inl (record { offer = has.offer; among = among; total = has.total })
-  | inr same ↦ inr (subst (λ (x : Offer). total_of reach x ≡ Some c) (sym same) has.total)
+  | inr same ↦ inr (subst (λ (x : Offer). total_towards reach x ≡ Some c) (sym same) has.total)
 ]
 
 -- what an offer costs is one cost
-one_total : (reach : Reach) (o : Offer) (a b : ℕ) → total_of reach o ≡ Some a → total_of reach o ≡ Some b → a ≡ b
+one_total : (reach : Reach) (o : Offer) (a b : ℕ) → total_towards reach o ≡ Some a → total_towards reach o ≡ Some b → a ≡ b
 one_total reach o a b one other = same_Some a b (sym one ∙ other)
 
-unreached : (reach : Reach) (o x : Offer) (c : ℕ) → total_of reach o ≡ None → o ≡ x → total_of reach x ≡ Some c → ⊥
-unreached reach o x c none same total = none-some c (sym none ∙ subst (λ (y : Offer). total_of reach y ≡ Some c) (sym same) total)
+unreached : (reach : Reach) (o x : Offer) (c : ℕ) → total_towards reach o ≡ None → o ≡ x → total_towards reach x ≡ Some c → ⊥
+unreached reach o x c none same total = none-some c (sym none ∙ subst (λ (y : Offer). total_towards reach y ≡ Some c) (sym same) total)
 
 -- of no offers there is no best one
 pub best_of_none : (reach : Reach) → IsBestSoFar reach [] None
 best_of_none reach = λ c has. absurd (omega (arith, has.among.1))
 
 -- an offer that isn't reached changes nothing
-pub unreached_more : (reach : Reach) (front : List Offer) (o : Offer) (best : Option BestAt) → total_of reach o ≡ None →
+pub unreached_more : (reach : Reach) (front : List Offer) (o : Offer) (best : Option BestAt) → total_towards reach o ≡ None →
     IsBestSoFar reach front best → IsBestSoFar reach (front ++ o ∷ []) best
 unreached_more reach front o None none so_far = λ c has. elim (total_cases reach front o c has) [
   | inl earlier ↦ so_far c earlier
@@ -60,7 +60,7 @@ unreached_more reach front o (Some b) none is = record {
 }
 
 -- the first offer that is reached is the best so far
-pub first_more : (reach : Reach) (front : List Offer) (o : Offer) (next : BestAt) → total_of reach o ≡ Some next.cost → o.at ≡ next.at →
+pub first_more : (reach : Reach) (front : List Offer) (o : Offer) (next : BestAt) → total_towards reach o ≡ Some next.cost → o.at ≡ next.at →
     NoneTotals reach front → IsBestAt reach (front ++ o ∷ []) next
 first_more reach front o next is at none = record {
   best_total = record {
@@ -77,7 +77,7 @@ first_more reach front o next is at none = record {
 }
 
 -- the least of the best total so far and of one more
-least_of_both : (reach : Reach) (front : List Offer) (o : Offer) (known next cost : ℕ) → total_of reach o ≡ Some next → IsBestTotal reach front known →
+least_of_both : (reach : Reach) (front : List Offer) (o : Offer) (known next cost : ℕ) → total_towards reach o ≡ Some next → IsBestTotal reach front known →
     cost ≤ known → cost ≤ next → (c : ℕ) → HasTotal reach (front ++ o ∷ []) c → cost ≤ c
 least_of_both reach front o known next cost is best below_known below_next c has = elim (total_cases reach front o c has) [
   | inl earlier ↦ let least = best.least c earlier in omega arith
@@ -85,7 +85,7 @@ least_of_both reach front o known next cost is best below_known below_next c has
 ]
 
 -- the better of the best so far and of one more offer
-pub better_more : (reach : Reach) (front : List Offer) (o : Offer) (known next better : BestAt) → total_of reach o ≡ Some next.cost → o.at ≡ next.at →
+pub better_more : (reach : Reach) (front : List Offer) (o : Offer) (known next better : BestAt) → total_towards reach o ≡ Some next.cost → o.at ≡ next.at →
     IsBestAt reach front known → IsBetterOf known next better → IsBestAt reach (front ++ o ∷ []) better
 better_more reach front o known next better is at best (lower less same) =
     subst (IsBestAt reach (front ++ o ∷ [])) (sym same) (record {
@@ -107,7 +107,7 @@ better_more reach front o known next better is at best (kept less same) =
       alone = λ yes x among total. elim (Contains-push_cases front o x among) [
         | inl earlier ↦ best.alone yes x earlier total
         | inr here ↦
-            let cost = one_total reach o next.cost known.cost is (subst (λ (y : Offer). total_of reach y ≡ Some known.cost) (sym here) total) in
+            let cost = one_total reach o next.cost known.cost is (subst (λ (y : Offer). total_towards reach y ≡ Some known.cost) (sym here) total) in
             absurd (omega arith)
       ];
     })
@@ -124,8 +124,8 @@ better_more reach front o known next better is at best (both same cost place alo
 
 -- the step of the loop that looks for the best
 pub best_step : (reach : Reach) (offers : List Offer) (i : ℕ) (d : Offer) (best next : Option BestAt) (total : Option ℕ) → i < length offers →
-    total ≡ total_of reach (get_or offers i d) →
-    ((r : Reach) (l : List Offer) (o : Offer) → o.at ≡ (get_or offers i d).at → total_of r o ≡ total → IsBestSoFar r l best →
+    total ≡ total_towards reach (get_or offers i d) →
+    ((r : Reach) (l : List Offer) (o : Offer) → o.at ≡ (get_or offers i d).at → total_towards r o ≡ total → IsBestSoFar r l best →
     IsBestSoFar r (l ++ o ∷ []) next) →
     IsBestSoFar reach (take i offers) best → IsBestSoFar reach (take (i + 1) offers) next
 best_step reach offers i d best next total within is better so_far =

@@ -2,8 +2,8 @@
 use Rattle.std.proofs.Common.{◌≡◌, ◌+◌, ◌<◌, ℕ, [], ◌∷◌, ◌++◌, length, map, take, get_or, ap, ◌∙◌, List, Result, Ok, Err, IfOk, sym, subst, arith}
 use Rattle.std.specs.List.{All}
 use Rattle.std.proofs.lemmas.List.{map-append, take_more, length-map, get_or-map}
-use Rattle.net_addr.specs.Addresses.{Block}
-use Rattle.route_tables.specs.Prefixes.{prefix_at, all_addresses}
+use Rattle.net_addr.specs.Addresses.{Block, default_prefix}
+use Rattle.route_tables.specs.Prefixes.{prefix_at}
 
 -- what follows from two clauses on a call
 pub if_ok_both : {T E : Type 0} (r : Result T E) (P Q R : T → Type 0) → ((x : T) → P x → Q x → R x) → IfOk r P → IfOk r Q → IfOk r R
@@ -28,7 +28,7 @@ pub prefix_is : {D : Type 0} (dest_of : D → Block) (all : List D) (k : ℕ) (d
     dest_of d ≡ prefix_at (map dest_of all) k
 prefix_is dest_of all k d below here =
     let within : k < length all = inside dest_of all k below in
-    ap dest_of here ∙ sym (get_or-map dest_of all k d all_addresses within)
+    ap dest_of here ∙ sym (get_or-map dest_of all k d default_prefix within)
 
 -- what holds of all elements holds of the one at a place
 pub element_at : {D : Type 0} (dest_of : D → Block) (P : D → Type 0) (all : List D) (k : ℕ) (d : D) → All P all → k < length (map dest_of all) →

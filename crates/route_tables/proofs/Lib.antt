@@ -2,5 +2,7 @@ pub mod ListFacts
 mod TableRows
 pub mod DestinationLists
 pub mod BestRoutes
+pub mod AlikeRoutes
 mod BestSteps
 mod SharingLaws
+mod PrefixOrder

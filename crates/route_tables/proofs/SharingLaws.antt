@@ -1,69 +1,203 @@
--- Tables in the making, of which rows towards one router share an entry.
-use Rattle.std.proofs.Common.{◌≡◌, ℕ, List, [], ◌∷◌, ◌++◌, length, Some, None, Option, get_or, set, inl, inr, sym, subst, ◌∙◌, arith, MatchOption, Result, Ok, Err, IfOk, OnOk}
+-- Tables in the making: of which rows towards one router share an entry, and so do those of alike prefixes.
+use Rattle.std.proofs.Common.{◌≡◌, ℕ, ◌<◌, ◌↔◌, ⊎_elim, List, [], ◌∷◌, ◌++◌, length, Some, None, Option, get_or, set, inl, inr, refl, sym, ap, subst, ◌∙◌, arith, MatchOption, IfSome, Result, Ok, Err, IfOk, OnOk, length-append}
 use Rattle.std.proofs.lemmas.Bool.{cases_eq, cases_lt}
-use Rattle.std.proofs.lemmas.List.{get_or_append_left, get_or_push, length_push, get_or-set_same, get_or-set_other, set_past}
+use Rattle.std.proofs.lemmas.List.{append-nil, get_or_append_left, get_or_push, length_push, get_or-set_same, get_or-set_other, set_past}
 use Rattle.std.proofs.lemmas.Option.{none-some, same_Some}
 use Rattle.net_addr.specs.Addresses.{Block}
-use Rattle.walk_core.specs.Reach.{Reach}
+use Rattle.std.specs.List.{Contains}
+use Rattle.std.proofs.lemmas.List.Elements.{Contains-push_cases}
+use Rattle.walk_core.specs.Reach.{Reach, HasHop, listed_hops_of}
+use Rattle.route_core.proofs.HopLaws.{AreHops-unique}
 use Rattle.route_core.specs.declared.entry.Entry.{Entry}
-use Rattle.route_core.specs.declared.entry.Entry.TheVariants.{Discard}
-use Rattle.route_core.specs.Rows.{Draft, Keeps}
-use Rattle.route_tables.specs.Routings.{IsEntryTo, Makes, IsRouteFor}
-use Rattle.route_tables.specs.steps.Sharing.{AddsEntry, AreKnown, HasNumber, IsKnown}
+use Rattle.route_core.specs.declared.entry.Entry.TheVariants.{Via, Discard}
+use Rattle.route_core.specs.Rows.{Keeps}
+use Rattle.route_tables.specs.Prefixes.{prefix_at}
+use Rattle.route_tables.specs.Routings.{AreHopsTo, IsEntryTo, Makes, IsRouteFor}
+use Rattle.route_tables.specs.steps.Sharing.{AreKnown, AreNoted, AreNumbers, AreShared, AreSingle, HasNumber, IsNumberOf, KeepsMore}
 use Rattle.route_tables.specs.declared.route.Route.{Route}
 use Rattle.route_tables.specs.declared.sharing.Known.{Known}
+use Rattle.route_tables.specs.declared.sharing.SharedRows.{SharedRows}
+use Rattle.route_tables.proofs.ListFacts.{at_most}
 
--- what is known stays known with an entry more
-pub known_kept : (reach : ℕ → Reach) (n : ℕ) (entries : List Entry) (entry : Entry) (all : List (Option Known)) → AreKnown reach n entries all →
-    AreKnown reach n (entries ++ entry ∷ []) all
-known_kept reach n entries entry all are at known is =
-    let before : IsKnown reach n entries at known = are at known is in
-    let long = length_push entries entry in
-    let below = before.below in
-    record {
-      below = omega arith;
-      towards = subst (IsEntryTo (reach known.zone) at n) (sym (get_or_append_left entries (entry ∷ []) Discard known.number below)) before.towards;
-    }
+-- Numbers of entries
 
--- nothing is known where nothing is noted
-pub nothing_known : (reach : ℕ → Reach) (n : ℕ) (entries : List Entry) (all : List (Option Known)) → ((at : ℕ) → get_or all at None ≡ None) →
-    AreKnown reach n entries all
-nothing_known reach n entries all none at known is = absurd (none-some known (sym (none at) ∙ is))
+-- a number stays that of its entry with more entries
+number_kept : (wanted : Entry → Type 0) (entries more : List Entry) (number : ℕ) → HasNumber wanted entries number →
+    HasNumber wanted (entries ++ more) number
+number_kept wanted entries more number has =
+    let long = length-append entries more in
+    let below : number < length entries = has.below in
+    record { below = omega arith; is = subst wanted (sym (get_or_append_left entries more Discard number below)) has.is }
+
+if_any_kept : (wanted : Entry → Type 0) (entries more : List Entry) (number : Option ℕ) → IsNumberOf wanted entries number →
+    IsNumberOf wanted (entries ++ more) number
+if_any_kept wanted entries more None none = none
+if_any_kept wanted entries more (Some number) has = number_kept wanted entries more number has
 
 -- the entry that came last has the number of those before
-pub last_number : (reach : ℕ → Reach) (n : ℕ) (route : Route) (entries : List Entry) (entry : Entry) (number : ℕ) → number ≡ length entries →
-    Makes reach n route entry → HasNumber reach n route (entries ++ entry ∷ []) number
-last_number reach n route entries entry number same makes =
+pub last_number : (wanted : Entry → Type 0) (entries : List Entry) (entry : Entry) (number : ℕ) → number ≡ length entries → wanted entry →
+    HasNumber wanted (entries ++ entry ∷ []) number
+last_number wanted entries entry number same is =
     let long = length_push entries entry in
-    record {
-      below = omega arith;
-      makes = subst (Makes reach n route) (sym (get_or_push entries entry Discard number (sym same))) makes;
-    }
+    record { below = omega arith; is = subst wanted (sym (get_or_push entries entry Discard number (sym same))) is }
 
--- with what is noted now all is known
-pub known_noted : (reach : ℕ → Reach) (n : ℕ) (entries : List Entry) (all : List (Option Known)) (at : ℕ) (noted : Known) → AreKnown reach n entries all →
-    IsKnown reach n entries at noted → AreKnown reach n entries (set all at (Some noted))
-known_noted reach n entries all at noted are is v known there = elim (cases_eq v at) [
+-- the entry of an alike prefix is one's own
+pub number_alike : (one other : Entry → Type 0) (entries : List Entry) (number : Option ℕ) → ((e : Entry) → one e ↔ other e) →
+    IsNumberOf one entries number → IsNumberOf other entries number
+number_alike one other entries None same none = λ e is. none e ((same e).1 is)
+number_alike one other entries (Some number) same has =
+    record { below = has.below; is = (same (get_or entries number Discard)).0 has.is }
+
+-- what a route makes is wanted
+pub number_by_route : (reach : ℕ → Reach) (zones n : ℕ) (wanted : Entry → Type 0) (route : Route) (entries : List Entry) (number : ℕ) →
+    IsRouteFor reach zones n wanted route → HasNumber (Makes reach n route) entries number → HasNumber wanted entries number
+number_by_route reach zones n wanted route entries number is has =
+    record { below = has.below; is = is.makes (get_or entries number Discard) has.is }
+
+-- Prefix by prefix
+
+-- the numbers stay those of the entries with more entries
+pub numbers_kept : (entry : Block → Entry → Type 0) (dests : List Block) (entries more : List Entry) (numbers : List (Option ℕ)) →
+    AreNumbers entry dests entries numbers → AreNumbers entry dests (entries ++ more) numbers
+numbers_kept entry dests entries more numbers are place below =
+    if_any_kept (entry (prefix_at dests place)) entries more (get_or numbers place None) (are place below)
+
+-- the number of one more prefix
+pub numbers_more : (entry : Block → Entry → Type 0) (dests : List Block) (entries : List Entry) (numbers : List (Option ℕ)) (place : ℕ) (next : Option ℕ) →
+    length numbers ≡ place → AreNumbers entry dests entries numbers → IsNumberOf (entry (prefix_at dests place)) entries next →
+    AreNumbers entry dests entries (numbers ++ next ∷ [])
+numbers_more entry dests entries numbers place next long are here k below =
+    let Goal : ℕ → Option ℕ → Type 0 = λ m number. IsNumberOf (entry (prefix_at dests m)) entries number in
+    let more = length_push numbers next in
+    ⊎_elim
+    (λ less. subst (Goal k) (sym (get_or_append_left numbers (next ∷ []) None k (omega arith))) (are k (omega arith)))
+    (λ same. subst (Goal k) (sym (get_or_push numbers next None k (long ∙ sym same))) (subst (λ (m : ℕ). Goal m next) (sym same) here))
+    (at_most k place (omega arith))
+
+-- the row of a prefix is that of its entry
+pub row_by : (wanted : Entry → Type 0) (entries : List Entry) (dest : Block) (old new : List (Block × Entry)) (number : Option ℕ) →
+    IsNumberOf wanted entries number → MatchOption number (new ≡ old) (λ k. new ≡ old ++ (dest, get_or entries k Discard) ∷ []) →
+    (entry : Option Entry) × MatchOption entry ((e : Entry) → wanted e → ⊥) wanted × MatchOption entry (new ≡ old) (λ e. new ≡ old ++ (dest, e) ∷ [])
+row_by wanted entries dest old new None none same = (None, none, same)
+row_by wanted entries dest old new (Some number) has adds = (Some (get_or entries number Discard), has.is, adds)
+
+-- What is noted
+
+-- what is noted stays with more entries
+noted_kept : {K : Type 0} (wanted : ℕ → K → Entry → Type 0) (number_of : K → ℕ) (entries more : List Entry) (all : List (Option K)) →
+    AreNoted wanted number_of entries all → AreNoted wanted number_of (entries ++ more) all
+noted_kept wanted number_of entries more all are at known is = number_kept (wanted at known) entries more (number_of known) (are at known is)
+
+-- nothing is known where nothing is noted
+pub nothing_noted : {K : Type 0} (wanted : ℕ → K → Entry → Type 0) (number_of : K → ℕ) (entries : List Entry) (all : List (Option K)) →
+    ((at : ℕ) → get_or all at None ≡ None) → AreNoted wanted number_of entries all
+nothing_noted wanted number_of entries all none at known is = absurd (none-some known (sym (none at) ∙ is))
+
+-- with what is noted now
+pub noted_more : {K : Type 0} (wanted : ℕ → K → Entry → Type 0) (number_of : K → ℕ) (entries : List Entry) (all : List (Option K)) (at : ℕ) (noted : K) →
+    AreNoted wanted number_of entries all → HasNumber (wanted at noted) entries (number_of noted) →
+    AreNoted wanted number_of entries (set all at (Some noted))
+noted_more {K} wanted number_of entries all at noted are is v known there = elim (cases_eq v at) [
   | inl same ↦ elim (cases_lt at (length all)) [
     | inl inside ↦
         let read : get_or (set all at (Some noted)) at None ≡ Some noted = get_or-set_same all at (Some noted) None inside in
         let one : noted ≡ known = same_Some noted known (sym read ∙ subst (λ (w : ℕ). get_or (set all at (Some noted)) w None ≡ Some known) same there) in
-        subst (λ (w : ℕ). IsKnown reach n entries w known) (sym same) (subst (IsKnown reach n entries at) one is)
-    | inr past ↦ are v known (subst (λ (l : List (Option Known)). get_or l v None ≡ Some known) (set_past all at (Some noted) past) there)
+        subst (λ (w : ℕ). HasNumber (wanted w known) entries (number_of known)) (sym same)
+        (subst (λ (k : K). HasNumber (wanted at k) entries (number_of k)) one is)
+    | inr past ↦ are v known (subst (λ (l : List (Option K)). get_or l v None ≡ Some known) (set_past all at (Some noted) past) there)
   ]
   | inr other ↦ are v known (sym (get_or-set_other all at v (Some noted) None other) ∙ there)
 ]
 
--- a row of an entry of the protocol
-pub row_by : (reach : ℕ → Reach) (zones n : ℕ) (has : Entry → Type 0) (dest : Block) (old new : List (Block × Entry)) (found : Option Route) →
-    MatchOption found ((e : Entry) → has e → ⊥) (IsRouteFor reach zones n has) → MatchOption found (new ≡ old) (AddsEntry reach n dest old new) →
-    (entry : Option Entry) × MatchOption entry ((e : Entry) → has e → ⊥) has × MatchOption entry (new ≡ old) (λ e. new ≡ old ++ (dest, e) ∷ [])
-row_by reach zones n has dest old new None none same = (None, none, same)
-row_by reach zones n has dest old new (Some route) is adds = (Some adds.entry, is.makes adds.entry adds.makes, adds.rows)
+-- the same lists under other names
+pub noted_as : {K : Type 0} (wanted : ℕ → K → Entry → Type 0) (number_of : K → ℕ) (entries others : List Entry) (all given : List (Option K)) →
+    others ≡ entries → given ≡ all → AreNoted wanted number_of entries all → AreNoted wanted number_of others given
+noted_as {K} wanted number_of entries others all given same is are =
+    subst (λ (l : List Entry). AreNoted wanted number_of l given) (sym same)
+    (subst (λ (l : List (Option K)). AreNoted wanted number_of entries l) (sym is) are)
 
--- what is known stays known when an entry is kept
-pub known_where_kept : {E : Type 0} (reach : ℕ → Reach) (n : ℕ) (old new : Draft) (entry : Entry) (all : List (Option Known)) (r : Result ℕ E) →
-    AreKnown reach n old.entries all → IfOk r (Keeps old new entry) → OnOk r (AreKnown reach n new.entries all)
-known_where_kept reach n old new entry all (Ok number) are keeps =
-    subst (λ (l : List Entry). AreKnown reach n l all) (sym keeps.entries) (known_kept reach n old.entries entry all are)
-known_where_kept reach n old new entry all (Err e) are keeps = keeps
+-- what is wanted towards a vertex, and over a hop alone
+abbrev pub towards : (ℕ → Reach) → ℕ → ℕ → Known → Entry → Type 0
+towards reach n at known = IsEntryTo (reach known.zone) at n
+
+abbrev pub over_one : ℕ → ℕ → Entry → Type 0
+over_one hop _ entry = entry ≡ Via (hop ∷ [])
+
+-- Entries that come
+
+-- what is known stays known
+pub known_kept : (reach : ℕ → Reach) (n : ℕ) (old new : SharedRows) → new.known.items ≡ old.known.items → KeepsMore old new → AreShared reach n old →
+    AreKnown reach n new.builder.entries new.known.items
+known_kept reach n old new known kept are =
+    noted_as (towards reach n) (λ (k : Known). k.number) (old.builder.entries ++ kept.more) new.builder.entries old.known.items new.known.items
+    kept.entries known
+    (noted_kept (towards reach n) (λ (k : Known). k.number) old.builder.entries kept.more old.known.items are.known)
+
+pub shared_kept : (reach : ℕ → Reach) (n : ℕ) (old new : SharedRows) → new.known.items ≡ old.known.items → new.single.items ≡ old.single.items →
+    KeepsMore old new → AreShared reach n old → AreShared reach n new
+shared_kept reach n old new known single kept are = record {
+  known = known_kept reach n old new known kept are;
+  single = noted_as over_one (λ (k : ℕ). k) (old.builder.entries ++ kept.more) new.builder.entries old.single.items new.single.items kept.entries single
+      (noted_kept over_one (λ (k : ℕ). k) old.builder.entries kept.more old.single.items are.single);
+}
+
+-- the rows stay where an entry is kept
+pub rows_where_kept : {E : Type 0} (old new : SharedRows) (entry : Entry) (r : Result ℕ E) → new.numbers.items ≡ old.numbers.items →
+    IfOk r (Keeps old.builder new.builder entry) → OnOk r (KeepsMore old new)
+rows_where_kept old new entry (Ok number) same keeps =
+    record { more = entry ∷ []; entries = keeps.entries; rows = keeps.rows; numbers = same }
+rows_where_kept old new entry (Err e) same keeps = keeps
+
+-- where nothing is kept, nothing changes
+pub nothing_kept : (old : SharedRows) → KeepsMore old old
+nothing_kept old = record { more = []; entries = sym (append-nil old.builder.entries); rows = refl; numbers = refl }
+
+-- One hop alone
+
+-- the one hop of a list
+pub one_hop : (reach : Reach) (at n hop : ℕ) (hops : List ℕ) → hops ≡ listed_hops_of reach at → hops ≡ hop ∷ [] → hop < n → AreHopsTo reach at n (hop ∷ [])
+one_hop reach at n hop hops are one below = record {
+  ascending = λ k within. absurd (omega arith);
+  exact = λ h. (
+    λ has. (
+      below_where hop h n below has,
+      subst (λ (l : List ℕ). Contains l h) (sym one ∙ are) has,
+    ),
+    λ both. subst (λ (l : List ℕ). Contains l h) (sym are ∙ one) both.1,
+  );
+}
+  where
+    below_where : (hop h n : ℕ) → hop < n → Contains (hop ∷ []) h → h < n
+    below_where hop h n below has = elim (Contains-push_cases [] hop h has) [
+      | inl none ↦ absurd (omega (arith, none.1))
+      | inr same ↦ subst (λ (x : ℕ). x < n) same below
+    ]
+
+-- the entry over it is the one towards the router
+pub single_is : (reach : Reach) (at n : ℕ) (entries : List Entry) (all : List (Option ℕ)) (hop : Option ℕ) (number : ℕ) →
+    IfSome hop (λ h. AreHopsTo reach at n (h ∷ [])) → AreSingle entries all → MatchOption hop ⊥ (λ h. get_or all h None ≡ Some number) →
+    HasNumber (IsEntryTo reach at n) entries number
+single_is reach at n entries all None number to are is = absurd is
+single_is reach at n entries all (Some hop) number to are is =
+    let has = are hop number is in
+    record { below = has.below; is = record { hops = hop ∷ []; is = has.is; are = to } }
+
+-- and the other way round
+over_hop : (reach : Reach) (at n hop : ℕ) (entry : Entry) → AreHopsTo reach at n (hop ∷ []) → IsEntryTo reach at n entry → entry ≡ Via (hop ∷ [])
+over_hop reach at n hop entry to is =
+    let is_hop : ℕ → Type 0 = λ h. (h < n) × HasHop reach at h in
+    is.is ∙ ap Via (AreHops-unique is_hop is.hops (hop ∷ []) (record { ascending = is.are.ascending; exact = is.are.exact })
+    (record { ascending = to.ascending; exact = to.exact }))
+
+-- one more entry, which is noted where it is over one hop alone
+pub single_more : (reach : Reach) (at n : ℕ) (entries : List Entry) (entry : Entry) (all given : List (Option ℕ)) (hop : Option ℕ) (number : ℕ) →
+    IfSome hop (λ h. AreHopsTo reach at n (h ∷ [])) → IsEntryTo reach at n entry → number ≡ length entries → AreSingle entries all →
+    MatchOption hop (given ≡ all) (λ h. given ≡ set all h (Some number)) → AreSingle (entries ++ entry ∷ []) given
+single_more reach at n entries entry all given None number to is last are same =
+    noted_as over_one (λ (k : ℕ). k) (entries ++ entry ∷ []) (entries ++ entry ∷ []) all given refl same
+    (noted_kept over_one (λ (k : ℕ). k) entries (entry ∷ []) all are)
+single_more reach at n entries entry all given (Some hop) number to is last are same =
+    noted_as over_one (λ (k : ℕ). k) (entries ++ entry ∷ []) (entries ++ entry ∷ []) (set all hop (Some number)) given refl same
+    (noted_more over_one (λ (k : ℕ). k) (entries ++ entry ∷ []) all hop number
+    (noted_kept over_one (λ (k : ℕ). k) entries (entry ∷ []) all are)
+    (last_number (over_one hop number) entries entry number last (over_hop reach at n hop entry to is)))

@@ -3,13 +3,13 @@ use Rattle.std.proofs.Common.{◌≡◌, ℕ, ◌+◌, ◌<◌, ◌≤◌, ◌�
 use Rattle.std.specs.List.{Contains}
 use Rattle.std.proofs.lemmas.List.{take_more, take_all, get_or-take, length-take-le, get_or_default}
 use Rattle.std.proofs.lemmas.List.Elements.{Contains-append_left, Contains-push, Contains-push_cases}
-use Rattle.net_addr.specs.Addresses.{Block}
+use Rattle.net_addr.specs.Addresses.{Block, default_prefix}
 use Rattle.route_core.specs.Tables.{HasDistinctPrefixes, AreLinkedHops}
 use Rattle.route_core.specs.declared.entry.Entry.{Entry}
 use Rattle.route_core.specs.declared.entry.Entry.TheVariants.{Via}
 use Rattle.route_core.proofs.TableLaws.{HasDistinctPrefixes-push}
 use Rattle.route_tables.specs.Entries.{IsLawful, IsTableOf, AreTablesBelow, AreNeighborsOf, AreNeighborsBelow}
-use Rattle.route_tables.specs.Prefixes.{AreDistinct, prefix_at, all_addresses}
+use Rattle.route_tables.specs.Prefixes.{AreDistinctPrefixes, prefix_at}
 use Rattle.route_tables.specs.Tables.{AreLawful, AreRoutes}
 use Rattle.route_tables.proofs.ListFacts.{at_most, each_more}
 
@@ -80,19 +80,19 @@ rows_step entry dests rows new p (Some e) single are fresh is same =
     subst (λ (l : List (Block × Entry)). AreRows entry (dests ++ p ∷ []) l) (sym same) (rows_more entry dests rows p e single are fresh is)
 
 -- the prefixes before a place, where all are distinct, don't have that at the place
-not_before : (dests : List Block) (k : ℕ) → AreDistinct dests → k < length dests → Contains (take k dests) (prefix_at dests k) → ⊥
+not_before : (dests : List Block) (k : ℕ) → AreDistinctPrefixes dests → k < length dests → Contains (take k dests) (prefix_at dests k) → ⊥
 not_before dests k apart within has =
     let p : Block = prefix_at dests k in
     let below : has.0 < length (take k dests) = has.1 in
     let long : length (take k dests) ≡ k = length-take-le k dests (omega arith) in
     let before : has.0 < k = omega arith in
     let read : get_or dests has.0 p ≡ p = sym (get_or-take k dests has.0 p before) ∙ has.2 in
-    let here : get_or dests k p ≡ p = get_or_default dests k p all_addresses within in
+    let here : get_or dests k p ≡ p = get_or_default dests k p default_prefix within in
     apart has.0 k p before within (read ∙ sym here)
 
 -- the row of the prefix at the next place
 pub rows_at : (entry : Block → Entry → Type 0) (dests : List Block) (k : ℕ) (rows new : List (Block × Entry)) (p : Block) (found : Option Entry) →
-    ((q : Block) (one other : Entry) → entry q one → entry q other → one ≡ other) → AreDistinct dests → k < length dests → p ≡ prefix_at dests k →
+    ((q : Block) (one other : Entry) → entry q one → entry q other → one ≡ other) → AreDistinctPrefixes dests → k < length dests → p ≡ prefix_at dests k →
     AreRows entry (take k dests) rows → MatchOption found ((e : Entry) → entry (prefix_at dests k) e → ⊥) (entry (prefix_at dests k)) →
     MatchOption found (new ≡ rows) (λ e. new ≡ rows ++ (p, e) ∷ []) → AreRows entry (take (k + 1) dests) new
 rows_at entry dests k rows new p found single apart within here are is same =
@@ -100,7 +100,7 @@ rows_at entry dests k rows new p found single apart within here are is same =
     let step : AreRows entry (take k dests ++ at ∷ []) new =
     rows_step entry (take k dests) rows new at found single are (not_before dests k apart within) is
     (subst (λ (q : Block). MatchOption found (new ≡ rows) (λ e. new ≡ rows ++ (q, e) ∷ [])) here same) in
-    subst (λ (l : List Block). AreRows entry l new) (sym (take_more dests k all_addresses within)) step
+    subst (λ (l : List Block). AreRows entry l new) (sym (take_more dests k default_prefix within)) step
 
 -- the rows for all candidates are the table
 pub rows_are_table : (entry : Block → Entry → Type 0) (dests : List Block) (k : ℕ) (rows : List (Block × Entry)) → length dests ≤ k →

@@ -1,5 +1,5 @@
 ghost use Rattle.std.specs.Prelude.{◌≡◌, ◌∷◌, ◌++◌, [], List, IfOk, MatchOption};
-ghost use Rattle.walk_core.specs.BestOffers.{AreInRange, FitsTotal, NoneTotals, total_of};
+ghost use Rattle.walk_core.specs.BestOffers.{AreInRange, FitsTotal, NoneTotals, total_towards};
 ghost use Rattle.walk_core.specs.Reach.{Reach};
 ghost use Rattle.walk_core.specs.declared.offers.Offer.{Offer as OfferValue};
 ghost use Rattle.route_tables.specs.BestRoutes.{AreBestHops, IsBestRoute};
@@ -77,7 +77,7 @@ fn best_of(walks: &LeastWalks, offers: &[Offer]) -> Option<BestAt>
 /// What an offer costs at the root in all, and `None` where it isn't reached.
 fn total(walks: &LeastWalks, offer: Offer) -> Option<u64>
     requires { FitsTotal walks.now offer }
-    ensures { result ≡ total_of walks.now offer }
+    ensures { result ≡ total_towards walks.now offer }
 {
     let distance = walks.distance(offer.at)?;
     Some(distance + offer.asks)
@@ -85,7 +85,7 @@ fn total(walks: &LeastWalks, offer: Offer) -> Option<u64>
 
 /// The best of the offers so far and of one more, of this total, which is made at this vertex.
 fn better(best: Option<BestAt>, total: Option<u64>, at: u32) -> Option<BestAt>
-    ensures { (reach : Reach) (offers : List OfferValue) (o : OfferValue) → o.at ≡ at → total_of reach o ≡ total →
+    ensures { (reach : Reach) (offers : List OfferValue) (o : OfferValue) → o.at ≡ at → total_towards reach o ≡ total →
         IsBestSoFar reach offers best → IsBestSoFar reach (offers ++ o ∷ []) result }
 {
     let Some(cost) = total else {

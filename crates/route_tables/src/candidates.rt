@@ -1,13 +1,15 @@
-ghost use Rattle.std.specs.Prelude.{◌≡◌, ◌↔◌, ◌∷◌, [], Some, IfOk, IsTrue, OnOk, OnErr};
+ghost use Rattle.std.specs.Prelude.{◌≡◌, ◌↔◌, ◌∷◌, [], Some, Contains, IfOk, IsTrue, OnOk, OnErr};
 ghost use Rattle.route_tables.specs.Lists.{Adds};
-ghost use Rattle.route_tables.specs.Prefixes.{AreDistinct, all_addresses};
+ghost use Rattle.net_addr.specs.Addresses.{Block, default_prefix};
+ghost use Rattle.route_tables.specs.Prefixes.{AreDistinctPrefixes};
 
 use crate::OutOfMemory;
+use crate::distinct::keep_each_prefix_once;
 use net_addr::Prefix;
 use std::alloc::Global;
 use std::marker::Model;
 
-/// The prefixes that a protocol may have entries for, each once.
+/// Prefixes that a protocol may have entries for, as they come.
 #[derive(Debug, Drop)]
 pub struct Candidates {
     all: Vec<Prefix>,
@@ -16,37 +18,31 @@ pub struct Candidates {
 impl Model for Candidates {
     ghost use Rattle.std.specs.Prelude.{List};
     ghost use Rattle.net_addr.specs.Addresses.{Block};
-    ghost use Rattle.route_tables.specs.Prefixes.{AreDistinct};
 
     ghost Value = { List Block };
 
     ghost view = { λ x. x.all.items };
-
-    ghost invariant = { λ x. AreDistinct x.all.items };
 }
 
 impl Candidates {
     /// The prefix of all addresses alone.
     pub fn new(alloc: Global) -> Result<Candidates, OutOfMemory>
-        ensures { IfOk result (λ candidates. candidates ≡ all_addresses ∷ []) }
+        ensures { IfOk result (λ candidates. candidates ≡ default_prefix ∷ []) }
     {
         let mut all = Vec::new(alloc);
         all.push(whole())?;
         Ok(Candidates { all })
     }
 
-    /// Adds a prefix, unless it is there.
+    /// Adds a prefix.
     pub fn add(&mut self, dest: Prefix) -> Result<(), OutOfMemory>
         ensures ok { OnOk result (Adds self.old self.new (λ p. dest ≡ p)) }
         ensures err { OnErr result (self.new ≡ self.old) }
     {
-        if self.all.contains(&dest) {
-            return Ok(());
-        }
         Ok(self.all.push(dest)?)
     }
 
-    /// Adds a prefix where there is one, unless it is there.
+    /// Adds a prefix where there is one.
     pub fn add_option(&mut self, dest: Option<Prefix>) -> Result<(), OutOfMemory>
         ensures ok { OnOk result (Adds self.old self.new (λ p. dest ≡ Some p)) }
         ensures err { OnErr result (self.new ≡ self.old) }
@@ -57,10 +53,39 @@ impl Candidates {
         }
     }
 
+    /// The prefixes in ascending order, by base and then by length, each once.
+    pub fn finish(self) -> DistinctPrefixes
+        ensures { (p : Block) → Contains result p ↔ Contains self p }
+    {
+        let mut all = self.all;
+        keep_each_prefix_once(&mut all);
+        DistinctPrefixes { all }
+    }
+}
+
+/// Prefixes, each once.
+#[derive(Debug, Drop)]
+pub struct DistinctPrefixes {
+    all: Vec<Prefix>,
+}
+
+impl Model for DistinctPrefixes {
+    ghost use Rattle.std.specs.Prelude.{List};
+    ghost use Rattle.net_addr.specs.Addresses.{Block};
+    ghost use Rattle.route_tables.specs.Prefixes.{AreDistinctPrefixes};
+
+    ghost Value = { List Block };
+
+    ghost view = { λ x. x.all.items };
+
+    ghost invariant = { λ x. AreDistinctPrefixes x.all.items };
+}
+
+impl DistinctPrefixes {
     /// The prefixes as a slice.
     pub fn as_slice(&self) -> &[Prefix]
         ensures value { result.now ≡ self.now }
-        ensures distinct { AreDistinct self.now }
+        ensures distinct { AreDistinctPrefixes self.now }
     {
         self.all.as_slice()
     }
@@ -68,14 +93,14 @@ impl Candidates {
 
 /// Whether the prefix is that of all addresses.
 pub fn is_all_addresses(dest: Prefix) -> bool
-    ensures { IsTrue result ↔ (dest ≡ all_addresses) }
+    ensures { IsTrue result ↔ (dest ≡ default_prefix) }
 {
     dest == whole()
 }
 
 /// The prefix of all addresses.
 fn whole() -> Prefix
-    ensures { result ≡ all_addresses }
+    ensures { result ≡ default_prefix }
 {
     Prefix::new(0, 0).unwrap()
 }

@@ -2,16 +2,21 @@
 //! protocol gives.
 //!
 //! - `protocol.rt`: what a protocol says of a network: candidates, zones with their least walks, the route of each router
-//!   for each candidate, neighbors.
+//!   for each candidate, which candidates have the same routes, neighbors.
 //! - `route.rt`, `best.rt`: a route before it is an entry, and the route to the best of some offers, in one pass over them;
 //!   where one router makes all best offers, the route says that router and takes no memory.
-//! - `sharing.rt`, `table.rt`: the table of a router, of which all routes towards one router share an entry, made once.
-//! - `candidates.rt`, `lists.rt`: prefixes, each once (each is looked for among those before), and lists that grow.
+//! - `alike.rt`: whether offers differ by a constant alone, by which prefixes have the same routes.
+//! - `sharing.rt`, `table.rt`: the table of a router, of which all routes towards one router share an entry, made once,
+//!   and so do those towards routers that one hop alone leads to; no route is asked for a prefix with the same routes
+//!   as an earlier one.
+//! - `candidates.rt`, `distinct.rt`, `lists.rt`: prefixes, in order and each once, and lists that grow.
 //! - `neighbors.rt`, `routes.rt`: neighbors by asking all pairs; tables and neighbors together as a source of tables.
 #![tactic(auto)]
 
+mod alike;
 mod best;
 mod candidates;
+mod distinct;
 mod lists;
 mod neighbors;
 mod protocol;
@@ -20,8 +25,9 @@ mod routes;
 mod sharing;
 mod table;
 
+pub use alike::are_alike;
 pub use best::{best_hops, best_route};
-pub use candidates::{Candidates, is_all_addresses};
+pub use candidates::{Candidates, DistinctPrefixes, is_all_addresses};
 pub use lists::push_option;
 pub use protocol::Protocol;
 pub use route::{Route, Target};

@@ -1,10 +1,10 @@
-ghost use Rattle.std.specs.Prelude.{◌≡◌, ◌↔◌, ◌<◌, ℕ, List, length, Contains, IfOk, IsTrue, MatchOption};
+ghost use Rattle.std.specs.Prelude.{◌≡◌, ◌↔◌, ◌<◌, ℕ, List, length, Contains, IfOk, IfSome, IsTrue, MatchOption};
 ghost use Rattle.net_addr.specs.Addresses.{Block};
 ghost use Rattle.walk_core.specs.Reach.{Reach};
 ghost use Rattle.route_core.specs.declared.entry.Entry.{Entry};
-ghost use Rattle.route_tables.specs.Entries.{IsLawful};
+ghost use Rattle.route_tables.specs.Entries.{AreAlikePrefixes, IsLawful};
 ghost use Rattle.route_tables.specs.Routings.{IsRouteFor};
-ghost use Rattle.route_tables.specs.Prefixes.{AreDistinct, prefix_at};
+ghost use Rattle.route_tables.specs.Prefixes.{AreDistinctPrefixes, prefix_at};
 
 use crate::OutOfMemory;
 use crate::route::Route;
@@ -42,13 +42,20 @@ pub trait Protocol {
     /// How many prefixes there are that it may give entries for. They are numbered from 0.
     fn candidates(&self) -> usize
         ensures count { result ≡ length (candidates self.now) }
-        ensures distinct { AreDistinct (candidates self.now) }
+        ensures distinct { AreDistinctPrefixes (candidates self.now) }
         ensures every { (router : ℕ) (p : Block) (e : Entry) → router < routers self.now → entry self.now router p e → Contains (candidates self.now) p };
 
     /// The prefix of this number.
     fn candidate(&self, place: usize) -> Prefix
         requires { place < length (candidates self.now) }
         ensures { result ≡ prefix_at (candidates self.now) place };
+
+    /// The number of an earlier prefix for which every router has the same entries, where one is known.
+    fn alike(&self, place: usize) -> Option<usize>
+        requires { place < length (candidates self.now) }
+        ensures earlier { IfSome result (λ earlier. earlier < place) }
+        ensures alike { IfSome result (λ earlier. AreAlikePrefixes (routers self.now) (entry self.now)
+            (prefix_at (candidates self.now) earlier) (prefix_at (candidates self.now) place)) };
 
     /// The route that it gives a router for the prefix of this number.
     fn route(&self, alloc: Global, place: usize, router: u32) -> Result<Option<Route>, OutOfMemory>

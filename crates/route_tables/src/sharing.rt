@@ -1,7 +1,7 @@
-ghost use Rattle.std.specs.Prelude.{◌≡◌, ◌<◌, ℕ, [], None, Some, slice_index_or, slice_set, IfOk, IfSome, OnOk, MatchOption};
-ghost use Rattle.route_tables.specs.Routings.{HasZoneTarget, IsEntryTo, IsReached, IsZoneTarget};
-ghost use Rattle.route_tables.specs.steps.Sharing.{AddsEntry, AreShared, HasNumber};
-ghost use Rattle.route_tables.specs.declared.route.Route.TheVariants.{Towards as TowardsValue};
+ghost use Rattle.std.specs.Prelude.{◌≡◌, ◌<◌, ◌∷◌, ℕ, [], None, Some, length, slice_index_or, slice_set, IfOk, IfSome, OnOk, MatchOption};
+ghost use Rattle.route_tables.specs.Prefixes.{prefix_at};
+ghost use Rattle.route_tables.specs.Routings.{AreHopsTo, HasZoneTarget, IsEntryTo, IsReached, IsZoneTarget, Makes};
+ghost use Rattle.route_tables.specs.steps.Sharing.{AddsNumber, AreNumbers, AreShared, AreSingle, HasNumber, IsNumberOf, KeepsMore};
 
 use crate::OutOfMemory;
 use crate::protocol::Protocol;
@@ -18,11 +18,14 @@ pub(crate) struct Known {
     number: u32,
 }
 
-/// A table in the making, with its entries towards routers: for each router the latest one.
+/// A table in the making, with its entries towards routers, for each router the latest one, those over one hop alone,
+/// for each hop, and the number of the entry for each prefix so far.
 #[derive(Debug, Drop)]
 pub(crate) struct SharedRows {
     pub(crate) builder: TableBuilder,
     known: Vec<Option<Known>>,
+    single: Vec<Option<u32>>,
+    numbers: Vec<Option<u32>>,
 }
 
 impl SharedRows {
@@ -34,36 +37,54 @@ impl SharedRows {
     ) -> Result<SharedRows, OutOfMemory>
         ensures rows { IfOk result (λ shared. shared.builder.rows ≡ []) }
         ensures known { IfOk result (λ shared. (at : ℕ) → slice_index_or shared.known.items at None ≡ None) }
+        ensures single { IfOk result (λ shared. (hop : ℕ) → slice_index_or shared.single.items hop None ≡ None) }
+        ensures numbers { IfOk result (λ shared. shared.numbers.items ≡ []) }
     {
-        let builder = TableBuilder::with_capacity(alloc, rows)?;
-        let known = vec![in alloc; None; routers as usize]?;
-        Ok(SharedRows { builder, known })
+        Ok(SharedRows {
+            builder: TableBuilder::with_capacity(alloc, rows)?,
+            known: vec![in alloc; None; routers as usize]?,
+            single: vec![in alloc; None; routers as usize]?,
+            numbers: Vec::with_capacity(alloc, rows)?,
+        })
+    }
+
+    /// Adds the number of the entry for the next prefix, and its row where it has an entry.
+    pub(crate) fn add(&mut self, dest: Prefix, number: Option<u32>) -> Result<(), OutOfMemory>
+        requires { IfSome number (λ k. k < length self.old.builder.entries) }
+        ensures { OnOk result (AddsNumber dest number self.old self.new) }
+    {
+        self.numbers.push(number)?;
+        match number {
+            Some(number) => self.builder.add(dest, number),
+            None => Ok(()),
+        }
     }
 }
 
-/// Adds the row of a prefix, if it has a route.
-pub(crate) fn add_row<P: Protocol>(
+/// The number of the entry for the prefix at a place, where it has one: that of an earlier prefix with the same
+/// entries, where one is known, else that of its route's entry.
+pub(crate) fn number_at<P: Protocol>(
     alloc: Global,
     protocol: &P,
     router: u32,
     shared: &mut SharedRows,
-    dest: Prefix,
-    route: Option<Route>,
-) -> Result<(), OutOfMemory>
+    place: usize,
+) -> Result<Option<u32>, OutOfMemory>
     requires router { router < P.routers protocol.now }
-    requires target { MatchOption route (Unit {0}) (HasZoneTarget (P.reach protocol.now router) (P.zones protocol.now)) }
+    requires place { place < length (P.candidates protocol.now) }
+    requires count { length shared.old.numbers.items ≡ place }
     requires known { AreShared (P.reach protocol.now router) (P.routers protocol.now) shared.old }
+    requires numbers { AreNumbers (P.entry protocol.now router) (P.candidates protocol.now) shared.old.builder.entries shared.old.numbers.items }
     ensures known { OnOk result (AreShared (P.reach protocol.now router) (P.routers protocol.now) shared.new) }
-    ensures rows { OnOk result (MatchOption route
-        (shared.new.builder.rows ≡ shared.old.builder.rows)
-        (AddsEntry (P.reach protocol.now router) (P.routers protocol.now) dest shared.old.builder.rows shared.new.builder.rows)) }
+    ensures kept { OnOk result (KeepsMore shared.old shared.new) }
+    ensures number { IfOk result (IsNumberOf (P.entry protocol.now router (prefix_at (P.candidates protocol.now) place)) shared.new.builder.entries) }
 {
-    match route {
-        Some(route) => {
-            let number = number_of(alloc, protocol, router, shared, route)?;
-            shared.builder.add(dest, number)
-        }
-        None => Ok(()),
+    if let Some(earlier) = protocol.alike(place) {
+        return Ok(shared.numbers[earlier]);
+    }
+    match protocol.route(alloc, place, router)? {
+        Some(route) => Ok(Some(number_of(alloc, protocol, router, shared, route)?)),
+        None => Ok(None),
     }
 }
 
@@ -79,8 +100,8 @@ fn number_of<P: Protocol>(
     requires target { HasZoneTarget (P.reach protocol.now router) (P.zones protocol.now) route }
     requires known { AreShared (P.reach protocol.now router) (P.routers protocol.now) shared.old }
     ensures known { OnOk result (AreShared (P.reach protocol.now router) (P.routers protocol.now) shared.new) }
-    ensures rows { OnOk result (shared.new.builder.rows ≡ shared.old.builder.rows) }
-    ensures number { IfOk result (HasNumber (P.reach protocol.now router) (P.routers protocol.now) route shared.new.builder.entries) }
+    ensures kept { OnOk result (KeepsMore shared.old shared.new) }
+    ensures number { IfOk result (HasNumber (Makes (P.reach protocol.now router) (P.routers protocol.now) route) shared.new.builder.entries) }
 {
     match route {
         Route::Drops => shared.builder.keep(Entry::Discard),
@@ -89,7 +110,8 @@ fn number_of<P: Protocol>(
     }
 }
 
-/// The number of the entry towards a target: the latest one towards its router, where that is of its zone, else a new one.
+/// The number of the entry towards a target: the latest one towards its router, where that is of its zone, else one
+/// with its hops.
 fn number_towards<P: Protocol>(
     alloc: Global,
     protocol: &P,
@@ -101,17 +123,71 @@ fn number_towards<P: Protocol>(
     requires target { IsZoneTarget (P.reach protocol.now router) (P.zones protocol.now) target }
     requires known { AreShared (P.reach protocol.now router) (P.routers protocol.now) shared.old }
     ensures known { OnOk result (AreShared (P.reach protocol.now router) (P.routers protocol.now) shared.new) }
-    ensures rows { OnOk result (shared.new.builder.rows ≡ shared.old.builder.rows) }
-    ensures number { IfOk result (HasNumber (P.reach protocol.now router) (P.routers protocol.now) (TowardsValue target) shared.new.builder.entries) }
+    ensures kept { OnOk result (KeepsMore shared.old shared.new) }
+    ensures number { IfOk result (HasNumber (IsEntryTo (P.reach protocol.now router target.zone) target.at (P.routers protocol.now)) shared.new.builder.entries) }
 {
     if let Some(number) = known_number(shared.known.as_slice(), target) {
         return Ok(number);
     }
     let walks = protocol.walks(router, target.zone);
-    let entry = entry_towards(alloc, walks, target.at, protocol.routers())?;
-    let number = shared.builder.keep(entry)?;
+    let number = number_over(alloc, shared, walks, target.at, protocol.routers())?;
     remember(&mut shared.known, target, number);
     Ok(number)
+}
+
+/// The number of the entry with the first hops below `count` towards a router: where that is one hop, the entry over it
+/// that there is, else a new one.
+fn number_over(
+    alloc: Global,
+    shared: &mut SharedRows,
+    walks: &LeastWalks,
+    at: u32,
+    count: u32,
+) -> Result<u32, OutOfMemory>
+    requires reached { IsReached walks.now at }
+    requires single { AreSingle shared.old.builder.entries shared.old.single.items }
+    ensures single { OnOk result (AreSingle shared.new.builder.entries shared.new.single.items) }
+    ensures known { OnOk result (shared.new.known.items ≡ shared.old.known.items) }
+    ensures kept { OnOk result (KeepsMore shared.old shared.new) }
+    ensures number { IfOk result (HasNumber (IsEntryTo walks.now at count) shared.new.builder.entries) }
+{
+    let hop = only_hop(walks, at, count);
+    if let Some(number) = single_number(shared.single.as_slice(), hop) {
+        return Ok(number);
+    }
+    let entry = entry_towards(alloc, walks, at, count)?;
+    let number = shared.builder.keep(entry)?;
+    note_single(&mut shared.single, hop, number);
+    Ok(number)
+}
+
+/// The one first hop below `count` towards a router, where there is one alone.
+fn only_hop(walks: &LeastWalks, at: u32, count: u32) -> Option<u32>
+    ensures { IfSome result (λ hop. AreHopsTo walks.now at count (hop ∷ [])) }
+{
+    match walks.hops_to(at) {
+        [hop] if *hop < count => Some(*hop),
+        _ => None,
+    }
+}
+
+/// The number of the entry over a hop alone, where that is known.
+fn single_number(single: &[Option<u32>], hop: Option<u32>) -> Option<u32>
+    ensures { IfSome result (λ number. MatchOption hop ⊥ (λ h. slice_index_or single.now h None ≡ Some number)) }
+{
+    single.get(hop? as usize).copied().flatten()
+}
+
+/// Notes the number of the entry over a hop alone, where there is one.
+fn note_single(single: &mut Vec<Option<u32>>, hop: Option<u32>, number: u32)
+    ensures { MatchOption hop (single.new.items ≡ single.old.items) (λ h. single.new.items ≡ slice_set single.old.items h (Some number)) }
+{
+    if let Some(hop) = hop {
+        let place = hop as usize;
+        if place < single.len() {
+            single[place] = Some(number);
+        }
+    }
 }
 
 /// The number of the entry towards a target, where that is known.

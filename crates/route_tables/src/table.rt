@@ -3,7 +3,7 @@ ghost use Rattle.route_tables.specs.Entries.{AreTablesBelow, IsLawful, IsTableOf
 
 use crate::OutOfMemory;
 use crate::protocol::Protocol;
-use crate::sharing::{SharedRows, add_row};
+use crate::sharing::{SharedRows, number_at};
 use route_core::Table;
 use std::alloc::Global;
 
@@ -12,14 +12,14 @@ pub fn all_tables<P: Protocol>(alloc: Global, protocol: &P) -> Result<Vec<Table>
     ensures tables { IfOk result (λ tables. AreTablesBelow (P.entry protocol.now) (P.routers protocol.now) tables.items) }
     ensures lawful { IsLawful (P.routers protocol.now) (P.entry protocol.now) (P.neighbor protocol.now) }
 {
-    let mut tables = Vec::new(alloc);
+    let mut tables = Vec::with_capacity(alloc, protocol.routers() as usize)?;
     for router in 0..protocol.routers() {
         tables.push(table_of(alloc, protocol, router)?)?;
     }
     Ok(tables)
 }
 
-/// The table of a router.
+/// The table of a router, in time of the routes that no earlier prefix has, and of the rows.
 fn table_of<P: Protocol>(alloc: Global, protocol: &P, router: u32) -> Result<Table, OutOfMemory>
     requires router { router < P.routers protocol.now }
     requires lawful { IsLawful (P.routers protocol.now) (P.entry protocol.now) (P.neighbor protocol.now) }
@@ -27,9 +27,8 @@ fn table_of<P: Protocol>(alloc: Global, protocol: &P, router: u32) -> Result<Tab
 {
     let mut shared = SharedRows::with_capacity(alloc, protocol.candidates(), protocol.routers())?;
     for place in 0..protocol.candidates() {
-        let dest = protocol.candidate(place);
-        let route = protocol.route(alloc, place, router)?;
-        add_row(alloc, protocol, router, &mut shared, dest, route)?;
+        let number = number_at(alloc, protocol, router, &mut shared, place)?;
+        shared.add(protocol.candidate(place), number)?;
     }
     Ok(shared.builder.finish())
 }

@@ -1,14 +1,14 @@
 -- The best of some offers, offer by offer.
 use Rattle.std.specs.Prelude.{◌≡◌, ◌<◌, List, Option, Some, MatchOption, IsTrue, Contains}
 use Rattle.walk_core.specs.Reach.{Reach}
-use Rattle.walk_core.specs.BestOffers.{IsBestTotal, NoneTotals, total_of}
+use Rattle.walk_core.specs.BestOffers.{IsBestTotal, NoneTotals, total_towards}
 use Rattle.walk_core.specs.declared.offers.Offer.{Offer}
 use Rattle.route_tables.specs.declared.best.BestAt.{BestAt}
 
 -- no offer costs less in all, and where it says so one vertex alone makes those that cost this
 pub record IsBestAt (reach : Reach) (offers : List Offer) (best : BestAt) : Type 0 where
   pub best_total : IsBestTotal reach offers best.cost
-  pub alone : IsTrue best.alone → (o : Offer) → Contains offers o → total_of reach o ≡ Some best.cost → o.at ≡ best.at
+  pub alone : IsTrue best.alone → (o : Offer) → Contains offers o → total_towards reach o ≡ Some best.cost → o.at ≡ best.at
 
 -- this is the best of the offers, if one of them is reached
 abbrev pub IsBestSoFar : Reach → List Offer → Option BestAt → Type 0
