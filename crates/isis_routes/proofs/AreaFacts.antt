@@ -1,6 +1,8 @@
 -- Attached routers.
-use Rattle.std.proofs.Common.{◌≡◌, ◌≢◌, ℕ, ◌<◌, ◌↔◌, inr, ⊎_elim, List, [], ◌∷◌, ◌++◌, length, Option, Some, None, IsTrue, refl, sym, ap, subst, ◌∙◌, arith}
+use Rattle.std.proofs.Common.{◌≡◌, ◌≢◌, ℕ, ◌<◌, ◌↔◌, List, length, Option, Some, None, IsTrue, refl, sym, ap, subst, ◌∙◌, arith}
+use Rattle.std.specs.List.{Contains}
 use Rattle.std.specs.Option.{is_some}
+use Rattle.std.proofs.lemmas.Option.{none-some, same_Some}
 use Rattle.std.proofs.lemmas.Bool.{false≢true}
 use Rattle.net_model.proofs.Adjacency.{HasConfiguration-unique}
 use Rattle.net_model.proofs.NetworkFacts.{HasConfiguration-within}
@@ -8,11 +10,10 @@ use Rattle.net_model.specs.Configuration.{Configuration}
 use Rattle.net_model.specs.Network.{Network, HasConfiguration, Adjacent}
 use Rattle.net_model.specs.declared.zone.Zone.TheVariants.{Two}
 use Rattle.walk_core.specs.Reach.{Reach, distance_of, AreLeastWalks}
-use Rattle.walk_core.specs.declared.offers.Offer.{Offer}
-use Rattle.igp_theory.specs.Isis.{RunsOne, RunsTwo, IsAttached, OffersDefault}
+use Rattle.igp_theory.specs.Isis.{RunsLevelOne, RunsLevelTwo, IsAttached, OffersDefault}
 use Rattle.isis_routes.specs.steps.Attached.{LeadsOutside, LeavesArea}
-use Rattle.isis_routes.specs.steps.Offered.{AddsOffers}
-use Rattle.isis_routes.proofs.OfferLists.{adds_nothing, adds_push}
+use Rattle.route_tables.specs.Lists.{Exactly}
+use Rattle.isis_routes.specs.steps.Routing.{RunsBothLevels}
 
 -- a router of the same area isn't outside
 pub not_outside : (net : Network) (u v : ℕ) (near far : Configuration) → HasConfiguration net u near → HasConfiguration net v far →
@@ -43,13 +44,13 @@ not_leaving net u n count none leaves =
     none leaves.far (omega arith) leaves.outside
 
 -- a router of both levels that level 2 leads out of its area is attached
-pub attached_from : (net : Network) (u : ℕ) → RunsOne net u → RunsTwo net u → LeavesArea net u → IsAttached net u
+attached_from : (net : Network) (u : ℕ) → RunsLevelOne net u → RunsLevelTwo net u → LeavesArea net u → IsAttached net u
 attached_from net u one two leaves =
     let out = leaves.outside in
     let same : out.near ≡ two.config = HasConfiguration-unique net u out.near two.config out.near_router two.router in
     record {
-      runs_one = one;
-      runs_two = two;
+      runs_level_one = one;
+      runs_level_two = two;
       far = leaves.far;
       legs = out.legs;
       walk = out.walk;
@@ -58,29 +59,29 @@ attached_from net u one two leaves =
       other_area = subst (λ (c : Configuration). c.isis_area ≢ out.far.isis_area) same out.other_area;
     }
 
-pub attached_leaves : (net : Network) (u : ℕ) → IsAttached net u → LeavesArea net u
+attached_leaves : (net : Network) (u : ℕ) → IsAttached net u → LeavesArea net u
 attached_leaves net u is = record {
   far = is.far;
   outside = record {
     legs = is.legs;
     walk = is.walk;
-    near = is.runs_two.config;
+    near = is.runs_level_two.config;
     far = is.config;
-    near_router = is.runs_two.router;
+    near_router = is.runs_level_two.router;
     far_router = is.router;
     other_area = is.other_area;
   };
 }
 
--- one more attached router, and one that isn't
-pub attached_added : (net : Network) (u : ℕ) (old : List Offer) → IsAttached net u →
-    AddsOffers old (old ++ record { at = u; asks = 0 } ∷ []) u (OffersDefault net u)
-attached_added net u old is =
-    adds_push old old u 0 (λ _. ⊥) (OffersDefault net u) (adds_nothing old u (λ _. ⊥) (λ k none. none))
-    (λ k. (λ offers. inr offers.costs, ⊎_elim (λ none. absurd none) (λ same. record { attached = is; costs = same })))
+-- what a router of both levels asks of all addresses
+pub default_asked : (net : Network) (u c : ℕ) → RunsBothLevels net u → LeavesArea net u → (Some 0 ≡ Some c) ↔ OffersDefault net u c
+default_asked net u c runs leaves = (
+  λ same. record { attached = attached_from net u runs.one runs.two leaves; costs = sym (same_Some 0 c same) },
+  λ offers. ap Some (sym offers.costs),
+)
 
-pub attached_not_added : (net : Network) (u : ℕ) (old : List Offer) → (IsAttached net u → ⊥) → AddsOffers old old u (OffersDefault net u)
-attached_not_added net u old not_so = adds_nothing old u (OffersDefault net u) (λ k offers. not_so offers.attached)
+pub default_unasked : (net : Network) (u c : ℕ) → (LeavesArea net u → ⊥) → (◌≡◌ {A = Option ℕ} None (Some c)) ↔ OffersDefault net u c
+default_unasked net u c stays = (λ same. absurd (none-some c same), λ offers. absurd (stays (attached_leaves net u offers.attached)))
 
-pub attached_at_router : (net : Network) (u cost : ℕ) → OffersDefault net u cost → u < length net
-attached_at_router net u cost offers = HasConfiguration-within net u offers.attached.runs_one.config offers.attached.runs_one.router
+pub attached_both : (net : Network) (both : List ℕ) → Exactly (RunsBothLevels net) both → (b c : ℕ) → OffersDefault net b c → Contains both b
+attached_both net both are b c offers = (are b).1 (record { one = offers.attached.runs_level_one; two = offers.attached.runs_level_two })

@@ -1,135 +1,114 @@
--- The best of the offers is the route of the definitions.
-use Rattle.std.proofs.Common.{◌≡◌, ℕ, ◌<◌, ◌↔◌, List, length, Option, Some, None, MatchOption, sym, subst}
-use Rattle.std.proofs.lemmas.Option.{none-some}
-use Rattle.net_addr.specs.Addresses.{Block}
-use Rattle.net_model.proofs.NetworkFacts.{Adjacent-to_within}
+-- The best of the offers of a list is the route of the definitions.
+use Rattle.std.proofs.Common.{◌≡◌, ℕ, ◌↔◌, List, Option, Some, None, MatchOption, Result, IfOk}
+use Rattle.std.proofs.lemmas.Result.{IfOk-weaker}
+use Rattle.net_addr.specs.Addresses.{Block, default_prefix}
 use Rattle.net_model.specs.Network.{Network, Adjacent}
 use Rattle.net_model.specs.declared.zone.Zone.TheVariants.{One as ZoneOne, Two as ZoneTwo}
-use Rattle.walk_core.specs.Offers.{Offers, BestHop}
-use Rattle.walk_core.specs.Reach.{Reach, AreLeastWalks}
-use Rattle.walk_core.specs.BestOffers.{NoneTotals, IsBestTotal}
+use Rattle.walk_core.specs.Walks.{Arcs}
+use Rattle.walk_core.specs.Offers.{Offers, OfferCosts, BestCost, BestHop}
+use Rattle.walk_core.specs.BestOffers.{ListsOffer}
+use Rattle.walk_core.specs.Reach.{Reach}
 use Rattle.walk_core.specs.declared.offers.Offer.{Offer}
-use Rattle.walk_core.proofs.OfferLaws.{best_total_is_best_cost, none_totals_no_best}
-use Rattle.igp_theory.specs.Ospf.{OfOthers, default_prefix}
-use Rattle.igp_theory.specs.Isis.{RunsOne, RunsTwo, OffersOne, OneCost, OneHop, IsOne, LevelTwoAnnouncement, TwoCost, IsTwo, TwoHop, DownAnnouncement, IsDown, DownHop, OffersDefault, DefaultHop}
-use Rattle.isis_routes.specs.steps.Offered.{AreOffers}
-use Rattle.route_tables.proofs.BestRoutes.{best_cost_is, best_hops_are, hops_same}
-use Rattle.route_tables.specs.BestRoutes.{AreBestHops}
-use Rattle.isis_routes.specs.steps.Routing.{IsLevelOneRoute, IsLevelTwoRoute, IsDownRoute, IsDefaultRoute, NoDefaultRoute}
+use Rattle.igp_theory.specs.Ospf.{OfOthers}
+use Rattle.igp_theory.specs.Isis.{RunsLevelOne, RunsLevelTwo, OffersLevelOne, LevelOneHop, LevelTwoAnnouncement, LevelTwoHop, DownAnnouncement, DownHop, OffersDefault, DefaultHop}
+use Rattle.route_tables.proofs.BestRoutes.{hops_same, route_weaker}
+use Rattle.route_tables.specs.Routings.{ForwardsBy, IsRouteFor}
+use Rattle.route_tables.specs.declared.route.Route.{Route}
+use Rattle.isis_routes.specs.steps.Offered.{HoldsOffers}
+use Rattle.isis_routes.specs.steps.Routing.{HasBest, IsRouteToBest, RunsLevelOneAlone, IsLevelOneRoute, IsLevelTwoRoute, IsDownRoute, IsDefaultRoute}
 
--- Level 1
+-- Offers that are the same
 
-pub no_one_cost : (net : Network) (p : Block) (u : ℕ) → (RunsOne net u → ⊥) → (cost : ℕ) → (◌≡◌ {A = Option ℕ} None (Some cost)) ↔ OneCost net p u cost
-no_one_cost net p u idle cost = (λ is. absurd (none-some cost is), λ costs. absurd (idle costs.runs))
+same_offer : (arc : Arcs) (one other : Offers) (u at c : ℕ) → ((b asks : ℕ) → one b asks ↔ other b asks) → OfferCosts arc one u at c →
+    OfferCosts arc other u at c
+same_offer arc one other u at c same is =
+    record { asks = is.asks; walk = is.walk; offered = (same at is.asks).0 is.offered; reached = is.reached; costs = is.costs }
 
-pub one_cost_is : (net : Network) (p : Block) (u : ℕ) (reach : Reach) (offers given : List Offer) → RunsOne net u →
-    AreLeastWalks (Adjacent net ZoneOne) u reach → AreOffers (OffersOne net p) offers → given ≡ offers →
-    (found : Option ℕ) → MatchOption found (NoneTotals reach given) (IsBestTotal reach given) → (cost : ℕ) → (found ≡ Some cost) ↔ OneCost net p u cost
-one_cost_is net p u reach offers given runs walks are same found best cost =
-    let is = best_cost_is (Adjacent net ZoneOne) u reach (OffersOne net p) given walks
-    (subst (λ (l : List Offer). AreOffers (OffersOne net p) l) (sym same) are) found best cost in
-    (λ e. record { runs = runs; best = is.0 e }, λ costs. is.1 costs.best)
+-- the best cost of the same offers is the same
+pub same_costs : (arc : Arcs) (one other : Offers) (u c : ℕ) → ((at asks : ℕ) → one at asks ↔ other at asks) → BestCost arc one u c → BestCost arc other u c
+same_costs arc one other u c same best = record {
+  at = best.at;
+  attained = same_offer arc one other u best.at c same best.attained;
+  least = λ at k is. best.least at k (same_offer arc other one u at k (λ b asks. ((same b asks).1, (same b asks).0)) is);
+}
 
-pub one_route_is : (net : Network) (p : Block) (u : ℕ) (reach : Reach) (offers given : List Offer) → RunsOne net u →
-    AreLeastWalks (Adjacent net ZoneOne) u reach → AreOffers (OffersOne net p) offers → given ≡ offers →
-    (n : ℕ) → n ≡ length net → (found : Option (List ℕ)) → MatchOption found (NoneTotals reach given) (AreBestHops reach given n) →
-    MatchOption found (IsOne net p u → ⊥) (IsLevelOneRoute net p u)
-one_route_is net p u reach offers given runs walks are same n count None none = λ is.
-    none_totals_no_best (Adjacent net ZoneOne) u reach (OffersOne net p) given walks
-    (subst (λ (l : List Offer). AreOffers (OffersOne net p) l) (sym same) are) none is.cost is.costs.best
-one_route_is net p u reach offers given runs walks are same n count (Some hops) best =
-    let listed : AreOffers (OffersOne net p) given = subst (λ (l : List Offer). AreOffers (OffersOne net p) l) (sym same) are in
-    record {
-      is = record {
-        cost = best.cost;
-        costs = record {
-          runs = runs;
-          best = (best_total_is_best_cost (Adjacent net ZoneOne) u reach (OffersOne net p)
-              given best.cost walks listed).0 best.best;
-        };
-      };
-      hops_are = hops_same (BestHop (Adjacent net ZoneOne) (OffersOne net p) u) (OneHop net p u) hops
-          (λ h. (λ hop. record { runs = runs; best = hop }, λ hop. hop.best))
-          (best_hops_are (Adjacent net ZoneOne) u reach (OffersOne net p) given n hops walks listed
-          (λ h c over. subst (λ (m : ℕ). h < m) (sym count) (Adjacent-to_within net ZoneOne u h c over)) best);
-    }
+same_hops : (arc : Arcs) (one other : Offers) (u h : ℕ) → ((at asks : ℕ) → one at asks ↔ other at asks) → BestHop arc one u h → BestHop arc other u h
+same_hops arc one other u h same hop = record {
+  cost = hop.cost;
+  best = same_costs arc one other u hop.cost same hop.best;
+  at = hop.at;
+  attained = same_offer arc one other u hop.at hop.cost same hop.attained;
+  hop = hop.hop;
+}
 
--- Level 2
+same_best : (arc : Arcs) (one other : Offers) (u : ℕ) → ((at asks : ℕ) → one at asks ↔ other at asks) → HasBest arc one u → HasBest arc other u
+same_best arc one other u same has = record { cost = has.cost; best = same_costs arc one other u has.cost same has.best }
 
-pub no_two_cost : (net : Network) (p : Block) (u : ℕ) → (RunsTwo net u → ⊥) → (cost : ℕ) → (◌≡◌ {A = Option ℕ} None (Some cost)) ↔ TwoCost net p u cost
-no_two_cost net p u idle cost = (λ is. absurd (none-some cost is), λ costs. absurd (idle costs.runs))
+same_route : (arc : Arcs) (one other : Offers) (u : ℕ) (hops : List ℕ) → ((at asks : ℕ) → one at asks ↔ other at asks) → IsRouteToBest arc one u hops →
+    IsRouteToBest arc other u hops
+same_route arc one other u hops same route = record {
+  is = same_best arc one other u same route.is;
+  hops_are = hops_same (BestHop arc one u) (BestHop arc other u) hops
+      (λ h. (same_hops arc one other u h same, same_hops arc other one u h (λ at asks. ((same at asks).1, (same at asks).0)))) route.hops_are;
+}
 
-pub two_cost_is : (net : Network) (p : Block) (u : ℕ) (reach : Reach) (given : List Offer) → RunsTwo net u → AreLeastWalks (Adjacent net ZoneTwo) u reach →
-    AreOffers (OfOthers (LevelTwoAnnouncement net p) u) given → (found : Option ℕ) → MatchOption found (NoneTotals reach given) (IsBestTotal reach given) →
-    (cost : ℕ) → (found ≡ Some cost) ↔ TwoCost net p u cost
-two_cost_is net p u reach given runs walks listed found best cost =
-    let is = best_cost_is (Adjacent net ZoneTwo) u reach (OfOthers (LevelTwoAnnouncement net p) u) given walks listed found best cost in
-    (λ e. record { runs = runs; best = is.0 e }, λ costs. is.1 costs.best)
+-- what is found of a list of offers is what follows of these offers
+pub route_found : {E : Type 0} (arc : Arcs) (offer : Offers) (offers : List Offer) (u : ℕ) (reach : ℕ → Reach) (n : ℕ) (none : Type 0) (some : List ℕ → Type 0)
+    (r : Result (Option Route) E) → HoldsOffers offer offers → ((HasBest arc offer u → ⊥) → none) →
+    ((hops : List ℕ) → IsRouteToBest arc offer u hops → some hops) →
+    IfOk r (λ found. MatchOption found (HasBest arc (ListsOffer offers) u → ⊥) (IsRouteFor reach 2 n (ForwardsBy (IsRouteToBest arc (ListsOffer offers) u)))) →
+    IfOk r (λ found. MatchOption found none (IsRouteFor reach 2 n (ForwardsBy some)))
+route_found arc offer offers u reach n none some r are none_is some_is is =
+    IfOk-weaker r
+    (λ found. MatchOption found (HasBest arc (ListsOffer offers) u → ⊥) (IsRouteFor reach 2 n (ForwardsBy (IsRouteToBest arc (ListsOffer offers) u))))
+    (λ found. MatchOption found none (IsRouteFor reach 2 n (ForwardsBy some))) go is
+  where
+    go : (found : Option Route) →
+        MatchOption found (HasBest arc (ListsOffer offers) u → ⊥) (IsRouteFor reach 2 n (ForwardsBy (IsRouteToBest arc (ListsOffer offers) u))) →
+        MatchOption found none (IsRouteFor reach 2 n (ForwardsBy some))
+    go None wrong = none_is (λ has. wrong (same_best arc offer (ListsOffer offers) u (λ at asks. ((are at asks).1, (are at asks).0)) has))
+    go (Some route) found =
+        route_weaker reach 2 n (ForwardsBy (IsRouteToBest arc (ListsOffer offers) u)) (ForwardsBy some) route
+        (λ e by. record {
+          hops = by.hops;
+          forwards = by.forwards;
+          are = some_is by.hops (same_route arc (ListsOffer offers) offer u by.hops are by.are);
+        })
+        found
 
-pub two_route_is : (net : Network) (p : Block) (u : ℕ) (reach : Reach) (given : List Offer) → RunsTwo net u → AreLeastWalks (Adjacent net ZoneTwo) u reach →
-    AreOffers (OfOthers (LevelTwoAnnouncement net p) u) given →
-    (n : ℕ) → n ≡ length net → (found : Option (List ℕ)) → MatchOption found (NoneTotals reach given) (AreBestHops reach given n) →
-    MatchOption found (IsTwo net p u → ⊥) (IsLevelTwoRoute net p u)
-two_route_is net p u reach given runs walks listed n count None none = λ is.
-    none_totals_no_best (Adjacent net ZoneTwo) u reach (OfOthers (LevelTwoAnnouncement net p) u) given walks listed none is.cost is.costs.best
-two_route_is net p u reach given runs walks listed n count (Some hops) best =
-    record {
-      is = record {
-        cost = best.cost;
-        costs = record {
-          runs = runs;
-          best = (best_total_is_best_cost (Adjacent net ZoneTwo) u reach (OfOthers (LevelTwoAnnouncement net p) u)
-              given best.cost walks listed).0 best.best;
-        };
-      };
-      hops_are = hops_same (BestHop (Adjacent net ZoneTwo) (OfOthers (LevelTwoAnnouncement net p) u) u) (TwoHop net p u) hops
-          (λ h. (λ hop. record { runs = runs; best = hop }, λ hop. hop.best))
-          (best_hops_are (Adjacent net ZoneTwo) u reach (OfOthers (LevelTwoAnnouncement net p) u) given n hops walks listed
-          (λ h c over. subst (λ (m : ℕ). h < m) (sym count) (Adjacent-to_within net ZoneTwo u h c over)) best);
-    }
+-- Routes to the best
 
--- Down
+pub level_one_is : (net : Network) (p : Block) (u : ℕ) (hops : List ℕ) → RunsLevelOne net u →
+    IsRouteToBest (Adjacent net ZoneOne) (OffersLevelOne net p) u hops →
+    IsLevelOneRoute net p u hops
+level_one_is net p u hops runs route = record {
+  is = record { cost = route.is.cost; costs = record { runs = runs; best = route.is.best } };
+  hops_are = hops_same (BestHop (Adjacent net ZoneOne) (OffersLevelOne net p) u) (LevelOneHop net p u) hops
+      (λ h. (λ hop. record { runs = runs; best = hop }, λ hop. hop.best)) route.hops_are;
+}
 
-pub down_route_is : (net : Network) (p : Block) (u : ℕ) (reach : Reach) (given : List Offer) → RunsOne net u → AreLeastWalks (Adjacent net ZoneOne) u reach →
-    AreOffers (OfOthers (DownAnnouncement net p) u) given → (n : ℕ) → n ≡ length net → (found : Option (List ℕ)) →
-    MatchOption found (NoneTotals reach given) (AreBestHops reach given n) → MatchOption found (IsDown net p u → ⊥) (IsDownRoute net p u)
-down_route_is net p u reach given runs walks listed n count None none = λ is.
-    none_totals_no_best (Adjacent net ZoneOne) u reach (OfOthers (DownAnnouncement net p) u) given walks listed none is.cost is.costs.best
-down_route_is net p u reach given runs walks listed n count (Some hops) best =
-    let down : Offers = OfOthers (DownAnnouncement net p) u in
-    record {
-      is = record {
-        cost = best.cost;
-        costs = record { runs = runs; best = (best_total_is_best_cost (Adjacent net ZoneOne) u reach down given best.cost walks listed).0 best.best };
-      };
-      hops_are = hops_same (BestHop (Adjacent net ZoneOne) down u) (DownHop net p u) hops
-          (λ h. (λ hop. record { runs = runs; best = hop }, λ hop. hop.best))
-          (best_hops_are (Adjacent net ZoneOne) u reach down given n hops walks listed
-          (λ h c over. subst (λ (m : ℕ). h < m) (sym count) (Adjacent-to_within net ZoneOne u h c over)) best);
-    }
+pub level_two_is : (net : Network) (p : Block) (u : ℕ) (hops : List ℕ) → RunsLevelTwo net u →
+    IsRouteToBest (Adjacent net ZoneTwo) (OfOthers (LevelTwoAnnouncement net p) u) u hops → IsLevelTwoRoute net p u hops
+level_two_is net p u hops runs route = record {
+  is = record { cost = route.is.cost; costs = record { runs = runs; best = route.is.best } };
+  hops_are = hops_same (BestHop (Adjacent net ZoneTwo) (OfOthers (LevelTwoAnnouncement net p) u) u) (LevelTwoHop net p u) hops
+      (λ h. (λ hop. record { runs = runs; best = hop }, λ hop. hop.best)) route.hops_are;
+}
 
--- The default
+pub down_is : (net : Network) (p : Block) (u : ℕ) (hops : List ℕ) → RunsLevelOne net u →
+    IsRouteToBest (Adjacent net ZoneOne) (OfOthers (DownAnnouncement net p) u) u hops → IsDownRoute net p u hops
+down_is net p u hops runs route = record {
+  is = record { cost = route.is.cost; costs = record { runs = runs; best = route.is.best } };
+  hops_are = hops_same (BestHop (Adjacent net ZoneOne) (OfOthers (DownAnnouncement net p) u) u) (DownHop net p u) hops
+      (λ h. (λ hop. record { runs = runs; best = hop }, λ hop. hop.best)) route.hops_are;
+}
 
-pub default_route_is : (net : Network) (p : Block) (u : ℕ) (reach : Reach) (offers given : List Offer) → p ≡ default_prefix → RunsOne net u →
-    (RunsTwo net u → ⊥) → AreLeastWalks (Adjacent net ZoneOne) u reach → AreOffers (OffersDefault net) offers → given ≡ offers →
-    (n : ℕ) → n ≡ length net → (found : Option (List ℕ)) → MatchOption found (NoneTotals reach given) (AreBestHops reach given n) →
-    MatchOption found (NoDefaultRoute net p u) (IsDefaultRoute net p u)
-default_route_is net p u reach offers given all runs alone walks are same n count None none = λ cost _ costs.
-    none_totals_no_best (Adjacent net ZoneOne) u reach (OffersDefault net) given walks
-    (subst (λ (l : List Offer). AreOffers (OffersDefault net) l) (sym same) are) none cost costs.best
-default_route_is net p u reach offers given all runs alone walks are same n count (Some hops) best =
-    let listed : AreOffers (OffersDefault net) given = subst (λ (l : List Offer). AreOffers (OffersDefault net) l) (sym same) are in
-    record {
-      all = all;
-      cost = best.cost;
-      costs = record {
-        runs = runs;
-        alone = alone;
-        best =
-            (best_total_is_best_cost (Adjacent net ZoneOne) u reach (OffersDefault net) given best.cost walks listed).0 best.best;
-      };
-      hops_are = hops_same (BestHop (Adjacent net ZoneOne) (OffersDefault net) u) (DefaultHop net u) hops
-          (λ h. (λ hop. record { runs = runs; alone = alone; best = hop }, λ hop. hop.best))
-          (best_hops_are (Adjacent net ZoneOne) u reach (OffersDefault net) given n hops walks listed
-          (λ h c over. subst (λ (m : ℕ). h < m) (sym count) (Adjacent-to_within net ZoneOne u h c over)) best);
-    }
+pub default_is : (net : Network) (p : Block) (u : ℕ) (hops : List ℕ) → p ≡ default_prefix → RunsLevelOneAlone net u →
+    IsRouteToBest (Adjacent net ZoneOne) (OffersDefault net) u hops → IsDefaultRoute net p u hops
+default_is net p u hops all runs route = record {
+  all = all;
+  cost = route.is.cost;
+  costs = record { runs = runs.runs; alone = runs.alone; best = route.is.best };
+  hops_are = hops_same (BestHop (Adjacent net ZoneOne) (OffersDefault net) u) (DefaultHop net u) hops
+      (λ h. (λ hop. record { runs = runs.runs; alone = runs.alone; best = hop }, λ hop. hop.best)) route.hops_are;
+}

@@ -8,31 +8,28 @@ use Rattle.net_model.specs.Network.{Network}
 use Rattle.net_model.specs.Refusals.{IsNetwork}
 use Rattle.net_model.specs.declared.zone.Zone.TheVariants.{One as ZoneOne}
 use Rattle.walk_core.specs.Offers.{Offers}
-use Rattle.walk_core.specs.Reach.{Reach, distance_of, AreNear}
-use Rattle.walk_core.specs.BestOffers.{AreInRange}
+use Rattle.walk_core.specs.Reach.{Reach, distance_of}
 use Rattle.walk_core.specs.declared.offers.Offer.{Offer}
-use Rattle.igp_theory.specs.Isis.{OffersOne, OneCost, OffersTwo, LevelTwoAnnouncement, own, of_level_one, TwoCost, DownAnnouncement, OffersDefault}
+use Rattle.igp_theory.specs.Isis.{OffersLevelOne, LevelOneCost, OffersLevelTwo, LevelTwoAnnouncement, own, of_level_one, LevelTwoCost, DownAnnouncement, OffersDefault}
 use Rattle.zone_graph.specs.Walks.{AreZoneWalks}
-use Rattle.route_tables.proofs.BestRoutes.{offers_in_range}
-use Rattle.isis_routes.specs.steps.Offered.{AreOffers}
+use Rattle.isis_routes.specs.steps.Offered.{AreSmall, HoldsOffers}
 use Rattle.isis_routes.specs.steps.Routing.{AreLevelWalks}
 use Rattle.isis_routes.specs.declared.level_walks.LevelWalks.{LevelWalks}
 
--- offers that ask less than 2^42 are in range over distances of at most 200 arcs
-pub in_range : (reach : Reach) (offer : Offers) (offers given : List Offer) → AreNear 200 reach → AreOffers offer offers → given ≡ offers →
-    ((at asks : ℕ) → offer at asks → asks < 2 ^ 42) → AreInRange reach given
-in_range reach offer offers given near are same small =
-    offers_in_range reach offer given near (subst (λ (l : List Offer). AreOffers offer l) (sym same) are) small
+-- a list of offers that aren't large isn't
+small_by : (offer : Offers) (offers given : List Offer) → HoldsOffers offer offers → given ≡ offers → ((at asks : ℕ) → offer at asks → asks < 2 ^ 42)
+    → AreSmall given
+small_by offer offers given are same small = subst AreSmall (sym same) (λ at asks l. small at asks ((are at asks).0 l))
 
 -- a metric is below 2^24
-pub one_is_small : (net : Network) (p : Block) (w cost : ℕ) → IsNetwork net → OffersOne net p w cost → cost < 2 ^ 24
+one_is_small : (net : Network) (p : Block) (w cost : ℕ) → IsNetwork net → OffersLevelOne net p w cost → cost < 2 ^ 24
 one_is_small net p w cost network offers =
     let keeps : IsInterface offers.interface = UpInterface-keeps net w offers.interface network offers.up in
     let most : offers.interface.metric1 ≤ 16777214 = keeps.metric1.1 in
     let is : offers.interface.metric1 ≡ cost = offers.costs in
     omega arith
 
-pub two_is_small : (net : Network) (p : Block) (w cost : ℕ) → IsNetwork net → OffersTwo net p w cost → cost < 2 ^ 24
+two_is_small : (net : Network) (p : Block) (w cost : ℕ) → IsNetwork net → OffersLevelTwo net p w cost → cost < 2 ^ 24
 two_is_small net p w cost network offers =
     let keeps : IsInterface offers.interface = UpInterface-keeps net w offers.interface network offers.up in
     let most : offers.interface.metric2 ≤ 16777214 = keeps.metric2.1 in
@@ -43,8 +40,8 @@ no_walks : Reach
 no_walks = record { distances = []; hops = [] }
 
 -- a level 1 cost is at most 200 arcs and a metric
-pub one_cost_is_small : (net : Network) (p : Block) (u cost : ℕ) (walks : List Reach) → IsNetwork net → AreZoneWalks net ZoneOne walks →
-    OneCost net p u cost → cost < 2 ^ 41
+one_cost_is_small : (net : Network) (p : Block) (u cost : ℕ) (walks : List Reach) → IsNetwork net → AreZoneWalks net ZoneOne walks →
+    LevelOneCost net p u cost → cost < 2 ^ 41
 one_cost_is_small net p u cost walks network are costs =
     let within : u < length net = HasConfiguration-within net u costs.runs.config costs.runs.router in
     let inside : u < length walks = omega (arith, are.routers) in
@@ -58,7 +55,7 @@ one_cost_is_small net p u cost walks network are costs =
     omega arith
 
 -- so is what is announced into level 2
-pub announcement_is_small : (net : Network) (p : Block) (b cost : ℕ) (walks : List Reach) → IsNetwork net → AreZoneWalks net ZoneOne walks →
+announcement_is_small : (net : Network) (p : Block) (b cost : ℕ) (walks : List Reach) → IsNetwork net → AreZoneWalks net ZoneOne walks →
     LevelTwoAnnouncement net p b cost → cost < 2 ^ 41
 announcement_is_small net p b cost walks network are (own runs offers) =
     let small : cost < 2 ^ 24 = two_is_small net p b cost network offers in omega arith
@@ -66,7 +63,7 @@ announcement_is_small net p b cost walks network are (of_level_one runs costs) =
     one_cost_is_small net p b cost walks network are costs
 
 -- a level 2 cost is at most 200 arcs more than an announcement, and what is leaked is a level 2 cost
-two_cost_is_small : (net : Network) (p : Block) (u cost : ℕ) (walks : LevelWalks) → IsNetwork net → AreLevelWalks net walks → TwoCost net p u cost →
+two_cost_is_small : (net : Network) (p : Block) (u cost : ℕ) (walks : LevelWalks) → IsNetwork net → AreLevelWalks net walks → LevelTwoCost net p u cost →
     cost < 2 ^ 42
 two_cost_is_small net p u cost walks network are costs =
     let within : u < length net = HasConfiguration-within net u costs.runs.config costs.runs.router in
@@ -81,9 +78,24 @@ two_cost_is_small net p u cost walks network are costs =
     let sum : attained.walk + attained.asks ≡ cost = attained.costs in
     omega arith
 
-pub leaked_is_small : (net : Network) (p : Block) (b cost : ℕ) (walks : LevelWalks) → IsNetwork net → AreLevelWalks net walks →
-    DownAnnouncement net p b cost → cost < 2 ^ 42
-leaked_is_small net p b cost walks network are announces = two_cost_is_small net p b cost walks network are announces.costs
+-- What is listed of a prefix
 
-pub default_is_small : (net : Network) (b cost : ℕ) → OffersDefault net b cost → cost < 2 ^ 42
-default_is_small net b cost offers = omega (arith, offers.costs)
+pub level_one_small : (net : Network) (p : Block) (offers given : List Offer) → IsNetwork net → HoldsOffers (OffersLevelOne net p) offers → given ≡ offers →
+    AreSmall given
+level_one_small net p offers given network are same =
+    small_by (OffersLevelOne net p) offers given are same
+    (λ at asks is. let small : asks < 2 ^ 24 = one_is_small net p at asks network is in omega arith)
+
+pub announced_small : (net : Network) (p : Block) (walks : List Reach) (offers given : List Offer) → IsNetwork net → AreZoneWalks net ZoneOne walks →
+    HoldsOffers (LevelTwoAnnouncement net p) offers → given ≡ offers → AreSmall given
+announced_small net p walks offers given network least are same =
+    small_by (LevelTwoAnnouncement net p) offers given are same
+    (λ at asks is. let small : asks < 2 ^ 41 = announcement_is_small net p at asks walks network least is in omega arith)
+
+pub leaked_small : (net : Network) (p : Block) (walks : LevelWalks) (offers given : List Offer) → IsNetwork net → AreLevelWalks net walks →
+    HoldsOffers (DownAnnouncement net p) offers → given ≡ offers → AreSmall given
+leaked_small net p walks offers given network least are same =
+    small_by (DownAnnouncement net p) offers given are same (λ at asks is. two_cost_is_small net p at asks walks network least is.costs)
+
+pub default_small : (net : Network) (offers given : List Offer) → HoldsOffers (OffersDefault net) offers → given ≡ offers → AreSmall given
+default_small net offers given are same = small_by (OffersDefault net) offers given are same (λ at asks is. omega (arith, is.costs))

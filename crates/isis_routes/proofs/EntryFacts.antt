@@ -4,8 +4,8 @@ use Rattle.net_addr.specs.Addresses.{Block}
 use Rattle.net_model.specs.Network.{Network, Connected}
 use Rattle.route_core.specs.declared.entry.Entry.{Entry}
 use Rattle.route_core.specs.declared.entry.Entry.TheVariants.{Via}
-use Rattle.igp_theory.specs.Isis.{RunsOne, RunsTwo, OffersOne, OneCost, IsOne, LevelTwoAnnouncement, own, of_level_one, TwoCost, IsTwo, IsDown, IsisEntry, level_one, level_two, down, default_route}
-use Rattle.isis_routes.specs.steps.Candidates.{IsCandidate}
+use Rattle.igp_theory.specs.Isis.{OffersLevelOne, LevelOneCost, HasLevelOneRoute, LevelTwoAnnouncement, own, of_level_one, LevelTwoCost, HasLevelTwoRoute, HasDownRoute, IsisEntry, level_one, level_two, down, default_route}
+use Rattle.isis_routes.specs.steps.Candidates.{IsIsisCandidate}
 use Rattle.isis_routes.specs.steps.Routing.{IsLevelOneRoute, IsLevelTwoRoute, IsDownRoute, IsDefaultRoute, NoDefaultRoute}
 
 -- a connected prefix has no entry
@@ -18,42 +18,36 @@ connected_has_none net u p is e (default_route away _ _ _ _ _ _ _) = away is
 pub entry_by_one : (net : Network) (u : ℕ) (p : Block) (hops : List ℕ) → (Connected net u p → ⊥) → IsLevelOneRoute net p u hops → IsisEntry net u p (Via hops)
 entry_by_one net u p hops away route = level_one away route.is route.hops_are
 
-pub entry_by_two : (net : Network) (u : ℕ) (p : Block) (hops : List ℕ) → (Connected net u p → ⊥) → (IsOne net p u → ⊥) → IsLevelTwoRoute net p u hops →
+pub entry_by_two : (net : Network) (u : ℕ) (p : Block) (hops : List ℕ) → (Connected net u p → ⊥) → (HasLevelOneRoute net p u → ⊥) →
+    IsLevelTwoRoute net p u hops →
     IsisEntry net u p (Via hops)
-entry_by_two net u p hops away no_one route = level_two away no_one route.is route.hops_are
+entry_by_two net u p hops away without_level_one route = level_two away without_level_one route.is route.hops_are
 
-pub entry_by_down : (net : Network) (u : ℕ) (p : Block) (hops : List ℕ) → (Connected net u p → ⊥) → (IsOne net p u → ⊥) → (IsTwo net p u → ⊥) →
+pub entry_by_down : (net : Network) (u : ℕ) (p : Block) (hops : List ℕ) → (Connected net u p → ⊥) → (HasLevelOneRoute net p u → ⊥) →
+    (HasLevelTwoRoute net p u → ⊥) →
     IsDownRoute net p u hops → IsisEntry net u p (Via hops)
-entry_by_down net u p hops away no_one no_two route = down away no_one no_two route.is route.hops_are
+entry_by_down net u p hops away without_level_one no_two route = down away without_level_one no_two route.is route.hops_are
 
-pub entry_by_default : (net : Network) (u : ℕ) (p : Block) (hops : List ℕ) → (Connected net u p → ⊥) → (IsOne net p u → ⊥) → (IsTwo net p u → ⊥) →
-    (IsDown net p u → ⊥) → IsDefaultRoute net p u hops → IsisEntry net u p (Via hops)
-entry_by_default net u p hops away no_one no_two no_down route =
-    default_route away no_one no_two no_down route.all route.cost route.costs route.hops_are
+pub entry_by_default : (net : Network) (u : ℕ) (p : Block) (hops : List ℕ) → (Connected net u p → ⊥) → (HasLevelOneRoute net p u → ⊥) →
+    (HasLevelTwoRoute net p u → ⊥) →
+    (HasDownRoute net p u → ⊥) → IsDefaultRoute net p u hops → IsisEntry net u p (Via hops)
+entry_by_default net u p hops away without_level_one no_two no_down route =
+    default_route away without_level_one no_two no_down route.all route.cost route.costs route.hops_are
 
 -- without a route there is no entry
-pub no_route_no_entry : (net : Network) (u : ℕ) (p : Block) → (IsOne net p u → ⊥) → (IsTwo net p u → ⊥) → (IsDown net p u → ⊥) → NoDefaultRoute net p u →
+pub no_route_no_entry : (net : Network) (u : ℕ) (p : Block) → (HasLevelOneRoute net p u → ⊥) → (HasLevelTwoRoute net p u → ⊥) →
+    (HasDownRoute net p u → ⊥) → NoDefaultRoute net p u →
     (e : Entry) → IsisEntry net u p e → ⊥
-no_route_no_entry net u p no_one no_two no_down no_default e (level_one _ is _) = no_one is
-no_route_no_entry net u p no_one no_two no_down no_default e (level_two _ _ is _) = no_two is
-no_route_no_entry net u p no_one no_two no_down no_default e (down _ _ _ is _) = no_down is
-no_route_no_entry net u p no_one no_two no_down no_default e (default_route _ _ _ _ all cost costs _) = no_default cost all costs
-
--- a router that doesn't run the level has no route of it
-pub no_level_one : (net : Network) (p : Block) (u : ℕ) → (RunsOne net u → ⊥) → IsOne net p u → ⊥
-no_level_one net p u idle is = idle is.costs.runs
-
-pub no_level_two : (net : Network) (p : Block) (u : ℕ) → (RunsTwo net u → ⊥) → IsTwo net p u → ⊥
-no_level_two net p u idle is = idle is.costs.runs
-
-pub no_down : (net : Network) (p : Block) (u : ℕ) → (RunsOne net u → ⊥) → IsDown net p u → ⊥
-no_down net p u idle is = idle is.costs.runs
+no_route_no_entry net u p without_level_one no_two no_down no_default e (level_one _ is _) = without_level_one is
+no_route_no_entry net u p without_level_one no_two no_down no_default e (level_two _ _ is _) = no_two is
+no_route_no_entry net u p without_level_one no_two no_down no_default e (down _ _ _ is _) = no_down is
+no_route_no_entry net u p without_level_one no_two no_down no_default e (default_route _ _ _ _ all cost costs _) = no_default cost all costs
 
 -- Every prefix with an entry is a candidate
 
-one_is_candidate : (net : Network) (p : Block) (u cost : ℕ) → OneCost net p u cost → IsCandidate net p
+one_is_candidate : (net : Network) (p : Block) (u cost : ℕ) → LevelOneCost net p u cost → IsIsisCandidate net p
 one_is_candidate net p u cost costs =
-    let offers : OffersOne net p costs.best.at costs.best.attained.asks = costs.best.attained.offered in
+    let offers : OffersLevelOne net p costs.best.at costs.best.attained.asks = costs.best.attained.offered in
     inr (record {
       router = costs.best.at;
       interface = offers.interface;
@@ -61,7 +55,7 @@ one_is_candidate net p u cost costs =
       has = record { up = offers.up.up; runs = inl offers.level; subnet = offers.subnet };
     })
 
-announced_is_candidate : (net : Network) (p : Block) (b cost : ℕ) → LevelTwoAnnouncement net p b cost → IsCandidate net p
+announced_is_candidate : (net : Network) (p : Block) (b cost : ℕ) → LevelTwoAnnouncement net p b cost → IsIsisCandidate net p
 announced_is_candidate net p b cost (own runs offers) =
     inr (record {
       router = b;
@@ -71,11 +65,11 @@ announced_is_candidate net p b cost (own runs offers) =
     })
 announced_is_candidate net p b cost (of_level_one runs costs) = one_is_candidate net p b cost costs
 
-two_is_candidate : (net : Network) (p : Block) (u cost : ℕ) → TwoCost net p u cost → IsCandidate net p
+two_is_candidate : (net : Network) (p : Block) (u cost : ℕ) → LevelTwoCost net p u cost → IsIsisCandidate net p
 two_is_candidate net p u cost costs =
     announced_is_candidate net p costs.best.at costs.best.attained.asks costs.best.attained.offered.offered
 
-pub entry_is_candidate : (net : Network) (u : ℕ) (p : Block) (e : Entry) → IsisEntry net u p e → IsCandidate net p
+pub entry_is_candidate : (net : Network) (u : ℕ) (p : Block) (e : Entry) → IsisEntry net u p e → IsIsisCandidate net p
 entry_is_candidate net u p e (level_one _ is _) = one_is_candidate net p u is.cost is.costs
 entry_is_candidate net u p e (level_two _ _ is _) = two_is_candidate net p u is.cost is.costs
 entry_is_candidate net u p e (down _ _ _ is _) =

@@ -1,39 +1,99 @@
--- Routes over the least walks of a level.
-use Rattle.std.proofs.Common.{◌≡◌, ◌≢◌, ℕ, zero, suc, ◌<◌, List, [], length, slice_get, Option, Some, MatchOption, Result, IfOk, refl, subst}
-use Rattle.std.proofs.lemmas.Option.{get_or_from_slice_get}
+-- Costs and routes over the least walks of a level.
+use Rattle.std.proofs.Common.{◌≡◌, ℕ, ◌<◌, ◌↔◌, List, [], length, get_or, Option, Some, None, MatchOption, Result, IfOk, sym, subst, arith}
+use Rattle.std.proofs.lemmas.Option.{slice_get-get_or}
 use Rattle.std.proofs.lemmas.Result.{IfOk-weaker}
-use Rattle.net_model.specs.Network.{Network}
-use Rattle.walk_core.specs.Reach.{Reach}
-use Rattle.walk_core.specs.BestOffers.{NoneTotals}
+use Rattle.net_model.proofs.NetworkFacts.{Adjacent-to_within}
+use Rattle.net_model.specs.Network.{Network, Adjacent}
+use Rattle.net_model.specs.declared.zone.Zone.{Zone}
+use Rattle.net_model.specs.declared.zone.Zone.TheVariants.{One as ZoneOne, Two as ZoneTwo}
+use Rattle.walk_core.specs.Offers.{BestCost}
+use Rattle.walk_core.specs.Reach.{Reach, AreLeastWalks, AreNear}
+use Rattle.walk_core.specs.BestOffers.{ListsOffer, AreInRange, NoneTotals, IsBestTotal}
 use Rattle.walk_core.specs.declared.offers.Offer.{Offer}
+use Rattle.walk_core.proofs.OfferLaws.{best_total_is_best_cost, none_totals_no_best}
+use Rattle.zone_graph.specs.Walks.{AreZoneWalks}
 use Rattle.route_tables.specs.BestRoutes.{AreBestHops, IsBestRoute}
 use Rattle.route_tables.specs.Routings.{ForwardsBy, IsRouteFor}
 use Rattle.route_tables.specs.declared.route.Route.{Route}
-use Rattle.route_tables.proofs.BestRoutes.{best_route_is}
+use Rattle.route_tables.proofs.BestRoutes.{best_cost_is, best_hops_are, best_route_is, offers_in_range}
 use Rattle.isis_routes.specs.steps.LevelReach.{level_reach}
+use Rattle.isis_routes.specs.steps.Levels.{zone_in, zone_number}
+use Rattle.isis_routes.specs.steps.Offered.{AreSmall}
+use Rattle.isis_routes.specs.steps.Routing.{AreLevelWalks, HasBest, IsRouteToBest}
+use Rattle.isis_routes.specs.declared.level.Level.{Level}
+use Rattle.isis_routes.specs.declared.level.Level.TheVariants.{One, Two}
 use Rattle.isis_routes.specs.declared.level_walks.LevelWalks.{LevelWalks}
 
--- level 1 is numbered 0, and level 2 1
-pub reach_in_one : (walks : LevelWalks) (u : ℕ) (reach : Reach) → slice_get walks.one u ≡ Some reach → level_reach walks u 0 ≡ reach
-reach_in_one walks u reach is = get_or_from_slice_get walks.one u reach (record { distances = []; hops = [] }) is
+abbrev no_walks : Reach
+no_walks = record { distances = []; hops = [] }
 
-pub reach_in_two : (walks : LevelWalks) (u : ℕ) (reach : Reach) → slice_get walks.two u ≡ Some reach → level_reach walks u 1 ≡ reach
-reach_in_two walks u reach is = get_or_from_slice_get walks.two u reach (record { distances = []; hops = [] }) is
+-- what is known of the least walks of a level from a router
+record IsReachIn (net : Network) (zone : Zone) (u : ℕ) (reach : Reach) : Type 0 where
+  least : AreLeastWalks (Adjacent net zone) u reach
+  near : AreNear 200 reach
 
-pub reach_past_one : (walks : LevelWalks) (u zone : ℕ) (reach : Reach) → zone ≢ 0 → slice_get walks.two u ≡ Some reach → level_reach walks u zone ≡ reach
-reach_past_one walks u zero reach other is = absurd (other refl)
-reach_past_one walks u (suc zone) reach other is = get_or_from_slice_get walks.two u reach (record { distances = []; hops = [] }) is
+reach_of : (net : Network) (part : Zone) (walks : List Reach) (u : ℕ) → AreZoneWalks net part walks → u < length net →
+    IsReachIn net part u (get_or walks u no_walks)
+reach_of net part walks u are within =
+    let here = slice_get-get_or walks u no_walks (subst (λ (n : ℕ). u < n) (sym are.routers) within) in
+    record { least = are.least u (get_or walks u no_walks) here; near = are.near u (get_or walks u no_walks) here }
 
--- what follows of the hops of the best offers follows of the route to them
-pub level_route : {E : Type 0} (net : Network) (walks : LevelWalks) (u zone n : ℕ) (reach : Reach) (offers : List Offer) (none : Type 0)
-    (some : List ℕ → Type 0)
-    (r : Result (Option Route) E) → zone < 2 → n ≡ length net → level_reach walks u zone ≡ reach →
-    ((hops : Option (List ℕ)) → MatchOption hops (NoneTotals reach offers) (AreBestHops reach offers n) → MatchOption hops none some) →
-    IfOk r (λ found. MatchOption found (NoneTotals reach offers) (IsBestRoute reach offers zone n)) →
-    IfOk r (λ found. MatchOption found none (IsRouteFor (level_reach walks u) 2 (length net) (ForwardsBy some)))
-level_route net walks u zone n reach offers none some r within count same follows is =
+reach_in : (net : Network) (level : Level) (walks : LevelWalks) (u : ℕ) → AreLevelWalks net walks → u < length net →
+    IsReachIn net (zone_in level) u (level_reach walks u (zone_number level))
+reach_in net One walks u are within = reach_of net ZoneOne walks.one u are.one within
+reach_in net Two walks u are within = reach_of net ZoneTwo walks.two u are.two within
+
+below_two : (level : Level) → zone_number level < 2
+below_two One = omega arith
+below_two Two = omega arith
+
+-- offers that aren't large are in range
+pub small_in_range : (net : Network) (level : Level) (walks : LevelWalks) (u : ℕ) (reach : Reach) (offers : List Offer) → AreLevelWalks net walks →
+    u < length net →
+    reach ≡ level_reach walks u (zone_number level) → AreSmall offers → AreInRange reach offers
+small_in_range net level walks u reach offers are within is small =
+    subst (λ (r : Reach). AreInRange r offers) (sym is)
+    (offers_in_range (level_reach walks u (zone_number level)) (ListsOffer offers) offers (reach_in net level walks u are within).near
+    (λ at asks. (λ l. l, λ l. l)) small)
+
+-- the best total is the best cost of the listed offers
+pub listed_cost : (net : Network) (level : Level) (walks : LevelWalks) (u : ℕ) (reach : Reach) (offers : List Offer) → AreLevelWalks net walks →
+    u < length net →
+    reach ≡ level_reach walks u (zone_number level) → (found : Option ℕ) → MatchOption found (NoneTotals reach offers) (IsBestTotal reach offers) →
+    (cost : ℕ) → (found ≡ Some cost) ↔ BestCost (Adjacent net (zone_in level)) (ListsOffer offers) u cost
+listed_cost net level walks u reach offers are within is found best =
+    best_cost_is (Adjacent net (zone_in level)) u reach (ListsOffer offers) offers
+    (subst (AreLeastWalks (Adjacent net (zone_in level)) u) (sym is) (reach_in net level walks u are within).least)
+    (λ at asks. (λ l. l, λ l. l)) found best
+
+-- the hops towards the best total are those of the best of the listed offers
+listed_hops : (net : Network) (zone : Zone) (u n : ℕ) (reach : Reach) (offers : List Offer) → AreLeastWalks (Adjacent net zone) u reach → n ≡ length net →
+    (hops : Option (List ℕ)) → MatchOption hops (NoneTotals reach offers) (AreBestHops reach offers n) →
+    MatchOption hops (HasBest (Adjacent net zone) (ListsOffer offers) u → ⊥) (IsRouteToBest (Adjacent net zone) (ListsOffer offers) u)
+listed_hops net zone u n reach offers walks count None none = λ has.
+    none_totals_no_best (Adjacent net zone) u reach (ListsOffer offers) offers walks (λ at asks. (λ l. l, λ l. l)) none has.cost has.best
+listed_hops net zone u n reach offers walks count (Some hops) best = record {
+  is = record {
+    cost = best.cost;
+    best = (best_total_is_best_cost (Adjacent net zone) u reach (ListsOffer offers) offers best.cost walks (λ at asks. (λ l. l, λ l. l))).0 best.best;
+  };
+  hops_are = best_hops_are (Adjacent net zone) u reach (ListsOffer offers) offers n hops walks (λ at asks. (λ l. l, λ l. l))
+      (λ h c over. subst (λ (m : ℕ). h < m) (sym count) (Adjacent-to_within net zone u h c over)) best;
+}
+
+-- and so is the route to it
+pub listed_route : {E : Type 0} (net : Network) (level : Level) (walks : LevelWalks) (u n : ℕ) (reach : Reach) (offers : List Offer)
+    (r : Result (Option Route) E) → AreLevelWalks net walks → u < length net → n ≡ length net → reach ≡ level_reach walks u (zone_number level) →
+    IfOk r (λ found. MatchOption found (NoneTotals reach offers) (IsBestRoute reach offers (zone_number level) n)) →
+    IfOk r (λ found. MatchOption found (HasBest (Adjacent net (zone_in level)) (ListsOffer offers) u → ⊥)
+    (IsRouteFor (level_reach walks u) 2 (length net) (ForwardsBy (IsRouteToBest (Adjacent net (zone_in level)) (ListsOffer offers) u))))
+listed_route net level walks u n reach offers r are within count is found =
+    let none : Type 0 = HasBest (Adjacent net (zone_in level)) (ListsOffer offers) u → ⊥ in
+    let some : List ℕ → Type 0 = IsRouteToBest (Adjacent net (zone_in level)) (ListsOffer offers) u in
     subst (λ (m : ℕ). IfOk r (λ found. MatchOption found none (IsRouteFor (level_reach walks u) 2 m (ForwardsBy some)))) count
     (IfOk-weaker r
-    (λ found. MatchOption found (NoneTotals reach offers) (IsBestRoute reach offers zone n))
+    (λ found. MatchOption found (NoneTotals reach offers) (IsBestRoute reach offers (zone_number level) n))
     (λ found. MatchOption found none (IsRouteFor (level_reach walks u) 2 n (ForwardsBy some)))
-    (λ found best. best_route_is (level_reach walks u) 2 n zone reach offers none some within same follows found best) is)
+    (λ found best. best_route_is (level_reach walks u) 2 n (zone_number level) reach offers none some (below_two level) (sym is)
+    (listed_hops net (zone_in level) u n reach offers
+    (subst (AreLeastWalks (Adjacent net (zone_in level)) u) (sym is) (reach_in net level walks u are within).least) count) found best) found)

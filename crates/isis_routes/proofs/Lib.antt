@@ -1,5 +1,6 @@
 mod OfferLists
 mod CostBounds
+mod LevelRoutes
 mod BestRoutes
 mod Announced
 mod AreaFacts
@@ -9,4 +10,5 @@ mod LeakedOffers
 mod DestinationFacts
 mod ProtocolFacts
 mod HomeFacts
-mod LevelRoutes
+mod RunFacts
+mod AlikeFacts

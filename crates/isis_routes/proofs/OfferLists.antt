@@ -1,201 +1,136 @@
 -- Lists of offers, router by router.
-use Rattle.std.proofs.Common.{◌≡◌, ℕ, ◌+◌, ◌<◌, ◌↔◌, ◌⊎◌, inl, inr, ⊎_elim, List, [], ◌∷◌, ◌++◌, length, Some, Bool, true, false, ◌==◌, suc, refl, sym, ap, subst, ◌∙◌, arith}
+use Rattle.std.proofs.Common.{◌≡◌, ℕ, ◌+◌, ◌<◌, ◌≤◌, ◌↔◌, List, [], ◌∷◌, ◌++◌, length, take, get_or, Option, Some, None, refl, sym, ap, subst, ◌∙◌}
 use Rattle.std.specs.List.{Any, Contains}
-use Rattle.std.proofs.lemmas.Bool.{cases_lt, eqb-true}
-use Rattle.std.proofs.lemmas.List.Elements.{Contains-append_left, Contains-push, Contains-push_cases}
-use Rattle.std.proofs.lemmas.Option.{slice_get_within}
+use Rattle.std.proofs.lemmas.Option.{none-some, same_Some}
+use Rattle.std.proofs.lemmas.List.{get_or_default}
 use Rattle.net_addr.specs.Addresses.{Block}
-use Rattle.net_model.proofs.Members.{Contains-first}
-use Rattle.route_tables.proofs.ListFacts.{any_of}
+use Rattle.net_model.proofs.Adjacency.{HasConfiguration-unique}
 use Rattle.net_model.specs.Configuration.{Configuration}
 use Rattle.net_model.specs.Network.{Network, HasConfiguration}
 use Rattle.net_model.specs.declared.interface.Interface.{Interface}
 use Rattle.walk_core.specs.Offers.{Offers}
-use Rattle.walk_core.specs.BestOffers.{ListsOffer}
 use Rattle.walk_core.specs.declared.offers.Offer.{Offer}
-use Rattle.isis_routes.specs.steps.Offered.{Asks, AskedBy, OffersIn, AddsOffers, AreOffers, AreOffersBelow, others_than}
+use Rattle.route_tables.specs.Lists.{Adds, Exactly}
+use Rattle.route_tables.proofs.ListFacts.{Found, adds_end, adds_more, adds_nothing, adds_one, adds_same, adds_start, any_in, any_of, exactly_added}
+use Rattle.isis_routes.specs.steps.Offered.{AsksIn, OffersIn, HoldsOffers, IsOffer, IsOfferOf, AddsOffers}
 use Rattle.isis_routes.specs.declared.level.Level.{Level}
 use Rattle.isis_routes.specs.declared.level.Level.TheVariants.{One, Two}
 
--- One more offer
+-- The offers of a router
 
-lists_kept : (xs : List Offer) (o : Offer) (at asks : ℕ) → ListsOffer xs at asks → ListsOffer (xs ++ o ∷ []) at asks
-lists_kept xs o at asks l = record { offer = l.offer; among = Contains-append_left xs (o ∷ []) l.offer l.among; made = l.made; asked = l.asked }
+-- what asks the same adds the same
+pub offers_same : (old new : List Offer) (w : ℕ) (one other : ℕ → Type 0) → AddsOffers old new w one → ((c : ℕ) → one c ↔ other c) → AddsOffers old new w other
+offers_same old new w one other adds same =
+    adds_same old new (IsOffer w one) (IsOffer w other) adds
+    (λ o. (λ is. record { at = is.at; asks = (same o.asks).0 is.asks }, λ is. record { at = is.at; asks = (same o.asks).1 is.asks }))
 
-lists_push : (xs : List Offer) (o : Offer) → ListsOffer (xs ++ o ∷ []) o.at o.asks
-lists_push xs o = record { offer = o; among = Contains-push xs o; made = refl; asked = refl }
+pub no_offers : (old : List Offer) (w : ℕ) (asked : ℕ → Type 0) → ((c : ℕ) → asked c → ⊥) → AddsOffers old old w asked
+no_offers old w asked none = adds_nothing old (IsOffer w asked) (λ o is. none o.asks is.asks)
 
-lists_cases : (xs : List Offer) (o : Offer) (at asks : ℕ) → ListsOffer (xs ++ o ∷ []) at asks → ListsOffer xs at asks ⊎ ((o.at ≡ at) × (o.asks ≡ asks))
-lists_cases xs o at asks l = elim (Contains-push_cases xs o l.offer l.among) [
-  | inl among ↦ inl (record { offer = l.offer; among = among; made = l.made; asked = l.asked })
-  | inr same ↦ inr (ap (λ (x : Offer). x.at) same ∙ l.made, ap (λ (x : Offer). x.asks) same ∙ l.asked)
-]
+made_of : (w asks : ℕ) (o : Offer) → o.at ≡ w → asks ≡ o.asks → ◌≡◌ {A = Offer} (record { at = w; asks = asks }) o
+made_of w asks o at same =
+    ap (λ (k : ℕ). let x : Offer = record { at = k; asks = asks } in x) (sym at)
+    ∙ ap (λ (k : ℕ). let x : Offer = record { at = o.at; asks = k } in x) same
 
-lists_none : (at asks : ℕ) → ListsOffer [] at asks → {A : Type 0} → A
-lists_none at asks l = absurd (omega (arith, l.among.1))
+-- a cost that there is, and none
+pub cost_added : (old : List Offer) (w asks : ℕ) → AddsOffers old (old ++ record { at = w; asks = asks } ∷ []) w (λ k. Some asks ≡ Some k)
+cost_added old w asks =
+    let new : Offer = record { at = w; asks = asks } in
+    adds_same old (old ++ new ∷ []) (λ o. new ≡ o) (IsOffer w (λ k. Some asks ≡ Some k)) (adds_one old new)
+    (λ o. (
+      λ same. record { at = sym (ap (λ (x : Offer). x.at) same); asks = ap (λ (x : Offer). Some x.asks) same },
+      λ is. made_of w asks o is.at (same_Some asks o.asks is.asks),
+    ))
 
--- What is added
-
--- nothing more is asked, so nothing more is added
-pub adds_same : (old new : List Offer) (w : ℕ) (before after : ℕ → Type 0) → AddsOffers old new w before → ((c : ℕ) → before c ↔ after c) →
-    AddsOffers old new w after
-adds_same old new w before after adds same = record {
-  kept = adds.kept;
-  added = λ asks now. adds.added asks ((same asks).1 now);
-  nothing_else = λ at asks l. ⊎_elim inl (λ more. inr (more.0, (same asks).0 more.1)) (adds.nothing_else at asks l);
-}
-
-pub adds_nothing : (old : List Offer) (w : ℕ) (asked : ℕ → Type 0) → ((c : ℕ) → asked c → ⊥) → AddsOffers old old w asked
-adds_nothing old w asked none = record {
-  kept = λ at asks l. l;
-  added = λ asks now. absurd (none asks now);
-  nothing_else = λ at asks l. inl l;
-}
-
--- one more cost is asked
-pub adds_push : (old mid : List Offer) (w asks : ℕ) (before after : ℕ → Type 0) → AddsOffers old mid w before →
-    ((c : ℕ) → after c ↔ (before c ⊎ (c ≡ asks))) → AddsOffers old (mid ++ record { at = w; asks = asks } ∷ []) w after
-adds_push old mid w asks before after adds same =
-    let o : Offer = record { at = w; asks = asks } in
-    record {
-      kept = λ at c l. lists_kept mid o at c (adds.kept at c l);
-      added = λ c now. ⊎_elim
-          (λ earlier. lists_kept mid o w c (adds.added c earlier))
-          (λ here. subst (λ (k : ℕ). ListsOffer (mid ++ o ∷ []) w k) (sym here) (lists_push mid o))
-          ((same c).0 now);
-      nothing_else = λ at c l. ⊎_elim
-          (λ earlier. ⊎_elim inl (λ more. inr (more.0, (same c).1 (inl more.1))) (adds.nothing_else at c earlier))
-          (λ here. inr (sym here.0, (same c).1 (inr (sym here.1))))
-          (lists_cases mid o at c l);
-    }
-
--- what is added first, and what then
-pub adds_both : (old mid new : List Offer) (w : ℕ) (one other both : ℕ → Type 0) → AddsOffers old mid w one → AddsOffers mid new w other →
-    ((c : ℕ) → both c ↔ (one c ⊎ other c)) → AddsOffers old new w both
-adds_both old mid new w one other both first second same = record {
-  kept = λ at c l. second.kept at c (first.kept at c l);
-  added = λ c now. ⊎_elim (λ a. second.kept w c (first.added c a)) (λ b. second.added c b) ((same c).0 now);
-  nothing_else = λ at c l. ⊎_elim
-      (λ earlier. ⊎_elim inl (λ more. inr (more.0, (same c).1 (inl more.1))) (first.nothing_else at c earlier))
-      (λ more. inr (more.0, (same c).1 (inr more.1)))
-      (second.nothing_else at c l);
-}
+pub cost_not_added : (old : List Offer) (w : ℕ) → AddsOffers old old w (λ k. ◌≡◌ {A = Option ℕ} None (Some k))
+cost_not_added old w = no_offers old w (λ k. ◌≡◌ {A = Option ℕ} None (Some k)) (λ k is. none-some k is)
 
 -- Router by router
 
-pub offers_none : (offer : Offers) → AreOffersBelow offer 0 []
-offers_none offer at asks = (λ l. lists_none at asks l, λ o. absurd (omega (arith, o.0)))
+-- one of the routers makes the offer
+abbrev pub GivenBy : Offers → List ℕ → Offer → Type 0
+GivenBy offer routers o = Any (λ (w : ℕ). IsOffer w (offer w) o) routers
 
-pub offers_more : (offer : Offers) (n : ℕ) (old new : List Offer) → AreOffersBelow offer n old → AddsOffers old new n (offer n) →
-    AreOffersBelow offer (n + 1) new
-offers_more offer n old new below adds at asks = (
-  λ l. ⊎_elim
-      (λ earlier. let is = (below at asks).0 earlier in (omega (arith, is.0), is.1))
-      (λ more. let same : at ≡ n = more.0 in (omega arith, subst (λ (k : ℕ). offer k asks) (sym same) more.1))
-      (adds.nothing_else at asks l),
-  λ o. ⊎_elim
-      (λ before. adds.kept at asks ((below at asks).1 (before, o.1)))
-      (λ last. let same : at ≡ n = last in
-      subst (λ (k : ℕ). ListsOffer new k asks) (sym same) (adds.added asks (subst (λ (k : ℕ). offer k asks) same o.1)))
-      (at_most at n o.0),
+pub given_start : (offer : Offers) (old : List Offer) (routers : List ℕ) → Adds old old (GivenBy offer (take 0 routers))
+given_start offer old routers = adds_start (λ (o : Offer) (w : ℕ). IsOffer w (offer w) o) old routers
+
+-- one more router
+pub given_more : (offer : Offers) (old mid new : List Offer) (routers : List ℕ) (i : ℕ) → i < length routers → Adds old mid (GivenBy offer (take i routers)) →
+    AddsOffers mid new (get_or routers i 0) (offer (get_or routers i 0)) → Adds old new (GivenBy offer (take (i + 1) routers))
+given_more offer old mid new routers i within before adds =
+    adds_more (λ (o : Offer) (w : ℕ). IsOffer w (offer w) o) old mid new routers i (get_or routers i 0) within
+    (get_or_default routers i 0 (get_or routers i 0) within) before adds
+
+-- what all routers give is all, where only these offer something
+pub given_end : (offer : Offers) (old new : List Offer) (routers : List ℕ) (i : ℕ) → length routers ≤ i → ((b c : ℕ) → offer b c → Contains routers b) →
+    Adds old new (GivenBy offer (take i routers)) → Adds old new (IsOfferOf offer)
+given_end offer old new routers i past there adds =
+    adds_same old new (GivenBy offer routers) (IsOfferOf offer)
+    (adds_end (λ (o : Offer) (w : ℕ). IsOffer w (offer w) o) old new routers i past adds)
+    (λ o. (
+      λ any. let f = any_in (λ (w : ℕ). IsOffer w (offer w) o) routers any in subst (λ (k : ℕ). offer k o.asks) (sym f.holds.at) f.holds.asks,
+      λ is. any_of (λ (w : ℕ). IsOffer w (offer w) o) routers o.at (there o.at o.asks is) (record { at = refl; asks = is }),
+    ))
+
+-- a list with exactly these offers holds them
+pub holds_all : (offer : Offers) (offers : List Offer) → Exactly (IsOfferOf offer) offers → HoldsOffers offer offers
+holds_all offer offers are at asks = (
+  λ l. subst (λ (k : ℕ). offer at k) l.asked (subst (λ (k : ℕ). offer k l.offer.asks) l.made ((are l.offer).0 l.among)),
+  λ is. let o : Offer = record { at = at; asks = asks } in record { offer = o; among = (are o).1 is; made = refl; asked = refl },
 )
-  where
-    at_most : (k m : ℕ) → k < m + 1 → (k < m) ⊎ (k ≡ m)
-    at_most k m h = elim (cases_lt k m) [ inl less ↦ inl less | inr more ↦ inr (omega arith) ]
 
-pub offers_all : (offer : Offers) (n : ℕ) (xs : List Offer) → AreOffersBelow offer n xs → ((at asks : ℕ) → offer at asks → at < n) → AreOffers offer xs
-offers_all offer n xs below within at asks =
-    (λ l. ((below at asks).0 l).1, λ o. (below at asks).1 (within at asks o, o))
+pub holds_given : (offer : Offers) (old new : List Offer) (routers : List ℕ) (i : ℕ) → old ≡ [] → length routers ≤ i →
+    ((b c : ℕ) → offer b c → Contains routers b) → Adds old new (GivenBy offer (take i routers)) → HoldsOffers offer new
+holds_given offer old new routers i empty past there adds =
+    holds_all offer new (exactly_added old new (IsOfferOf offer) empty (given_end offer old new routers i past there adds))
 
 -- Interfaces
 
-asked_cases : (level : Level) (p : Block) (front : List Interface) (i : Interface) (cost : ℕ) → AskedBy level p (front ++ i ∷ []) cost →
-    AskedBy level p front cost ⊎ Asks level p i cost
-asked_cases level p front i cost asked = elim (Contains-push_cases front i asked.interface asked.among) [
-  | inl among ↦ inl (record { interface = asked.interface; among = among; asks = asked.asks })
-  | inr same ↦ inr (subst (λ (x : Interface). Asks level p x cost) (sym same) asked.asks)
-]
-
-asked_kept : (level : Level) (p : Block) (front : List Interface) (i : Interface) (cost : ℕ) → AskedBy level p front cost →
-    AskedBy level p (front ++ i ∷ []) cost
-asked_kept level p front i cost asked =
-    record { interface = asked.interface; among = Contains-append_left front (i ∷ []) asked.interface asked.among; asks = asked.asks }
-
-asked_here : (level : Level) (p : Block) (front : List Interface) (i : Interface) (cost : ℕ) → Asks level p i cost → AskedBy level p (front ++ i ∷ []) cost
-asked_here level p front i cost asks = record { interface = i; among = Contains-push front i; asks = asks }
-
--- one more interface, which asks this
-pub asked_more : (level : Level) (p : Block) (front : List Interface) (i : Interface) (old mid : List Offer) (w asks : ℕ) →
-    AddsOffers old mid w (AskedBy level p front) → Asks level p i asks →
-    AddsOffers old (mid ++ record { at = w; asks = asks } ∷ []) w (AskedBy level p (front ++ i ∷ []))
-asked_more level p front i old mid w asks adds here =
-    adds_push old mid w asks (AskedBy level p front) (AskedBy level p (front ++ i ∷ [])) adds
-    (λ c. (
-      λ now. ⊎_elim inl (λ also. inr (sym also.costs ∙ here.costs)) (asked_cases level p front i c now),
-      λ either. ⊎_elim (asked_kept level p front i c)
-          (λ same. asked_here level p front i c (subst (λ (k : ℕ). Asks level p i k) (sym same) here)) either,
-    ))
-
--- one more interface, which asks nothing
-pub asked_no_more : (level : Level) (p : Block) (front : List Interface) (i : Interface) (old mid : List Offer) (w : ℕ) →
-    AddsOffers old mid w (AskedBy level p front) → ((c : ℕ) → Asks level p i c → ⊥) →
-    AddsOffers old mid w (AskedBy level p (front ++ i ∷ []))
-asked_no_more level p front i old mid w adds none =
-    adds_same old mid w (AskedBy level p front) (AskedBy level p (front ++ i ∷ [])) adds
-    (λ c. (asked_kept level p front i c, λ now. ⊎_elim (λ earlier. earlier) (λ here. absurd (none c here)) (asked_cases level p front i c now)))
-
-pub asked_none : (level : Level) (p : Block) (old : List Offer) (w : ℕ) → AddsOffers old old w (AskedBy level p [])
-asked_none level p old w = adds_nothing old w (AskedBy level p []) (λ c asked. absurd (omega (arith, asked.among.1)))
-
--- one configuration for a router
-same_config : (net : Network) (w : ℕ) (c d : Configuration) → HasConfiguration net w c → HasConfiguration net w d → c ≡ d
-same_config net w c d one other = let e : Some c ≡ Some d = sym one ∙ other in cc
-
-pub asked_is_offered : (net : Network) (level : Level) (p : Block) (w : ℕ) (config : Configuration) → HasConfiguration net w config → (cost : ℕ) →
-    AskedBy level p config.interfaces cost → OffersIn net level p w cost
-asked_is_offered net One p w config router cost asked = record {
-  interface = asked.interface;
-  up = record { config = config; router = router; among = asked.among; up = asked.asks.up };
-  subnet = asked.asks.subnet;
-  level = asked.asks.runs;
-  costs = asked.asks.costs;
+offered_by : (net : Network) (level : Level) (p : Block) (w : ℕ) (config : Configuration) (i : Interface) (cost : ℕ) → HasConfiguration net w config →
+    Contains config.interfaces i → AsksIn level p i cost → OffersIn net level p w cost
+offered_by net One p w config i cost router among asks = record {
+  interface = i;
+  up = record { config = config; router = router; among = among; up = asks.up };
+  subnet = asks.subnet;
+  level = asks.runs;
+  costs = asks.costs;
 }
-asked_is_offered net Two p w config router cost asked = record {
-  interface = asked.interface;
-  up = record { config = config; router = router; among = asked.among; up = asked.asks.up };
-  subnet = asked.asks.subnet;
-  level = asked.asks.runs;
-  costs = asked.asks.costs;
+offered_by net Two p w config i cost router among asks = record {
+  interface = i;
+  up = record { config = config; router = router; among = among; up = asks.up };
+  subnet = asks.subnet;
+  level = asks.runs;
+  costs = asks.costs;
 }
 
-pub offered_is_asked : (net : Network) (level : Level) (p : Block) (w : ℕ) (config : Configuration) → HasConfiguration net w config → (cost : ℕ) →
-    OffersIn net level p w cost → AskedBy level p config.interfaces cost
-offered_is_asked net One p w config router cost offers = record {
-  interface = offers.interface;
-  among = subst (λ (c : Configuration). Contains c.interfaces offers.interface) (same_config net w offers.up.config config offers.up.router router)
-      offers.up.among;
-  asks = record { up = offers.up.up; subnet = offers.subnet; runs = offers.level; costs = offers.costs };
+offering : (net : Network) (level : Level) (p : Block) (w : ℕ) (config : Configuration) (cost : ℕ) → HasConfiguration net w config →
+    OffersIn net level p w cost → Found (λ (i : Interface). AsksIn level p i cost) config.interfaces
+offering net One p w config cost router offers = record {
+  item = offers.interface;
+  among = subst (λ (c : Configuration). Contains c.interfaces offers.interface)
+      (HasConfiguration-unique net w offers.up.config config offers.up.router router) offers.up.among;
+  holds = record { up = offers.up.up; subnet = offers.subnet; runs = offers.level; costs = offers.costs };
 }
-offered_is_asked net Two p w config router cost offers = record {
-  interface = offers.interface;
-  among = subst (λ (c : Configuration). Contains c.interfaces offers.interface) (same_config net w offers.up.config config offers.up.router router)
-      offers.up.among;
-  asks = record { up = offers.up.up; subnet = offers.subnet; runs = offers.level; costs = offers.costs };
+offering net Two p w config cost router offers = record {
+  item = offers.interface;
+  among = subst (λ (c : Configuration). Contains c.interfaces offers.interface)
+      (HasConfiguration-unique net w offers.up.config config offers.up.router router) offers.up.among;
+  holds = record { up = offers.up.up; subnet = offers.subnet; runs = offers.level; costs = offers.costs };
 }
 
--- who offers is a router
-pub offered_at_router : (net : Network) (level : Level) (p : Block) (w cost : ℕ) → OffersIn net level p w cost → w < length net
-offered_at_router net One p w cost offers = slice_get_within net w offers.up.config offers.up.router
-offered_at_router net Two p w cost offers = slice_get_within net w offers.up.config offers.up.router
-
--- Offers of others
-
--- where a router makes none of the offers, none is left out
-pub none_to_leave_out : (u : ℕ) (offers : List Offer) → (Any (λ (o : Offer). o.at ≡ u) offers → ⊥) → others_than u offers ≡ offers
-none_to_leave_out u [] none = refl
-none_to_leave_out u (o ∷ rest) none =
-    go (o.at == u) refl (none_to_leave_out u rest (λ any. none (suc any.0, any.1, omega (arith, any.2), any.3, any.4)))
-  where
-    go : (b : Bool) → (o.at == u) ≡ b → others_than u rest ≡ rest → others_than u (o ∷ rest) ≡ o ∷ rest
-    go true is kept = absurd (none (any_of (λ (x : Offer). x.at ≡ u) (o ∷ rest) o (Contains-first o rest) (eqb-true o.at u is)))
-    go false is kept = rw is (ap (λ (l : List Offer). o ∷ l) kept)
+-- what the interfaces of a router ask is what it offers
+pub router_offers : (net : Network) (level : Level) (p : Block) (w : ℕ) (config : Configuration) (given : List Interface) → HasConfiguration net w config →
+    given ≡ config.interfaces → (o : Offer) →
+    Any (λ (i : Interface). IsOffer w (AsksIn level p i) o) given ↔ IsOffer w (OffersIn net level p w) o
+router_offers net level p w config given router are o = (
+  λ any.
+      let f = any_in (λ (i : Interface). IsOffer w (AsksIn level p i) o) given any in
+      record {
+        at = f.holds.at;
+        asks = offered_by net level p w config f.item o.asks router (subst (λ (l : List Interface). Contains l f.item) are f.among) f.holds.asks;
+      },
+  λ is.
+      let f = offering net level p w config o.asks router is.asks in
+      any_of (λ (i : Interface). IsOffer w (AsksIn level p i) o) given f.item (subst (λ (l : List Interface). Contains l f.item) (sym are) f.among)
+      (record { at = is.at; asks = f.holds }),
+)

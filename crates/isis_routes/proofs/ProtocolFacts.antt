@@ -36,11 +36,11 @@ pub neighbor_by_two : (net : Network) (u v : ℕ) (one two : Option ℕ) →
     MatchOption one ((c : ℕ) → Adjacent net ZoneOne u v c → ⊥) (LeastArc net ZoneOne u v) → is_some one ≡ false →
     MatchOption two ((c : ℕ) → Adjacent net ZoneTwo u v c → ⊥) (LeastArc net ZoneTwo u v) → IsTrue (is_some two) ↔ IsIsisNeighbor net u v
 neighbor_by_two net u v (Some c) two least wrong found = absurd (false≢true (sym wrong))
-neighbor_by_two net u v None None no_one _ no_two = (
+neighbor_by_two net u v None None without_level_one _ no_two = (
   λ yes. absurd (false≢true yes),
-  λ is. elim is.adjacent [ inl one ↦ absurd (no_one is.cost one) | inr two ↦ absurd (no_two is.cost two) ],
+  λ is. elim is.adjacent [ inl one ↦ absurd (without_level_one is.cost one) | inr two ↦ absurd (no_two is.cost two) ],
 )
-neighbor_by_two net u v None (Some c) no_one _ least = (λ _. record { cost = c; adjacent = inr least.adjacent }, λ _. refl)
+neighbor_by_two net u v None (Some c) without_level_one _ least = (λ _. record { cost = c; adjacent = inr least.adjacent }, λ _. refl)
 
 -- Entries
 

@@ -1,3 +1,4 @@
+pub mod Levels
 pub mod Homes
 pub mod Offered
 pub mod Attached
@@ -5,3 +6,6 @@ pub mod Candidates
 pub mod Routing
 pub mod LevelReach
 pub mod Domain
+pub mod Destinations
+pub mod Alike
+pub mod Isis

@@ -1,58 +1,83 @@
 ghost use Rattle.std.specs.Prelude.{◌<◌, length, IfOk, OnOk};
-ghost use Rattle.net_model.specs.declared.zone.Zone.TheVariants.{One as ZoneOne};
-ghost use Rattle.igp_theory.specs.Isis.{OffersOne, LevelTwoAnnouncement};
-ghost use Rattle.zone_graph.specs.Walks.{AreZoneWalks};
+ghost use Rattle.igp_theory.specs.Isis.{LevelTwoAnnouncement};
+ghost use Rattle.route_tables.specs.Lists.{Adds, Exactly};
+ghost use Rattle.isis_routes.specs.steps.Destinations.{IsLevelOne};
 ghost use Rattle.isis_routes.specs.steps.Homes.{AreRoutersAt};
-ghost use Rattle.isis_routes.specs.steps.Offered.{AddsOffers, AreOffers};
+ghost use Rattle.isis_routes.specs.steps.Offered.{AddsOffers, HoldsOffers, IsOfferOf, LevelOneAnnouncement, OwnAnnouncement};
+ghost use Rattle.isis_routes.specs.steps.Routing.{RunsBothLevels};
 
 use crate::OutOfMemory;
+use crate::domain::Domain;
 use crate::level::Level;
 use crate::level_one::LevelOne;
 use crate::offers::{push_cost, push_router_offers};
-use crate::runs::runs_two;
+use crate::runs::runs_level_two;
+use net_addr::Prefix;
 use net_model::Net;
 use std::alloc::Global;
 use walk_core::Offer;
-use zone_graph::ZoneWalks;
 
-/// What is announced into level 2 of a prefix, which is connected at these routers (RFC 1195, section 3.2).
+/// What is announced of a prefix into level 2 (RFC 1195, section 3.2): by the routers at which it is connected their
+/// own level 2 subnets, and by those of both levels what they reach by level 1.
 pub fn announcements(
     alloc: Global,
-    net: &Net,
-    walks: &ZoneWalks,
+    domain: &Domain<'_>,
     one: &LevelOne,
+) -> Result<Vec<Offer>, OutOfMemory>
+    requires { IsLevelOne domain.now.net one.now }
+    ensures { IfOk result (λ offers. HoldsOffers (LevelTwoAnnouncement domain.now.net one.now.dest) offers.items) }
+{
+    let mut offers = own_subnets(alloc, domain.net(), one.dest, one.homes.as_slice())?;
+    push_level_one(&mut offers, domain, one, domain.both())?;
+    Ok(offers)
+}
+
+/// What routers announce of a prefix that is their own level 2 subnet.
+fn own_subnets(
+    alloc: Global,
+    net: &Net,
+    dest: Prefix,
     homes: &[u32],
 ) -> Result<Vec<Offer>, OutOfMemory>
-    requires homes { AreRoutersAt net.now one.now.dest homes.now }
-    requires walks { AreZoneWalks net.now ZoneOne walks.now }
-    requires offers { AreOffers (OffersOne net.now one.now.dest) one.now.offers.items }
-    ensures { IfOk result (λ offers. AreOffers (LevelTwoAnnouncement net.now one.now.dest) offers.items) }
+    requires { AreRoutersAt net.now dest homes.now }
+    ensures { IfOk result (λ offers. Exactly (IsOfferOf (OwnAnnouncement net.now dest)) offers.items) }
 {
     let mut offers = Vec::new(alloc);
-    for router in 0..net.routers() {
-        push_announcements(&mut offers, net, walks, one, homes, router)?;
+    for router in homes {
+        push_own_subnets(&mut offers, net, dest, *router)?;
     }
     Ok(offers)
 }
 
-/// Adds what a router announces: its own level 2 subnets, and what it reaches by level 1.
-fn push_announcements(
+/// Adds what a router announces of its own level 2 subnets.
+fn push_own_subnets(
     offers: &mut Vec<Offer>,
     net: &Net,
-    walks: &ZoneWalks,
-    one: &LevelOne,
-    homes: &[u32],
+    dest: Prefix,
     router: u32,
 ) -> Result<(), OutOfMemory>
-    requires homes { AreRoutersAt net.now one.now.dest homes.now }
-    requires router { router < length net.now }
-    requires walks { AreZoneWalks net.now ZoneOne walks.now }
-    requires offers { AreOffers (OffersOne net.now one.now.dest) one.now.offers.items }
-    ensures { OnOk result (AddsOffers offers.old.items offers.new.items router (LevelTwoAnnouncement net.now one.now.dest router)) }
+    requires { router < length net.now }
+    ensures { OnOk result (AddsOffers offers.old.items offers.new.items router (OwnAnnouncement net.now dest router)) }
 {
-    if !runs_two(net, router) {
+    if !runs_level_two(net, router) {
         return Ok(());
     }
-    push_router_offers(offers, net, Level::Two, one.dest, homes, router)?;
-    push_cost(offers, router, one.cost(net, walks, router))
+    push_router_offers(offers, net, Level::Two, dest, router)
+}
+
+/// Adds what the routers of both levels reach by level 1.
+fn push_level_one(
+    offers: &mut Vec<Offer>,
+    domain: &Domain<'_>,
+    one: &LevelOne,
+    both: &[u32],
+) -> Result<(), OutOfMemory>
+    requires one { IsLevelOne domain.now.net one.now }
+    requires both { Exactly (RunsBothLevels domain.now.net) both.now }
+    ensures { OnOk result (Adds offers.old.items offers.new.items (IsOfferOf (LevelOneAnnouncement domain.now.net one.now.dest))) }
+{
+    for router in both {
+        push_cost(offers, *router, one.cost(domain, *router))?;
+    }
+    Ok(())
 }

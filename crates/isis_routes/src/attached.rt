@@ -1,45 +1,49 @@
-ghost use Rattle.std.specs.Prelude.{◌≡◌, ◌<◌, ◌↔◌, ℕ, length, IfOk, IsTrue};
+ghost use Rattle.std.specs.Prelude.{◌≡◌, ◌<◌, ◌↔◌, ℕ, length, Some, IfOk, IsTrue};
 ghost use Rattle.net_model.specs.declared.zone.Zone.TheVariants.{Two as ZoneTwo};
-ghost use Rattle.igp_theory.specs.Isis.{IsAttached, OffersDefault};
+ghost use Rattle.igp_theory.specs.Isis.{OffersDefault};
+ghost use Rattle.route_tables.specs.Lists.{Exactly};
 ghost use Rattle.zone_graph.specs.Walks.{AreZoneWalks};
 ghost use Rattle.isis_routes.specs.steps.Attached.{LeavesArea, LeadsOutside};
-ghost use Rattle.isis_routes.specs.steps.Offered.{AreOffers};
+ghost use Rattle.isis_routes.specs.steps.Offered.{HoldsOffers};
+ghost use Rattle.isis_routes.specs.steps.Routing.{RunsBothLevels};
 
 use crate::OutOfMemory;
-use crate::runs::{runs_one, runs_two};
+use crate::offers::push_cost;
 use net_model::{Config, Net};
 use std::alloc::Global;
 use walk_core::Offer;
 use zone_graph::ZoneWalks;
 
-/// The attached routers, each as an offer of all addresses at no cost (RFC 1195, section 3.2).
+/// The attached routers, all of which run both levels, each as an offer of all addresses at no cost (RFC 1195,
+/// section 3.2).
 pub fn attached_routers(
     alloc: Global,
     net: &Net,
     walks: &ZoneWalks,
+    both: &[u32],
 ) -> Result<Vec<Offer>, OutOfMemory>
-    requires { AreZoneWalks net.now ZoneTwo walks.now }
-    ensures { IfOk result (λ offers. AreOffers (OffersDefault net.now) offers.items) }
+    requires walks { AreZoneWalks net.now ZoneTwo walks.now }
+    requires both { Exactly (RunsBothLevels net.now) both.now }
+    ensures { IfOk result (λ offers. HoldsOffers (OffersDefault net.now) offers.items) }
 {
     let mut offers = Vec::new(alloc);
-    for router in 0..net.routers() {
-        if is_attached(net, walks, router) {
-            offers.push(Offer {
-                at: router,
-                asks: 0,
-            })?;
-        }
+    for router in both {
+        push_cost(&mut offers, *router, default_cost(net, walks, *router))?;
     }
     Ok(offers)
 }
 
-/// Whether the router runs both levels and reaches a router of another area by level 2.
-fn is_attached(net: &Net, walks: &ZoneWalks, router: u32) -> bool
-    requires router { router < length net.now }
+/// What a router of both levels asks of all addresses: nothing, where it reaches a router of another area by level 2.
+fn default_cost(net: &Net, walks: &ZoneWalks, router: u32) -> Option<u64>
+    requires router { RunsBothLevels net.now router }
     requires walks { AreZoneWalks net.now ZoneTwo walks.now }
-    ensures { IsTrue result ↔ IsAttached net.now router }
+    ensures { (cost : ℕ) → (result ≡ Some cost) ↔ OffersDefault net.now router cost }
 {
-    runs_one(net, router) && runs_two(net, router) && leaves_area(net, walks, router)
+    if leaves_area(net, walks, router) {
+        Some(0)
+    } else {
+        None
+    }
 }
 
 /// Whether level 2 leads from the router to a router of another area.

@@ -1,110 +1,171 @@
-ghost use Rattle.std.specs.Prelude.{◌≡◌, All, IfOk};
-ghost use Rattle.isis_routes.specs.steps.Domain.{AreAnnounced, AreDestinations, IsDomain, dests_of};
-ghost use Rattle.isis_routes.specs.steps.Homes.{AreRoutersAt};
-ghost use Rattle.isis_routes.specs.steps.Routing.{AreLevelWalks};
+ghost use Rattle.std.specs.Prelude.{◌≡◌, ◌<◌, ◌↔◌, ℕ, length, Some, IfOk, IsTrue, MatchOption};
+ghost use Rattle.net_model.specs.Network.{Adjacent};
+ghost use Rattle.walk_core.specs.BestOffers.{ListsOffer};
+ghost use Rattle.walk_core.specs.Offers.{BestCost};
+ghost use Rattle.igp_theory.specs.Isis.{Leaks, OffersDefault, RunsLevelOne, RunsLevelTwo};
+ghost use Rattle.igp_theory.specs.Laws.{IsIsisNeighbor};
+ghost use Rattle.route_tables.specs.Lists.{Exactly};
+ghost use Rattle.route_tables.specs.Routings.{ForwardsBy, IsRouteFor};
+ghost use Rattle.isis_routes.specs.steps.Domain.{IsKnown};
+ghost use Rattle.isis_routes.specs.steps.LevelReach.{level_reach};
+ghost use Rattle.isis_routes.specs.steps.Levels.{zone_in};
+ghost use Rattle.isis_routes.specs.steps.Offered.{AreSmall, HoldsOffers};
+ghost use Rattle.isis_routes.specs.steps.Routing.{HasBest, IsRouteToBest, RunsBothLevels, RunsLevelOneAlone};
 
 use crate::OutOfMemory;
-use crate::announcements::announcements;
 use crate::attached::attached_routers;
-use crate::candidates::candidates_of;
-use crate::homes::{all_homes, routers_at};
-use crate::leaked::down_announcements;
-use crate::level_one::LevelOne;
+use crate::level::Level;
 use crate::level_walks::LevelWalks;
-use net_addr::Prefix;
-use net_model::Net;
+use crate::runs::{
+    leaking_routers, routers_of_both_levels, runs_level_one, runs_level_one_alone, runs_level_two,
+};
+use net_model::{Net, Zone};
+use route_tables::{Route, best_route};
 use std::alloc::Global;
-use walk_core::Offer;
+use std::marker::Model;
+use walk_core::{LeastWalks, Offer};
 
-/// What both levels know of a prefix.
-#[derive(Debug, Drop)]
-pub struct Destination {
-    /// What level 1 offers of it.
-    pub one: LevelOne,
-    /// What is announced of it into level 2.
-    pub two: Vec<Offer>,
-    /// What is announced of it into level 1, marked down.
-    pub down: Vec<Offer>,
+/// A network, and what its routers know by IS-IS before any prefix.
+#[derive(Drop)]
+pub struct Domain<'a> {
+    net: &'a Net,
+    walks: LevelWalks,
+    both: Vec<u32>,
+    leaking: Vec<u32>,
+    attached: Vec<Offer>,
 }
 
-impl Destination {
-    /// What both levels know of a prefix, which is connected at these routers.
-    pub fn build(
-        alloc: Global,
-        net: &Net,
-        walks: &LevelWalks,
-        dest: Prefix,
-        homes: &[u32],
-    ) -> Result<Destination, OutOfMemory>
-        requires walks { AreLevelWalks net.now walks.now }
-        requires homes { AreRoutersAt net.now dest homes.now }
-        ensures dest { IfOk result (λ d. d.one.dest ≡ dest) }
-        ensures announced { IfOk result (λ d. AreAnnounced net.now d) }
-    {
-        let one = LevelOne::collect(alloc, net, dest, homes)?;
-        let two = announcements(alloc, net, &walks.one, &one, homes)?;
-        let down = down_announcements(alloc, net, walks, &one, two.as_slice())?;
-        Ok(Destination { one, two, down })
-    }
+impl<'a> Model for Domain<'a> {
+    ghost use Rattle.isis_routes.specs.steps.Domain.{IsisDomain, IsIsisDomain};
+
+    ghost Value = { IsisDomain };
+
+    ghost view = { λ x. record { net = x.net.now; walks = x.walks } };
+
+    ghost invariant = { λ x. IsIsisDomain (record { net = x.net.now; walks = x.walks })
+        (record { both = x.both.items; leaking = x.leaking.items; attached = x.attached.items }) };
 }
 
-/// What the routers of a network know by IS-IS: the least walks of each level, what is offered and
-/// announced of each prefix, and the attached routers.
-#[derive(Debug, Drop)]
-pub struct Domain {
-    /// The least walks of both levels.
-    pub walks: LevelWalks,
-    /// The prefixes that may have entries.
-    pub destinations: Vec<Destination>,
-    /// The attached routers.
-    pub attached: Vec<Offer>,
-}
-
-impl Domain {
+impl<'a> Domain<'a> {
     /// What the routers of the network know.
-    pub fn build(alloc: Global, net: &Net) -> Result<Domain, OutOfMemory>
-        ensures { IfOk result (λ domain. IsDomain net.now domain) }
+    pub fn build(alloc: Global, net: &'a Net) -> Result<Domain<'a>, OutOfMemory>
+        ensures { IfOk result (λ domain. domain.net ≡ net.now) }
     {
         let walks = LevelWalks::build(alloc, net)?;
-        let destinations = destinations(alloc, net, &walks)?;
-        let attached = attached_routers(alloc, net, &walks.two)?;
+        let both = routers_of_both_levels(alloc, net)?;
+        let leaking = leaking_routers(alloc, net)?;
+        let attached = attached_routers(alloc, net, &walks.two, both.as_slice())?;
         Ok(Domain {
+            net,
             walks,
-            destinations,
+            both,
+            leaking,
             attached,
         })
     }
-}
 
-/// What both levels know of each prefix that may have an entry.
-fn destinations(
-    alloc: Global,
-    net: &Net,
-    walks: &LevelWalks,
-) -> Result<Vec<Destination>, OutOfMemory>
-    requires { AreLevelWalks net.now walks.now }
-    ensures { IfOk result (λ all. AreDestinations net.now all.items) }
-{
-    let dests = candidates_of(alloc, net)?;
-    each_destination(alloc, net, walks, dests.as_slice())
-}
-
-/// What both levels know of each of these prefixes.
-fn each_destination(
-    alloc: Global,
-    net: &Net,
-    walks: &LevelWalks,
-    dests: &[Prefix],
-) -> Result<Vec<Destination>, OutOfMemory>
-    requires { AreLevelWalks net.now walks.now }
-    ensures dests { IfOk result (λ all. dests_of all.items ≡ dests.now) }
-    ensures announced { IfOk result (λ all. All (AreAnnounced net.now) all.items) }
-{
-    let homes = all_homes(alloc, net)?;
-    let mut all = Vec::new(alloc);
-    for dest in dests {
-        let routers = routers_at(alloc, homes.as_slice(), *dest)?;
-        all.push(Destination::build(alloc, net, walks, *dest, routers.as_slice())?)?;
+    /// The network.
+    pub fn net(&self) -> &Net
+        ensures is { result.now ≡ self.now.net }
+        ensures known { IsKnown self.now }
+    {
+        self.net
     }
-    Ok(all)
+
+    /// The routers that run both levels.
+    pub fn both(&self) -> &[u32]
+        ensures { Exactly (RunsBothLevels self.now.net) result.now }
+    {
+        self.both.as_slice()
+    }
+
+    /// The routers that leak level 2 routes into level 1.
+    pub fn leaking(&self) -> &[u32]
+        ensures { Exactly (Leaks self.now.net) result.now }
+    {
+        self.leaking.as_slice()
+    }
+
+    /// The attached routers, each as an offer of all addresses.
+    pub fn attached(&self) -> &[Offer]
+        ensures { HoldsOffers (OffersDefault self.now.net) result.now }
+    {
+        self.attached.as_slice()
+    }
+
+    /// Whether a router runs level 1.
+    pub fn runs_level_one(&self, router: u32) -> bool
+        requires { router < length self.now.net }
+        ensures runs { IsTrue result ↔ RunsLevelOne self.now.net router }
+        ensures known { IsKnown self.now }
+    {
+        runs_level_one(self.net, router)
+    }
+
+    /// Whether a router runs level 2.
+    pub fn runs_level_two(&self, router: u32) -> bool
+        requires { router < length self.now.net }
+        ensures runs { IsTrue result ↔ RunsLevelTwo self.now.net router }
+        ensures known { IsKnown self.now }
+    {
+        runs_level_two(self.net, router)
+    }
+
+    /// Whether a router runs level 1 and not level 2.
+    pub fn runs_level_one_alone(&self, router: u32) -> bool
+        requires { router < length self.now.net }
+        ensures { IsTrue result ↔ RunsLevelOneAlone self.now.net router }
+    {
+        runs_level_one_alone(self.net, router)
+    }
+
+    /// The least walks from a router in the level of this number.
+    pub fn walks(&self, router: u32, zone: usize) -> &LeastWalks
+        requires { router < length self.now.net }
+        ensures reach { result.now ≡ level_reach self.now.walks router zone }
+        ensures known { IsKnown self.now }
+    {
+        self.walks.from_router(router, zone)
+    }
+
+    /// What the best of some offers costs a router in a level, and `None` where none is reached.
+    pub fn best_cost(&self, level: Level, offers: &[Offer], router: u32) -> Option<u64>
+        requires router { router < length self.now.net }
+        requires small { AreSmall offers.now }
+        ensures { (cost : ℕ) → (result ≡ Some cost) ↔ BestCost (Adjacent self.now.net (zone_in level)) (ListsOffer offers.now) router cost }
+    {
+        self.walks(router, level.zone()).best_cost(offers)
+    }
+
+    /// The route of a router in a level to the best of some offers, and `None` where none is reached.
+    pub fn best_route(
+        &self,
+        alloc: Global,
+        level: Level,
+        offers: &[Offer],
+        router: u32,
+    ) -> Result<Option<Route>, OutOfMemory>
+        requires router { router < length self.now.net }
+        requires small { AreSmall offers.now }
+        ensures { IfOk result (λ found. MatchOption found
+            (HasBest (Adjacent self.now.net (zone_in level)) (ListsOffer offers.now) router → ⊥)
+            (IsRouteFor (level_reach self.now.walks router) 2 (length self.now.net)
+            (ForwardsBy (IsRouteToBest (Adjacent self.now.net (zone_in level)) (ListsOffer offers.now) router)))) }
+    {
+        let number = level.zone();
+        let walks = self.walks(router, number);
+        best_route(alloc, walks, number, offers, self.net().routers())
+    }
+
+    /// Whether a router is adjacent to another one in either level.
+    pub fn are_neighbors(&self, router: u32, other: u32) -> bool
+        requires from_router { router < length self.now.net }
+        requires to_router { other < length self.now.net }
+        ensures { IsTrue result ↔ IsIsisNeighbor self.now.net router other }
+    {
+        let net = self.net;
+        let walks = &self.walks;
+        walks.one.arc(net, Zone::One, router, other).is_some()
+            || walks.two.arc(net, Zone::Two, router, other).is_some()
+    }
 }

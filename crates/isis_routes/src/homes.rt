@@ -1,4 +1,5 @@
-ghost use Rattle.std.specs.Prelude.{◌≡◌, ◌<◌, ◌↔◌, ℕ, length, Some, Any, IfOk, OnOk};
+ghost use Rattle.std.specs.Prelude.{◌≡◌, ◌<◌, ◌↔◌, ℕ, length, Some, Any, Contains, IfOk, OnOk};
+ghost use Rattle.std.specs.List.Sorted.{IsNonDecreasingBy};
 ghost use Rattle.net_model.specs.Network.{Connected};
 ghost use Rattle.route_tables.specs.Lists.{Adds, Exactly};
 ghost use Rattle.isis_routes.specs.steps.Homes.{AreHomes, IsHomeOf, IsOwnSubnet};
@@ -17,8 +18,18 @@ pub struct Home {
     router: u32,
 }
 
+/// The connected prefixes of all routers, in the order of the addresses with which they begin.
+pub fn sorted_homes(alloc: Global, net: &Net) -> Result<Vec<Home>, OutOfMemory>
+    ensures exact { IfOk result (λ homes. AreHomes net.now homes.items) }
+    ensures sorted { IfOk result (λ homes. IsNonDecreasingBy (λ h. h.dest.base) homes.items) }
+{
+    let mut homes = all_homes(alloc, net)?;
+    sort_by_base(&mut homes);
+    Ok(homes)
+}
+
 /// The connected prefixes of all routers.
-pub fn all_homes(alloc: Global, net: &Net) -> Result<Vec<Home>, OutOfMemory>
+fn all_homes(alloc: Global, net: &Net) -> Result<Vec<Home>, OutOfMemory>
     ensures { IfOk result (λ homes. AreHomes net.now homes.items) }
 {
     let mut homes = Vec::new(alloc);
@@ -48,15 +59,37 @@ fn home_of(interface: &Interface, w: u32) -> Option<Home>
     }
 }
 
-/// The routers at which a prefix is connected, by these homes.
+/// Puts homes in the order of the addresses with which their prefixes begin.
+fn sort_by_base(homes: &mut Vec<Home>)
+    ensures kept { (h : HomeValue) → Contains homes.new.items h ↔ Contains homes.old.items h }
+    ensures sorted { IsNonDecreasingBy (λ h. h.dest.base) homes.new.items }
+{
+    homes.sort_unstable_by_key(|home| home.dest.base());
+}
+
+/// The routers at which a prefix is connected, by the sorted homes of all prefixes. It takes time of the logarithm of
+/// these.
 pub fn routers_at(alloc: Global, homes: &[Home], dest: Prefix) -> Result<Vec<u32>, OutOfMemory>
+    requires { IsNonDecreasingBy (λ h. h.dest.base) homes.now }
     ensures { IfOk result (λ routers. Exactly (λ u. Any (λ h. IsHomeOf dest h u) homes.now) routers.items) }
 {
     let mut routers = Vec::new(alloc);
-    for home in homes {
+    let run = homes_from(homes, dest.base());
+    for home in run {
         push_option(&mut routers, router_at(*home, dest))?;
     }
     Ok(routers)
+}
+
+/// The homes whose prefixes begin with an address.
+fn homes_from(homes: &[Home], base: u32) -> &[Home]
+    requires { IsNonDecreasingBy (λ h. h.dest.base) homes.now }
+    ensures { (h : HomeValue) → Contains result.now h ↔ (Contains homes.now h × (h.dest.base ≡ base)) }
+{
+    let start = homes.partition_point(|home| home.dest.base() < base);
+    let rest = &homes[start..];
+    let count = rest.partition_point(|home| home.dest.base() <= base);
+    &rest[..count]
 }
 
 /// The router of a home, where it is one of this prefix.

@@ -1,93 +1,52 @@
-ghost use Rattle.std.specs.Prelude.{◌≡◌, ◌<◌, ◌↔◌, ℕ, length, Some, IfOk, OnOk, IsTrue};
-ghost use Rattle.net_model.specs.declared.zone.Zone.TheVariants.{One as ZoneOne};
-ghost use Rattle.igp_theory.specs.Isis.{OffersOne, LevelTwoAnnouncement, TwoCost, DownAnnouncement};
-ghost use Rattle.zone_graph.specs.Walks.{AreZoneWalks};
-ghost use Rattle.isis_routes.specs.steps.Offered.{AddsOffers, AreOffers};
-ghost use Rattle.isis_routes.specs.steps.Routing.{AreLevelWalks, MayLeak};
+ghost use Rattle.std.specs.Prelude.{◌≡◌, ◌<◌, ◌↔◌, ℕ, length, Some, IfOk};
+ghost use Rattle.igp_theory.specs.Isis.{DownAnnouncement, Leaks, LevelTwoAnnouncement};
+ghost use Rattle.route_tables.specs.Lists.{Exactly};
+ghost use Rattle.isis_routes.specs.steps.Destinations.{IsLevelOne};
+ghost use Rattle.isis_routes.specs.steps.Offered.{AreSmall, HoldsOffers};
 
 use crate::OutOfMemory;
+use crate::domain::Domain;
+use crate::level::Level;
 use crate::level_one::LevelOne;
-use crate::level_walks::LevelWalks;
-use crate::offers::{of_others, push_cost};
-use crate::runs::{leaks, runs_two};
-use net_addr::Prefix;
-use net_model::Net;
+use crate::offers::push_cost;
 use std::alloc::Global;
 use walk_core::Offer;
-use zone_graph::ZoneWalks;
 
-/// What is announced of a prefix into level 1, marked down (RFC 5302).
+/// What is announced of a prefix into level 1, marked down, by the routers that leak (RFC 5302).
 pub fn down_announcements(
     alloc: Global,
-    net: &Net,
-    walks: &LevelWalks,
+    domain: &Domain<'_>,
     one: &LevelOne,
     two: &[Offer],
+    leaking: &[u32],
 ) -> Result<Vec<Offer>, OutOfMemory>
-    requires walks { AreLevelWalks net.now walks.now }
-    requires one { AreOffers (OffersOne net.now one.now.dest) one.now.offers.items }
-    requires two { AreOffers (LevelTwoAnnouncement net.now one.now.dest) two.now }
-    ensures { IfOk result (λ offers. AreOffers (DownAnnouncement net.now one.now.dest) offers.items) }
+    requires one { IsLevelOne domain.now.net one.now }
+    requires two { HoldsOffers (LevelTwoAnnouncement domain.now.net one.now.dest) two.now }
+    requires small { AreSmall two.now }
+    requires leaking { Exactly (Leaks domain.now.net) leaking.now }
+    ensures { IfOk result (λ offers. HoldsOffers (DownAnnouncement domain.now.net one.now.dest) offers.items) }
 {
     let mut offers = Vec::new(alloc);
-    for router in 0..net.routers() {
-        push_leaked(alloc, &mut offers, net, walks, one, two, router)?;
+    for router in leaking {
+        push_cost(&mut offers, *router, leaked_cost(domain, one, two, *router))?;
     }
     Ok(offers)
 }
 
-/// Adds what a router announces into level 1, marked down: its level 2 route, where it may leak the prefix.
-fn push_leaked(
-    alloc: Global,
-    offers: &mut Vec<Offer>,
-    net: &Net,
-    walks: &LevelWalks,
-    one: &LevelOne,
-    two: &[Offer],
-    router: u32,
-) -> Result<(), OutOfMemory>
-    requires router { router < length net.now }
-    requires walks { AreLevelWalks net.now walks.now }
-    requires one { AreOffers (OffersOne net.now one.now.dest) one.now.offers.items }
-    requires two { AreOffers (LevelTwoAnnouncement net.now one.now.dest) two.now }
-    ensures { OnOk result (AddsOffers offers.old.items offers.new.items router (DownAnnouncement net.now one.now.dest router)) }
+/// The cost at which a router that leaks announces a prefix into level 1: that of its level 2 route. There is none
+/// where the prefix is connected or has a level 1 route, so no announcement into level 2 is the router's own.
+fn leaked_cost(domain: &Domain<'_>, one: &LevelOne, two: &[Offer], router: u32) -> Option<u64>
+    requires leaks { Leaks domain.now.net router }
+    requires one { IsLevelOne domain.now.net one.now }
+    requires two { HoldsOffers (LevelTwoAnnouncement domain.now.net one.now.dest) two.now }
+    requires small { AreSmall two.now }
+    ensures { (cost : ℕ) → (result ≡ Some cost) ↔ DownAnnouncement domain.now.net one.now.dest router cost }
 {
-    if !may_leak(net, &walks.one, one, router) {
-        return Ok(());
+    if one.is_connected(router) {
+        return None;
     }
-    let cost = level_two_cost(alloc, net, walks, one.dest, two, router)?;
-    push_cost(offers, router, cost)
-}
-
-/// Whether a router leaks, and the prefix is neither connected there nor has a level 1 route.
-fn may_leak(net: &Net, walks: &ZoneWalks, one: &LevelOne, router: u32) -> bool
-    requires router { router < length net.now }
-    requires walks { AreZoneWalks net.now ZoneOne walks.now }
-    requires one { AreOffers (OffersOne net.now one.now.dest) one.now.offers.items }
-    ensures { IsTrue result ↔ MayLeak net.now one.now.dest router }
-{
-    leaks(net, router)
-        && !net.originates(router, one.dest)
-        && one.cost(net, walks, router).is_none()
-}
-
-/// The level 2 cost of a prefix at a router, which other routers' announcements give.
-fn level_two_cost(
-    alloc: Global,
-    net: &Net,
-    walks: &LevelWalks,
-    dest: Prefix,
-    two: &[Offer],
-    router: u32,
-) -> Result<Option<u64>, OutOfMemory>
-    requires router { router < length net.now }
-    requires walks { AreLevelWalks net.now walks.now }
-    requires two { AreOffers (LevelTwoAnnouncement net.now dest) two.now }
-    ensures { IfOk result (λ found. (cost : ℕ) → (found ≡ Some cost) ↔ TwoCost net.now dest router cost) }
-{
-    if !runs_two(net, router) {
-        return Ok(None);
+    if one.cost(domain, router).is_some() {
+        return None;
     }
-    let others = of_others(alloc, two, router)?;
-    Ok(walks.two.from_router(router).best_cost(others.as_slice()))
+    domain.best_cost(Level::Two, two, router)
 }

@@ -1,25 +1,24 @@
-ghost use Rattle.std.specs.Prelude.{◌≡◌, ◌<◌, ◌↔◌, ℕ, length, Some, IfOk};
-ghost use Rattle.net_model.specs.declared.zone.Zone.TheVariants.{One as ZoneOne};
-ghost use Rattle.igp_theory.specs.Isis.{OffersOne, OneCost};
-ghost use Rattle.zone_graph.specs.Walks.{AreZoneWalks};
+ghost use Rattle.std.specs.Prelude.{◌≡◌, ◌<◌, ◌↔◌, ℕ, length, Some, Contains, IfOk, IsTrue};
+ghost use Rattle.igp_theory.specs.Isis.{LevelOneCost};
+ghost use Rattle.isis_routes.specs.steps.Destinations.{IsLevelOne};
 ghost use Rattle.isis_routes.specs.steps.Homes.{AreRoutersAt};
-ghost use Rattle.isis_routes.specs.steps.Offered.{AreOffers};
 
 use crate::OutOfMemory;
+use crate::domain::Domain;
 use crate::level::Level;
 use crate::offers::level_offers;
-use crate::runs::runs_one;
 use net_addr::Prefix;
 use net_model::Net;
 use std::alloc::Global;
 use walk_core::Offer;
-use zone_graph::ZoneWalks;
 
-/// What level 1 offers of a prefix: one offer for each interface with that subnet.
+/// Where a prefix is connected, and what level 1 offers of it: one offer for each interface with that subnet.
 #[derive(Debug, Drop)]
 pub struct LevelOne {
     /// The prefix.
     pub dest: Prefix,
+    /// The routers at which it is connected.
+    pub homes: Vec<u32>,
     /// The offers, each at a router and at the metric of its interface.
     pub offers: Vec<Offer>,
 }
@@ -30,26 +29,44 @@ impl LevelOne {
         alloc: Global,
         net: &Net,
         dest: Prefix,
-        homes: &[u32],
+        homes: Vec<u32>,
     ) -> Result<LevelOne, OutOfMemory>
-        requires { AreRoutersAt net.now dest homes.now }
+        requires { AreRoutersAt net.now dest homes.items }
         ensures dest { IfOk result (λ one. one.dest ≡ dest) }
-        ensures offers { IfOk result (λ one. AreOffers (OffersOne net.now one.dest) one.offers.items) }
+        ensures is { IfOk result (IsLevelOne net.now) }
     {
-        let offers = level_offers(alloc, net, Level::One, dest, homes)?;
-        Ok(LevelOne { dest, offers })
+        let offers = level_offers(alloc, net, Level::One, dest, homes.as_slice())?;
+        Ok(LevelOne {
+            dest,
+            homes,
+            offers,
+        })
+    }
+
+    /// Whether the prefix is connected at a router.
+    pub fn is_connected(&self, router: u32) -> bool
+        ensures { IsTrue result ↔ Contains self.now.homes.items router }
+    {
+        self.homes.contains(&router)
+    }
+
+    /// The router at which the prefix is connected, where it is one alone.
+    pub fn lone_home(&self) -> Option<u32> {
+        match self.homes.as_slice() {
+            [router] => Some(*router),
+            _ => None,
+        }
     }
 
     /// The level 1 cost of the prefix at a router.
-    pub fn cost(&self, net: &Net, walks: &ZoneWalks, router: u32) -> Option<u64>
-        requires router { router < length net.now }
-        requires walks { AreZoneWalks net.now ZoneOne walks.now }
-        requires offers { AreOffers (OffersOne net.now self.now.dest) self.now.offers.items }
-        ensures { (cost : ℕ) → (result ≡ Some cost) ↔ OneCost net.now self.now.dest router cost }
+    pub fn cost(&self, domain: &Domain<'_>, router: u32) -> Option<u64>
+        requires router { router < length domain.now.net }
+        requires one { IsLevelOne domain.now.net self.now }
+        ensures { (cost : ℕ) → (result ≡ Some cost) ↔ LevelOneCost domain.now.net self.now.dest router cost }
     {
-        if !runs_one(net, router) {
+        if !domain.runs_level_one(router) {
             return None;
         }
-        walks.from_router(router).best_cost(self.offers.as_slice())
+        domain.best_cost(Level::One, self.offers.as_slice(), router)
     }
 }

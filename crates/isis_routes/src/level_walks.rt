@@ -32,6 +32,7 @@ impl LevelWalks {
         let two = ZoneWalks::build(alloc, net, Zone::Two)?;
         Ok(LevelWalks { one, two })
     }
+
     /// The least walks from a router in the level of this number.
     pub fn from_router(&self, router: u32, zone: usize) -> &LeastWalks
         requires one { router < length self.now.one }

@@ -1,21 +1,26 @@
 //! The route tables of IS-IS: level 1, level 2 (RFC 1195), what is leaked into level 1 (RFC 5302), and the default
 //! towards attached routers (RFC 1195).
 //!
-//! `Domain::build` goes by these steps, and `entry.rt` puts their routes in order:
+//! `Isis::build` goes by these steps, and `entry.rt` puts their routes in order:
 //!
-//! 1. `level_walks.rt`: the least walks of both levels; `candidates.rt`, `homes.rt`: prefixes, and where each is connected.
-//! 2. `level_one.rt`, `offers.rt`: what level 1 offers of each prefix.
-//! 3. `announcements.rt`: what is announced into level 2 (RFC 1195, section 3.2).
-//! 4. `leaked.rt`: what is announced into level 1, marked down (RFC 5302).
-//! 5. `attached.rt`: the attached routers (RFC 1195, section 3.2).
-//! 6. `entry.rt`: the level 1 route, else the level 2 route, else the down route, else the default.
+//! 1. `domain.rt`: what is known before any prefix: the least walks of both levels (`level_walks.rt`), the routers that
+//!    run both levels and those that leak (`runs.rt`), and the attached routers (`attached.rt`; RFC 1195, section 3.2).
+//! 2. `candidates.rt`, `homes.rt`: the prefixes, and the routers at which each is connected.
+//! 3. `level_one.rt`, `offers.rt`: what level 1 offers of each prefix.
+//! 4. `announcements.rt`: what is announced into level 2 (RFC 1195, section 3.2).
+//! 5. `leaked.rt`: what is announced into level 1, marked down (RFC 5302).
+//! 6. `alike.rt`: prefixes with the same routes.
+//! 7. `entry.rt`: the level 1 route, else the level 2 route, else the down route, else the default.
 //!
-//! Steps 1 to 5 take time of prefixes times routers; step 6 of routers times prefixes times the offers of a prefix.
+//! Steps 2 to 6 take time of the connected prefixes of all routers, and of prefixes times the routers that run both
+//! levels; step 7 of routers times prefixes that aren't alike times the offers of a prefix.
 #![tactic(auto)]
 
+mod alike;
 mod announcements;
 mod attached;
 mod candidates;
+mod destinations;
 mod domain;
 mod entry;
 mod homes;

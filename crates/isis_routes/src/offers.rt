@@ -1,12 +1,15 @@
-ghost use Rattle.std.specs.Prelude.{◌≡◌, ◌==◌, ◌<◌, ◌↔◌, ℕ, length, Some, Contains, IfOk, IsTrue, OnOk, filter, not};
+ghost use Rattle.std.specs.Prelude.{◌≡◌, ◌<◌, ◌↔◌, ℕ, length, Some, Any, IfOk, OnOk};
 ghost use Rattle.net_model.specs.Network.{Network};
+ghost use Rattle.route_tables.specs.Lists.{Adds};
+ghost use Rattle.walk_core.specs.declared.offers.Offer.{Offer as OfferValue};
 ghost use Rattle.isis_routes.specs.steps.Homes.{AreRoutersAt};
-ghost use Rattle.isis_routes.specs.steps.Offered.{Asks, AskedBy, OffersIn, AddsOffers, AreOffers};
+ghost use Rattle.isis_routes.specs.steps.Offered.{AsksIn, IsOffer, OffersIn, AddsOffers, HoldsOffers};
 
 use crate::OutOfMemory;
 use crate::level::Level;
 use net_addr::Prefix;
 use net_model::{Interface, Net};
+use route_tables::push_option;
 use std::alloc::Global;
 use walk_core::Offer;
 
@@ -19,38 +22,28 @@ pub fn level_offers(
     homes: &[u32],
 ) -> Result<Vec<Offer>, OutOfMemory>
     requires { AreRoutersAt net.now dest homes.now }
-    ensures { IfOk result (λ offers. AreOffers (OffersIn net.now level dest) offers.items) }
+    ensures { IfOk result (λ offers. HoldsOffers (OffersIn net.now level dest) offers.items) }
 {
     let mut offers = Vec::new(alloc);
-    for router in 0..net.routers() {
-        push_router_offers(&mut offers, net, level, dest, homes, router)?;
+    for router in homes {
+        push_router_offers(&mut offers, net, level, dest, *router)?;
     }
     Ok(offers)
 }
 
-/// Adds what a router's own interfaces offer of a prefix, which is connected at these routers.
+/// Adds what a router's own interfaces offer of a prefix.
 pub fn push_router_offers(
     offers: &mut Vec<Offer>,
     net: &Net,
     level: Level,
     dest: Prefix,
-    homes: &[u32],
     router: u32,
 ) -> Result<(), OutOfMemory>
-    requires router { router < length net.now }
-    requires homes { AreRoutersAt net.now dest homes.now }
+    requires { router < length net.now }
     ensures { OnOk result (AddsOffers offers.old.items offers.new.items router (OffersIn net.now level dest router)) }
 {
-    if !is_among(homes, router) {
-        return Ok(());
-    }
-    push_offers(
-        offers,
-        level,
-        dest,
-        net.config(router).interfaces.as_slice(),
-        router,
-    )
+    let interfaces = net.config(router).interfaces.as_slice();
+    push_offers(offers, level, dest, interfaces, router)
 }
 
 /// Adds what the interfaces of a router offer.
@@ -61,29 +54,27 @@ fn push_offers(
     interfaces: &[Interface],
     router: u32,
 ) -> Result<(), OutOfMemory>
-    ensures { OnOk result (AddsOffers offers.old.items offers.new.items router (AskedBy level dest interfaces.now)) }
+    ensures { OnOk result (Adds offers.old.items offers.new.items (λ o. Any (λ i. IsOffer router (AsksIn level dest i) o) interfaces.now)) }
 {
     for interface in interfaces {
-        if let Some(asks) = asked(level, dest, interface) {
-            offers.push(Offer {
-                at: router,
-                asks: u64::from(asks),
-            })?;
-        }
+        push_option(offers, interface_offer(level, dest, interface, router))?;
     }
     Ok(())
 }
 
-/// What the interface asks of its subnet in the level, where the prefix is its subnet.
-fn asked(level: Level, dest: Prefix, interface: &Interface) -> Option<u32>
-    ensures { (cost : ℕ) → (result ≡ Some cost) ↔ Asks level dest interface.now cost }
+/// What an interface of a router offers of a prefix in the level, where the prefix is its subnet.
+fn interface_offer(level: Level, dest: Prefix, interface: &Interface, router: u32) -> Option<Offer>
+    ensures { (o : OfferValue) → (result ≡ Some o) ↔ IsOffer router (AsksIn level dest interface.now) o }
 {
     let (runs, metric) = match level {
         Level::One => (interface.level1, interface.metric1),
         Level::Two => (interface.level2, interface.metric2),
     };
     match interface.subnet {
-        Some(subnet) if interface.up && runs && subnet == dest => Some(metric),
+        Some(subnet) if interface.up && runs && subnet == dest => Some(Offer {
+            at: router,
+            asks: u64::from(metric),
+        }),
         _ => None,
     }
 }
@@ -96,22 +87,4 @@ pub fn push_cost(offers: &mut Vec<Offer>, at: u32, cost: Option<u64>) -> Result<
         Some(asks) => Ok(offers.push(Offer { at, asks })?),
         None => Ok(()),
     }
-}
-
-/// The offers that other routers than this one make.
-pub fn of_others(alloc: Global, offers: &[Offer], router: u32) -> Result<Vec<Offer>, OutOfMemory>
-    ensures { IfOk result (λ others. others.items ≡ filter (λ o. not (o.at == router)) offers.now) }
-{
-    offers
-        .iter()
-        .filter(|o| o.at != router)
-        .copied()
-        .collect(alloc)
-}
-
-/// Whether the router is one of these.
-fn is_among(routers: &[u32], router: u32) -> bool
-    ensures { IsTrue result ↔ Contains routers.now router }
-{
-    routers.contains(&router)
 }

@@ -1,39 +1,49 @@
 ghost use Rattle.std.specs.Prelude.{◌≡◌, IfOk};
 
 use crate::OutOfMemory;
+use crate::alike::{earlier_alike, named_at};
+use crate::destinations::{Destination, destinations};
 use crate::domain::Domain;
 use crate::entry::route_of;
 use net_addr::Prefix;
-use net_model::{Net, Zone};
+use net_model::Net;
 use route_tables::{Protocol, Route};
 use std::alloc::Global;
 use std::marker::Model;
 use walk_core::LeastWalks;
 
-/// IS-IS on a network, with what its routers know.
+/// IS-IS on a network: what its routers know, also of each prefix that may have entries, and for each an earlier one
+/// with the same routes, where one is known.
 #[derive(Drop)]
 pub struct Isis<'a> {
-    net: &'a Net,
-    domain: Domain,
+    domain: Domain<'a>,
+    destinations: Vec<Destination>,
+    earlier: Vec<Option<usize>>,
 }
 
 impl<'a> Model for Isis<'a> {
-    ghost use Rattle.isis_routes.specs.steps.Domain.{IsDomain, IsisNetwork};
+    ghost use Rattle.isis_routes.specs.steps.Isis.{IsIsis, IsisNetwork};
 
     ghost Value = { IsisNetwork };
 
-    ghost view = { λ x. record { net = x.net.now; domain = x.domain } };
+    ghost view = { λ x. record { domain = x.domain; destinations = x.destinations.items } };
 
-    ghost invariant = { λ x. IsDomain x.net.now x.domain };
+    ghost invariant = { λ x. IsIsis (record { domain = x.domain; destinations = x.destinations.items }) x.earlier.items };
 }
 
 impl<'a> Isis<'a> {
     /// IS-IS on this network.
     pub fn build(alloc: Global, net: &'a Net) -> Result<Isis<'a>, OutOfMemory>
-        ensures { IfOk result (λ isis. isis.net ≡ net.now) }
+        ensures { IfOk result (λ isis. isis.domain.net ≡ net.now) }
     {
         let domain = Domain::build(alloc, net)?;
-        Ok(Isis { net, domain })
+        let destinations = destinations(alloc, &domain)?;
+        let earlier = earlier_alike(alloc, destinations.as_slice(), net.routers())?;
+        Ok(Isis {
+            domain,
+            destinations,
+            earlier,
+        })
     }
 }
 
@@ -41,31 +51,35 @@ impl<'a> Protocol for Isis<'a> {
     ghost use Rattle.std.specs.Prelude.{length};
     ghost use Rattle.igp_theory.specs.Isis.{IsisEntry};
     ghost use Rattle.igp_theory.specs.Laws.{IsIsisNeighbor};
-    ghost use Rattle.isis_routes.specs.steps.Domain.{dests_of};
+    ghost use Rattle.isis_routes.specs.steps.Destinations.{isis_prefixes};
     ghost use Rattle.isis_routes.specs.steps.LevelReach.{level_reach};
 
-    ghost routers = { λ isis. length isis.net };
+    ghost routers = { λ isis. length isis.domain.net };
 
-    ghost entry = { λ isis. IsisEntry isis.net };
+    ghost entry = { λ isis. IsisEntry isis.domain.net };
 
-    ghost neighbor = { λ isis. IsIsisNeighbor isis.net };
+    ghost neighbor = { λ isis. IsIsisNeighbor isis.domain.net };
 
-    ghost candidates = { λ isis. dests_of isis.domain.destinations.items };
+    ghost candidates = { λ isis. isis_prefixes isis.destinations };
 
     ghost zones = { λ _. 2 };
 
     ghost reach = { λ isis. level_reach isis.domain.walks };
 
     fn routers(&self) -> u32 {
-        self.net.routers()
+        self.domain.net().routers()
     }
 
     fn candidates(&self) -> usize {
-        self.domain.destinations.len()
+        self.destinations.len()
     }
 
     fn candidate(&self, place: usize) -> Prefix {
-        self.domain.destinations[place].one.dest
+        self.destinations[place].one.dest
+    }
+
+    fn alike(&self, place: usize) -> Option<usize> {
+        named_at(self.earlier.as_slice(), place)
     }
 
     fn route(
@@ -74,18 +88,15 @@ impl<'a> Protocol for Isis<'a> {
         place: usize,
         router: u32,
     ) -> Result<Option<Route>, OutOfMemory> {
-        let destination = &self.domain.destinations[place];
-        route_of(alloc, self.net, &self.domain, destination, router)
+        let destination = &self.destinations[place];
+        route_of(alloc, &self.domain, destination, router)
     }
 
     fn walks(&self, router: u32, zone: usize) -> &LeastWalks {
-        self.domain.walks.from_router(router, zone)
+        self.domain.walks(router, zone)
     }
 
     fn is_neighbor(&self, router: u32, other: u32) -> bool {
-        let net = self.net;
-        let walks = &self.domain.walks;
-        walks.one.arc(net, Zone::One, router, other).is_some()
-            || walks.two.arc(net, Zone::Two, router, other).is_some()
+        self.domain.are_neighbors(router, other)
     }
 }

@@ -1,6 +1,7 @@
 -- Areas: which there are, who is in them, who is a border router and who listens to whom.
 use Rattle.std.proofs.Common.{◌≡◌, ◌≢◌, ℕ, ◌+◌, ◌<◌, ◌↔◌, inl, inr, ⊎_elim, List, [], ◌∷◌, ◌++◌, length, Option, Some, None, MatchOption, Bool, true, false}
-use Rattle.std.proofs.Common.{not, ◌==◌, IsTrue, refl, sym, ap, subst, ◌∙◌, arith}
+use Rattle.std.proofs.Common.{not, ◌==◌, IsTrue, refl, sym, ap, subst, ◌∙◌, arith, get_or, length-append}
+use Rattle.std.proofs.lemmas.List.{get_or_append_left, get_or_default, get_or_push}
 use Rattle.std.specs.List.{Contains, Any}
 use Rattle.std.proofs.lemmas.Bool.{eqb-true, eqb-false, cases_eq, cases_lt, false≢true}
 use Rattle.std.proofs.lemmas.Option.{none-some, same_Some}
@@ -8,7 +9,7 @@ use Rattle.std.proofs.lemmas.List.Elements.{All-push, All-contains, Contains-app
 use Rattle.net_model.proofs.Adjacency.{UpInterface-among}
 use Rattle.net_model.proofs.NetworkFacts.{InArea-within}
 use Rattle.net_model.specs.Configuration.{Configuration}
-use Rattle.net_model.specs.Network.{Network, HasConfiguration, InArea, IsBorderRouter}
+use Rattle.net_model.specs.Network.{Network, HasConfiguration, InArea, IsBorderRouter, RunsArea}
 use Rattle.net_model.specs.Refusals.{IsNetwork}
 use Rattle.net_model.specs.declared.interface.Interface.{Interface}
 use Rattle.net_model.specs.declared.zone.Zone.TheVariants.{Area}
@@ -16,7 +17,7 @@ use Rattle.walk_core.specs.Reach.{Reach}
 use Rattle.zone_graph.specs.Walks.{AreZoneWalks}
 use Rattle.igp_theory.specs.Ospf.{ListensTo, backbone, one_area}
 use Rattle.igp_theory.proofs.TableLaws.{listens_to_one_area}
-use Rattle.ospf_routes.specs.steps.Areas.{RunsArea, RunsOther, HasArea, HasWalks, AreNumbered, AreAreas, IsReach}
+use Rattle.ospf_routes.specs.steps.Areas.{RunsOther, HasArea, HasWalks, AreNumbered, AreAreas, AreListeners, IsListener, IsReach}
 use Rattle.ospf_routes.specs.Lists.{Adds}
 use Rattle.ospf_routes.specs.declared.areas.AreaWalks.{AreaWalks}
 use Rattle.route_tables.proofs.ListFacts.{any_of, any_in}
@@ -31,11 +32,11 @@ inside_is net u n config given router are = (
       record {
         interface = f.item;
         up = record { config = config; router = router; among = subst (λ (l : List Interface). Contains l f.item) are f.among; up = f.holds.up };
-        area = f.holds.area;
+        area = f.holds.area_is;
       },
   λ inside. any_of (RunsArea n) given inside.interface
       (subst (λ (l : List Interface). Contains l inside.interface) (sym are) (UpInterface-among net u config inside.interface router inside.up))
-      (record { up = inside.up.up; area = inside.area }),
+      (record { up = inside.up.up; area_is = inside.area }),
 )
 
 -- One more area
@@ -158,6 +159,30 @@ inner_listens net u config given (Some m) router are inner here n =
       λ listens. ap Some (listens_to_one_area listens_here listens),
     )
 
+-- Router by router
+
+pub listeners_none : (net : Network) → AreListeners net 0 []
+listeners_none net = record { count = refl; each = λ u below. absurd (omega arith) }
+
+pub listeners_more : (net : Network) (n : ℕ) (all : List (Option ℕ)) (next : Option ℕ) → AreListeners net n all → IsListener net n next →
+    AreListeners net (n + 1) (all ++ next ∷ [])
+listeners_more net n all next are is = record {
+  count = let long = length-append all (next ∷ []) in omega (arith, are.count);
+  each = λ u below. elim (cases_lt u n) [
+    | inl less ↦ subst (IsListener net u) (sym (get_or_append_left all (next ∷ []) None u (omega (arith, are.count)))) (are.each u less)
+    | inr past ↦
+        let same : n ≡ u = omega arith in
+        subst (λ (k : ℕ). IsListener net k (get_or (all ++ next ∷ []) k None)) same
+        (subst (IsListener net n) (sym (get_or_push all next None n are.count)) is)
+  ];
+}
+
+-- the listener of a router, as it is read
+pub listener_of : (net : Network) (all : List (Option ℕ)) (u : ℕ) (here : Option ℕ) → AreListeners net (length net) all → u < length net →
+    here ≡ get_or all u here → IsListener net u here
+listener_of net all u here are within is =
+    subst (IsListener net u) (sym (is ∙ get_or_default all u here None (omega (arith, are.count)))) (are.each u within)
+
 -- The least walks of an area
 
 pub reach_is : (net : Network) (areas : List AreaWalks) (n u : ℕ) (walks : List Reach) (reach : Reach) → AreAreas net areas → HasWalks areas n walks →
@@ -180,7 +205,7 @@ reach_within net areas n u walks are has within =
 
 -- Other areas
 
-not_true : (b : Bool) → not b ≡ true → b ≡ false
+pub not_true : (b : Bool) → not b ≡ true → b ≡ false
 not_true true e = cc
 not_true false e = refl
 

@@ -1,6 +1,6 @@
 -- What border routers give, by the list of them.
 use Rattle.std.proofs.Common.{◌≡◌, ℕ, ◌<◌, ◌≤◌, List, [], length, take, get_or, refl, subst}
-use Rattle.std.specs.List.{Any, Contains}
+use Rattle.std.specs.List.{Any}
 use Rattle.std.proofs.lemmas.List.Elements.{Contains-get_or}
 use Rattle.net_model.proofs.NetworkFacts.{InArea-within}
 use Rattle.net_model.specs.Network.{Network, IsBorderRouter}
@@ -12,10 +12,14 @@ use Rattle.ospf_routes.specs.Lists.{Adds, Exactly}
 pub border_is_router : (net : Network) (b : ℕ) → IsBorderRouter net b → b < length net
 border_is_router net b border = InArea-within net b border.one border.in_one
 
+pub listed_is_border : (net : Network) (borders : List ℕ) (i d : ℕ) → Exactly (IsBorderRouter net) borders → i < length borders →
+    IsBorderRouter net (get_or borders i d)
+listed_is_border net borders i d are within = (are (get_or borders i d)).0 (Contains-get_or borders i d within)
+
 pub listed_is_router : (net : Network) (borders : List ℕ) (i d : ℕ) → Exactly (IsBorderRouter net) borders → i < length borders →
     get_or borders i d < length net
 listed_is_router net borders i d are within =
-    border_is_router net (get_or borders i d) ((are (get_or borders i d)).0 (Contains-get_or borders i d within))
+    border_is_router net (get_or borders i d) (listed_is_border net borders i d are within)
 
 -- what each border router gives is all that is wanted, where only these give something
 pub exactly_by_borders : {X : Type 0} (net : Network) (borders : List ℕ) (gives : X → ℕ → Type 0) (wanted : X → Type 0) (old new : List X) (i : ℕ) →

@@ -2,21 +2,20 @@
 use Rattle.std.proofs.Common.{◌≡◌, ℕ, ◌+◌, ◌<◌, inl, inr, List, [], ◌∷◌, length, refl, sym, subst, arith}
 use Rattle.std.specs.List.{Contains, Any}
 use Rattle.std.proofs.lemmas.Bool.{cases_lt}
-use Rattle.net_addr.specs.Addresses.{Block}
+use Rattle.net_addr.specs.Addresses.{Block, default_prefix}
 use Rattle.net_model.proofs.Adjacency.{HasConfiguration-unique}
 use Rattle.net_model.proofs.NetworkFacts.{HasConfiguration-within, UpInterface-within}
 use Rattle.net_model.specs.Configuration.{Configuration}
 use Rattle.net_model.specs.Network.{Network, HasConfiguration, UpInterface}
 use Rattle.net_model.specs.declared.interface.Interface.{Interface}
-use Rattle.igp_theory.specs.Ospf.{default_prefix}
 use Rattle.route_tables.proofs.ListFacts.{any_of}
 use Rattle.route_tables.specs.Lists.{Adds}
-use Rattle.ospf_routes.specs.steps.Candidates.{HasSubnet, IsRangeOf, IsCandidate, all, subnet, range}
+use Rattle.ospf_routes.specs.steps.Candidates.{HasOspfSubnet, IsRangeOf, IsOspfCandidate, all, subnet, range}
 
 -- the candidates of the routers below n are there
 pub record AreCandidatesBelow (net : Network) (n : ℕ) (dests : List Block) : Type 0 where
   pub all : Contains dests default_prefix
-  pub subnets : (w : ℕ) (i : Interface) (p : Block) → w < n → UpInterface net w i → HasSubnet p i → Contains dests p
+  pub subnets : (w : ℕ) (i : Interface) (p : Block) → w < n → UpInterface net w i → HasOspfSubnet p i → Contains dests p
   pub ranges : (w : ℕ) (config : Configuration) (p : Block) → w < n → HasConfiguration net w config → Any (IsRangeOf p) config.ranges → Contains dests p
 
 pub candidates_none : (net : Network) (dests : List Block) → dests ≡ default_prefix ∷ [] → AreCandidatesBelow net 0 dests
@@ -28,7 +27,7 @@ candidates_none net dests is = record {
 
 -- one more router: its subnets first, then its ranges
 pub candidates_more : (net : Network) (n : ℕ) (config : Configuration) (old mid new : List Block) → HasConfiguration net n config →
-    AreCandidatesBelow net n old → Adds old mid (λ p. Any (HasSubnet p) config.interfaces) → Adds mid new (λ p. Any (IsRangeOf p) config.ranges) →
+    AreCandidatesBelow net n old → Adds old mid (λ p. Any (HasOspfSubnet p) config.interfaces) → Adds mid new (λ p. Any (IsRangeOf p) config.ranges) →
     AreCandidatesBelow net (n + 1) new
 candidates_more net n config old mid new router before first second =
     let keep : (p : Block) → Contains old p → Contains new p = λ p has. (second p).1 (inl ((first p).1 (inl has))) in
@@ -40,7 +39,7 @@ candidates_more net n config old mid new router before first second =
             let same : w ≡ n = omega arith in
             let up_here : UpInterface net n i = subst (λ (k : ℕ). UpInterface net k i) same up in
             let is : up_here.config ≡ config = HasConfiguration-unique net n up_here.config config up_here.router router in
-            (second p).1 (inl ((first p).1 (inr (any_of (HasSubnet p) config.interfaces i
+            (second p).1 (inl ((first p).1 (inr (any_of (HasOspfSubnet p) config.interfaces i
             (subst (λ (c : Configuration). Contains c.interfaces i) is up_here.among) has))))
       ];
       ranges = λ w other p below has have. elim (cases_lt w n) [
@@ -53,7 +52,7 @@ candidates_more net n config old mid new router before first second =
     }
 
 -- all candidates are there
-pub candidates_all : (net : Network) (n : ℕ) (dests : List Block) → length net ≡ n → AreCandidatesBelow net n dests → (p : Block) → IsCandidate net p →
+pub candidates_all : (net : Network) (n : ℕ) (dests : List Block) → length net ≡ n → AreCandidatesBelow net n dests → (p : Block) → IsOspfCandidate net p →
     Contains dests p
 candidates_all net n dests count are p (all same) = subst (λ (x : Block). Contains dests x) (sym same) are.all
 candidates_all net n dests count are p (subnet is) =

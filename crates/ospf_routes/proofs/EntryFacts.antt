@@ -7,7 +7,7 @@ use Rattle.route_core.specs.declared.entry.Entry.TheVariants.{Via, Discard}
 use Rattle.igp_theory.specs.Ospf.{IsIntraArea, IsActiveRange, SummarizesSubnet, SummarizesRange, BackboneSummary, BorderCost, AreaSummary, Summary}
 use Rattle.igp_theory.specs.Ospf.{into_backbone, into_area, InterAreaCost, OspfEntry, intra_area, discard, inter_area}
 use Rattle.route_tables.proofs.ListFacts.{any_of}
-use Rattle.ospf_routes.specs.steps.Candidates.{IsCandidate, IsRangeOf, all, range}
+use Rattle.ospf_routes.specs.steps.Candidates.{IsOspfCandidate, IsRangeOf, all, range}
 use Rattle.ospf_routes.specs.steps.Routing.{IsIntraRoute, IsListenedRoute, ListenedCost}
 use Rattle.ospf_routes.proofs.RangeFacts.{intra_is_candidate, range_cost_active}
 
@@ -49,36 +49,36 @@ no_route_no_entry net u p no_intra no_range none e (inter_area _ cost costs _) =
 
 -- Every prefix with an entry is a candidate
 
-active_is_candidate : (net : Network) (u : ℕ) (p : Block) → IsActiveRange net p u → IsCandidate net p
+active_is_candidate : (net : Network) (u : ℕ) (p : Block) → IsActiveRange net p u → IsOspfCandidate net p
 active_is_candidate net u p is =
     let has = is.active.component.range in
     range (record { router = u; config = has.config; has_config = has.router; has = any_of (IsRangeOf p) has.config.ranges is.range has.among is.dest })
 
-subnet_summary_is_candidate : (net : Network) (n : ℕ) (p : Block) (b cost : ℕ) → SummarizesSubnet net n p b cost → IsCandidate net p
+subnet_summary_is_candidate : (net : Network) (n : ℕ) (p : Block) (b cost : ℕ) → SummarizesSubnet net n p b cost → IsOspfCandidate net p
 subnet_summary_is_candidate net n p b cost s = intra_is_candidate net s.area p b cost s.costs
 
-range_summary_is_candidate : (net : Network) (n : ℕ) (p : Block) (b cost : ℕ) → SummarizesRange net n p b cost → IsCandidate net p
+range_summary_is_candidate : (net : Network) (n : ℕ) (p : Block) (b cost : ℕ) → SummarizesRange net n p b cost → IsOspfCandidate net p
 range_summary_is_candidate net n p b cost s = active_is_candidate net b p
     (record { range = s.range; active = range_cost_active net b s.range cost s.costs; dest = s.dest })
 
-backbone_is_candidate : (net : Network) (p : Block) (b cost : ℕ) → BackboneSummary net p b cost → IsCandidate net p
+backbone_is_candidate : (net : Network) (p : Block) (b cost : ℕ) → BackboneSummary net p b cost → IsOspfCandidate net p
 backbone_is_candidate net p b cost (BackboneSummary.of_subnet s) = subnet_summary_is_candidate net 0 p b cost s
 backbone_is_candidate net p b cost (BackboneSummary.of_range s) = range_summary_is_candidate net 0 p b cost s
 
-border_is_candidate : (net : Network) (p : Block) (b cost : ℕ) → BorderCost net p b cost → IsCandidate net p
+border_is_candidate : (net : Network) (p : Block) (b cost : ℕ) → BorderCost net p b cost → IsOspfCandidate net p
 border_is_candidate net p b cost costs = backbone_is_candidate net p costs.best.at costs.best.attained.asks costs.best.attained.offered.offered
 
-area_is_candidate : (net : Network) (n : ℕ) (p : Block) (b cost : ℕ) → AreaSummary net n p b cost → IsCandidate net p
+area_is_candidate : (net : Network) (n : ℕ) (p : Block) (b cost : ℕ) → AreaSummary net n p b cost → IsOspfCandidate net p
 area_is_candidate net n p b cost (AreaSummary.of_subnet _ s) = subnet_summary_is_candidate net n p b cost s
 area_is_candidate net n p b cost (AreaSummary.of_range _ s) = range_summary_is_candidate net n p b cost s
 area_is_candidate net n p b cost (AreaSummary.of_route _ s) = border_is_candidate net p b cost s
 area_is_candidate net n p b cost (AreaSummary.of_stub _ is _ _ _) = all is
 
-summary_is_candidate : (net : Network) (n : ℕ) (p : Block) (b cost : ℕ) → Summary net p n b cost → IsCandidate net p
+summary_is_candidate : (net : Network) (n : ℕ) (p : Block) (b cost : ℕ) → Summary net p n b cost → IsOspfCandidate net p
 summary_is_candidate net _ p b cost (into_backbone s) = backbone_is_candidate net p b cost s
 summary_is_candidate net n p b cost (into_area _ s) = area_is_candidate net n p b cost s
 
-pub entry_is_candidate : (net : Network) (u : ℕ) (p : Block) (e : Entry) → OspfEntry net u p e → IsCandidate net p
+pub entry_is_candidate : (net : Network) (u : ℕ) (p : Block) (e : Entry) → OspfEntry net u p e → IsOspfCandidate net p
 entry_is_candidate net u p e (intra_area _ is _) = intra_is_candidate net is.area p u is.cost is.costs
 entry_is_candidate net u p e (discard _ _ is _) = active_is_candidate net u p is
 entry_is_candidate net u p e (inter_area _ cost costs _) =

@@ -1,72 +1,37 @@
 -- What the interfaces of each area offer of a prefix, and its intra-area costs.
-use Rattle.std.proofs.Common.{◌≡◌, ℕ, ◌<◌, ◌↔◌, ◌⊎◌, ⊎_elim, get_or, List, [], ◌∷◌, ◌++◌, length, Option, Some, None, MatchOption, refl, sym, ap, subst, ◌∙◌}
+use Rattle.std.proofs.Common.{◌≡◌, ℕ, ◌↔◌, ◌⊎◌, ⊎_elim, get_or, List, [], ◌∷◌, ◌++◌, Option, Some, None, MatchOption, refl, sym, ap, subst, ◌∙◌}
 use Rattle.std.proofs.Common.{arith}
 use Rattle.std.specs.List.{Contains, Any, All}
 use Rattle.std.proofs.lemmas.Option.{none-some}
 use Rattle.std.proofs.lemmas.List.Elements.{All-weaker, All-contains, Contains-append_left, Contains-get_or, Contains-push, Contains-push_cases}
 use Rattle.net_addr.specs.Addresses.{Block}
-use Rattle.net_model.proofs.Adjacency.{UpInterface-among}
-use Rattle.net_model.proofs.NetworkFacts.{UpInterface-within}
-use Rattle.net_model.specs.Configuration.{Configuration}
-use Rattle.net_model.specs.Network.{Network, HasConfiguration, Adjacent}
-use Rattle.net_model.specs.declared.interface.Interface.{Interface}
+use Rattle.net_model.proofs.NetworkFacts.{Adjacent-in_area}
+use Rattle.net_model.specs.Network.{Network, Adjacent, Connected, InArea}
 use Rattle.net_model.specs.declared.zone.Zone.TheVariants.{Area}
+use Rattle.walk_core.specs.Offers.{BestCost}
 use Rattle.walk_core.specs.Reach.{Reach}
+use Rattle.walk_core.specs.Walks.{Leg, Walks}
 use Rattle.walk_core.specs.BestOffers.{NoneTotals, IsBestTotal}
 use Rattle.walk_core.specs.declared.offers.Offer.{Offer}
 use Rattle.igp_theory.specs.Ospf.{OffersSubnet, IntraAreaCost, IsIntraArea}
-use Rattle.ospf_routes.specs.steps.Areas.{AreAreas, HasArea, IsInside}
+use Rattle.ospf_routes.specs.steps.Areas.{AreAreas, HasArea, IsReach}
 use Rattle.ospf_routes.specs.declared.areas.AreaWalks.{AreaWalks}
-use Rattle.ospf_routes.specs.steps.Destinations.{AddsPart, HasPart, IsDestination, IsPartOf}
+use Rattle.ospf_routes.specs.steps.Destinations.{AddsPart, HasAreaPart, IsDestination, IsPartOf}
 use Rattle.ospf_routes.specs.Lists.{Exactly}
-use Rattle.ospf_routes.specs.steps.Offered.{AreOffers, InsideOf, IsSubnetRoute}
+use Rattle.ospf_routes.specs.steps.Offered.{AreOffers, InsideOf}
 use Rattle.ospf_routes.specs.declared.intra_area.AreaOffers.{AreaOffers}
 use Rattle.ospf_routes.specs.declared.intra_area.Destination.{Destination}
-use Rattle.ospf_routes.specs.declared.subnets.AreaRoute.{AreaRoute}
+use Rattle.ospf_routes.specs.declared.area_route.AreaRoute.{AreaRoute}
 use Rattle.ospf_routes.proofs.CostBounds.{lists_from}
 use Rattle.route_tables.proofs.BestRoutes.{best_cost_is}
-use Rattle.route_tables.proofs.ListFacts.{AnyBelow, any_of, any_in, exactly_same}
-
--- The subnets of a router
-
--- the routes of router w's own subnets
-abbrev pub RouterSubnet : Network → Block → ℕ → AreaRoute → Type 0
-RouterSubnet net p w r = (r.at ≡ w) × OffersSubnet net r.area p r.at r.asks
-
-pub router_subnet_is : (net : Network) (p : Block) (w : ℕ) (config : Configuration) (given : List Interface) → HasConfiguration net w config →
-    given ≡ config.interfaces → (r : AreaRoute) →
-    Any (λ (i : Interface). IsSubnetRoute i p w r) given ↔ RouterSubnet net p w r
-router_subnet_is net p w config given router are r = (
-  λ any.
-      let f = any_in (λ (i : Interface). IsSubnetRoute i p w r) given any in (
-        f.holds.at,
-        subst (λ (k : ℕ). OffersSubnet net r.area p k r.asks) (sym f.holds.at) (record {
-          interface = f.item;
-          up = record { config = config; router = router; among = subst (λ (l : List Interface). Contains l f.item) are f.among; up = f.holds.up };
-          subnet = f.holds.subnet;
-          area = f.holds.area;
-          costs = f.holds.costs;
-        }),
-      ),
-  λ both.
-      let offers : OffersSubnet net r.area p w r.asks = subst (λ (k : ℕ). OffersSubnet net r.area p k r.asks) both.0 both.1 in
-      any_of (λ (i : Interface). IsSubnetRoute i p w r) given offers.interface
-      (subst (λ (l : List Interface). Contains l offers.interface) (sym are) (UpInterface-among net w config offers.interface router offers.up))
-      (record { up = offers.up.up; subnet = offers.subnet; area = offers.area; at = both.0; costs = offers.costs }),
-)
-
-pub subnet_below : (net : Network) (p : Block) (n : ℕ) → length net ≡ n → (r : AreaRoute) → OffersSubnet net r.area p r.at r.asks →
-    AnyBelow (RouterSubnet net p) n r
-subnet_below net p n count r offers =
-    let within : r.at < length net = UpInterface-within net r.at offers.interface offers.up in
-    record { source = r.at; below = omega arith; given = (refl, offers) }
+use Rattle.route_tables.proofs.ListFacts.{any_of, any_in, exactly_same}
 
 -- The offers of an area
 
-pub has_part_left : (parts : List AreaOffers) (part : AreaOffers) (n : ℕ) → HasPart parts n → HasPart (parts ++ part ∷ []) n
+pub has_part_left : (parts : List AreaOffers) (part : AreaOffers) (n : ℕ) → HasAreaPart parts n → HasAreaPart (parts ++ part ∷ []) n
 has_part_left parts part n has = record { part = has.part; among = Contains-append_left parts (part ∷ []) has.part has.among; area = has.area }
 
-pub has_part_here : (parts : List AreaOffers) (part : AreaOffers) → HasPart (parts ++ part ∷ []) part.area
+pub has_part_here : (parts : List AreaOffers) (part : AreaOffers) → HasAreaPart (parts ++ part ∷ []) part.area
 has_part_here parts part = record { part = part; among = Contains-push parts part; area = refl }
 
 -- what is offered in an area
@@ -95,10 +60,12 @@ part_offers net p routes given part are same is =
         (subst (λ (n : ℕ). OffersSubnet net n p r.at r.asks) inside.area offers))
 
 pub destination_is : (net : Network) (areas : List AreaWalks) (routes given : List AreaRoute) (d : Destination) → AreAreas net areas →
+    Exactly (λ (u : ℕ). Connected net u d.dest) d.homes.items →
     Exactly (λ (r : AreaRoute). OffersSubnet net r.area d.dest r.at r.asks) routes → given ≡ routes →
-    All (IsPartOf given) d.parts.items → ((n : ℕ) (o : Offer) → HasArea areas n → Any (λ (r : AreaRoute). InsideOf n r o) given → HasPart d.parts.items n) →
+    All (IsPartOf given) d.parts.items → ((n : ℕ) (o : Offer) → HasArea areas n → Any (λ (r : AreaRoute). InsideOf n r o) given → HasAreaPart d.parts.items n) →
     IsDestination net d
-destination_is net areas routes given d are exact same parts every = record {
+destination_is net areas routes given d are homes exact same parts every = record {
+  homes = homes;
   exact = All-weaker (IsPartOf given) (λ (part : AreaOffers). AreOffers (OffersSubnet net part.area d.dest) part.offers.items)
       (λ part is. part_offers net d.dest routes given part exact same is) d.parts.items parts;
   every = λ n w cost offers.
@@ -112,7 +79,7 @@ destination_is net areas routes given d are exact same parts every = record {
 -- the parts so far, of the areas that have what is wanted
 pub record PartsSoFar (wanted : ℕ → Offer → Type 0) (front : List AreaWalks) (parts : List AreaOffers) : Type 0 where
   pub exact : All (λ (part : AreaOffers). Exactly (wanted part.area) part.offers.items) parts
-  pub every : (n : ℕ) (o : Offer) → HasArea front n → wanted n o → HasPart parts n
+  pub every : (n : ℕ) (o : Offer) → HasArea front n → wanted n o → HasAreaPart parts n
 
 pub parts_none : (wanted : ℕ → Offer → Type 0) → PartsSoFar wanted [] []
 parts_none wanted = record { exact = λ k d within. absurd (omega arith); every = λ n o has is. absurd (omega (arith, has.among.1)) }
@@ -134,10 +101,10 @@ parts_more wanted front a old new part before area is adds = record {
         (λ same. subst (λ (x : AreaOffers). Exactly (wanted x.area) x.offers.items) same is)
         either
 
-    kept : (n : ℕ) → HasPart old n → HasPart new n
+    kept : (n : ℕ) → HasAreaPart old n → HasAreaPart new n
     kept n has = record { part = has.part; among = adds.kept has.part has.among; area = has.area }
 
-    new_part : (n : ℕ) (o : Offer) → part.area ≡ n → wanted n o → HasPart new n
+    new_part : (n : ℕ) (o : Offer) → part.area ≡ n → wanted n o → HasAreaPart new n
     new_part n o number here =
         let offered : Contains part.offers.items o = (is o).1 (subst (λ (m : ℕ). wanted m o) (sym number) here) in
         record { part = part; among = adds.added o offered; area = number }
@@ -148,7 +115,7 @@ pub no_intra_cost : (net : Network) (n : ℕ) (p : Block) (u : ℕ) → ((cost :
     (◌≡◌ {A = Option ℕ} None (Some cost)) ↔ IntraAreaCost net n p u cost
 no_intra_cost net n p u none cost = (λ is. absurd (none-some cost is), λ costs. absurd (none cost costs))
 
-pub no_intra_part : (net : Network) (d : Destination) (n u : ℕ) → IsDestination net d → (HasPart d.parts.items n → ⊥) → (cost : ℕ) →
+pub no_intra_part : (net : Network) (d : Destination) (n u : ℕ) → IsDestination net d → (HasAreaPart d.parts.items n → ⊥) → (cost : ℕ) →
     IntraAreaCost net n d.dest u cost → ⊥
 no_intra_part net d n u is none cost costs = none (is.every n costs.best.at costs.best.attained.asks costs.best.attained.offered)
 
@@ -162,8 +129,8 @@ no_intra_anywhere net d given u is same none intra =
     (subst (λ (n : ℕ). IntraAreaCost net n d.dest u intra.cost) (sym has.area) intra.costs)
 
 pub no_intra_given : (net : Network) (d : Destination) (given : List AreaOffers) (n u : ℕ) → IsDestination net d → given ≡ d.parts.items →
-    (HasPart given n → ⊥) → (cost : ℕ) → IntraAreaCost net n d.dest u cost → ⊥
-no_intra_given net d given n u is same none = no_intra_part net d n u is (subst (λ (l : List AreaOffers). HasPart l n → ⊥) same none)
+    (HasAreaPart given n → ⊥) → (cost : ℕ) → IntraAreaCost net n d.dest u cost → ⊥
+no_intra_given net d given n u is same none = no_intra_part net d n u is (subst (λ (l : List AreaOffers). HasAreaPart l n → ⊥) same none)
 
 pub part_is : (net : Network) (d : Destination) (given : List AreaOffers) (part : AreaOffers) (n : ℕ) → IsDestination net d → given ≡ d.parts.items →
     Contains given part → part.area ≡ n → AreOffers (OffersSubnet net n d.dest) part.offers.items
@@ -172,11 +139,21 @@ part_is net d given part n is same among area =
     (All-contains (λ (x : AreaOffers). AreOffers (OffersSubnet net x.area d.dest) x.offers.items) d.parts.items part is.exact
     (subst (λ (l : List AreaOffers). Contains l part) same among))
 
-pub intra_cost_is : (net : Network) (n : ℕ) (p : Block) (u : ℕ) (reach : Reach) (offers given : List Offer) → IsInside net n u reach →
+-- a router that reaches an offer of an area is in the area
+pub reaches_inside : (net : Network) (n : ℕ) (p : Block) (u cost : ℕ) → BestCost (Adjacent net (Area n)) (OffersSubnet net n p) u cost → InArea net u n
+reaches_inside net n p u cost best = from best.attained.reached.legs best.attained.reached.walk.leads
+  where
+    from : (legs : List Leg) → Walks (Adjacent net (Area n)) u legs best.at → InArea net u n
+    from [] here =
+        let offered = best.attained.offered in
+        subst (λ (w : ℕ). InArea net w n) (sym here) (record { interface = offered.interface; up = offered.up; area = offered.area })
+    from (leg ∷ legs) over = (Adjacent-in_area net n u leg.to leg.cost over.0).0
+
+pub intra_cost_is : (net : Network) (n : ℕ) (p : Block) (u : ℕ) (reach : Reach) (offers given : List Offer) → IsReach net n u reach →
     AreOffers (OffersSubnet net n p) offers → given ≡ offers →
     (found : Option ℕ) → MatchOption found (NoneTotals reach given) (IsBestTotal reach given) → (cost : ℕ) →
     (found ≡ Some cost) ↔ IntraAreaCost net n p u cost
-intra_cost_is net n p u reach offers given inside are same found best cost =
-    let is = best_cost_is (Adjacent net (Area n)) u reach (OffersSubnet net n p) given inside.reach_is.least
+intra_cost_is net n p u reach offers given reach_is are same found best cost =
+    let is = best_cost_is (Adjacent net (Area n)) u reach (OffersSubnet net n p) given reach_is.least
     (lists_from (OffersSubnet net n p) offers given are same) found best cost in
-    (λ e. record { inside = inside.inside; best = is.0 e }, λ costs. is.1 costs.best)
+    (λ e. record { inside = reaches_inside net n p u cost (is.0 e); best = is.0 e }, λ costs. is.1 costs.best)

@@ -1,6 +1,8 @@
 mod AreaFacts
 mod CandidateLists
 mod CostBounds
+mod SubnetFacts
+mod AdjacentFacts
 mod IntraFacts
 mod RangeFacts
 mod SummaryFacts
@@ -9,4 +11,6 @@ mod EntryFacts
 mod ProtocolFacts
 mod DestinationFacts
 mod ZoneRoutes
+mod TwinLaws
+mod TwinFacts
 mod BorderLists

@@ -1,14 +1,11 @@
 -- What OSPF gives routers keeps what every protocol keeps.
-use Rattle.std.proofs.Common.{◌≡◌, ℕ, ◌<◌, ◌≤◌, ◌⊎◌, inl, inr, List, length, Option, Some, None, MatchOption, IsTrue, false, get_or, sym, subst, arith}
-use Rattle.std.specs.List.{Contains, All}
-use Rattle.std.specs.Option.{is_some}
+use Rattle.std.proofs.Common.{◌≡◌, ℕ, ◌<◌, ◌≤◌, ◌⊎◌, inl, inr, List, length, get_or, arith}
+use Rattle.std.specs.List.{Contains}
 use Rattle.std.specs.List.Sorted.{IsStrictlyIncreasing}
-use Rattle.std.proofs.lemmas.Bool.{false≢true}
-use Rattle.std.proofs.lemmas.List.Elements.{All-contains, Contains-get_or}
+use Rattle.std.proofs.lemmas.List.Elements.{Contains-get_or}
 use Rattle.net_addr.specs.Addresses.{Block}
-use Rattle.net_model.proofs.NetworkFacts.{Adjacent-to_within, Adjacent-in_area}
-use Rattle.net_model.specs.Network.{Network, Adjacent}
-use Rattle.net_model.specs.Lookups.{LeastArc}
+use Rattle.net_model.proofs.NetworkFacts.{Adjacent-to_within}
+use Rattle.net_model.specs.Network.{Network}
 use Rattle.net_model.specs.declared.zone.Zone.TheVariants.{Area}
 use Rattle.route_core.specs.Tables.{AreLinkedHops}
 use Rattle.route_core.specs.declared.entry.Entry.TheVariants.{Via, Discard}
@@ -16,32 +13,12 @@ use Rattle.igp_theory.specs.Ospf.{OspfEntry, intra_area, discard, inter_area}
 use Rattle.igp_theory.specs.Laws.{IsOspfNeighbor, Forwards}
 use Rattle.igp_theory.proofs.TableLaws.{ospf_entry_unique, ospf_entry_forwards, ospf_hop_is_neighbor}
 use Rattle.route_tables.specs.Entries.{IsLawful}
-use Rattle.ospf_routes.specs.steps.Areas.{AreAreas}
-use Rattle.ospf_routes.specs.declared.areas.AreaWalks.{AreaWalks}
 
 -- Neighbors
 
 -- a neighbor is a router
 neighbor_is_router : (net : Network) (u v : ℕ) → IsOspfNeighbor net u v → v < length net
 neighbor_is_router net u v is = Adjacent-to_within net (Area is.area) u v is.cost is.adjacent
-
--- two routers are neighbors where some arc leads from one to the other in one of the areas
-pub neighbor_by : (net : Network) (u v n : ℕ) (arc : Option ℕ) → MatchOption arc ((c : ℕ) → Adjacent net (Area n) u v c → ⊥) (LeastArc net (Area n) u v) →
-    IsTrue (is_some arc) → IsOspfNeighbor net u v
-neighbor_by net u v n None none wrong = absurd (false≢true wrong)
-neighbor_by net u v n (Some c) least _ = record { area = n; cost = c; adjacent = least.adjacent }
-
-pub no_arc : (net : Network) (u v n : ℕ) (arc : Option ℕ) → MatchOption arc ((c : ℕ) → Adjacent net (Area n) u v c → ⊥) (LeastArc net (Area n) u v) →
-    is_some arc ≡ false → (c : ℕ) → Adjacent net (Area n) u v c → ⊥
-no_arc net u v n None none _ = none
-no_arc net u v n (Some c) least wrong = absurd (false≢true (sym wrong))
-
-pub no_neighbor : (net : Network) (areas : List AreaWalks) (u v : ℕ) → AreAreas net areas →
-    All (λ (a : AreaWalks). (c : ℕ) → Adjacent net (Area a.number) u v c → ⊥) areas → IsOspfNeighbor net u v → ⊥
-no_neighbor net areas u v are none is =
-    let has = are.every u is.area (Adjacent-in_area net is.area u v is.cost is.adjacent).0 in
-    All-contains (λ (a : AreaWalks). (c : ℕ) → Adjacent net (Area a.number) u v c → ⊥) areas has.area none has.among is.cost
-    (subst (λ (n : ℕ). Adjacent net (Area n) u v is.cost) (sym has.number) is.adjacent)
 
 -- Entries
 

@@ -14,8 +14,8 @@ use Rattle.net_model.specs.Configuration.{Configuration}
 use Rattle.net_model.specs.Network.{Network, HasConfiguration, IsBorderRouter}
 use Rattle.net_model.specs.declared.area.Range.{Range}
 use Rattle.igp_theory.specs.Ospf.{IntraAreaCost, HasRange, IsComponent, IsActive, IsActiveRange, IsCompatible, RangeCost, stated, least, greatest}
-use Rattle.ospf_routes.specs.steps.Candidates.{IsCandidate, subnet}
-use Rattle.ospf_routes.specs.steps.Destinations.{dests_of}
+use Rattle.ospf_routes.specs.steps.Candidates.{IsOspfCandidate, subnet}
+use Rattle.ospf_routes.specs.steps.Destinations.{ospf_prefixes}
 use Rattle.ospf_routes.specs.Lists.{Exactly, Adds}
 use Rattle.ospf_routes.specs.steps.Ranges.{IsLonger, HasComponentCost, IsComponentOfSome, IsPicked, IsActiveAt, HasActive, AreActiveRanges, AreRangesBelow}
 use Rattle.ospf_routes.specs.declared.intra_area.Destination.{Destination}
@@ -50,6 +50,16 @@ component_is net b config given r p cost has router are covers none reached = re
   ];
 }
 
+-- and what it costs within its area is what it costs as a component
+pub component_at : (net : Network) (b : ℕ) (config : Configuration) (given : List Range) (r : Range) (p : Block) (found : ℕ) → HasRange net b r →
+    HasConfiguration net b config → given ≡ config.ranges → Covers r.dest p → (Any (IsLonger r p) given → ⊥) →
+    ((cost : ℕ) → (Some found ≡ Some cost) ↔ IntraAreaCost net r.area p b cost) →
+    (cost : ℕ) → (Some found ≡ Some cost) ↔ IsComponent net b r p cost
+component_at net b config given r p found has router are covers none costs cost = (
+  λ same. component_is net b config given r p cost has router are covers none ((costs cost).0 same),
+  λ component. (costs cost).1 component.reached,
+)
+
 pub no_component_past_longer : (net : Network) (b : ℕ) (config : Configuration) (given : List Range) (r : Range) (p : Block) (cost : ℕ) → HasRange net b r →
     HasConfiguration net b config → given ≡ config.ranges →
     Any (IsLonger r p) given → IsComponent net b r p cost → ⊥
@@ -65,7 +75,7 @@ pub no_component : (net : Network) (b : ℕ) (r : Range) (p : Block) → ((cost 
 no_component net b r p none cost = (λ no. absurd (none-some cost no), λ is. absurd (none cost is))
 
 -- a prefix with an intra-area cost is a subnet
-pub intra_is_candidate : (net : Network) (n : ℕ) (p : Block) (u cost : ℕ) → IntraAreaCost net n p u cost → IsCandidate net p
+pub intra_is_candidate : (net : Network) (n : ℕ) (p : Block) (u cost : ℕ) → IntraAreaCost net n p u cost → IsOspfCandidate net p
 intra_is_candidate net n p u cost costs =
     let offers = costs.best.attained.offered in
     subnet (record {
@@ -80,7 +90,7 @@ intra_is_candidate net n p u cost costs =
     some_area (Some k) m is = refl
 
 -- each candidate is the prefix of a destination
-pub destination_of : (net : Network) (ds : List Destination) (p : Block) → Contains (dests_of ds) p → (P : Block → Type 0) → P p →
+pub destination_of : (net : Network) (ds : List Destination) (p : Block) → Contains (ospf_prefixes ds) p → (P : Block → Type 0) → P p →
     Any (λ (d : Destination). P d.dest) ds
 destination_of net ds p has P holds =
     let given = Contains-map (λ (d : Destination). d.dest) ds p has in
@@ -88,7 +98,7 @@ destination_of net ds p has P holds =
 
 -- the costs of the components, over all destinations
 pub component_costs_are : (net : Network) (b : ℕ) (r : Range) (ds : List Destination) (costs : List ℕ) →
-    ((p : Block) → IsCandidate net p → Contains (dests_of ds) p) →
+    ((p : Block) → IsOspfCandidate net p → Contains (ospf_prefixes ds) p) →
     Exactly (λ c. Any (λ (d : Destination). IsComponent net b r d.dest c) ds) costs → Exactly (HasComponentCost net b r) costs
 component_costs_are net b r ds costs every are =
     exactly_same costs (λ c. Any (λ (d : Destination). IsComponent net b r d.dest c) ds) (HasComponentCost net b r) are

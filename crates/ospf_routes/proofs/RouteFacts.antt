@@ -9,7 +9,7 @@ use Rattle.std.proofs.lemmas.List.Quantifiers.{Any-push}
 use Rattle.std.proofs.lemmas.List.Elements.{All-contains, Contains-get_or, Contains-push_cases}
 use Rattle.net_addr.specs.Addresses.{Block}
 use Rattle.net_model.proofs.NetworkFacts.{Adjacent-to_within}
-use Rattle.net_model.specs.Network.{Network, Adjacent}
+use Rattle.net_model.specs.Network.{Network, Adjacent, InArea}
 use Rattle.net_model.specs.declared.zone.Zone.TheVariants.{Area}
 use Rattle.walk_core.specs.Walks.{Arcs}
 use Rattle.walk_core.specs.Offers.{Offers, BestCost, BestHop}
@@ -20,55 +20,55 @@ use Rattle.walk_core.proofs.OfferLaws.{best_total_is_best_cost, none_totals_no_b
 use Rattle.walk_core.proofs.WalkLaws.{best_hop_is_arc}
 use Rattle.igp_theory.specs.Ospf.{OffersSubnet, IntraAreaCost, IntraAreaHop, IsIntraArea, ListensTo, backbone, one_area, OfOthers, Summary, InterAreaHop}
 use Rattle.igp_theory.proofs.TableLaws.{listens_to_one_area}
-use Rattle.ospf_routes.specs.steps.Areas.{AreAreas, HasArea, IsInside, IsReach}
+use Rattle.ospf_routes.specs.steps.Areas.{AreAreas, HasArea, IsReach}
 use Rattle.ospf_routes.specs.steps.Offered.{AreOffers}
 use Rattle.ospf_routes.specs.Lists.{Adds}
 use Rattle.route_tables.proofs.BestRoutes.{best_hops_are, hops_same}
 use Rattle.route_tables.specs.BestRoutes.{AreBestHops}
 use Rattle.ospf_routes.specs.steps.Routing.{AreUnited, AreSomeUnited, IsAreaRoute, AreAreaRoutes, IsIntraRoute, ListenedCost, IsListenedRoute}
-use Rattle.ospf_routes.specs.steps.Destinations.{HasPart, IsDestination}
+use Rattle.ospf_routes.specs.steps.Destinations.{HasAreaPart, IsDestination}
 use Rattle.ospf_routes.specs.declared.intra_area.Destination.{Destination}
 use Rattle.ospf_routes.specs.steps.Summarized.{AreSummaries, IsSummaryOf}
 use Rattle.ospf_routes.specs.declared.areas.AreaWalks.{AreaWalks}
 use Rattle.ospf_routes.specs.declared.intra_area.AreaOffers.{AreaOffers}
-use Rattle.ospf_routes.specs.declared.summaries.Summaries.{Summaries}
+use Rattle.ospf_routes.specs.declared.announcements.Summaries.{Summaries}
 use Rattle.ospf_routes.proofs.CostBounds.{lists_from}
+use Rattle.ospf_routes.proofs.IntraFacts.{reaches_inside}
 use Rattle.ospf_routes.proofs.SummaryFacts.{OfReached, reached_best, reached_hop}
 use Rattle.route_tables.proofs.ListFacts.{any_of, any_in, any_left, any_cases, one_more}
 
 -- Within an area
 
-pub area_route_is : (net : Network) (n : ℕ) (p : Block) (u : ℕ) (reach : Reach) (offers given : List Offer) → IsInside net n u reach →
+pub area_route_is : (net : Network) (n : ℕ) (p : Block) (u : ℕ) (reach : Reach) (offers given : List Offer) → IsReach net n u reach →
     AreOffers (OffersSubnet net n p) offers → given ≡ offers →
     (count : ℕ) → count ≡ length net → (found : Option (List ℕ)) → MatchOption found (NoneTotals reach given) (AreBestHops reach given count) →
     MatchOption found ((cost : ℕ) → IntraAreaCost net n p u cost → ⊥) (IsAreaRoute net n p u)
-area_route_is net n p u reach offers given inside are same count is None none = λ cost costs.
-    none_totals_no_best (Adjacent net (Area n)) u reach (OffersSubnet net n p) given inside.reach_is.least
+area_route_is net n p u reach offers given reach_is are same count is None none = λ cost costs.
+    none_totals_no_best (Adjacent net (Area n)) u reach (OffersSubnet net n p) given reach_is.least
     (lists_from (OffersSubnet net n p) offers given are same) none cost costs.best
-area_route_is net n p u reach offers given inside are same count is (Some hops) best =
+area_route_is net n p u reach offers given reach_is are same count is (Some hops) best =
     let arc : Arcs = Adjacent net (Area n) in
     let listed = lists_from (OffersSubnet net n p) offers given are same in
+    let costs : BestCost arc (OffersSubnet net n p) u best.cost =
+    (best_total_is_best_cost arc u reach (OffersSubnet net n p) given best.cost reach_is.least listed).0 best.best in
+    let inside : InArea net u n = reaches_inside net n p u best.cost costs in
     record {
-      inside = inside.inside;
+      inside = inside;
       cost = best.cost;
-      costs = record {
-        inside = inside.inside;
-        best = (best_total_is_best_cost arc u reach (OffersSubnet net n p)
-            given best.cost inside.reach_is.least listed).0 best.best;
-      };
-      hops_are = best_hops_are arc u reach (OffersSubnet net n p) given count hops inside.reach_is.least listed
+      costs = record { inside = inside; best = costs };
+      hops_are = best_hops_are arc u reach (OffersSubnet net n p) given count hops reach_is.least listed
           (λ h c over. subst (λ (m : ℕ). h < m) (sym is) (Adjacent-to_within net (Area n) u h c over)) best;
     }
 
 -- the routes in the first areas
 pub record AreaListsSoFar (net : Network) (p : Block) (u : ℕ) (front : List AreaOffers) (lists : List (List ℕ)) : Type 0 where
   pub each : (hops : List ℕ) → Contains lists hops → (n : ℕ) × IsAreaRoute net n p u hops
-  pub every : (n cost : ℕ) → HasPart front n → IntraAreaCost net n p u cost → (hops : List ℕ) × Contains lists hops × IsAreaRoute net n p u hops
+  pub every : (n cost : ℕ) → HasAreaPart front n → IntraAreaCost net n p u cost → (hops : List ℕ) × Contains lists hops × IsAreaRoute net n p u hops
 
 pub area_lists_none : (net : Network) (p : Block) (u : ℕ) → AreaListsSoFar net p u [] []
 area_lists_none net p u = record { each = λ hops has. absurd (omega (arith, has.1)); every = λ n cost has costs. absurd (omega (arith, has.among.1)) }
 
-part_cases : (front : List AreaOffers) (a : AreaOffers) (n : ℕ) → HasPart (front ++ a ∷ []) n → HasPart front n ⊎ (a.area ≡ n)
+part_cases : (front : List AreaOffers) (a : AreaOffers) (n : ℕ) → HasAreaPart (front ++ a ∷ []) n → HasAreaPart front n ⊎ (a.area ≡ n)
 part_cases front a n has = ⊎_elim
     (λ among. inl (record { part = has.part; among = among; area = has.area }))
     (λ same. inr (ap (λ (x : AreaOffers). x.area) same ∙ has.area))
@@ -103,7 +103,7 @@ area_lists_all net d given u lists is same so_far = record {
   each = so_far.each;
   every = λ n cost costs.
       let best = costs.best in
-      let has : HasPart given n = subst (λ (l : List AreaOffers). HasPart l n) (sym same) (is.every n best.at best.attained.asks best.attained.offered) in
+      let has : HasAreaPart given n = subst (λ (l : List AreaOffers). HasAreaPart l n) (sym same) (is.every n best.at best.attained.asks best.attained.offered) in
       so_far.every n cost has costs;
 }
 
@@ -241,11 +241,11 @@ listened_area net areas n u are (one_area _ inside) = are.every u n inside
 
 pub summary_part_there : (net : Network) (areas : List AreaWalks) (s : Summaries) (given : List AreaOffers) (n u : ℕ) → AreAreas net areas →
     AreSummaries net areas s → given ≡ s.parts.items → ListensTo net u n →
-    (HasPart given n → ⊥) → (cost : ℕ) → ListenedCost net s.dest u cost → ⊥
+    (HasAreaPart given n → ⊥) → (cost : ℕ) → ListenedCost net s.dest u cost → ⊥
 summary_part_there net areas s given n u are summaries same listens none cost costs =
     let best : BestCost (Adjacent net (Area n)) (OfOthers (Summary net s.dest n) u) u cost =
     subst (λ (m : ℕ). BestCost (Adjacent net (Area m)) (OfOthers (Summary net s.dest m) u) u cost) (listens_to_one_area costs.listens listens) costs.best in
-    none (subst (λ (l : List AreaOffers). HasPart l n) (sym same)
+    none (subst (λ (l : List AreaOffers). HasAreaPart l n) (sym same)
     (summaries.every n best.at best.attained.asks (listened_area net areas n u are listens) best.attained.offered.offered))
 
 -- without announcements nothing is listened to

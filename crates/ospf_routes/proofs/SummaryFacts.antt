@@ -4,7 +4,7 @@ use Rattle.std.proofs.Common.{subst, ◌∙◌, arith}
 use Rattle.std.specs.List.{Contains, Any, All}
 use Rattle.std.proofs.lemmas.Option.{none-some, same_Some}
 use Rattle.std.proofs.lemmas.List.Elements.{Contains-get_or}
-use Rattle.net_addr.specs.Addresses.{Block}
+use Rattle.net_addr.specs.Addresses.{Block, default_prefix}
 use Rattle.net_model.proofs.Adjacency.{HasConfiguration-unique}
 use Rattle.net_model.proofs.NetworkFacts.{InArea-within}
 use Rattle.net_model.specs.Configuration.{Configuration}
@@ -18,17 +18,19 @@ use Rattle.walk_core.specs.BestOffers.{NoneTotals, IsBestTotal}
 use Rattle.walk_core.specs.declared.offers.Offer.{Offer}
 use Rattle.walk_core.proofs.WalkLaws.{best_cost_unique}
 use Rattle.igp_theory.specs.Ospf.{IntraAreaCost, IsIntraArea, IsActiveRange, BackboneSummary, AreaSummary, BorderCost, RangeCost, HasStub, IsTotallyStubby}
-use Rattle.igp_theory.specs.Ospf.{Summary, into_backbone, into_area, OfOthers, default_prefix}
-use Rattle.ospf_routes.specs.steps.Areas.{AreAreas, IsReach}
+use Rattle.igp_theory.specs.Ospf.{Summary, into_backbone, into_area, OfOthers}
+use Rattle.ospf_routes.specs.steps.Areas.{IsReach}
+use Rattle.ospf_routes.specs.steps.Destinations.{IsDestination}
 use Rattle.ospf_routes.specs.Lists.{Exactly, Adds}
 use Rattle.ospf_routes.specs.steps.Offered.{AreOffers, OutsideOf}
 use Rattle.ospf_routes.specs.steps.Ranges.{IsComponentOfSome, AreActiveRanges}
 use Rattle.ospf_routes.specs.steps.Routing.{IsReachedOther}
 use Rattle.ospf_routes.specs.steps.Summarized.{IsSubnetSummary, SummarizedSubnet, IsRangeRoute, SummarizedRange, SummarizedFrom, AreSummarized, OutsideSummary}
 use Rattle.ospf_routes.specs.steps.Summarized.{IsBorderOffer, IsAllowed, IsAlone, IsDefault, RouterDefault, HasDefault}
-use Rattle.ospf_routes.specs.declared.areas.AreaWalks.{AreaWalks}
+use Rattle.ospf_routes.specs.declared.intra_area.AreaOffers.{AreaOffers}
+use Rattle.ospf_routes.specs.declared.intra_area.Destination.{Destination}
 use Rattle.ospf_routes.specs.declared.ranges.ActiveRange.{ActiveRange}
-use Rattle.ospf_routes.specs.declared.subnets.AreaRoute.{AreaRoute}
+use Rattle.ospf_routes.specs.declared.area_route.AreaRoute.{AreaRoute}
 use Rattle.route_tables.proofs.ListFacts.{AnyBelow, any_of, any_in, exactly_same, exactly_added, adds_nothing, adds_same, adds_both}
 use Rattle.route_tables.proofs.BestRoutes.{best_cost_is}
 use Rattle.ospf_routes.proofs.CostBounds.{lists_from}
@@ -53,27 +55,27 @@ pub subnet_summary_none : (net : Network) (p : Block) (n b : ℕ) → ((cost : �
     (r : AreaRoute) → (◌≡◌ {A = Option AreaRoute} None (Some r)) ↔ IsSubnetSummary net p n b r
 subnet_summary_none net p n b none r = (λ no. absurd (none-some r no), λ is. absurd (none-some r.asks ((none r.asks).1 is.costs)))
 
-pub subnets_nothing : (net : Network) (p : Block) (b : ℕ) (old : List AreaRoute) → (IsBorderRouter net b → IsComponentOfSome net b p) →
-    Adds old old (SummarizedSubnet net p b)
-subnets_nothing net p b old blocked =
-    adds_nothing old (SummarizedSubnet net p b) (λ r s. let is = blocked s.border in s.alone is.range is.cost is.component)
+pub subnets_nothing : (net : Network) (p : Block) (b : ℕ) (old : List AreaRoute) → IsComponentOfSome net b p → Adds old old (SummarizedSubnet net p b)
+subnets_nothing net p b old is = adds_nothing old (SummarizedSubnet net p b) (λ r s. s.alone is.range is.cost is.component)
 
-pub subnets_are : (net : Network) (areas : List AreaWalks) (p : Block) (b : ℕ) → AreAreas net areas → IsBorderRouter net b →
-    (IsComponentOfSome net b p → ⊥) → (r : AreaRoute) →
-    Any (λ (a : AreaWalks). IsSubnetSummary net p a.number b r) areas ↔ SummarizedSubnet net p b r
-subnets_are net areas p b are border alone r = (
+pub subnets_are : (net : Network) (d : Destination) (given : List AreaOffers) (b : ℕ) → IsDestination net d → given ≡ d.parts.items →
+    IsBorderRouter net b → (IsComponentOfSome net b d.dest → ⊥) → (r : AreaRoute) →
+    Any (λ (part : AreaOffers). IsSubnetSummary net d.dest part.area b r) given ↔ SummarizedSubnet net d.dest b r
+subnets_are net d given b is same border alone r = (
   λ any.
-      let f = any_in (λ (a : AreaWalks). IsSubnetSummary net p a.number b r) areas any in
+      let f = any_in (λ (part : AreaOffers). IsSubnetSummary net d.dest part.area b r) given any in
       record {
         at = f.holds.at;
         border = border;
-        costs = subst (λ (n : ℕ). IntraAreaCost net n p b r.asks) (sym f.holds.area) f.holds.costs;
+        costs = subst (λ (n : ℕ). IntraAreaCost net n d.dest b r.asks) (sym f.holds.area) f.holds.costs;
         alone = λ range c component. alone (record { range = range; cost = c; component = component });
       },
   λ s.
-      let has = are.every b r.area s.costs.inside in
-      any_of (λ (a : AreaWalks). IsSubnetSummary net p a.number b r) areas has.area has.among
-      (record { area = sym has.number; at = s.at; costs = subst (λ (n : ℕ). IntraAreaCost net n p b r.asks) (sym has.number) s.costs }),
+      let best = s.costs.best in
+      let has = is.every r.area best.at best.attained.asks best.attained.offered in
+      any_of (λ (part : AreaOffers). IsSubnetSummary net d.dest part.area b r) given has.part
+      (subst (λ (l : List AreaOffers). Contains l has.part) (sym same) has.among)
+      (record { area = sym has.area; at = s.at; costs = subst (λ (n : ℕ). IntraAreaCost net n d.dest b r.asks) (sym has.area) s.costs }),
 )
 
 pub range_route_some : (a : ActiveRange) (p : Block) (b : ℕ) → a.range.dest ≡ p → IsTrue a.range.advertise → (r : AreaRoute) →
@@ -282,9 +284,9 @@ reached_hop arc offer u h = (
 
 -- Border routers
 
-pub no_border_cost : (net : Network) (p : Block) (u : ℕ) → (IsBorderRouter net u → (IsIntraArea net p u → ⊥) → (IsActiveRange net p u → ⊥) → ⊥) →
+pub no_border_cost : (net : Network) (p : Block) (u : ℕ) → ((IsIntraArea net p u → ⊥) → (IsActiveRange net p u → ⊥) → ⊥) →
     (cost : ℕ) → (◌≡◌ {A = Option ℕ} None (Some cost)) ↔ BorderCost net p u cost
-no_border_cost net p u none cost = (λ no. absurd (none-some cost no), λ costs. absurd (none costs.border costs.no_intra costs.no_range))
+no_border_cost net p u none cost = (λ no. absurd (none-some cost no), λ costs. absurd (none costs.no_intra costs.no_range))
 
 pub border_cost_is : (net : Network) (p : Block) (u : ℕ) (reach : Reach) (others given_others : List Offer) → IsBorderRouter net u →
     (IsIntraArea net p u → ⊥) → (IsActiveRange net p u → ⊥) → IsReach net 0 u reach →

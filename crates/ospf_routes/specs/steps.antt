@@ -1,10 +1,13 @@
 pub mod Areas
 pub mod Candidates
 pub mod Offered
+pub mod Subnets
+pub mod Adjacent
 pub mod Destinations
 pub mod Domain
 pub mod Ranges
 pub mod Summarized
+pub mod Twins
 pub mod Networks
 pub mod Routing
 pub mod AreaReach

@@ -1,8 +1,7 @@
 ghost use Rattle.std.specs.Prelude.{◌≡◌, ◌<◌, ◌↔◌, ℕ, length, Some, Any, Contains, IfOk, IfNone, IfSome, IsTrue, OnOk, MatchOption};
-ghost use Rattle.net_model.specs.Network.{InArea, IsBorderRouter};
+ghost use Rattle.net_model.specs.Network.{InArea, IsBorderRouter, RunsArea};
 ghost use Rattle.net_model.specs.Refusals.{IsNetwork};
-ghost use Rattle.igp_theory.specs.Ospf.{ListensTo};
-ghost use Rattle.ospf_routes.specs.steps.Areas.{AreAreas, AreNumbered, HasArea, HasWalks, IsReach, IsInside, RunsArea, RunsOther};
+ghost use Rattle.ospf_routes.specs.steps.Areas.{AreAreas, AreListeners, AreNumbered, HasArea, HasWalks, IsListener, IsReach, RunsOther};
 ghost use Rattle.ospf_routes.specs.steps.AreaReach.{IsThisBorder, IsZoneReach};
 ghost use Rattle.ospf_routes.specs.Lists.{Adds, Exactly};
 
@@ -85,28 +84,6 @@ fn area_of(interface: &Interface) -> Option<u32>
     if interface.up { interface.area } else { None }
 }
 
-/// Whether the interface is up and runs OSPF in the area.
-fn runs_area(interface: &Interface, number: u32) -> bool
-    ensures { IsTrue result ↔ RunsArea number interface.now }
-{
-    interface.up && interface.area == Some(number)
-}
-
-/// Whether the router is in the area.
-pub fn in_area(net: &Net, u: u32, number: u32) -> bool
-    requires { u < length net.now }
-    ensures { IsTrue result ↔ InArea net.now u number }
-{
-    some_runs(net.config(u).interfaces.as_slice(), number)
-}
-
-/// Whether one of the interfaces is up and runs OSPF in the area.
-fn some_runs(interfaces: &[Interface], number: u32) -> bool
-    ensures { IsTrue result ↔ Any (RunsArea number) interfaces.now }
-{
-    interfaces.iter().any(|i| runs_area(i, number))
-}
-
 /// The area of the first interface that is up and runs OSPF.
 fn first_area(interfaces: &[Interface]) -> Option<u32>
     ensures { MatchOption result ((n : ℕ) → Any (RunsArea n) interfaces.now → ⊥) (λ n. Any (RunsArea n) interfaces.now) }
@@ -169,14 +146,25 @@ fn border_router(net: &Net, u: u32) -> Option<u32>
 
 /// The area whose announcements the router listens to: the backbone at a border router, else its one
 /// area (RFC 2328, section 16.2).
-pub fn listens_to(net: &Net, u: u32) -> Option<u32>
+fn listens_to(net: &Net, u: u32) -> Option<u32>
     requires { u < length net.now }
-    ensures { (n : ℕ) → (result ≡ Some n) ↔ ListensTo net.now u n }
+    ensures { IsListener net.now u result }
 {
     if is_border(net, u) {
         return Some(0);
     }
     first_area(net.config(u).interfaces.as_slice())
+}
+
+/// The area that each router listens to.
+pub fn all_listens(alloc: Global, net: &Net) -> Result<Vec<Option<u32>>, OutOfMemory>
+    ensures { IfOk result (λ listens. AreListeners net.now (length net.now) listens.items) }
+{
+    let mut listens = Vec::new(alloc);
+    for u in 0..net.routers() {
+        listens.push(listens_to(net, u))?;
+    }
+    Ok(listens)
 }
 
 /// The least walks of an area.
@@ -233,27 +221,6 @@ pub fn reach<'a>(net: &Net, areas: &'a [AreaWalks], number: u32, u: u32) -> Opti
 {
     match walks_of(areas, number) {
         Some(walks) => Some(walks.from_router(u)),
-        None => None,
-    }
-}
-
-/// The least walks from the router in an area that it is in.
-pub fn reach_inside<'a>(
-    net: &Net,
-    areas: &'a [AreaWalks],
-    number: u32,
-    u: u32,
-) -> Option<&'a LeastWalks>
-    requires router { u < length net.now }
-    requires areas { AreAreas net.now areas.now }
-    ensures none { IfNone result (InArea net.now u number → ⊥) }
-    ensures some { IfSome result (λ walks. IsInside net.now number u walks.now) }
-{
-    if !in_area(net, u, number) {
-        return None;
-    }
-    match reach(net, areas, number, u) {
-        Some(walks) => Some(walks),
         None => None,
     }
 }

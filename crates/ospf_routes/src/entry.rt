@@ -3,18 +3,18 @@ ghost use Rattle.igp_theory.specs.Ospf.{IntraAreaCost, IsIntraArea, ListensTo, O
 ghost use Rattle.route_core.specs.declared.entry.Entry.{Entry};
 ghost use Rattle.route_tables.specs.Routings.{ForwardsBy, IsRouteFor};
 ghost use Rattle.ospf_routes.specs.steps.AreaReach.{area_reach};
-ghost use Rattle.ospf_routes.specs.steps.Areas.{AreAreas};
+ghost use Rattle.ospf_routes.specs.steps.Areas.{AreAreas, IsListener};
 ghost use Rattle.ospf_routes.specs.steps.Destinations.{IsDestination};
 ghost use Rattle.ospf_routes.specs.steps.Ranges.{AreActiveRanges};
 ghost use Rattle.ospf_routes.specs.steps.Routing.{AreAreaRoutes, IsAreaRoute, IsIntraRoute, IsListenedRoute, ListenedCost};
 ghost use Rattle.ospf_routes.specs.steps.Summarized.{AreSummaries};
 
 use crate::OutOfMemory;
-use crate::areas::{AreaWalks, in_area, listens_to, reach_inside, zone_reach};
+use crate::announcements::Summaries;
+use crate::areas::{AreaWalks, reach, zone_reach};
+use crate::best_of_others::{best_of_others, united_some};
 use crate::intra_area::{AreaOffers, Destination, part_of};
 use crate::ranges::ActiveRanges;
-use crate::route::{best_of_others, united_some};
-use crate::summaries::Summaries;
 use net_model::Net;
 use route_core::Hops;
 use route_tables::{Route, best_hops, best_route, push_option};
@@ -26,6 +26,7 @@ pub fn route_of(
     alloc: Global,
     net: &Net,
     areas: &[AreaWalks],
+    listens: Option<u32>,
     ranges: &ActiveRanges,
     destination: &Destination,
     summaries: &Summaries,
@@ -33,6 +34,7 @@ pub fn route_of(
 ) -> Result<Option<Route>, OutOfMemory>
     requires router { u < length net.now }
     requires areas { AreAreas net.now areas.now }
+    requires listens { IsListener net.now u listens }
     requires ranges { AreActiveRanges net.now u ranges.now }
     requires destination { IsDestination net.now destination.now }
     requires summaries { AreSummaries net.now areas.now summaries.now }
@@ -41,7 +43,7 @@ pub fn route_of(
         ((e : Entry) → OspfEntry net.now u destination.now.dest e → ⊥)
         (IsRouteFor (area_reach areas.now u) (length areas.now) (length net.now) (OspfEntry net.now u destination.now.dest))) }
 {
-    if net.originates(u, destination.dest) {
+    if destination.is_home(u) {
         return Ok(None);
     }
     if let Some(route) = intra_route(alloc, net, areas, destination, u)? {
@@ -50,7 +52,7 @@ pub fn route_of(
     if ranges.contains(destination.dest) {
         return Ok(Some(Route::Drops));
     }
-    if let Some(route) = inter_route(alloc, net, areas, summaries, u)? {
+    if let Some(route) = inter_route(alloc, net, areas, listens, summaries, u)? {
         return Ok(Some(route));
     }
     Ok(None)
@@ -99,9 +101,6 @@ fn area_route(
         (IsIntraArea net.now destination.now.dest u → ⊥)
         (IsRouteFor (area_reach areas.now u) (length areas.now) (length net.now) (ForwardsBy (IsIntraRoute net.now destination.now.dest u)))) }
 {
-    if !in_area(net, u, part.area) {
-        return Ok(None);
-    }
     match zone_reach(net, areas, part.area, u) {
         Some(found) => {
             let offers = part.offers.as_slice();
@@ -168,7 +167,7 @@ fn area_hops(
         (IsAreaRoute net.now area destination.now.dest u)) }
 {
     match part_of(destination.parts.as_slice(), area) {
-        Some(part) => match reach_inside(net, areas, area, u) {
+        Some(part) => match reach(net, areas, area, u) {
             Some(walks) => best_hops(alloc, walks, part.offers.as_slice(), net.routers()),
             None => Ok(None),
         },
@@ -181,11 +180,13 @@ fn inter_route(
     alloc: Global,
     net: &Net,
     areas: &[AreaWalks],
+    listens: Option<u32>,
     summaries: &Summaries,
     u: u32,
 ) -> Result<Option<Route>, OutOfMemory>
     requires router { u < length net.now }
     requires areas { AreAreas net.now areas.now }
+    requires listens { IsListener net.now u listens }
     requires summaries { AreSummaries net.now areas.now summaries.now }
     ensures { IfOk result (λ found. MatchOption found
         ((cost : ℕ) → ListenedCost net.now summaries.now.dest u cost → ⊥)
@@ -194,7 +195,7 @@ fn inter_route(
     if summaries.parts.as_slice().is_empty() {
         return Ok(None);
     }
-    match listens_to(net, u) {
+    match listens {
         Some(area) => listened_route(alloc, net, areas, summaries, area, u),
         None => Ok(None),
     }

@@ -1,13 +1,17 @@
 ghost use Rattle.std.specs.Prelude.{◌≡◌, ◌<◌, ◌↔◌, ℕ, length, Some, All, Any, Contains, IfOk, IfNone, IfSome, IsTrue, OnOk};
+ghost use Rattle.net_model.specs.Network.{Network};
 ghost use Rattle.igp_theory.specs.Ospf.{IntraAreaCost, IsIntraArea};
 ghost use Rattle.ospf_routes.specs.steps.Areas.{AreAreas, HasArea};
-ghost use Rattle.ospf_routes.specs.steps.Destinations.{AddsPart, HasPart, IsDestination, IsPartOf};
+ghost use Rattle.ospf_routes.specs.steps.Destinations.{AddsPart, HasAreaPart, IsDestination, IsPartOf};
 ghost use Rattle.ospf_routes.specs.steps.Offered.{InsideOf};
+ghost use Rattle.ospf_routes.specs.steps.Subnets.{IsUpSubnet};
+ghost use Rattle.ospf_routes.specs.Lists.{Exactly};
 ghost use Rattle.walk_core.specs.declared.offers.Offer.{Offer as OfferValue};
 
 use crate::OutOfMemory;
-use crate::areas::{AreaWalks, reach_inside};
-use crate::subnets::{AreaRoute, offers_inside, subnet_routes};
+use crate::area_route::{AreaRoute, offers_inside};
+use crate::areas::{AreaWalks, reach};
+use crate::subnets::{Subnets, homes_among, routes_among};
 use net_addr::Prefix;
 use net_model::Net;
 use std::alloc::Global;
@@ -22,30 +26,40 @@ pub struct AreaOffers {
     pub offers: Vec<Offer>,
 }
 
-/// A prefix with what the interfaces of each area offer of it.
+/// A prefix with the routers that it is connected at, and what the interfaces of each area offer of it.
 #[derive(Debug, Drop)]
 pub struct Destination {
     /// The prefix.
     pub dest: Prefix,
+    /// The routers of which an up interface has it as its subnet, whatever that interface runs.
+    pub homes: Vec<u32>,
     /// The offers of each area that has some.
     pub parts: Vec<AreaOffers>,
 }
 
 impl Destination {
-    /// A prefix with what the interfaces of each area offer of it.
+    /// A prefix with what is known of it by the areas and the subnets of a network.
     pub fn build(
         alloc: Global,
-        net: &Net,
         areas: &[AreaWalks],
+        subnets: &Subnets,
         dest: Prefix,
     ) -> Result<Destination, OutOfMemory>
-        requires { AreAreas net.now areas.now }
         ensures dest { IfOk result (λ d. d.dest ≡ dest) }
-        ensures offers { IfOk result (IsDestination net.now) }
+        ensures is { IfOk result (λ d. (net : Network) → AreAreas net areas.now → Exactly (IsUpSubnet net) subnets.now → IsDestination net d) }
     {
-        let routes = subnet_routes(alloc, net, dest)?;
+        let near = subnets.around(dest);
+        let homes = homes_among(alloc, near, dest)?;
+        let routes = routes_among(alloc, near, dest)?;
         let parts = area_parts(alloc, areas, routes.as_slice())?;
-        Ok(Destination { dest, parts })
+        Ok(Destination { dest, homes, parts })
+    }
+
+    /// Whether the prefix is connected at the router.
+    pub fn is_home(&self, u: u32) -> bool
+        ensures { IsTrue result ↔ Contains self.now.homes.items u }
+    {
+        self.homes.contains(&u)
     }
 }
 
@@ -56,7 +70,7 @@ fn area_parts(
     routes: &[AreaRoute],
 ) -> Result<Vec<AreaOffers>, OutOfMemory>
     ensures exact { IfOk result (λ parts. All (IsPartOf routes.now) parts.items) }
-    ensures every { IfOk result (λ parts. (n : ℕ) (o : OfferValue) → HasArea areas.now n → Any (λ r. InsideOf n r o) routes.now → HasPart parts.items n) }
+    ensures every { IfOk result (λ parts. (n : ℕ) (o : OfferValue) → HasArea areas.now n → Any (λ r. InsideOf n r o) routes.now → HasAreaPart parts.items n) }
 {
     let mut parts = Vec::new(alloc);
     for area in areas {
@@ -82,7 +96,7 @@ pub fn push_part(
 
 /// The offers of an area.
 pub fn part_of(parts: &[AreaOffers], area: u32) -> Option<&AreaOffers>
-    ensures none { IfNone result (HasPart parts.now area → ⊥) }
+    ensures none { IfNone result (HasAreaPart parts.now area → ⊥) }
     ensures among { IfSome result (λ part. Contains parts.now part.now) }
     ensures area { IfSome result (λ part. part.now.area ≡ area) }
 {
@@ -108,7 +122,7 @@ pub fn intra_cost(
     ensures { (cost : ℕ) → (result ≡ Some cost) ↔ IntraAreaCost net.now area destination.now.dest u cost }
 {
     match part_of(destination.parts.as_slice(), area) {
-        Some(part) => match reach_inside(net, areas, area, u) {
+        Some(part) => match reach(net, areas, area, u) {
             Some(walks) => walks.best_cost(part.offers.as_slice()),
             None => None,
         },

@@ -1,33 +1,34 @@
-ghost use Rattle.std.specs.Prelude.{◌≡◌, ◌<◌, ◌↔◌, length, IfOk, IsTrue};
-ghost use Rattle.igp_theory.specs.Laws.{IsOspfNeighbor};
-ghost use Rattle.ospf_routes.specs.steps.Areas.{AreAreas};
+ghost use Rattle.std.specs.Prelude.{◌≡◌, length, IfOk};
 ghost use Rattle.net_model.specs.Network.{IsBorderRouter};
-ghost use Rattle.ospf_routes.specs.steps.Domain.{IsDomain};
+ghost use Rattle.ospf_routes.specs.steps.Domain.{IsOspfDomain};
 ghost use Rattle.ospf_routes.specs.Lists.{Exactly};
 ghost use Rattle.ospf_routes.specs.steps.Ranges.{AreRangesBelow};
-ghost use Rattle.ospf_routes.specs.steps.Summarized.{AreAnnounced};
+ghost use Rattle.ospf_routes.specs.steps.Summarized.{AreAllSummaries};
 
 use crate::OutOfMemory;
-use crate::areas::{AreaWalks, border_routers};
+use crate::announcements::Summaries;
+use crate::areas::{all_listens, border_routers};
 use crate::domain::Domain;
 use crate::entry::route_of;
 use crate::ranges::{ActiveRanges, all_ranges};
-use crate::summaries::Summaries;
+use crate::twins::all_twins;
 use net_addr::Prefix;
-use net_model::{Net, Zone};
+use net_model::Net;
 use route_tables::{Protocol, Route};
 use std::alloc::Global;
 use std::marker::Model;
 use walk_core::LeastWalks;
 
-/// OSPF on a network, with what its routers know, the active ranges of border routers, and what they announce
-/// of each prefix.
+/// OSPF on a network, with what its routers know, the areas that they listen to, the active ranges of border routers,
+/// what these announce of each prefix, and which prefixes have the same routes.
 #[derive(Drop)]
 pub struct Ospf<'a> {
     net: &'a Net,
     domain: Domain,
+    listens: Vec<Option<u32>>,
     ranges: Vec<ActiveRanges>,
     summaries: Vec<Summaries>,
+    twins: Vec<Option<usize>>,
 }
 
 impl<'a> Model for Ospf<'a> {
@@ -35,9 +36,9 @@ impl<'a> Model for Ospf<'a> {
 
     ghost Value = { OspfNetwork };
 
-    ghost view = { λ x. record { net = x.net.now; domain = x.domain; ranges = x.ranges.items; summaries = x.summaries.items } };
+    ghost view = { λ x. record { net = x.net.now; domain = x.domain; listens = x.listens.items; ranges = x.ranges.items; summaries = x.summaries.items; twins = x.twins.items } };
 
-    ghost invariant = { λ x. IsOspf (record { net = x.net.now; domain = x.domain; ranges = x.ranges.items; summaries = x.summaries.items }) };
+    ghost invariant = { λ x. IsOspf (record { net = x.net.now; domain = x.domain; listens = x.listens.items; ranges = x.ranges.items; summaries = x.summaries.items; twins = x.twins.items }) };
 }
 
 impl<'a> Ospf<'a> {
@@ -46,14 +47,18 @@ impl<'a> Ospf<'a> {
         ensures { IfOk result (λ ospf. ospf.net ≡ net.now) }
     {
         let domain = Domain::build(alloc, net)?;
+        let listens = all_listens(alloc, net)?;
         let ranges = all_ranges(alloc, net, &domain)?;
         let borders = border_routers(alloc, net)?;
         let summaries = all_summaries(alloc, net, &domain, borders.as_slice(), ranges.as_slice())?;
+        let twins = all_twins(alloc, net, &domain, ranges.as_slice(), summaries.as_slice())?;
         Ok(Ospf {
             net,
             domain,
+            listens,
             ranges,
             summaries,
+            twins,
         })
     }
 }
@@ -63,7 +68,7 @@ impl<'a> Protocol for Ospf<'a> {
     ghost use Rattle.igp_theory.specs.Ospf.{OspfEntry};
     ghost use Rattle.igp_theory.specs.Laws.{IsOspfNeighbor};
     ghost use Rattle.ospf_routes.specs.steps.AreaReach.{area_reach};
-    ghost use Rattle.ospf_routes.specs.steps.Destinations.{dests_of};
+    ghost use Rattle.ospf_routes.specs.steps.Destinations.{ospf_prefixes};
 
     ghost routers = { λ ospf. length ospf.net };
 
@@ -71,7 +76,7 @@ impl<'a> Protocol for Ospf<'a> {
 
     ghost neighbor = { λ ospf. IsOspfNeighbor ospf.net };
 
-    ghost candidates = { λ ospf. dests_of ospf.domain.destinations.items };
+    ghost candidates = { λ ospf. ospf_prefixes ospf.domain.destinations.items };
 
     ghost zones = { λ ospf. length ospf.domain.areas.items };
 
@@ -89,6 +94,10 @@ impl<'a> Protocol for Ospf<'a> {
         self.domain.destinations[place].dest
     }
 
+    fn alike(&self, place: usize) -> Option<usize> {
+        self.twins[place]
+    }
+
     fn route(
         &self,
         alloc: Global,
@@ -96,6 +105,7 @@ impl<'a> Protocol for Ospf<'a> {
         router: u32,
     ) -> Result<Option<Route>, OutOfMemory> {
         let areas = self.domain.areas.as_slice();
+        let listens = self.listens[router as usize];
         let ranges = &self.ranges[router as usize];
         let destination = &self.domain.destinations[place];
         let summaries = &self.summaries[place];
@@ -103,6 +113,7 @@ impl<'a> Protocol for Ospf<'a> {
             alloc,
             self.net,
             areas,
+            listens,
             ranges,
             destination,
             summaries,
@@ -115,7 +126,7 @@ impl<'a> Protocol for Ospf<'a> {
     }
 
     fn is_neighbor(&self, router: u32, other: u32) -> bool {
-        are_neighbors(self.net, self.domain.areas.as_slice(), router, other)
+        self.domain.adjacent[router as usize].contains(other)
     }
 }
 
@@ -128,9 +139,9 @@ fn all_summaries(
     ranges: &[ActiveRanges],
 ) -> Result<Vec<Summaries>, OutOfMemory>
     requires borders { Exactly (IsBorderRouter net.now) borders.now }
-    requires domain { IsDomain net.now domain.now }
+    requires domain { IsOspfDomain net.now domain.now }
     requires ranges { AreRangesBelow net.now (length net.now) ranges.now }
-    ensures { IfOk result (λ summaries. AreAnnounced net.now domain.now summaries.items) }
+    ensures { IfOk result (λ summaries. AreAllSummaries net.now domain.now summaries.items) }
 {
     let areas = domain.areas.as_slice();
     let mut all = Vec::new(alloc);
@@ -139,20 +150,4 @@ fn all_summaries(
         all.push(summaries)?;
     }
     Ok(all)
-}
-
-/// Whether a router is adjacent to another one in some area.
-fn are_neighbors(net: &Net, areas: &[AreaWalks], router: u32, other: u32) -> bool
-    requires from_router { router < length net.now }
-    requires to_router { other < length net.now }
-    requires areas { AreAreas net.now areas.now }
-    ensures { IsTrue result ↔ IsOspfNeighbor net.now router other }
-{
-    for area in areas {
-        let arc = area.walks.arc(net, Zone::Area(area.number), router, other);
-        if arc.is_some() {
-            return true;
-        }
-    }
-    false
 }

@@ -3,7 +3,7 @@ ghost use Rattle.net_model.specs.Network.{IsBorderRouter};
 ghost use Rattle.igp_theory.specs.Ospf.{HasRange, IsActive, IsActiveRange, IsComponent, RangeCost};
 ghost use Rattle.ospf_routes.specs.steps.Areas.{AreAreas};
 ghost use Rattle.ospf_routes.specs.steps.Destinations.{IsDestination};
-ghost use Rattle.ospf_routes.specs.steps.Domain.{IsDomain};
+ghost use Rattle.ospf_routes.specs.steps.Domain.{IsOspfDomain};
 ghost use Rattle.ospf_routes.specs.Lists.{Exactly};
 ghost use Rattle.ospf_routes.specs.steps.Ranges.{AreActiveRanges, AreRangesBelow, HasComponentCost, IsActiveAt, IsComponentOfSome, IsGreatestOf, IsLeastOf};
 ghost use Rattle.ospf_routes.specs.steps.Ranges.{IsLonger, IsPicked};
@@ -51,7 +51,7 @@ impl ActiveRanges {
         b: u32,
     ) -> Result<ActiveRanges, OutOfMemory>
         requires router { b < length net.now }
-        requires domain { IsDomain net.now domain.now }
+        requires domain { IsOspfDomain net.now domain.now }
         ensures { IfOk result (AreActiveRanges net.now b) }
     {
         if is_border(net, b) {
@@ -84,7 +84,7 @@ pub fn all_ranges(
     net: &Net,
     domain: &Domain,
 ) -> Result<Vec<ActiveRanges>, OutOfMemory>
-    requires { IsDomain net.now domain.now }
+    requires { IsOspfDomain net.now domain.now }
     ensures { IfOk result (λ ranges. AreRangesBelow net.now (length net.now) ranges.items) }
 {
     let mut ranges = Vec::new(alloc);
@@ -103,7 +103,7 @@ fn border_ranges(
 ) -> Result<ActiveRanges, OutOfMemory>
     requires router { b < length net.now }
     requires border { IsBorderRouter net.now b }
-    requires domain { IsDomain net.now domain.now }
+    requires domain { IsOspfDomain net.now domain.now }
     ensures { IfOk result (AreActiveRanges net.now b) }
 {
     let ranges = net.config(b).ranges.as_slice();
@@ -124,7 +124,7 @@ fn active_range(
 ) -> Result<Option<ActiveRange>, OutOfMemory>
     requires router { b < length net.now }
     requires has { HasRange net.now b range.now }
-    requires domain { IsDomain net.now domain.now }
+    requires domain { IsOspfDomain net.now domain.now }
     ensures { IfOk result (λ found. MatchOption found (IsActive net.now b range.now → ⊥) (IsActiveAt net.now b range.now)) }
 {
     let costs = component_costs(alloc, net, domain, b, range)?;
@@ -181,7 +181,7 @@ fn component_costs(
 ) -> Result<Vec<u64>, OutOfMemory>
     requires router { b < length net.now }
     requires has { HasRange net.now b range.now }
-    requires domain { IsDomain net.now domain.now }
+    requires domain { IsOspfDomain net.now domain.now }
     ensures { IfOk result (λ costs. Exactly (HasComponentCost net.now b range.now) costs.items) }
 {
     let mut costs = Vec::new(alloc);
@@ -206,11 +206,12 @@ fn component_cost(
     requires destination { IsDestination net.now destination.now }
     ensures { (cost : ℕ) → (result ≡ Some cost) ↔ IsComponent net.now b range.now destination.now.dest cost }
 {
+    let cost = intra_cost(net, areas, destination, range.area, b)?;
     let ranges = net.config(b).ranges.as_slice();
     if !range.dest.covers(destination.dest) || has_longer(ranges, *range, destination.dest) {
         return None;
     }
-    intra_cost(net, areas, destination, range.area, b)
+    Some(cost)
 }
 
 /// Whether a longer one of these ranges, of the same area, covers the prefix.

@@ -1,126 +1,190 @@
-ghost use Rattle.std.specs.Prelude.{◌≡◌, ◌<◌, ◌↔◌, length, Some, Any, IfOk, OnOk};
-ghost use Rattle.igp_theory.specs.Ospf.{OffersSubnet};
+ghost use Rattle.std.specs.Prelude.{◌≡◌, ◌<◌, ◌≤◌, ◌↔◌, ℕ, length, slice_index_or, Some, Any, Contains, IfOk, OnOk};
+ghost use Rattle.std.specs.List.Sorted.{IsNonDecreasingBy};
 ghost use Rattle.ospf_routes.specs.Lists.{Adds, Exactly};
-ghost use Rattle.ospf_routes.specs.steps.Offered.{IsSubnetRoute, InsideOf, OutsideOf, IsInsideOffer, IsOutsideOffer};
-ghost use Rattle.ospf_routes.specs.declared.subnets.AreaRoute.{AreaRoute as Route};
+ghost use Rattle.ospf_routes.specs.steps.Subnets.{AreSubnetsAround, IsHome, IsInterfaceSubnet, IsSubnetRoute, IsUpSubnet};
+ghost use Rattle.ospf_routes.specs.declared.area_route.AreaRoute.{AreaRoute as Route};
+ghost use Rattle.ospf_routes.specs.declared.subnets.Subnet.{Subnet as SubnetValue};
 
 use crate::OutOfMemory;
+use crate::area_route::AreaRoute;
 use net_addr::Prefix;
 use net_model::{Interface, Net};
 use route_tables::push_option;
 use std::alloc::Global;
-use walk_core::Offer;
+use std::marker::Model;
 
-/// A route of a prefix in an area: the router that has it, and what it costs there.
+/// The subnet of an interface that is up.
 #[derive(Clone, Copy, Debug)]
-pub struct AreaRoute {
-    /// The area.
-    pub area: u32,
+pub struct Subnet {
+    /// The prefix.
+    pub dest: Prefix,
     /// The router.
     pub at: u32,
-    /// The cost.
+    /// The area that the interface runs OSPF in, `None` where it runs none.
+    pub area: Option<u32>,
+    /// The cost of the interface.
     pub asks: u64,
+    /// Whether the interface forms adjacencies in its area: it is no loopback, and not passive.
+    pub joins: bool,
 }
 
-/// The interfaces of all routers that have the prefix as their subnet, each as a route at its cost.
-pub fn subnet_routes(alloc: Global, net: &Net, dest: Prefix) -> Result<Vec<AreaRoute>, OutOfMemory>
-    ensures { IfOk result (λ routes. Exactly (λ r. OffersSubnet net.now r.area dest r.at r.asks) routes.items) }
-{
-    let mut routes = Vec::new(alloc);
-    for w in 0..net.routers() {
-        push_subnets(&mut routes, net.config(w).interfaces.as_slice(), dest, w)?;
+/// The subnets of some interfaces, in the order of the addresses that they begin with.
+#[derive(Debug, Drop)]
+pub struct Subnets {
+    all: Vec<Subnet>,
+}
+
+impl Model for Subnets {
+    ghost use Rattle.std.specs.Prelude.{List};
+    ghost use Rattle.std.specs.List.Sorted.{IsNonDecreasingBy};
+    ghost use Rattle.ospf_routes.specs.declared.subnets.Subnet.{Subnet};
+
+    ghost Value = { List Subnet };
+
+    ghost view = { λ x. x.all.items };
+
+    ghost invariant = { λ x. IsNonDecreasingBy (λ (s : Subnet). s.dest.base) x.all.items };
+}
+
+impl Subnets {
+    /// The subnets of all interfaces of a network that are up.
+    pub fn of_network(alloc: Global, net: &Net) -> Result<Subnets, OutOfMemory>
+        ensures { IfOk result (Exactly (IsUpSubnet net.now)) }
+    {
+        let mut all = all_subnets(alloc, net)?;
+        sort_by_base(&mut all);
+        Ok(Subnets { all })
     }
-    Ok(routes)
+
+    /// Those of a prefix, and others that begin with its address. It takes time of the logarithm of all of them.
+    pub fn around(&self, dest: Prefix) -> &[Subnet]
+        ensures { AreSubnetsAround self.now dest result.now }
+    {
+        with_base(self.all.as_slice(), dest.base())
+    }
 }
 
-/// Adds the routes of the interfaces of router `w`.
-fn push_subnets(
-    routes: &mut Vec<AreaRoute>,
-    interfaces: &[Interface],
-    dest: Prefix,
-    w: u32,
-) -> Result<(), OutOfMemory>
-    ensures { OnOk result (Adds routes.old.items routes.new.items (λ r. Any (λ i. IsSubnetRoute i dest w r) interfaces.now)) }
+/// Puts them in the order of the addresses that they begin with.
+fn sort_by_base(all: &mut Vec<Subnet>)
+    ensures kept { (s : SubnetValue) → Contains all.new.items s ↔ Contains all.old.items s }
+    ensures sorted { IsNonDecreasingBy (λ (s : SubnetValue). s.dest.base) all.new.items }
+{
+    all.sort_unstable_by_key(|subnet| subnet.dest.base());
+}
+
+/// Those that begin with this address, of subnets in the order of theirs.
+fn with_base(all: &[Subnet], base: u32) -> &[Subnet]
+    requires { IsNonDecreasingBy (λ (s : SubnetValue). s.dest.base) all.now }
+    ensures among { (s : SubnetValue) → Contains result.now s → Contains all.now s }
+    ensures every { (s : SubnetValue) → Contains all.now s → s.dest.base ≡ base → Contains result.now s }
+{
+    let (_, from) = all.split_at(count_below(all, base));
+    let (here, _) = from.split_at(count_up_to(from, base));
+    here
+}
+
+/// How many of these subnets, which are in order, begin below this address.
+fn count_below(all: &[Subnet], base: u32) -> usize
+    requires { IsNonDecreasingBy (λ (s : SubnetValue). s.dest.base) all.now }
+    ensures within { result ≤ length all.now }
+    ensures below { (k : ℕ) (d : SubnetValue) → k < result → (slice_index_or all.now k d).dest.base < base }
+{
+    all.partition_point(|s| s.dest.base() < base)
+}
+
+/// How many of these subnets, which are in order, begin at this address or below it.
+fn count_up_to(all: &[Subnet], base: u32) -> usize
+    requires { IsNonDecreasingBy (λ (s : SubnetValue). s.dest.base) all.now }
+    ensures within { result ≤ length all.now }
+    ensures above { (k : ℕ) (d : SubnetValue) → result ≤ k → k < length all.now → base < (slice_index_or all.now k d).dest.base }
+{
+    all.partition_point(|s| s.dest.base() <= base)
+}
+
+/// The subnets of all routers.
+fn all_subnets(alloc: Global, net: &Net) -> Result<Vec<Subnet>, OutOfMemory>
+    ensures { IfOk result (λ all. Exactly (IsUpSubnet net.now) all.items) }
+{
+    let mut all = Vec::new(alloc);
+    for w in 0..net.routers() {
+        push_subnets(&mut all, net.config(w).interfaces.as_slice(), w)?;
+    }
+    Ok(all)
+}
+
+/// Adds the subnets of the interfaces of router `w`.
+fn push_subnets(all: &mut Vec<Subnet>, interfaces: &[Interface], w: u32) -> Result<(), OutOfMemory>
+    ensures { OnOk result (Adds all.old.items all.new.items (λ s. Any (λ i. IsInterfaceSubnet w i s) interfaces.now)) }
 {
     for interface in interfaces {
-        push_option(routes, subnet_route(interface, dest, w))?;
+        push_option(all, interface_subnet(interface, w))?;
     }
     Ok(())
 }
 
-/// The route of an interface of router `w` that is up, runs OSPF and has the prefix as its subnet.
-fn subnet_route(interface: &Interface, dest: Prefix, w: u32) -> Option<AreaRoute>
-    ensures { (r : Route) → (result ≡ Some r) ↔ IsSubnetRoute interface.now dest w r }
+/// The subnet of an interface of router `w`, where that is up and has one.
+pub fn interface_subnet(interface: &Interface, w: u32) -> Option<Subnet>
+    ensures { (s : SubnetValue) → (result ≡ Some s) ↔ IsInterfaceSubnet w interface.now s }
 {
-    match (interface.area, interface.subnet) {
-        (Some(area), Some(subnet)) if interface.up && subnet == dest => Some(AreaRoute {
-            area,
+    match interface.subnet {
+        Some(dest) if interface.up => Some(Subnet {
+            dest,
             at: w,
+            area: interface.area,
             asks: u64::from(interface.cost),
+            joins: !interface.loopback && !interface.ospf_passive,
         }),
         _ => None,
     }
 }
 
-/// The routes of an area, as offers.
-pub fn offers_inside(
-    alloc: Global,
-    routes: &[AreaRoute],
-    area: u32,
-) -> Result<Vec<Offer>, OutOfMemory>
-    ensures { IfOk result (λ offers. Exactly (λ o. Any (λ r. InsideOf area r o) routes.now) offers.items) }
+/// The routers of those of these subnets that are of the prefix.
+pub fn homes_among(alloc: Global, subnets: &[Subnet], dest: Prefix) -> Result<Vec<u32>, OutOfMemory>
+    ensures { IfOk result (λ homes. Exactly (λ u. Any (IsHome dest u) subnets.now) homes.items) }
 {
-    let mut offers = Vec::new(alloc);
-    for route in routes {
-        push_option(&mut offers, inside_offer(*route, area))?;
+    let mut homes = Vec::new(alloc);
+    for subnet in subnets {
+        push_option(&mut homes, home_at(*subnet, dest))?;
     }
-    Ok(offers)
+    Ok(homes)
 }
 
-/// The routes of other areas, as offers.
-pub fn offers_outside(
-    alloc: Global,
-    routes: &[AreaRoute],
-    area: u32,
-) -> Result<Vec<Offer>, OutOfMemory>
-    ensures { IfOk result (λ offers. Exactly (λ o. Any (λ r. OutsideOf area r o) routes.now) offers.items) }
+/// The router of the subnet, where that is of the prefix.
+fn home_at(subnet: Subnet, dest: Prefix) -> Option<u32>
+    ensures { (u : ℕ) → (result ≡ Some u) ↔ IsHome dest u subnet }
 {
-    let mut offers = Vec::new(alloc);
-    for route in routes {
-        push_option(&mut offers, outside_offer(*route, area))?;
-    }
-    Ok(offers)
-}
-
-/// The offer of a route of the area.
-fn inside_offer(route: AreaRoute, area: u32) -> Option<Offer>
-    ensures { IsInsideOffer area route result }
-{
-    if route.area == area {
-        Some(offer_of(route))
+    if subnet.dest == dest {
+        Some(subnet.at)
     } else {
         None
     }
 }
 
-/// The offer of a route of another area.
-fn outside_offer(route: AreaRoute, area: u32) -> Option<Offer>
-    ensures { IsOutsideOffer area route result }
+/// The routes to those of these subnets that are of the prefix and run OSPF.
+pub fn routes_among(
+    alloc: Global,
+    subnets: &[Subnet],
+    dest: Prefix,
+) -> Result<Vec<AreaRoute>, OutOfMemory>
+    ensures { IfOk result (λ routes. Exactly (λ r. Any (IsSubnetRoute dest r) subnets.now) routes.items) }
 {
-    if route.area == area {
-        None
-    } else {
-        Some(offer_of(route))
+    let mut routes = Vec::new(alloc);
+    for subnet in subnets {
+        push_option(&mut routes, route_to(*subnet, dest))?;
     }
+    Ok(routes)
 }
 
-/// The route as an offer.
-fn offer_of(route: AreaRoute) -> Offer
-    ensures at { result.at ≡ route.at }
-    ensures asks { result.asks ≡ route.asks }
+/// The route to the subnet, where that is of the prefix and runs OSPF.
+fn route_to(subnet: Subnet, dest: Prefix) -> Option<AreaRoute>
+    ensures { (r : Route) → (result ≡ Some r) ↔ IsSubnetRoute dest r subnet }
 {
-    Offer {
-        at: route.at,
-        asks: route.asks,
+    match subnet.area {
+        Some(area) if subnet.dest == dest => Some(AreaRoute {
+            area,
+            at: subnet.at,
+            asks: subnet.asks,
+        }),
+        _ => None,
     }
 }

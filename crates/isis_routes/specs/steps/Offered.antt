@@ -1,12 +1,13 @@
 -- What the routers of a level offer of a prefix, and lists of offers.
-use Rattle.std.specs.Prelude.{◌≡◌, ◌==◌, ◌↔◌, ◌⊎◌, ◌<◌, ℕ, List, Some, IsTrue, Contains, filter, not}
+use Rattle.std.specs.Prelude.{◌≡◌, ◌↔◌, ◌<◌, ◌^◌, ℕ, List, Some, IsTrue}
 use Rattle.net_addr.specs.Addresses.{Block}
 use Rattle.net_model.specs.Network.{Network}
 use Rattle.net_model.specs.declared.interface.Interface.{Interface}
 use Rattle.walk_core.specs.Offers.{Offers}
 use Rattle.walk_core.specs.BestOffers.{ListsOffer}
 use Rattle.walk_core.specs.declared.offers.Offer.{Offer}
-use Rattle.igp_theory.specs.Isis.{OffersOne, OffersTwo}
+use Rattle.igp_theory.specs.Isis.{RunsLevelTwo, OffersLevelOne, OffersLevelTwo, LevelOneCost}
+use Rattle.route_tables.specs.Lists.{Adds}
 use Rattle.isis_routes.specs.declared.level.Level.{Level}
 use Rattle.isis_routes.specs.declared.level.Level.TheVariants.{One, Two}
 
@@ -21,37 +22,44 @@ metric_in One i = i.metric1
 metric_in Two i = i.metric2
 
 -- the interface is up, runs the level and has the subnet p, at this metric
-pub record Asks (level : Level) (p : Block) (i : Interface) (cost : ℕ) : Type 0 where
+pub record AsksIn (level : Level) (p : Block) (i : Interface) (cost : ℕ) : Type 0 where
   pub up : IsTrue i.up
   pub subnet : i.subnet ≡ Some p
   pub runs : RunsLevel level i
   pub costs : metric_in level i ≡ cost
 
--- one of the interfaces does
-pub record AskedBy (level : Level) (p : Block) (interfaces : List Interface) (cost : ℕ) : Type 0 where
-  pub interface : Interface
-  pub among : Contains interfaces interface
-  pub asks : Asks level p interface cost
-
 -- what the routers' own interfaces offer in the level
 abbrev pub OffersIn : Network → Level → Block → ℕ → ℕ → Type 0
-OffersIn net One p w cost = OffersOne net p w cost
-OffersIn net Two p w cost = OffersTwo net p w cost
+OffersIn net One p w cost = OffersLevelOne net p w cost
+OffersIn net Two p w cost = OffersLevelTwo net p w cost
+
+-- what a router that runs level 2 announces there of its own level 2 subnets
+pub record OwnAnnouncement (net : Network) (p : Block) (b cost : ℕ) : Type 0 where
+  pub runs : RunsLevelTwo net b
+  pub offers : OffersLevelTwo net p b cost
+
+-- what a router that runs level 2 announces there of what it reaches by level 1
+pub record LevelOneAnnouncement (net : Network) (p : Block) (b cost : ℕ) : Type 0 where
+  pub runs : RunsLevelTwo net b
+  pub costs : LevelOneCost net p b cost
 
 -- the list has these offers, and no others
-abbrev pub AreOffers : Offers → List Offer → Type 0
-AreOffers offer offers = (at asks : ℕ) → ListsOffer offers at asks ↔ offer at asks
+abbrev pub HoldsOffers : Offers → List Offer → Type 0
+HoldsOffers offer offers = (at asks : ℕ) → ListsOffer offers at asks ↔ offer at asks
 
--- the list has the offers of the routers below n, and no others
-abbrev pub AreOffersBelow : Offers → ℕ → List Offer → Type 0
-AreOffersBelow offer n offers = (at asks : ℕ) → ListsOffer offers at asks ↔ ((at < n) × offer at asks)
+-- none of the offers asks 2^42 or more
+abbrev pub AreSmall : List Offer → Type 0
+AreSmall offers = (at asks : ℕ) → ListsOffer offers at asks → asks < 2 ^ 42
+
+-- the offer is one of these
+abbrev pub IsOfferOf : Offers → Offer → Type 0
+IsOfferOf offer o = offer o.at o.asks
+
+-- the offer is router w's, and asks this
+pub record IsOffer (w : ℕ) (asked : ℕ → Type 0) (o : Offer) : Type 0 where
+  pub at : o.at ≡ w
+  pub asks : asked o.asks
 
 -- to a list there come the offers of router w that ask this, and no others
-pub record AddsOffers (old new : List Offer) (w : ℕ) (asked : ℕ → Type 0) : Type 0 where
-  pub kept : (at asks : ℕ) → ListsOffer old at asks → ListsOffer new at asks
-  pub added : (asks : ℕ) → asked asks → ListsOffer new w asks
-  pub nothing_else : (at asks : ℕ) → ListsOffer new at asks → ListsOffer old at asks ⊎ ((at ≡ w) × asked asks)
-
--- the offers that other routers than u make
-abbrev pub others_than : ℕ → List Offer → List Offer
-others_than u offers = filter (λ o. not (o.at == u)) offers
+abbrev pub AddsOffers : List Offer → List Offer → ℕ → (ℕ → Type 0) → Type 0
+AddsOffers old new w asked = Adds old new (IsOffer w asked)

@@ -1,18 +1,14 @@
 -- The areas of a network, each with its least walks.
-use Rattle.std.specs.Prelude.{◌≡◌, ◌≢◌, ℕ, List, Some, IsTrue, All, Contains}
-use Rattle.net_model.specs.Network.{Network, InArea, Adjacent}
+use Rattle.std.specs.Prelude.{◌≡◌, ◌≢◌, ◌<◌, ◌↔◌, ℕ, List, length, Option, None, Some, IsTrue, All, Contains, slice_index_or}
+use Rattle.net_model.specs.Network.{Network, InArea, RunsArea, Adjacent}
 use Rattle.net_model.specs.Refusals.{IsNetwork}
 use Rattle.net_model.specs.declared.bounds.TheConstants.{MOST_ROUTERS}
 use Rattle.net_model.specs.declared.interface.Interface.{Interface}
 use Rattle.net_model.specs.declared.zone.Zone.TheVariants.{Area}
+use Rattle.igp_theory.specs.Ospf.{ListensTo}
 use Rattle.walk_core.specs.Reach.{Reach, AreLeastWalks, AreNear}
 use Rattle.zone_graph.specs.Walks.{AreZoneWalks}
 use Rattle.ospf_routes.specs.declared.areas.AreaWalks.{AreaWalks}
-
--- the interface is up and runs OSPF in area n
-pub record RunsArea (n : ℕ) (i : Interface) : Type 0 where
-  pub up : IsTrue i.up
-  pub area : i.area ≡ Some n
 
 -- the interface is up and runs OSPF in another area than n
 pub record RunsOther (n : ℕ) (i : Interface) : Type 0 where
@@ -55,7 +51,11 @@ pub record IsReach (net : Network) (n u : ℕ) (reach : Reach) : Type 0 where
   pub least : AreLeastWalks (Adjacent net (Area n)) u reach
   pub near : AreNear MOST_ROUTERS reach
 
--- and u is in the area
-pub record IsInside (net : Network) (n u : ℕ) (reach : Reach) : Type 0 where
-  pub inside : InArea net u n
-  pub reach_is : IsReach net n u reach
+-- this is the area that router u listens to, where there is one
+abbrev pub IsListener : Network → ℕ → Option ℕ → Type 0
+IsListener net u listens = (n : ℕ) → (listens ≡ Some n) ↔ ListensTo net u n
+
+-- these are the areas that the routers below n listen to
+pub record AreListeners (net : Network) (n : ℕ) (listens : List (Option ℕ)) : Type 0 where
+  pub count : length listens ≡ n
+  pub each : (u : ℕ) → u < n → IsListener net u (slice_index_or listens u None)

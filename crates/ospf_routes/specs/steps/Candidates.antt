@@ -1,14 +1,13 @@
 -- The prefixes that OSPF may have entries for.
 use Rattle.std.specs.Prelude.{◌≡◌, ℕ, Some, Any, IsTrue, IsSome}
-use Rattle.net_addr.specs.Addresses.{Block}
+use Rattle.net_addr.specs.Addresses.{Block, default_prefix}
 use Rattle.net_model.specs.Configuration.{Configuration}
 use Rattle.net_model.specs.Network.{Network, HasConfiguration, UpInterface}
 use Rattle.net_model.specs.declared.area.Range.{Range}
 use Rattle.net_model.specs.declared.interface.Interface.{Interface}
-use Rattle.igp_theory.specs.Ospf.{default_prefix}
 
 -- the interface is up, runs OSPF and has the subnet p
-pub record HasSubnet (p : Block) (i : Interface) : Type 0 where
+pub record HasOspfSubnet (p : Block) (i : Interface) : Type 0 where
   pub up : IsTrue i.up
   pub runs : IsSome i.area
   pub subnet : i.subnet ≡ Some p
@@ -22,7 +21,7 @@ pub record IsOspfSubnet (net : Network) (p : Block) : Type 0 where
   pub router : ℕ
   pub interface : Interface
   pub up : UpInterface net router interface
-  pub has : HasSubnet p interface
+  pub has : HasOspfSubnet p interface
 
 -- some router has a range of the prefix p
 pub record IsOspfRange (net : Network) (p : Block) : Type 0 where
@@ -32,7 +31,7 @@ pub record IsOspfRange (net : Network) (p : Block) : Type 0 where
   pub has : Any (IsRangeOf p) config.ranges
 
 -- p is such a subnet, the prefix of such a range, or the prefix of all addresses
-pub data IsCandidate (net : Network) (p : Block) : Type 0 where
-  all : p ≡ default_prefix → IsCandidate net p
-  subnet : IsOspfSubnet net p → IsCandidate net p
-  range : IsOspfRange net p → IsCandidate net p
+pub data IsOspfCandidate (net : Network) (p : Block) : Type 0 where
+  all : p ≡ default_prefix → IsOspfCandidate net p
+  subnet : IsOspfSubnet net p → IsOspfCandidate net p
+  range : IsOspfRange net p → IsOspfCandidate net p

@@ -1,16 +1,16 @@
 -- What the interfaces of each area offer of a prefix.
 use Rattle.std.specs.Prelude.{◌≡◌, ◌⊎◌, ℕ, List, map, All, Any, Contains}
 use Rattle.net_addr.specs.Addresses.{Block}
-use Rattle.net_model.specs.Network.{Network}
+use Rattle.net_model.specs.Network.{Network, Connected}
 use Rattle.walk_core.specs.declared.offers.Offer.{Offer}
 use Rattle.igp_theory.specs.Ospf.{OffersSubnet}
-use Rattle.route_tables.specs.Prefixes.{AreDistinct}
-use Rattle.ospf_routes.specs.steps.Candidates.{IsCandidate}
+use Rattle.route_tables.specs.Prefixes.{AreDistinctPrefixes}
+use Rattle.ospf_routes.specs.steps.Candidates.{IsOspfCandidate}
 use Rattle.ospf_routes.specs.Lists.{Exactly}
 use Rattle.ospf_routes.specs.steps.Offered.{AreOffers, InsideOf}
 use Rattle.ospf_routes.specs.declared.intra_area.AreaOffers.{AreaOffers}
 use Rattle.ospf_routes.specs.declared.intra_area.Destination.{Destination}
-use Rattle.ospf_routes.specs.declared.subnets.AreaRoute.{AreaRoute}
+use Rattle.ospf_routes.specs.declared.area_route.AreaRoute.{AreaRoute}
 
 -- these are the routes of the part's area, as offers
 abbrev pub IsPartOf : List AreaRoute → AreaOffers → Type 0
@@ -23,22 +23,24 @@ pub record AddsPart (old new : List AreaOffers) (part : AreaOffers) : Type 0 whe
   pub added : (o : Offer) → Contains part.offers.items o → Contains new part
 
 -- one of the parts is of area n
-pub record HasPart (parts : List AreaOffers) (n : ℕ) : Type 0 where
+pub record HasAreaPart (parts : List AreaOffers) (n : ℕ) : Type 0 where
   pub part : AreaOffers
   pub among : Contains parts part
   pub area : part.area ≡ n
 
--- each part has what its area offers of the prefix, and each area that offers something is a part
+-- the homes are the routers that the prefix is connected at; each part has what its area offers of the prefix, and each
+-- area that offers something is a part
 pub record IsDestination (net : Network) (d : Destination) : Type 0 where
+  pub homes : Exactly (λ (u : ℕ). Connected net u d.dest) d.homes.items
   pub exact : All (λ (part : AreaOffers). AreOffers (OffersSubnet net part.area d.dest) part.offers.items) d.parts.items
-  pub every : (n w cost : ℕ) → OffersSubnet net n d.dest w cost → HasPart d.parts.items n
+  pub every : (n w cost : ℕ) → OffersSubnet net n d.dest w cost → HasAreaPart d.parts.items n
 
 -- the prefixes of destinations
-abbrev pub dests_of : List Destination → List Block
-dests_of destinations = map (λ (d : Destination). d.dest) destinations
+abbrev pub ospf_prefixes : List Destination → List Block
+ospf_prefixes destinations = map (λ (d : Destination). d.dest) destinations
 
 -- the destinations are distinct prefixes, and each candidate is one
-pub record AreDestinations (net : Network) (destinations : List Destination) : Type 0 where
+pub record AreOspfDestinations (net : Network) (destinations : List Destination) : Type 0 where
   pub each : All (IsDestination net) destinations
-  pub distinct : AreDistinct (dests_of destinations)
-  pub every : (p : Block) → IsCandidate net p → Contains (dests_of destinations) p
+  pub distinct : AreDistinctPrefixes (ospf_prefixes destinations)
+  pub every : (p : Block) → IsOspfCandidate net p → Contains (ospf_prefixes destinations) p

@@ -1,19 +1,9 @@
 -- Routes of a prefix in areas, and the offers that they are.
-use Rattle.std.specs.Prelude.{◌≡◌, ◌≢◌, ◌↔◌, ℕ, List, Option, Some, IsTrue}
-use Rattle.net_addr.specs.Addresses.{Block}
-use Rattle.net_model.specs.declared.interface.Interface.{Interface}
+use Rattle.std.specs.Prelude.{◌≡◌, ◌≢◌, ◌↔◌, ℕ, List, Option, Some}
 use Rattle.walk_core.specs.Offers.{Offers}
 use Rattle.walk_core.specs.declared.offers.Offer.{Offer}
 use Rattle.ospf_routes.specs.Lists.{Exactly}
-use Rattle.ospf_routes.specs.declared.subnets.AreaRoute.{AreaRoute}
-
--- the route is that of the subnet p of router w's interface, which is up and runs OSPF
-pub record IsSubnetRoute (i : Interface) (p : Block) (w : ℕ) (r : AreaRoute) : Type 0 where
-  pub up : IsTrue i.up
-  pub subnet : i.subnet ≡ Some p
-  pub area : i.area ≡ Some r.area
-  pub at : r.at ≡ w
-  pub costs : i.cost ≡ r.asks
+use Rattle.ospf_routes.specs.declared.area_route.AreaRoute.{AreaRoute}
 
 -- the list has these offers, and no others
 abbrev pub AreOffers : Offers → List Offer → Type 0

@@ -1,22 +1,21 @@
 -- What border routers summarize of a prefix, and announce into each area.
 use Rattle.std.specs.Prelude.{◌≡◌, ℕ, List, map, Option, Some, IsTrue, All}
-use Rattle.net_addr.specs.Addresses.{Block}
+use Rattle.net_addr.specs.Addresses.{Block, default_prefix}
 use Rattle.net_model.specs.Network.{Network, IsBorderRouter}
 use Rattle.net_model.specs.declared.area.Range.{Range}
 use Rattle.net_model.specs.declared.area.Stub.{Stub}
 use Rattle.walk_core.specs.declared.offers.Offer.{Offer}
 use Rattle.igp_theory.specs.Ospf.{IntraAreaCost, HasRange, IsComponent, RangeCost, SummarizesSubnet, SummarizesRange, HasStub, IsTotallyStubby, Summary}
-use Rattle.igp_theory.specs.Ospf.{default_prefix}
 use Rattle.ospf_routes.specs.steps.Areas.{HasArea}
-use Rattle.ospf_routes.specs.steps.Destinations.{HasPart, dests_of}
+use Rattle.ospf_routes.specs.steps.Destinations.{HasAreaPart, ospf_prefixes}
 use Rattle.ospf_routes.specs.Lists.{Exactly}
 use Rattle.ospf_routes.specs.steps.Offered.{AreOffers}
 use Rattle.ospf_routes.specs.declared.areas.AreaWalks.{AreaWalks}
 use Rattle.ospf_routes.specs.declared.domain.Domain.{Domain}
 use Rattle.ospf_routes.specs.declared.intra_area.AreaOffers.{AreaOffers}
 use Rattle.ospf_routes.specs.declared.ranges.ActiveRange.{ActiveRange}
-use Rattle.ospf_routes.specs.declared.subnets.AreaRoute.{AreaRoute}
-use Rattle.ospf_routes.specs.declared.summaries.Summaries.{Summaries}
+use Rattle.ospf_routes.specs.declared.area_route.AreaRoute.{AreaRoute}
+use Rattle.ospf_routes.specs.declared.announcements.Summaries.{Summaries}
 
 -- b has an intra-area cost for p in area n, which the route says
 pub record IsSubnetSummary (net : Network) (p : Block) (n b : ℕ) (r : AreaRoute) : Type 0 where
@@ -104,9 +103,9 @@ IsSummaryOf net p part = AreOffers (Summary net p part.area) part.offers.items
 -- each part has what is announced into its area, and each area that something is announced into is a part
 pub record AreSummaries (net : Network) (areas : List AreaWalks) (s : Summaries) : Type 0 where
   pub exact : All (IsSummaryOf net s.dest) s.parts.items
-  pub every : (n at asks : ℕ) → HasArea areas n → Summary net s.dest n at asks → HasPart s.parts.items n
+  pub every : (n at asks : ℕ) → HasArea areas n → Summary net s.dest n at asks → HasAreaPart s.parts.items n
 
 -- what border routers announce of each prefix, in the order of the destinations
-pub record AreAnnounced (net : Network) (domain : Domain) (summaries : List Summaries) : Type 0 where
-  pub dests : map (λ (s : Summaries). s.dest) summaries ≡ dests_of domain.destinations.items
+pub record AreAllSummaries (net : Network) (domain : Domain) (summaries : List Summaries) : Type 0 where
+  pub dests : map (λ (s : Summaries). s.dest) summaries ≡ ospf_prefixes domain.destinations.items
   pub each : All (AreSummaries net domain.areas.items) summaries

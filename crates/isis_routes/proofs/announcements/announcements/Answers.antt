@@ -1,16 +1,19 @@
-use Rattle.std.proofs.Common.{◌<◌, length, arith}
-use Rattle.igp_theory.specs.Isis.{LevelTwoAnnouncement}
-use Rattle.isis_routes.proofs.Announced.{announced_at_router}
-use Rattle.isis_routes.proofs.OfferLists.{offers_more, offers_all}
+use Rattle.std.proofs.Common.{sym, subst}
+use Rattle.net_model.specs.Network.{Network}
+use Rattle.route_tables.specs.Lists.{Exactly}
+use Rattle.isis_routes.specs.steps.Homes.{AreRoutersAt}
+use Rattle.isis_routes.specs.steps.Offered.{IsOfferOf, OwnAnnouncement}
+use Rattle.isis_routes.proofs.Announced.{announced_all}
 use Rattle.isis_routes.proofs.announcements.announcements.Goals as goal
 
-pub loop-router-preserved : goal.loop-router-preserved
-loop-router-preserved c =
-    offers_more (LevelTwoAnnouncement c.args.net.now c.args.one.now.dest)
-    c.loop-router.router c.loop-router.offers.items c.push_announcements.new.offers.items c.loop-router.invariant c.in_ok-push_announcements.ensures
+pub own_subnets-requires : goal.own_subnets-requires
+own_subnets-requires c =
+    subst (λ (net : Network). AreRoutersAt net c.args.one.now.dest c.as_slice.result.now) (sym c.net.ensures.is)
+    (subst (AreRoutersAt c.args.domain.now.net c.args.one.now.dest) (sym c.as_slice.ensures.value) c.requires.homes)
 
 pub returns : goal.returns
 returns c =
-    offers_all (LevelTwoAnnouncement c.args.net.now c.args.one.now.dest) c.loop-router.router c.loop-router.offers.items c.loop-router.invariant
-    (λ at asks announces. let within : at < length c.args.net.now = announced_at_router c.args.net.now c.args.one.now.dest at asks announces in
-    omega (arith, c.routers-router-end.ensures.count))
+    let p = c.args.one.now.dest in
+    let first = c.in_ok-offers.offers.items in
+    announced_all c.args.domain.now.net p first c.push_level_one.new.offers.items
+    (subst (λ (net : Network). Exactly (IsOfferOf (OwnAnnouncement net p)) first) c.net.ensures.is c.in_ok-offers.ensures) c.in_ok-push_level_one.ensures

@@ -1,32 +1,26 @@
-use Rattle.std.proofs.Common.{ℕ, ◌+◌, ◌<◌, List, ◌++◌, ◌∷◌, [], length, refl, sym, ap, subst, ◌∙◌, arith}
-use Rattle.std.proofs.lemmas.Bool.{false≢true}
-use Rattle.walk_core.specs.declared.offers.Offer.{Offer}
+use Rattle.std.proofs.Common.{◌≡◌, ℕ, Some, get_or}
 use Rattle.igp_theory.specs.Isis.{OffersDefault}
-use Rattle.isis_routes.specs.steps.Offered.{AreOffersBelow}
-use Rattle.isis_routes.proofs.AreaFacts.{attached_added, attached_not_added, attached_at_router}
-use Rattle.isis_routes.proofs.OfferLists.{offers_more, offers_all}
+use Rattle.isis_routes.proofs.AreaFacts.{attached_both}
+use Rattle.isis_routes.proofs.Announced.{listed_runs}
+use Rattle.isis_routes.proofs.OfferLists.{given_start, given_more, holds_given, offers_same}
 use Rattle.isis_routes.proofs.attached.attached_routers.Goals as goal
-use Rattle.isis_routes.proofs.attached.attached_routers.Goals.{then-is_attached+in_ok-push, else-is_attached}
+
+pub default_cost-requires-clause-router : goal.default_cost-requires-clause-router
+default_cost-requires-clause-router c =
+    listed_runs c.args.net.now c.args.both.now c.loop-router.router-index c.requires.both c.loop-router-test.true
+
+pub loop-router-init : goal.loop-router-init
+loop-router-init c = given_start (OffersDefault c.args.net.now) c.new-offers.result.items c.args.both.now
 
 pub loop-router-preserved : goal.loop-router-preserved
 loop-router-preserved c =
-    let net = c.args.net.now in
-    let u : ℕ = c.loop-router.router in
-    let old : List Offer = c.loop-router.offers.items in
-    let Goal : List Offer → Type 0 = λ l. AreOffersBelow (OffersDefault net) (u + 1) l in
-    elim c.if-is_attached.branch [
-      | then-is_attached+in_ok-push w ↦
-          let one : Offer = record { at = u; asks = 0 } in
-          subst Goal (sym (ap (λ v. v.items) w.offers-is ∙ w.in_ok-push.ensures.items))
-          (offers_more (OffersDefault net) u old (old ++ one ∷ []) c.loop-router.invariant (attached_added net u old (w.if-is_attached.ensures.0 refl)))
-      | else-is_attached w ↦
-          subst Goal (sym (ap (λ v. v.items) w.offers-is))
-          (offers_more (OffersDefault net) u old old c.loop-router.invariant
-          (attached_not_added net u old (λ is. false≢true (w.if-is_attached.ensures.1 is))))
-    ]
+    let u : ℕ = get_or c.args.both.now c.loop-router.router-index 0 in
+    given_more (OffersDefault c.args.net.now) c.new-offers.result.items c.loop-router.offers.items c.push_cost.new.offers.items c.args.both.now
+    c.loop-router.router-index c.loop-router-test.true c.loop-router.invariant
+    (offers_same c.loop-router.offers.items c.push_cost.new.offers.items u (λ k. c.default_cost.result ≡ Some k) (OffersDefault c.args.net.now u)
+    c.in_ok-push_cost.ensures c.default_cost.ensures)
 
 pub returns : goal.returns
 returns c =
-    offers_all (OffersDefault c.args.net.now) c.loop-router.router c.loop-router.offers.items c.loop-router.invariant
-    (λ at asks offers. let within : at < length c.args.net.now = attached_at_router c.args.net.now at asks offers in
-    omega (arith, c.routers-router-end.ensures.count))
+    holds_given (OffersDefault c.args.net.now) c.new-offers.result.items c.loop-router.offers.items c.args.both.now c.loop-router.router-index
+    c.new-offers.ensures.items c.loop-router-test.false (attached_both c.args.net.now c.args.both.now c.requires.both) c.loop-router.invariant

@@ -1,30 +1,24 @@
-use Rattle.std.proofs.Common.{refl, arith}
-use Rattle.net_model.specs.Network.{Network}
+use Rattle.std.proofs.Common.{length, refl}
+use Rattle.net_model.specs.Network.{Adjacent}
+use Rattle.net_model.specs.declared.zone.Zone.TheVariants.{One as ZoneOne}
 use Rattle.igp_theory.specs.Isis.{OffersDefault}
+use Rattle.isis_routes.specs.steps.LevelReach.{level_reach}
 use Rattle.isis_routes.specs.steps.Routing.{IsDefaultRoute, NoDefaultRoute}
-use Rattle.isis_routes.proofs.BestRoutes.{default_route_is}
-use Rattle.isis_routes.proofs.CostBounds.{in_range, default_is_small}
-use Rattle.isis_routes.proofs.LevelRoutes.{level_route, reach_in_one}
+use Rattle.isis_routes.proofs.BestRoutes.{default_is, route_found}
+use Rattle.isis_routes.proofs.CostBounds.{default_small}
 use Rattle.isis_routes.proofs.entry.default_route.Goals as goal
 
-pub best_route-requires : goal.best_route-requires
-best_route-requires c =
-    let net : Network = c.args.net.now in
-    in_range c.from_router.result.now (OffersDefault net) c.args.domain.now.attached.items c.as_slice-attached.result.now
-    (c.requires.domain.walks.one.near c.args.router c.from_router.result.now c.from_router.ensures)
-    c.requires.domain.attached c.as_slice-attached.ensures.value
-    (default_is_small net)
+pub best_route-requires-clause-small : goal.best_route-requires-clause-small
+best_route-requires-clause-small c =
+    default_small c.args.domain.now.net c.attached.result.now c.attached.result.now c.attached.ensures refl
 
 pub returns : goal.returns
 returns c =
-    let net : Network = c.args.net.now in
+    let net = c.args.domain.now.net in
     let u = c.args.router in
-    let reach = c.from_router.result.now in
-    let given = c.as_slice-attached.result.now in
-    let alone = c.if-not-runs_one_alone.ensures.0 refl in
-    level_route net c.args.domain.now.walks u 0 c.routers.result reach given (NoDefaultRoute net c.args.dest u) (IsDefaultRoute net c.args.dest u)
-    c.best_route.result (omega arith) c.routers.ensures.count (reach_in_one c.args.domain.now.walks u reach c.from_router.ensures)
-    (default_route_is net c.args.dest u reach c.args.domain.now.attached.items given (c.if-not-is_all_addresses.ensures.0 refl) alone.runs alone.alone
-    (c.requires.domain.walks.one.least u reach c.from_router.ensures)
-    c.requires.domain.attached c.as_slice-attached.ensures.value c.routers.result c.routers.ensures.count)
+    let p = c.args.dest in
+    route_found (Adjacent net ZoneOne) (OffersDefault net) c.attached.result.now u (level_reach c.args.domain.now.walks u) (length net)
+    (NoDefaultRoute net p u) (IsDefaultRoute net p u) c.best_route.result c.attached.ensures
+    (λ none k all costs. none (record { cost = k; best = costs.best }))
+    (λ hops route. default_is net p u hops (c.if-not-is_all_addresses.ensures.0 refl) (c.if-not-runs_level_one_alone.ensures.0 refl) route)
     c.best_route.ensures

@@ -1,40 +1,33 @@
-use Rattle.std.proofs.Common.{List, refl, arith}
+use Rattle.std.proofs.Common.{List, length, refl, sym, subst}
+use Rattle.net_model.specs.Network.{Adjacent}
+use Rattle.net_model.specs.declared.zone.Zone.TheVariants.{One as ZoneOne}
 use Rattle.walk_core.specs.declared.offers.Offer.{Offer}
 use Rattle.igp_theory.specs.Ospf.{OfOthers}
-use Rattle.igp_theory.specs.Isis.{DownAnnouncement, IsDown}
-use Rattle.isis_routes.specs.steps.Offered.{AreOffers, others_than}
+use Rattle.igp_theory.specs.Isis.{DownAnnouncement, HasDownRoute}
+use Rattle.isis_routes.specs.steps.LevelReach.{level_reach}
+use Rattle.isis_routes.specs.steps.Offered.{HoldsOffers}
 use Rattle.isis_routes.specs.steps.Routing.{IsDownRoute}
-use Rattle.isis_routes.proofs.Announced.{others_of_are}
-use Rattle.isis_routes.proofs.BestRoutes.{down_route_is}
-use Rattle.isis_routes.proofs.CostBounds.{in_range, leaked_is_small}
-use Rattle.isis_routes.proofs.LevelRoutes.{level_route, reach_in_one}
+use Rattle.isis_routes.proofs.Announced.{others_hold}
+use Rattle.isis_routes.proofs.BestRoutes.{down_is, route_found}
+use Rattle.isis_routes.proofs.CostBounds.{leaked_small}
 use Rattle.isis_routes.proofs.entry.down_route.Goals as goal
 
-pub best_of_others-requires : goal.best_of_others-requires
-best_of_others-requires c =
-    let net = c.args.net.now in
-    let u = c.args.router in
+pub best_route-requires-clause-small : goal.best_route-requires-clause-small
+best_route-requires-clause-small c =
     let d = c.args.destination.now in
-    let others : List Offer = others_than u c.as_slice.result.now in
-    in_range c.from_router.result.now (OfOthers (DownAnnouncement net d.one.dest) u) others others
-    (c.requires.domain.walks.one.near u c.from_router.result.now c.from_router.ensures)
-    (others_of_are (DownAnnouncement net d.one.dest) d.down.items c.as_slice.result.now others u c.requires.announced.down c.as_slice.ensures.value refl)
-    refl
-    (λ at asks o. leaked_is_small net d.one.dest at asks c.args.domain.now.walks c.routers.ensures.network c.requires.domain.walks o.offered)
+    leaked_small c.args.domain.now.net d.one.dest c.args.domain.now.walks d.down.items c.as_slice.result.now c.if-not-runs_level_one.ensures.known.network
+    c.if-not-runs_level_one.ensures.known.walks c.requires.announced.down c.as_slice.ensures.value
 
 pub returns : goal.returns
 returns c =
-    let net = c.args.net.now in
+    let net = c.args.domain.now.net in
     let u = c.args.router in
-    let d = c.args.destination.now in
-    let p = d.one.dest in
-    let reach = c.from_router.result.now in
-    let others : List Offer = others_than u c.as_slice.result.now in
-    let given : List Offer = others in
-    let listed : AreOffers (OfOthers (DownAnnouncement net p) u) given =
-    others_of_are (DownAnnouncement net p) d.down.items c.as_slice.result.now others u c.requires.announced.down c.as_slice.ensures.value refl in
-    level_route net c.args.domain.now.walks u 0 c.routers.result reach given (IsDown net p u → ⊥) (IsDownRoute net p u)
-    c.best_of_others.result (omega arith) c.routers.ensures.count (reach_in_one c.args.domain.now.walks u reach c.from_router.ensures)
-    (down_route_is net p u reach given (c.if-not-runs_one.ensures.runs.0 refl)
-    (c.requires.domain.walks.one.least u reach c.from_router.ensures) listed c.routers.result c.routers.ensures.count)
-    c.best_of_others.ensures
+    let p = c.args.destination.now.one.dest in
+    let others : HoldsOffers (OfOthers (DownAnnouncement net p) u) c.as_slice.result.now =
+    others_hold (DownAnnouncement net p) c.as_slice.result.now u
+    (subst (λ (l : List Offer). HoldsOffers (DownAnnouncement net p) l) (sym c.as_slice.ensures.value) c.requires.announced.down)
+    (λ k down. c.requires.without_level_two (record { cost = k; costs = down.costs })) in
+    route_found (Adjacent net ZoneOne) (OfOthers (DownAnnouncement net p) u) c.as_slice.result.now u (level_reach c.args.domain.now.walks u) (length net)
+    (HasDownRoute net p u → ⊥) (IsDownRoute net p u) c.best_route.result others
+    (λ none has. none (record { cost = has.cost; best = has.costs.best }))
+    (λ hops route. down_is net p u hops (c.if-not-runs_level_one.ensures.runs.0 refl) route) c.best_route.ensures

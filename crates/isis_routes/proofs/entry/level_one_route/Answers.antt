@@ -1,30 +1,30 @@
-use Rattle.std.proofs.Common.{◌^◌, ◌<◌, refl, arith}
-use Rattle.net_model.specs.Network.{Network}
-use Rattle.igp_theory.specs.Isis.{OffersOne, IsOne}
+use Rattle.std.proofs.Common.{List, length, refl, sym, subst}
+use Rattle.net_model.specs.Network.{Adjacent}
+use Rattle.net_model.specs.declared.zone.Zone.TheVariants.{One as ZoneOne}
+use Rattle.walk_core.specs.declared.offers.Offer.{Offer}
+use Rattle.igp_theory.specs.Isis.{OffersLevelOne, HasLevelOneRoute}
+use Rattle.isis_routes.specs.steps.LevelReach.{level_reach}
+use Rattle.isis_routes.specs.steps.Offered.{HoldsOffers}
 use Rattle.isis_routes.specs.steps.Routing.{IsLevelOneRoute}
-use Rattle.isis_routes.proofs.BestRoutes.{one_route_is}
-use Rattle.isis_routes.proofs.CostBounds.{in_range, one_is_small}
-use Rattle.isis_routes.proofs.LevelRoutes.{level_route, reach_in_one}
+use Rattle.isis_routes.proofs.BestRoutes.{level_one_is, route_found}
+use Rattle.isis_routes.proofs.CostBounds.{level_one_small}
 use Rattle.isis_routes.proofs.entry.level_one_route.Goals as goal
 
-pub best_route-requires : goal.best_route-requires
-best_route-requires c =
-    let net : Network = c.args.net.now in
+pub best_route-requires-clause-small : goal.best_route-requires-clause-small
+best_route-requires-clause-small c =
     let one = c.args.destination.now.one in
-    in_range c.from_router.result.now (OffersOne net one.dest) one.offers.items c.as_slice-offers.result.now
-    (c.requires.domain.walks.one.near c.args.router c.from_router.result.now c.from_router.ensures) c.requires.announced.one c.as_slice-offers.ensures.value
-    (λ at asks offers. let small : asks < 2 ^ 24 = one_is_small net one.dest at asks c.if-not-runs_one.ensures.network offers in omega arith)
+    level_one_small c.args.domain.now.net one.dest one.offers.items c.as_slice.result.now c.if-not-runs_level_one.ensures.known.network
+    c.requires.announced.one.offers
+    c.as_slice.ensures.value
 
 pub returns : goal.returns
 returns c =
-    let net : Network = c.args.net.now in
+    let net = c.args.domain.now.net in
+    let u = c.args.router in
     let one = c.args.destination.now.one in
-    let reach = c.from_router.result.now in
-    let given = c.as_slice-offers.result.now in
-    level_route net c.args.domain.now.walks c.args.router 0 c.routers.result reach given (IsOne net one.dest c.args.router → ⊥)
-    (IsLevelOneRoute net one.dest c.args.router)
-    c.best_route.result (omega arith) c.routers.ensures.count (reach_in_one c.args.domain.now.walks c.args.router reach c.from_router.ensures)
-    (one_route_is net one.dest c.args.router reach one.offers.items given (c.if-not-runs_one.ensures.runs.0 refl)
-    (c.requires.domain.walks.one.least c.args.router reach c.from_router.ensures)
-    c.requires.announced.one c.as_slice-offers.ensures.value c.routers.result c.routers.ensures.count)
-    c.best_route.ensures
+    let are : HoldsOffers (OffersLevelOne net one.dest) c.as_slice.result.now =
+    subst (λ (l : List Offer). HoldsOffers (OffersLevelOne net one.dest) l) (sym c.as_slice.ensures.value) c.requires.announced.one.offers in
+    route_found (Adjacent net ZoneOne) (OffersLevelOne net one.dest) c.as_slice.result.now u (level_reach c.args.domain.now.walks u) (length net)
+    (HasLevelOneRoute net one.dest u → ⊥) (IsLevelOneRoute net one.dest u) c.best_route.result are
+    (λ none has. none (record { cost = has.cost; best = has.costs.best }))
+    (λ hops route. level_one_is net one.dest u hops (c.if-not-runs_level_one.ensures.runs.0 refl) route) c.best_route.ensures

@@ -1,43 +1,33 @@
-use Rattle.std.proofs.Common.{◌^◌, ◌<◌, List, refl, arith}
+use Rattle.std.proofs.Common.{List, length, refl, sym, subst}
+use Rattle.net_model.specs.Network.{Adjacent}
+use Rattle.net_model.specs.declared.zone.Zone.TheVariants.{Two as ZoneTwo}
 use Rattle.walk_core.specs.declared.offers.Offer.{Offer}
 use Rattle.igp_theory.specs.Ospf.{OfOthers}
-use Rattle.igp_theory.specs.Isis.{LevelTwoAnnouncement, IsTwo}
-use Rattle.isis_routes.specs.steps.Offered.{AreOffers, others_than}
+use Rattle.igp_theory.specs.Isis.{LevelTwoAnnouncement, HasLevelTwoRoute}
+use Rattle.isis_routes.specs.steps.LevelReach.{level_reach}
+use Rattle.isis_routes.specs.steps.Offered.{HoldsOffers}
 use Rattle.isis_routes.specs.steps.Routing.{IsLevelTwoRoute}
-use Rattle.isis_routes.proofs.Announced.{others_of_are}
-use Rattle.isis_routes.proofs.BestRoutes.{two_route_is}
-use Rattle.isis_routes.proofs.CostBounds.{in_range, announcement_is_small}
-use Rattle.isis_routes.proofs.LevelRoutes.{level_route, reach_in_two}
+use Rattle.isis_routes.proofs.Announced.{announces_nothing, others_hold}
+use Rattle.isis_routes.proofs.BestRoutes.{level_two_is, route_found}
+use Rattle.isis_routes.proofs.CostBounds.{announced_small}
 use Rattle.isis_routes.proofs.entry.level_two_route.Goals as goal
 
-pub best_of_others-requires : goal.best_of_others-requires
-best_of_others-requires c =
-    let net = c.args.net.now in
-    let u = c.args.router in
+pub best_route-requires-clause-small : goal.best_route-requires-clause-small
+best_route-requires-clause-small c =
     let d = c.args.destination.now in
-    let others : List Offer = others_than u c.as_slice.result.now in
-    in_range c.from_router.result.now (OfOthers (LevelTwoAnnouncement net d.one.dest) u) others others
-    (c.requires.domain.walks.two.near u c.from_router.result.now c.from_router.ensures)
-    (others_of_are (LevelTwoAnnouncement net d.one.dest) d.two.items c.as_slice.result.now others u c.requires.announced.two c.as_slice.ensures.value refl)
-    refl
-    (λ at asks o.
-    let small : asks < 2 ^ 41 = announcement_is_small net d.one.dest at asks c.args.domain.now.walks.one c.routers.ensures.network
-    c.requires.domain.walks.one o.offered in
-    omega arith)
+    announced_small c.args.domain.now.net d.one.dest c.args.domain.now.walks.one d.two.items c.as_slice.result.now c.if-not-runs_level_two.ensures.known.network
+    c.if-not-runs_level_two.ensures.known.walks.one c.requires.announced.two c.as_slice.ensures.value
 
 pub returns : goal.returns
 returns c =
-    let net = c.args.net.now in
+    let net = c.args.domain.now.net in
     let u = c.args.router in
-    let d = c.args.destination.now in
-    let p = d.one.dest in
-    let reach = c.from_router.result.now in
-    let others : List Offer = others_than u c.as_slice.result.now in
-    let given : List Offer = others in
-    let listed : AreOffers (OfOthers (LevelTwoAnnouncement net p) u) given =
-    others_of_are (LevelTwoAnnouncement net p) d.two.items c.as_slice.result.now others u c.requires.announced.two c.as_slice.ensures.value refl in
-    level_route net c.args.domain.now.walks u 1 c.routers.result reach given (IsTwo net p u → ⊥) (IsLevelTwoRoute net p u)
-    c.best_of_others.result (omega arith) c.routers.ensures.count (reach_in_two c.args.domain.now.walks u reach c.from_router.ensures)
-    (two_route_is net p u reach given (c.if-not-runs_two.ensures.runs.0 refl)
-    (c.requires.domain.walks.two.least u reach c.from_router.ensures) listed c.routers.result c.routers.ensures.count)
-    c.best_of_others.ensures
+    let p = c.args.destination.now.one.dest in
+    let others : HoldsOffers (OfOthers (LevelTwoAnnouncement net p) u) c.as_slice.result.now =
+    others_hold (LevelTwoAnnouncement net p) c.as_slice.result.now u
+    (subst (λ (l : List Offer). HoldsOffers (LevelTwoAnnouncement net p) l) (sym c.as_slice.ensures.value) c.requires.announced.two)
+    (λ k announces. announces_nothing net p u k c.requires.away c.requires.without_level_one announces) in
+    route_found (Adjacent net ZoneTwo) (OfOthers (LevelTwoAnnouncement net p) u) c.as_slice.result.now u (level_reach c.args.domain.now.walks u) (length net)
+    (HasLevelTwoRoute net p u → ⊥) (IsLevelTwoRoute net p u) c.best_route.result others
+    (λ none has. none (record { cost = has.cost; best = has.costs.best }))
+    (λ hops route. level_two_is net p u hops (c.if-not-runs_level_two.ensures.runs.0 refl) route) c.best_route.ensures

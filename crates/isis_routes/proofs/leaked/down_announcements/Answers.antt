@@ -1,17 +1,28 @@
-use Rattle.std.proofs.Common.{◌<◌, length, arith}
+use Rattle.std.proofs.Common.{◌≡◌, ℕ, Some, get_or}
+use Rattle.std.proofs.lemmas.List.Elements.{Contains-get_or}
 use Rattle.igp_theory.specs.Isis.{DownAnnouncement}
-use Rattle.isis_routes.proofs.LeakedOffers.{leaked_at_router}
-use Rattle.isis_routes.proofs.OfferLists.{offers_more, offers_all}
+use Rattle.isis_routes.proofs.OfferLists.{given_start, given_more, holds_given, offers_same}
 use Rattle.isis_routes.proofs.leaked.down_announcements.Goals as goal
+
+pub leaked_cost-requires-clause-leaks : goal.leaked_cost-requires-clause-leaks
+leaked_cost-requires-clause-leaks c =
+    (c.requires.leaking (get_or c.args.leaking.now c.loop-router.router-index 0)).0
+    (Contains-get_or c.args.leaking.now c.loop-router.router-index 0 c.loop-router-test.true)
+
+pub loop-router-init : goal.loop-router-init
+loop-router-init c = given_start (DownAnnouncement c.args.domain.now.net c.args.one.now.dest) c.new-offers.result.items c.args.leaking.now
 
 pub loop-router-preserved : goal.loop-router-preserved
 loop-router-preserved c =
-    offers_more (DownAnnouncement c.args.net.now c.args.one.now.dest) c.loop-router.router c.loop-router.offers.items c.push_leaked.new.offers.items
-    c.loop-router.invariant c.in_ok-push_leaked.ensures
+    let down = DownAnnouncement c.args.domain.now.net c.args.one.now.dest in
+    let u : ℕ = get_or c.args.leaking.now c.loop-router.router-index 0 in
+    given_more down c.new-offers.result.items c.loop-router.offers.items c.push_cost.new.offers.items c.args.leaking.now c.loop-router.router-index
+    c.loop-router-test.true c.loop-router.invariant
+    (offers_same c.loop-router.offers.items c.push_cost.new.offers.items u (λ k. c.leaked_cost.result ≡ Some k) (down u) c.in_ok-push_cost.ensures
+    c.leaked_cost.ensures)
 
 pub returns : goal.returns
 returns c =
-    let net = c.args.net.now in
-    let p = c.args.one.now.dest in
-    offers_all (DownAnnouncement net p) c.loop-router.router c.loop-router.offers.items c.loop-router.invariant
-    (λ at asks announces. let within : at < length net = leaked_at_router net p at asks announces in omega (arith, c.routers-router-end.ensures.count))
+    holds_given (DownAnnouncement c.args.domain.now.net c.args.one.now.dest) c.new-offers.result.items c.loop-router.offers.items c.args.leaking.now
+    c.loop-router.router-index c.new-offers.ensures.items c.loop-router-test.false (λ b k announces. (c.requires.leaking b).1 announces.leaks)
+    c.loop-router.invariant

@@ -1,7 +1,7 @@
 use Rattle.std.proofs.Common.{ℕ}
 use Rattle.net_model.specs.declared.interface.Interface.{Interface}
 use Rattle.route_tables.proofs.ListFacts.{adds_start, adds_step, adds_end}
-use Rattle.ospf_routes.specs.steps.Areas.{RunsArea}
+use Rattle.net_model.specs.Network.{RunsArea}
 use Rattle.ospf_routes.proofs.areas.add_areas.Goals as goal
 
 pub loop-interface-init : goal.loop-interface-init

@@ -1,6 +1,6 @@
 use Rattle.std.proofs.Common.{take}
 use Rattle.std.specs.List.{Any}
-use Rattle.ospf_routes.specs.steps.Areas.{RunsArea}
+use Rattle.net_model.specs.Network.{RunsArea}
 use Rattle.ospf_routes.specs.Lists.{Adds}
 use Rattle.ospf_routes.proofs.areas.add_areas.Given as goal
 

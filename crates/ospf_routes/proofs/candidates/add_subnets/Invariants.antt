@@ -1,8 +1,8 @@
 use Rattle.std.proofs.Common.{take}
 use Rattle.std.specs.List.{Any}
 use Rattle.route_tables.specs.Lists.{Adds}
-use Rattle.ospf_routes.specs.steps.Candidates.{HasSubnet}
+use Rattle.ospf_routes.specs.steps.Candidates.{HasOspfSubnet}
 use Rattle.ospf_routes.proofs.candidates.add_subnets.Given as goal
 
 abbrev pub invariant-loop-interface : goal.invariant-loop-interface
-invariant-loop-interface l = Adds l.initial.dests l.dests (λ p. Any (HasSubnet p) (take l.interface-index l.interfaces))
+invariant-loop-interface l = Adds l.initial.dests l.dests (λ p. Any (HasOspfSubnet p) (take l.interface-index l.interfaces))

@@ -1,10 +1,14 @@
 use Rattle.std.proofs.Common.{◌≡◌, take}
 use Rattle.std.specs.List.{All}
-use Rattle.ospf_routes.specs.steps.Destinations.{IsDestination, dests_of}
+use Rattle.net_model.specs.Network.{Network}
+use Rattle.ospf_routes.specs.Lists.{Exactly}
+use Rattle.ospf_routes.specs.steps.Areas.{AreAreas}
+use Rattle.ospf_routes.specs.steps.Subnets.{IsUpSubnet}
+use Rattle.ospf_routes.specs.steps.Destinations.{IsDestination, ospf_prefixes}
 use Rattle.ospf_routes.proofs.domain.each_destination.Given as goal
 
 abbrev pub invariant-loop-dest : goal.invariant-loop-dest
 invariant-loop-dest l = record {
-  dests : dests_of l.all.items ≡ take l.dest-index l.dests;
-  each : All (IsDestination l.net) l.all.items;
+  dests : ospf_prefixes l.all.items ≡ take l.dest-index l.dests;
+  each : (net : Network) → AreAreas net l.areas → Exactly (IsUpSubnet net) l.subnets → All (IsDestination net) l.all.items;
 }

@@ -1,5 +1,4 @@
 use Rattle.std.proofs.Common.{◌^◌, ◌<◌, arith, List, refl}
-use Rattle.std.proofs.lemmas.Bool.{false≢true}
 use Rattle.igp_theory.specs.Ospf.{OffersSubnet, IsIntraArea}
 use Rattle.walk_core.specs.declared.offers.Offer.{Offer}
 use Rattle.ospf_routes.proofs.CostBounds.{in_range, subnet_is_small}
@@ -8,11 +7,6 @@ use Rattle.ospf_routes.proofs.RouteFacts.{area_route_is}
 use Rattle.ospf_routes.proofs.ZoneRoutes.{zone_route, only_follows, only_none}
 use Rattle.ospf_routes.specs.steps.Routing.{IsIntraRoute}
 use Rattle.ospf_routes.proofs.entry.area_route.Goals as goal
-
-pub returns-then-not-in_area : goal.returns-then-not-in_area
-returns-then-not-in_area c =
-    only_none c.args.net.now c.args.destination.now c.args.part.now c.args.u c.requires.destination c.requires.one c.requires.part
-    (λ cost costs. false≢true (c.if-not-in_area.ensures.1 costs.inside))
 
 pub best_route-requires : goal.best_route-requires
 best_route-requires c =
@@ -35,11 +29,12 @@ returns-in-Some c =
     zone_route net c.args.areas.now u c.in-Some.found.zone c.routers.result reach given (IsIntraArea net d.dest u → ⊥) (IsIntraRoute net d.dest u)
     c.best_route.result is.within is.same c.routers.ensures.count
     (λ hops best. only_follows net d part u hops c.requires.destination c.requires.one c.requires.part
-    (area_route_is net part.area d.dest u reach part.offers.items given (record { inside = c.if-not-in_area.ensures.0 refl; reach_is = is.reach_is })
+    (area_route_is net part.area d.dest u reach part.offers.items given is.reach_is
     (part_is net d d.parts.items part part.area c.requires.destination refl c.requires.part refl) c.as_slice-offers.ensures.value
     c.routers.result c.routers.ensures.count hops best))
     c.best_route.ensures
 
 pub returns-in-None : goal.returns-in-None
 returns-in-None c =
-    absurd (c.in-None.ensures.none (c.requires.areas.every c.args.u c.args.part.now.area (c.if-not-in_area.ensures.0 refl)))
+    only_none c.args.net.now c.args.destination.now c.args.part.now c.args.u c.requires.destination c.requires.one c.requires.part
+    (λ cost costs. c.in-None.ensures.none (c.requires.areas.every c.args.u c.args.part.now.area costs.inside))

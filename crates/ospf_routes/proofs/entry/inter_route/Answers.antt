@@ -1,4 +1,4 @@
-use Rattle.std.proofs.Common.{◌≡◌, List, length, refl, sym, ap, ◌∙◌}
+use Rattle.std.proofs.Common.{◌≡◌, List, length, sym, ap, ◌∙◌}
 use Rattle.std.proofs.lemmas.Bool.{eqb-true}
 use Rattle.std.proofs.lemmas.Option.{none-some}
 use Rattle.ospf_routes.proofs.RouteFacts.{no_summaries}
@@ -6,11 +6,11 @@ use Rattle.ospf_routes.specs.declared.intra_area.AreaOffers.{AreaOffers}
 use Rattle.ospf_routes.proofs.entry.inter_route.Goals as goal
 
 pub listened_route-requires-clause-listens : goal.listened_route-requires-clause-listens
-listened_route-requires-clause-listens c = (c.in-Some.ensures c.in-Some.area).0 refl
+listened_route-requires-clause-listens c = (c.requires.listens c.in-Some.area).0 c.in-Some.is
 
 pub returns-in-None : goal.returns-in-None
 returns-in-None c =
-    λ cost costs. none-some costs.area ((c.in-None.ensures costs.area).1 costs.listens)
+    λ cost costs. none-some costs.area (sym c.in-None.is ∙ (c.requires.listens costs.area).1 costs.listens)
 
 pub returns-then-is_empty : goal.returns-then-is_empty
 returns-then-is_empty c =

@@ -12,9 +12,9 @@ use Rattle.ospf_routes.proofs.EntryFacts.{connected_has_none, entry_by_intra, en
 use Rattle.ospf_routes.proofs.RangeFacts.{active_range_is}
 use Rattle.ospf_routes.proofs.entry.route_of.Goals as goal
 
-pub returns-then-originates : goal.returns-then-originates
-returns-then-originates c =
-    connected_has_none c.args.net.now c.args.u c.args.destination.now.dest (c.if-originates.ensures.0 refl)
+pub returns-then-is_home : goal.returns-then-is_home
+returns-then-is_home c =
+    connected_has_none c.args.net.now c.args.u c.args.destination.now.dest ((c.requires.destination.homes c.args.u).0 (c.if-is_home.ensures.0 refl))
 
 pub returns-in-Some : goal.returns-in-Some
 returns-in-Some c =
@@ -24,7 +24,7 @@ returns-in-Some c =
     let reach : ℕ → Reach = area_reach c.args.areas.now u in
     let zones : ℕ = length c.args.areas.now in
     route_by_hops reach zones (length net) (IsIntraRoute net p u) (OspfEntry net u p) c.in-Some.route
-    (λ hops route. entry_by_intra net u p hops (λ is. false≢true (c.if-originates.ensures.1 is)) route)
+    (λ hops route. entry_by_intra net u p hops (λ is. false≢true (c.if-is_home.ensures.1 ((c.requires.destination.homes c.args.u).1 is))) route)
     (MatchOption-at_some (IsIntraArea net p u → ⊥) (IsRouteFor reach zones (length net) (ForwardsBy (IsIntraRoute net p u)))
     c.in-Some.route c.in-Some.is c.in_ok-route.ensures)
 
@@ -36,7 +36,7 @@ returns-then-contains c =
     let reach : ℕ → Reach = area_reach c.args.areas.now u in
     let zones : ℕ = length c.args.areas.now in
     route_by_discard reach zones (length net) (OspfEntry net u p)
-    (entry_by_discard net u p (λ is. false≢true (c.if-originates.ensures.1 is))
+    (entry_by_discard net u p (λ is. false≢true (c.if-is_home.ensures.1 ((c.requires.destination.homes c.args.u).1 is)))
     (MatchOption-at_none (IsIntraArea net p u → ⊥) (IsRouteFor reach zones (length net) (ForwardsBy (IsIntraRoute net p u)))
     c.in_default.is c.in_ok-route.ensures)
     ((active_range_is net u p c.args.ranges.now c.requires.ranges).0 (c.if-contains.ensures.0 refl)))
@@ -50,7 +50,7 @@ returns-in-Some-2 c =
     let zones : ℕ = length c.args.areas.now in
     let other : Block = c.args.summaries.now.dest in
     route_by_hops reach zones (length net) (IsListenedRoute net p u) (OspfEntry net u p) c.in-Some-2.route
-    (λ hops route. entry_by_inter net u p hops (λ is. false≢true (c.if-originates.ensures.1 is))
+    (λ hops route. entry_by_inter net u p hops (λ is. false≢true (c.if-is_home.ensures.1 ((c.requires.destination.homes c.args.u).1 is)))
     (MatchOption-at_none (IsIntraArea net p u → ⊥) (IsRouteFor reach zones (length net) (ForwardsBy (IsIntraRoute net p u)))
     c.in_default.is c.in_ok-route.ensures)
     (λ is. false≢true (c.if-contains.ensures.1 ((active_range_is net u p c.args.ranges.now c.requires.ranges).1 is))) route)

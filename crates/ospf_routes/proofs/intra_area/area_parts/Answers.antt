@@ -5,7 +5,7 @@ use Rattle.walk_core.specs.declared.offers.Offer.{Offer}
 use Rattle.ospf_routes.proofs.IntraFacts.{PartsSoFar, parts_none, parts_more}
 use Rattle.route_tables.proofs.ListFacts.{one_more}
 use Rattle.ospf_routes.specs.steps.Areas.{HasArea}
-use Rattle.ospf_routes.specs.steps.Destinations.{HasPart}
+use Rattle.ospf_routes.specs.steps.Destinations.{HasAreaPart}
 use Rattle.ospf_routes.specs.declared.areas.AreaWalks.{AreaWalks}
 use Rattle.ospf_routes.specs.declared.intra_area.AreaOffers.{AreaOffers}
 use Rattle.ospf_routes.specs.steps.Offered.{InsideOf}
@@ -32,7 +32,7 @@ returns-clause-exact c = c.loop-area.invariant.exact
 pub returns-clause-every : goal.returns-clause-every
 returns-clause-every c =
     let wanted : ℕ → Offer → Type 0 = λ n o. Any (λ r. InsideOf n r o) c.args.routes.now in
-    let all : (n : ℕ) (o : Offer) → HasArea c.args.areas.now n → wanted n o → HasPart c.loop-area.parts.items n =
-    subst (λ (l : List AreaWalks). (n : ℕ) (o : Offer) → HasArea l n → wanted n o → HasPart c.loop-area.parts.items n)
+    let all : (n : ℕ) (o : Offer) → HasArea c.args.areas.now n → wanted n o → HasAreaPart c.loop-area.parts.items n =
+    subst (λ (l : List AreaWalks). (n : ℕ) (o : Offer) → HasArea l n → wanted n o → HasAreaPart c.loop-area.parts.items n)
     (take_all c.loop-area.area-index c.args.areas.now c.loop-area-test.false) c.loop-area.invariant.every in
     all

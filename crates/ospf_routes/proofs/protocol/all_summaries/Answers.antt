@@ -4,11 +4,11 @@ use Rattle.std.proofs.lemmas.List.Elements.{All-push}
 use Rattle.std.specs.List.{All}
 use Rattle.ospf_routes.proofs.DestinationFacts.{one_more_summary}
 use Rattle.route_tables.proofs.ListFacts.{all_in_at}
-use Rattle.ospf_routes.specs.steps.Destinations.{IsDestination, dests_of}
+use Rattle.ospf_routes.specs.steps.Destinations.{IsDestination, ospf_prefixes}
 use Rattle.ospf_routes.specs.steps.Summarized.{AreSummaries}
 use Rattle.ospf_routes.specs.declared.areas.AreaWalks.{AreaWalks}
 use Rattle.ospf_routes.specs.declared.intra_area.Destination.{Destination}
-use Rattle.ospf_routes.specs.declared.summaries.Summaries.{Summaries}
+use Rattle.ospf_routes.specs.declared.announcements.Summaries.{Summaries}
 use Rattle.ospf_routes.proofs.protocol.all_summaries.Goals as goal
 
 pub build-requires-clause-destination : goal.build-requires-clause-destination
@@ -26,7 +26,7 @@ loop-destination-preserved c =
     subst (λ (l : List Destination). (k < length l) × (d ≡ get_or l k d)) c.deref-destination-items.ensures.value
     (c.loop-destination-test.true, c.destination-item.is) in
     record {
-      dests = subst (λ (l : List Summaries). map (λ (s : Summaries). s.dest) l ≡ dests_of (take (k + 1) c.args.domain.now.destinations.items))
+      dests = subst (λ (l : List Summaries). map (λ (s : Summaries). s.dest) l ≡ ospf_prefixes (take (k + 1) c.args.domain.now.destinations.items))
           (sym c.in_ok-push.ensures.items)
           (one_more_summary c.args.domain.now.destinations.items k c.loop-destination.all.items s d at.0 at.1 c.loop-destination.invariant.dests
           c.in_ok-summaries.ensures.dest);
@@ -41,7 +41,7 @@ returns c =
     let past : length c.args.domain.now.destinations.items ≤ k = subst (λ (l : List Destination). length l ≤ k)
     c.deref-destination-items.ensures.value c.loop-destination-test.false in
     record {
-      dests = subst (λ (l : List Destination). map (λ (s : Summaries). s.dest) c.loop-destination.all.items ≡ dests_of l)
+      dests = subst (λ (l : List Destination). map (λ (s : Summaries). s.dest) c.loop-destination.all.items ≡ ospf_prefixes l)
           (take_all k c.args.domain.now.destinations.items past) c.loop-destination.invariant.dests;
       each = c.loop-destination.invariant.each;
     }

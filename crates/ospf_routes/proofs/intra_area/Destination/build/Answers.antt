@@ -1,8 +1,15 @@
 use Rattle.ospf_routes.proofs.IntraFacts.{destination_is}
+use Rattle.ospf_routes.proofs.SubnetFacts.{homes_are, subnet_routes_are}
+use Rattle.ospf_routes.specs.declared.intra_area.Destination.{Destination}
 use Rattle.ospf_routes.proofs.intra_area.Destination.build.Goals as goal
 
-pub returns-clause-offers : goal.returns-clause-offers
-returns-clause-offers c =
-    destination_is c.args.net.now c.args.areas.now c.in_ok-routes.routes.items c.as_slice.result.now
-    (record { dest = c.args.dest; parts = c.in_ok-parts.parts })
-    c.requires c.in_ok-routes.ensures c.as_slice.ensures.value c.in_ok-parts.ensures.exact c.in_ok-parts.ensures.every
+pub returns-clause-is : goal.returns-clause-is
+returns-clause-is c net are subnets =
+    let p = c.args.dest in
+    let all = c.args.subnets.now in
+    let near = c.around-near.result.now in
+    let d : Destination = record { dest = p; homes = c.in_ok-homes.homes; parts = c.in_ok-parts.parts } in
+    destination_is net c.args.areas.now c.in_ok-routes.routes.items c.as_slice.result.now d are
+    (homes_are net p all near d.homes.items subnets c.around-near.ensures c.in_ok-homes.ensures)
+    (subnet_routes_are net p all near c.in_ok-routes.routes.items subnets c.around-near.ensures c.in_ok-routes.ensures)
+    c.as_slice.ensures.value c.in_ok-parts.ensures.exact c.in_ok-parts.ensures.every

@@ -2,7 +2,7 @@ use Rattle.std.proofs.Common.{ℕ, ◌<◌, length, Contains, subst}
 use Rattle.net_addr.specs.Addresses.{Block}
 use Rattle.route_core.specs.declared.entry.Entry.{Entry}
 use Rattle.igp_theory.specs.Ospf.{OspfEntry}
-use Rattle.ospf_routes.specs.steps.Destinations.{dests_of}
+use Rattle.ospf_routes.specs.steps.Destinations.{ospf_prefixes}
 use Rattle.ospf_routes.specs.steps.Networks.{OspfNetwork}
 use Rattle.ospf_routes.proofs.EntryFacts.{entry_is_candidate}
 use Rattle.ospf_routes.proofs.protocol.OspfProtocol.candidates.Goals as goal
@@ -10,5 +10,5 @@ use Rattle.ospf_routes.proofs.protocol.OspfProtocol.candidates.Goals as goal
 pub returns-clause-every : goal.returns-clause-every
 returns-clause-every c =
     subst (λ (ospf : OspfNetwork). (u : ℕ) (p : Block) (e : Entry) → u < length ospf.net → OspfEntry ospf.net u p e →
-    Contains (dests_of ospf.domain.destinations.items) p) c.self.view_is
+    Contains (ospf_prefixes ospf.domain.destinations.items) p) c.self.view_is
     (λ u p e below is. c.self.invariant.domain.destinations.every p (entry_is_candidate c.self.inside.net.now u p e is))

@@ -5,14 +5,15 @@ use Rattle.route_core.specs.declared.entry.Entry.{Entry}
 use Rattle.igp_theory.specs.Ospf.{OspfEntry}
 use Rattle.route_tables.specs.Prefixes.{prefix_at}
 use Rattle.route_tables.proofs.DestinationLists.{element_at, prefix_is}
-use Rattle.ospf_routes.specs.steps.Destinations.{IsDestination, dests_of}
+use Rattle.ospf_routes.specs.steps.Destinations.{IsDestination, ospf_prefixes}
 use Rattle.route_tables.specs.Routings.{IsRouteFor}
 use Rattle.ospf_routes.specs.steps.AreaReach.{area_reach}
 use Rattle.ospf_routes.specs.steps.Networks.{OspfNetwork}
 use Rattle.ospf_routes.specs.steps.Summarized.{AreSummaries}
 use Rattle.ospf_routes.specs.declared.areas.AreaWalks.{AreaWalks}
 use Rattle.ospf_routes.specs.declared.intra_area.Destination.{Destination}
-use Rattle.ospf_routes.specs.declared.summaries.Summaries.{Summaries}
+use Rattle.ospf_routes.specs.declared.announcements.Summaries.{Summaries}
+use Rattle.ospf_routes.proofs.AreaFacts.{listener_of}
 use Rattle.ospf_routes.proofs.RangeFacts.{ranges_of}
 use Rattle.ospf_routes.proofs.protocol.OspfProtocol.route.Goals as goal
 
@@ -21,19 +22,24 @@ route_of-requires-clause-ranges c =
     ranges_of c.self.inside.net.now c.self.inside.ranges.items c.args.router c.index-ranges.result.now c.self.invariant.ranges
     (subst (λ (ospf : OspfNetwork). c.args.router < length ospf.net) (sym c.self.view_is) c.requires.router) c.index-ranges.ensures
 
+pub route_of-requires-clause-listens : goal.route_of-requires-clause-listens
+route_of-requires-clause-listens c =
+    listener_of c.self.inside.net.now c.self.inside.listens.items c.args.router c.index-listens.result.now c.self.invariant.listeners
+    (subst (λ (ospf : OspfNetwork). c.args.router < length ospf.net) (sym c.self.view_is) c.requires.router) c.index-listens.ensures
+
 pub route_of-requires-clause-destination : goal.route_of-requires-clause-destination
 route_of-requires-clause-destination c =
     element_at (λ (d : Destination). d.dest) (IsDestination c.self.inside.net.now)
     c.self.inside.domain.destinations.items c.args.place c.index-destination.result.now
     c.self.invariant.domain.destinations.each
-    (subst (λ (ospf : OspfNetwork). c.args.place < length (dests_of ospf.domain.destinations.items)) (sym c.self.view_is) c.requires.place)
+    (subst (λ (ospf : OspfNetwork). c.args.place < length (ospf_prefixes ospf.domain.destinations.items)) (sym c.self.view_is) c.requires.place)
     c.index-destination.ensures
 
 pub route_of-requires-clause-summaries : goal.route_of-requires-clause-summaries
 route_of-requires-clause-summaries c =
     let ds : List Destination = c.self.inside.domain.destinations.items in
     let all : List Summaries = c.self.inside.summaries.items in
-    let within : c.args.place < length (dests_of ds) = subst (λ (ospf : OspfNetwork). c.args.place < length (dests_of ospf.domain.destinations.items))
+    let within : c.args.place < length (ospf_prefixes ds) = subst (λ (ospf : OspfNetwork). c.args.place < length (ospf_prefixes ospf.domain.destinations.items))
     (sym c.self.view_is) c.requires.place in
     subst (λ (l : List AreaWalks). AreSummaries c.self.inside.net.now l c.index-summaries.result.now) (sym c.as_slice-areas.ensures.value)
     (element_at (λ (s : Summaries). s.dest) (AreSummaries c.self.inside.net.now c.self.inside.domain.areas.items)
@@ -45,9 +51,9 @@ pub route_of-requires-clause-dest : goal.route_of-requires-clause-dest
 route_of-requires-clause-dest c =
     let ds : List Destination = c.self.inside.domain.destinations.items in
     let all : List Summaries = c.self.inside.summaries.items in
-    let within : c.args.place < length (dests_of ds) = subst (λ (ospf : OspfNetwork). c.args.place < length (dests_of ospf.domain.destinations.items))
+    let within : c.args.place < length (ospf_prefixes ds) = subst (λ (ospf : OspfNetwork). c.args.place < length (ospf_prefixes ospf.domain.destinations.items))
     (sym c.self.view_is) c.requires.place in
-    let same : dests_of ds ≡ map (λ (s : Summaries). s.dest) all = sym c.self.invariant.announced.dests in
+    let same : ospf_prefixes ds ≡ map (λ (s : Summaries). s.dest) all = sym c.self.invariant.announced.dests in
     prefix_is (λ (s : Summaries). s.dest) all c.args.place c.index-summaries.result.now (subst (λ (l : List Block). c.args.place < length l) same within)
     c.index-summaries.ensures
     ∙ ap (λ (l : List Block). prefix_at l c.args.place) (sym same)
@@ -58,11 +64,11 @@ returns c =
     let Goal : Network → List AreaWalks → Block → Type 0 =
     λ net areas p. IfOk c.route_of.result (λ found. MatchOption found ((e : Entry) → OspfEntry net c.args.router p e → ⊥)
     (IsRouteFor (area_reach areas c.args.router) (length areas) (length net) (OspfEntry net c.args.router p))) in
-    subst (λ (ospf : OspfNetwork). Goal ospf.net ospf.domain.areas.items (prefix_at (dests_of ospf.domain.destinations.items) c.args.place)) c.self.view_is
-    (subst (λ (areas : List AreaWalks). Goal c.self.inside.net.now areas (prefix_at (dests_of c.self.inside.domain.destinations.items) c.args.place))
+    subst (λ (ospf : OspfNetwork). Goal ospf.net ospf.domain.areas.items (prefix_at (ospf_prefixes ospf.domain.destinations.items) c.args.place)) c.self.view_is
+    (subst (λ (areas : List AreaWalks). Goal c.self.inside.net.now areas (prefix_at (ospf_prefixes c.self.inside.domain.destinations.items) c.args.place))
     c.as_slice-areas.ensures.value
     (subst (Goal c.self.inside.net.now c.as_slice-areas.result.now)
     (prefix_is (λ (d : Destination). d.dest) c.self.inside.domain.destinations.items c.args.place c.index-destination.result.now
-    (subst (λ (ospf : OspfNetwork). c.args.place < length (dests_of ospf.domain.destinations.items)) (sym c.self.view_is) c.requires.place)
+    (subst (λ (ospf : OspfNetwork). c.args.place < length (ospf_prefixes ospf.domain.destinations.items)) (sym c.self.view_is) c.requires.place)
     c.index-destination.ensures)
     c.route_of.ensures))

@@ -1,0 +1,10 @@
+use Rattle.std.proofs.Common.{List, ℕ, sym, subst}
+use Rattle.igp_theory.specs.Isis.{Leaks}
+use Rattle.route_tables.specs.Lists.{Exactly}
+use Rattle.isis_routes.specs.steps.Domain.{IsisDomain}
+use Rattle.isis_routes.proofs.domain.Domain.leaking.Goals as goal
+
+pub returns : goal.returns
+returns c =
+    subst (λ (d : IsisDomain). Exactly (Leaks d.net) c.as_slice.result.now) c.self.view_is
+    (subst (λ (l : List ℕ). Exactly (Leaks c.self.inside.net.now) l) (sym c.as_slice.ensures.value) c.self.invariant.leaking)

@@ -1,0 +1,21 @@
+use Rattle.std.proofs.Common.{arith}
+use Rattle.route_tables.proofs.ListFacts.{below_start, below_step, exactly_below}
+use Rattle.isis_routes.specs.steps.Routing.{RunsBothLevels, IsThisRouter}
+use Rattle.isis_routes.proofs.RunFacts.{both_below, this_holds, where_added}
+use Rattle.isis_routes.proofs.runs.routers_of_both_levels.Goals as goal
+
+pub loop-u-init : goal.loop-u-init
+loop-u-init c = below_start (IsThisRouter (RunsBothLevels c.args.net.now)) c.new-routers.result.items
+
+pub loop-u-preserved : goal.loop-u-preserved
+loop-u-preserved c =
+    below_step (IsThisRouter (RunsBothLevels c.args.net.now)) c.new-routers.result.items c.loop-u.routers.items c.push_option.new.all.items c.loop-u.u
+    c.loop-u.invariant
+    (where_added (RunsBothLevels c.args.net.now) c.loop-u.u c.runs_both_levels.result c.where_so.result c.loop-u.routers.items c.push_option.new.all.items
+    c.runs_both_levels.ensures c.where_so.ensures c.in_ok-push_option.ensures.ok)
+
+pub returns-clause-routers : goal.returns-clause-routers
+returns-clause-routers c =
+    exactly_below (IsThisRouter (RunsBothLevels c.args.net.now)) (RunsBothLevels c.args.net.now) c.new-routers.result.items c.loop-u.routers.items c.loop-u.u
+    c.new-routers.ensures.items c.loop-u.invariant
+    (both_below c.args.net.now c.loop-u.u (omega (arith, c.routers-u-end.ensures.count))) (this_holds (RunsBothLevels c.args.net.now))

@@ -1,0 +1,76 @@
+ghost use Rattle.std.specs.Prelude.{◌≡◌, All, IfOk};
+ghost use Rattle.std.specs.List.Sorted.{IsNonDecreasingBy};
+ghost use Rattle.isis_routes.specs.steps.Destinations.{HasAnnouncements, AreIsisDestinations, isis_prefixes};
+ghost use Rattle.isis_routes.specs.steps.Homes.{AreHomes, AreRoutersAt};
+
+use crate::OutOfMemory;
+use crate::announcements::announcements;
+use crate::candidates::candidates_of;
+use crate::domain::Domain;
+use crate::homes::{Home, routers_at, sorted_homes};
+use crate::leaked::down_announcements;
+use crate::level_one::LevelOne;
+use net_addr::Prefix;
+use std::alloc::Global;
+use walk_core::Offer;
+
+/// What both levels know of a prefix.
+#[derive(Debug, Drop)]
+pub struct Destination {
+    /// Where it is connected, and what level 1 offers of it.
+    pub one: LevelOne,
+    /// What is announced of it into level 2.
+    pub two: Vec<Offer>,
+    /// What is announced of it into level 1, marked down.
+    pub down: Vec<Offer>,
+}
+
+impl Destination {
+    /// What both levels know of a prefix, which is connected at these routers.
+    fn build(
+        alloc: Global,
+        domain: &Domain<'_>,
+        dest: Prefix,
+        homes: Vec<u32>,
+    ) -> Result<Destination, OutOfMemory>
+        requires { AreRoutersAt domain.now.net dest homes.items }
+        ensures dest { IfOk result (λ d. d.one.dest ≡ dest) }
+        ensures announced { IfOk result (λ d. HasAnnouncements domain.now.net d) }
+    {
+        let one = LevelOne::collect(alloc, domain.net(), dest, homes)?;
+        let two = announcements(alloc, domain, &one)?;
+        let leaking = domain.leaking();
+        let down = down_announcements(alloc, domain, &one, two.as_slice(), leaking)?;
+        Ok(Destination { one, two, down })
+    }
+}
+
+/// What both levels know of each prefix that may have an entry.
+pub fn destinations(alloc: Global, domain: &Domain<'_>) -> Result<Vec<Destination>, OutOfMemory>
+    ensures { IfOk result (λ all. AreIsisDestinations domain.now.net all.items) }
+{
+    let network = domain.net();
+    let dests = candidates_of(alloc, network)?;
+    let homes = sorted_homes(alloc, network)?;
+    each_destination(alloc, domain, homes.as_slice(), dests.as_slice())
+}
+
+/// What both levels know of each of these prefixes, by the sorted homes of all.
+fn each_destination(
+    alloc: Global,
+    domain: &Domain<'_>,
+    homes: &[Home],
+    dests: &[Prefix],
+) -> Result<Vec<Destination>, OutOfMemory>
+    requires homes { AreHomes domain.now.net homes.now }
+    requires sorted { IsNonDecreasingBy (λ h. h.dest.base) homes.now }
+    ensures dests { IfOk result (λ all. isis_prefixes all.items ≡ dests.now) }
+    ensures announced { IfOk result (λ all. All (HasAnnouncements domain.now.net) all.items) }
+{
+    let mut all = Vec::new(alloc);
+    for dest in dests {
+        let routers = routers_at(alloc, homes, *dest)?;
+        all.push(Destination::build(alloc, domain, *dest, routers)?)?;
+    }
+    Ok(all)
+}

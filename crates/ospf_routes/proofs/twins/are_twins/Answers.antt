@@ -1,0 +1,23 @@
+use Rattle.std.proofs.Common.{◌∙◌, refl, sym}
+use Rattle.std.proofs.lemmas.Bool.{false≢true}
+use Rattle.ospf_routes.proofs.AreaFacts.{not_true}
+use Rattle.ospf_routes.proofs.twins.are_twins.Goals as goal
+
+pub returns : goal.returns
+returns c = λ free. record {
+  d = c.index-destinations-one.result;
+  e = c.index-destinations-other.result;
+  s = c.index-summaries-one.result;
+  t = c.index-summaries-other.result;
+  d_at = c.index-destinations-one.is;
+  e_at = c.index-destinations-other.is;
+  s_at = c.index-summaries-one.is;
+  t_at = c.index-summaries-other.is;
+  twins = record {
+    homes = c.if-not-have_one_home.ensures refl;
+    parts = c.if-not-have_twin_offers.ensures refl;
+    announced = c.if-not-have_twin_announcements.ensures refl;
+    no_range = λ any. false≢true (c.if-is_range.ensures.1 any);
+    other_no_range = λ any. false≢true (sym (not_true c.is_range-2.result free) ∙ c.is_range-2.ensures.1 any);
+  };
+}

@@ -1,0 +1,82 @@
+ghost use Rattle.std.specs.Prelude.{◌≡◌, ◌<◌, ◌↔◌, length, Any, IfOk};
+ghost use Rattle.ospf_routes.specs.Lists.{Exactly};
+ghost use Rattle.ospf_routes.specs.steps.Offered.{InsideOf, OutsideOf, IsInsideOffer, IsOutsideOffer};
+
+use crate::OutOfMemory;
+use route_tables::push_option;
+use std::alloc::Global;
+use walk_core::Offer;
+
+/// A route of a prefix in an area: the router that has it, and what it costs there.
+#[derive(Clone, Copy, Debug)]
+pub struct AreaRoute {
+    /// The area.
+    pub area: u32,
+    /// The router.
+    pub at: u32,
+    /// The cost.
+    pub asks: u64,
+}
+
+/// The routes of an area, as offers.
+pub fn offers_inside(
+    alloc: Global,
+    routes: &[AreaRoute],
+    area: u32,
+) -> Result<Vec<Offer>, OutOfMemory>
+    ensures { IfOk result (λ offers. Exactly (λ o. Any (λ r. InsideOf area r o) routes.now) offers.items) }
+{
+    let mut offers = Vec::new(alloc);
+    for route in routes {
+        push_option(&mut offers, inside_offer(*route, area))?;
+    }
+    Ok(offers)
+}
+
+/// The routes of other areas, as offers.
+pub fn offers_outside(
+    alloc: Global,
+    routes: &[AreaRoute],
+    area: u32,
+) -> Result<Vec<Offer>, OutOfMemory>
+    ensures { IfOk result (λ offers. Exactly (λ o. Any (λ r. OutsideOf area r o) routes.now) offers.items) }
+{
+    let mut offers = Vec::new(alloc);
+    for route in routes {
+        push_option(&mut offers, outside_offer(*route, area))?;
+    }
+    Ok(offers)
+}
+
+/// The offer of a route of the area.
+fn inside_offer(route: AreaRoute, area: u32) -> Option<Offer>
+    ensures { IsInsideOffer area route result }
+{
+    if route.area == area {
+        Some(offer_of(route))
+    } else {
+        None
+    }
+}
+
+/// The offer of a route of another area.
+fn outside_offer(route: AreaRoute, area: u32) -> Option<Offer>
+    ensures { IsOutsideOffer area route result }
+{
+    if route.area == area {
+        None
+    } else {
+        Some(offer_of(route))
+    }
+}
+
+/// The route as an offer.
+fn offer_of(route: AreaRoute) -> Offer
+    ensures at { result.at ≡ route.at }
+    ensures asks { result.asks ≡ route.asks }
+{
+    Offer {
+        at: route.at,
+        asks: route.asks,
+    }
+}

@@ -1,0 +1,90 @@
+ghost use Rattle.std.specs.Prelude.{◌≡◌, ◌<◌, ◌↔◌, ℕ, length, Some, IfOk};
+ghost use Rattle.igp_theory.specs.Ospf.{BackboneSummary, BorderCost};
+ghost use Rattle.walk_core.specs.declared.offers.Offer.{Offer as OfferValue};
+ghost use Rattle.ospf_routes.specs.steps.Areas.{AreAreas};
+ghost use Rattle.ospf_routes.specs.steps.Destinations.{IsDestination};
+ghost use Rattle.net_model.specs.Network.{IsBorderRouter};
+ghost use Rattle.ospf_routes.specs.Lists.{Exactly};
+ghost use Rattle.ospf_routes.specs.steps.Offered.{AreOffers};
+ghost use Rattle.ospf_routes.specs.steps.Ranges.{AreActiveRanges, AreRangesBelow};
+ghost use Rattle.ospf_routes.specs.steps.Summarized.{IsBorderOffer};
+
+use crate::OutOfMemory;
+use crate::areas::{AreaWalks, reach};
+use crate::best_of_others::reached_others;
+use crate::intra_area::{Destination, has_intra};
+use crate::ranges::ActiveRanges;
+use net_model::Net;
+use route_tables::push_option;
+use std::alloc::Global;
+use walk_core::Offer;
+
+/// The prefix with its inter-area cost at each border router that has one (RFC 2328, section 16.2).
+pub fn border_offers(
+    alloc: Global,
+    net: &Net,
+    areas: &[AreaWalks],
+    borders: &[u32],
+    ranges: &[ActiveRanges],
+    destination: &Destination,
+    backbone: &[Offer],
+) -> Result<Vec<Offer>, OutOfMemory>
+    requires borders { Exactly (IsBorderRouter net.now) borders.now }
+    requires areas { AreAreas net.now areas.now }
+    requires ranges { AreRangesBelow net.now (length net.now) ranges.now }
+    requires destination { IsDestination net.now destination.now }
+    requires backbone { AreOffers (BackboneSummary net.now destination.now.dest) backbone.now }
+    ensures { IfOk result (λ offers. AreOffers (BorderCost net.now destination.now.dest) offers.items) }
+{
+    let mut offers = Vec::new(alloc);
+    for u in borders {
+        let active = &ranges[*u as usize];
+        let cost = border_cost(alloc, net, areas, active, destination, backbone, *u)?;
+        push_option(&mut offers, border_offer(*u, cost))?;
+    }
+    Ok(offers)
+}
+
+/// The cost as an offer of router `u`.
+fn border_offer(u: u32, cost: Option<u64>) -> Option<Offer>
+    ensures { (o : OfferValue) → (result ≡ Some o) ↔ IsBorderOffer u cost o }
+{
+    match cost {
+        Some(asks) => Some(Offer { at: u, asks }),
+        None => None,
+    }
+}
+
+/// The inter-area cost of the prefix at border router `u`, over what others announce into the backbone.
+/// There is none where the prefix has an intra-area route or is an active range of `u`.
+fn border_cost(
+    alloc: Global,
+    net: &Net,
+    areas: &[AreaWalks],
+    ranges: &ActiveRanges,
+    destination: &Destination,
+    backbone: &[Offer],
+    u: u32,
+) -> Result<Option<u64>, OutOfMemory>
+    requires border { IsBorderRouter net.now u }
+    requires router { u < length net.now }
+    requires areas { AreAreas net.now areas.now }
+    requires ranges { AreActiveRanges net.now u ranges.now }
+    requires destination { IsDestination net.now destination.now }
+    requires backbone { AreOffers (BackboneSummary net.now destination.now.dest) backbone.now }
+    ensures { IfOk result (λ found. (cost : ℕ) → (found ≡ Some cost) ↔ BorderCost net.now destination.now.dest u cost) }
+{
+    if ranges.contains(destination.dest) {
+        return Ok(None);
+    }
+    if has_intra(net, areas, destination, u) {
+        return Ok(None);
+    }
+    match reach(net, areas, 0, u) {
+        Some(walks) => {
+            let others = reached_others(alloc, walks, backbone, u)?;
+            Ok(walks.best_cost(others.as_slice()))
+        }
+        None => Ok(None),
+    }
+}

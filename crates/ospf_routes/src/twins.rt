@@ -1,0 +1,184 @@
+ghost use Rattle.std.specs.Prelude.{◌≡◌, ◌<◌, ◌↔◌, ℕ, length, None, Some, slice_index_or, Any, Contains, IfOk, IfSome, IsTrue};
+ghost use Rattle.ospf_routes.specs.steps.Destinations.{ospf_prefixes};
+ghost use Rattle.ospf_routes.specs.steps.Domain.{IsOspfDomain};
+ghost use Rattle.ospf_routes.specs.steps.Ranges.{AreRangesBelow};
+ghost use Rattle.ospf_routes.specs.steps.Summarized.{AreAllSummaries};
+ghost use Rattle.ospf_routes.specs.steps.Twins.{AreKnownBelow, AreTwinParts, AreTwins, AreTwinsAt, IsTwinPart};
+
+use crate::OutOfMemory;
+use crate::announcements::Summaries;
+use crate::domain::Domain;
+use crate::intra_area::{AreaOffers, Destination};
+use crate::ranges::ActiveRanges;
+use net_addr::Prefix;
+use net_model::Net;
+use route_tables::are_alike;
+use std::alloc::Global;
+
+/// For each destination an earlier one with the same entries at every router, where one is found: the latest that is
+/// connected at the same one router, where the offers and the announcements of both cost the same but for constants, which
+/// never decide between areas or sorts of routes. It takes time of the destinations, their offers and the routers.
+pub fn all_twins(
+    alloc: Global,
+    net: &Net,
+    domain: &Domain,
+    ranges: &[ActiveRanges],
+    summaries: &[Summaries],
+) -> Result<Vec<Option<usize>>, OutOfMemory>
+    requires domain { IsOspfDomain net.now domain.now }
+    requires ranges { AreRangesBelow net.now (length net.now) ranges.now }
+    requires summaries { AreAllSummaries net.now domain.now summaries.now }
+    ensures { IfOk result (λ twins. AreTwins net.now (ospf_prefixes domain.now.destinations.items) twins.items) }
+{
+    let destinations = domain.destinations.as_slice();
+    let mut latest = no_places(alloc, net.routers())?;
+    let mut twins = Vec::new(alloc);
+    for place in 0..destinations.len() {
+        twins.push(twin_of(destinations, ranges, summaries, latest.as_slice(), place))?;
+        remember_home(&mut latest, &destinations[place], place);
+    }
+    Ok(twins)
+}
+
+/// The latest destination that is connected at the same one router, where both have the same entries.
+fn twin_of(
+    destinations: &[Destination],
+    ranges: &[ActiveRanges],
+    summaries: &[Summaries],
+    latest: &[Option<usize>],
+    place: usize,
+) -> Option<usize>
+    requires place { place < length destinations.now }
+    requires summaries { length summaries.now ≡ length destinations.now }
+    requires latest { AreKnownBelow place latest.now }
+    ensures below { IfSome result (λ earlier. earlier < place) }
+    ensures twins { IfSome result (λ earlier. AreTwinsAt destinations.now summaries.now ranges.now earlier place) }
+{
+    let home = only_home(&destinations[place])?;
+    let earlier = known_at(latest, home)?;
+    if are_twins(destinations, summaries, ranges, earlier, place) {
+        Some(earlier)
+    } else {
+        None
+    }
+}
+
+/// Whether two destinations have the same entries, as far as their homes, offers and announcements show.
+fn are_twins(
+    destinations: &[Destination],
+    summaries: &[Summaries],
+    ranges: &[ActiveRanges],
+    one: usize,
+    other: usize,
+) -> bool
+    requires one { one < length destinations.now }
+    requires other { other < length destinations.now }
+    requires summaries { length summaries.now ≡ length destinations.now }
+    ensures { IsTrue result → AreTwinsAt destinations.now summaries.now ranges.now one other }
+{
+    let (near, far) = (&destinations[one], &destinations[other]);
+    if !have_one_home(near, far) {
+        return false;
+    }
+    if !have_twin_offers(near, far) {
+        return false;
+    }
+    if !have_twin_announcements(&summaries[one], &summaries[other]) {
+        return false;
+    }
+    if is_range(ranges, near.dest) {
+        return false;
+    }
+    !is_range(ranges, far.dest)
+}
+
+/// No place for any of so many homes.
+fn no_places(alloc: Global, homes: u32) -> Result<Vec<Option<usize>>, OutOfMemory>
+    ensures { IfOk result (λ latest. (home : ℕ) → slice_index_or latest.items home None ≡ None) }
+{
+    Ok(vec![in alloc; None; homes as usize]?)
+}
+
+/// The place that is known for a home, where one is.
+fn known_at(latest: &[Option<usize>], home: u32) -> Option<usize>
+    ensures { IfSome result (λ place. slice_index_or latest.now home None ≡ Some place) }
+{
+    latest.get(home as usize).copied().flatten()
+}
+
+/// Notes the place of a destination for its home, where it has one alone.
+fn remember_home(latest: &mut Vec<Option<usize>>, destination: &Destination, place: usize)
+    ensures { (n : ℕ) → place < n → AreKnownBelow n latest.old.items → AreKnownBelow n latest.new.items }
+{
+    let Some(home) = only_home(destination) else {
+        return;
+    };
+    let at = home as usize;
+    if at < latest.len() {
+        latest[at] = Some(place);
+    }
+}
+
+/// The router that the destination is connected at, where it is one alone.
+fn only_home(destination: &Destination) -> Option<u32>
+    ensures { IfSome result (λ home. (u : ℕ) → Contains destination.now.homes.items u ↔ (home ≡ u)) }
+{
+    if destination.homes.len() == 1 {
+        Some(destination.homes[0])
+    } else {
+        None
+    }
+}
+
+/// Whether two destinations are connected at the same one router.
+fn have_one_home(one: &Destination, other: &Destination) -> bool
+    ensures { IsTrue result → (u : ℕ) → Contains one.now.homes.items u ↔ Contains other.now.homes.items u }
+{
+    match (only_home(one), only_home(other)) {
+        (Some(home), Some(far)) => home == far,
+        _ => false,
+    }
+}
+
+/// Whether the prefix is that of an active range of some router.
+fn is_range(ranges: &[ActiveRanges], dest: Prefix) -> bool
+    ensures { IsTrue result ↔ Any (λ actives. Any (λ a. a.range.dest ≡ dest) actives) ranges.now }
+{
+    ranges.iter().any(|r| r.contains(dest))
+}
+
+/// Whether what the interfaces of each area offer of two destinations is alike.
+fn have_twin_offers(one: &Destination, other: &Destination) -> bool
+    ensures { IsTrue result → AreTwinParts one.now.parts.items other.now.parts.items }
+{
+    are_twin_parts(one.parts.as_slice(), other.parts.as_slice())
+}
+
+/// Whether what is announced of two prefixes into each area is alike.
+fn have_twin_announcements(one: &Summaries, other: &Summaries) -> bool
+    ensures { IsTrue result → AreTwinParts one.now.parts.items other.now.parts.items }
+{
+    are_twin_parts(one.parts.as_slice(), other.parts.as_slice())
+}
+
+/// Whether the parts of two prefixes are of the same areas, place by place, and alike.
+fn are_twin_parts(one: &[AreaOffers], other: &[AreaOffers]) -> bool
+    ensures { IsTrue result → AreTwinParts one.now other.now }
+{
+    if one.len() != other.len() {
+        return false;
+    }
+    for place in 0..one.len() {
+        if !is_twin_part(&one[place], &other[place]) {
+            return false;
+        }
+    }
+    true
+}
+
+/// Whether two parts are of one area, and their offers alike.
+fn is_twin_part(one: &AreaOffers, other: &AreaOffers) -> bool
+    ensures { IsTrue result → IsTwinPart one.now other.now }
+{
+    one.area == other.area && are_alike(one.offers.as_slice(), other.offers.as_slice())
+}
