@@ -1,16 +1,14 @@
--- The lists of prefixes that the collecting loops make, router by router and entry by entry.
+-- The lists of prefixes that the collecting loops make, router by router.
 use Rattle.std.proofs.Common.{◌≡◌, ℕ, ◌+◌, List, [], ◌∷◌, ◌++◌, take, map, Some, append_assoc, refl, sym, ap, ◌∙◌}
 use Rattle.std.specs.List.{filter_map, flat_map, slice_get}
 use Rattle.std.proofs.lemmas.Option.{slice_get_within, get_or_from_slice_get}
-use Rattle.std.proofs.lemmas.List.{take_more, map-append}
+use Rattle.std.proofs.lemmas.List.{take_more}
 use Rattle.std.proofs.lemmas.List.Concat.{flat_map-append}
 use Rattle.net_addr.specs.Addresses.{Block}
 use Rattle.net_model.specs.Configuration.{Configuration}
 use Rattle.net_model.specs.DestLists.{subnet_if_up, own_dests, all_dests}
 use Rattle.net_model.specs.declared.area.Range.{Range}
 use Rattle.net_model.specs.declared.interface.Interface.{Interface}
-use Rattle.route_core.specs.declared.entry.Entry.{Entry}
-use Rattle.route_core.specs.Tables.{table_prefixes}
 use Rattle.prefix_atoms.specs.Lists.{originated_subnet, all_originated}
 
 -- one element more, which stands at the next place
@@ -53,11 +51,3 @@ originated_more net u c interfaces old new at same has one =
     one ∙ ap (λ (xs : List Interface). old ++ filter_map originated_subnet xs) same
     ∙ ap (λ (ps : List Block). ps ++ filter_map originated_subnet c.interfaces) has
     ∙ sym (flat_map_at (λ (d : Configuration). filter_map originated_subnet d.interfaces) net u c at)
-
--- the next entry's prefix
-pub table_more : (entries : List (Block × Entry)) (i : ℕ) (p : Block) (e : Entry) (args old new : List Block) → slice_get entries i ≡ Some (p, e)
-    → old ≡ args ++ table_prefixes (take i entries) → new ≡ old ++ p ∷ [] → new ≡ args ++ table_prefixes (take (i + 1) entries)
-table_more entries i p e args old new at has one =
-    one ∙ ap (λ (ps : List Block). ps ++ p ∷ []) has ∙ append_assoc args (table_prefixes (take i entries)) (p ∷ [])
-    ∙ ap (λ (ps : List Block). args ++ ps)
-    (sym (ap table_prefixes (take_place entries i (p, e) at) ∙ map-append (λ (x : Block × Entry). x.0) (take i entries) ((p, e) ∷ [])))

@@ -1,6 +1,7 @@
 mod Ascending
 mod Repeats
 mod Collected
+mod Gained
 pub mod ClassLaws
 pub mod ClassFacts
 pub mod LongestSteps

@@ -1,12 +1,13 @@
 -- The longest prefix of an address, as one prefix more is looked at.
-use Rattle.std.proofs.Common.{◌≡◌, ℕ, ◌+◌, ◌<◌, ◌≤◌, List, [], length, take, get_or, set, Option, Some, None, All, Contains, slice_get, ⊎_elim, arith, sym, ap}
-use Rattle.std.proofs.Common.{subst, ◌∙◌, ◌≢◌, below_more, get_or-set_other, get_or-set_same, replicate}
+use Rattle.std.proofs.Common.{◌≡◌, ℕ, ◌+◌, ◌<◌, ◌≤◌, List, [], ◌∷◌, ◌++◌, length, take, get_or, set, Option, Some, None, All, Contains, slice_get, ⊎_elim}
+use Rattle.std.proofs.Common.{arith, sym, ap, subst, ◌∙◌, ◌≢◌, below_more, get_or-set_other, get_or-set_same, replicate}
 use Rattle.std.proofs.lemmas.Bool.{cases_lt}
 use Rattle.std.proofs.lemmas.List.{length-take-le, length-set, length-replicate, get_or-replicate}
 use Rattle.std.proofs.lemmas.List.Elements.{All-push}
-use Rattle.std.proofs.lemmas.Option.{slice_get_within, slice_get-get_or}
+use Rattle.std.proofs.lemmas.Option.{slice_get_within, slice_get-map}
+use Rattle.std.specs.Option.{option_map}
 use Rattle.std.specs.List.Sorted.{IsStrictlyIncreasing}
-use Rattle.net_addr.specs.Addresses.{Block, block_at, ContainsAddress, IsBlock}
+use Rattle.net_addr.specs.Addresses.{Block, ContainsAddress, IsBlock}
 use Rattle.net_addr.specs.Boundaries.{last_address}
 use Rattle.net_addr.proofs.Blocks.{block_size, ContainsAddress-bounds, ContainsAddress-between}
 use Rattle.net_addr.proofs.BoundaryFacts.{last_address-after}
@@ -14,26 +15,11 @@ use Rattle.net_addr.specs.LongestMatches.{IsBestMatch, IsMatch, AreMatches, Take
 use Rattle.net_addr.specs.declared.matches.Match.{Match}
 use Rattle.net_addr.proofs.LongestMatchLaws.{IsMatch-out, IsMatch-in}
 use Rattle.net_model.proofs.Members.{Contains-none}
-use Rattle.prefix_atoms.specs.Lists.{IsPlaceOf, IsPrefixAt}
+use Rattle.route_core.specs.Tables.{table_prefixes}
+use Rattle.route_core.specs.declared.entry.Entry.{Entry}
+use Rattle.prefix_atoms.specs.Lists.{IsPlaceOf, IsPrefixAt, TakesPrefix}
 use Rattle.prefix_atoms.proofs.Ascending.{at_most_later}
 use Rattle.prefix_atoms.proofs.Collected.{take_place}
-
--- the next prefix of a list contains the address
-pub match_more : (prefixes : List Block) (place a : ℕ) (next : Block) (found : Option Match) (r : Match) → slice_get prefixes place ≡ Some next
-    → IsMatch (take place prefixes) a found → ContainsAddress next a → TakesLonger found (record { place = place; len = next.len }) r
-    → IsMatch (take (place + 1) prefixes) a (Some r)
-match_more prefixes place a next found r at h inside takes =
-    let within : place < length prefixes = slice_get_within prefixes place next at in
-    let long : length (take place prefixes) ≡ place = length-take-le place prefixes (omega arith) in
-    subst (λ (xs : List Block). IsMatch xs a (Some r)) (sym (take_place prefixes place next at))
-    (IsMatch-in (take place prefixes) a next found r h inside
-    (subst (λ (n : ℕ). TakesLonger found (record { place = n; len = next.len }) r) (sym long) takes))
-
--- the next prefix of a list doesn't contain the address
-pub match_same : (prefixes : List Block) (place a : ℕ) (next : Block) (found : Option Match) → slice_get prefixes place ≡ Some next
-    → IsMatch (take place prefixes) a found → ¬ ContainsAddress next a → IsMatch (take (place + 1) prefixes) a found
-match_same prefixes place a next found at h out =
-    subst (λ (xs : List Block). IsMatch xs a found) (sym (take_place prefixes place next at)) (IsMatch-out (take place prefixes) a next found h out)
 
 -- addresses before the base of a prefix, and after its last address, aren't the prefix's
 pub misses_before : (p : Block) (a : ℕ) → IsBlock p → a < p.base → ¬ ContainsAddress p a
@@ -50,57 +36,56 @@ contains_between p a block low high =
     let after : last_address p + 1 ≡ p.base + block_size p = last_address-after p in
     ContainsAddress-between p a block low (omega arith)
 
--- what holds while the addresses of a prefix get it: those before place i are done, the others not yet
-pub record Painted (prefixes : List Block) (place : ℕ) (addresses : List ℕ) (found : List (Option Match)) (base i : ℕ) : Type 0 where
+-- what holds while the addresses of the prefix after these get it: those before place i are done, the others not yet
+pub record Painted (prefixes : List Block) (next : Block) (addresses : List ℕ) (found : List (Option Match)) (i : ℕ) : Type 0 where
   pub count : length found ≡ length addresses
-  pub low : (j : ℕ) → i ≤ j → j < length addresses → base ≤ get_or addresses j 0
-  pub done : (j : ℕ) → j < i → j < length addresses → IsMatch (take (place + 1) prefixes) (get_or addresses j 0) (get_or found j None)
-  pub rest : (j : ℕ) → i ≤ j → j < length addresses → IsMatch (take place prefixes) (get_or addresses j 0) (get_or found j None)
+  pub low : (j : ℕ) → i ≤ j → j < length addresses → next.base ≤ get_or addresses j 0
+  pub done : (j : ℕ) → j < i → j < length addresses → IsMatch (prefixes ++ next ∷ []) (get_or addresses j 0) (get_or found j None)
+  pub rest : (j : ℕ) → i ≤ j → j < length addresses → IsMatch prefixes (get_or addresses j 0) (get_or found j None)
 
 -- at first no address before the prefix's base needs a change
-pub painted_none : (prefixes : List Block) (place : ℕ) (addresses : List ℕ) (found : List (Option Match)) (p : Block) (i : ℕ)
-    → slice_get prefixes place ≡ Some p → IsBlock p → AreMatches (take place prefixes) addresses found → IsPlaceOf addresses p.base i
-    → Painted prefixes place addresses found p.base i
-painted_none prefixes place addresses found p i at block are first = record {
+pub painted_none : (prefixes : List Block) (next : Block) (addresses : List ℕ) (found : List (Option Match)) (i : ℕ)
+    → IsBlock next → AreMatches prefixes addresses found → IsPlaceOf addresses next.base i → Painted prefixes next addresses found i
+painted_none prefixes next addresses found i block are first = record {
   count = are.count;
   low = first.after;
-  done = λ j l m. match_same prefixes place (get_or addresses j 0) p (get_or found j None) at (are.each j m) (misses_before p
-      (get_or addresses j 0) block (first.before j l));
+  done = λ j l m. IsMatch-out prefixes (get_or addresses j 0) next (get_or found j None) (are.each j m)
+      (misses_before next (get_or addresses j 0) block (first.before j l));
   rest = λ j l m. are.each j m;
 }
 
 -- at the end the addresses after the prefix's last need no change
-pub painted_all : (prefixes : List Block) (place : ℕ) (addresses : List ℕ) (found : List (Option Match)) (p : Block) (i : ℕ)
-    → slice_get prefixes place ≡ Some p → IsBlock p → IsStrictlyIncreasing addresses → Painted prefixes place addresses found p.base i
-    → (i < length addresses → last_address p < get_or addresses i 0) → AreMatches (take (place + 1) prefixes) addresses found
-painted_all prefixes place addresses found p i at block up painted past = record {
+pub painted_all : (prefixes : List Block) (next : Block) (addresses : List ℕ) (found : List (Option Match)) (i : ℕ)
+    → IsBlock next → IsStrictlyIncreasing addresses → Painted prefixes next addresses found i
+    → (i < length addresses → last_address next < get_or addresses i 0) → AreMatches (prefixes ++ next ∷ []) addresses found
+painted_all prefixes next addresses found i block up painted past = record {
   count = painted.count;
   each = λ j m. ⊎_elim
       (λ (l : j < i). painted.done j l m)
       (λ (l : i ≤ j).
-      let high : last_address p < get_or addresses i 0 = past (omega arith) in
+      let high : last_address next < get_or addresses i 0 = past (omega arith) in
       let later : get_or addresses i 0 ≤ get_or addresses j 0 = at_most_later addresses i j up l m in
-      match_same prefixes place (get_or addresses j 0) p (get_or found j None) at (painted.rest j l m) (misses_after p (get_or addresses j 0) block
-      (omega arith)))
+      IsMatch-out prefixes (get_or addresses j 0) next (get_or found j None) (painted.rest j l m)
+      (misses_after next (get_or addresses j 0) block (omega arith)))
       (cases_lt j i);
 }
 
 -- the next address of the prefix gets the longer one
-pub painted_more : (prefixes : List Block) (place : ℕ) (addresses : List ℕ) (found : List (Option Match)) (p : Block) (i : ℕ) (r : Match)
-    → slice_get prefixes place ≡ Some p → IsBlock p → Painted prefixes place addresses found p.base i
-    → i < length addresses → get_or addresses i 0 ≤ last_address p → TakesLonger (get_or found i None) (record { place = place; len = p.len }) r
-    → Painted prefixes place addresses (set found i (Some r)) p.base (i + 1)
-painted_more prefixes place addresses found p i r at block painted within low takes = record {
+pub painted_more : (prefixes : List Block) (next : Block) (addresses : List ℕ) (found : List (Option Match)) (i : ℕ) (r : Match)
+    → IsBlock next → Painted prefixes next addresses found i → i < length addresses → get_or addresses i 0 ≤ last_address next
+    → TakesLonger (get_or found i None) (record { place = length prefixes; len = next.len }) r
+    → Painted prefixes next addresses (set found i (Some r)) (i + 1)
+painted_more prefixes next addresses found i r block painted within low takes = record {
   count = length-set found i (Some r) ∙ painted.count;
   low = λ j l m. painted.low j (omega arith) m;
-  done = below_more (λ (j : ℕ). j < length addresses → IsMatch (take (place + 1) prefixes) (get_or addresses j 0) (get_or (set found i (Some r)) j None)) i
-      (λ j l m. subst (IsMatch (take (place + 1) prefixes) (get_or addresses j 0)) (sym
+  done = below_more (λ (j : ℕ). j < length addresses → IsMatch (prefixes ++ next ∷ []) (get_or addresses j 0) (get_or (set found i (Some r)) j None)) i
+      (λ j l m. subst (IsMatch (prefixes ++ next ∷ []) (get_or addresses j 0)) (sym
       (get_or-set_other found i j (Some r) None (let ne : j ≢ i = omega arith in ne))) (painted.done j l m))
-      (λ m. subst (IsMatch (take (place + 1) prefixes) (get_or addresses i 0)) (sym
+      (λ m. subst (IsMatch (prefixes ++ next ∷ []) (get_or addresses i 0)) (sym
       (get_or-set_same found i (Some r) None (let in' : i < length found = omega (arith, painted.count) in in')))
-      (match_more prefixes place (get_or addresses i 0) p (get_or found i None) r at (painted.rest i (omega arith) within)
-      (contains_between p (get_or addresses i 0) block (painted.low i (omega arith) within) low) takes));
-  rest = λ j l m. subst (IsMatch (take place prefixes) (get_or addresses j 0)) (sym (get_or-set_other found i j (Some r) None
+      (IsMatch-in prefixes (get_or addresses i 0) next (get_or found i None) r (painted.rest i (omega arith) within)
+      (contains_between next (get_or addresses i 0) block (painted.low i (omega arith) within) low) takes));
+  rest = λ j l m. subst (IsMatch prefixes (get_or addresses j 0)) (sym (get_or-set_other found i j (Some r) None
       (let ne : j ≢ i = omega arith in ne))) (painted.rest j (omega arith) m);
 }
 
@@ -119,10 +104,23 @@ pub prefix_longest : (prefixes : List Block) (a : ℕ) (found : Option Match) (t
 prefix_longest prefixes a None t h at = subst (IsBestMatch (Contains prefixes) a) (sym at) h
 prefix_longest prefixes a (Some m) t h at = subst (IsBestMatch (Contains prefixes) a) (sym (at ∙ h.at.stands)) h.at.match
 
+-- the matches among the prefixes of a list before a place, once the one at the place is taken
+pub matches_next : (prefixes : List Block) (place : ℕ) (next : Block) (addresses : List ℕ) (old new : List (Option Match))
+    → slice_get prefixes place ≡ Some next → TakesPrefix place next addresses old new → AreMatches (take place prefixes) addresses old
+    → AreMatches (take (place + 1) prefixes) addresses new
+matches_next prefixes place next addresses old new at takes are =
+    let within : place < length prefixes = slice_get_within prefixes place next at in
+    subst (λ (ps : List Block). AreMatches ps addresses new) (sym (take_place prefixes place next at))
+    (takes (take place prefixes) (length-take-le place prefixes (omega arith)) are)
+
 -- the next prefix is a block too
-pub blocks_next : (prefixes : List Block) (place : ℕ) → place < length prefixes → All IsBlock (take place prefixes)
-    → ((p : Block) → slice_get prefixes place ≡ Some p → IsBlock p) → All IsBlock (take (place + 1) prefixes)
-blocks_next prefixes place within blocks next =
-    let p : Block = get_or prefixes place (block_at 0 0) in
-    let at : slice_get prefixes place ≡ Some p = slice_get-get_or prefixes place (block_at 0 0) within in
-    subst (All IsBlock) (sym (take_place prefixes place p at)) (All-push IsBlock (take place prefixes) p blocks (next p at))
+pub blocks_next : (prefixes : List Block) (place : ℕ) (next : Block) → slice_get prefixes place ≡ Some next → All IsBlock (take place prefixes)
+    → IsBlock next → All IsBlock (take (place + 1) prefixes)
+blocks_next prefixes place next at blocks block =
+    subst (All IsBlock) (sym (take_place prefixes place next at)) (All-push IsBlock (take place prefixes) next blocks block)
+
+-- the prefix of a table's entry stands among the table's prefixes
+pub prefix_stands : (entries : List (Block × Entry)) (place : ℕ) (p : Block) (e : Entry) → slice_get entries place ≡ Some (p, e)
+    → slice_get (table_prefixes entries) place ≡ Some p
+prefix_stands entries place p e at =
+    slice_get-map (λ (x : Block × Entry). x.0) entries place ∙ ap (option_map (λ (x : Block × Entry). x.0)) at

@@ -1,10 +1,10 @@
 -- The lists that are collected have exactly the prefixes that occur, and those that can be targets.
 use Rattle.std.proofs.Common.{◌≡◌, ℕ, zero, suc, ◌<◌, ◌≤◌, ◌⊎◌, ◌↔◌, inl, inr, Bool, true, false, ◌&&◌, ◌||◌, if◌then◌else◌, List, [], ◌++◌, get_or, map}
 use Rattle.std.proofs.Common.{Option, Some, None, IsTrue, IsSome, is_some, Contains, ⊎_elim, arith, refl, sym, ap, subst, ◌∙◌}
-use Rattle.std.specs.List.{slice_get, filter_map}
+use Rattle.std.specs.List.{filter_map}
 use Rattle.std.proofs.lemmas.Bool.{cases_lt}
 use Rattle.std.proofs.lemmas.List.Elements.{Contains-append_left, Contains-append_right, Contains-append_cases}
-use Rattle.std.proofs.lemmas.Option.{slice_get_within, slice_get-get_or, get_or_from_slice_get}
+use Rattle.std.proofs.lemmas.Option.{get_or_from_slice_get}
 use Rattle.net_addr.specs.Addresses.{Block}
 use Rattle.net_addr.specs.LongestMatches.{IsBestMatch}
 use Rattle.net_addr.proofs.LongestMatchLaws.{IsLongestMatch-same, HasNoMatch-same}
@@ -16,19 +16,13 @@ use Rattle.net_model.proofs.Members.{Contains-flat_map, Contains-in_flat_map, Co
 use Rattle.net_model.proofs.Members.{Contains-none}
 use Rattle.route_core.specs.Tables.{table_prefixes}
 use Rattle.route_core.specs.declared.entry.Entry.{Entry}
-use Rattle.route_core.proofs.TableLaws.{entry_of_prefix}
+use Rattle.route_core.proofs.TableLaws.{Contains-from_place, place_from_Contains, entry_of_prefix}
 use Rattle.igp_theory.specs.Forwarding.{IsOriginated}
 use Rattle.igp_theory.specs.Routes.{Tables}
 use Rattle.prefix_atoms.specs.Classes.{SourceEntry, HasRangeOf, Occurs, connected_occurs, range_occurs, old_occurs, new_occurs, HasTarget, Classes, AreClasses}
-use Rattle.prefix_atoms.specs.Lists.{originated_subnet, all_originated, source_prefixes, AreClassesOf}
+use Rattle.prefix_atoms.specs.Lists.{originated_subnet, all_originated, source_prefixes, GainsPrefixes, AreClassesOf}
+use Rattle.prefix_atoms.proofs.Gained.{gains_behind, gains_both}
 use Rattle.prefix_atoms.proofs.ClassLaws.{occur_alike, has_target_alike}
-
--- what stands in a list stands at some place
-place_of_member : {X : Type 0} (xs : List X) (x : X) → Contains xs x → (i : ℕ) × (slice_get xs i ≡ Some x)
-place_of_member xs x h = (h.0, slice_get-get_or xs h.0 x h.1 ∙ ap Some h.2)
-
-member_of_place : {X : Type 0} (xs : List X) (i : ℕ) (x : X) → slice_get xs i ≡ Some x → Contains xs x
-member_of_place xs i x at = (i, slice_get_within xs i x at, get_or_from_slice_get xs i x x at)
 
 -- Interfaces
 
@@ -71,7 +65,7 @@ three_of_some None false false (inr (inr h)) = h
 dest_occurs : (net : Network) (old new : Tables) (p : Block) → Contains (all_dests net) p → Occurs net old new p
 dest_occurs net old new p h =
     let one = Contains-flat_map own_dests net p h in
-    let at = place_of_member net one.item one.among in
+    let at = place_from_Contains net one.item one.among in
     ⊎_elim
     (λ l.
     let i = Contains-filter_map subnet_if_up one.item.interfaces p l in
@@ -88,13 +82,13 @@ dest_occurs net old new p h =
 
 connected_listed : (net : Network) (u : ℕ) (p : Block) → Connected net u p → Contains (all_dests net) p
 connected_listed net u p c =
-    Contains-in_flat_map own_dests net c.up.config p (member_of_place net u c.up.config c.up.router)
+    Contains-in_flat_map own_dests net c.up.config p (Contains-from_place net u c.up.config c.up.router)
     (Contains-append_left (filter_map subnet_if_up c.up.config.interfaces) (map (λ (g : Range). g.dest) c.up.config.ranges) p
     (Contains-in_filter_map subnet_if_up c.up.config.interfaces c.interface p c.up.among (if_true_back c.interface.up c.interface.subnet p c.up.up c.subnet)))
 
 range_listed : (net : Network) (u : ℕ) (p : Block) → HasRangeOf net u p → Contains (all_dests net) p
 range_listed net u p r =
-    Contains-in_flat_map own_dests net r.config p (member_of_place net u r.config r.router)
+    Contains-in_flat_map own_dests net r.config p (Contains-from_place net u r.config r.router)
     (Contains-append_right (filter_map subnet_if_up r.config.interfaces) (map (λ (g : Range). g.dest) r.config.ranges) p
     (subst (Contains (map (λ (g : Range). g.dest) r.config.ranges)) r.dest (Contains-in_map (λ (g : Range). g.dest) r.config.ranges r.range r.among)))
 
@@ -153,7 +147,7 @@ collected_occur net o n old new p = (
 originated_from_list : (net : Network) (p : Block) → Contains (all_originated net) p → IsOriginated net p
 originated_from_list net p h =
     let one = Contains-flat_map (λ (c : Configuration). filter_map originated_subnet c.interfaces) net p h in
-    let at = place_of_member net one.item one.among in
+    let at = place_from_Contains net one.item one.among in
     let i = Contains-filter_map originated_subnet one.item.interfaces p one.inside in
     let is = if_true (i.item.up && (is_some i.item.area || i.item.level1 || i.item.level2)) i.item.subnet p i.gives in
     let parts = and_parts i.item.up (is_some i.item.area || i.item.level1 || i.item.level2) is.0 in
@@ -168,7 +162,7 @@ originated_from_list net p h =
 list_from_originated : (net : Network) (p : Block) → IsOriginated net p → Contains (all_originated net) p
 list_from_originated net p o =
     Contains-in_flat_map (λ (c : Configuration). filter_map originated_subnet c.interfaces) net o.up.config p
-    (member_of_place net o.router o.up.config o.up.router)
+    (Contains-from_place net o.router o.up.config o.up.router)
     (Contains-in_filter_map originated_subnet o.up.config.interfaces o.interface p o.up.among
     (if_true_back (o.interface.up && (is_some o.interface.area || o.interface.level1 || o.interface.level2)) o.interface.subnet p
     (and_both o.interface.up (is_some o.interface.area || o.interface.level1 || o.interface.level2) o.up.up
@@ -182,32 +176,40 @@ target_from_list net a None h = λ p target.
 target_from_list net a (Some p) h = IsLongestMatch-same (Contains (all_originated net)) (IsOriginated net) a p (λ q.
     (originated_from_list net q, list_from_originated net q)) h
 
--- a list that gained the prefixes of the network and then those of both sources
-pub gathered : (start first second all net old new : List Block) → start ≡ [] → first ≡ start ++ net → second ≡ first ++ old → all ≡ second ++ new
-    → all ≡ (net ++ old) ++ new
-gathered start first second all net old new none one two three =
-    three ∙ ap (λ (ps : List Block). ps ++ new) (two ∙ ap (λ (ps : List Block). ps ++ old) (one ∙ ap (λ (ps : List Block). ps ++ net) none))
+-- a list has the prefixes of the network and of both sources: it was made of the network's, left out repeats, gained those of the sources, and left out
+-- repeats again
+pub gathered : (start own distinct first second all net old new : List Block) → start ≡ [] → own ≡ start ++ net
+    → ((p : Block) → Contains distinct p ↔ Contains own p) → GainsPrefixes distinct first old → GainsPrefixes first second new
+    → ((p : Block) → Contains all p ↔ Contains second p) → (p : Block) → Contains all p ↔ Contains ((net ++ old) ++ new) p
+gathered start own distinct first second all net old new none one once two three again p =
+    let made : GainsPrefixes [] own net = gains_behind [] own net (one ∙ ap (λ (ps : List Block). ps ++ net) none) in
+    let kept : GainsPrefixes [] distinct net = λ q. (λ h. (made q).0 ((once q).0 h), λ h. (once q).1 ((made q).1 h)) in
+    let gained : GainsPrefixes [] second ((net ++ old) ++ new) =
+    gains_both [] first second (net ++ old) new (gains_both [] distinct first net old kept two) three in (
+      λ h. ⊎_elim (λ l. absurd (Contains-none p l)) (λ r. r) ((gained p).0 ((again p).0 h)),
+      λ h. (again p).1 ((gained p).1 (inr h)),
+    )
 
 -- the classes of the prefixes that were collected are those of the network and the tables
-pub classes_collected : (net : Network) (o n : ℕ) (old new : ℕ → List (Block × Entry)) (collected prefixes originated : List Block) (c : Classes)
-    → collected ≡ (all_dests net ++ source_prefixes old o) ++ source_prefixes new n → ((p : Block) → Contains prefixes p ↔ Contains collected p)
+pub classes_collected : (net : Network) (o n : ℕ) (old new : ℕ → List (Block × Entry)) (prefixes originated : List Block) (c : Classes)
+    → ((p : Block) → Contains prefixes p ↔ Contains ((all_dests net ++ source_prefixes old o) ++ source_prefixes new n) p)
     → originated ≡ all_originated net → AreClassesOf prefixes originated c → AreClasses net (SourceEntry o old) (SourceEntry n new) c
-classes_collected net o n old new collected prefixes originated c all same targets are = record {
-  occur = classes_occur net o n old new collected prefixes c.prefixes all same are.prefixes_are;
+classes_collected net o n old new prefixes originated c same targets are = record {
+  occur = classes_occur net o n old new prefixes c.prefixes same are.prefixes_are;
   classing = are.classing;
   target = λ k a t inside at.
       has_target_alike (occur_alike net (SourceEntry o old) (SourceEntry n new) c.prefixes (get_or c.samples k 0) a
-      (classes_occur net o n old new collected prefixes c.prefixes all same are.prefixes_are) inside.alike) t
+      (classes_occur net o n old new prefixes c.prefixes same are.prefixes_are) inside.alike) t
       (target_from_list net (get_or c.samples k 0) t
       (subst (λ (ps : List Block). IsBestMatch (Contains ps) (get_or c.samples k 0) t) targets
       (subst (IsBestMatch (Contains originated) (get_or c.samples k 0)) (get_or_from_slice_get c.targets k t None at) (are.targets.each k inside.class))));
 }
   where
-    classes_occur : (net : Network) (o n : ℕ) (old new : ℕ → List (Block × Entry)) (collected prefixes mine : List Block)
-        → collected ≡ (all_dests net ++ source_prefixes old o) ++ source_prefixes new n → ((p : Block) → Contains prefixes p ↔ Contains collected p)
+    classes_occur : (net : Network) (o n : ℕ) (old new : ℕ → List (Block × Entry)) (prefixes mine : List Block)
+        → ((p : Block) → Contains prefixes p ↔ Contains ((all_dests net ++ source_prefixes old o) ++ source_prefixes new n) p)
         → mine ≡ prefixes → (p : Block) → Contains mine p ↔ Occurs net (SourceEntry o old) (SourceEntry n new) p
-    classes_occur net o n old new collected prefixes mine all same is p =
+    classes_occur net o n old new prefixes mine same is p =
         let exact = collected_occur net o n old new p in (
-          λ h. exact.0 (subst (λ (ps : List Block). Contains ps p) all ((same p).0 (subst (λ (ps : List Block). Contains ps p) is h))),
-          λ h. subst (λ (ps : List Block). Contains ps p) (sym is) ((same p).1 (subst (λ (ps : List Block). Contains ps p) (sym all) (exact.1 h))),
+          λ h. exact.0 ((same p).0 (subst (λ (ps : List Block). Contains ps p) is h)),
+          λ h. subst (λ (ps : List Block). Contains ps p) (sym is) ((same p).1 (exact.1 h)),
         )

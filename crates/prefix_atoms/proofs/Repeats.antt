@@ -1,10 +1,15 @@
 -- What a list has after a sort and the removal of repeats.
 use Rattle.std.proofs.Common.{◌≡◌, ◌≢◌, ℕ, Bool, true, ◌&&◌, ◌==◌, false, List, get_or, Ordering, Contains, AllPairs, IsPermutation, eqb, eqb-true, refl, sym}
-use Rattle.std.proofs.Common.{subst, ◌↔◌}
+use Rattle.std.proofs.Common.{subst, ◌↔◌, ◌∙◌, ap, length, Result, Ok, Err, IfOk, IfSome, Some, slice_get}
+use Rattle.std.specs.List.{HoldsAt}
+use Rattle.std.specs.List.Sorted.{IsSearchInRange}
+use Rattle.std.specs.Result.{result_ok}
+use Rattle.std.specs.Ordering.{is_eq}
+use Rattle.std.proofs.lemmas.Option.{slice_get-get_or}
 use Rattle.std.specs.Cmp.{IsTotalOrder, IsEquivalence, and_equiv, on_equiv, on_total, then_total, both_tied, tied_itself, nat_cmp_total, nat_eq_equiv}
 use Rattle.std.specs.Cmp.{unsigned_ties}
 use Rattle.std.specs.Ordering.{nat_cmp, ordering_then, eq_by_cmp}
-use Rattle.std.specs.declared.cmp.Ordering.TheVariants.{Less}
+use Rattle.std.specs.declared.cmp.Ordering.TheVariants.{Less, Equal}
 use Rattle.std.specs.List.{dedup}
 use Rattle.std.specs.List.Sorted.{IsSorted, IsStrictlySortedBy, IsStrictlyIncreasing}
 use Rattle.std.proofs.lemmas.List.Sorted.{Contains-permutation, IsPermutation-sym}
@@ -39,6 +44,14 @@ block_same x y e =
     let base = eqb-true x.base y.base parts.0 in
     let len = eqb-true x.len y.len parts.1 in
     λ i. record { base = base i; len = len i }
+
+-- where a search in a list found a prefix, it stands
+pub prefix_found : (xs : List Block) (p : Block) (r : Result ℕ ℕ) → IsSearchInRange r (length xs)
+    → IfOk r (HoldsAt (λ (q : Block). block_cmp q p ≡ Equal) xs) → IfSome (result_ok r) (λ place. slice_get xs place ≡ Some p)
+prefix_found xs p (Ok place) within tied =
+    let same : get_or xs place p ≡ p = block_same (get_or xs place p) p (block_ties (get_or xs place p) p ∙ ap is_eq (tied p)) in
+    slice_get-get_or xs place p within ∙ ap Some same
+prefix_found xs p (Err place) within tied = tt
 
 -- the same prefixes stand in the list afterwards
 pub same_prefixes : (xs ys zs : List Block) (p : Block) → IsPermutation xs ys → zs ≡ dedup block_eq ys → Contains zs p ↔ Contains xs p

@@ -1,11 +1,11 @@
 -- Lists of prefixes: what is added to them, where they begin and end, the longest match of each address.
-use Rattle.std.specs.Prelude.{◌≡◌, ℕ, zero, suc, ◌^◌, ◌<◌, ◌≤◌, if◌then◌else◌, ◌&&◌, ◌||◌, is_some, List, [], ◌++◌, length, slice_index, slice_index_or}
-use Rattle.std.specs.Prelude.{slice_get, Option, Some, None, All, Contains}
+use Rattle.std.specs.Prelude.{◌≡◌, ℕ, zero, suc, ◌^◌, ◌<◌, ◌≤◌, ◌⊎◌, ◌↔◌, if◌then◌else◌, ◌&&◌, ◌||◌, is_some, List, [], ◌∷◌, ◌++◌, length}
+use Rattle.std.specs.Prelude.{slice_index, slice_index_or, slice_get, Option, Some, None, All, Contains}
 use Rattle.std.specs.List.{filter_map, flat_map}
 use Rattle.std.specs.List.Sorted.{IsStrictlyIncreasing}
 use Rattle.net_addr.specs.Addresses.{Block}
 use Rattle.net_addr.specs.Boundaries.{IsBoundary}
-use Rattle.net_addr.specs.LongestMatches.{IsBestMatch}
+use Rattle.net_addr.specs.LongestMatches.{AreMatches, IsBestMatch}
 use Rattle.net_addr.specs.declared.matches.Match.{Match}
 use Rattle.net_model.specs.Configuration.{Configuration}
 use Rattle.net_model.specs.declared.interface.Interface.{Interface}
@@ -26,6 +26,10 @@ abbrev pub source_prefixes : (ℕ → List (Block × Entry)) → ℕ → List Bl
 source_prefixes table zero = []
 source_prefixes table (suc n) = source_prefixes table n ++ table_prefixes (table n)
 
+-- a list of prefixes gains others: it has those that it had, and these
+abbrev pub GainsPrefixes : List Block → List Block → List Block → Type 0
+GainsPrefixes old new more = (p : Block) → Contains new p ↔ (Contains old p ⊎ Contains more p)
+
 -- the cuts of prefixes, in ascending order: 0, and each address that is a boundary of one of them
 pub record AreCuts (prefixes : List Block) (cuts : List ℕ) : Type 0 where
   pub ascending : IsStrictlyIncreasing cuts
@@ -43,6 +47,11 @@ pub record IsPlaceOf (numbers : List ℕ) (x place : ℕ) : Type 0 where
   pub within : place ≤ length numbers
   pub before : (k : ℕ) → k < place → slice_index numbers k < x
   pub after : (k : ℕ) → place ≤ k → k < length numbers → x ≤ slice_index numbers k
+
+-- the longest matches of addresses among so many prefixes become those among one prefix more
+abbrev pub TakesPrefix : ℕ → Block → List ℕ → List (Option Match) → List (Option Match) → Type 0
+TakesPrefix count next addresses old new =
+    (prefixes : List Block) → length prefixes ≡ count → AreMatches prefixes addresses old → AreMatches (prefixes ++ next ∷ []) addresses new
 
 -- the place of a match, and this number where there is none
 abbrev pub place_or : ℕ → Option Match → ℕ

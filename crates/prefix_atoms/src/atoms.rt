@@ -8,7 +8,7 @@ ghost use Rattle.prefix_atoms.specs.Numbers.{ArePicked, InInterval, NumbersClass
 use crate::collect::{add_net, add_source, originated_prefixes};
 use crate::cuts::cuts_of;
 use crate::distinct::keep_distinct_prefixes;
-use crate::longest::{longest_of_each, place_of};
+use crate::longest::longest_of_each;
 use crate::number::{Numbering, number};
 use net_addr::{Match, Prefix};
 use net_model::Net;
@@ -53,6 +53,7 @@ impl Atoms {
     {
         let mut prefixes = Vec::new(alloc);
         add_net(&mut prefixes, net)?;
+        keep_distinct_prefixes(&mut prefixes);
         add_source(&mut prefixes, old)?;
         add_source(&mut prefixes, new)?;
         keep_distinct_prefixes(&mut prefixes);

@@ -1,9 +1,10 @@
-ghost use Rattle.std.specs.Prelude.{◌≡◌, ◌++◌, [], IfOk, OnOk, map};
+ghost use Rattle.std.specs.Prelude.{◌≡◌, ◌++◌, ◌∷◌, [], IfOk, OnOk, map};
 ghost use Rattle.std.specs.List.{cons_option, filter_map};
 ghost use Rattle.net_model.specs.DestLists.{all_dests, subnet_if_up};
-ghost use Rattle.prefix_atoms.specs.Lists.{all_originated, originated_subnet, source_prefixes};
+ghost use Rattle.prefix_atoms.specs.Lists.{GainsPrefixes, all_originated, originated_subnet, source_prefixes};
 ghost use Rattle.route_core.specs.Tables.{table_prefixes};
 
+use crate::near::prefix_near;
 use net_addr::Prefix;
 use net_model::{Interface, Net, Range};
 use route_core::{RouteSource, Table};
@@ -33,9 +34,10 @@ pub fn add_net(prefixes: &mut Vec<Prefix>, net: &Net) -> Result<(), OutOfMemory>
     Ok(())
 }
 
-/// Adds the prefixes of all tables of a source.
+/// Adds the prefixes of all tables of a source. Those that are found among the prefixes, which ascend at first, aren't
+/// added once more.
 pub fn add_source<S: RouteSource>(prefixes: &mut Vec<Prefix>, source: &S) -> Result<(), OutOfMemory>
-    ensures { OnOk result (prefixes.new.items ≡ prefixes.old.items ++ source_prefixes (S.table source.now) (S.routers source.now)) }
+    ensures { OnOk result (GainsPrefixes prefixes.old.items prefixes.new.items (source_prefixes (S.table source.now) (S.routers source.now))) }
 {
     for router in 0..source.routers() {
         add_table(prefixes, source.table(router))?;
@@ -45,13 +47,31 @@ pub fn add_source<S: RouteSource>(prefixes: &mut Vec<Prefix>, source: &S) -> Res
 
 /// Adds the prefixes of a table.
 fn add_table(prefixes: &mut Vec<Prefix>, table: &Table) -> Result<(), OutOfMemory>
-    ensures { OnOk result (prefixes.new.items ≡ prefixes.old.items ++ table_prefixes table.now) }
+    ensures { OnOk result (GainsPrefixes prefixes.old.items prefixes.new.items (table_prefixes table.now)) }
 {
+    let mut near = 0;
     for place in 0..table.len() {
         let dest = table.dest(place);
-        prefixes.push(dest)?;
+        near = add_unless_found(prefixes, dest, near)?;
     }
     Ok(())
+}
+
+/// Adds a prefix unless it is found, first at the places from `near` on, and says where the next one may stand.
+fn add_unless_found(
+    prefixes: &mut Vec<Prefix>,
+    prefix: Prefix,
+    near: usize,
+) -> Result<usize, OutOfMemory>
+    ensures { OnOk result (GainsPrefixes prefixes.old.items prefixes.new.items (prefix ∷ [])) }
+{
+    match prefix_near(prefixes.as_slice(), prefix, near) {
+        Some(place) => Ok(place + 1),
+        None => {
+            prefixes.push(prefix)?;
+            Ok(near)
+        }
+    }
 }
 
 /// Adds the subnets of interfaces that are up.

@@ -1,15 +1,19 @@
-ghost use Rattle.std.specs.Prelude.{◌≡◌, ◌+◌, ◌<◌, All, IfOk, OnOk, Some, length, take, slice_get};
+ghost use Rattle.std.specs.Prelude.{◌≡◌, All, IfOk, OnOk, length};
 ghost use Rattle.std.specs.List.Sorted.{IsStrictlyIncreasing};
-ghost use Rattle.net_addr.specs.Addresses.{Block, IsBlock};
+ghost use Rattle.net_addr.specs.Addresses.{IsBlock};
 ghost use Rattle.net_addr.specs.LongestMatches.{AreMatches};
-ghost use Rattle.prefix_atoms.specs.Lists.{IsPlaceOf};
+ghost use Rattle.route_core.specs.Tables.{HasDistinctPrefixes, table_prefixes};
+ghost use Rattle.prefix_atoms.specs.Lists.{TakesPrefix};
 
+use crate::near::number_near;
 use net_addr::{Match, Prefix};
+use route_core::Table;
 use std::alloc::{AllocError as OutOfMemory, Global};
 
-/// For each address the longest match among the prefixes.
+/// For each of some ascending addresses the longest match among the prefixes.
 ///
-/// The addresses ascend, so those of one prefix stand side by side.
+/// The addresses of one prefix stand side by side. Where the prefixes ascend too, most of them begin near the one
+/// before, and the whole takes time of the prefixes and of the addresses in each.
 pub fn longest_of_each(
     alloc: Global,
     prefixes: &[Prefix],
@@ -20,42 +24,58 @@ pub fn longest_of_each(
     ensures blocks { OnOk result (All IsBlock prefixes.now) }
 {
     let mut found = vec![in alloc; None; addresses.len()]?;
+    let mut start = 0;
     for place in 0..prefixes.len() {
-        take_prefix(prefixes, place, addresses, &mut found);
+        start = take_prefix(prefixes[place], place, addresses, start, &mut found);
     }
     Ok(found)
 }
 
-/// Gives the addresses of a prefix that prefix, where it is longer than the one found before.
-fn take_prefix(prefixes: &[Prefix], place: usize, addresses: &[u32], found: &mut Vec<Option<Match>>)
-    requires place { place < length prefixes.now }
-    requires ascending { IsStrictlyIncreasing addresses.now }
-    requires found { AreMatches (take place prefixes.now) addresses.now found.old.items }
-    ensures longest { AreMatches (take (place + 1) prefixes.now) addresses.now found.new.items }
-    ensures block { (p : Block) → slice_get prefixes.now place ≡ Some p → IsBlock p }
+/// The same among the prefixes of a table.
+pub fn longest_in_table(
+    alloc: Global,
+    table: &Table,
+    addresses: &[u32],
+) -> Result<Vec<Option<Match>>, OutOfMemory>
+    requires { IsStrictlyIncreasing addresses.now }
+    ensures longest { IfOk result (λ v. AreMatches (table_prefixes table.now) addresses.now v.items) }
+    ensures blocks { OnOk result (All IsBlock (table_prefixes table.now)) }
+    ensures distinct { OnOk result (HasDistinctPrefixes table.now) }
 {
-    let prefix = prefixes[place];
+    let mut found = vec![in alloc; None; addresses.len()]?;
+    let mut start = 0;
+    for place in 0..table.len() {
+        start = take_prefix(table.dest(place), place, addresses, start, &mut found);
+    }
+    Ok(found)
+}
+
+/// Gives the addresses of a prefix that prefix, where it is longer than the one found before, and says where they
+/// begin. That is first looked for at the places from `near` on.
+fn take_prefix(
+    prefix: Prefix,
+    place: usize,
+    addresses: &[u32],
+    near: usize,
+    found: &mut Vec<Option<Match>>,
+) -> usize
+    requires ascending { IsStrictlyIncreasing addresses.now }
+    requires count { length found.old.items ≡ length addresses.now }
+    ensures longest { TakesPrefix place prefix addresses.now found.old.items found.new.items }
+    ensures block { IsBlock prefix }
+{
     let base = prefix.base();
     let last = prefix.last();
     let next = Match {
         place,
         len: prefix.len(),
     };
-    for i in place_of(addresses, base)..addresses.len() {
+    let start = number_near(addresses, base, near);
+    for i in start..addresses.len() {
         if addresses[i] > last {
-            return;
+            return start;
         }
         found[i] = Some(next.or_longer(found[i]));
     }
-}
-
-/// Where a number stands in an ascending list, or would stand.
-pub fn place_of(numbers: &[u32], x: u32) -> usize
-    requires { IsStrictlyIncreasing numbers.now }
-    ensures { IsPlaceOf numbers.now x result }
-{
-    match numbers.binary_search(&x) {
-        Ok(place) => place,
-        Err(place) => place,
-    }
+    start
 }

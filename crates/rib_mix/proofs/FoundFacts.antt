@@ -14,7 +14,7 @@ use Rattle.route_core.specs.Tables.{HasEntry, table_prefixes}
 use Rattle.rib_mix.specs.Answers.{IsNext}
 use Rattle.rib_mix.specs.Mixture.{Mixture}
 use Rattle.rib_mix.specs.declared.next.Next.{Next}
-use Rattle.rib_mix.specs.Rows.{IsCell, IsConnectedLength, IsFound, IsMixed}
+use Rattle.rib_mix.specs.Rows.{IsCell, IsConnectedLength, AreFoundMatches, IsMixed}
 use Rattle.rib_mix.specs.declared.cell.Cell.{Cell}
 use Rattle.rib_mix.specs.declared.found.Found.{Found}
 use Rattle.rib_mix.proofs.UsedEntries.{Where, Setting, Lawful}
@@ -41,7 +41,7 @@ match_alike entries s a found same h =
 -- the prefixes of a router contain the sample of a class and its other addresses alike
 pub found_alike : (net : Network) (old new : ℕ → List (Block × Entry)) (c : Classes) (u k a : ℕ) (found : Found) → u < length net
     → AreClasses net (SourceEntry (length net) old) (SourceEntry (length net) new) c → IsInClass c k a
-    → IsFound net (old u) (new u) u (get_or c.samples k 0) found → IsFound net (old u) (new u) u a found
+    → AreFoundMatches net (old u) (new u) u (get_or c.samples k 0) found → AreFoundMatches net (old u) (new u) u a found
 found_alike net old new c u k a found router are inside h = record {
   connected = connected_alike net u (get_or c.samples k 0) a found.connected
       (λ p conn. inside.alike p ((are.occur p).1 (connected_occurs u conn))) h.connected;

@@ -1,14 +1,14 @@
 -- Lists that are made place by place.
-use Rattle.std.proofs.Common.{◌≡◌, ℕ, zero, suc, ◌+◌, ◌<◌, ◌≤◌, List, [], ◌∷◌, ◌++◌, length, take, get_or, Option, Some, None, All, slice_get, ⊎_elim, arith}
+use Rattle.std.proofs.Common.{◌≡◌, ℕ, zero, suc, ◌+◌, ◌<◌, ◌≤◌, List, [], ◌∷◌, ◌++◌, length, get_or, Option, Some, None, All, slice_get, ⊎_elim, arith}
 use Rattle.std.proofs.Common.{sym, ap, subst, ◌∙◌, length-append}
 use Rattle.std.proofs.lemmas.Bool.{cases_lt}
-use Rattle.std.proofs.lemmas.List.{take_more, map-append, length-map, get_or-map, get_or_default}
-use Rattle.std.proofs.lemmas.Option.{slice_get_within, get_or_from_slice_get}
+use Rattle.std.proofs.lemmas.List.{length-map, get_or-map, get_or_default}
+use Rattle.std.proofs.lemmas.Option.{slice_get_within}
 use Rattle.net_addr.specs.Addresses.{Block, IsBlock}
 use Rattle.net_addr.specs.declared.matches.Match.{Match}
 use Rattle.route_core.specs.declared.entry.Entry.{Entry}
 use Rattle.route_core.specs.Tables.{HasDistinctPrefixes, table_prefixes}
-use Rattle.rib_mix.specs.Rows.{IsLawful}
+use Rattle.rib_mix.specs.Rows.{IsLawfulTable}
 
 slice_get_push_old : {X : Type 0} (xs : List X) (y : X) (k : ℕ) (x : X) → k < length xs → slice_get (xs ++ y ∷ []) k ≡ Some x → slice_get xs k ≡ Some x
 slice_get_push_old [] y k x l h = absurd (omega arith)
@@ -39,27 +39,14 @@ each_more P old new x i count each is here k y at =
 pub count_more : {X : Type 0} (old new : List X) (x : X) (i : ℕ) → length old ≡ i → new ≡ old ++ x ∷ [] → length new ≡ i + 1
 count_more old new x i count is = ap length is ∙ length-append old (x ∷ []) ∙ ap (λ (m : ℕ). m + 1) count
 
--- the next entry's prefix
-pub table_more : (entries : List (Block × Entry)) (i : ℕ) (p : Block) (e : Entry) (old new : List Block) → slice_get entries i ≡ Some (p, e)
-    → old ≡ table_prefixes (take i entries) → new ≡ old ++ p ∷ [] → new ≡ table_prefixes (take (i + 1) entries)
-table_more entries i p e old new at has is =
-    is ∙ ap (λ (ps : List Block). ps ++ p ∷ []) has
-    ∙ sym (ap table_prefixes (take_more entries i (p, e) (slice_get_within entries i (p, e) at)
-    ∙ ap (λ (x : Block × Entry). take i entries ++ x ∷ []) (get_or_from_slice_get entries i (p, e) (p, e) at))
-    ∙ map-append (λ (x : Block × Entry). x.0) (take i entries) ((p, e) ∷ []))
-
 -- what holds of all prefixes holds of all entries
 entries_all : (P : Block → Type 0) (entries : List (Block × Entry)) → All P (table_prefixes entries) → All (λ x. P x.0) entries
 entries_all P entries h k d l =
     let at : get_or (table_prefixes entries) k d.0 ≡ (get_or entries k d).0 = get_or-map (λ (x : Block × Entry). x.0) entries k d d.0 l in
     subst P at (h k d.0 (omega (arith, length-map entries (λ (x : Block × Entry). x.0))))
 
-pub lawful_from : (entries : List (Block × Entry)) (prefixes : List Block) → prefixes ≡ table_prefixes entries → All IsBlock prefixes →
-    HasDistinctPrefixes entries → IsLawful entries
-lawful_from entries prefixes same blocks distinct = record {
-  blocks = entries_all IsBlock entries (subst (All IsBlock) same blocks);
-  distinct = distinct;
-}
+pub lawful_from : (entries : List (Block × Entry)) → All IsBlock (table_prefixes entries) → HasDistinctPrefixes entries → IsLawfulTable entries
+lawful_from entries blocks distinct = record { blocks = entries_all IsBlock entries blocks; distinct = distinct }
 
 -- what was read of a list's place stands there
 pub read_match : (found : List (Option Match)) (i : ℕ) (one : Option Match) → i < length found → one ≡ get_or found i one → get_or found i None ≡ one

@@ -1,5 +1,5 @@
 -- The longest connected prefix, found in the list of the connected ones.
-use Rattle.std.proofs.Common.{◌≡◌, ℕ, ◌<◌, ◌↔◌, Bool, true, false, if◌then◌else◌, IsTrue, List, length, get_or, Contains, Option, Some, None, refl, sym, subst}
+use Rattle.std.proofs.Common.{◌≡◌, ℕ, ◌<◌, Bool, true, false, if◌then◌else◌, IsTrue, List, length, get_or, Contains, Option, Some, None, refl, sym, subst}
 use Rattle.std.proofs.Common.{◌∙◌}
 use Rattle.std.specs.List.{filter_map}
 use Rattle.net_model.proofs.Members.{Contains-filter_map, Contains-in_filter_map}

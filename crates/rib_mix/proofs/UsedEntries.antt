@@ -17,8 +17,8 @@ use Rattle.igp_theory.specs.Forwarding.{Usable, connected, of_old, of_new, OldCo
 use Rattle.igp_theory.specs.declared.phase.Phase.{Phase}
 use Rattle.igp_theory.specs.declared.phase.Phase.TheVariants.{Old, Middle, New}
 use Rattle.rib_mix.specs.Answers.{Says, IsNext}
-use Rattle.rib_mix.specs.Candidates.{connected_of, old_of, new_of, old_if_counts, new_if_counts, NoWorse, IsBest, IsPlaced, ShowsWay}
-use Rattle.rib_mix.specs.Rows.{IsConnectedLength, IsFound, IsLawful}
+use Rattle.rib_mix.specs.Candidates.{connected_of, old_of, new_of, old_if_counts, new_if_counts, NoWorse, IsBestOfThree, IsPlaced, ShowsWay}
+use Rattle.rib_mix.specs.Rows.{IsConnectedLength, AreFoundMatches, IsLawfulTable}
 use Rattle.rib_mix.specs.declared.candidate.Candidate.{Candidate}
 use Rattle.rib_mix.specs.declared.candidate.Way.{Way}
 use Rattle.rib_mix.specs.declared.candidate.Way.TheVariants as way
@@ -61,13 +61,13 @@ pub record Setting (w : Where) (ospf : ℕ) (found : Found) : Type 0 where
   pub config : Configuration
   pub has : HasConfiguration w.net w.u config
   pub ospf_is : config.distances.ospf ≡ ospf
-  pub found_is : IsFound w.net (w.old w.u) (w.new w.u) w.u w.a found
+  pub found_is : AreFoundMatches w.net (w.old w.u) (w.new w.u) w.u w.a found
 
 -- what every network and every table keeps
 pub record Lawful (w : Where) : Type 0 where
   pub network : IsNetwork w.net
-  pub old_table : IsLawful (w.old w.u)
-  pub new_table : IsLawful (w.new w.u)
+  pub old_table : IsLawfulTable (w.old w.u)
+  pub new_table : IsLawfulTable (w.new w.u)
 
 -- Candidates stand for entries
 
@@ -133,7 +133,7 @@ new_if_realizes w New o h = new_realizes w New o tt h
 
 -- the best candidate stands for an entry
 pub best_realizes : (w : Where) (phase : Phase) (ospf : ℕ) (found : Found) (best : Option Candidate) →
-    Setting w ospf found → IsBest (connected_of found.connected) (old_if_counts phase ospf found.old) (new_if_counts phase found.new) best →
+    Setting w ospf found → IsBestOfThree (connected_of found.connected) (old_if_counts phase ospf found.old) (new_if_counts phase found.new) best →
     IfSome best (Realizes w phase)
 best_realizes w phase ospf found best s b =
     let P : Option Candidate → Type 0 = λ o. IfSome o (Realizes w phase) in
@@ -213,7 +213,7 @@ better_covers (Some b) (Some c) len distance h k = (
 
 -- each entry that counts and contains the address is no better than the best candidate
 best_covers : (w : Where) (phase : Phase) (ospf : ℕ) (found : Found) (best : Option Candidate) →
-    Setting w ospf found → IsBest (connected_of found.connected) (old_if_counts phase ospf found.old) (new_if_counts phase found.new) best →
+    Setting w ospf found → IsBestOfThree (connected_of found.connected) (old_if_counts phase ospf found.old) (new_if_counts phase found.new) best →
     (q : Block) (d : ℕ) (x : Usable) → CountsAt w phase q d x → ContainsAddress q w.a → Covers best q.len d
 best_covers w phase ospf found best s b q d x (connected_counts h) inside =
     better_covers best (connected_of found.connected) q.len 0 b.over_one (connected_covers w.net w.u w.a found.connected s.found_is.connected q h inside)
@@ -229,7 +229,7 @@ best_covers w phase ospf found best s b q d x (new_counts {e = e} counts entry) 
 
 -- the entry that the best candidate stands for is used
 pub uses_best : (w : Where) (phase : Phase) (ospf : ℕ) (found : Found) (c : Candidate) →
-    Setting w ospf found → IsBest (connected_of found.connected) (old_if_counts phase ospf found.old) (new_if_counts phase found.new) (Some c) →
+    Setting w ospf found → IsBestOfThree (connected_of found.connected) (old_if_counts phase ospf found.old) (new_if_counts phase found.new) (Some c) →
     (r : Realizes w phase c) → UsesAt w phase r.used
 uses_best w phase ospf found c s b r = record {
   prefix = r.prefix;
@@ -306,7 +306,7 @@ says_way old new (way.New place) used next is shows = subst (Says next) (sym is.
 
 -- the answer where there is a best candidate
 pub next_best : (w : Where) (phase : Phase) (ospf : ℕ) (found : Found) (c : Candidate) (next : Next) → Lawful w → Setting w ospf found →
-    IsBest (connected_of found.connected) (old_if_counts phase ospf found.old) (new_if_counts phase found.new) (Some c) →
+    IsBestOfThree (connected_of found.connected) (old_if_counts phase ospf found.old) (new_if_counts phase found.new) (Some c) →
     ShowsWay (w.old w.u) (w.new w.u) c.way next → IsNext w.net (HasEntry w.old) (HasEntry w.new) w.u phase w.a next
 next_best w phase ospf found c next lawful s b shows =
     let r : Realizes w phase c = best_realizes w phase ospf found (Some c) s b in
@@ -319,7 +319,7 @@ next_best w phase ospf found c next lawful s b shows =
 
 -- its place stands in its table
 pub best_placed : (w : Where) (phase : Phase) (ospf : ℕ) (found : Found) (c : Candidate) → Setting w ospf found →
-    IsBest (connected_of found.connected) (old_if_counts phase ospf found.old) (new_if_counts phase found.new) (Some c) →
+    IsBestOfThree (connected_of found.connected) (old_if_counts phase ospf found.old) (new_if_counts phase found.new) (Some c) →
     IsPlaced (w.old w.u) (w.new w.u) c.way
 best_placed w phase ospf found c s b =
     let r : Realizes w phase c = best_realizes w phase ospf found (Some c) s b in
@@ -327,7 +327,7 @@ best_placed w phase ospf found c s b =
 
 -- the answer where there is none
 pub next_none : (w : Where) (phase : Phase) (ospf : ℕ) (found : Found) → Setting w ospf found →
-    IsBest (connected_of found.connected) (old_if_counts phase ospf found.old) (new_if_counts phase found.new) None →
+    IsBestOfThree (connected_of found.connected) (old_if_counts phase ospf found.old) (new_if_counts phase found.new) None →
     IsNext w.net (HasEntry w.old) (HasEntry w.new) w.u phase w.a Absent
 next_none w phase ospf found s b = record {
   there = inl refl;

@@ -59,7 +59,7 @@ pub record IsBetter (one two best : Option Candidate) : Type 0 where
   pub over_two : NoWorse best two
 
 -- the best of three candidates
-pub record IsBest (one two three best : Option Candidate) : Type 0 where
+pub record IsBestOfThree (one two three best : Option Candidate) : Type 0 where
   pub is : (best ≡ one) ⊎ (best ≡ two) ⊎ (best ≡ three)
   pub over_one : NoWorse best one
   pub over_two : NoWorse best two

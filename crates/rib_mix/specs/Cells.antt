@@ -1,5 +1,5 @@
 -- What is kept for each router and class: what is used in each phase.
-use Rattle.std.specs.Prelude.{◌≡◌, ◌↔◌, ℕ, List, Contains, Option, Some, None, slice_get, slice_index_or}
+use Rattle.std.specs.Prelude.{◌≡◌, ◌↔◌, ℕ, List, Contains, Option, Some, None, IfSome, slice_get, slice_index_or}
 use Rattle.net_addr.specs.Addresses.{Block}
 use Rattle.net_addr.specs.declared.matches.Match.{Match}
 use Rattle.net_model.specs.Network.{Network, Connected}
@@ -7,22 +7,35 @@ use Rattle.route_core.specs.declared.entry.Entry.{Entry}
 use Rattle.igp_theory.specs.declared.phase.Phase.{Phase}
 use Rattle.igp_theory.specs.declared.phase.Phase.TheVariants as phase
 use Rattle.rib_mix.specs.Answers.{ShowsEntry}
-use Rattle.rib_mix.specs.Candidates.{connected_of, old_if_counts, new_if_counts, IsBest}
+use Rattle.rib_mix.specs.Candidates.{connected_of, old_if_counts, new_if_counts, IsBestOfThree}
 use Rattle.rib_mix.specs.declared.candidate.Candidate.{Candidate}
 use Rattle.rib_mix.specs.declared.candidate.Way.{Way}
 use Rattle.rib_mix.specs.declared.candidate.Way.TheVariants as way
 use Rattle.rib_mix.specs.declared.cell.Cell.{Cell}
+use Rattle.rib_mix.specs.declared.cell.Choice.{Choice}
+use Rattle.rib_mix.specs.declared.cell.Choice.TheVariants as choice
 use Rattle.rib_mix.specs.declared.cell.Used.{Used}
 use Rattle.rib_mix.specs.declared.cell.Used.TheVariants as used
 use Rattle.rib_mix.specs.declared.found.Found.{Found}
 use Rattle.rib_mix.specs.declared.next.Next.{Next}
 use Rattle.rib_mix.specs.declared.next.Next.TheVariants as next
 
+-- what is chosen in a phase
+abbrev pub chosen_in : Cell → Phase → Choice
+chosen_in cell phase.Old = cell.old
+chosen_in cell phase.Middle = cell.middle
+chosen_in cell phase.New = cell.new
+
+-- what is used where this is chosen
+abbrev pub use_chosen : Cell → Choice → Used
+use_chosen cell choice.Nothing = used.Nothing
+use_chosen cell choice.Connected = used.Connected
+use_chosen cell choice.Old = used.Old cell.old_place
+use_chosen cell choice.New = used.New cell.new_place
+
 -- what is used in a phase
 abbrev pub use_in : Cell → Phase → Used
-use_in cell phase.Old = cell.old
-use_in cell phase.Middle = cell.middle
-use_in cell phase.New = cell.new
+use_in cell phase = use_chosen cell (chosen_in cell phase)
 
 -- what is used where a way leads
 abbrev pub use_of_way : Way → Used
@@ -35,10 +48,25 @@ abbrev pub use_of : Option Candidate → Used
 use_of None = used.Nothing
 use_of (Some c) = use_of_way c.way
 
+-- what is chosen where a way leads
+abbrev pub choice_of_way : Way → Choice
+choice_of_way way.Connected = choice.Connected
+choice_of_way (way.Old place) = choice.Old
+choice_of_way (way.New place) = choice.New
+
+-- what is chosen where this is the best candidate
+abbrev pub choice_of : Option Candidate → Choice
+choice_of None = choice.Nothing
+choice_of (Some c) = choice_of_way c.way
+
+-- a match, where there is one, is at this place
+abbrev pub HasPlace : Option Match → ℕ → Type 0
+HasPlace found place = IfSome found (λ one. place ≡ one.place)
+
 -- what a router with this OSPF distance uses in a phase, of what is found: what the best candidate says
 pub record IsUse (phase : Phase) (ospf : ℕ) (found : Found) (use_is : Used) : Type 0 where
   pub best : Option Candidate
-  pub is_best : IsBest (connected_of found.connected) (old_if_counts phase ospf found.old) (new_if_counts phase found.new) best
+  pub is_best : IsBestOfThree (connected_of found.connected) (old_if_counts phase ospf found.old) (new_if_counts phase found.new) best
   pub says : use_is ≡ use_of best
 
 -- in each phase

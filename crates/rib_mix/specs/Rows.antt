@@ -26,7 +26,7 @@ IsConnectedLength net u a None = (p : Block) → Connected net u p → ContainsA
 IsConnectedLength net u a (Some len) = ConnectedLength net u a len
 
 -- what is found for a router and an address
-pub record IsFound (net : Network) (old new : List (Block × Entry)) (u a : ℕ) (found : Found) : Type 0 where
+pub record AreFoundMatches (net : Network) (old new : List (Block × Entry)) (u a : ℕ) (found : Found) : Type 0 where
   pub connected : IsConnectedLength net u a found.connected
   pub old_match : IsMatch (table_prefixes old) a found.old
   pub new_match : IsMatch (table_prefixes new) a found.new
@@ -42,7 +42,7 @@ pub record IsCell (net : Network) (old new : List (Block × Entry)) (u a : ℕ) 
   pub ospf : ℕ
   pub distance : HasOspfDistance net u ospf
   pub found : Found
-  pub found_is : IsFound net old new u a found
+  pub found_is : AreFoundMatches net old new u a found
   pub uses : IsCellOf found ospf cell
 
 -- what a router uses for each of some addresses
@@ -51,7 +51,7 @@ pub record IsRouterRow (net : Network) (old new : List (Block × Entry)) (u : �
   pub each : (k : ℕ) (cell : Cell) → slice_get row k ≡ Some cell → IsCell net old new u (slice_index addresses k) cell
 
 -- what every table keeps: its prefixes are blocks of addresses, no two of them the same
-pub record IsLawful (entries : List (Block × Entry)) : Type 0 where
+pub record IsLawfulTable (entries : List (Block × Entry)) : Type 0 where
   pub blocks : All (λ entry. IsBlock entry.0) entries
   pub distinct : HasDistinctPrefixes entries
 
@@ -59,8 +59,8 @@ pub record IsLawful (entries : List (Block × Entry)) : Type 0 where
 pub record AreRows (net : Network) (old new : ℕ → List (Block × Entry)) (addresses : List ℕ) (rows : List (List Cell)) : Type 0 where
   pub count : length rows ≡ length net
   pub each : (u : ℕ) (row : List Cell) → slice_get rows u ≡ Some row → IsRouterRow net (old u) (new u) u addresses row
-  pub old_lawful : (u : ℕ) → u < length net → IsLawful (old u)
-  pub new_lawful : (u : ℕ) → u < length net → IsLawful (new u)
+  pub old_lawful : (u : ℕ) → u < length net → IsLawfulTable (old u)
+  pub new_lawful : (u : ℕ) → u < length net → IsLawfulTable (new u)
 
 -- the prefixes that are connected at each router
 pub record AreAllSubnets (net : Network) (subnets : List (List Block)) : Type 0 where

@@ -1,8 +1,7 @@
 ghost use Rattle.std.specs.Prelude.{◌≡◌};
-ghost use Rattle.rib_mix.specs.Candidates.{connected_of, old_if_counts, new_if_counts, IsBetter, IsBest};
+ghost use Rattle.igp_theory.specs.declared.phase.Phase.TheVariants.{Old};
+ghost use Rattle.rib_mix.specs.Candidates.{connected_of, old_if_counts, new_of, IsBetter};
 
-use crate::found::Found;
-use igp_theory::Phase;
 use net_addr::Match;
 use net_model::{ISIS_DISTANCE, MOST_DISTANCE};
 
@@ -28,18 +27,8 @@ pub struct Candidate {
     pub way: Way,
 }
 
-/// The best of what was found: of the entries that count in the phase the longest, and of equally long ones the one of
-/// lowest distance.
-pub fn best_of(found: Found, phase: Phase, ospf: u8) -> Option<Candidate>
-    ensures { IsBest (connected_of found.connected) (old_if_counts phase ospf found.old) (new_if_counts phase found.new) result }
-{
-    let old = old_candidate(found.old, phase, ospf);
-    let new = new_candidate(found.new, phase);
-    better(better(connected_candidate(found.connected), old), new)
-}
-
 /// The longest connected prefix as a candidate.
-fn connected_candidate(found: Option<u8>) -> Option<Candidate>
+pub fn connected_candidate(found: Option<u8>) -> Option<Candidate>
     ensures { result ≡ connected_of found }
 {
     match found {
@@ -52,12 +41,12 @@ fn connected_candidate(found: Option<u8>) -> Option<Candidate>
     }
 }
 
-/// The longest entry of the old table, where that counts.
-fn old_candidate(found: Option<Match>, phase: Phase, ospf: u8) -> Option<Candidate>
-    ensures { result ≡ old_if_counts phase ospf found }
+/// The longest entry of the old table at this distance as a candidate, where that counts while the table is in use.
+pub fn old_candidate(found: Option<Match>, ospf: u8) -> Option<Candidate>
+    ensures { result ≡ old_if_counts Old ospf found }
 {
-    match (phase, found) {
-        (Phase::Old | Phase::Middle, Some(best)) if ospf != MOST_DISTANCE => Some(Candidate {
+    match found {
+        Some(best) if ospf != MOST_DISTANCE => Some(Candidate {
             len: best.len,
             distance: ospf,
             way: Way::Old(best.place),
@@ -66,22 +55,22 @@ fn old_candidate(found: Option<Match>, phase: Phase, ospf: u8) -> Option<Candida
     }
 }
 
-/// The longest entry of the new table, where that counts.
-fn new_candidate(found: Option<Match>, phase: Phase) -> Option<Candidate>
-    ensures { result ≡ new_if_counts phase found }
+/// The longest entry of the new table as a candidate.
+pub fn new_candidate(found: Option<Match>) -> Option<Candidate>
+    ensures { result ≡ new_of found }
 {
-    match (phase, found) {
-        (Phase::Middle | Phase::New, Some(best)) => Some(Candidate {
+    match found {
+        None => None,
+        Some(best) => Some(Candidate {
             len: best.len,
             distance: ISIS_DISTANCE,
             way: Way::New(best.place),
         }),
-        _ => None,
     }
 }
 
 /// The longer of two candidates, and of equally long ones the one of lower distance.
-fn better(one: Option<Candidate>, two: Option<Candidate>) -> Option<Candidate>
+pub fn better(one: Option<Candidate>, two: Option<Candidate>) -> Option<Candidate>
     ensures { IsBetter one two result }
 {
     match (one, two) {

@@ -1,14 +1,31 @@
 //! Mixed forwarding: what each router does with the packets of each class of addresses, in each phase.
+//!
+//! A router uses of its connected prefixes and of the tables that count in its phase the longest entry, and of equally long
+//! ones the one of lowest administrative distance.
+//!
+//! | File | What it holds |
+//! |---|---|
+//! | `mixed`, `next` | mixed forwarding over a network and two sources of tables, and what a router does |
+//! | `row`, `found`, `subnets` | of each router: the longest matches of the classes' least addresses, and its connected prefixes |
+//! | `candidate`, `cell` | the best of what counts in a phase, and what is used in each phase |
+//! | `law` | that what a router does is what the definitions call its steps |
+//!
+//! `Mixed::build` takes time of routers times classes and of the entries of all tables; `hops` looks one cell up.
 #![tactic(auto)]
 
+// mixed forwarding
+mod mixed;
+mod next;
+
+// what is found and used
 mod candidate;
 mod cell;
 mod found;
-mod law;
-mod mixed;
-mod next;
 mod row;
 mod subnets;
+
+// laws
+mod law;
 
 pub use igp_theory::{Phase, middle_is_old_or_new};
 pub use law::steps_are_hops;

@@ -1,16 +1,14 @@
 ghost use Rattle.std.specs.Prelude.{◌≡◌, ◌<◌, IfOk, OnOk, Some, length, slice_get};
 ghost use Rattle.std.specs.List.Sorted.{IsStrictlyIncreasing};
-ghost use Rattle.net_addr.specs.LongestMatches.{AreMatches};
-ghost use Rattle.route_core.specs.Tables.{HasDistinctPrefixes, table_prefixes};
 ghost use Rattle.rib_mix.specs.Cells.{AreFoundAt, AreSubnets, length_of};
-ghost use Rattle.rib_mix.specs.Rows.{HasOspfDistance, IsLawful, IsRouterRow};
+ghost use Rattle.rib_mix.specs.Rows.{HasOspfDistance, IsLawfulTable, IsRouterRow};
 
 use crate::cell::{Cell, cell_of};
 use crate::found::Found;
 use crate::subnets::Subnets;
-use net_addr::{Match, Prefix};
+use net_addr::Match;
 use net_model::Net;
-use prefix_atoms::longest_of_each;
+use prefix_atoms::{longest_in_table, longest_of_each};
 use route_core::{OutOfMemory, Table};
 use std::alloc::Global;
 use std::marker::Model;
@@ -54,12 +52,12 @@ pub fn row_of(
     requires subnets { AreSubnets net.now router subnets.now }
     requires ascending { IsStrictlyIncreasing addresses.now }
     ensures row { IfOk result (λ row. IsRouterRow net.now old.now new.now router addresses.now row) }
-    ensures old_lawful { OnOk result (IsLawful old.now) }
-    ensures new_lawful { OnOk result (IsLawful new.now) }
+    ensures old_lawful { OnOk result (IsLawfulTable old.now) }
+    ensures new_lawful { OnOk result (IsLawfulTable new.now) }
 {
     let own = longest_of_each(alloc, subnets.as_slice(), addresses)?;
-    let olds = matches_of(alloc, old, addresses)?;
-    let news = matches_of(alloc, new, addresses)?;
+    let olds = longest_in_table(alloc, old, addresses)?;
+    let news = longest_in_table(alloc, new, addresses)?;
     let ospf = ospf_distance(net, router);
     let mut row = Vec::with_capacity(alloc, addresses.len())?;
     for k in 0..addresses.len() {
@@ -105,31 +103,4 @@ fn length_of(found: Option<Match>) -> Option<u8>
         Some(found) => Some(found.len),
         None => None,
     }
-}
-
-/// The longest match in a table of each of some ascending addresses.
-fn matches_of(
-    alloc: Global,
-    table: &Table,
-    addresses: &[u32],
-) -> Result<Vec<Option<Match>>, OutOfMemory>
-    requires { IsStrictlyIncreasing addresses.now }
-    ensures matches { IfOk result (λ v. AreMatches (table_prefixes table.now) addresses.now v.items) }
-    ensures lawful { OnOk result (IsLawful table.now) }
-{
-    let prefixes = prefixes_of(alloc, table)?;
-    longest_of_each(alloc, prefixes.as_slice(), addresses)
-}
-
-/// The prefixes of a table's entries.
-fn prefixes_of(alloc: Global, table: &Table) -> Result<Vec<Prefix>, OutOfMemory>
-    ensures prefixes { IfOk result (λ v. v.items ≡ table_prefixes table.now) }
-    ensures distinct { HasDistinctPrefixes table.now }
-{
-    let mut prefixes = Vec::with_capacity(alloc, table.len())?;
-    for place in 0..table.len() {
-        let dest = table.dest(place);
-        prefixes.push(dest)?;
-    }
-    Ok(prefixes)
 }

@@ -2,7 +2,7 @@ use Rattle.std.proofs.Common.{◌≡◌, ◌<◌, ℕ, List, length, arith, belo
 use Rattle.std.proofs.lemmas.Option.{slice_get_read}
 use Rattle.net_addr.specs.Addresses.{Block}
 use Rattle.route_core.specs.declared.entry.Entry.{Entry}
-use Rattle.rib_mix.specs.Rows.{IsLawful, IsRouterRow}
+use Rattle.rib_mix.specs.Rows.{IsLawfulTable, IsRouterRow}
 use Rattle.rib_mix.specs.declared.cell.Cell.{Cell}
 use Rattle.rib_mix.proofs.RowSteps.{count_more, each_more}
 use Rattle.rib_mix.proofs.mixed.rows_of.Goals as goal
@@ -29,10 +29,10 @@ loop-router-preserved g c = record {
       (subst (λ (es : List (Block × Entry)). IsRouterRow c.args.net.now es c.table-in-loop-router.result.now c.loop-router.router
       c.args.addresses.now c.in_ok-row.row)
       c.table.ensures c.in_ok-row.ensures.row));
-  old_lawful = below_more (λ (u : ℕ). IsLawful (g.O.RouteSource.table c.args.old.now u)) c.loop-router.router c.loop-router.invariant.old_lawful
-      (subst IsLawful c.table.ensures c.in_ok-row.ensures.old_lawful);
-  new_lawful = below_more (λ (u : ℕ). IsLawful (g.N.RouteSource.table c.args.new.now u)) c.loop-router.router c.loop-router.invariant.new_lawful
-      (subst IsLawful c.table-in-loop-router.ensures c.in_ok-row.ensures.new_lawful);
+  old_lawful = below_more (λ (u : ℕ). IsLawfulTable (g.O.RouteSource.table c.args.old.now u)) c.loop-router.router c.loop-router.invariant.old_lawful
+      (subst IsLawfulTable c.table.ensures c.in_ok-row.ensures.old_lawful);
+  new_lawful = below_more (λ (u : ℕ). IsLawfulTable (g.N.RouteSource.table c.args.new.now u)) c.loop-router.router c.loop-router.invariant.new_lawful
+      (subst IsLawfulTable c.table-in-loop-router.ensures c.in_ok-row.ensures.new_lawful);
 }
 
 pub returns-clause-rows : goal.returns-clause-rows

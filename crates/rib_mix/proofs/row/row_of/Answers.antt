@@ -6,7 +6,7 @@ use Rattle.route_core.specs.Tables.{table_prefixes}
 use Rattle.rib_mix.specs.Cells.{AreSubnets}
 use Rattle.rib_mix.specs.Rows.{IsCell, IsConnectedLength}
 use Rattle.rib_mix.specs.declared.cell.Cell.{Cell}
-use Rattle.rib_mix.proofs.RowSteps.{count_more, each_more}
+use Rattle.rib_mix.proofs.RowSteps.{count_more, each_more, lawful_from}
 use Rattle.rib_mix.proofs.SubnetFacts.{connected_length, match_read}
 use Rattle.rib_mix.proofs.row.row_of.Goals as goal
 
@@ -32,13 +32,19 @@ loop-k-preserved c = record {
               subst (λ (o : Option Match). IsMatch (table_prefixes c.args.old.now) (get_or c.args.addresses.now c.loop-k.k 0) o)
               (sym c.found_at-found.ensures.old)
               (match_read (table_prefixes c.args.old.now) c.args.addresses.now c.in_ok-olds.olds.items c.as_slice-in-loop-k-2.result.now
-              c.loop-k.k c.in_ok-olds.ensures.matches c.as_slice-in-loop-k-2.ensures.value c.loop-k-test.true);
+              c.loop-k.k c.in_ok-olds.ensures.longest c.as_slice-in-loop-k-2.ensures.value c.loop-k-test.true);
           new_match =
               subst (λ (o : Option Match). IsMatch (table_prefixes c.args.new.now) (get_or c.args.addresses.now c.loop-k.k 0) o)
               (sym c.found_at-found.ensures.new)
               (match_read (table_prefixes c.args.new.now) c.args.addresses.now c.in_ok-news.news.items c.as_slice-in-loop-k-3.result.now
-              c.loop-k.k c.in_ok-news.ensures.matches c.as_slice-in-loop-k-3.ensures.value c.loop-k-test.true);
+              c.loop-k.k c.in_ok-news.ensures.longest c.as_slice-in-loop-k-3.ensures.value c.loop-k-test.true);
         };
         uses = c.in_ok-cell.ensures;
       });
 }
+
+pub returns-clause-old_lawful : goal.returns-clause-old_lawful
+returns-clause-old_lawful c = lawful_from c.args.old.now c.in_ok-olds.ensures.blocks c.in_ok-olds.ensures.distinct
+
+pub returns-clause-new_lawful : goal.returns-clause-new_lawful
+returns-clause-new_lawful c = lawful_from c.args.new.now c.in_ok-news.ensures.blocks c.in_ok-news.ensures.distinct

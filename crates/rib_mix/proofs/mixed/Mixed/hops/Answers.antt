@@ -1,4 +1,4 @@
-use Rattle.std.proofs.Common.{◌≡◌, ◌<◌, ℕ, List, length, get_or, inl, inr, subst, sym}
+use Rattle.std.proofs.Common.{◌<◌, ℕ, List, length, get_or, inl, inr, subst, sym}
 use Rattle.net_addr.specs.Addresses.{Block}
 use Rattle.route_core.specs.declared.entry.Entry.{Entry}
 use Rattle.igp_theory.specs.declared.phase.Phase.{Phase}

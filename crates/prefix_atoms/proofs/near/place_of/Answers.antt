@@ -1,7 +1,7 @@
 use Rattle.std.proofs.Common.{ℕ, ◌<◌, List, get_or, Ok, Err, arith}
 use Rattle.std.proofs.lemmas.List.Sorted.{searched}
 use Rattle.prefix_atoms.proofs.Ascending.{at_most_later, place_found}
-use Rattle.prefix_atoms.proofs.longest.place_of.Goals as goal
+use Rattle.prefix_atoms.proofs.near.place_of.Goals as goal
 
 pub returns-in-Ok : goal.returns-in-Ok
 returns-in-Ok c =

@@ -1,0 +1,60 @@
+-- What a list of prefixes has that gained others.
+use Rattle.std.proofs.Common.{◌≡◌, ℕ, ◌+◌, inl, inr, List, [], ◌∷◌, ◌++◌, take, Some, slice_get, Contains, ⊎_elim, sym, ap, subst, ◌∙◌, add-one}
+use Rattle.std.proofs.lemmas.List.{map-append}
+use Rattle.std.proofs.lemmas.List.Elements.{Contains-append_left, Contains-append_right, Contains-append_cases}
+use Rattle.net_addr.specs.Addresses.{Block}
+use Rattle.net_model.proofs.Members.{Contains-none, Contains-cases}
+use Rattle.route_core.proofs.TableLaws.{Contains-from_place}
+use Rattle.route_core.specs.Tables.{table_prefixes}
+use Rattle.route_core.specs.declared.entry.Entry.{Entry}
+use Rattle.prefix_atoms.specs.Lists.{source_prefixes, GainsPrefixes}
+use Rattle.prefix_atoms.proofs.Collected.{take_place}
+
+-- nothing is gained
+pub gains_nothing : (xs : List Block) → GainsPrefixes xs xs []
+gains_nothing xs p = (λ h. inl h, λ h. ⊎_elim (λ l. l) (λ r. absurd (Contains-none p r)) h)
+
+-- what is put behind a list is gained
+pub gains_behind : (xs ys more : List Block) → ys ≡ xs ++ more → GainsPrefixes xs ys more
+gains_behind xs ys more is p = (
+  λ h. Contains-append_cases xs more p (subst (λ (zs : List Block). Contains zs p) is h),
+  λ h. subst (λ (zs : List Block). Contains zs p) (sym is)
+      (⊎_elim (λ l. Contains-append_left xs more p l) (λ r. Contains-append_right xs more p r) h),
+)
+
+-- a prefix that stands in the list already is gained by none more
+pub gains_found : (xs : List Block) (place : ℕ) (q : Block) → slice_get xs place ≡ Some q → GainsPrefixes xs xs (q ∷ [])
+gains_found xs place q at p =
+    let known : Contains xs q = Contains-from_place xs place q at in (
+      λ h. inl h,
+      λ h. ⊎_elim (λ l. l)
+          (λ r. ⊎_elim (λ same. subst (Contains xs) same known) (λ none. absurd (Contains-none p none)) (Contains-cases q [] p r)) h,
+    )
+
+-- some are gained first, and others then
+pub gains_both : (xs ys zs one two : List Block) → GainsPrefixes xs ys one → GainsPrefixes ys zs two → GainsPrefixes xs zs (one ++ two)
+gains_both xs ys zs one two first second p = (
+  λ h. ⊎_elim
+      (λ l. ⊎_elim (λ k. inl k) (λ m. inr (Contains-append_left one two p m)) ((first p).0 l))
+      (λ r. inr (Contains-append_right one two p r))
+      ((second p).0 h),
+  λ h. (second p).1 (⊎_elim
+      (λ l. inl ((first p).1 (inl l)))
+      (λ r. ⊎_elim (λ m. inl ((first p).1 (inr m))) (λ m. inr m) (Contains-append_cases one two p r))
+      h),
+)
+
+-- the next entry's prefix
+pub table_gains : (entries : List (Block × Entry)) (i : ℕ) (q : Block) (e : Entry) (xs ys zs : List Block) → slice_get entries i ≡ Some (q, e)
+    → GainsPrefixes xs ys (table_prefixes (take i entries)) → GainsPrefixes ys zs (q ∷ []) → GainsPrefixes xs zs (table_prefixes (take (i + 1) entries))
+table_gains entries i q e xs ys zs at before next =
+    subst (GainsPrefixes xs zs)
+    (sym (ap table_prefixes (take_place entries i (q, e) at) ∙ map-append (λ (x : Block × Entry). x.0) (take i entries) ((q, e) ∷ [])))
+    (gains_both xs ys zs (table_prefixes (take i entries)) (q ∷ []) before next)
+
+-- the prefixes of the next router's table
+pub source_gains : (table : ℕ → List (Block × Entry)) (n : ℕ) (entries : List (Block × Entry)) (xs ys zs : List Block) → entries ≡ table n
+    → GainsPrefixes xs ys (source_prefixes table n) → GainsPrefixes ys zs (table_prefixes entries) → GainsPrefixes xs zs (source_prefixes table (n + 1))
+source_gains table n entries xs ys zs is before next =
+    rw add-one (gains_both xs ys zs (source_prefixes table n) (table_prefixes (table n)) before
+    (subst (λ (es : List (Block × Entry)). GainsPrefixes ys zs (table_prefixes es)) is next))

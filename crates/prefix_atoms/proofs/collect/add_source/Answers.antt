@@ -1,0 +1,19 @@
+use Rattle.std.proofs.Common.{◌≡◌, ℕ, arith, subst}
+use Rattle.prefix_atoms.specs.Lists.{source_prefixes, GainsPrefixes}
+use Rattle.prefix_atoms.proofs.Gained.{gains_nothing, source_gains}
+use Rattle.prefix_atoms.proofs.collect.add_source.Goals as goal
+
+pub loop-router-init : goal.loop-router-init
+loop-router-init g c = gains_nothing _
+
+pub loop-router-preserved : goal.loop-router-preserved
+loop-router-preserved g c =
+    source_gains (g.S.RouteSource.table c.args.source.now) c.loop-router.router c.table.result.now _ _ _ c.table.ensures
+    c.loop-router.invariant c.in_ok-add_table.ensures
+
+pub returns : goal.returns
+returns g c =
+    let all : c.loop-router.router ≡ g.S.RouteSource.routers c.args.source.now =
+    omega (arith, c.loop-router-test.false, c.loop-router.auto.router-end, c.routers-router-end.ensures.count) in
+    subst (λ (n : ℕ). GainsPrefixes c.args.prefixes.now.items c.loop-router.prefixes.items (source_prefixes (g.S.RouteSource.table c.args.source.now) n)) all
+    c.loop-router.invariant
