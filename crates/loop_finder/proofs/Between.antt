@@ -12,7 +12,7 @@ use Rattle.order_core.specs.declared.turn.Turn.{Turn}
 use Rattle.rib_mix.specs.Mixture.{Mixture}
 use Rattle.loop_finder.specs.Faults.{state_in}
 use Rattle.loop_finder.specs.ClassSteps.{Listing, ClassState, sample_of, ClassStep, MovesIn, Moves}
-use Rattle.loop_finder.specs.Verdicts.{IsTold, SoundAt, IsBetween, IsClearAt}
+use Rattle.loop_finder.specs.Verdicts.{IsClassVerdict, SoundAt, IsBetween, IsClearAt}
 use Rattle.loop_finder.specs.declared.fault.Fault.{Fault}
 
 -- where a router moves it has a step
@@ -61,7 +61,7 @@ moves_between old new c state u between moves must = elim (between u must.router
 
 -- where nothing is told of a class, every state between the two is sound for it
 pub clear_told : {O N : Type 0} (old : Listing O) (new : Listing N) (m : Mixture O N) (first last : List Phase) (atom : ℕ) (turns : List Turn) →
-    IsTold old new m first last atom None turns → (state : State)
+    IsClassVerdict old new m first last atom None turns → (state : State)
     → IsBetween (length m.net) first last state → SoundAt old new m state (sample_of m atom)
 clear_told {O} {N} old new m first last atom turns told state between = record {
   forwards = λ u must. moves_between old new c state u between (told.verdict.0 u) must;
@@ -74,7 +74,7 @@ clear_told {O} {N} old new m first last atom turns told state between = record {
 
 -- so where it answers none
 pub clear_where_told : {O N : Type 0} (old : Listing O) (new : Listing N) (m : Mixture O N) (first last : List Phase) (atom atom' : ℕ)
-    (result : Option Fault) (turns : List Turn) → atom' ≡ atom → IsTold old new m first last atom' result turns
+    (result : Option Fault) (turns : List Turn) → atom' ≡ atom → IsClassVerdict old new m first last atom' result turns
     → IfNone result (IsClearAt old new m first last atom)
 clear_where_told old new m first last atom atom' None turns same told = λ state between.
     subst (λ (a : ℕ). SoundAt old new m state (sample_of m a)) same (clear_told old new m first last atom' turns told state between)

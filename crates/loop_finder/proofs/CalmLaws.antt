@@ -13,9 +13,10 @@ use Rattle.igp_theory.specs.declared.phase.Phase.{Phase}
 use Rattle.igp_theory.specs.declared.phase.Phase.TheVariants.{Old, New}
 use Rattle.igp_theory.proofs.SameTables.{follows_over}
 use Rattle.rib_mix.specs.Mixture.{Mixture}
-use Rattle.loop_finder.specs.Calm.{WaveStep, IsCalmIn, IsCalmBefore, AreCalm, AreLowered}
+use Rattle.loop_finder.specs.Calm.{WaveStep, IsCalmBefore, IsUnstirred, AreCalm, AreLowered}
 use Rattle.loop_finder.specs.Faults.{state_in}
-use Rattle.loop_finder.specs.Parts.{ClassPart, IsPart, AreParts}
+use Rattle.loop_finder.specs.Parts.{ClassPart, AreSteppers, IsBareIn, IsPart, AreParts}
+use Rattle.loop_finder.specs.Returns.{NeverReturnsTo}
 use Rattle.loop_finder.specs.ClassSteps.{Listing, sample_of}
 use Rattle.loop_finder.specs.Verdicts.{SoundAt, Sound, SoundWave, SoundWavesBefore}
 use Rattle.loop_finder.specs.Watches.{IsIdle, ArePlacesOf}
@@ -43,18 +44,28 @@ calm_sooner part ranks w v most is = record {
   calm = λ x less. is.calm x (omega (arith, less, most));
 }
 
--- a wave more
-pub calm_more : (part : ClassPart) (ranks : List ℕ) (w : ℕ) → part.moves ≡ true → IsCalmBefore part ranks w → IsCalmIn part ranks w →
-    IsCalmBefore part ranks (w + 1)
-calm_more part ranks w moves is here = record {
-  moves = λ some. moves;
-  calm = below_more (IsCalmIn part ranks) w is.calm here;
-}
+-- a router without hops in a part steps in no wave
+bare_wave : (part : ClassPart) (ranks : List ℕ) (w u h : ℕ) → IsBareIn part.rows u → WaveStep part ranks w u h → ⊥
+bare_wave part ranks w u h bare (inl one) = bare Old h one.1
+bare_wave part ranks w u h bare (inr other) = bare New h other.1
 
--- a router that is idle in a part steps in no wave
-idle_wave : (part : ClassPart) (ranks : List ℕ) (w u h : ℕ) → IsIdle part u → WaveStep part ranks w u h → ⊥
-idle_wave part ranks w u h idle (inl one) = idle.bare Old h one.1
-idle_wave part ranks w u h idle (inr other) = idle.bare New h other.1
+-- a part is calm before a wave where it's calm before one, and no router that has hops stirs in the waves from that on
+pub calm_until : (part : ClassPart) (ranks steppers : List ℕ) (w v : ℕ) → part.moves ≡ true → length part.rows ≡ length ranks
+    → AreSteppers part.rows steppers → IsCalmBefore part ranks w → ((k : ℕ) → k < length steppers → IsUnstirred part ranks w v (get_or steppers k 0))
+    → IsCalmBefore part ranks v
+calm_until part ranks steppers w v moves many are is each = record {
+  moves = λ some. moves;
+  calm = λ x less u within same. elim (cases_lt x w) [
+    | inl before ↦ is.calm x before u within same
+    | inr after ↦ elim (are.whole u (omega (arith, within, many))) [
+      | inl among ↦
+          let at : get_or steppers among.0 0 ≡ u = get_or_default steppers among.0 0 u among.1 ∙ among.2 in
+          let never : IsUnstirred part ranks w v u = subst (λ (y : ℕ). IsUnstirred part ranks w v y) at (each among.0 among.1) in
+          subst (λ (y : ℕ). NeverReturnsTo (WaveStep part ranks y) u) same (never (omega (arith, same, after)) (omega (arith, same, less)))
+      | inr bare ↦ λ h hops follows. bare_wave part ranks x u h bare follows.0
+    ]
+  ];
+}
 
 other_rank : (ranks : List ℕ) (u rank v : ℕ) → (¬ (v ≡ u)) → rank_of (set ranks u rank) v ≡ rank_of ranks v
 other_rank ranks u rank v apart = get_or-set_other ranks u v rank 0 apart
@@ -64,7 +75,7 @@ calm_with_idle : (part : ClassPart) (ranks : List ℕ) (u rank w : ℕ) → IsId
 calm_with_idle part ranks u rank w idle is = record {
   moves = is.moves;
   calm = λ v less x within same h hops follows. elim (eqb_tells x u) [
-    | inl this ↦ idle_wave part (set ranks u rank) v u h idle (subst (λ (y : ℕ). WaveStep part (set ranks u rank) v y h) this.1 follows.0)
+    | inl this ↦ bare_wave part (set ranks u rank) v u h idle.bare (subst (λ (y : ℕ). WaveStep part (set ranks u rank) v y h) this.1 follows.0)
     | inr apart ↦
         is.calm v less x (omega (arith, within, length-set ranks u rank)) (sym (other_rank ranks u rank x apart.1) ∙ same) h hops
         (follows_over (λ y z steps. steps_before v y z steps) x (h ∷ hops) x follows)
@@ -73,7 +84,7 @@ calm_with_idle part ranks u rank w idle is = record {
   where
     steps_before : (v y z : ℕ) → WaveStep part (set ranks u rank) v y z → WaveStep part ranks v y z
     steps_before v y z steps = elim (eqb_tells y u) [
-      | inl this ↦ absurd (idle_wave part (set ranks u rank) v u z idle (subst (λ (x : ℕ). WaveStep part (set ranks u rank) v x z) this.1 steps))
+      | inl this ↦ absurd (bare_wave part (set ranks u rank) v u z idle.bare (subst (λ (x : ℕ). WaveStep part (set ranks u rank) v x z) this.1 steps))
       | inr apart ↦
           let as_was : rank_of (set ranks u rank) y ≡ rank_of ranks y = other_rank ranks u rank y apart.1 in
           elim steps [ inl one ↦ inl (omega (arith, one.0, as_was), one.1) | inr other ↦ inr (omega (arith, other.0, as_was), other.1) ]

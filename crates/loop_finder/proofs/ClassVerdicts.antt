@@ -15,7 +15,7 @@ use Rattle.order_core.specs.Marks.{IsMarked}
 use Rattle.order_core.specs.declared.turn.Turn.{Turn}
 use Rattle.rib_mix.specs.Mixture.{Mixture}
 use Rattle.loop_finder.specs.ClassSteps.{Listing, ClassState, sample_of, AreForwarders, ClassStep}
-use Rattle.loop_finder.specs.Verdicts.{IsTold}
+use Rattle.loop_finder.specs.Verdicts.{IsClassVerdict}
 
 -- an originated prefix is a block of addresses
 originated_block : (net : Network) (p : Block) → IsNetwork net → IsOriginated net p → IsBlock p
@@ -30,7 +30,7 @@ originated_block net p network o =
     subst (λ (s : Option Block). IfSome s IsBlock) o.subnet interface.prefix
 
 -- an address has one target
-one_target : (net : Network) (a : ℕ) (p q : Block) → IsNetwork net → IsTarget net a p → IsTarget net a q → p ≡ q
+pub one_target : (net : Network) (a : ℕ) (p q : Block) → IsNetwork net → IsTarget net a p → IsTarget net a q → p ≡ q
 one_target net a p q network one two =
     one_longest_match (IsOriginated net) a p q (originated_block net p network one.is_offered) (originated_block net q network two.is_offered) one two
 
@@ -45,7 +45,7 @@ forwarders_from net a p forwards network target exact u = (
 -- without a target nothing is passed on
 pub told_without : {O N : Type 0} (old : Listing O) (new : Listing N) (m : Mixture O N) (first last : List Phase) (atom : ℕ) (turns : List Turn) →
     HasTarget m.net (sample_of m atom) None
-    → IsTold old new m first last atom None turns
+    → IsClassVerdict old new m first last atom None turns
 told_without {O} {N} old new m first last atom turns none = record {
   forwards = [];
   verdict = (

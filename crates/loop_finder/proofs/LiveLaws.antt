@@ -4,8 +4,8 @@ use Rattle.std.proofs.lemmas.Bool.{false≢true, cases_lt}
 use Rattle.std.proofs.lemmas.List.{get_or_past, length-append}
 use Rattle.igp_theory.specs.Loops.{IsLive}
 use Rattle.igp_theory.specs.States.{Follows}
-use Rattle.order_core.specs.Marks.{IsMarked}
-use Rattle.loop_finder.specs.steps.Live.{marked_count, HasMarkedHop, ArePeeled}
+use Rattle.order_core.specs.Marks.{IsMarked, marked_count}
+use Rattle.loop_finder.specs.steps.Live.{HasMarkedHop, ArePeeled}
 use Rattle.loop_finder.specs.steps.Walks.{ReturnsNever}
 use Rattle.loop_finder.proofs.LowestSteps.{marked_cases}
 use Rattle.loop_finder.proofs.Peeling.{marked_count-set}

@@ -1,7 +1,8 @@
 -- The lowest-numbered marked hop, found in two lists.
 use Rattle.std.proofs.Common.{◌≡◌, ℕ, ◌≤◌, ◌↔◌, ◌⊎◌, Bool, List, Option, Some, None, Contains, min, arith, inl, inr, subst}
 use Rattle.std.proofs.lemmas.Bool.{cases_lt}
-use Rattle.loop_finder.specs.steps.Live.{LowestMarked, lower_of}
+use Rattle.net_model.specs.Links.{lower_of}
+use Rattle.loop_finder.specs.steps.Live.{LowestMarked}
 use Rattle.loop_finder.specs.steps.Walks.{IsMarkedHop, LowestMarkedHop}
 
 -- each of the hops is in one of two lists

@@ -1,6 +1,6 @@
 -- What follows where a test fails.
-use Rattle.std.proofs.Common.{◌≡◌, Bool, true, false, not}
-use Rattle.std.specs.Bool.{OnFalse, OnTrue}
+use Rattle.std.proofs.Common.{◌≡◌, ◌↔◌, Bool, true, false, not}
+use Rattle.std.specs.Bool.{IsTrue, OnFalse, OnTrue}
 
 pub on_false : {P Q : Type 0} (b : Bool) → OnFalse b P → (P → Q) → OnFalse b Q
 on_false true p over = tt
@@ -25,3 +25,10 @@ at_false false is p = p
 pub at_true : {P : Type 0} (b : Bool) → b ≡ true → OnTrue b P → P
 at_true true is p = p
 at_true false is p = cc
+
+pub on_true_three : {P Q R S : Type 0} (b : Bool) → OnTrue b P → OnTrue b Q → OnTrue b R → (P → Q → R → S) → OnTrue b S
+on_true_three true p q r over = over p q r
+on_true_three false p q r over = tt
+
+pub never_at_false : {P : Type 0} (b : Bool) → b ≡ false → IsTrue b ↔ P → ¬ P
+never_at_false b is both here = let told : b ≡ true = both.1 here in cc

@@ -15,7 +15,7 @@ use Rattle.order_core.specs.Marks.{IsMarked}
 use Rattle.prefix_atoms.specs.Classes.{HasTarget}
 use Rattle.rib_mix.specs.Mixture.{Mixture}
 use Rattle.loop_finder.specs.Faults.{state_in}
-use Rattle.loop_finder.specs.Parts.{PhaseHops, ClassPart, hops_of, no_hops, part_hops, HaveSameHops, StepsOf, StepsEver, HasStepOf, AllMove, IsPart, PartStep}
+use Rattle.loop_finder.specs.Parts.{PhaseHops, ClassPart, hops_of, no_hops, part_hops, StepsOf, StepsEver, HasStepOf, AllMove, IsPart, PartStep}
 use Rattle.loop_finder.specs.Parts.{NeverUnsound, SoundWith, DifferAt}
 use Rattle.loop_finder.specs.Returns.{NeverReturnsTo, MarksReturns}
 use Rattle.loop_finder.specs.ClassSteps.{Listing, ClassState, sample_of}
@@ -60,7 +60,7 @@ in_part old new m part state u h hops is follows =
 -- where two parts have the same hops, a state that is sound for the class of one is sound for that of the other
 pub sound_with : {O N : Type 0} (old : Listing O) (new : Listing N) (m : Mixture O N) (one other : ClassPart) → IsPart old new m one → IsPart old new m other →
     AllMove old new m other.atom
-    → HaveSameHops one other → SoundWith old new m one.atom other.atom
+    → ((u : ℕ) (phase : Phase) → part_hops one u phase ≡ part_hops other u phase) → SoundWith old new m one.atom other.atom
 sound_with old new m one other is_one is_other move same state sound = record {
   forwards = λ u must. all_move old new m other.atom state move u must;
   returns_never = λ u h hops follows. sound.returns_never u h hops (follows_over (λ x y among. step_of_one x y among) u (h ∷ hops) u

@@ -1,6 +1,5 @@
 -- What a list of parts tells of all classes.
-use Rattle.std.proofs.Common.{◌≡◌, ℕ, ◌+◌, ◌<◌, Bool, true, List, [], ◌∷◌, ◌++◌, length, get_or, Contains, inl, inr, arith, sym, ap, ◌∙◌, subst, below_more}
-use Rattle.std.specs.Bool.{OnTrue}
+use Rattle.std.proofs.Common.{◌≡◌, ℕ, ◌+◌, ◌<◌, Bool, true, List, [], ◌∷◌, ◌++◌, length, get_or, Contains, inl, inr, arith, refl, sym, ap, ◌∙◌, subst, below_more}
 use Rattle.std.specs.List.{AllPairs}
 use Rattle.std.proofs.lemmas.Bool.{cases_lt}
 use Rattle.std.proofs.lemmas.List.{get_or_default}
@@ -8,10 +7,13 @@ use Rattle.std.proofs.lemmas.List.Elements.{All-contains, All-push, Contains-app
 use Rattle.std.proofs.lemmas.List.Quantifiers.{all_pairs_push}
 use Rattle.igp_theory.specs.States.{State}
 use Rattle.rib_mix.specs.Mixture.{Mixture}
-use Rattle.loop_finder.specs.Parts.{ClassPart, AllMove, HasEarlierHops, IsPart, IsCovered, has_part, never_unsound, as_earlier, AreParts, SoundWith}
+use Rattle.loop_finder.specs.Parts.{ClassPart, AllMove, IsPart, IsCovered, has_part, never_unsound, as_earlier, AreParts, StepsEver}
+use Rattle.loop_finder.specs.Returns.{MarksReturns}
+use Rattle.loop_finder.specs.steps.PartRows.{HasEarlierRows}
 use Rattle.loop_finder.specs.ClassSteps.{Listing, sample_of}
 use Rattle.loop_finder.specs.Verdicts.{ClassesOf, SoundAt}
 use Rattle.loop_finder.proofs.PartLaws.{sound_with}
+use Rattle.loop_finder.proofs.PartRows.{part_made}
 
 -- What they tell
 
@@ -105,15 +107,15 @@ still_covered old new m parts more k (has_part is) =
 still_covered old new m parts more k (never_unsound never) = never_unsound never
 still_covered old new m parts more k (as_earlier part among before with) = as_earlier part (Contains-append_left parts (more ∷ []) part among) before with
 
--- a class whose part has the hops of an earlier one
-pub earlier_covers : {O N : Type 0} (old : Listing O) (new : Listing N) (m : Mixture O N) (parts : List ClassPart) (part : ClassPart) (n : ℕ) →
-    AreParts old new m parts n → IsPart old new m part
-    → part.atom ≡ n → part.moves ≡ true → HasEarlierHops parts part → IsCovered old new m parts n
-earlier_covers old new m parts part n are is atom moves has =
-    as_earlier has.earlier has.among (All-contains (λ (x : ClassPart). x.atom < n) parts has.earlier are.below has.among)
-    (subst (λ (k : ℕ). SoundWith old new m has.earlier.atom k) atom
-    (sound_with old new m has.earlier part (All-contains (IsPart old new m) parts has.earlier are.each has.among) is
-    (subst (λ (b : Bool). OnTrue b (AllMove old new m part.atom)) moves is.moves) has.same))
+-- a class of which an earlier one's part has the rows, where all its routers move
+pub earlier_covers : {O N : Type 0} (old : Listing O) (new : Listing N) (m : Mixture O N) (parts : List ClassPart) (n : ℕ) (marks : List Bool)
+    → AreParts old new m parts n → n < length m.classes.samples → length marks ≡ length m.net → MarksReturns (StepsEver old new m n) marks
+    → AllMove old new m n → HasEarlierRows old new m n marks parts → IsCovered old new m parts n
+earlier_covers old new m parts n marks are within many marked move has =
+    as_earlier has.earlier has.among (All-contains (λ x. x.atom < n) parts has.earlier are.below has.among)
+    (sound_with old new m has.earlier (record { atom = n; moves = true; rows = has.earlier.rows })
+    (All-contains (IsPart old new m) parts has.earlier are.each has.among)
+    (part_made old new m n marks true has.earlier.rows within many marked move has.rows) move (λ u phase. refl))
 
 -- the next class has one
 pub AreParts-push : {O N : Type 0} (old : Listing O) (new : Listing N) (m : Mixture O N) (parts : List ClassPart) (part : ClassPart) (n : ℕ) →

@@ -1,12 +1,15 @@
 -- How the part of a class is made of its rows.
-use Rattle.std.proofs.Common.{◌≡◌, ℕ, ◌+◌, ◌<◌, ◌↔◌, Bool, List, [], ◌∷◌, ◌++◌, length, get_or, Contains, inl, inr, arith, refl, sym, subst, below_more}
+use Rattle.std.proofs.Common.{◌≡◌, ℕ, ◌+◌, ◌<◌, ◌↔◌, ◌⊎◌, Bool, List, [], ◌∷◌, ◌++◌, length, get_or, Contains, inl, inr, arith, sym, subst, below_more}
 use Rattle.std.specs.Bool.{OnTrue}
 use Rattle.std.proofs.lemmas.Bool.{cases_lt}
 use Rattle.std.proofs.lemmas.List.{get_or_past, length_push}
-use Rattle.std.proofs.lemmas.List.Elements.{Contains-get_or}
+use Rattle.std.proofs.lemmas.List.Elements.{All-push, Contains-append_left, Contains-get_or, Contains-push}
 use Rattle.std.proofs.Math.ListN.{get_or-append}
 use Rattle.std.proofs.Math.Seq.{get_or-append_seam}
-use Rattle.igp_theory.specs.Forwarding.{MustForward}
+use Rattle.net_addr.specs.Addresses.{Block}
+use Rattle.net_model.specs.Network.{Connected}
+use Rattle.net_model.specs.Refusals.{IsNetwork}
+use Rattle.igp_theory.specs.Forwarding.{IsTarget, MustForward}
 use Rattle.igp_theory.specs.States.{Follows}
 use Rattle.igp_theory.specs.declared.phase.Phase.{Phase}
 use Rattle.igp_theory.specs.declared.phase.Phase.TheVariants.{Old, Middle, New}
@@ -14,14 +17,14 @@ use Rattle.igp_theory.proofs.LoopLaws.{old_or_new_step}
 use Rattle.igp_theory.proofs.SameTables.{follows_over}
 use Rattle.order_core.specs.Marks.{IsMarked}
 use Rattle.rib_mix.specs.Mixture.{Mixture}
-use Rattle.loop_finder.specs.steps.Ends.{EndHops, AreFirstHops, AreEnds, EndStep, EachMoves, AreClearEnds, hops_at}
+use Rattle.loop_finder.specs.steps.Ends.{AreFirstHops, EndStep, MovesAtEnds, hops_at}
 use Rattle.loop_finder.specs.steps.Making.{IsRead, AreSameEnds, ends_of}
 use Rattle.loop_finder.specs.steps.PartRows.{AreKept, IsRowOf, AreFirstRows}
-use Rattle.loop_finder.specs.Parts.{PhaseHops, hops_of, no_hops, StepsOf, StepsEver, HasStepOf, AllMove, IsPart, NeverUnsound}
+use Rattle.loop_finder.specs.Parts.{PhaseHops, hops_of, no_hops, StepsOf, StepsEver, HasStepOf, AllMove, IsPart, AreAllBut, AddsUnless}
 use Rattle.loop_finder.specs.Returns.{MarksReturns}
-use Rattle.loop_finder.specs.ClassSteps.{Listing, AreForwarders, sample_of}
+use Rattle.loop_finder.specs.ClassSteps.{Listing, sample_of}
 use Rattle.loop_finder.specs.declared.end_lists.EndLists.{EndLists}
-use Rattle.loop_finder.proofs.PartLaws.{never_unsound}
+use Rattle.loop_finder.proofs.ClassVerdicts.{one_target}
 use Rattle.loop_finder.proofs.Returning.{follows_on}
 
 -- Both ends
@@ -36,7 +39,8 @@ AreFirstHops-none old new m atom phase lists none = record {
 -- the hops of one router more
 pub AreFirstHops-more : {O N : Type 0} (old : Listing O) (new : Listing N) (m : Mixture O N) (atom : ℕ) (phase : Phase) (n : ℕ)
     (lists longer : List (List ℕ)) (hops : List ℕ) → longer ≡ lists ++ hops ∷ [] → AreFirstHops old new m atom phase n lists
-    → ((h : ℕ) → Contains hops h ↔ StepsOf old new m atom n phase h) → AreFirstHops old new m atom phase (n + 1) longer
+    → (MustForward m.net (sample_of m atom) n → (h : ℕ) → Contains hops h ↔ StepsOf old new m atom n phase h)
+    → AreFirstHops old new m atom phase (n + 1) longer
 AreFirstHops-more old new m atom phase n lists longer hops is are one =
     subst (λ (xs : List (List ℕ)). AreFirstHops old new m atom phase (n + 1) xs) (sym is) (record {
       many = omega (arith, length_push lists hops, are.many);
@@ -47,59 +51,45 @@ AreFirstHops-more old new m atom phase n lists longer hops is are one =
     })
   where
     Is : ℕ → List ℕ → Type 0
-    Is u xs = (h : ℕ) → Contains xs h ↔ StepsOf old new m atom u phase h
+    Is u xs = MustForward m.net (sample_of m atom) u → (h : ℕ) → Contains xs h ↔ StepsOf old new m atom u phase h
 
--- where each router that has to pass packets on moves in both ends, all move
-pub all_move_from : {O N : Type 0} (old : Listing O) (new : Listing N) (m : Mixture O N) (atom : ℕ) (e : EndHops) (forwards : List Bool)
-    → AreEnds old new m atom e → AreForwarders m.net (sample_of m atom) forwards → EachMoves e forwards → AllMove old new m atom
-all_move_from {O} {N} old new m atom e forwards ends are moves u must =
-    let both = moves u ((are u).1 must) in
-    (step Old e.olds ends.olds_are both.0, step New e.news ends.news_are both.1)
+-- what was read of a class is so where the same was read
+pub read_again : {O N : Type 0} (old : Listing O) (new : Listing N) (m : Mixture O N) (atom : ℕ) (one other : EndLists)
+    → IsRead old new m atom one → AreSameEnds one other → IsRead old new m atom other
+read_again old new m atom one other read same = record {
+  olds_are = subst (λ (xs : List (List ℕ)). AreFirstHops old new m atom Old (length m.net) xs) same.olds read.olds_are;
+  news_are = subst (λ (xs : List (List ℕ)). AreFirstHops old new m atom New (length m.net) xs) same.news read.news_are;
+}
+
+-- where each router that lacks a step in one end is one of the target's, all others move
+pub all_move_from : {O N : Type 0} (old : Listing O) (new : Listing N) (m : Mixture O N) (atom : ℕ) (p : Block) (lists : EndLists) (stuck : List ℕ)
+    → IsNetwork m.net → IsTarget m.net (sample_of m atom) p → IsRead old new m atom lists
+    → AreAllBut (MovesAtEnds (ends_of lists (length m.net))) (length m.net) stuck → ((u : ℕ) → Contains stuck u → Connected m.net u p)
+    → AllMove old new m atom
+all_move_from {O} {N} old new m atom p lists stuck network target read are here u must = elim (are.whole u must.router) [
+  | inl among ↦ absurd (must.away (subst (λ (q : Block). Connected m.net u q)
+      (one_target m.net (sample_of m atom) p must.target network target must.is_target) (here u among)))
+  | inr both ↦ (step Old lists.olds read.olds_are both.0, step New lists.news read.news_are both.1)
+]
   where
-    step : (phase : Phase) (lists : List (List ℕ)) → AreFirstHops old new m atom phase (length m.net) lists → 0 < length (hops_at lists u)
+    step : (phase : Phase) (hops : List (List ℕ)) → AreFirstHops old new m atom phase (length m.net) hops → 0 < length (hops_at hops u)
         → HasStepOf old new m atom u phase
-    step phase lists all some = record {
-      hop = get_or (hops_at lists u) 0 0;
-      steps = (all.each u must.router (get_or (hops_at lists u) 0 0)).0 (Contains-get_or (hops_at lists u) 0 0 some);
+    step phase hops all some = record {
+      hop = get_or (hops_at hops u) 0 0;
+      steps = (all.each u must.router must (get_or (hops_at hops u) 0 0)).0 (Contains-get_or (hops_at hops u) 0 0 some);
     }
 
--- a list of steps of both networks is one of what was read
-over_ends : {O N : Type 0} (old : Listing O) (new : Listing N) (m : Mixture O N) (atom : ℕ) (e : EndHops) (u : ℕ) (hops : List ℕ) (v : ℕ)
-    → AreEnds old new m atom e → Follows (StepsEver old new m atom) u hops v → Follows (EndStep e) u hops v
-over_ends old new m atom e u hops v ends follows = follows_over over u hops v follows
-  where
-    over : (x y : ℕ) → StepsEver old new m atom x y → EndStep e x y
-    over x y (inl one) = inl ((ends.olds_are.each x one.must.router y).1 one)
-    over x y (inr other) = inr ((ends.news_are.each x other.must.router y).1 other)
+-- a step of both networks is one of what was read
+over_read : {O N : Type 0} (old : Listing O) (new : Listing N) (m : Mixture O N) (atom : ℕ) (lists : EndLists) (x y : ℕ)
+    → IsRead old new m atom lists → StepsEver old new m atom x y → EndStep (ends_of lists (length m.net)) x y
+over_read old new m atom lists x y read (inl one) = inl ((read.olds_are.each x one.must.router one.must y).1 one)
+over_read old new m atom lists x y read (inr other) = inr ((read.news_are.each x other.must.router other.must y).1 other)
 
 -- the routers that are returned to in both ends
-pub returns_ever : {O N : Type 0} (old : Listing O) (new : Listing N) (m : Mixture O N) (atom : ℕ) (e : EndHops) (marks : List Bool)
-    → AreEnds old new m atom e → MarksReturns (EndStep e) marks → MarksReturns (StepsEver old new m atom) marks
-returns_ever old new m atom e marks ends returns u h hops follows = returns u h hops (over_ends old new m atom e u (h ∷ hops) u ends follows)
-
--- where all move and none is returned to, the ends are clear
-pub clear_from_marks : (e : EndHops) (forwards marks : List Bool) → EachMoves e forwards → MarksReturns (EndStep e) marks
-    → ((u : ℕ) → ¬ IsMarked marks u) → AreClearEnds e forwards
-clear_from_marks e forwards marks moves returns bare = record { moves = moves; never = λ u h hops follows. bare u (returns u h hops follows) }
-
--- so every state is sound
-pub clear_ends : {O N : Type 0} (old : Listing O) (new : Listing N) (m : Mixture O N) (atom : ℕ) (e : EndHops) (forwards : List Bool)
-    → AreEnds old new m atom e → AreForwarders m.net (sample_of m atom) forwards → AreClearEnds e forwards → NeverUnsound old new m atom
-clear_ends old new m atom e forwards ends are clear =
-    never_unsound old new m atom [] (all_move_from old new m atom e forwards ends are clear.moves)
-    (λ u h hops follows. absurd (clear.never u h hops (over_ends old new m atom e u (h ∷ hops) u ends follows))) (λ u marked. cc)
-
--- where the same was read of a class as of a clear one, every state is sound for it
-pub never_as_clear : {O N : Type 0} (old : Listing O) (new : Listing N) (m : Mixture O N) (atom : ℕ) (latest clear : EndLists)
-    → IsRead old new m atom latest → AreSameEnds latest clear → AreClearEnds (ends_of clear (length m.net)) clear.forwards.items
-    → NeverUnsound old new m atom
-never_as_clear old new m atom latest clear read same is =
-    clear_ends old new m atom (ends_of latest (length m.net)) latest.forwards.items
-    (record { routers_many = refl; olds_are = read.olds_are; news_are = read.news_are }) read.forwarders
-    (subst (λ (xs : List (List ℕ)). AreClearEnds (record { olds = xs; news = latest.news; routers = length m.net }) latest.forwards.items)
-    (sym same.olds)
-    (subst (λ (xs : List (List ℕ)). AreClearEnds (record { olds = clear.olds; news = xs; routers = length m.net }) latest.forwards.items)
-    (sym same.news) (subst (λ (fs : List Bool). AreClearEnds (ends_of clear (length m.net)) fs) (sym same.forwards) is)))
+pub returns_ever : {O N : Type 0} (old : Listing O) (new : Listing N) (m : Mixture O N) (atom : ℕ) (lists : EndLists) (marks : List Bool)
+    → IsRead old new m atom lists → MarksReturns (EndStep (ends_of lists (length m.net))) marks → MarksReturns (StepsEver old new m atom) marks
+returns_ever old new m atom lists marks read returns u h hops follows =
+    returns u h hops (follows_over (λ x y steps. over_read old new m atom lists x y read steps) u (h ∷ hops) u follows)
 
 -- Rows
 
@@ -131,13 +121,13 @@ none_among Old h among = omega (arith, among.1)
 none_among Middle h among = omega (arith, among.1)
 none_among New h among = omega (arith, among.1)
 
--- a router without mark has none
+-- a router without mark may have none
 pub row_unmarked : {O N : Type 0} (old : Listing O) (new : Listing N) (m : Mixture O N) (atom : ℕ) (marks : List Bool) (u : ℕ)
-    (row : PhaseHops) → row ≡ no_hops → (¬ IsMarked marks u) → IsRowOf old new m atom marks u row
-row_unmarked old new m atom marks u row none bare = subst (λ (x : PhaseHops). IsRowOf old new m atom marks u x) (sym none) (record {
-  steps = λ phase h among. absurd (none_among phase h among);
+    (row : PhaseHops) → ((phase : Phase) (h : ℕ) → ¬ Contains (hops_of row phase) h) → (¬ IsMarked marks u) → IsRowOf old new m atom marks u row
+row_unmarked old new m atom marks u row none bare = record {
+  steps = λ phase h among. absurd (none phase h among);
   all = λ phase h steps here there. absurd (bare here);
-})
+}
 
 pub AreFirstRows-none : {O N : Type 0} (old : Listing O) (new : Listing N) (m : Mixture O N) (atom : ℕ) (marks : List Bool)
     (rows : List PhaseHops) → length rows ≡ 0 → AreFirstRows old new m atom marks 0 rows
@@ -191,3 +181,24 @@ part_made {O} {N} old new m atom marks moves rows within many marked move are = 
         let next = follows_on (StepsEver old new m atom) u h hops (ever u h phase steps_on) follows in
         let there : IsMarked marks h = marked h next.first next.rest next.follows in
         (are.each u (omega (arith, many, steps_on.must.router))).all phase h steps_on here there
+
+-- Which routers are listed
+
+pub AreAllBut-none : (Is : ℕ → Type 0) (routers : List ℕ) → routers ≡ [] → AreAllBut Is 0 routers
+AreAllBut-none Is routers none = subst (λ (xs : List ℕ). AreAllBut Is 0 xs) (sym none) (record {
+  below = λ k d within. absurd (omega (arith, within));
+  whole = λ u below. absurd (omega (arith, below));
+})
+
+-- the next router
+pub AreAllBut-more : (Is : ℕ → Type 0) (n : ℕ) (old new : List ℕ) → AreAllBut Is n old → AddsUnless (Is n) n old new → AreAllBut Is (n + 1) new
+AreAllBut-more Is n old new are (inl added) = subst (λ (xs : List ℕ). AreAllBut Is (n + 1) xs) (sym added) (record {
+  below = All-push (λ (u : ℕ). u < n + 1) old n (λ k d inside. let less : get_or old k d < n = are.below k d inside in omega (arith, less)) (omega arith);
+  whole = below_more (λ (u : ℕ). Contains (old ++ n ∷ []) u ⊎ Is u) n
+      (λ u below. elim (are.whole u below) [ inl among ↦ inl (Contains-append_left old (n ∷ []) u among) | inr is ↦ inr is ])
+      (inl (Contains-push old n));
+})
+AreAllBut-more Is n old new are (inr none) = subst (λ (xs : List ℕ). AreAllBut Is (n + 1) xs) (sym none.0) (record {
+  below = λ k d inside. let less : get_or old k d < n = are.below k d inside in omega (arith, less);
+  whole = below_more (λ (u : ℕ). Contains old u ⊎ Is u) n are.whole (inr none.1);
+})

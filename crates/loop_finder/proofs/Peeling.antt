@@ -7,8 +7,8 @@ use Rattle.std.proofs.lemmas.Bool.{false≢true, cases_lt}
 use Rattle.std.proofs.lemmas.Bool.Decides.{eqb_tells}
 use Rattle.std.specs.Bool.{OnFalse, OnTrue}
 use Rattle.igp_theory.specs.States.{Follows}
-use Rattle.order_core.specs.Marks.{IsMarked}
-use Rattle.loop_finder.specs.steps.Live.{marked_count, HasMarkedHop, AreBounded}
+use Rattle.order_core.specs.Marks.{IsMarked, marked_count}
+use Rattle.loop_finder.specs.steps.Live.{HasMarkedHop, AreBounded}
 
 -- a mark that is there stays where another is taken
 marked_before : (marks : List Bool) (u r : ℕ) → u < length marks → IsMarked (set marks u false) r → IsMarked marks r

@@ -8,8 +8,7 @@ use Rattle.std.proofs.Math.ListN.{get_or-append}
 use Rattle.std.proofs.lemmas.List.Elements.{All-nil, All-push, Contains-append_left, Contains-push}
 use Rattle.std.proofs.lemmas.List.Sums.{sum_by-set, count_by-le-length}
 use Rattle.igp_theory.specs.States.{Follows}
-use Rattle.order_core.specs.Marks.{IsMarked}
-use Rattle.loop_finder.specs.steps.Live.{marked_count}
+use Rattle.order_core.specs.Marks.{IsMarked, marked_count}
 use Rattle.loop_finder.specs.Returns.{NeverReturnsTo, AreReached, ReachesMore}
 
 -- where no router is marked, none is counted

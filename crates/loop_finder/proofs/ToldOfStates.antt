@@ -9,7 +9,7 @@ use Rattle.order_core.specs.declared.turn.Turn.{Turn}
 use Rattle.rib_mix.specs.Mixture.{Mixture}
 use Rattle.loop_finder.specs.Faults.{state_in}
 use Rattle.loop_finder.specs.ClassSteps.{Listing, ClassState, sample_of, ClassStep, IsStuckIn}
-use Rattle.loop_finder.specs.Verdicts.{Verdict, IsTold, Told, ClassesOf, SoundAt, SoundBelow, Sound, Faulty}
+use Rattle.loop_finder.specs.Verdicts.{Verdict, IsClassVerdict, Told, ClassesOf, SoundAt, SoundBelow, Sound, Faulty}
 use Rattle.loop_finder.specs.declared.fault.Fault.{Fault}
 use Rattle.loop_finder.specs.declared.fault.Fault.TheVariants.{Loop, Missing}
 use Rattle.loop_finder.proofs.Between.{has_step, between_itself}
@@ -45,7 +45,7 @@ fault_from {O} {N} old new m phases forwards atom turns (Missing a u) address be
 -- the fault that is told of a class is that of a state which is sound for the classes before it
 pub faulty_at : {O N : Type 0} (old : Listing O) (new : Listing N) (m : Mixture O N) (phases : List Phase) (atom : ℕ) (turns : List Turn) (fault : Fault) →
     ClassesOf old new m → atom < length m.classes.samples
-    → ((k : ℕ) → k < atom → SoundAt old new m (state_in phases) (sample_of m k)) → IsTold old new m phases phases atom (Some fault) turns →
+    → ((k : ℕ) → k < atom → SoundAt old new m (state_in phases) (sample_of m k)) → IsClassVerdict old new m phases phases atom (Some fault) turns →
     Faulty old new m (state_in phases) fault turns
 faulty_at old new m phases atom turns fault are within before told =
     fault_from old new m phases told.forwards atom turns fault (sample_in m.classes atom are within).address

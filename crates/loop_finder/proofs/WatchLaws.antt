@@ -15,7 +15,7 @@ use Rattle.loop_finder.specs.Faults.{state_in}
 use Rattle.loop_finder.specs.Parts.{PhaseHops, ClassPart, hops_of, no_hops, PartStep, IsPart, AreParts, DifferAt}
 use Rattle.loop_finder.specs.Returns.{NeverReturnsTo}
 use Rattle.loop_finder.specs.ClassSteps.{Listing, sample_of}
-use Rattle.loop_finder.specs.Verdicts.{SoundAt, Sound, IsTold, Faulty}
+use Rattle.loop_finder.specs.Verdicts.{SoundAt, Sound, IsClassVerdict, Faulty}
 use Rattle.loop_finder.specs.Watches.{IsIdle, AreFirstPlaces, ArePlacesOf, AddsPlace, IsWatch, StaysSoundAt, StaysSound, TurnsFaulty}
 use Rattle.loop_finder.specs.declared.fault.Fault.{Fault}
 use Rattle.loop_finder.proofs.Between.{between_itself, clear_told}
@@ -101,7 +101,7 @@ stays_where_never old new m part phases u is moves never before differ sound =
 -- so it does where no fault of the class is told
 pub stays_where_told : {O N : Type 0} (old : Listing O) (new : Listing N) (m : Mixture O N) (phases : List Phase) (u atom a : ℕ) (result : Option Fault)
     (turns : List Turn) → a ≡ atom
-    → IsTold old new m phases phases a result turns → IfNone result (StaysSoundAt old new m phases u atom)
+    → IsClassVerdict old new m phases phases a result turns → IfNone result (StaysSoundAt old new m phases u atom)
 stays_where_told old new m phases u atom a None turns is told = λ before differ sound.
     subst (λ (x : ℕ). SoundAt old new m (state_in phases) (sample_of m x)) is
     (clear_told old new m phases phases a turns told (state_in phases) (between_itself (length m.net) phases))
@@ -165,7 +165,7 @@ stands_before places u i q parts placed within less among = elim (cases_lt among
 pub turns_faulty_at : {O N : Type 0} (old : Listing O) (new : Listing N) (m : Mixture O N) (parts : List ClassPart) (places : List ℕ) (phases : List Phase)
     (u i : ℕ) (part : ClassPart) (fault : Fault) (turns : List Turn)
     → AreParts old new m parts (length m.classes.samples) → ArePlacesOf parts u places → i < length places → part ≡ get_or parts (get_or places i 0) part
-    → StayFirst old new m parts places phases u i → IsTold old new m phases phases part.atom (Some fault) turns → TurnsFaulty old new m phases u fault turns
+    → StayFirst old new m parts places phases u i → IsClassVerdict old new m phases phases part.atom (Some fault) turns → TurnsFaulty old new m phases u fault turns
 turns_faulty_at old new m parts places phases u i part fault turns are placed within at stays told before differ sound =
     let there : get_or places i 0 < length parts = placed.below i 0 within in
     let is : IsPart old new m part = subst (λ (x : ClassPart). IsPart old new m x) (sym at) (are.each (get_or places i 0) part there) in

@@ -20,6 +20,10 @@ pub record IsCalmBefore (part : ClassPart) (ranks : List ℕ) (w : ℕ) : Type 0
   pub moves : 0 < w → part.moves ≡ true
   pub calm : (v : ℕ) → v < w → IsCalmIn part ranks v
 
+-- where the wave of router u is from wave w on and before wave v, no walk over the steps of its wave returns to it
+abbrev pub IsUnstirred : ClassPart → List ℕ → ℕ → ℕ → ℕ → Type 0
+IsUnstirred part ranks w v u = w ≤ rank_of ranks u → rank_of ranks u < v → NeverReturnsTo (WaveStep part ranks (rank_of ranks u)) u
+
 -- for each part such a wave
 pub record AreCalm (parts : List ClassPart) (ranks calm : List ℕ) : Type 0 where
   pub many : length calm ≡ length parts

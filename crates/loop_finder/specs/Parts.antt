@@ -1,5 +1,5 @@
 -- The parts of classes that loops can take, and how they tell of all classes.
-use Rattle.std.specs.Prelude.{◌≡◌, ℕ, ◌<◌, ◌⊎◌, Bool, List, [], length, slice_index_or, Option, Some, None, All, AllPairs, Contains}
+use Rattle.std.specs.Prelude.{◌≡◌, ℕ, ◌<◌, ◌⊎◌, Bool, List, [], ◌∷◌, ◌++◌, length, slice_index_or, All, AllPairs, Contains}
 use Rattle.std.specs.Bool.{OnTrue}
 use Rattle.route_core.specs.Tables.{HasEntry}
 use Rattle.igp_theory.specs.Forwarding.{MustForward, Steps, HasStep}
@@ -8,7 +8,7 @@ use Rattle.igp_theory.specs.declared.phase.Phase.{Phase}
 use Rattle.igp_theory.specs.declared.phase.Phase.TheVariants.{Old, Middle, New}
 use Rattle.rib_mix.specs.Mixture.{Mixture}
 use Rattle.loop_finder.specs.Faults.{state_in}
-use Rattle.loop_finder.specs.ClassSteps.{Listing, ClassState, sample_of}
+use Rattle.loop_finder.specs.ClassSteps.{Listing, sample_of}
 use Rattle.loop_finder.specs.Verdicts.{ClassesOf, SoundAt}
 
 -- Parts
@@ -37,15 +37,22 @@ pub record ClassPart : Type 0 where
 abbrev pub part_hops : ClassPart → ℕ → Phase → List ℕ
 part_hops part u phase = hops_of (slice_index_or part.rows u no_hops) phase
 
--- two parts have the same hops
-abbrev pub HaveSameHops : ClassPart → ClassPart → Type 0
-HaveSameHops part other = (u : ℕ) (phase : Phase) → part_hops part u phase ≡ part_hops other u phase
+-- router u has no hops by some rows
+abbrev pub IsBareIn : List PhaseHops → ℕ → Type 0
+IsBareIn rows u = (phase : Phase) (h : ℕ) → ¬ Contains (hops_of (slice_index_or rows u no_hops) phase) h
 
--- one of some parts has the hops of another
-pub record HasEarlierHops (parts : List ClassPart) (part : ClassPart) : Type 0 where
-  pub earlier : ClassPart
-  pub among : Contains parts earlier
-  pub same : HaveSameHops earlier part
+-- some of the first n routers, with all for which something doesn't hold
+pub record AreAllBut (Is : ℕ → Type 0) (n : ℕ) (routers : List ℕ) : Type 0 where
+  pub below : All (λ u. u < n) routers
+  pub whole : (u : ℕ) → u < n → Contains routers u ⊎ Is u
+
+-- a router is added at the end, or something holds
+abbrev pub AddsUnless : Type 0 → ℕ → List ℕ → List ℕ → Type 0
+AddsUnless Holds u old new = (new ≡ old ++ u ∷ []) ⊎ ((new ≡ old) × Holds)
+
+-- the routers that have hops by some rows
+abbrev pub AreSteppers : List PhaseHops → List ℕ → Type 0
+AreSteppers rows routers = AreAllBut (IsBareIn rows) (length rows) routers
 
 -- a router steps to another in a phase, for the addresses of a class
 abbrev pub StepsOf : {O N : Type 0} → Listing O → Listing N → Mixture O N → ℕ → ℕ → Phase → ℕ → Type 0
@@ -99,11 +106,6 @@ NeverUnsound old new m atom = (state : State) → SoundAt old new m state (sampl
 -- a state that is sound for class j is sound for class k
 abbrev pub SoundWith : {O N : Type 0} → Listing O → Listing N → Mixture O N → ℕ → ℕ → Type 0
 SoundWith old new m j k = (state : State) → SoundAt old new m state (sample_of m j) → SoundAt old new m state (sample_of m k)
-
--- what is found for a class: its part, or that every state is sound for it
-abbrev pub HasPart : {O N : Type 0} → Listing O → Listing N → Mixture O N → ℕ → Option ClassPart → Type 0
-HasPart old new m atom None = NeverUnsound old new m atom
-HasPart old new m atom (Some part) = IsPart old new m part × (part.atom ≡ atom)
 
 -- a class has one of some parts
 pub record IsOneOf (parts : List ClassPart) (k : ℕ) : Type 0 where

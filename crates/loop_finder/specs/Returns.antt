@@ -1,8 +1,7 @@
 -- Lists of steps that return to their first router, and which routers they pass.
 use Rattle.std.specs.Prelude.{◌≡◌, ℕ, ◌<◌, Bool, List, ◌∷◌, ◌++◌, length, slice_index_or, All, Contains}
 use Rattle.igp_theory.specs.States.{Follows}
-use Rattle.order_core.specs.Marks.{IsMarked}
-use Rattle.loop_finder.specs.steps.Live.{marked_count}
+use Rattle.order_core.specs.Marks.{IsMarked, marked_count}
 
 -- no non-empty list of steps from router u returns to it
 abbrev pub NeverReturnsTo : (ℕ → ℕ → Type 0) → ℕ → Type 0
@@ -17,8 +16,8 @@ abbrev pub layer_in : List ℕ → ℕ → ℕ
 layer_in layers u = slice_index_or layers u 0
 
 -- a layer is above those of some routers
-abbrev pub IsAbove : List ℕ → List ℕ → ℕ → Type 0
-IsAbove layers routers layer = (h : ℕ) → Contains routers h → layer_in layers h < layer
+abbrev pub IsLayerAbove : List ℕ → List ℕ → ℕ → Type 0
+IsLayerAbove layers routers layer = (h : ℕ) → Contains routers h → layer_in layers h < layer
 
 -- what is kept of the routers that steps from the goal have reached: each is marked and listed once, and the
 -- goal isn't reached again

@@ -33,7 +33,7 @@ Verdict old new c (Some (Loop a)) turns = IsClassLoop old new c a turns
 Verdict old new c (Some (Missing a u)) turns = (a ≡ sample_of c.mixture c.atom) × FirstStuck old new c (Some u)
 
 -- what is told of the class with this number, whichever routers have to pass packets on
-pub record IsTold {O N : Type 0} (old : Listing O) (new : Listing N) (m : Mixture O N) (first last : List Phase) (atom : ℕ) (result : Option Fault)
+pub record IsClassVerdict {O N : Type 0} (old : Listing O) (new : Listing N) (m : Mixture O N) (first last : List Phase) (atom : ℕ) (result : Option Fault)
     (turns : List Turn) : Type 0 where
   pub forwards : List Bool
   pub verdict : Verdict old new (record { mixture = m; first = first; last = last; forwards = forwards; atom = atom }) result turns
@@ -71,7 +71,7 @@ pub record IsFirstTold {O N : Type 0} (old : Listing O) (new : Listing N) (m : M
   pub atom : ℕ
   pub within : atom < length m.classes.samples
   pub before : AreClear old new m first last atom
-  pub here : IsTold old new m first last atom (Some fault) turns
+  pub here : IsClassVerdict old new m first last atom (Some fault) turns
 
 -- what is told of all classes
 abbrev pub Told : {O N : Type 0} → Listing O → Listing N → Mixture O N → List Phase → List Phase → Option Fault → List Turn → Type 0

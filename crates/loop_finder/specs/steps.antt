@@ -5,3 +5,4 @@ pub mod PartRows
 pub mod Ends
 pub mod Making
 pub mod WaveStarts
+pub mod Targets

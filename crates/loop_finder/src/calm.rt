@@ -1,7 +1,7 @@
 ghost use Rattle.std.specs.Prelude.{◌≡◌, ◌<◌, ◌≤◌, ◌↔◌, ℕ, List, All, Contains, IfOk, length, slice_index, slice_set};
 ghost use Rattle.std.specs.Bool.{OnFalse};
 ghost use Rattle.order_core.specs.Rankings.{rank_of};
-ghost use Rattle.loop_finder.specs.Calm.{AreCalm, AreLowered, IsCalmBefore, IsCalmIn, WaveStep};
+ghost use Rattle.loop_finder.specs.Calm.{AreCalm, AreLowered, IsCalmBefore, IsUnstirred, WaveStep};
 ghost use Rattle.loop_finder.specs.Parts.{part_hops};
 ghost use Rattle.loop_finder.specs.Returns.{NeverReturnsTo};
 ghost use Rattle.loop_finder.specs.Rooms.{HasRoom};
@@ -209,29 +209,42 @@ fn calm_from(part: &Part, routers: u32, ranks: &[u32], known: u32, room: &mut Ro
     if !part.moves() {
         return known;
     }
-    for wave in known..routers {
-        if stirs_in(part, routers, ranks, wave, room) {
-            return wave;
-        }
+    let mut first = routers;
+    let steppers = part.steppers();
+    for router in steppers {
+        first = earlier_stirred(part, routers, ranks, known, *router, first, room);
     }
-    routers
+    first
 }
 
-/// Whether a walk over the steps of a part in a wave returns to a router of the wave.
-fn stirs_in(part: &Part, routers: u32, ranks: &[u32], wave: u32, room: &mut Room) -> bool
+/// The wave of a router where it's an earlier one than a wave, isn't known to be calm, and a walk over the part's steps in
+/// it returns to the router; else that wave.
+fn earlier_stirred(
+    part: &Part,
+    routers: u32,
+    ranks: &[u32],
+    known: u32,
+    router: u32,
+    wave: u32,
+    room: &mut Room,
+) -> u32
     requires rows { length part.now.rows ≡ routers }
     requires ranks { length ranks.now ≡ routers }
+    requires router { router < routers }
     requires room { HasRoom routers room.old }
-    ensures calm { OnFalse result (IsCalmIn part.now ranks.now wave) }
+    ensures most { result ≤ wave }
+    ensures never { IsUnstirred part.now ranks.now known result router }
     ensures room { HasRoom routers room.new }
     ensures ring { room.new.ring.items ≡ room.old.ring.items }
 {
-    for router in 0..routers {
-        if ranks[router as usize] == wave && returns_in(part, routers, ranks, router, wave, room) {
-            return true;
-        }
+    let rank = ranks[router as usize];
+    if rank < known || wave <= rank {
+        return wave;
     }
-    false
+    if returns_in(part, routers, ranks, router, rank, room) {
+        return rank;
+    }
+    wave
 }
 
 /// Whether a walk over the steps of a part in a wave returns to a router.

@@ -2,7 +2,7 @@ ghost use Rattle.std.specs.Prelude.{◌≡◌, ◌<◌, IfNone, IfSome, Some, le
 ghost use Rattle.loop_finder.specs.Faults.{KeepsRing};
 ghost use Rattle.loop_finder.specs.Parts.{AreParts, IsPart};
 ghost use Rattle.loop_finder.specs.Rooms.{HasRoom};
-ghost use Rattle.loop_finder.specs.Verdicts.{IsTold};
+ghost use Rattle.loop_finder.specs.Verdicts.{IsClassVerdict};
 ghost use Rattle.loop_finder.specs.Watches.{ArePlacesOf, StaysSound, StaysSoundAt, TurnsFaulty};
 
 use crate::class_fault::class_fault;
@@ -55,7 +55,7 @@ fn part_fault<O: RouteSource, N: RouteSource>(
     requires room { HasRoom (length mixed.now.net) room.old }
     ensures room { HasRoom (length mixed.now.net) room.new }
     ensures sound { IfNone result (StaysSoundAt O.table N.table mixed.now phases.now router part.now.atom) }
-    ensures told { IfSome result (λ fault. IsTold O.table N.table mixed.now phases.now phases.now part.now.atom (Some fault) room.new.ring.items) }
+    ensures told { IfSome result (λ fault. IsClassVerdict O.table N.table mixed.now phases.now phases.now part.now.atom (Some fault) room.new.ring.items) }
     ensures ring { KeepsRing result room.old.ring.items room.new.ring.items }
 {
     if passes_part_never(part, phases, phases, router, mixed.net().routers(), room) {

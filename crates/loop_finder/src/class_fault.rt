@@ -7,7 +7,7 @@ ghost use Rattle.order_core.specs.Marks.{IsMarked};
 ghost use Rattle.loop_finder.specs.Faults.{KeepsRing};
 ghost use Rattle.loop_finder.specs.Rooms.{HasRoom};
 ghost use Rattle.loop_finder.specs.ClassSteps.{AreForwarders, sample_of};
-ghost use Rattle.loop_finder.specs.Verdicts.{IsTold, Verdict};
+ghost use Rattle.loop_finder.specs.Verdicts.{IsClassVerdict, Verdict};
 
 use crate::class_steps::ClassSteps;
 use crate::fault::Fault;
@@ -32,7 +32,7 @@ pub fn class_fault<O: RouteSource, N: RouteSource>(
     requires last { length last.now ≡ length mixed.now.net }
     requires room { HasRoom (length mixed.now.net) room.old }
     ensures room { HasRoom (length mixed.now.net) room.new }
-    ensures told { IsTold O.table N.table mixed.now first.now last.now atom result room.new.ring.items }
+    ensures told { IsClassVerdict O.table N.table mixed.now first.now last.now atom result room.new.ring.items }
     ensures ring { KeepsRing result room.old.ring.items room.new.ring.items }
 {
     if !mark_class(mixed, atom, &mut room.forwards) {
@@ -48,8 +48,20 @@ pub fn class_fault<O: RouteSource, N: RouteSource>(
     )
 }
 
+/// The target of a class, none where its addresses have none.
+pub fn class_target<O: RouteSource, N: RouteSource>(
+    mixed: &Mixed<'_, O, N>,
+    atom: u32,
+) -> Option<Prefix>
+    requires atom { atom < length mixed.now.classes.samples }
+    ensures target { HasTarget mixed.now.net (sample_of mixed.now atom) result }
+    ensures address { sample_of mixed.now atom < 2 ^ 32 }
+{
+    mixed.atoms().target(atom)
+}
+
 /// Marks the routers that have to pass packets for a class on; false where its addresses have no target.
-pub fn mark_class<O: RouteSource, N: RouteSource>(
+fn mark_class<O: RouteSource, N: RouteSource>(
     mixed: &Mixed<'_, O, N>,
     atom: u32,
     forwards: &mut [bool],
@@ -60,7 +72,7 @@ pub fn mark_class<O: RouteSource, N: RouteSource>(
     ensures none { OnFalse result (HasTarget mixed.now.net (sample_of mixed.now atom) None) }
     ensures address { sample_of mixed.now atom < 2 ^ 32 }
 {
-    match mixed.atoms().target(atom) {
+    match class_target(mixed, atom) {
         Some(target) => {
             let routers = mixed.net().routers();
             mark_forwarders(mixed, routers, target, forwards);

@@ -2,7 +2,7 @@ ghost use Rattle.std.specs.Prelude.{◌≡◌, IfNone, IfSome, Some, length};
 ghost use Rattle.loop_finder.specs.Faults.{KeepsRing};
 ghost use Rattle.loop_finder.specs.Parts.{AreParts, IsPart};
 ghost use Rattle.loop_finder.specs.Rooms.{HasRoom};
-ghost use Rattle.loop_finder.specs.Verdicts.{IsClearAt, IsTold, Told};
+ghost use Rattle.loop_finder.specs.Verdicts.{IsClearAt, IsClassVerdict, Told};
 
 use crate::class_fault::class_fault;
 use crate::fault::Fault;
@@ -51,7 +51,7 @@ fn fault_in<O: RouteSource, N: RouteSource>(
     requires room { HasRoom (length mixed.now.net) room.old }
     ensures room { HasRoom (length mixed.now.net) room.new }
     ensures clear { IfNone result (IsClearAt O.table N.table mixed.now first.now last.now part.now.atom) }
-    ensures told { IfSome result (λ fault. IsTold O.table N.table mixed.now first.now last.now part.now.atom (Some fault) room.new.ring.items) }
+    ensures told { IfSome result (λ fault. IsClassVerdict O.table N.table mixed.now first.now last.now part.now.atom (Some fault) room.new.ring.items) }
     ensures ring { KeepsRing result room.old.ring.items room.new.ring.items }
 {
     if is_clear(part, first, last, mixed.net().routers(), room) {

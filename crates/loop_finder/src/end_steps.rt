@@ -1,9 +1,11 @@
-ghost use Rattle.std.specs.Prelude.{◌≡◌, length};
+ghost use Rattle.std.specs.Prelude.{◌≡◌, OnOk, length};
 ghost use Rattle.std.specs.Bool.{OnTrue};
-ghost use Rattle.loop_finder.specs.steps.Ends.{EachMoves, MovesAtEnds};
+ghost use Rattle.loop_finder.specs.steps.Ends.{MovesAtEnds};
+ghost use Rattle.loop_finder.specs.Parts.{AddsUnless, AreAllBut};
 
 use crate::graph::StepGraph;
 use crate::hop_lists::HopLists;
+use rib_mix::OutOfMemory;
 use std::marker::Model;
 
 /// The steps of both networks for the addresses of one class: each router has the hops of Old and those of New.
@@ -38,16 +40,26 @@ impl<'s, 'm> EndSteps<'s, 'm> {
         }
     }
 
-    /// Whether each of some routers has a step in both networks.
-    pub fn each_moves(&self, forwards: &[bool]) -> bool
-        ensures { OnTrue result (EachMoves self.now forwards.now) }
+    /// Finds the routers that lack a step in one of both networks.
+    pub fn find_stuck(&self, stuck: &mut Vec<u32>) -> Result<(), OutOfMemory>
+        ensures { OnOk result (AreAllBut (MovesAtEnds self.now) self.now.routers stuck.new.items) }
     {
-        for (router, must) in forwards.iter().enumerate() {
-            if *must && !self.moves(router) {
-                return false;
-            }
+        stuck.clear();
+        for router in 0..self.routers {
+            self.add_stuck(router, stuck)?;
         }
-        true
+        Ok(())
+    }
+
+    /// Adds a router that lacks a step in one of both networks.
+    fn add_stuck(&self, router: u32, stuck: &mut Vec<u32>) -> Result<(), OutOfMemory>
+        ensures { OnOk result (AddsUnless (MovesAtEnds self.now router) router stuck.old.items stuck.new.items) }
+    {
+        if self.moves(router as usize) {
+            return Ok(());
+        }
+        stuck.push(router)?;
+        Ok(())
     }
 
     /// Whether a router has a step in both networks.

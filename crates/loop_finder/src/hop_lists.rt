@@ -78,7 +78,7 @@ impl<'m> HopLists<'m> {
 }
 
 /// Whether two lists of routers are the same.
-pub fn are_same(one: &[u32], other: &[u32]) -> bool
+fn are_same(one: &[u32], other: &[u32]) -> bool
     ensures { OnTrue result (one.now ≡ other.now) }
 {
     one == other

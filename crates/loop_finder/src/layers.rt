@@ -1,7 +1,3 @@
-ghost use Rattle.std.specs.Prelude.{◌≡◌, ◌<◌, ◌≤◌, ℕ, Contains, length};
-ghost use Rattle.std.specs.Bool.{OnFalse, OnTrue};
-ghost use Rattle.loop_finder.specs.Returns.{IsAbove, MarksReturns, layer_in};
-
 use crate::graph::StepGraph;
 use rib_mix::OutOfMemory;
 use std::alloc::Global;
@@ -10,14 +6,72 @@ use std::alloc::Global;
 ///
 /// A walk that returns stays in one layer, so a router from which every step leads to a lower layer is on none.
 /// Which numbers are chosen decides only how many routers that tells of.
+///
+/// They are chosen by one search through the steps, depth first (R. Tarjan, SIAM Journal on Computing 1 (1972), 146): each
+/// strongly connected part gets a layer, above those of all parts to which steps lead from it.
 #[derive(Drop)]
 pub struct Layers {
     /// The layer of each router.
     numbers: Vec<u32>,
-    /// How many steps lead to each router from those that aren't found.
-    entering: Vec<u32>,
-    /// The routers that no such step leads to, in the order in which they were found.
-    found: Vec<u32>,
+    /// What the search knows of each router.
+    visits: Vec<Visit>,
+    /// How many routers it reached.
+    reached: u32,
+    /// The router reached last of those that have no layer yet.
+    open: u32,
+    /// The layer that is given next.
+    next: u32,
+}
+
+/// What the search knows of a router.
+#[derive(Clone, Copy)]
+struct Visit {
+    /// Its number in the order in which routers are reached, from 1; 0 where it isn't reached, the greatest of all numbers
+    /// where it has its layer.
+    number: u32,
+    /// The lowest number of the routers that it is known to lead to.
+    lowest: u32,
+    /// How many of its steps were followed.
+    followed: usize,
+    /// The router from which it was reached.
+    from: u32,
+    /// The router reached before it of those that have no layer yet.
+    before: u32,
+}
+
+/// A router that isn't reached.
+const UNREACHED: Visit = Visit {
+    number: 0,
+    lowest: 0,
+    followed: 0,
+    from: 0,
+    before: 0,
+};
+
+impl Visit {
+    /// Follows the steps of its router, in two lists, on to the first that leads to one that isn't reached, which it tells.
+    fn follow_all(&mut self, hops: &[u32], others: &[u32], visits: &[Visit]) -> Option<u32> {
+        let first = self.followed;
+        if let Some(hop) = self.follow(hops, first, visits) {
+            return Some(hop);
+        }
+        let first = self.followed.saturating_sub(hops.len());
+        self.follow(others, first, visits)
+    }
+
+    /// Follows the steps to some routers from a place on.
+    fn follow(&mut self, hops: &[u32], first: usize, visits: &[Visit]) -> Option<u32> {
+        for place in first..hops.len() {
+            self.followed = self.followed.saturating_add(1);
+            let hop = hops[place];
+            let number = number_of(visits, hop);
+            if number == 0 {
+                return Some(hop);
+            }
+            self.lowest = self.lowest.min(number);
+        }
+        None
+    }
 }
 
 impl Layers {
@@ -26,8 +80,10 @@ impl Layers {
         let each = routers as usize;
         Ok(Layers {
             numbers: vec![in alloc; 0; each]?,
-            entering: vec![in alloc; 0; each]?,
-            found: Vec::with_capacity(alloc, each)?,
+            visits: vec![in alloc; UNREACHED; each]?,
+            reached: 0,
+            open: 0,
+            next: 0,
         })
     }
 
@@ -36,196 +92,122 @@ impl Layers {
         self.numbers.as_slice()
     }
 
-    /// Chooses the layers for some steps. Takes time of the steps, and of the routers once more for each step that
-    /// leads on from the last router of a ring.
-    ///
-    /// The routers that none enters, but from routers found before, are in the highest layers. Those from which
-    /// every step leads to such a router are in the lowest. The rest, which has the rings, is in one between.
-    pub fn choose<G: StepGraph>(&mut self, graph: &G) -> Result<(), OutOfMemory> {
-        let middle = graph.size();
-        fill(&mut self.numbers, middle);
-        fill(&mut self.entering, 0);
-        count_entering(graph, &mut self.entering);
-        self.found.clear();
-        find_unentered(self.entering.as_slice(), &mut self.found)?;
-        self.lift_found(graph, middle)?;
-        sink_settled(graph, middle, &mut self.numbers);
-        Ok(())
-    }
-
-    /// Gives the routers found the highest layers, and finds those that only they enter.
-    fn lift_found<G: StepGraph>(&mut self, graph: &G, middle: u32) -> Result<(), OutOfMemory> {
-        for place in 0..middle {
-            let Some(router) = self.found.get(place as usize).copied() else {
-                return Ok(());
-            };
-            if router < graph.size() {
-                set(
-                    &mut self.numbers,
-                    router,
-                    middle.saturating_mul(2).saturating_sub(place),
-                );
-                let (hops, others) = graph.hops(router);
-                leave(hops, &mut self.entering, &mut self.found)?;
-                leave(others, &mut self.entering, &mut self.found)?;
+    /// Chooses the layers for some steps. Takes time of the steps and the routers, and no memory.
+    pub fn choose<G: StepGraph>(&mut self, graph: &G) {
+        self.begin();
+        for router in 0..graph.size() {
+            if number_of(self.visits.as_slice(), router) == 0 {
+                self.search_from(graph, router);
             }
         }
-        Ok(())
     }
-}
 
-/// Marks the routers that a step leads from and that stays in the layer; false where some step leads higher.
-pub fn mark_level<G: StepGraph>(graph: &G, layers: &[u32], marks: &mut [bool]) -> bool
-    requires { length marks.old ≡ G.size graph.now }
-    ensures returns { OnTrue result (MarksReturns (G.step graph.now) marks.new) }
-    ensures inside { (u h : ℕ) → G.step graph.now u h → u < G.size graph.now }
-{
-    for router in 0..graph.size() {
-        let layer = u64::from(layer_in(layers, router));
-        let above = above_hops(graph, layers, router);
-        if above > layer + 1 {
-            return false;
+    /// No router is reached.
+    fn begin(&mut self) {
+        for visit in self.visits.iter_mut() {
+            *visit = UNREACHED;
         }
-        marks[router as usize] = is_over(above, layer);
+        self.reached = 0;
+        self.next = 0;
     }
-    true
-}
 
-/// Whether a layer is over another.
-fn is_over(above: u64, layer: u64) -> bool
-    ensures { OnFalse result (above ≤ layer) }
-{
-    above > layer
-}
-
-/// The layer above those of a router's hops, and the lowest where it has none.
-fn above_hops<G: StepGraph>(graph: &G, layers: &[u32], router: u32) -> u64
-    requires { router < G.size graph.now }
-    ensures { (h : ℕ) → G.step graph.now router h → layer_in layers.now h < result }
-{
-    let (hops, others) = graph.hops(router);
-    above(hops, layers).max(above(others, layers))
-}
-
-/// The layer above those of some routers, and the lowest of none.
-fn above(routers: &[u32], layers: &[u32]) -> u64
-    ensures { IsAbove layers.now routers.now result }
-{
-    let mut above = 0;
-    for router in routers {
-        above = above.max(u64::from(layer_in(layers, *router)) + 1);
+    /// Searches all that can be reached from a router and isn't reached yet.
+    fn search_from<G: StepGraph>(&mut self, graph: &G, root: u32) {
+        self.reach(root, root);
+        let mut router = root;
+        for _ in 0..u64::MAX {
+            match self.next_router(graph, router) {
+                Some(next) => router = next,
+                None => return,
+            }
+        }
     }
-    above
-}
 
-/// The layer of a router.
-fn layer_in(layers: &[u32], router: u32) -> u32
-    ensures { result ≡ layer_in layers.now router }
-{
-    layers.get(router as usize).copied().unwrap_or(0)
-}
-
-/// Sets each of some numbers.
-fn fill(numbers: &mut [u32], number: u32) {
-    for each in numbers.iter_mut() {
-        *each = number;
+    /// Reaches a router from another, or from itself.
+    fn reach(&mut self, router: u32, from: u32) {
+        self.reached = self.reached.saturating_add(1);
+        if let Some(visit) = self.visits.get_mut(router as usize) {
+            *visit = Visit {
+                number: self.reached,
+                lowest: self.reached,
+                followed: 0,
+                from,
+                before: self.open,
+            };
+            self.open = router;
+        }
     }
-}
 
-/// Sets the number of a router.
-fn set(numbers: &mut [u32], router: u32, number: u32) {
-    if let Some(own) = numbers.get_mut(router as usize) {
-        *own = number;
+    /// The router at which the search goes on after another: one that this steps to, else the one from which it was reached;
+    /// none where it was reached from itself.
+    fn next_router<G: StepGraph>(&mut self, graph: &G, router: u32) -> Option<u32> {
+        match self.next_hop(graph, router) {
+            Some(hop) => {
+                self.reach(hop, router);
+                Some(hop)
+            }
+            None => self.go_back(router),
+        }
     }
-}
 
-/// Counts for each router the steps that lead to it.
-fn count_entering<G: StepGraph>(graph: &G, entering: &mut [u32]) {
-    for router in 0..graph.size() {
+    /// The next router that a router steps to and that isn't reached.
+    fn next_hop<G: StepGraph>(&mut self, graph: &G, router: u32) -> Option<u32> {
+        let mut visit = self.visits.get(router as usize).copied()?;
+        if router >= graph.size() {
+            return None;
+        }
         let (hops, others) = graph.hops(router);
-        enter(hops, entering);
-        enter(others, entering);
-    }
-}
-
-/// Counts a step to each of some routers.
-fn enter(routers: &[u32], entering: &mut [u32]) {
-    for router in routers {
-        if let Some(count) = entering.get_mut(*router as usize) {
-            *count = count.saturating_add(1);
+        let found = visit.follow_all(hops, others, self.visits.as_slice());
+        if let Some(own) = self.visits.get_mut(router as usize) {
+            *own = visit;
         }
+        found
     }
-}
 
-/// Takes back a step to each of some routers, and finds those that have none left.
-fn leave(routers: &[u32], entering: &mut [u32], found: &mut Vec<u32>) -> Result<(), OutOfMemory> {
-    for router in routers {
-        if leave_one(*router, entering) {
-            found.push(*router)?;
+    /// Goes back to the router from which a router was reached. A router that leads to none reached before it closes a
+    /// strongly connected part.
+    fn go_back(&mut self, router: u32) -> Option<u32> {
+        let visit = self.visits.get(router as usize).copied()?;
+        if visit.lowest == visit.number {
+            self.give_layer(router);
         }
-    }
-    Ok(())
-}
-
-/// Takes back a step to a router; whether it was the last.
-fn leave_one(router: u32, entering: &mut [u32]) -> bool {
-    match entering.get_mut(router as usize) {
-        Some(count) => {
-            *count = count.saturating_sub(1);
-            *count == 0
+        if visit.from == router {
+            return None;
         }
-        None => false,
-    }
-}
-
-/// Finds the routers that no step leads to.
-fn find_unentered(entering: &[u32], found: &mut Vec<u32>) -> Result<(), OutOfMemory> {
-    for (router, count) in entering.iter().enumerate() {
-        if *count == 0 && router <= u32::MAX as usize {
-            found.push(router as u32)?;
+        if let Some(from) = self.visits.get_mut(visit.from as usize) {
+            from.lowest = from.lowest.min(visit.lowest);
         }
+        Some(visit.from)
     }
-    Ok(())
-}
 
-/// Gives the lowest layers to the routers of the middle layer from which every step leads to a lower one.
-fn sink_settled<G: StepGraph>(graph: &G, middle: u32, layers: &mut [u32]) {
-    let mut next = 0;
-    for round in 0..middle {
-        let after = sink_once(graph, middle, next, round % 2 == 1, layers);
-        if after == next {
-            return;
+    /// Gives the next layer to a router and to those that were reached after it and have none.
+    fn give_layer(&mut self, router: u32) {
+        for _ in 0..self.numbers.len() {
+            if self.close_last() == router {
+                break;
+            }
         }
-        next = after;
+        self.next = self.next.saturating_add(1);
     }
-}
 
-/// Goes once over the routers, upwards or downwards; the next layer to be given.
-fn sink_once<G: StepGraph>(
-    graph: &G,
-    middle: u32,
-    first: u32,
-    down: bool,
-    layers: &mut [u32],
-) -> u32 {
-    let mut next = first;
-    let routers = graph.size();
-    for place in 0..routers {
-        let router = router_at(place, routers, down);
-        if layer_in(layers, router) == middle
-            && above_hops(graph, layers, router) <= u64::from(middle)
-        {
-            set(layers, router, next);
-            next = next.saturating_add(1);
+    /// Gives the next layer to the router that was reached last of those that have none, and tells it.
+    fn close_last(&mut self) -> u32 {
+        let router = self.open;
+        if let Some(number) = self.numbers.get_mut(router as usize) {
+            *number = self.next;
         }
+        if let Some(visit) = self.visits.get_mut(router as usize) {
+            visit.number = u32::MAX;
+            self.open = visit.before;
+        }
+        router
     }
-    next
 }
 
-/// The router at a place, counted from the first or from the last.
-fn router_at(place: u32, routers: u32, down: bool) -> u32
-    requires { place < routers }
-    ensures { result < routers }
-{
-    if down { routers - 1 - place } else { place }
+/// The number of a router in the order in which routers are reached; that of a router that has its layer where there is none.
+fn number_of(visits: &[Visit], router: u32) -> u32 {
+    match visits.get(router as usize) {
+        Some(visit) => visit.number,
+        None => u32::MAX,
+    }
 }

@@ -1,7 +1,8 @@
 ghost use Rattle.std.specs.Prelude.{◌≡◌, ◌<◌, ◌≤◌, ◌^◌, ◌↔◌, ℕ, false, length, slice_set, IsTrue};
 ghost use Rattle.std.specs.Bool.{OnFalse, OnTrue};
-ghost use Rattle.order_core.specs.Marks.{IsMarked};
-ghost use Rattle.loop_finder.specs.steps.Live.{AreBounded, ArePeeled, FirstMarked, HasMarkedHop, IsLowerMarked, LowestMarked, lower_of, marked_count};
+ghost use Rattle.order_core.specs.Marks.{IsMarked, marked_count};
+ghost use Rattle.net_model.specs.Links.{lower_of};
+ghost use Rattle.loop_finder.specs.steps.Live.{AreBounded, ArePeeled, FirstMarked, HasMarkedHop, IsLowerMarked, LowestMarked};
 ghost use Rattle.loop_finder.specs.steps.Walks.{LowestMarkedHop};
 
 use crate::graph::StepGraph;

@@ -1,20 +1,16 @@
-ghost use Rattle.std.specs.Prelude.{◌≡◌, ◌<◌, ◌^◌, ℕ, Contains, IfNone, IfOk, OnOk, length, slice_index_or};
+ghost use Rattle.std.specs.Prelude.{◌≡◌, ◌<◌, ◌≤◌, ◌^◌, ℕ, Contains, IfOk, IfSome, OnOk, length, slice_index_or};
 ghost use Rattle.std.specs.Bool.{OnTrue};
+ghost use Rattle.loop_finder.specs.steps.Targets.{IsTargetIn};
 ghost use Rattle.igp_theory.specs.declared.phase.Phase.{Phase};
-ghost use Rattle.order_core.specs.Marks.{IsMarked};
-ghost use Rattle.loop_finder.specs.steps.Ends.{AreClearEnds, AreEnds};
-ghost use Rattle.loop_finder.specs.steps.PartRows.{AreKept, AreRowsOf, IsRowOf, KeepsOne};
-ghost use Rattle.loop_finder.specs.Parts.{HasPart, HaveSameHops, hops_of, no_hops, part_hops};
+ghost use Rattle.loop_finder.specs.steps.PartRows.{AreKept, AreRowsOf, HoldsNext, IsRowOf, KeepsOne};
+ghost use Rattle.loop_finder.specs.Parts.{AddsUnless, AllMove, AreSteppers, IsBareIn, IsPart, StepsEver, hops_of, no_hops, part_hops};
 ghost use Rattle.loop_finder.specs.Returns.{MarksReturns};
-ghost use Rattle.loop_finder.specs.ClassSteps.{AreForwarders, sample_of};
+ghost use Rattle.loop_finder.specs.ClassSteps.{sample_of};
 ghost use Rattle.loop_finder.specs.Watches.{IsIdle};
 
-use crate::class_hops::class_hops;
-use crate::end_steps::EndSteps;
-use crate::graph::StepGraph;
-use crate::hop_lists::are_same;
-use crate::layers::{Layers, mark_level};
-use crate::live::{is_marked, mark_all};
+use crate::class_hops::hops_towards;
+use crate::live::is_marked;
+use net_addr::Prefix;
 use rib_mix::{Mixed, OutOfMemory, Phase};
 use route_core::RouteSource;
 use std::alloc::Global;
@@ -69,13 +65,15 @@ impl Row {
         self.old.is_empty() && self.middle.is_empty() && self.new.is_empty()
     }
 
-    /// Whether two rows are the same.
-    fn is_same(&self, other: &Row) -> bool
-        ensures { OnTrue result (self.now ≡ other.now) }
+    /// Whether its hops are the marked ones of these.
+    fn has_kept(&self, olds: &[u32], middles: &[u32], news: &[u32], marks: &[bool]) -> bool
+        ensures old { OnTrue result (AreKept olds.now marks.now self.now.old) }
+        ensures middle { OnTrue result (AreKept middles.now marks.now self.now.middle) }
+        ensures new { OnTrue result (AreKept news.now marks.now self.now.new) }
     {
-        are_same(self.old.as_slice(), other.old.as_slice())
-            && are_same(self.middle.as_slice(), other.middle.as_slice())
-            && are_same(self.new.as_slice(), other.new.as_slice())
+        are_kept(olds, marks, self.old.as_slice())
+            && are_kept(middles, marks, self.middle.as_slice())
+            && are_kept(news, marks, self.new.as_slice())
     }
 }
 
@@ -85,51 +83,52 @@ impl Row {
 pub struct Part {
     atom: u32,
     moves: bool,
-    /// A number that parts with the same hops share, so that most others are told apart at once.
+    /// A number that parts share in which the same routers are marked, so that most others are told apart at once.
     digest: u64,
     rows: Vec<Row>,
+    /// The routers that have hops.
+    steppers: Vec<u32>,
 }
 
 impl Model for Part {
-    ghost use Rattle.loop_finder.specs.Parts.{ClassPart};
+    ghost use Rattle.loop_finder.specs.Parts.{AreSteppers, ClassPart};
 
     ghost Value = { ClassPart };
 
     ghost view = { λ x. record { atom = x.atom; moves = x.moves; rows = x.rows.items } };
+
+    ghost invariant = { λ x. AreSteppers x.rows.items x.steppers.items };
 }
 
 impl Part {
-    /// The part of a class; none where no state is unsound for it.
+    /// The part of a class, where it's known to which routers a walk over its steps may return, and whether every router
+    /// that has to pass packets on has a step in both networks.
     pub fn build<O: RouteSource, N: RouteSource>(
         alloc: Global,
         mixed: &Mixed<'_, O, N>,
         atom: u32,
-        forwards: &[bool],
-        ends: &EndSteps<'_, '_>,
-        layers: &mut Layers,
-        marks: &mut [bool],
-    ) -> Result<Option<Part>, OutOfMemory>
+        target: Prefix,
+        marks: &[bool],
+        moves: bool,
+    ) -> Result<Part, OutOfMemory>
         requires atom { atom < length mixed.now.classes.samples }
         requires address { sample_of mixed.now atom < 2 ^ 32 }
-        requires many { length forwards.now ≡ length mixed.now.net }
-        requires forwards { AreForwarders mixed.now.net (sample_of mixed.now atom) forwards.now }
-        requires ends { AreEnds O.table N.table mixed.now atom ends.now }
-        requires marks { length marks.old ≡ length mixed.now.net }
-        ensures part { IfOk result (HasPart O.table N.table mixed.now atom) }
-        ensures clear { IfOk result (λ part. IfNone part (AreClearEnds ends.now forwards.now)) }
+        requires target { IsTargetIn mixed.now.net (sample_of mixed.now atom) target }
+        requires marks { length marks.now ≡ length mixed.now.net }
+        requires returns { MarksReturns (StepsEver O.table N.table mixed.now atom) marks.now }
+        requires moves { OnTrue moves (AllMove O.table N.table mixed.now atom) }
+        ensures part { IfOk result (IsPart O.table N.table mixed.now) }
+        ensures class { IfOk result (λ part. part.atom ≡ atom) }
     {
-        mark_returns(ends, layers, marks)?;
-        let moves = ends.each_moves(forwards);
-        if moves && none_marked(marks) {
-            return Ok(None);
-        }
-        let rows = rows_of(alloc, mixed, atom, forwards, marks)?;
-        Ok(Some(Part {
+        let rows = rows_of(alloc, mixed, atom, target, marks)?;
+        let steppers = steppers_of(alloc, rows.as_slice(), mixed.net().routers())?;
+        Ok(Part {
             atom,
             moves,
-            digest: digest_of(rows.as_slice()),
+            digest: digest_of(marks),
             rows,
-        }))
+            steppers,
+        })
     }
 
     /// The class.
@@ -144,6 +143,13 @@ impl Part {
         ensures { result ≡ self.now.moves }
     {
         self.moves
+    }
+
+    /// The routers that have hops.
+    pub fn steppers(&self) -> &[u32]
+        ensures { AreSteppers self.now.rows result.now }
+    {
+        self.steppers.as_slice()
     }
 
     /// The hops of a router in a phase.
@@ -162,86 +168,59 @@ impl Part {
         self.moves && self.rows[router as usize].is_bare()
     }
 
-    /// Whether two parts have the same hops.
-    pub fn has_hops_of(&self, other: &Part) -> bool
-        requires { length self.now.rows ≡ length other.now.rows }
-        ensures { OnTrue result (HaveSameHops self.now other.now) }
+    /// Whether its hops are those of a class between marked routers, of which this is the digest.
+    pub fn has_rows_of<O: RouteSource, N: RouteSource>(
+        &self,
+        mixed: &Mixed<'_, O, N>,
+        atom: u32,
+        target: Prefix,
+        marks: &[bool],
+        digest: u64,
+    ) -> bool
+        requires rows { length self.now.rows ≡ length mixed.now.net }
+        requires atom { atom < length mixed.now.classes.samples }
+        requires address { sample_of mixed.now atom < 2 ^ 32 }
+        requires target { IsTargetIn mixed.now.net (sample_of mixed.now atom) target }
+        requires marks { length marks.now ≡ length mixed.now.net }
+        ensures { OnTrue result (AreRowsOf O.table N.table mixed.now atom marks.now self.now.rows) }
     {
-        self.digest == other.digest && same_rows(self.rows.as_slice(), other.rows.as_slice())
+        self.digest == digest && are_rows_of(mixed, atom, target, marks, self.rows.as_slice())
     }
 }
 
-/// Whether two lists of rows are the same.
-fn same_rows(one: &[Row], other: &[Row]) -> bool
-    requires { length one.now ≡ length other.now }
-    ensures { OnTrue result ((u : ℕ) → slice_index_or one.now u no_hops ≡ slice_index_or other.now u no_hops) }
-{
-    for place in 0..one.len() {
-        if !one[place].is_same(&other[place]) {
-            return false;
-        }
-    }
-    true
-}
-
-/// A number made of the hops of some rows.
-fn digest_of(rows: &[Row]) -> u64 {
-    let mut digest = 0;
-    for row in rows {
-        digest = digest_with(digest, row.old.as_slice());
-        digest = digest_with(digest, row.middle.as_slice());
-        digest = digest_with(digest, row.new.as_slice());
-    }
-    digest
-}
-
-/// A number made of another and of some hops.
-fn digest_with(digest: u64, hops: &[u32]) -> u64 {
-    let mut digest = digest.wrapping_mul(DIGEST_FACTOR).wrapping_add(1);
-    for hop in hops {
+/// A number made of the marked routers.
+pub fn digest_of(marks: &[bool]) -> u64 {
+    let mut digest = 0u64;
+    for mark in marks {
         digest = digest
             .wrapping_mul(DIGEST_FACTOR)
-            .wrapping_add(u64::from(*hop) + 2);
+            .wrapping_add(u64::from(*mark));
     }
     digest
 }
 
-/// Whether no router is marked.
-fn none_marked(marks: &[bool]) -> bool
-    ensures { OnTrue result ((u : ℕ) → ¬ IsMarked marks.now u) }
+/// The routers, so many, that have hops by their rows.
+fn steppers_of(alloc: Global, rows: &[Row], routers: u32) -> Result<Vec<u32>, OutOfMemory>
+    requires { length rows.now ≡ routers }
+    ensures { IfOk result (λ steppers. AreSteppers rows.now steppers.items) }
 {
-    if marks.contains(&true) {
-        return false;
+    let mut steppers = Vec::new(alloc);
+    for router in 0..routers {
+        add_stepper(rows, router, &mut steppers)?;
     }
-    true
+    Ok(steppers)
 }
 
-/// Marks the routers to which a walk over the steps may return. The layers that were chosen before are kept where they tell
-/// that there is none.
-fn mark_returns<G: StepGraph>(
-    graph: &G,
-    layers: &mut Layers,
-    marks: &mut [bool],
-) -> Result<(), OutOfMemory>
-    requires { length marks.old ≡ G.size graph.now }
-    ensures { OnOk result (MarksReturns (G.step graph.now) marks.new) }
+/// Adds a router that has hops by its row.
+fn add_stepper(rows: &[Row], router: u32, steppers: &mut Vec<u32>) -> Result<(), OutOfMemory>
+    requires { router < length rows.now }
+    ensures { OnOk result (AddsUnless (IsBareIn rows.now router) router steppers.old.items steppers.new.items) }
 {
-    if mark_level(graph, layers.numbers(), marks) && none_marked(marks) {
+    if rows[router as usize].is_bare() {
         return Ok(());
     }
-    layers.choose(graph)?;
-    mark_by_layers(graph, layers.numbers(), marks);
+    steppers.push(router)?;
     Ok(())
-}
-
-/// Marks the routers to which a walk over the steps may return, as layers tell: all of them where some step leads higher.
-fn mark_by_layers<G: StepGraph>(graph: &G, layers: &[u32], marks: &mut [bool])
-    requires { length marks.old ≡ G.size graph.now }
-    ensures { MarksReturns (G.step graph.now) marks.new }
-{
-    if !mark_level(graph, layers, marks) {
-        mark_all(marks);
-    }
 }
 
 /// The hops between marked routers, for each router and the addresses of a class.
@@ -249,22 +228,44 @@ fn rows_of<O: RouteSource, N: RouteSource>(
     alloc: Global,
     mixed: &Mixed<'_, O, N>,
     atom: u32,
-    forwards: &[bool],
+    target: Prefix,
     marks: &[bool],
 ) -> Result<Vec<Row>, OutOfMemory>
     requires atom { atom < length mixed.now.classes.samples }
     requires address { sample_of mixed.now atom < 2 ^ 32 }
-    requires many { length forwards.now ≡ length mixed.now.net }
-    requires forwards { AreForwarders mixed.now.net (sample_of mixed.now atom) forwards.now }
+    requires target { IsTargetIn mixed.now.net (sample_of mixed.now atom) target }
     requires marks { length marks.now ≡ length mixed.now.net }
     ensures { IfOk result (λ rows. AreRowsOf O.table N.table mixed.now atom marks.now rows.items) }
 {
     let mut rows = Vec::with_capacity(alloc, marks.len())?;
     for router in 0..mixed.net().routers() {
-        let row = row_of(alloc, mixed, atom, forwards, router, marks)?;
+        let row = row_of(alloc, mixed, atom, target, router, marks)?;
         rows.push(row)?;
     }
     Ok(rows)
+}
+
+/// Whether some rows are those.
+fn are_rows_of<O: RouteSource, N: RouteSource>(
+    mixed: &Mixed<'_, O, N>,
+    atom: u32,
+    target: Prefix,
+    marks: &[bool],
+    rows: &[Row],
+) -> bool
+    requires rows { length rows.now ≡ length mixed.now.net }
+    requires atom { atom < length mixed.now.classes.samples }
+    requires address { sample_of mixed.now atom < 2 ^ 32 }
+    requires target { IsTargetIn mixed.now.net (sample_of mixed.now atom) target }
+    requires marks { length marks.now ≡ length mixed.now.net }
+    ensures { OnTrue result (AreRowsOf O.table N.table mixed.now atom marks.now rows.now) }
+{
+    for router in 0..mixed.net().routers() {
+        if !is_row_of(mixed, atom, target, router, marks, &rows[router as usize]) {
+            return false;
+        }
+    }
+    true
 }
 
 /// The hops from a router to marked routers, none where it isn't marked itself.
@@ -272,28 +273,51 @@ fn row_of<O: RouteSource, N: RouteSource>(
     alloc: Global,
     mixed: &Mixed<'_, O, N>,
     atom: u32,
-    forwards: &[bool],
+    target: Prefix,
     router: u32,
     marks: &[bool],
 ) -> Result<Row, OutOfMemory>
     requires atom { atom < length mixed.now.classes.samples }
     requires address { sample_of mixed.now atom < 2 ^ 32 }
-    requires many { length forwards.now ≡ length mixed.now.net }
-    requires forwards { AreForwarders mixed.now.net (sample_of mixed.now atom) forwards.now }
+    requires target { IsTargetIn mixed.now.net (sample_of mixed.now atom) target }
     requires router { router < length mixed.now.net }
     ensures { IfOk result (IsRowOf O.table N.table mixed.now atom marks.now router) }
 {
     if !is_marked(marks, router) {
         return Ok(Row::empty(alloc));
     }
-    let olds = class_hops(mixed, atom, Phase::Old, forwards, router);
-    let middles = class_hops(mixed, atom, Phase::Middle, forwards, router);
-    let news = class_hops(mixed, atom, Phase::New, forwards, router);
+    let olds = hops_towards(mixed, atom, target, Phase::Old, router);
+    let middles = hops_towards(mixed, atom, target, Phase::Middle, router);
+    let news = hops_towards(mixed, atom, target, Phase::New, router);
     Ok(Row {
         old: kept(alloc, olds, marks)?,
         middle: kept(alloc, middles, marks)?,
         new: kept(alloc, news, marks)?,
     })
+}
+
+/// Whether a row is the one of a router.
+fn is_row_of<O: RouteSource, N: RouteSource>(
+    mixed: &Mixed<'_, O, N>,
+    atom: u32,
+    target: Prefix,
+    router: u32,
+    marks: &[bool],
+    row: &Row,
+) -> bool
+    requires atom { atom < length mixed.now.classes.samples }
+    requires address { sample_of mixed.now atom < 2 ^ 32 }
+    requires target { IsTargetIn mixed.now.net (sample_of mixed.now atom) target }
+    requires router { router < length mixed.now.net }
+    ensures { OnTrue result (IsRowOf O.table N.table mixed.now atom marks.now router row.now) }
+{
+    if !is_marked(marks, router) {
+        return row.is_bare();
+    }
+    let olds = hops_towards(mixed, atom, target, Phase::Old, router);
+    let middles = hops_towards(mixed, atom, target, Phase::Middle, router);
+    let news = hops_towards(mixed, atom, target, Phase::New, router);
+    row.has_kept(olds, middles, news, marks)
 }
 
 /// The marked ones of some routers.
@@ -315,4 +339,36 @@ fn keep_one(kept: &mut Vec<u32>, marks: &[bool], router: u32) -> Result<(), OutO
         kept.push(router)?;
     }
     Ok(())
+}
+
+/// Whether these are the marked ones of some routers, in their order.
+fn are_kept(routers: &[u32], marks: &[bool], kept: &[u32]) -> bool
+    ensures { OnTrue result (AreKept routers.now marks.now kept.now) }
+{
+    let mut place = 0;
+    for router in routers {
+        match place_after(kept, place, marks, *router) {
+            Some(next) => place = next,
+            None => return false,
+        }
+    }
+    if place != kept.len() {
+        return false;
+    }
+    true
+}
+
+/// The place that comes after a router among those kept: the one after its own where it's marked, else the same place; none
+/// where it's marked and isn't at the place.
+fn place_after(kept: &[u32], place: usize, marks: &[bool], router: u32) -> Option<usize>
+    requires { place ≤ length kept.now }
+    ensures { IfSome result (HoldsNext marks.now kept.now place router) }
+{
+    if !is_marked(marks, router) {
+        return Some(place);
+    }
+    if place < kept.len() && kept[place] == router {
+        return Some(place + 1);
+    }
+    None
 }

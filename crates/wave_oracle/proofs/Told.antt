@@ -16,8 +16,8 @@ use Rattle.order_core.specs.declared.turn.Turn.{Turn}
 use Rattle.wave_oracle.specs.Oracles.{HasSoundEnds, IsToldLoop}
 
 -- this is told of the wave list
-abbrev pub IsTold : {O N : Type 0} → Listing O → Listing N → Mixture O N → List ℕ → ℕ → Fault → List Turn → Type 0
-IsTold old new m ranks number fault ring =
+abbrev pub ToldOfPlace : {O N : Type 0} → Listing O → Listing N → Mixture O N → List ℕ → ℕ → Fault → List Turn → Type 0
+ToldOfPlace old new m ranks number fault ring =
     IsNumberedWavesFault m.net (HasEntry (old m.old)) (HasEntry (new m.new)) ranks number (told_fault fault ring)
 
 -- the address and the ring break the wave list
@@ -28,14 +28,14 @@ Breaks old new m ranks address ring =
 
 -- it is a loop
 pub told_is_loop : {O N : Type 0} (old : Listing O) (new : Listing N) (m : Mixture O N) (ranks : List ℕ) (number : ℕ) (fault : Fault) (ring : List Turn) →
-    HasSoundEnds old new m → IsTold old new m ranks number fault ring → IsToldLoop fault
+    HasSoundEnds old new m → ToldOfPlace old new m ranks number fault ring → IsToldLoop fault
 told_is_loop old new m ranks number (Loop address) ring ends told = tt
 told_is_loop old new m ranks number (Missing address router) ring ends told =
     no_step_lacks m.net (HasEntry (old m.old)) (HasEntry (new m.new)) ranks told.wave address router ends told.is_fault
 
 -- which breaks the wave list, also by what is mixed afterwards, which is the same
 pub told_breaks : {O N : Type 0} (old : Listing O) (new : Listing N) (m after : Mixture O N) (ranks : List ℕ) (number : ℕ) (fault : Fault) (address : ℕ)
-    (ring : List Turn) → HasSoundEnds old new m → IsTold old new m ranks number fault ring → fault ≡ Loop address → after ≡ m →
+    (ring : List Turn) → HasSoundEnds old new m → ToldOfPlace old new m ranks number fault ring → fault ≡ Loop address → after ≡ m →
     Breaks old new after ranks address ring
 told_breaks old new m after ranks number fault address ring ends told is same =
     let whole = λ (f : Fault). IsWavesFault m.net (HasEntry (old m.old)) (HasEntry (new m.new)) ranks told.wave (told_fault f ring) in

@@ -1,11 +1,7 @@
 -- Which routers of a step relation are live: marks that are taken from those that can't step on.
-use Rattle.std.specs.Prelude.{◌≡◌, ℕ, ◌+◌, ◌≤◌, Bool, List, length, count_by, Contains, Option, Some, None, min}
+use Rattle.std.specs.Prelude.{◌≡◌, ℕ, ◌+◌, ◌≤◌, Bool, List, length, Contains, Option, Some, None, min}
 use Rattle.igp_theory.specs.States.{Follows}
-use Rattle.order_core.specs.Marks.{IsMarked}
-
--- how many routers are marked
-abbrev pub marked_count : List Bool → ℕ
-marked_count marks = count_by (λ b. b) marks
+use Rattle.order_core.specs.Marks.{IsMarked, marked_count}
 
 -- the router steps to a marked one
 pub record HasMarkedHop (step : ℕ → ℕ → Type 0) (marks : List Bool) (u : ℕ) : Type 0 where
@@ -33,12 +29,6 @@ pub record IsLowestMarked (routers : List ℕ) (marks : List Bool) (h : ℕ) : T
 abbrev pub LowestMarked : List ℕ → List Bool → Option ℕ → Type 0
 LowestMarked routers marks None = (q : ℕ) → Contains routers q → ¬ IsMarked marks q
 LowestMarked routers marks (Some h) = IsLowestMarked routers marks h
-
--- the lower of two routers that may be known
-abbrev pub lower_of : Option ℕ → Option ℕ → Option ℕ
-lower_of None other = other
-lower_of (Some u) None = Some u
-lower_of (Some u) (Some v) = Some (min u v)
 
 -- the lowest-numbered marked router of all, none where none is marked
 abbrev pub FirstMarked : List Bool → Option ℕ → Type 0

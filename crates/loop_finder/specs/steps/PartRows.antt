@@ -1,9 +1,9 @@
 -- How the rows of a part are made.
-use Rattle.std.specs.Prelude.{◌≡◌, ℕ, ◌<◌, ◌⊎◌, Bool, List, length, slice_index_or, Contains}
+use Rattle.std.specs.Prelude.{◌≡◌, ℕ, ◌<◌, ◌≤◌, ◌⊎◌, Bool, List, length, slice_index, slice_index_or, Contains}
 use Rattle.igp_theory.specs.declared.phase.Phase.{Phase}
 use Rattle.order_core.specs.Marks.{IsMarked}
 use Rattle.rib_mix.specs.Mixture.{Mixture}
-use Rattle.loop_finder.specs.Parts.{PhaseHops, StepsOf, hops_of, no_hops}
+use Rattle.loop_finder.specs.Parts.{PhaseHops, ClassPart, StepsOf, hops_of, no_hops}
 use Rattle.loop_finder.specs.ClassSteps.{Listing}
 
 -- the marked ones of some routers
@@ -33,3 +33,17 @@ pub record AreFirstRows {O N : Type 0} (old : Listing O) (new : Listing N) (m : 
 -- those of all routers
 abbrev pub AreRowsOf : {O N : Type 0} → Listing O → Listing N → Mixture O N → ℕ → List Bool → List PhaseHops → Type 0
 AreRowsOf old new m atom marks rows = AreFirstRows old new m atom marks (length marks) rows
+
+-- one of some parts has the rows of a class
+pub record HasEarlierRows {O N : Type 0} (old : Listing O) (new : Listing N) (m : Mixture O N) (atom : ℕ) (marks : List Bool)
+    (parts : List ClassPart) : Type 0 where
+  pub earlier : ClassPart
+  pub among : Contains parts earlier
+  pub rows : AreRowsOf old new m atom marks earlier.rows
+
+-- the place after a router among those kept: what stands before it stood before, or is the router, which is there where
+-- it's marked
+pub record HoldsNext (marks : List Bool) (kept : List ℕ) (place router next : ℕ) : Type 0 where
+  pub within : next ≤ length kept
+  pub from : (k : ℕ) → k < next → (k < place) ⊎ (router ≡ slice_index kept k)
+  pub holds : IsMarked marks router → Contains kept router

@@ -1,10 +1,10 @@
-use Rattle.std.proofs.Common.{◌≡◌, ℕ, ◌<◌, ◌↔◌, Some, None, length, ap, arith, ◌∙◌, subst}
+use Rattle.std.proofs.Common.{◌≡◌, ℕ, ◌<◌, ◌↔◌, length, ap, arith, ◌∙◌, subst}
 use Rattle.net_model.specs.Network.{Network, Connected}
 use Rattle.net_model.specs.Refusals.{IsNetwork}
 use Rattle.igp_theory.specs.Forwarding.{IsTarget}
 use Rattle.order_core.specs.Marks.{IsMarked}
 use Rattle.loop_finder.specs.ClassSteps.{sample_of}
-use Rattle.loop_finder.proofs.ClassVerdicts.{forwarders_from, target_at}
+use Rattle.loop_finder.proofs.ClassVerdicts.{forwarders_from}
 use Rattle.loop_finder.proofs.class_fault.mark_class.Goals as goal
 
 pub mark_forwarders-requires-clause-routers : goal.mark_forwarders-requires-clause-routers
@@ -16,9 +16,7 @@ mark_forwarders-requires-clause-many g c =
 
 pub returns-in-Some-clause-forwarders : goal.returns-in-Some-clause-forwarders
 returns-in-Some-clause-forwarders g c =
-    let target : IsTarget c.args.mixed.now.net (sample_of c.args.mixed.now c.args.atom) c.in-Some.target =
-    target_at c.args.mixed.now.classes c.atoms.result.now c.args.atom (Some c.in-Some.target) c.atoms.ensures.classes c.requires.atom
-    c.atoms.ensures.atoms c.in-Some.ensures in
+    let target : IsTarget c.args.mixed.now.net (sample_of c.args.mixed.now c.args.atom) c.in-Some.target = c.in-Some.ensures.target in
     let network : IsNetwork c.args.mixed.now.net = subst IsNetwork c.net.ensures c.routers-routers.ensures.network in
     let many : c.routers-routers.result ≡ length c.args.mixed.now.net =
     c.routers-routers.ensures.count ∙ ap (λ (n : Network). length n) c.net.ensures in
@@ -28,7 +26,3 @@ returns-in-Some-clause-forwarders g c =
     many c.mark_forwarders.ensures in
     forwarders_from c.args.mixed.now.net (sample_of c.args.mixed.now c.args.atom) c.in-Some.target c.mark_forwarders.new.forwards network
     target marks
-
-pub returns-in-None-clause-none : goal.returns-in-None-clause-none
-returns-in-None-clause-none g c =
-    target_at c.args.mixed.now.classes c.atoms.result.now c.args.atom None c.atoms.ensures.classes c.requires.atom c.atoms.ensures.atoms c.in-None.ensures

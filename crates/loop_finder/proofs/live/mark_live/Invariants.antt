@@ -1,4 +1,5 @@
-use Rattle.loop_finder.specs.steps.Live.{AreBounded, marked_count}
+use Rattle.order_core.specs.Marks.{marked_count}
+use Rattle.loop_finder.specs.steps.Live.{AreBounded}
 use Rattle.loop_finder.proofs.live.mark_live.Given as goal
 
 abbrev pub invariant-loop-live : goal.invariant-loop-live

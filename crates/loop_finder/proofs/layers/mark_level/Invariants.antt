@@ -1,5 +1,0 @@
-use Rattle.loop_finder.proofs.Levels.{AreLevelled}
-use Rattle.loop_finder.proofs.layers.mark_level.Given as goal
-
-abbrev pub invariant-loop-router : goal.invariant-loop-router
-invariant-loop-router g l = AreLevelled (g.G.StepGraph.step l.graph) l.layers l.marks l.router

@@ -1,0 +1,28 @@
+use Rattle.std.proofs.Common.{◌+◌, Bool, List, length, sym, subst}
+use Rattle.loop_finder.specs.steps.Ends.{EndStep}
+use Rattle.loop_finder.specs.steps.Making.{ends_of}
+use Rattle.loop_finder.specs.Parts.{ClassPart, AreParts, IsCovered}
+use Rattle.loop_finder.specs.Returns.{MarksReturns}
+use Rattle.loop_finder.proofs.PartLists.{AreParts-more, AreParts-push}
+use Rattle.loop_finder.proofs.PartRows.{returns_ever}
+use Rattle.loop_finder.proofs.parts.add_known.Goals as goal
+
+pub returns-then-is_covered : goal.returns-then-is_covered
+returns-then-is_covered g c =
+    AreParts-more g.O.RouteSource.table g.N.RouteSource.table c.args.mixed.now c.args.parts.now.items c.args.atom c.requires.parts
+    (subst (λ (xs : List ClassPart). IsCovered g.O.RouteSource.table g.N.RouteSource.table c.args.mixed.now xs c.args.atom) c.as_slice.ensures.value
+    c.if-is_covered.ensures)
+
+pub build-requires-clause-returns : goal.build-requires-clause-returns
+build-requires-clause-returns g c =
+    returns_ever g.O.RouteSource.table g.N.RouteSource.table c.args.mixed.now c.args.atom c.args.making.now.known c.as_slice-marks.result.now
+    c.requires.read
+    (subst (λ (marks : List Bool). MarksReturns (EndStep (ends_of c.args.making.now.known (length c.args.mixed.now.net))) marks)
+    (sym c.as_slice-marks.ensures.value) c.requires.making.returns)
+
+pub returns : goal.returns
+returns g c =
+    subst (λ (xs : List ClassPart). AreParts g.O.RouteSource.table g.N.RouteSource.table c.args.mixed.now xs (c.args.atom + 1))
+    (sym c.in_ok-push.ensures.items)
+    (AreParts-push g.O.RouteSource.table g.N.RouteSource.table c.args.mixed.now c.args.parts.now.items c.in_ok-part.part c.args.atom c.requires.parts
+    c.in_ok-part.ensures.part c.in_ok-part.ensures.class)
