@@ -1,5 +1,7 @@
 pub mod NumberFacts
 pub mod WordCuts
+pub mod TitleGroups
+pub mod HeadForms
 pub mod AddressFacts
 pub mod MaskWordFacts
 pub mod Picked

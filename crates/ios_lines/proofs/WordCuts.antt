@@ -1,6 +1,6 @@
 -- The words of some bytes, cut off one after the other.
 use Rattle.std.proofs.Common.{◌≡◌, ℕ, suc, ◌+◌, ◌-◌, ◌<◌, ◌≤◌, ◌⊎◌, inl, inr, ⊎_elim, Bool, true, false, cond, List, [], ◌∷◌, ◌++◌}
-use Rattle.std.proofs.Common.{length, take, drop, nat_eq, filter, append-nil, refl, sym, ap, ◌∙◌, arith}
+use Rattle.std.proofs.Common.{length, take, drop, filter, append-nil, refl, sym, ap, ◌∙◌, arith}
 use Rattle.std.specs.Prelude.{not, nat_lt}
 use Rattle.std.specs.List.{slice_split, position_or_len, prefix_len, onto_first}
 use Rattle.std.proofs.lemmas.Bool.{cases_lt}
@@ -11,7 +11,7 @@ use Rattle.std.proofs.lemmas.List.Folds.{length-prefix_len}
 use Rattle.std.proofs.lemmas.List.Splits.{slice_split_first}
 use Rattle.net_addr.specs.Blanks.{is_blank, words_in}
 use Rattle.net_addr.proofs.PieceFacts.{no_separator}
-use Rattle.ios_lines.specs.Words.{Word, without_blanks, words_from, word_at}
+use Rattle.ios_lines.specs.Words.{Word, without_blanks, word_at}
 
 -- the blanks that some bytes begin with are dropped by their count
 blanks_dropped : (bytes : List ℕ) → drop (prefix_len is_blank bytes) bytes ≡ without_blanks bytes
@@ -74,14 +74,8 @@ words_first bytes =
     ∙ ap (λ (after : List ℕ). filter holds (take (place bytes) bytes ∷ []) ++ words_in after) (sym rest))
     (cases_lt (place bytes) (length bytes))
 
-not_empty : (n : ℕ) → 0 < n → nat_eq n 0 ≡ false
-not_empty n some = grind (arith, nat_tests)
-
 some_bytes : (n : ℕ) → 0 < n → nat_lt 0 n ≡ true
 some_bytes n some = grind (arith, nat_tests)
-
-from_word : (first rest : List ℕ) → 0 < length first → words_from first rest ≡ first ∷ words_in rest
-from_word first rest some = ap (λ (t : Bool). cond t [] (first ∷ words_in rest)) (not_empty (length first) some)
 
 -- the first word of bytes that begin with no blank, and the words behind it
 word_there : (bytes : List ℕ) → 0 < place bytes → words_in bytes ≡ take (place bytes) bytes ∷ words_in (drop (place bytes + 1) bytes)
@@ -91,29 +85,17 @@ word_there bytes some =
     ∙ ap (λ (t : Bool). cond t (take (place bytes) bytes ∷ []) [] ++ words_in (drop (place bytes + 1) bytes))
     (some_bytes (length (take (place bytes) bytes)) long)
 
--- some bytes are cut behind their first word
-pub words_cut : (bytes : List ℕ) →
-    words_from (take (place (without_blanks bytes)) (without_blanks bytes)) (drop (place (without_blanks bytes) + 1) (without_blanks bytes)) ≡ words_in bytes
-words_cut bytes =
-    ⊎_elim
-    (λ (none : without_blanks bytes ≡ []).
-    ap (λ (w : List ℕ). words_from (take (place w) w) (drop (place w + 1) w)) none ∙ ap words_in (sym none) ∙ sym (words_behind bytes))
-    (λ (some : 0 < place (without_blanks bytes)).
-    from_word (take (place (without_blanks bytes)) (without_blanks bytes)) (drop (place (without_blanks bytes) + 1) (without_blanks bytes))
-    (omega (arith, some, length-prefix_len (λ (b : ℕ). not (is_blank b)) (without_blanks bytes)))
-    ∙ sym (word_there (without_blanks bytes) some) ∙ sym (words_behind bytes))
-    (begins bytes)
-
--- the first of some words
-word_first : (first rest : List ℕ) → word_at (words_from first rest) 0 ≡ first
-word_first [] rest = refl
-word_first (b ∷ bs) rest = ap (λ (ws : List Word). word_at ws 0) (from_word (b ∷ bs) rest (omega arith))
-
 -- the first word of some bytes
 pub first_word_is : (bytes : List ℕ) → take (place (without_blanks bytes)) (without_blanks bytes) ≡ word_at (words_in bytes) 0
 first_word_is bytes =
-    sym (word_first (take (place (without_blanks bytes)) (without_blanks bytes)) (drop (place (without_blanks bytes) + 1) (without_blanks bytes)))
-    ∙ ap (λ (ws : List Word). word_at ws 0) (words_cut bytes)
+    ⊎_elim
+    (λ (none : without_blanks bytes ≡ []).
+    ap (λ (w : List ℕ). take (place w) w) none ∙ ap (λ (w : List ℕ). word_at (words_in w) 0) (sym none)
+    ∙ ap (λ (ws : List Word). word_at ws 0) (sym (words_behind bytes)))
+    (λ (some : 0 < place (without_blanks bytes)).
+    sym (ap (λ (ws : List Word). word_at ws 0) (word_there (without_blanks bytes) some))
+    ∙ ap (λ (ws : List Word). word_at ws 0) (sym (words_behind bytes)))
+    (begins bytes)
 
 -- the words behind the first one
 pub words_after : (bytes : List ℕ) → words_in (drop (place (without_blanks bytes) + 1) (without_blanks bytes)) ≡ drop 1 (words_in bytes)
@@ -125,10 +107,17 @@ words_after bytes =
     sym (ap (drop 1) (word_there (without_blanks bytes) some)) ∙ ap (drop 1) (sym (words_behind bytes)))
     (begins bytes)
 
+-- a word behind the first one, by its place among those behind it
+pub word_later : (words : List Word) (k : ℕ) → word_at (drop 1 words) k ≡ word_at words (suc k)
+word_later [] k = refl
+word_later (w ∷ ws) k = refl
+
+-- the same of words that are those behind the first one of others
+pub word_behind : (later words : List Word) (k : ℕ) → later ≡ drop 1 words → word_at later k ≡ word_at words (suc k)
+word_behind later words k behind = ap (λ (ws : List Word). word_at ws k) behind ∙ word_later words k
+
 -- a word behind the first one
 pub word_further : (words : List Word) (k : ℕ) → 0 < k → word_at (drop 1 words) (k - 1) ≡ word_at words k
-word_further words k some = counted words (k - 1) k (omega (arith, some))
-  where
-    counted : (words : List Word) (j k : ℕ) → k ≡ suc j → word_at (drop 1 words) j ≡ word_at words k
-    counted [] j k e = refl
-    counted (w ∷ ws) j k e = ap (word_at (w ∷ ws)) (sym e)
+word_further words k some =
+    let next : suc (k - 1) ≡ k = omega (arith, some) in
+    word_later words (k - 1) ∙ ap (word_at words) next

@@ -3,6 +3,8 @@ pub mod MaskedAddress
 pub mod InterfaceLines
 pub mod OspfLines
 pub mod IsisLines
+pub mod TitleLaws
 pub mod Heads
+pub mod HeadLaws
 pub mod Lookups
 pub mod FaultOrder

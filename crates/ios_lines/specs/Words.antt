@@ -3,7 +3,7 @@ use Rattle.std.specs.Prelude.{ℕ, ◌+◌, ◌-◌, ◌*◌, ◌^◌, Bool, Lis
 use Rattle.std.specs.Prelude.{bytes_eq, nat_eq, nat_le, nat_lt, find, codes, if◌then◌else◌}
 use Rattle.std.specs.List.{list_all, before_first, after_first, range_with_len}
 use Rattle.std.specs.Char.{is_ascii_digit}
-use Rattle.net_addr.specs.Blanks.{is_blank, words_in}
+use Rattle.net_addr.specs.Blanks.{is_blank}
 use Rattle.net_addr.specs.Numerals.{decimal_value}
 use Rattle.net_model.specs.declared.config.Levels.{Levels}
 use Rattle.net_model.specs.declared.config.Levels.TheVariants.{One, Two, Both}
@@ -18,10 +18,6 @@ Word = List ℕ
 abbrev pub without_blanks : List ℕ → List ℕ
 without_blanks [] = []
 without_blanks (b ∷ bs) = if is_blank b then without_blanks bs else b ∷ bs
-
--- the words of a line that begins with this word, before these bytes; none where it is empty
-abbrev pub words_from : Word → List ℕ → List Word
-words_from first rest = if nat_eq (length first) 0 then [] else first ∷ words_in rest
 
 -- the word at a place; past the last word it is the empty word, which no word of a line is
 abbrev pub word_at : List Word → ℕ → Word

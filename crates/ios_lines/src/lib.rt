@@ -7,11 +7,12 @@
 //! | `interface_line` | what a line of an interface says |
 //! | `ospf_line` | what a line of `router ospf` says |
 //! | `isis_line`, `title` | what a line of `router isis` says; the title of its `net` line (ISO 10589, section 7.1) |
+//! | `laws` | which lines at indent 0 say something, as a table; which words are titles, in the words of the standard |
 //! | `kind`, `fault` | why a line is faulty, and which of two faults is told: the earlier line, then the lesser kind |
 //!
-//! What a line says is what its row of `docs/profile.md` says; a line that no row names is skipped. A line is looked at
-//! word by word in its bytes. Each reading of a line takes time of the words that it looks at, at most the first nine
-//! and what stands before them, and memory for names alone.
+//! What a line says is what its row of `docs/profile.md` says; a line that no row names is skipped. The first five
+//! words of a line are cut off in one pass over its bytes (`Words::of`), and the few lines with more words are gone
+//! through again for each further one. So each reading of a line takes time of its bytes, and memory for names alone.
 #![tactic(auto)]
 
 // The bounds of numbers, words, and why a line is faulty.
@@ -28,6 +29,10 @@ pub mod isis_line;
 pub mod ospf_line;
 pub mod title;
 
+// What the definitions mean, in other words.
+mod laws;
+
 pub use bounds::{DEFAULT_METRIC, DEFAULT_REFERENCE};
 pub use kind::ReadKind;
+pub use laws::{head_law, title_law};
 pub use std::alloc::AllocError as OutOfMemory;

@@ -88,7 +88,7 @@ fn are_groups(bytes: &[u8]) -> bool
 }
 
 /// Whether bytes are an area address: two hexadecimal digits, then groups.
-fn is_area_address(bytes: &[u8]) -> bool
+pub fn is_area_address(bytes: &[u8]) -> bool
     ensures { result ≡ is_area_address bytes.now }
 {
     match bytes {

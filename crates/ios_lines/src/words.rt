@@ -1,7 +1,7 @@
 ghost use Rattle.std.specs.Prelude.{◌≡◌, ◌+◌, ◌≤◌, drop, length, IfSome, IfOk, bytes_eq};
 ghost use Rattle.std.specs.List.{position_or_len, prefix_len};
 ghost use Rattle.net_addr.specs.Blanks.{is_blank, words_in};
-ghost use Rattle.ios_lines.specs.Words.{without_blanks, words_from, word_at, says, begins_with_two, begins_with_three, lacks, number_of, number_from};
+ghost use Rattle.ios_lines.specs.Words.{without_blanks, word_at, says, begins_with_two, begins_with_three, lacks, number_of, number_from};
 ghost use Rattle.ios_lines.specs.Words.{address_of, mask_of, area_of, levels_of, is_printable, is_letter};
 
 use crate::OutOfMemory;
@@ -11,20 +11,31 @@ use net_model::Levels;
 use std::alloc::Global;
 use std::marker::Model;
 
-/// The words of a line, in order. They are looked for in its bytes and take no memory.
+/// The words of a line, in order, without memory.
+///
+/// The first five are cut off in one pass over the line. A further one is counted off in it each time.
 #[derive(Debug, Drop)]
 pub struct Words<'a> {
+    line: &'a [u8],
     first: &'a [u8],
-    rest: &'a [u8],
+    second: &'a [u8],
+    third: &'a [u8],
+    fourth: &'a [u8],
+    fifth: &'a [u8],
 }
 
 impl<'a> Model for Words<'a> {
-    ghost use Rattle.std.specs.Prelude.{List, ℕ};
-    ghost use Rattle.ios_lines.specs.Words.{words_from};
+    ghost use Rattle.std.specs.Prelude.{◌≡◌, List, ℕ};
+    ghost use Rattle.net_addr.specs.Blanks.{words_in};
+    ghost use Rattle.ios_lines.specs.Words.{word_at};
 
     ghost Value = { List (List ℕ) };
 
-    ghost view = { λ w. words_from w.first.now w.rest.now };
+    ghost view = { λ w. words_in w.line.now };
+
+    ghost invariant = { λ w. (w.first.now ≡ word_at (words_in w.line.now) 0) × (w.second.now ≡ word_at (words_in w.line.now) 1)
+        × (w.third.now ≡ word_at (words_in w.line.now) 2) × (w.fourth.now ≡ word_at (words_in w.line.now) 3)
+        × (w.fifth.now ≡ word_at (words_in w.line.now) 4) };
 }
 
 impl<'a> Words<'a> {
@@ -32,24 +43,32 @@ impl<'a> Words<'a> {
     pub fn of(line: &'a [u8]) -> Words<'a>
         ensures { result ≡ words_in line.entry.now }
     {
-        let bytes = behind_blanks(line);
-        let len = word_len(bytes);
+        let (first, behind_first) = cut_word(line);
+        let (second, behind_second) = cut_word(behind_first);
+        let (third, behind_third) = cut_word(behind_second);
+        let (fourth, behind_fourth) = cut_word(behind_third);
+        let (fifth, _) = cut_word(behind_fourth);
         Words {
-            first: &bytes[..len],
-            rest: behind(bytes, len),
+            line,
+            first,
+            second,
+            third,
+            fourth,
+            fifth,
         }
     }
 
     /// The word at a place, empty where the line has fewer words.
-    ///
-    /// The first one is at hand, the others are counted off.
     pub fn at(&self, k: usize) -> &[u8]
         ensures { result.now ≡ word_at self.now k }
     {
-        if k == 0 || self.first.is_empty() {
-            self.first
-        } else {
-            nth_word(self.rest, k - 1)
+        match k {
+            0 => self.first,
+            1 => self.second,
+            2 => self.third,
+            3 => self.fourth,
+            4 => self.fifth,
+            _ => nth_word(self.line, k),
         }
     }
 
@@ -125,20 +144,21 @@ fn behind(bytes: &[u8], place: usize) -> &[u8]
     }
 }
 
-/// The first word of some bytes, empty where they have none.
-fn first_word(bytes: &[u8]) -> &[u8]
-    ensures { result.now ≡ word_at (words_in bytes.now) 0 }
+/// The first word of some bytes, empty where they have none, and what stands behind it and the blank after it.
+fn cut_word(bytes: &[u8]) -> (&[u8], &[u8])
+    ensures word { result.0.now ≡ word_at (words_in bytes.now) 0 }
+    ensures behind { words_in result.1.now ≡ drop 1 (words_in bytes.now) }
 {
     let bytes = behind_blanks(bytes);
-    &bytes[..word_len(bytes)]
+    let len = word_len(bytes);
+    (&bytes[..len], behind(bytes, len))
 }
 
-/// What stands behind the first word of some bytes, and the blank after it.
-fn behind_word(bytes: &[u8]) -> &[u8]
-    ensures { words_in result.now ≡ drop 1 (words_in bytes.now) }
+/// The first word of some bytes, empty where they have none.
+pub fn first_word(bytes: &[u8]) -> &[u8]
+    ensures { result.now ≡ word_at (words_in bytes.now) 0 }
 {
-    let bytes = behind_blanks(bytes);
-    behind(bytes, word_len(bytes))
+    cut_word(bytes).0
 }
 
 /// The word at a place among those of some bytes, empty where they have fewer.
@@ -148,14 +168,14 @@ fn nth_word(bytes: &[u8], k: usize) -> &[u8]
     let mut rest = bytes;
     let mut left = k;
     while left > 0 {
-        rest = behind_word(rest);
+        rest = cut_word(rest).1;
         left -= 1;
     }
     first_word(rest)
 }
 
 /// The number for which a word stands, at most `most`.
-pub fn number_of(word: &[u8], most: u32) -> Option<u32>
+fn number_of(word: &[u8], most: u32) -> Option<u32>
     ensures value { result ≡ number_of most word.now }
     ensures within { IfSome result (λ n. n ≤ most) }
 {

@@ -4,7 +4,7 @@ use Rattle.std.proofs.Common.{Ok, Err}
 use Rattle.std.specs.Prelude.{filter_map, flat_map, option_map, is_none, is_some, unwrap_or, fold}
 use Rattle.std.specs.List.{cons_option}
 use Rattle.net_model.specs.Configuration.{Configuration}
-use Rattle.net_model.specs.LevelSets.{has_one, has_two}
+use Rattle.net_model.specs.LevelSets.{has_level_one, has_level_two}
 use Rattle.net_model.specs.declared.area.Stub.{Stub}
 use Rattle.net_model.specs.declared.config.Levels.{Levels}
 use Rattle.net_model.specs.declared.interface.Interface.{Interface}
@@ -174,8 +174,8 @@ interface_by router name facts given area ospf_passive isis_passive = record {
   area = area;
   cost = cost_field area (ospf_cost router name facts);
   ospf_passive = ospf_passive;
-  level1 = runs_level has_one router.levels isis_passive facts;
-  level2 = runs_level has_two router.levels isis_passive facts;
+  level1 = runs_level has_level_one router.levels isis_passive facts;
+  level2 = runs_level has_level_two router.levels isis_passive facts;
   metric1 = level_metric router.metric isis_passive facts facts.metric1;
   metric2 = level_metric router.metric isis_passive facts facts.metric2;
   isis_passive = isis_passive;

@@ -6,12 +6,12 @@ use Rattle.ios_sections.specs.JoinedLines.{sections_further_on}
 use Rattle.ios_sections.specs.declared.section.Section.{Section}
 use Rattle.ios_reader.specs.Faults.{section_faults}
 use Rattle.ios_reader.specs.Configurations.{configuration_of}
-use Rattle.ios_reader.specs.InsertedLines.{IsBlock}
+use Rattle.ios_reader.specs.InsertedLines.{IsLineBlock}
 use Rattle.ios_reader.proofs.InsertedFacts.{joined_blocks, block_by_block}
 
 -- a block behind sections: it fits, no fault comes with it, and this is the configuration
 pub record Grows (ss : List Section) (ends : ℕ) (block : List ℕ) (grown : Configuration) : Type 0 where
-  pub fits : IsBlock block
+  pub fits : IsLineBlock block
   pub faultless : (count : ℕ) → section_faults (ss ++ sections_further_on count block) ends ≡ []
   pub made : (count : ℕ) → grown ≡ configuration_of (ss ++ sections_further_on count block)
 

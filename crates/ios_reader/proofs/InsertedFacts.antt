@@ -30,7 +30,7 @@ use Rattle.ios_reader.specs.Routers.{router_of}
 use Rattle.ios_reader.specs.Faults.{interface_faults, section_faults, part_faults, faults_in}
 use Rattle.ios_reader.specs.Configurations.{configurations_in, configuration_of}
 use Rattle.ios_reader.specs.Texts.{ReadsText}
-use Rattle.ios_reader.specs.InsertedLines.{IsOutsideBanners, IsClosed, IsEndLine, IsBlock, grown_sections, IsGrown, IsReadGrown}
+use Rattle.ios_reader.specs.InsertedLines.{IsOutsideBanners, IsClosed, IsEndLine, IsLineBlock, grown_sections, IsGrown, IsReadGrown}
 use Rattle.ios_reader.proofs.FurtherReading.{part-further, part_faults-further}
 
 -- ---- what it takes to be read ----
@@ -285,7 +285,7 @@ closed_text before line outside last =
 
 -- ---- a block put before an `end` line ----
 
-block_outside : (before block : List ℕ) → IsOutsideBanners before → IsBlock block → IsOutsideBanners (before ++ block)
+block_outside : (before block : List ℕ) → IsOutsideBanners before → IsLineBlock block → IsOutsideBanners (before ++ block)
 block_outside before block outside fits = record {
   whole = is_of_whole_lines-append before block outside.whole fits.whole;
   outside = banner_joined before block outside ∙ banner-none (lines_in block) fits.no_banner;
@@ -295,26 +295,26 @@ block_outside before block outside fits = record {
 abbrev block_lines : List ℕ → List ℕ → List TextLine
 block_lines before block = map (further_on (count_of before)) (counted_lines (lines_in block))
 
-no_end_in : (before block : List ℕ) → IsBlock block → list_any is_end (block_lines before block) ≡ false
+no_end_in : (before block : List ℕ) → IsLineBlock block → list_any is_end (block_lines before block) ≡ false
 no_end_in before block fits =
     list_any-map is_end is_end (further_on (count_of before)) (λ x. refl) (counted_lines (lines_in block))
     ∙ counted-no_end (lines_in block) fits.no_banner fits.no_end
 
-block_parts : (before block : List ℕ) → IsOutsideBanners before → IsBlock block → parts_of (lines_in (before ++ block)) ≡ parts_of (lines_in before)
+block_parts : (before block : List ℕ) → IsOutsideBanners before → IsLineBlock block → parts_of (lines_in (before ++ block)) ≡ parts_of (lines_in before)
 block_parts before block outside fits =
     ap (parts_after []) (counted_joined before block outside)
     ∙ parts-append [] (counted_lines (lines_in before)) (block_lines before block)
     ∙ ap (λ (ps : List Part). parts_of (lines_in before) ++ ps) (parts-none (open_lines before) (block_lines before block) (no_end_in before block fits))
     ∙ append-nil (parts_of (lines_in before))
 
-block_open : (before block : List ℕ) → IsOutsideBanners before → IsBlock block → open_lines (before ++ block) ≡ open_lines before ++ block_lines before block
+block_open : (before block : List ℕ) → IsOutsideBanners before → IsLineBlock block → open_lines (before ++ block) ≡ open_lines before ++ block_lines before block
 block_open before block outside fits =
     ap (rest_after []) (counted_joined before block outside)
     ∙ rest-append [] (counted_lines (lines_in before)) (block_lines before block)
     ∙ rest-none (open_lines before) (block_lines before block) (no_end_in before block fits)
 
 -- the sections that stand open behind a text and a block
-block_sections : (before block : List ℕ) → IsOutsideBanners before → IsBlock block → open_sections (before ++ block) ≡ grown_sections before block
+block_sections : (before block : List ℕ) → IsOutsideBanners before → IsLineBlock block → open_sections (before ++ block) ≡ grown_sections before block
 block_sections before block outside fits =
     ap sections_among (block_open before block outside fits)
     ∙ sections_among-append (open_lines before) (block_lines before block) (first-further (count_of before) (counted_lines (lines_in block)) ∙ fits.opens)
@@ -411,7 +411,7 @@ reads_around text after configurations outside first faultless around = record {
 }
 
 pub inserted_lines : (before block after : List ℕ) (configurations : List Configuration) (grown : Configuration) →
-    IsOutsideBanners before → IsBlock block → begins_with_end (lines_in after) ≡ true →
+    IsOutsideBanners before → IsLineBlock block → begins_with_end (lines_in after) ≡ true →
     ReadsText (before ++ after) configurations → IsGrown before block grown → IsReadGrown before block after configurations grown
 inserted_lines before block after configurations grown outside fits ends reads grows =
     let first : EndsFirst (lines_in after) = ends_first (lines_in after) ends in
@@ -457,10 +457,10 @@ none_in_joined p one other same whole first second =
     ∙ none_joined p (lines_in one) (map (further_on (count_of one)) (lines_in other)) first
     (list_any-map p p (further_on (count_of one)) (same (count_of one)) (lines_in other) ∙ second)
 
-block_alone : (block : List ℕ) → IsBlock block → IsOutsideBanners block
+block_alone : (block : List ℕ) → IsLineBlock block → IsOutsideBanners block
 block_alone block fits = record { whole = fits.whole; outside = banner-none (lines_in block) fits.no_banner }
 
-pub joined_blocks : (one other : List ℕ) → IsBlock one → IsBlock other → IsBlock (one ++ other)
+pub joined_blocks : (one other : List ℕ) → IsLineBlock one → IsLineBlock other → IsLineBlock (one ++ other)
 joined_blocks one other first second = record {
   whole = is_of_whole_lines-append one other first.whole second.whole;
   opens =
@@ -483,7 +483,7 @@ twice_further k n (l ∷ ls) =
     ∙ ap (λ (ms : List TextLine). further_on (k + n) l ∷ ms) (twice_further k n ls)
 
 -- the sections of two blocks, one behind the other
-pub block_by_block : (count : ℕ) (one other : List ℕ) → IsBlock one → IsBlock other →
+pub block_by_block : (count : ℕ) (one other : List ℕ) → IsLineBlock one → IsLineBlock other →
     sections_further_on count (one ++ other) ≡ sections_further_on count one ++ sections_further_on (count + length (lines_in one)) other
 block_by_block count one other first second =
     ap sections_among (counted-further count (lines_in (one ++ other)))

@@ -5,6 +5,7 @@ pub mod LeastFaults
 pub mod KeptFacts
 pub mod PartFacts
 pub mod ReadFacts
+pub mod TellingReads
 pub mod TextLaws
 pub mod ConfigurationFacts
 pub mod PassiveFacts

@@ -16,7 +16,7 @@ use Rattle.ios_sections.specs.declared.section.Section.{Section}
 use Rattle.ios_sections.proofs.JoinedFacts.{lines_in-append, banner-none}
 use Rattle.ios_reader.specs.Faults.{section_faults}
 use Rattle.ios_reader.specs.Configurations.{configurations_in, configuration_of}
-use Rattle.ios_reader.specs.InsertedLines.{IsOutsideBanners, IsBlock, IsReadGrown}
+use Rattle.ios_reader.specs.InsertedLines.{IsOutsideBanners, IsLineBlock, IsReadGrown}
 use Rattle.ios_reader.specs.PutBlocks.{ends_here, put_blocks, ends_last}
 use Rattle.ios_reader.specs.Texts.{ReadsText}
 use Rattle.ios_reader.proofs.InsertedFacts.{inserted_lines}
@@ -74,7 +74,7 @@ stays_closed before raw tail (_ ∷ raws) whole next off rest last done whole_do
     (rest last (done ++ raw) (is_of_whole_lines-append done raw whole_done next) (banner_same before done raw whole whole_done same))
 
 -- a text with its block is outside banners where it was
-still_outside : (before block done : List ℕ) → IsOutsideBanners before → IsBlock block → is_of_whole_lines done ≡ true →
+still_outside : (before block done : List ℕ) → IsOutsideBanners before → IsLineBlock block → is_of_whole_lines done ≡ true →
     is_in_banner (lines_in done) ≡ is_in_banner (lines_in before) → IsOutsideBanners (done ++ block)
 still_outside before block done outside fine whole same = record {
   whole = is_of_whole_lines-append done block whole fine.whole;
@@ -83,7 +83,7 @@ still_outside before block done outside fine whole same = record {
 }
 
 -- an `end` line outside banners, with a block before it
-ends_closed : (before block raw tail : List ℕ) (raws : List (List ℕ)) (line : TextLine) → IsOutsideBanners before → IsBlock block →
+ends_closed : (before block raw tail : List ℕ) (raws : List (List ℕ)) (line : TextLine) → IsOutsideBanners before → IsLineBlock block →
     IsRaw raw → IsWholeBefore raw raws → lines_in raw ≡ line ∷ [] → is_end line ≡ true → (raws ≡ [] → tail ≡ []) →
     Closes (before ++ raw) tail raws → Closes before (block ++ raw ++ tail) (raw ∷ raws)
 ends_closed before block raw tail [] line outside fine single next is e none rest last done whole same = record {

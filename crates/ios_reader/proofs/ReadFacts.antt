@@ -1,5 +1,5 @@
 -- The answer to a text, from what was read of its parts.
-use Rattle.std.proofs.Common.{sym, ◌≡◌, ℕ, ◌+◌, ◌≤◌, Bool, true, false, List, [], ◌∷◌, ◌++◌, length, Option, Some, None, refl, ap, subst, ◌∙◌, cond, map}
+use Rattle.std.proofs.Common.{sym, ◌≡◌, ℕ, ◌+◌, ◌≤◌, Bool, true, false, List, [], ◌∷◌, ◌++◌, length, Option, Some, None, refl, ap, subst, ◌∙◌, cond}
 use Rattle.std.proofs.Common.{arith, zero, suc, inl, inr}
 use Rattle.std.specs.Prelude.{flat_map, All, filter_map, is_none, is_some, unwrap_or}
 use Rattle.std.specs.List.{slice_split}
@@ -17,18 +17,15 @@ use Rattle.ios_sections.specs.ProcessFaults.{first_isis_line}
 use Rattle.ios_reader.specs.Faults.{interface_faults, section_faults, part_faults, faults_in}
 use Rattle.ios_sections.specs.Sections.{sections_in}
 use Rattle.ios_sections.specs.Processes.{as_hostname, as_isis, as_fault, interfaces_in, first_isis, first_tag, isis_lines}
-use Rattle.ios_reader.specs.Routers.{router_of, router_with, rfc1583_said, ospf_distance_said, isis_distance_said, leak_said, ranges_in, stubs_in}
-use Rattle.ios_reader.specs.InterfacesAsRead.{interface_as_read}
-use Rattle.ios_lines.specs.Lookups.{last_of, value_or}
-use Rattle.ios_reader.specs.Configurations.{IsNotAfter, IsLeastFault, configuration_of, tag_in, area_in, system_in}
+use Rattle.ios_reader.specs.Routers.{router_of}
+use Rattle.ios_lines.specs.Lookups.{last_of}
+use Rattle.ios_reader.specs.Configurations.{IsNotAfter, IsLeastFault, configuration_of, tag_in}
 use Rattle.ios_sections.specs.Statements.{Statements, statements_of}
-use Rattle.ios_reader.specs.steps.ByStatements.{ospf_fault_by, isis_fault_by, fault_by, title_by, configuration_by}
+use Rattle.ios_reader.specs.steps.ByStatements.{ospf_fault_by, isis_fault_by, fault_by, configuration_by}
 use Rattle.ios_reader.specs.steps.Parts.{IsMadeOf, Reading, IsReadingOf}
 use Rattle.ios_reader.specs.Texts.{ReadsText, IsRefusedText}
 use Rattle.ios_lines.specs.declared.kind.ReadKind.TheVariants.{NoHostname, NoEnd}
 use Rattle.ios_lines.specs.declared.fault.Fault.{Fault}
-use Rattle.ios_lines.specs.declared.ospf_line.OspfStatement.{OspfStatement}
-use Rattle.ios_lines.specs.declared.isis_line.IsisStatement.{IsisStatement}
 use Rattle.ios_sections.specs.declared.section.IsisSection.{IsisSection}
 use Rattle.ios_sections.specs.declared.section.Section.{Section}
 use Rattle.ios_lines.proofs.FaultFacts.{least_of_two}
@@ -86,30 +83,14 @@ tag_is : (all : List IsisSection) → unwrap_or (first_tag all) [] ≡ tag_in (f
 tag_is [] = refl
 tag_is (s ∷ ss) = refl
 
-abbrev whole : Bool → Word → Statements → Configuration
-whole isis tag s = record {
-  name = unwrap_or s.name [];
-  interfaces = map (interface_as_read (router_with s.process s.ospf s.isis)) s.interfaces;
-  process = s.process;
-  isis = isis;
-  tag = tag;
-  isis_area = area_in (title_by s.isis);
-  system = system_in (title_by s.isis);
-  levels = (router_with s.process s.ospf s.isis).levels;
-  leak = unwrap_or (last_of (λ (t : IsisStatement). leak_said t.says) s.isis) false;
-  ranges = ranges_in s.ospf;
-  stubs = stubs_in s.ospf;
-  rfc1583 = unwrap_or (last_of (λ (t : OspfStatement). rfc1583_said t.says) s.ospf) true;
-  distances = record {
-    ospf = value_or (last_of (λ (t : OspfStatement). ospf_distance_said t.says) s.ospf) 110;
-    isis = value_or (last_of (λ (t : IsisStatement). isis_distance_said t.says) s.isis) 115;
-  };
-}
+abbrev with_tag : Configuration → Bool → Word → Configuration
+with_tag c isis tag = record c { isis = isis; tag = tag }
 
-configuration_is : (sections : List Section) → configuration_by (statements_of sections) ≡ configuration_of sections
+pub configuration_is : (sections : List Section) → configuration_by (statements_of sections) ≡ configuration_of sections
 configuration_is sections =
-    ap (λ (b : Bool). whole b (unwrap_or (first_tag (filter_map as_isis sections)) []) (statements_of sections)) (tag_there (filter_map as_isis sections))
-    ∙ ap (λ (w : Word). whole (is_some (first_isis (filter_map as_isis sections))) w (statements_of sections)) (tag_is (filter_map as_isis sections))
+    ap (λ (b : Bool). with_tag (configuration_by (statements_of sections)) b (unwrap_or (first_tag (filter_map as_isis sections)) []))
+    (tag_there (filter_map as_isis sections))
+    ∙ ap (with_tag (configuration_by (statements_of sections)) (is_some (first_isis (filter_map as_isis sections)))) (tag_is (filter_map as_isis sections))
 
 -- ---- a part ----
 

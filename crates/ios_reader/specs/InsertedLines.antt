@@ -45,7 +45,7 @@ SomeConfigurationLaw = (text : List ℕ) (configurations : List Configuration) �
 -- ---- lines put before an `end` line ----
 
 -- a block of whole lines, of which the first one that counts is at indent 0, without a `banner` and without an `end` line
-pub record IsBlock (block : List ℕ) : Type 0 where
+pub record IsLineBlock (block : List ℕ) : Type 0 where
   pub whole : is_of_whole_lines block ≡ true
   pub opens : first_indent (counted_lines (lines_in block)) ≡ 0
   pub no_banner : list_any begins_banner (lines_in block) ≡ false
@@ -53,12 +53,12 @@ pub record IsBlock (block : List ℕ) : Type 0 where
 
 -- two blocks are one, end to end
 abbrev pub JoinedBlocksLaw : Type 0
-JoinedBlocksLaw = (block other : List ℕ) → IsBlock block → IsBlock other → IsBlock (block ++ other)
+JoinedBlocksLaw = (block other : List ℕ) → IsLineBlock block → IsLineBlock other → IsLineBlock (block ++ other)
 
 -- the sections of two blocks behind so many lines are those of the one and then those of the other
 abbrev pub BlockSectionsLaw : Type 0
 BlockSectionsLaw =
-    (count : ℕ) (block other : List ℕ) → IsBlock block → IsBlock other →
+    (count : ℕ) (block other : List ℕ) → IsLineBlock block → IsLineBlock other →
     sections_further_on count (block ++ other) ≡ sections_further_on count block ++ sections_further_on (count + length (lines_in block)) other
 
 -- what the sections say that stand open behind a text, and behind them those of a block
@@ -82,6 +82,6 @@ pub record IsReadGrown (before block after : List ℕ) (configurations : List Co
 abbrev pub InsertedLinesLaw : Type 0
 InsertedLinesLaw =
     (before block after : List ℕ) (configurations : List Configuration) (grown : Configuration) →
-    IsOutsideBanners before → IsBlock block → begins_with_end (lines_in after) ≡ true →
+    IsOutsideBanners before → IsLineBlock block → begins_with_end (lines_in after) ≡ true →
     ReadsText (before ++ after) configurations → IsGrown before block grown →
     IsReadGrown before block after configurations grown

@@ -5,7 +5,7 @@ use Rattle.std.specs.List.{starts_with}
 use Rattle.net_addr.specs.Addresses.{Block}
 use Rattle.net_model.specs.declared.config.Levels.{Levels}
 use Rattle.net_model.specs.declared.config.Levels.TheVariants.{Both}
-use Rattle.net_model.specs.LevelSets.{has_one, has_two}
+use Rattle.net_model.specs.LevelSets.{has_level_one, has_level_two}
 use Rattle.net_model.specs.declared.bounds.TheConstants.{MOST_INTERFACE_COST}
 use Rattle.ios_lines.specs.declared.bounds.TheConstants.{DEFAULT_METRIC}
 use Rattle.net_model.specs.declared.interface.Interface.{Interface}
@@ -152,8 +152,8 @@ interface_with router name facts = record {
   area = interface_area router facts;
   cost = cost_field (interface_area router facts) (ospf_cost router name facts);
   ospf_passive = is_ospf_passive router name;
-  level1 = runs_level has_one router.levels (is_isis_passive router name) facts;
-  level2 = runs_level has_two router.levels (is_isis_passive router name) facts;
+  level1 = runs_level has_level_one router.levels (is_isis_passive router name) facts;
+  level2 = runs_level has_level_two router.levels (is_isis_passive router name) facts;
   metric1 = level_metric router.metric (is_isis_passive router name) facts facts.metric1;
   metric2 = level_metric router.metric (is_isis_passive router name) facts facts.metric2;
   isis_passive = is_isis_passive router name;

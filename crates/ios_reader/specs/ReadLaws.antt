@@ -15,8 +15,8 @@ ReadOrRefusedLaw =
     ReadsText text configurations → IsRefusedText text line kind → ⊥
 
 -- a text is refused at one line at most, and with one kind
-abbrev pub OneRefusalLaw : Type 0
-OneRefusalLaw =
+abbrev pub OneReadRefusalLaw : Type 0
+OneReadRefusalLaw =
     (text : List ℕ) (line other_line : ℕ) (kind other_kind : ReadKind) →
     IsRefusedText text line kind → IsRefusedText text other_line other_kind → (line ≡ other_line) × (kind ≡ other_kind)
 

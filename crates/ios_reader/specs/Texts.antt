@@ -18,6 +18,6 @@ abbrev pub IsRefusedText : List ℕ → ℕ → ReadKind → Type 0
 IsRefusedText text line kind = IsLeastFault (faults_in (lines_in text)) (fault_at line kind)
 
 -- why the text isn't read; want of memory may be the answer to any text
-abbrev pub Refuses : List ℕ → ReadRefusal → Type 0
-Refuses text (Bad line kind) = IsRefusedText text line kind
-Refuses text OutOfMemory = Unit {0}
+abbrev pub RefusesConfiguration : List ℕ → ReadRefusal → Type 0
+RefusesConfiguration text (Bad line kind) = IsRefusedText text line kind
+RefusesConfiguration text OutOfMemory = Unit {0}

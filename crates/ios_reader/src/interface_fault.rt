@@ -1,9 +1,11 @@
-ghost use Rattle.std.specs.Prelude.{◌≡◌, flat_map, option_copied};
+ghost use Rattle.std.specs.Prelude.{◌≡◌, option_copied};
+ghost use Rattle.ios_lines.specs.InterfaceLines.{counting};
 ghost use Rattle.ios_lines.specs.FaultOrder.{least_fault};
 ghost use Rattle.ios_reader.specs.Faults.{membership_of, membership_fault, statement_faults, interface_line_faults, long_mask, address_mask_faults};
+ghost use Rattle.ios_reader.specs.InterfaceFacts.{facts_of};
 ghost use Rattle.ios_reader.specs.Faults.{is_point_to_point, loopback_faults, bandwidth_faults, interface_faults};
 
-use crate::facts::{InterfaceFacts, PlacedAddress, facts_of};
+use crate::facts::{InterfaceFacts, PlacedAddress};
 use crate::interface_read::{interface_area, is_loopback, is_up, ospf_cost};
 use crate::router::Router;
 use ios_lines::address::InterfaceAddress;
@@ -119,34 +121,19 @@ fn bandwidth_fault(
     fault_if(faulty, section.line, ReadKind::NoBandwidth)
 }
 
-/// The least fault of an interface.
+/// The least fault of an interface, whose lines say this in the end.
 #[tactic(auto, using(ios_lines::proofs::FaultFacts::least_of_two))]
 pub fn interface_fault(
     router: &Router,
-    first: Option<&[u8]>,
+    tag: Option<&[u8]>,
     section: &InterfaceSection,
+    facts: &InterfaceFacts,
 ) -> Option<Fault>
-    ensures { result ≡ least_fault (interface_faults router.now (option_copied first.entry) section.now) }
+    requires { facts.now ≡ facts_of (counting section.now.lines) }
+    ensures { result ≡ least_fault (interface_faults router.now (option_copied tag.entry) section.now) }
 {
-    let lines = counting(section.lines.as_slice());
-    let facts = facts_of(lines);
-    let own = interface_line_faults(first, lines);
-    let mask = loopback_fault(section.name.as_slice(), &facts);
-    let bandwidth = bandwidth_fault(router, section, &facts);
+    let own = interface_line_faults(tag, counting(section.lines.as_slice()));
+    let mask = loopback_fault(section.name.as_slice(), facts);
+    let bandwidth = bandwidth_fault(router, section, facts);
     lesser_fault(lesser_fault(own, mask), bandwidth)
-}
-
-/// The least fault of the interfaces.
-pub fn interface_faults(
-    router: &Router,
-    first: Option<&[u8]>,
-    sections: &[InterfaceSection],
-) -> Option<Fault>
-    ensures { result ≡ least_fault (flat_map (interface_faults router.now (option_copied first.entry)) sections.now) }
-{
-    let mut fault = None;
-    for section in sections {
-        fault = lesser_fault(fault, interface_fault(router, first, section));
-    }
-    fault
 }

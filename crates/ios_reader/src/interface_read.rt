@@ -1,30 +1,27 @@
-ghost use Rattle.std.specs.Prelude.{◌≡◌, ◌≤◌, length, take_while, unwrap_or, map, IfOk};
+ghost use Rattle.std.specs.Prelude.{◌≡◌, ◌≤◌, length, take_while, unwrap_or};
 ghost use Rattle.std.specs.List.{prefix_len};
-ghost use Rattle.net_model.specs.LevelSets.{has_one, has_two};
+ghost use Rattle.net_model.specs.LevelSets.{has_level_one, has_level_two};
 ghost use Rattle.ios_lines.specs.Words.{is_letter};
 ghost use Rattle.ios_lines.specs.Lookups.{good_value};
 ghost use Rattle.ios_reader.specs.steps.Passives.{ArePassivesOf};
 ghost use Rattle.ios_reader.specs.InterfacesAsRead.{address_given, is_loopback, is_up, names_process, area_by, interface_area, default_bandwidth};
 ghost use Rattle.ios_reader.specs.InterfacesAsRead.{cost_of_bandwidth, cost_by_bandwidth, default_cost, cost_given, ospf_cost, is_isis_passive};
 ghost use Rattle.ios_reader.specs.InterfacesAsRead.{is_ospf_passive, runs_isis, runs_level, metric_by, level_metric, address_field, subnet_field, cost_field};
-ghost use Rattle.ios_reader.specs.InterfacesAsRead.{interface_with, interface_as_read};
+ghost use Rattle.ios_reader.specs.InterfacesAsRead.{interface_with};
 
-use crate::OutOfMemory;
-use crate::facts::{InterfaceFacts, PlacedAddress, facts_of};
+use crate::facts::{InterfaceFacts, PlacedAddress};
 use crate::passive::Passives;
 use crate::router::{Router, levels_or_both, network_area};
 use ios_lines::DEFAULT_METRIC;
 use ios_lines::address::InterfaceAddress;
-use ios_lines::interface_line::{ProcessArea, counting};
+use ios_lines::interface_line::ProcessArea;
 use ios_lines::kind::ReadKind;
 use ios_lines::words::{is_letter, is_text};
-use ios_sections::section::InterfaceSection;
 use net_addr::{Name, Prefix};
 use net_model::{Interface, Levels, MOST_INTERFACE_COST};
-use std::alloc::Global;
 
 /// The address that the last address line gives.
-pub fn address_given(address: Option<Option<PlacedAddress>>) -> Option<InterfaceAddress>
+fn address_given(address: Option<Option<PlacedAddress>>) -> Option<InterfaceAddress>
     ensures { result ≡ address_given address }
 {
     match address {
@@ -220,21 +217,21 @@ fn runs_isis(passive: bool, facts: &InterfaceFacts) -> bool
 }
 
 /// Whether an interface that is passive or not runs level 1, on a router of these levels.
-fn runs_one(levels: Levels, passive: bool, facts: &InterfaceFacts) -> bool
-    ensures { result ≡ runs_level has_one levels passive facts.now }
+fn runs_level_one(levels: Levels, passive: bool, facts: &InterfaceFacts) -> bool
+    ensures { result ≡ runs_level has_level_one levels passive facts.now }
 {
     runs_isis(passive, facts)
-        && levels.has_one()
-        && (passive || levels_or_both(facts.circuit).has_one())
+        && levels.has_level_one()
+        && (passive || levels_or_both(facts.circuit).has_level_one())
 }
 
 /// Whether an interface that is passive or not runs level 2, on a router of these levels.
-fn runs_two(levels: Levels, passive: bool, facts: &InterfaceFacts) -> bool
-    ensures { result ≡ runs_level has_two levels passive facts.now }
+fn runs_level_two(levels: Levels, passive: bool, facts: &InterfaceFacts) -> bool
+    ensures { result ≡ runs_level has_level_two levels passive facts.now }
 {
     runs_isis(passive, facts)
-        && levels.has_two()
-        && (passive || levels_or_both(facts.circuit).has_two())
+        && levels.has_level_two()
+        && (passive || levels_or_both(facts.circuit).has_level_two())
 }
 
 /// A number that is there and good.
@@ -304,7 +301,7 @@ fn cost_field(area: Option<u32>, cost: Option<u32>) -> u32
 }
 
 /// An interface as read, from what its lines say.
-fn interface_with(
+pub fn interface_with(
     router: &Router,
     passives: &Passives,
     name: Name,
@@ -319,8 +316,8 @@ fn interface_with(
     let loopback = is_loopback(name.as_slice());
     let ospf_passive = is_ospf_passive(router, passives, name.as_slice());
     let isis_passive = is_isis_passive(router, passives, name.as_slice());
-    let level1 = runs_one(router.levels, isis_passive, facts);
-    let level2 = runs_two(router.levels, isis_passive, facts);
+    let level1 = runs_level_one(router.levels, isis_passive, facts);
+    let level2 = runs_level_two(router.levels, isis_passive, facts);
     let metric1 = level_metric(router.metric, isis_passive, facts, facts.metric1);
     let metric2 = level_metric(router.metric, isis_passive, facts, facts.metric2);
     Interface {
@@ -338,30 +335,4 @@ fn interface_with(
         metric2,
         isis_passive,
     }
-}
-
-/// An interface as read, from its sections.
-fn interface_as_read(router: &Router, passives: &Passives, section: InterfaceSection) -> Interface
-    requires { ArePassivesOf router.now passives.now }
-    ensures { result ≡ interface_as_read router.now section }
-{
-    let facts = facts_of(counting(section.lines.as_slice()));
-    interface_with(router, passives, section.name, &facts)
-}
-
-/// The interfaces of a router as read.
-pub fn interfaces_as_read(
-    alloc: Global,
-    router: &Router,
-    passives: &Passives,
-    sections: Vec<InterfaceSection>,
-) -> Result<Vec<Interface>, OutOfMemory>
-    requires { ArePassivesOf router.now passives.now }
-    ensures { IfOk result (λ read. read.items ≡ map (interface_as_read router.now) sections.items) }
-{
-    let mut interfaces = Vec::new(alloc);
-    for section in sections {
-        interfaces.push(interface_as_read(router, passives, section))?;
-    }
-    Ok(interfaces)
 }

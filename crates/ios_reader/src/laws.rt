@@ -1,11 +1,11 @@
 ghost use Rattle.ios_reader.specs.AreaLaws.{LastRangesLaw, LastStubLinesLaw};
-ghost use Rattle.ios_reader.specs.ReadLaws.{OneReadingLaw, ReadOrRefusedLaw, OneRefusalLaw, SomeAnswerLaw};
+ghost use Rattle.ios_reader.specs.ReadLaws.{OneReadingLaw, ReadOrRefusedLaw, OneReadRefusalLaw, SomeAnswerLaw};
 
 /// The laws of `read_configs`: each text is read or refused, not both, and in one way.
 pub fn read_laws()
     ensures one_reading { OneReadingLaw }
     ensures read_or_refused { ReadOrRefusedLaw }
-    ensures one_refusal { OneRefusalLaw }
+    ensures one_refusal { OneReadRefusalLaw }
     ensures some_answer { SomeAnswerLaw }
 {}
 

@@ -5,14 +5,17 @@
 //! | `reader` | `read_configs`: a text, read into its configurations or refused for its first faulty line |
 //! | `configuration` | the lines before an `end` line, read into a configuration or their least fault |
 //! | `facts`, `router` | what the lines of an interface, and of the two processes, say in the end: of each form the last line |
-//! | `networks` | which `network` line is the first that takes an address|
+//! | `settings` | what the lines of the two processes say of a configuration |
+//! | `networks` | which `network` line is the first that takes an address |
 //! | `areas` | the ranges and stub areas of an OSPF process |
 //! | `passive` | which interfaces the two processes make passive |
-//! | `interface_read`, `interface_fault` | interfaces as read, and what is wrong with them |
+//! | `interfaces` | the interfaces of a router: what the lines of each say is found once, for both of the next |
+//! | `interface_read`, `interface_fault` | an interface as read, and what is wrong with it |
 //! | `laws`, `inserted` | that each text is read in one way; what texts are read as that are put together |
 //!
-//! A text is read in time of its bytes, and for each interface one look-up for each wildcard without holes that some
-//! `network` line has, at most 33; `network` lines whose wildcards have holes are tried one by one.
+//! A text is gone through once, and lines that tell nothing are left out at their first word. It is read in time of
+//! its bytes, and for each interface one look-up for each wildcard without holes that some `network` line has, at most
+//! 33; `network` lines whose wildcards have holes are tried one by one.
 #![tactic(auto)]
 
 // Why a line of a text is faulty.
@@ -25,10 +28,12 @@ mod facts;
 mod networks;
 mod passive;
 mod router;
+mod settings;
 
 // Interfaces as read, and their faults.
 mod interface_fault;
 mod interface_read;
+mod interfaces;
 
 // Configurations, and the whole text.
 mod configuration;

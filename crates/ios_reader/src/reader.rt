@@ -3,14 +3,14 @@ ghost use Rattle.std.specs.List.{list_any};
 ghost use Rattle.ios_sections.specs.TextLines.{is_end, parts_after, rest_after, is_empty, begins_configuration};
 ghost use Rattle.ios_lines.specs.FaultOrder.{lesser_fault};
 ghost use Rattle.ios_reader.specs.steps.Parts.{fault_read, configurations_read, IsReadingOf};
-ghost use Rattle.ios_reader.specs.Texts.{ReadsText, Refuses};
+ghost use Rattle.ios_reader.specs.Texts.{ReadsText, RefusesConfiguration};
 
 use crate::OutOfMemory;
 use crate::configuration::read_part;
 use crate::refusal::ReadRefusal;
 use ios_lines::fault::{Fault, fault_if, lesser_fault};
 use ios_lines::kind::ReadKind;
-use ios_sections::text::counted_lines;
+use ios_sections::text::telling_lines;
 use ios_sections::text_line::TextLine;
 use net_addr::lines;
 use net_model::{Config, Configs};
@@ -106,16 +106,16 @@ fn lacks_end(lines: &[TextLine]) -> bool
 pub fn read_configs(alloc: Global, text: &[u8]) -> Result<Configs, ReadRefusal>
     requires { length text.now < 2 ^ 26 }
     ensures read { IfOk result (ReadsText text.now) }
-    ensures refused { IfErr result (Refuses text.now) }
+    ensures refused { IfErr result (RefusesConfiguration text.now) }
 {
     let lines = lines(alloc, text)?;
-    let counted = match counted_lines(alloc, text, lines.as_slice()) {
-        Ok(counted) => counted,
+    let told = match telling_lines(alloc, text, lines.as_slice()) {
+        Ok(told) => told,
         Err(_) => return Err(ReadRefusal::OutOfMemory),
     };
-    let reading = read_parts(alloc, counted.as_slice())?;
+    let reading = read_parts(alloc, told.as_slice())?;
     let last = lines.as_slice().len() as u32;
-    let end = fault_if(lacks_end(counted.as_slice()), last + 1, ReadKind::NoEnd);
+    let end = fault_if(lacks_end(told.as_slice()), last + 1, ReadKind::NoEnd);
     match lesser_fault(reading.fault, end) {
         Some(fault) => Err(ReadRefusal::Bad {
             line: fault.line,

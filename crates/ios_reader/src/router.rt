@@ -153,7 +153,7 @@ pub fn network_area(router: &Router, address: u32) -> Option<u32>
 }
 
 /// A number that is there and good, or else the one that holds without a line.
-pub fn value_or(value: Option<Result<u32, ReadKind>>, default: u32) -> u32
+fn value_or(value: Option<Result<u32, ReadKind>>, default: u32) -> u32
     ensures { result ≡ value_or value default }
 {
     match value {

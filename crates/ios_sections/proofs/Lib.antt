@@ -7,3 +7,4 @@ pub mod JoinedFacts
 pub mod FurtherFacts
 pub mod FurtherProcesses
 pub mod LawFacts
+pub mod TellingFacts

@@ -1,4 +1,5 @@
 pub mod TextLines
+pub mod TellingLines
 pub mod Sections
 pub mod Processes
 pub mod ProcessFaults
@@ -6,3 +7,4 @@ pub mod Gathering
 pub mod Statements
 pub mod JoinedLines
 pub mod SectionLaws
+pub mod steps

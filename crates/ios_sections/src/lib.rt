@@ -2,7 +2,7 @@
 //!
 //! | File | What it holds |
 //! |---|---|
-//! | `text_line`, `text` | a line of a text; the lines that count: outside banners, and no comments |
+//! | `text_line`, `text` | a line of a text; the lines that count, outside banners and no comments; those that tell something |
 //! | `read_section`, `section` | the sections of some lines, and what each says |
 //! | `gather`, `name_index` | sections by what they are of, all those of one interface as one |
 //! | `process` | the OSPF process of a router, its lines, and their faults |
@@ -10,8 +10,11 @@
 //! | `statements` | what the sections of a configuration say, all together |
 //! | `laws` | what the definitions mean, in other words |
 //!
-//! `text::counted_lines` goes through a text once. `read_section::read_sections` and `statements::statements_of` take
-//! time of the lines, and one look-up of a name for each section of an interface.
+//! `text::counted_lines` and `text::telling_lines` go through a text once, and look at the first word of each line. The
+//! second keeps no line that says nothing: nothing at indent 0 but `hostname`, `interface`, `router`, `ip` and `end`
+//! lines, and no other lines than those of interfaces and processes. `read_section::read_sections` and
+//! `statements::statements_of` take time of the lines that they are given, and one look-up of a name for each section
+//! of an interface.
 #![tactic(auto)]
 
 // The lines of a text, and its sections.

@@ -24,10 +24,10 @@ fn interface_statements(
 ) -> Result<InterfaceStatements, OutOfMemory>
     ensures { IfOk result (λ s. s ≡ interface_statements (filter (λ line. nat_eq line.indent indent) lines.now)) }
 {
-    let mut statements = Vec::new(alloc);
+    let mut statements = Vec::with_capacity(alloc, lines.len())?;
     for line in lines {
         if line.indent() == indent {
-            let says = interface_line(alloc, line.words())?;
+            let says = interface_line(alloc, &line.words())?;
             statements.push(InterfaceStatement {
                 line: line.number(),
                 says,
@@ -45,10 +45,10 @@ fn ospf_statements(
 ) -> Result<OspfStatements, OutOfMemory>
     ensures { IfOk result (λ s. s ≡ ospf_statements (filter (λ line. nat_eq line.indent indent) lines.now)) }
 {
-    let mut statements = Vec::new(alloc);
+    let mut statements = Vec::with_capacity(alloc, lines.len())?;
     for line in lines {
         if line.indent() == indent {
-            let says = ospf_line(alloc, line.words())?;
+            let says = ospf_line(alloc, &line.words())?;
             statements.push(OspfStatement {
                 line: line.number(),
                 says,
@@ -66,10 +66,10 @@ fn isis_statements(
 ) -> Result<IsisStatements, OutOfMemory>
     ensures { IfOk result (λ s. s ≡ isis_statements (filter (λ line. nat_eq line.indent indent) lines.now)) }
 {
-    let mut statements = Vec::new(alloc);
+    let mut statements = Vec::with_capacity(alloc, lines.len())?;
     for line in lines {
         if line.indent() == indent {
-            let says = isis_line(alloc, line.words())?;
+            let says = isis_line(alloc, &line.words())?;
             statements.push(IsisStatement {
                 line: line.number(),
                 says,
@@ -144,12 +144,15 @@ fn section_with(
     }
 }
 
-/// The section that a line at indent 0 opens, before these lines.
+/// The section that a line at indent 0 opens, before these lines. Most such lines say nothing by their first word.
 fn section_at(alloc: Global, head: &TextLine, after: &[TextLine]) -> Result<Section, OutOfMemory>
     ensures { IfOk result (λ s. s ≡ section_of (record { head = head.now; body = section_lines after.now })) }
 {
+    if !head.may_tell() {
+        return Ok(Section::Other);
+    }
     let inside = &after[..inside_count(after)];
-    let says = head_of(alloc, head.words())?;
+    let says = head_of(alloc, &head.words())?;
     section_with(alloc, says, head.number(), inside, first_indent(inside))
 }
 

@@ -1,10 +1,11 @@
-ghost use Rattle.std.specs.Prelude.{◌≡◌, ◌++◌, map, filter, All, IfOk, OnOk};
+ghost use Rattle.std.specs.Prelude.{◌≡◌, ◌++◌, false, map, filter, All, IfOk, OnOk};
 ghost use Rattle.net_addr.specs.Spans.{LiesIn};
 ghost use Rattle.ios_sections.specs.TextLines.{text_line, counted_lines, outside_banner, banner_after, counts};
+ghost use Rattle.ios_sections.specs.TellingLines.{telling_lines, line_tells, open_after};
+ghost use Rattle.ios_sections.specs.steps.ToldLines.{told_at, place_after};
 
 use crate::OutOfMemory;
 use crate::text_line::TextLine;
-use ios_lines::words::Words;
 use net_addr::Line;
 use std::alloc::Global;
 
@@ -14,7 +15,7 @@ fn text_line<'a>(text: &'a [u8], line: Line) -> TextLine<'a>
     ensures { result ≡ text_line text.entry.now line }
 {
     let bytes = &text[line.span.start as usize..line.span.stop as usize];
-    TextLine::new(line.number, line.indent, bytes, Words::of(bytes))
+    TextLine::new(line.number, line.indent, bytes)
 }
 
 /// Takes in a line where it counts, and says whether a banner is open after it.
@@ -51,4 +52,85 @@ pub fn counted_lines<'a>(
         inside = add_line(&mut counted, inside, text_line(text, *line))?;
     }
     Ok(counted)
+}
+
+/// Whether a line that counts tells something, below a section whose lines do or not.
+fn line_tells(below: bool, line: &TextLine) -> bool
+    ensures { result ≡ line_tells below line.now }
+{
+    if line.opens_section() {
+        line.may_tell()
+    } else {
+        below
+    }
+}
+
+/// Whether the lines below a line that counts are those of a section whose lines say something.
+fn open_after(below: bool, line: &TextLine) -> bool
+    ensures { result ≡ open_after below line.now }
+{
+    if line.opens_section() {
+        line.has_lines()
+    } else {
+        below
+    }
+}
+
+/// Where a text is read: behind some of its lines.
+#[derive(Clone, Copy, Debug)]
+pub(crate) struct TextPlace {
+    /// Whether a banner is open there.
+    pub in_banner: bool,
+    /// Whether the indented lines there are of a section whose lines say something.
+    pub below: bool,
+}
+
+/// Takes in a line where it counts and tells something, and says where the text is read behind it.
+fn add_telling<'a>(
+    told: &mut Vec<TextLine<'a>>,
+    place: TextPlace,
+    line: TextLine<'a>,
+) -> Result<TextPlace, OutOfMemory>
+    ensures place { IfOk result (λ after. after ≡ place_after place line.entry) }
+    ensures lines { OnOk result (told.new.items ≡ told.old.items ++ told_at place line.entry) }
+{
+    if place.in_banner {
+        return Ok(TextPlace {
+            in_banner: !line.closes_banner(),
+            below: place.below,
+        });
+    }
+    let in_banner = line.opens_banner();
+    if !line.counts() {
+        return Ok(TextPlace {
+            in_banner,
+            below: place.below,
+        });
+    }
+    let below = open_after(place.below, &line);
+    if line_tells(place.below, &line) {
+        told.push(line)?;
+    }
+    Ok(TextPlace { in_banner, below })
+}
+
+/// The lines of a text that count and tell something. Most lines are told by their first word.
+#[tactic(auto, using(crate::proofs::TellingFacts::told_next))]
+pub fn telling_lines<'a>(
+    alloc: Global,
+    text: &'a [u8],
+    lines: &[Line],
+) -> Result<Vec<TextLine<'a>>, OutOfMemory>
+    requires { All (λ line. LiesIn text.now line.span) lines.now }
+    ensures { IfOk result (λ told. told.items ≡ telling_lines false (counted_lines (map (text_line text.entry.now) lines.entry.now))) }
+{
+    let mut told = Vec::new(alloc);
+    let mut place = TextPlace {
+        in_banner: false,
+        below: false,
+    };
+    for line in lines {
+        place = add_telling(&mut told, place, text_line(text, *line))?;
+    }
+    Ok(told)
 }

@@ -1,36 +1,45 @@
 ghost use Rattle.std.specs.Prelude.{◌≡◌};
+ghost use Rattle.net_addr.specs.Blanks.{words_in};
+ghost use Rattle.ios_lines.specs.Words.{word_at, says};
 ghost use Rattle.ios_sections.specs.TextLines.{carets, is_caret, opens_banner, closes_banner, counts, is_end, begins_configuration, opens_section};
+ghost use Rattle.ios_sections.specs.TellingLines.{may_tell, has_lines};
 
-use ios_lines::words::Words;
+use ios_lines::words::{Words, first_word};
 use std::marker::Model;
 
-/// A line of a text.
+/// A line of a text. Its first word is at hand, since most lines are told by it; the others are cut off where they
+/// are asked for.
 #[derive(Drop)]
 pub struct TextLine<'a> {
     number: u32,
     indent: u32,
     bytes: &'a [u8],
-    words: Words<'a>,
+    first: &'a [u8],
 }
 
 impl<'a> Model for TextLine<'a> {
+    ghost use Rattle.std.specs.Prelude.{◌≡◌};
+    ghost use Rattle.net_addr.specs.Blanks.{words_in};
+    ghost use Rattle.ios_lines.specs.Words.{word_at};
     ghost use Rattle.ios_sections.specs.TextLines.{TextLine};
 
     ghost Value = { TextLine };
 
-    ghost view = { λ l. record { number = l.number; indent = l.indent; bytes = l.bytes.now; words = l.words } };
+    ghost view = { λ l. record { number = l.number; indent = l.indent; bytes = l.bytes.now; words = words_in l.bytes.now } };
+
+    ghost invariant = { λ l. l.first.now ≡ word_at (words_in l.bytes.now) 0 };
 }
 
 impl<'a> TextLine<'a> {
-    /// A line with this number, from 1, so many leading blanks, these bytes and these words.
-    pub fn new(number: u32, indent: u32, bytes: &'a [u8], words: Words<'a>) -> TextLine<'a>
-        ensures { result ≡ record { number = number; indent = indent; bytes = bytes.entry.now; words = words.entry } }
+    /// A line with this number, from 1, so many leading blanks, and these bytes.
+    pub fn new(number: u32, indent: u32, bytes: &'a [u8]) -> TextLine<'a>
+        ensures { result ≡ record { number = number; indent = indent; bytes = bytes.entry.now; words = words_in bytes.entry.now } }
     {
         TextLine {
             number,
             indent,
             bytes,
-            words,
+            first: first_word(bytes),
         }
     }
 
@@ -49,17 +58,31 @@ impl<'a> TextLine<'a> {
     }
 
     /// The words of the line.
-    pub fn words(&self) -> &Words<'a>
-        ensures { result.now ≡ self.now.words }
+    pub fn words(&self) -> Words<'a>
+        ensures { result ≡ self.now.words }
     {
-        &self.words
+        Words::of(self.bytes)
+    }
+
+    /// The first word of the line, empty where it has none.
+    fn first(&self) -> &[u8]
+        ensures { result.now ≡ word_at self.now.words 0 }
+    {
+        self.first
+    }
+
+    /// Whether the first word of the line is this text.
+    fn begins_with(&self, text: &[u8]) -> bool
+        ensures { result ≡ says self.now.words 0 text.now }
+    {
+        self.first() == text
     }
 
     /// Whether the line opens a banner that doesn't end on it.
     pub fn opens_banner(&self) -> bool
         ensures { result ≡ opens_banner self.now }
     {
-        self.words.says(0, b"banner") && carets(self.bytes) == 1
+        self.begins_with(b"banner") && carets(self.bytes) == 1
     }
 
     /// Whether the line holds `^C`, which ends a banner.
@@ -73,7 +96,7 @@ impl<'a> TextLine<'a> {
     pub fn counts(&self) -> bool
         ensures { result ≡ counts self.now }
     {
-        match self.words.at(0).first() {
+        match self.first().first() {
             Some(byte) => *byte != b'!',
             None => false,
         }
@@ -83,7 +106,7 @@ impl<'a> TextLine<'a> {
     pub fn is_end(&self) -> bool
         ensures { result ≡ is_end self.now }
     {
-        self.indent == 0 && self.words.says(0, b"end") && self.words.lacks(1)
+        self.indent == 0 && self.begins_with(b"end") && self.words().lacks(1)
     }
 
     /// Whether the line begins something that an `end` line has to end.
@@ -91,9 +114,26 @@ impl<'a> TextLine<'a> {
         ensures { result ≡ begins_configuration self.now }
     {
         self.indent == 0
-            && (self.words.says(0, b"hostname")
-                || self.words.says(0, b"interface")
-                || self.words.says(0, b"router"))
+            && (self.begins_with(b"hostname")
+                || self.begins_with(b"interface")
+                || self.begins_with(b"router"))
+    }
+
+    /// Whether the line opens a section whose lines say something: of an interface, or of a process.
+    pub fn has_lines(&self) -> bool
+        ensures { result ≡ has_lines self.now }
+    {
+        self.begins_with(b"interface") || self.begins_with(b"router")
+    }
+
+    /// Whether the line may say something at indent 0, or end a configuration.
+    pub fn may_tell(&self) -> bool
+        ensures { result ≡ may_tell self.now }
+    {
+        self.has_lines()
+            || self.begins_with(b"hostname")
+            || self.begins_with(b"ip")
+            || self.begins_with(b"end")
     }
 
     /// Whether the line is at indent 0, and so opens a section.

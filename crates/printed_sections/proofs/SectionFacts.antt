@@ -30,7 +30,7 @@ use Rattle.ios_sections.specs.TextLines.{first_indent, opens_section, section_li
 use Rattle.ios_sections.specs.Sections.{section_of, section_with}
 use Rattle.ios_sections.specs.JoinedLines.{further_on, begins_banner, sections_among, sections_further_on}
 use Rattle.ios_sections.proofs.JoinedFacts.{lines_in-append}
-use Rattle.ios_reader.specs.InsertedLines.{IsBlock}
+use Rattle.ios_reader.specs.InsertedLines.{IsLineBlock}
 use Rattle.printed_sections.specs.PrintedSections.{is_fine, is_fine_line, line_with, section_lines_from, section_text}
 
 -- ---- words that can be printed ----
@@ -236,7 +236,7 @@ module _ (head : List Word) (bodies : List (List Word)) (fine_head : is_fine_lin
   no_end_line = or_from (is_end (opening 1)) (list_any is_end (section_lines_from 2 bodies)) (ap (λ (b : Bool). b && lacks head 1) not_end)
       (bodies_no_end 2 bodies)
 
-  pub section_fits : IsBlock (section_text head bodies)
+  pub section_fits : IsLineBlock (section_text head bodies)
   section_fits = record {
     whole = text_whole (joined head ∷ map spaced bodies);
     opens = ap (λ (ls : List TextLine). first_indent (counted_lines ls)) section_read ∙ ap first_indent (section_counted 1);

@@ -8,7 +8,7 @@ use Rattle.ios_lines.specs.Heads.{head_of}
 use Rattle.ios_sections.specs.TextLines.{TextLine}
 use Rattle.ios_sections.specs.Sections.{section_with}
 use Rattle.ios_sections.specs.JoinedLines.{sections_further_on}
-use Rattle.ios_reader.specs.InsertedLines.{IsBlock}
+use Rattle.ios_reader.specs.InsertedLines.{IsLineBlock}
 
 -- a word has bytes, all of them printable
 abbrev pub is_fine : Word → Bool
@@ -34,7 +34,7 @@ section_lines_from n (words ∷ more) = line_with n 1 (spaced words) words ∷ s
 
 -- a printed section may stand before an `end` line, and behind so many lines it reads as one section with just its lines
 pub record ReadsAsSection (head : List Word) (bodies : List (List Word)) : Type 0 where
-  pub fits : IsBlock (section_text head bodies)
+  pub fits : IsLineBlock (section_text head bodies)
   pub says : (count : ℕ) →
       sections_further_on count (section_text head bodies) ≡ section_with (head_of head) (count + 1) (section_lines_from (count + 2) bodies) ∷ []
 

@@ -6,6 +6,6 @@ use Rattle.ios_lines.proofs.words.nth_word.Goals as goal
 
 pub loop-left-preserved : goal.loop-left-preserved
 loop-left-preserved c =
-    ap (λ (ws : List Word). word_at ws (c.loop-left.left - 1)) c.behind_word-rest.ensures
+    ap (λ (ws : List Word). word_at ws (c.loop-left.left - 1)) c.cut_word.ensures.behind
     ∙ word_further (words_in c.loop-left.rest.now) c.loop-left.left c.loop-left-test.true
     ∙ c.loop-left.invariant

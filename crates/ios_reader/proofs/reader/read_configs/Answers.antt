@@ -1,8 +1,11 @@
-use Rattle.std.proofs.Common.{◌≡◌, ◌+◌, ◌≤◌, ℕ, Bool, ◌||◌, List, [], length, map, sym, ap, subst, ◌∙◌, arith}
+use Rattle.std.proofs.Common.{◌≡◌, ◌+◌, ◌≤◌, ℕ, Bool, false, ◌||◌, List, [], length, map, sym, ap, subst, ◌∙◌, arith}
 use Rattle.std.specs.List.{list_any}
 use Rattle.net_addr.specs.declared.line.Line.{Line}
-use Rattle.ios_sections.specs.TextLines.{TextLine, text_line, lines_in, counted_lines, parts_after, parts_of, lacks_end, rest_after, is_empty}
+use Rattle.ios_sections.specs.TextLines.{TextLine, Part, text_line, lines_in, counted_lines, parts_after, parts_of, lacks_end, rest_after, is_empty}
 use Rattle.ios_sections.specs.TextLines.{begins_configuration}
+use Rattle.ios_sections.specs.TellingLines.{telling_lines}
+use Rattle.ios_sections.proofs.TellingFacts.{parts_told}
+use Rattle.ios_reader.proofs.TellingReads.{reading_told, lacks_told}
 use Rattle.ios_lines.specs.FaultOrder.{faults_if, lesser_fault, least_fault}
 use Rattle.ios_reader.specs.steps.Parts.{Reading, IsReadingOf}
 use Rattle.ios_reader.specs.Texts.{ReadsText}
@@ -21,20 +24,24 @@ overflow_cast-last c = omega (arith, few ((goal.at.overflow_cast-last c).After-a
 pub overflow_add-last : goal.overflow_add-last
 overflow_add-last c = omega (arith, few ((goal.at.overflow_add-last c).After-as_slice-3), c.requires)
 
-counted_is : (c : After-fault_if-end) → c.in-Ok.counted.items ≡ counted_lines (lines_in c.args.text.now)
-counted_is c =
-    c.in-Ok.ensures ∙ ap (λ (w : List Line). counted_lines (map (text_line c.args.text.now) w)) (c.as_slice.ensures ∙ c.in_ok-lines.ensures.exact)
+told_is : (c : After-fault_if-end) → c.in-Ok.told.items ≡ telling_lines false (counted_lines (lines_in c.args.text.now))
+told_is c =
+    c.in-Ok.ensures
+    ∙ ap (λ (w : List Line). telling_lines false (counted_lines (map (text_line c.args.text.now) w))) (c.as_slice.ensures ∙ c.in_ok-lines.ensures.exact)
 
 parts_read : (c : After-fault_if-end) → IsReadingOf (parts_of (lines_in c.args.text.now)) c.in_ok-reading.reading
 parts_read c =
-    subst (λ (w : List TextLine). IsReadingOf (parts_after [] w) c.in_ok-reading.reading) (c.as_slice-2.ensures.value ∙ counted_is c) c.in_ok-reading.ensures
+    reading_told (parts_of (lines_in c.args.text.now)) c.in_ok-reading.reading
+    (subst (λ (w : List Part). IsReadingOf w c.in_ok-reading.reading)
+    (ap (parts_after []) (c.as_slice-2.ensures.value ∙ told_is c) ∙ parts_told [] (counted_lines (lines_in c.args.text.now))) c.in_ok-reading.ensures)
 
 end_is : (c : After-fault_if-end) → c.fault_if-end.result
     ≡ least_fault (faults_if (lacks_end (lines_in c.args.text.now)) (length (lines_in c.args.text.now) + 1) NoEnd)
 end_is c =
     let lacks : c.lacks_end.result ≡ lacks_end (lines_in c.args.text.now) =
     c.lacks_end.ensures ∙ ap (λ (w : List TextLine). is_empty (parts_after [] w) || list_any begins_configuration (rest_after [] w))
-    (c.as_slice-4.ensures.value ∙ counted_is c) in
+    (c.as_slice-4.ensures.value ∙ told_is c)
+    ∙ lacks_told (counted_lines (lines_in c.args.text.now)) in
     let count : length c.as_slice-3.result.now ≡ length (lines_in c.args.text.now) =
     ap length (c.as_slice-3.ensures ∙ c.in_ok-lines.ensures.exact) ∙ sym (lines_in_length c.args.text.now) in
     c.fault_if-end.ensures

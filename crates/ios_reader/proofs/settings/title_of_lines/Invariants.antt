@@ -1,6 +1,6 @@
 use Rattle.std.proofs.Common.{◌≡◌}
 use Rattle.ios_reader.specs.steps.ByStatements.{title_by}
-use Rattle.ios_reader.proofs.configuration.title_of_lines.Given as goal
+use Rattle.ios_reader.proofs.settings.title_of_lines.Given as goal
 
 abbrev pub invariant-loop-statement : goal.invariant-loop-statement
 invariant-loop-statement l = l.title ≡ title_by l.yielded

@@ -1,0 +1,13 @@
+ghost use Rattle.ios_lines.specs.HeadLaws.{HeadLaw};
+ghost use Rattle.ios_lines.specs.TitleLaws.{TitleWordLaw};
+
+/// The law of the title of a `net` line: a word has one exactly where it is two hexadecimal digits and at most six
+/// groups, three groups, and `.00`; a group is a dot and four hexadecimal digits.
+pub fn title_law()
+    ensures { TitleWordLaw }
+{}
+
+/// The law of the lines at indent 0: the table of the forms of those that say something.
+pub fn head_law()
+    ensures { HeadLaw }
+{}

@@ -1,0 +1,408 @@
+-- Lines that tell nothing may be left out: the parts of a text are the same, and what their sections say.
+use Rattle.std.proofs.Common.{◌≡◌, ℕ, suc, ◌+◌, Bool, true, false, not, cond, ◌&&◌, ◌||◌, List, [], ◌∷◌, ◌++◌, Option, Some, None, Ok, Err, Result}
+use Rattle.std.proofs.Common.{map, take, filter, fold, filter_map, codes, bytes_eq, nat_eq, append-nil, refl, sym, ap, ◌∙◌, arith}
+use Rattle.std.specs.List.{cons_option, list_any, prefix_len, before_first}
+use Rattle.std.proofs.lemmas.Bool.{and_parts, or_parts, or_from}
+use Rattle.std.proofs.lemmas.Grind.{fold-append}
+use Rattle.std.proofs.lemmas.List.Elements.{filter-append}
+use Rattle.std.proofs.lemmas.Slice.Eq.{bytes_eq-Decides}
+use Rattle.ios_lines.specs.Words.{Word, word_at, says, begins_with_two, lacks}
+use Rattle.ios_lines.specs.Heads.{hostname_of, head_of}
+use Rattle.ios_lines.specs.Lookups.{later, last_of}
+use Rattle.ios_lines.specs.declared.kind.ReadKind.{ReadKind}
+use Rattle.ios_lines.specs.declared.kind.ReadKind.TheVariants.{Unsupported}
+use Rattle.ios_lines.specs.declared.head.Head.{Head}
+use Rattle.ios_lines.specs.declared.head.Head.TheVariants.{Hostname as NameHead, Faulty as FaultyHead, Other as OtherHead}
+use Rattle.ios_sections.specs.TextLines.{TextLine, TextSection, Part, banner_after, outside_banner, outside_banners, counts, is_end, is_empty}
+use Rattle.ios_sections.specs.TextLines.{parts_after, rest_after, begins_configuration, opens_section, first_indent, section_lines, sections_of}
+use Rattle.ios_sections.specs.TellingLines.{has_lines, may_tell, line_tells, open_after, telling_lines}
+use Rattle.ios_sections.specs.steps.ToldLines.{told_at, place_after, told_from}
+use Rattle.ios_sections.specs.Sections.{section_with, section_of, sections_in}
+use Rattle.ios_sections.specs.JoinedLines.{sections_among}
+use Rattle.ios_sections.specs.Processes.{as_hostname, as_interface, as_ospf, as_isis, as_fault}
+use Rattle.ios_sections.specs.Statements.{statements_of}
+use Rattle.ios_sections.specs.declared.text.TextPlace.{TextPlace}
+use Rattle.ios_sections.specs.declared.section.Section.{Section}
+use Rattle.ios_sections.specs.declared.section.Section.TheVariants.{Hostname, Interface, Ospf, Isis, Faulty, Other}
+
+-- ---- one more line ----
+
+one_choice : (t : Bool) (x : TextLine) (xs ys : List TextLine) → cond t (x ∷ (xs ++ ys)) (xs ++ ys) ≡ cond t (x ∷ xs) xs ++ ys
+one_choice true x xs ys = refl
+one_choice false x xs ys = refl
+
+telling-append : (below : Bool) (xs ys : List TextLine) →
+    telling_lines below (xs ++ ys) ≡ telling_lines below xs ++ telling_lines (fold open_after below xs) ys
+telling-append below [] ys = refl
+telling-append below (x ∷ xs) ys =
+    ap (λ (ls : List TextLine). cond (line_tells below x) (x ∷ ls) ls) (telling-append (open_after below x) xs ys)
+    ∙ one_choice (line_tells below x) x (telling_lines (open_after below x) xs) (telling_lines (fold open_after (open_after below x) xs) ys)
+
+-- the lines from a place on, by the first one of them
+pub told_next : (place : TextPlace) (x : TextLine) (xs : List TextLine) → told_from place (x ∷ xs) ≡ told_at place x ++ told_from (place_after place x) xs
+told_next place x xs =
+    ap (telling_lines place.below)
+    (filter-append counts (outside_banner place.in_banner x) (outside_banners (banner_after place.in_banner x) xs))
+    ∙ telling-append place.below (filter counts (outside_banner place.in_banner x)) (filter counts (outside_banners (banner_after place.in_banner x) xs))
+
+-- ---- what an `end` line and other lines tell ----
+
+other_text : (word one other : Word) → bytes_eq word one ≡ true → bytes_eq one other ≡ false → bytes_eq word other ≡ false
+other_text word one other is apart = ap (λ (w : Word). bytes_eq w other) ((bytes_eq-Decides word one).0 is) ∙ apart
+
+or_second : (t u : Bool) → u ≡ true → (t || u) ≡ true
+or_second true u e = refl
+or_second false u e = e
+
+module _ (x : TextLine) (ends : is_end x ≡ true) where
+  at_zero : (nat_eq x.indent 0 ≡ true) × (says x.words 0 (codes "end") ≡ true)
+  at_zero =
+      let first = and_parts (nat_eq x.indent 0 && says x.words 0 (codes "end")) (lacks x.words 1) ends in
+      and_parts (nat_eq x.indent 0) (says x.words 0 (codes "end")) first.0
+
+  end_tells : (below : Bool) → line_tells below x ≡ true
+  end_tells below =
+      ap (λ (b : Bool). cond b (may_tell x) below) at_zero.0
+      ∙ or_second (has_lines x || says x.words 0 (codes "hostname") || says x.words 0 (codes "ip")) (says x.words 0 (codes "end")) at_zero.1
+
+  end_closes : (below : Bool) → open_after below x ≡ false
+  end_closes below =
+      ap (λ (b : Bool). cond b (has_lines x) below) at_zero.0
+      ∙ or_from (says x.words 0 (codes "interface")) (says x.words 0 (codes "router"))
+      (other_text (word_at x.words 0) (codes "end") (codes "interface") at_zero.1 refl)
+      (other_text (word_at x.words 0) (codes "end") (codes "router") at_zero.1 refl)
+
+-- what the first word isn't, of a line at indent 0 that may tell nothing
+record TellsNothing (x : TextLine) : Type 0 where
+  pub no_lines : has_lines x ≡ false
+  pub no_interface : says x.words 0 (codes "interface") ≡ false
+  pub no_router : says x.words 0 (codes "router") ≡ false
+  pub no_hostname : says x.words 0 (codes "hostname") ≡ false
+  pub no_route : says x.words 0 (codes "ip") ≡ false
+
+tells_nothing : (x : TextLine) → may_tell x ≡ false → TellsNothing x
+tells_nothing x e =
+    let four = or_parts (has_lines x || says x.words 0 (codes "hostname") || says x.words 0 (codes "ip")) (says x.words 0 (codes "end")) e in
+    let three = or_parts (has_lines x || says x.words 0 (codes "hostname")) (says x.words 0 (codes "ip")) four.0 in
+    let two = or_parts (has_lines x) (says x.words 0 (codes "hostname")) three.0 in
+    let lines = or_parts (says x.words 0 (codes "interface")) (says x.words 0 (codes "router")) two.0 in
+    record { no_lines = two.0; no_interface = lines.0; no_router = lines.1; no_hostname = two.1; no_route = three.1 }
+
+-- ---- the parts ----
+
+-- a part, without the lines that tell nothing
+abbrev pub told_part : Part → Part
+told_part part = record { lines = telling_lines false part.lines; ends = part.ends }
+
+-- the lines of a part so far, and how they go on
+abbrev told : List TextLine → List TextLine
+told before = telling_lines false before
+
+abbrev going_on : List TextLine → Bool
+going_on before = fold open_after false before
+
+told-push : (before : List TextLine) (x : TextLine) → told (before ++ x ∷ []) ≡ told before ++ cond (line_tells (going_on before) x) (x ∷ []) []
+told-push before x = telling-append false before (x ∷ [])
+
+going_on-push : (before : List TextLine) (x : TextLine) → going_on (before ++ x ∷ []) ≡ open_after (going_on before) x
+going_on-push before x = fold-append open_after false before (x ∷ [])
+
+-- a function of the lines so far and of those that follow, at a line that isn't an `end` line
+module _ {A : Type 0} (f : List TextLine → List TextLine → A) (before xs : List TextLine) (x : TextLine)
+    (on : (ls : List TextLine) → f (told before) (x ∷ ls) ≡ f (told before ++ x ∷ []) ls) where
+  goes_on : (t : Bool) → line_tells (going_on before) x ≡ t →
+      f (told before) (cond t (x ∷ telling_lines (open_after (going_on before) x) xs) (telling_lines (open_after (going_on before) x) xs))
+      ≡ f (told (before ++ x ∷ [])) (telling_lines (going_on (before ++ x ∷ [])) xs)
+  goes_on true e =
+      on (telling_lines (open_after (going_on before) x) xs)
+      ∙ ap (λ (ls : List TextLine). f ls (telling_lines (open_after (going_on before) x) xs))
+      (sym (told-push before x ∙ ap (λ (b : Bool). told before ++ cond b (x ∷ []) []) e))
+      ∙ ap (λ (b : Bool). f (told (before ++ x ∷ [])) (telling_lines b xs)) (sym (going_on-push before x))
+  goes_on false e =
+      ap (λ (ls : List TextLine). f ls (telling_lines (open_after (going_on before) x) xs))
+      (sym (told-push before x ∙ ap (λ (b : Bool). told before ++ cond b (x ∷ []) []) e ∙ append-nil (told before)))
+      ∙ ap (λ (b : Bool). f (told (before ++ x ∷ [])) (telling_lines b xs)) (sym (going_on-push before x))
+
+-- the lines from an `end` line on
+told_at_end : (before xs : List TextLine) (x : TextLine) → is_end x ≡ true → telling_lines (going_on before) (x ∷ xs) ≡ x ∷ telling_lines false xs
+told_at_end before xs x ends =
+    ap (λ (b : Bool). cond b (x ∷ telling_lines (open_after (going_on before) x) xs) (telling_lines (open_after (going_on before) x) xs))
+    (end_tells x ends (going_on before))
+    ∙ ap (λ (b : Bool). x ∷ telling_lines b xs) (end_closes x ends (going_on before))
+
+abbrev part_with : List TextLine → ℕ → Part
+part_with lines ends = record { lines = lines; ends = ends }
+
+-- the parts are the same, without the lines that tell nothing
+pub parts_told : (before xs : List TextLine) → parts_after (told before) (telling_lines (going_on before) xs) ≡ map told_part (parts_after before xs)
+parts_told before [] = refl
+parts_told before (x ∷ xs) = by_end (is_end x) refl (parts_told [] xs) (parts_told (before ++ x ∷ []) xs)
+  where
+    by_end : (t : Bool) → is_end x ≡ t → parts_after [] (telling_lines false xs) ≡ map told_part (parts_after [] xs) →
+        parts_after (told (before ++ x ∷ [])) (telling_lines (going_on (before ++ x ∷ [])) xs) ≡ map told_part (parts_after (before ++ x ∷ []) xs) →
+        parts_after (told before) (telling_lines (going_on before) (x ∷ xs)) ≡ map told_part (parts_after before (x ∷ xs))
+    by_end true e anew on =
+        ap (parts_after (told before)) (told_at_end before xs x e)
+        ∙ ap (λ (b : Bool). cond b (part_with (told before) x.number ∷ parts_after [] (telling_lines false xs))
+        (parts_after (told before ++ x ∷ []) (telling_lines false xs))) e
+        ∙ ap (λ (ps : List Part). part_with (told before) x.number ∷ ps) anew
+        ∙ sym (ap (λ (b : Bool). map told_part (cond b (part_with before x.number ∷ parts_after [] xs) (parts_after (before ++ x ∷ []) xs))) e)
+    by_end false e anew on =
+        goes_on parts_after before xs x
+        (λ ls. ap (λ (b : Bool). cond b (part_with (told before) x.number ∷ parts_after [] ls) (parts_after (told before ++ x ∷ []) ls)) e)
+        (line_tells (going_on before) x) refl
+        ∙ on
+        ∙ sym (ap (λ (b : Bool). map told_part (cond b (part_with before x.number ∷ parts_after [] xs) (parts_after (before ++ x ∷ []) xs))) e)
+
+-- so is what stands behind the last `end` line
+pub rest_told : (before xs : List TextLine) → rest_after (told before) (telling_lines (going_on before) xs) ≡ told (rest_after before xs)
+rest_told before [] = refl
+rest_told before (x ∷ xs) = by_end (is_end x) refl (rest_told [] xs) (rest_told (before ++ x ∷ []) xs)
+  where
+    by_end : (t : Bool) → is_end x ≡ t → rest_after [] (telling_lines false xs) ≡ told (rest_after [] xs) →
+        rest_after (told (before ++ x ∷ [])) (telling_lines (going_on (before ++ x ∷ [])) xs) ≡ told (rest_after (before ++ x ∷ []) xs) →
+        rest_after (told before) (telling_lines (going_on before) (x ∷ xs)) ≡ told (rest_after before (x ∷ xs))
+    by_end true e anew on =
+        ap (rest_after (told before)) (told_at_end before xs x e)
+        ∙ ap (λ (b : Bool). cond b (rest_after [] (telling_lines false xs)) (rest_after (told before ++ x ∷ []) (telling_lines false xs))) e
+        ∙ anew
+        ∙ sym (ap (λ (b : Bool). told (cond b (rest_after [] xs) (rest_after (before ++ x ∷ []) xs))) e)
+    by_end false e anew on =
+        goes_on rest_after before xs x
+        (λ ls. ap (λ (b : Bool). cond b (rest_after [] ls) (rest_after (told before ++ x ∷ []) ls)) e)
+        (line_tells (going_on before) x) refl
+        ∙ on
+        ∙ sym (ap (λ (b : Bool). told (cond b (rest_after [] xs) (rest_after (before ++ x ∷ []) xs))) e)
+
+-- a line that tells nothing begins no configuration
+begins_nothing : (below : Bool) (x : TextLine) → line_tells below x ≡ false → begins_configuration x ≡ false
+begins_nothing below x e = by_indent (opens_section x) refl
+  where
+    by_indent : (t : Bool) → opens_section x ≡ t → begins_configuration x ≡ false
+    by_indent true zero =
+        let nothing = tells_nothing x (sym (ap (λ (b : Bool). cond b (may_tell x) below) zero) ∙ e) in
+        ap (λ (b : Bool). b && (says x.words 0 (codes "hostname") || says x.words 0 (codes "interface") || says x.words 0 (codes "router"))) zero
+        ∙ or_from (says x.words 0 (codes "hostname") || says x.words 0 (codes "interface")) (says x.words 0 (codes "router"))
+        (or_from (says x.words 0 (codes "hostname")) (says x.words 0 (codes "interface")) nothing.no_hostname nothing.no_interface) nothing.no_router
+    by_indent false deep =
+        ap (λ (b : Bool). b && (says x.words 0 (codes "hostname") || says x.words 0 (codes "interface") || says x.words 0 (codes "router"))) deep
+
+pub begins_told : (below : Bool) (xs : List TextLine) → list_any begins_configuration (telling_lines below xs) ≡ list_any begins_configuration xs
+begins_told below [] = refl
+begins_told below (x ∷ xs) = by_telling (line_tells below x) refl (begins_told (open_after below x) xs)
+  where
+    by_telling : (t : Bool) → line_tells below x ≡ t →
+        list_any begins_configuration (telling_lines (open_after below x) xs) ≡ list_any begins_configuration xs →
+        list_any begins_configuration (cond t (x ∷ telling_lines (open_after below x) xs) (telling_lines (open_after below x) xs))
+        ≡ (begins_configuration x || list_any begins_configuration xs)
+    by_telling true e rest = ap (λ (b : Bool). begins_configuration x || b) rest
+    by_telling false e rest =
+        rest
+        ∙ sym (ap (λ (b : Bool). b || list_any begins_configuration xs) (begins_nothing below x e))
+
+-- ---- the lines of a section ----
+
+at_head : (x : TextLine) (xs : List TextLine) → opens_section x ≡ true → before_first opens_section (x ∷ xs) ≡ []
+at_head x xs e =
+    ap (λ (b : Bool). take (cond (not b) (1 + prefix_len (λ (l : TextLine). not (opens_section l)) xs) 0) (x ∷ xs)) e
+
+at_line : (x : TextLine) (xs : List TextLine) → opens_section x ≡ false → before_first opens_section (x ∷ xs) ≡ x ∷ before_first opens_section xs
+at_line x xs e =
+    let more : 1 + prefix_len (λ (l : TextLine). not (opens_section l)) xs ≡ suc (prefix_len (λ (l : TextLine). not (opens_section l)) xs) = omega arith in
+    ap (λ (b : Bool). take (cond (not b) (1 + prefix_len (λ (l : TextLine). not (opens_section l)) xs) 0) (x ∷ xs)) e
+    ∙ ap (λ (n : ℕ). take n (x ∷ xs)) more
+
+-- below a section whose lines say nothing no line is told before the next section
+none_inside : (xs : List TextLine) → before_first opens_section (telling_lines false xs) ≡ []
+none_inside [] = refl
+none_inside (x ∷ xs) = by_indent (opens_section x) refl (none_inside xs)
+  where
+    by_telling : (t : Bool) → may_tell x ≡ t → opens_section x ≡ true → before_first opens_section (telling_lines false xs) ≡ [] →
+        before_first opens_section (cond t (x ∷ telling_lines (has_lines x) xs) (telling_lines (has_lines x) xs)) ≡ []
+    by_telling true e zero rest = at_head x (telling_lines (has_lines x) xs) zero
+    by_telling false e zero rest =
+        ap (λ (b : Bool). before_first opens_section (telling_lines b xs)) (tells_nothing x e).no_lines ∙ rest
+
+    by_indent : (t : Bool) → opens_section x ≡ t → before_first opens_section (telling_lines false xs) ≡ [] →
+        before_first opens_section (telling_lines false (x ∷ xs)) ≡ []
+    by_indent true zero rest =
+        ap (λ (b : Bool). before_first opens_section (cond (cond b (may_tell x) false) (x ∷ telling_lines (cond b (has_lines x) false) xs)
+        (telling_lines (cond b (has_lines x) false) xs))) zero
+        ∙ by_telling (may_tell x) refl zero rest
+    by_indent false deep rest =
+        ap (λ (b : Bool). before_first opens_section (cond (cond b (may_tell x) false) (x ∷ telling_lines (cond b (has_lines x) false) xs)
+        (telling_lines (cond b (has_lines x) false) xs))) deep
+        ∙ rest
+
+-- below one whose lines say something all are
+inside_told : (xs : List TextLine) → before_first opens_section (telling_lines true xs) ≡ before_first opens_section xs
+inside_told [] = refl
+inside_told (x ∷ xs) = by_indent (opens_section x) refl (inside_told xs)
+  where
+    by_telling : (t : Bool) → may_tell x ≡ t → opens_section x ≡ true →
+        before_first opens_section (cond t (x ∷ telling_lines (has_lines x) xs) (telling_lines (has_lines x) xs)) ≡ []
+    by_telling true e zero = at_head x (telling_lines (has_lines x) xs) zero
+    by_telling false e zero =
+        ap (λ (b : Bool). before_first opens_section (telling_lines b xs)) (tells_nothing x e).no_lines ∙ none_inside xs
+
+    by_indent : (t : Bool) → opens_section x ≡ t → before_first opens_section (telling_lines true xs) ≡ before_first opens_section xs →
+        before_first opens_section (telling_lines true (x ∷ xs)) ≡ before_first opens_section (x ∷ xs)
+    by_indent true zero rest =
+        ap (λ (b : Bool). before_first opens_section (cond (cond b (may_tell x) true) (x ∷ telling_lines (cond b (has_lines x) true) xs)
+        (telling_lines (cond b (has_lines x) true) xs))) zero
+        ∙ by_telling (may_tell x) refl zero ∙ sym (at_head x xs zero)
+    by_indent false deep rest =
+        ap (λ (b : Bool). before_first opens_section (cond (cond b (may_tell x) true) (x ∷ telling_lines (cond b (has_lines x) true) xs)
+        (telling_lines (cond b (has_lines x) true) xs))) deep
+        ∙ at_line x (telling_lines true xs) deep
+        ∙ ap (λ (ls : List TextLine). x ∷ ls) rest
+        ∙ sym (at_line x xs deep)
+
+section_lines_told : (xs : List TextLine) → section_lines (telling_lines true xs) ≡ section_lines xs
+section_lines_told xs = ap (λ (ls : List TextLine). filter (λ (line : TextLine). nat_eq line.indent (first_indent ls)) ls) (inside_told xs)
+
+-- ---- the sections ----
+
+-- a section that says something
+abbrev says_something : Section → Bool
+says_something Other = false
+says_something _ = true
+
+abbrev spoken : List Section → List Section
+spoken sections = filter says_something sections
+
+abbrev text_section : TextLine → List TextLine → TextSection
+text_section head body = record { head = head; body = body }
+
+-- the first line of a section whose lines say nothing, by its words
+abbrev lone_head : Bool → Bool → Result Word ReadKind → Head
+lone_head named route name = cond named (NameHead name) (cond route (FaultyHead Unsupported) OtherHead)
+
+abbrev is_route : List Word → Bool
+is_route words = begins_with_two words (codes "ip") (codes "route") && not (says words 2 (codes "vrf"))
+
+lone_head_is : (x : TextLine) → says x.words 0 (codes "interface") ≡ false → says x.words 0 (codes "router") ≡ false →
+    head_of x.words ≡ lone_head (says x.words 0 (codes "hostname")) (is_route x.words) (hostname_of (word_at x.words 1))
+lone_head_is x no_interface no_router = rw no_interface (rw no_router refl)
+
+lone_section : (named route : Bool) (name : Result Word ReadKind) (n : ℕ) (one other : List TextLine) →
+    section_with (lone_head named route name) n one ≡ section_with (lone_head named route name) n other
+lone_section true route (Ok name) n one other = refl
+lone_section true route (Err kind) n one other = refl
+lone_section false true name n one other = refl
+lone_section false false name n one other = refl
+
+-- the section of such a line says the same with any lines
+lone_says : (x : TextLine) (one other : List TextLine) → has_lines x ≡ false → section_of (text_section x one) ≡ section_of (text_section x other)
+lone_says x one other none =
+    let two = or_parts (says x.words 0 (codes "interface")) (says x.words 0 (codes "router")) none in
+    ap (λ (h : Head). section_with h x.number one) (lone_head_is x two.0 two.1)
+    ∙ lone_section (says x.words 0 (codes "hostname")) (is_route x.words) (hostname_of (word_at x.words 1)) x.number one other
+    ∙ sym (ap (λ (h : Head). section_with h x.number other) (lone_head_is x two.0 two.1))
+
+-- the section of a line that tells nothing says nothing
+pub says_nothing : (x : TextLine) (body : List TextLine) → may_tell x ≡ false → section_of (text_section x body) ≡ Other
+says_nothing x body e =
+    let nothing = tells_nothing x e in
+    ap (λ (h : Head). section_with h x.number body) (lone_head_is x nothing.no_interface nothing.no_router)
+    ∙ ap (λ (b : Bool). section_with (lone_head b (is_route x.words) (hostname_of (word_at x.words 1))) x.number body) nothing.no_hostname
+    ∙ ap (λ (b : Bool). section_with (lone_head false (b && says x.words 1 (codes "route") && not (says x.words 2 (codes "vrf")))
+    (hostname_of (word_at x.words 1))) x.number body) nothing.no_route
+
+-- a section with the lines that are told says what it said
+section_told : (x : TextLine) (xs : List TextLine) →
+    section_of (text_section x (section_lines (telling_lines (has_lines x) xs))) ≡ section_of (text_section x (section_lines xs))
+section_told x xs = by_lines (has_lines x) refl
+  where
+    by_lines : (t : Bool) → has_lines x ≡ t →
+        section_of (text_section x (section_lines (telling_lines t xs))) ≡ section_of (text_section x (section_lines xs))
+    by_lines true e = ap (λ (ls : List TextLine). section_of (text_section x ls)) (section_lines_told xs)
+    by_lines false e = lone_says x (section_lines (telling_lines false xs)) (section_lines xs) e
+
+abbrev with_first : Section → List Section → List Section
+with_first s ss = cond (says_something s) (s ∷ ss) ss
+
+-- the sections that say something are the same
+spoken_told : (below : Bool) (xs : List TextLine) → spoken (sections_among (telling_lines below xs)) ≡ spoken (sections_among xs)
+spoken_told below [] = refl
+spoken_told below (x ∷ xs) = by_indent (opens_section x) refl (λ b. spoken_told b xs)
+  where
+    later_lines : (t : Bool) → opens_section x ≡ false → ((b : Bool) → spoken (sections_among (telling_lines b xs)) ≡ spoken (sections_among xs)) →
+        spoken (sections_among (cond t (x ∷ telling_lines t xs) (telling_lines t xs))) ≡ spoken (sections_among xs)
+    later_lines true deep rest =
+        ap (λ (b : Bool). spoken (map section_of (cond b (text_section x (section_lines (telling_lines true xs)) ∷ sections_of (telling_lines true xs))
+        (sections_of (telling_lines true xs))))) deep
+        ∙ rest true
+    later_lines false deep rest = rest false
+
+    first_line : (t : Bool) → may_tell x ≡ t → opens_section x ≡ true →
+        ((b : Bool) → spoken (sections_among (telling_lines b xs)) ≡ spoken (sections_among xs)) →
+        spoken (sections_among (cond t (x ∷ telling_lines (has_lines x) xs) (telling_lines (has_lines x) xs)))
+        ≡ with_first (section_of (text_section x (section_lines xs))) (spoken (sections_among xs))
+    first_line true e zero rest =
+        ap (λ (b : Bool). spoken (map section_of (cond b (text_section x (section_lines (telling_lines (has_lines x) xs))
+        ∷ sections_of (telling_lines (has_lines x) xs)) (sections_of (telling_lines (has_lines x) xs))))) zero
+        ∙ ap (λ (s : Section). with_first s (spoken (sections_among (telling_lines (has_lines x) xs)))) (section_told x xs)
+        ∙ ap (with_first (section_of (text_section x (section_lines xs)))) (rest (has_lines x))
+    first_line false e zero rest =
+        rest (has_lines x)
+        ∙ sym (ap (λ (s : Section). with_first s (spoken (sections_among xs))) (says_nothing x (section_lines xs) e))
+
+    by_indent : (t : Bool) → opens_section x ≡ t → ((b : Bool) → spoken (sections_among (telling_lines b xs)) ≡ spoken (sections_among xs)) →
+        spoken (sections_among (telling_lines below (x ∷ xs))) ≡ spoken (sections_among (x ∷ xs))
+    by_indent true zero rest =
+        ap (λ (b : Bool). spoken (sections_among (cond (cond b (may_tell x) below) (x ∷ telling_lines (cond b (has_lines x) below) xs)
+        (telling_lines (cond b (has_lines x) below) xs)))) zero
+        ∙ first_line (may_tell x) refl zero rest
+        ∙ sym (ap (λ (b : Bool). spoken (map section_of (cond b (text_section x (section_lines xs) ∷ sections_of xs) (sections_of xs)))) zero)
+    by_indent false deep rest =
+        ap (λ (b : Bool). spoken (sections_among (cond (cond b (may_tell x) below) (x ∷ telling_lines (cond b (has_lines x) below) xs)
+        (telling_lines (cond b (has_lines x) below) xs)))) deep
+        ∙ later_lines below deep rest
+        ∙ sym (ap (λ (b : Bool). spoken (map section_of (cond b (text_section x (section_lines xs) ∷ sections_of xs) (sections_of xs)))) deep)
+
+-- ---- what all sections say together ----
+
+taken_spoken : {B : Type 0} (h : Section → Option B) → h Other ≡ None → (ss : List Section) → filter_map h (spoken ss) ≡ filter_map h ss
+taken_spoken h none [] = refl
+taken_spoken h none (Other ∷ ss) = taken_spoken h none ss ∙ sym (ap (λ o. cons_option o (filter_map h ss)) none)
+taken_spoken h none (Hostname name ∷ ss) = ap (cons_option (h (Hostname name))) (taken_spoken h none ss)
+taken_spoken h none (Interface s ∷ ss) = ap (cons_option (h (Interface s))) (taken_spoken h none ss)
+taken_spoken h none (Ospf s ∷ ss) = ap (cons_option (h (Ospf s))) (taken_spoken h none ss)
+taken_spoken h none (Isis s ∷ ss) = ap (cons_option (h (Isis s))) (taken_spoken h none ss)
+taken_spoken h none (Faulty f ∷ ss) = ap (cons_option (h (Faulty f))) (taken_spoken h none ss)
+
+later_none : (o : Option Word) → later None o ≡ o
+later_none None = refl
+later_none (Some w) = refl
+
+name_spoken : (ss : List Section) → last_of as_hostname (spoken ss) ≡ last_of as_hostname ss
+name_spoken [] = refl
+name_spoken (Other ∷ ss) = name_spoken ss ∙ sym (later_none (last_of as_hostname ss))
+name_spoken (Hostname name ∷ ss) = ap (later (Some name)) (name_spoken ss)
+name_spoken (Interface s ∷ ss) = ap (later None) (name_spoken ss)
+name_spoken (Ospf s ∷ ss) = ap (later None) (name_spoken ss)
+name_spoken (Isis s ∷ ss) = ap (later None) (name_spoken ss)
+name_spoken (Faulty f ∷ ss) = ap (later None) (name_spoken ss)
+
+statements_spoken : (ss : List Section) → statements_of (spoken ss) ≡ statements_of ss
+statements_spoken ss =
+    rw (
+      name_spoken ss,
+      taken_spoken as_interface refl ss,
+      taken_spoken as_ospf refl ss,
+      taken_spoken as_isis refl ss,
+      taken_spoken as_fault refl ss,
+    ) refl
+
+-- the sections of a part say the same without the lines that tell nothing
+pub statements_told : (part : Part) → statements_of (sections_in (told_part part)) ≡ statements_of (sections_in part)
+statements_told part =
+    sym (statements_spoken (sections_in (told_part part)))
+    ∙ ap statements_of (spoken_told false part.lines)
+    ∙ statements_spoken (sections_in part)
+
+-- no part is there exactly where none is
+pub none_told : (parts : List Part) → is_empty (map told_part parts) ≡ is_empty parts
+none_told [] = refl
+none_told (part ∷ parts) = refl
