@@ -22,7 +22,7 @@ use Rattle.ios_lines.proofs.NumberFacts.{number-some}
 use Rattle.ios_sections.specs.Sections.{section_with}
 use Rattle.ios_sections.specs.JoinedLines.{sections_further_on}
 use Rattle.ios_sections.specs.declared.section.Section.TheVariants.{Isis, Ospf}
-use Rattle.ios_reader.specs.InsertedLines.{IsBlock}
+use Rattle.ios_reader.specs.InsertedLines.{IsLineBlock}
 use Rattle.printed_sections.specs.PrintedSections.{is_fine_line, line_with, section_lines_from}
 use Rattle.printed_sections.proofs.SectionFacts.{number_fine, section_fits, section_says, some_test}
 use Rattle.step_scripts.specs.Scripts.{isis_head, ospf_head, distance_line}
@@ -38,7 +38,7 @@ distance_words distance = codes "distance" ∷ decimal distance ∷ []
 
 -- what a block of this line and of one that sets this distance reads as
 record ReadsAsBlock (head : List ℕ) (rest : List Word) (distance : ℕ) : Type 0 where
-  fits : IsBlock (text_of (head ∷ distance_line distance ∷ []))
+  fits : IsLineBlock (text_of (head ∷ distance_line distance ∷ []))
   sections : (count : ℕ) →
       sections_further_on count (text_of (head ∷ distance_line distance ∷ []))
       ≡ section_with (head_of (router_word ∷ rest)) (count + 1) (section_lines_from (count + 2) (distance_words distance ∷ [])) ∷ []
@@ -109,7 +109,7 @@ isis_block_reads : (tag : Word) → list_all is_printable tag ≡ true → Reads
 isis_block_reads tag fine =
     reads_as_block (isis_head tag) (isis_rest tag) ISIS_DISTANCE (isis_head_words tag) (isis_rest_fine tag fine) (omega arith)
 
-pub isis_block_fits : (tag : Word) → list_all is_printable tag ≡ true → IsBlock (isis_block tag)
+pub isis_block_fits : (tag : Word) → list_all is_printable tag ≡ true → IsLineBlock (isis_block tag)
 isis_block_fits tag fine = (isis_block_reads tag fine).fits
 
 pub isis_block_sections : (tag : Word) (count : ℕ) → list_all is_printable tag ≡ true →
@@ -141,7 +141,7 @@ ospf_block_reads process small =
     reads_as_block (ospf_head process) (ospf_rest process) MOST_DISTANCE refl
     (ap (λ (t : Bool). (t && true) && true && true && true) (number_fine process small)) (omega arith)
 
-pub ospf_block_fits : (process : ℕ) → process ≤ MOST_PROCESS → IsBlock (ospf_block process)
+pub ospf_block_fits : (process : ℕ) → process ≤ MOST_PROCESS → IsLineBlock (ospf_block process)
 ospf_block_fits process high = (ospf_block_reads process (omega (arith, high))).fits
 
 pub ospf_block_sections : (process count : ℕ) → 1 ≤ process → process ≤ MOST_PROCESS →

@@ -15,7 +15,7 @@ use Rattle.net_model.specs.declared.bounds.TheConstants.{ISIS_DISTANCE, OSPF_DIS
 use Rattle.net_model.specs.declared.interface.Interface.{Interface}
 use Rattle.net_model.specs.declared.config.Levels.{Levels}
 use Rattle.net_model.specs.declared.config.Levels.TheVariants.{Both}
-use Rattle.net_model.specs.LevelSets.{has_one, has_two}
+use Rattle.net_model.specs.LevelSets.{has_level_one, has_level_two}
 use Rattle.ios_lines.specs.Words.{Word, is_printable}
 use Rattle.ios_lines.specs.Lookups.{later, last_of, earlier, first_of, value_or, replaced}
 use Rattle.ios_lines.specs.FaultOrder.{fault_at, faults_if}
@@ -169,8 +169,8 @@ module _ (name : Option Word) (interfaces : List InterfaceSection) (ospf : List 
   interface_by passive levels metric section =
       let facts = facts_of (counting section.lines) in
       record (interface_as_read (router_with process others []) section) {
-        level1 = runs_level has_one levels passive facts;
-        level2 = runs_level has_two levels passive facts;
+        level1 = runs_level has_level_one levels passive facts;
+        level2 = runs_level has_level_two levels passive facts;
         metric1 = level_metric metric passive facts facts.metric1;
         metric2 = level_metric metric passive facts facts.metric2;
         isis_passive = passive;

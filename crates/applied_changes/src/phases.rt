@@ -1,28 +1,21 @@
-ghost use Rattle.std.specs.Prelude.{◌≡◌, ◌≤◌, ◌-◌, ◌==◌, bytes_eq, if◌then◌else◌};
+ghost use Rattle.std.specs.Prelude.{◌≡◌, ◌≤◌, ◌-◌, ◌==◌, if◌then◌else◌};
 ghost use Rattle.igp_theory.specs.States.{changes_of, changes_on, phase_after, state_of};
 ghost use Rattle.std.specs.Prelude.{take};
 ghost use Rattle.applied_changes.specs.NamedPhases.{phase_named};
 
 use igp_theory::Phase;
-use net_model::{Config, Net};
+use net_model::Net;
 
 /// The phase of the router of this name after so many changes along an order.
 pub(crate) fn phase_named(net: &Net, order: &[u32], changes: u32, name: &[u8]) -> Phase
     ensures { result ≡ phase_named net.now (state_of order.now changes) name.now }
 {
     for router in 0..net.routers() {
-        if has_name(net.config(router), name) {
+        if net.config(router).has_name(name) {
             return phase_of(order, changes, router);
         }
     }
     Phase::Old
-}
-
-/// Whether a configuration is of this name.
-fn has_name(config: &Config, name: &[u8]) -> bool
-    ensures { result ≡ bytes_eq config.now.name name.now }
-{
-    config.name.as_slice() == name
 }
 
 /// The phase of a router after so many changes along an order.

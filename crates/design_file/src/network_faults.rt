@@ -1,4 +1,4 @@
-ghost use Rattle.std.specs.Prelude.{◌≡◌, ◌++◌, IfOk, OnOk, bytes_eq, option_copied};
+ghost use Rattle.std.specs.Prelude.{◌≡◌, ◌++◌, IfOk, OnOk, option_copied};
 ghost use Rattle.net_model.specs.Refusals.{IsNetwork};
 ghost use Rattle.design_file.specs.Keys.{below};
 ghost use Rattle.design_file.specs.steps.NetworkFaultLists.{config_named, fault_unless, has_addressed, interfaces_faults, isis_fault};
@@ -110,18 +110,11 @@ fn config_named<'a>(net: &'a Net, name: &[u8]) -> Option<&'a Config>
 {
     for router in 0..net.routers() {
         let config = net.config(router);
-        if has_name(config, name) {
+        if config.has_name(name) {
             return Some(config);
         }
     }
     None
-}
-
-/// Whether a configuration is of this name.
-fn has_name(config: &Config, name: &[u8]) -> bool
-    ensures { result ≡ bytes_eq config.now.name name.now }
-{
-    config.name.as_slice() == name
 }
 
 /// The path of a router.

@@ -1,52 +1,15 @@
 ghost use Rattle.std.specs.Prelude.{◌≡◌, ◌≤◌, IfSome, is_some, option_map};
 ghost use Rattle.toml.specs.View.{view};
-ghost use Rattle.ios_lines.specs.IsisLines.{grouped_from, is_area_address, is_grouped};
 ghost use Rattle.design_file.specs.Values.{as_area, entry_fault, as_flag, is_area, as_levels, levels_named, as_metric, metric_within, unless, value_fault};
 
 use crate::DesignKind;
 use crate::key::Key;
+use ios_lines::title::is_area_address;
 use net_model::{Levels, MOST_METRIC};
 use toml::Value;
 
 /// The most bytes of an area: two digits, and six groups of a dot and four digits.
 const MOST_AREA: usize = 32;
-
-/// Whether a byte stands at a place of a group: a dot, then four hexadecimal digits.
-fn is_grouped(place: usize, byte: u8) -> bool
-    ensures { result ≡ is_grouped place byte }
-{
-    if place == 0 {
-        byte == b'.'
-    } else {
-        byte.is_ascii_hexdigit()
-    }
-}
-
-/// Whether bytes are groups of a dot and four hexadecimal digits.
-fn are_groups(bytes: &[u8]) -> bool
-    ensures { result ≡ grouped_from 0 bytes.now }
-{
-    let mut place = 0;
-    for byte in bytes {
-        if !is_grouped(place, *byte) {
-            return false;
-        }
-        place = (place + 1) % 5;
-    }
-    place == 0
-}
-
-/// Whether bytes are an area address: two hexadecimal digits, then groups.
-fn is_area_address(bytes: &[u8]) -> bool
-    ensures { result ≡ is_area_address bytes.now }
-{
-    match bytes {
-        [first, second, groups @ ..] => {
-            first.is_ascii_hexdigit() && second.is_ascii_hexdigit() && are_groups(groups)
-        }
-        _ => false,
-    }
-}
 
 /// Whether a word is an area.
 fn is_area(word: &str) -> bool

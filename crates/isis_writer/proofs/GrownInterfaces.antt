@@ -3,7 +3,7 @@ use Rattle.std.proofs.Common.{◌≡◌, ℕ, Bool, true, false, ◌&&◌, ◌||
 use Rattle.std.proofs.Common.{refl, sym, ap, subst, ◌∙◌}
 use Rattle.std.specs.Prelude.{filter_map, unwrap_or, is_some, IsSome}
 use Rattle.std.specs.List.{list_any}
-use Rattle.net_model.specs.LevelSets.{has_one, has_two}
+use Rattle.net_model.specs.LevelSets.{has_level_one, has_level_two}
 use Rattle.net_model.specs.declared.config.Levels.{Levels}
 use Rattle.net_model.specs.declared.config.Levels.TheVariants.{Both}
 use Rattle.net_model.specs.declared.interface.Interface.{Interface}
@@ -76,7 +76,7 @@ module _ (process : Option ℕ) (ospf : List OspfStatement) (isis : List IsisSta
   -- an interface by what the IS-IS process says of it
   abbrev shown : Bool → Levels → ℕ → Word → InterfaceFacts → Interface
   shown passive levels metric name f =
-      with_isis (interface_with before name f) (runs_level has_one levels passive f) (runs_level has_two levels passive f)
+      with_isis (interface_with before name f) (runs_level has_level_one levels passive f) (runs_level has_level_two levels passive f)
       (level_metric metric passive f f.metric1) (level_metric metric passive f f.metric2) passive
 
   -- one that runs no IS-IS
@@ -84,8 +84,8 @@ module _ (process : Option ℕ) (ospf : List OspfStatement) (isis : List IsisSta
       shown false levels metric name f ≡ with_isis (interface_with before name f) false false DEFAULT_METRIC DEFAULT_METRIC false
   idle levels metric name f none =
       ap (λ (o : Option Bool). with_isis (interface_with before name f)
-      ((false || is_some o) && has_one levels && (false || has_one (value_or f.circuit Both)))
-      ((false || is_some o) && has_two levels && (false || has_two (value_or f.circuit Both)))
+      ((false || is_some o) && has_level_one levels && (false || has_level_one (value_or f.circuit Both)))
+      ((false || is_some o) && has_level_two levels && (false || has_level_two (value_or f.circuit Both)))
       (cond (false || is_some o) (metric_by (good_value f.metric1) (good_value f.metric) metric) DEFAULT_METRIC)
       (cond (false || is_some o) (metric_by (good_value f.metric2) (good_value f.metric) metric) DEFAULT_METRIC) false) none
 
@@ -110,10 +110,10 @@ module _ (process : Option ℕ) (ospf : List OspfStatement) (isis : List IsisSta
       let g : InterfaceFacts = grown_facts f old t.passive t.circuit t.metric in
       ap (λ (p : Bool). shown p after.levels after.metric name g) passive
       ∙ ap (λ (l : Levels). shown t.passive l after.metric name g) same
-      ∙ same_isis (interface_with before name f) _ (runs_settled has_one levels t) _ (runs_settled has_two levels t) _ t.metric _
+      ∙ same_isis (interface_with before name f) _ (runs_settled has_level_one levels t) _ (runs_settled has_level_two levels t) _ t.metric _
       t.metric t.passive t.passive
-      (runs_written has_one levels t.passive t.circuit old f.isis f.circuit none.circuit)
-      (runs_written has_two levels t.passive t.circuit old f.isis f.circuit none.circuit)
+      (runs_written has_level_one levels t.passive t.circuit old f.isis f.circuit none.circuit)
+      (runs_written has_level_two levels t.passive t.circuit old f.isis f.circuit none.circuit)
       (metric_written t.passive old f.isis t.metric after.metric f.metric1 none.metric1)
       (metric_written t.passive old f.isis t.metric after.metric f.metric2 none.metric2) refl
 

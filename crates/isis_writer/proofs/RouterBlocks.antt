@@ -21,7 +21,7 @@ use Rattle.ios_sections.specs.declared.section.Section.{Section}
 use Rattle.ios_sections.specs.declared.section.Section.TheVariants.{Interface, Isis}
 use Rattle.ios_sections.specs.declared.section.InterfaceSection.{InterfaceSection}
 use Rattle.ios_sections.specs.declared.section.IsisSection.{IsisSection}
-use Rattle.ios_reader.specs.InsertedLines.{IsBlock}
+use Rattle.ios_reader.specs.InsertedLines.{IsLineBlock}
 use Rattle.ios_reader.proofs.InsertedFacts.{joined_blocks, block_by_block}
 use Rattle.design_file.specs.Designs.{IsMetric}
 use Rattle.design_file.specs.Values.{is_area}
@@ -66,7 +66,7 @@ written_process count number router = record { line = count + 1; tag = []; lines
 
 -- a block, and the sections that it has behind so many lines
 record IsWritten (block : List ℕ) (sections : ℕ → List Section) : Type 0 where
-  fits : IsBlock block
+  fits : IsLineBlock block
   says : (count : ℕ) → sections_further_on count block ≡ sections count
 
 process_block : (number : ℕ) (router : SettledRouter) → is_area router.area ≡ true → AreNamed router.interfaces →
@@ -76,7 +76,7 @@ process_block number router area named =
     let fine : list_all is_fine_line bodies ≡ true = process_bodies_fine number router area named in
     let text : section_text process_head_words bodies ≡ process_text number router = sym (ap text_of (process_written number router)) in
     record {
-      fits = subst IsBlock text (section_fits process_head_words bodies refl refl fine);
+      fits = subst IsLineBlock text (section_fits process_head_words bodies refl refl fine);
       says = λ count.
           ap (sections_further_on count) (sym text)
           ∙ section_says process_head_words bodies refl refl fine count
@@ -111,7 +111,7 @@ interface_block old t name metric =
     let fine : list_all is_fine_line bodies ≡ true = interface_bodies_fine stands t.passive t.circuit t.metric metric in
     let text : section_text head bodies ≡ interface_text old t = sym (ap text_of (interface_written stands t)) in
     record {
-      fits = subst IsBlock text (section_fits head bodies (interface_head_fine t.name name) refl fine);
+      fits = subst IsLineBlock text (section_fits head bodies (interface_head_fine t.name name) refl fine);
       says = λ count.
           ap (sections_further_on count) (sym text)
           ∙ section_says head bodies (interface_head_fine t.name name) refl fine count
@@ -139,7 +139,7 @@ interfaces_block old (t ∷ ts) named metrics =
     let text : interfaces_text old (t ∷ ts) ≡ interface_text old t ++ interfaces_text old ts =
     text_joined (interface_lines (has_old_line old t.name) t) (flat_map (λ (i : SettledInterface). interface_lines (has_old_line old i.name) i) ts) in
     record {
-      fits = subst IsBlock (sym text) (joined_blocks (interface_text old t) (interfaces_text old ts) one.fits rest.fits);
+      fits = subst IsLineBlock (sym text) (joined_blocks (interface_text old t) (interfaces_text old ts) one.fits rest.fits);
       says = λ count.
           ap (sections_further_on count) text
           ∙ block_by_block count (interface_text old t) (interfaces_text old ts) one.fits rest.fits
@@ -155,7 +155,7 @@ behind_process count number router = count + length (lines_in (process_text numb
 
 -- the text of a router is a block with these sections
 pub record RouterBlock (old : List InterfaceSection) (number : ℕ) (router : SettledRouter) : Type 0 where
-  pub fits : IsBlock (text_of (router_lines old number router))
+  pub fits : IsLineBlock (text_of (router_lines old number router))
   pub says : (count : ℕ) →
       sections_further_on count (text_of (router_lines old number router))
       ≡ new_sections (written_process count number router) (written_interfaces old (behind_process count number router) router.interfaces)
@@ -172,7 +172,7 @@ router_block old number router area named metrics =
     let text : text_of (router_lines old number router) ≡ process_text number router ++ its =
     text_joined (process_lines number router) (flat_map (λ (i : SettledInterface). interface_lines (has_old_line old i.name) i) router.interfaces) in
     record {
-      fits = subst IsBlock (sym text) (joined_blocks (process_text number router) its one.fits rest.fits);
+      fits = subst IsLineBlock (sym text) (joined_blocks (process_text number router) its one.fits rest.fits);
       says = λ count.
           ap (sections_further_on count) text
           ∙ block_by_block count (process_text number router) its one.fits rest.fits

@@ -4,7 +4,7 @@ use Rattle.std.specs.Prelude.{None, All, Contains, bytes_eq, find}
 use Rattle.std.specs.Prelude.{if◌then◌else◌, map, slice_get, unwrap_or}
 use Rattle.net_addr.specs.JoinedLines.{is_of_whole_lines}
 use Rattle.net_model.specs.Configuration.{Configuration}
-use Rattle.net_model.specs.LevelSets.{has_one, has_two}
+use Rattle.net_model.specs.LevelSets.{has_level_one, has_level_two}
 use Rattle.net_model.specs.Network.{Network}
 use Rattle.net_model.specs.Refusals.{NamesAscend}
 use Rattle.net_model.specs.declared.bounds.TheConstants.{MOST_DISTANCE}
@@ -29,8 +29,8 @@ runs_settled has levels settled = has levels && (settled.passive || has (unwrap_
 -- an interface for which this is settled: its levels, its metrics and whether it is passive for IS-IS are the design's
 abbrev pub with_settled : Levels → SettledInterface → Interface → Interface
 with_settled levels settled i = record i {
-  level1 = runs_settled has_one levels settled;
-  level2 = runs_settled has_two levels settled;
+  level1 = runs_settled has_level_one levels settled;
+  level2 = runs_settled has_level_two levels settled;
   metric1 = settled.metric;
   metric2 = settled.metric;
   isis_passive = settled.passive;

@@ -1,4 +1,4 @@
-ghost use Rattle.std.specs.Prelude.{◌≡◌, ◌+◌, ◌<◌, ◌^◌, ◌++◌, [], IfOk, IfSome, OnOk, bytes_eq, length, unwrap_or};
+ghost use Rattle.std.specs.Prelude.{◌≡◌, ◌+◌, ◌<◌, ◌^◌, ◌++◌, [], IfOk, IfSome, OnOk, length, unwrap_or};
 ghost use Rattle.net_addr.specs.Lines.{text_lines};
 ghost use Rattle.net_model.specs.Refusals.{IsNetwork};
 ghost use Rattle.printed_lines.specs.Texts.{text_of};
@@ -18,7 +18,7 @@ use ios_sections::statements::statements_of;
 use ios_sections::text::counted_lines;
 use ios_sections::text_line::TextLine;
 use net_addr::{Bytes, Line, Name, lines};
-use net_model::{Config, Net};
+use net_model::Net;
 use printed_lines::TextBuilder;
 use std::alloc::Global;
 
@@ -153,16 +153,9 @@ fn numbered(net: &Net, name: &[u8]) -> Option<u32>
     ensures small { IfSome result (λ n. n < 1000) }
 {
     for router in 0..net.routers() {
-        if has_name(net.config(router), name) {
+        if net.config(router).has_name(name) {
             return Some(router);
         }
     }
     None
-}
-
-/// Whether a configuration is of this name.
-fn has_name(config: &Config, name: &[u8]) -> bool
-    ensures { result ≡ bytes_eq config.now.name name.now }
-{
-    config.name.as_slice() == name
 }

@@ -16,7 +16,7 @@ use Rattle.migrate_cli.specs.Answers.MayAsk.{asks_none, asks_some}
 use Rattle.migrate_cli.specs.Calls.{Call}
 use Rattle.migrate_cli.specs.CallWords.AreRefused.{not_taken, number_off}
 use Rattle.migrate_cli.specs.CommandFiles.{files_of, text_names}
-use Rattle.migrate_cli.specs.Reading.{AreRead, AreWithin, names_of}
+use Rattle.migrate_cli.specs.Reading.{AreRead, AreWithin, file_names}
 use Rattle.migrate_cli.specs.steps.Stops.{StopFaults, MayRead, HasRead}
 use Rattle.migrate_cli.specs.steps.Stops.MayRead.{none_yet, so_far}
 use Rattle.migrate_cli.specs.steps.Unread.{IsUnread, UnreadAnswer}
@@ -72,7 +72,7 @@ may_ask request ask (so_far asked texts file up) = asks_some request asked texts
 
 -- and for all names where all were read
 pub may_ask_all : (call : Call) (request : Request) (texts : List (List ℕ)) → AsksForFew call.words request
-    → AreRead call.content (files_of request) texts → AreWithin (files_of request) texts → MayAsk call (names_of (files_of request))
+    → AreRead call.content (files_of request) texts → AreWithin (files_of request) texts → MayAsk call (file_names (files_of request))
 may_ask_all call request texts ask read within =
     may_ask request ask (read_so_far call.content (files_of request) (files_of request) [] texts (sym (append-nil (files_of request))) read within)
 

@@ -5,7 +5,7 @@ use Rattle.migrate_words.specs.Requests.{Request}
 use Rattle.migrate_words.proofs.OneRequest.{one_request}
 use Rattle.migrate_words.proofs.TakenLaws.{numbers}
 use Rattle.migration_report.specs.Texts.{many_files_text, words_refused_text}
-use Rattle.migrate_cli.specs.AnswerLaws.{IsTold, MayEnd, TellTheSame}
+use Rattle.migrate_cli.specs.AnswerLaws.{IsFileTold, MayEnd, TellTheSame}
 use Rattle.migrate_cli.specs.AnswerLaws.TellTheSame.{same_text, words_refused}
 use Rattle.migrate_cli.specs.AnswerLaws.MayEnd.{as_answered, by_read_fault}
 use Rattle.migrate_cli.specs.Answers.{IsAnswer}
@@ -14,7 +14,7 @@ use Rattle.migrate_cli.specs.Calls.{Call}
 use Rattle.migrate_cli.specs.CallWords.{AreRefused, TellsWordsRefused}
 use Rattle.migrate_cli.specs.CallWords.AreRefused.{not_taken, number_off}
 use Rattle.migrate_cli.specs.CommandFiles.{config_names, config_texts, files_of, own_texts}
-use Rattle.migrate_cli.specs.Reading.{Contents, File, AreRead, AreWithin, names_of}
+use Rattle.migrate_cli.specs.Reading.{Contents, File, AreRead, AreWithin, file_names}
 use Rattle.migrate_cli.specs.Verdicts.{IsVerdict}
 use Rattle.migrate_cli.specs.declared.status.Status.{Status}
 use Rattle.migrate_cli.specs.declared.status.Status.TheVariants.{Words, ReadFault, Limit}
@@ -38,25 +38,25 @@ tell_same s z t w both = subst (TellTheSame s t) both.1 same_text
 pub data OfFiles (content : Contents) (request : Request) : List (List ℕ) → Status → List ℕ → Type 0 where
   above : 200 < length (config_names request) → OfFiles content request [] Limit (many_files_text (length (config_names request)))
   stopped : {asked : List (List ℕ)} {status : Status} {answer : List ℕ} (before : List File) (file : File) (texts : List (List ℕ)) (text : List ℕ)
-      → length (config_names request) ≤ 200 → asked ≡ names_of before ++ file.name ∷ [] → StopsAfter content (files_of request) before file texts text
+      → length (config_names request) ≤ 200 → asked ≡ file_names before ++ file.name ∷ [] → StopsAfter content (files_of request) before file texts text
       → IsBrokenSo before file texts text status answer → OfFiles content request asked status answer
   all_read : {status : Status} {answer : List ℕ} (texts : List (List ℕ)) → length (config_names request) ≤ 200
       → AreRead content (files_of request) texts → AreWithin (files_of request) texts
       → IsVerdict request (own_texts request texts) (config_texts request texts) status answer
-      → OfFiles content request (names_of (files_of request)) status answer
+      → OfFiles content request (file_names (files_of request)) status answer
 
 module _ (content : Contents) (request : Request) where
   pub few_or_many : 200 < length (config_names request) → length (config_names request) ≤ 200 → ⊥
   few_or_many many few = omega (arith, many, few)
 
   same_stop : {p q : List (List ℕ)} {s z : Status} {t w : List ℕ} (b c : List File) (n m : File) (ts ss : List (List ℕ)) (x y : List ℕ)
-      → All (IsTold content) p → p ≡ names_of b ++ n.name ∷ [] → q ≡ names_of c ++ m.name ∷ [] → StopsAfter content (files_of request) b n ts x
+      → All (IsFileTold content) p → p ≡ file_names b ++ n.name ∷ [] → q ≡ file_names c ++ m.name ∷ [] → StopsAfter content (files_of request) b n ts x
       → StopsAfter content (files_of request) c m ss y → IsBrokenSo b n ts x s t → IsBrokenSo c m ss y z w → SameAnswer p s t q z w
   same_stop {p} {q} {s} {z} {t} {w} b c n m ts ss x y tell asked also one other here there =
       let tells = told_up_to content b n p asked tell in
       let place = same_place content (files_of request) b c n m tells ts ss x y one other in
       let answer = same_limit content (files_of request) b c n m tells ts ss x y one other here there in
-      let names : names_of b ++ n.name ∷ [] ≡ names_of c ++ m.name ∷ [] = λ i. names_of (place.0 i) ++ (place.1 i).name ∷ [] in
+      let names : file_names b ++ n.name ∷ [] ≡ file_names c ++ m.name ∷ [] = λ i. file_names (place.0 i) ++ (place.1 i).name ∷ [] in
       (asked ∙ names ∙ sym also, answer.0, tell_same s z t w answer)
 
   pub stop_or_all : (before : List File) (file : File) (texts : List (List ℕ)) (text : List ℕ) (all : List (List ℕ))
@@ -72,7 +72,7 @@ module _ (content : Contents) (request : Request) where
       one_verdict request (own_texts request ts) (config_texts request ts) s z t w one
       (subst (λ some. IsVerdict request (own_texts request some) (config_texts request some) z w) (sym is) other)
 
-  one_of_files : {p q : List (List ℕ)} {s z : Status} {t w : List ℕ} → All (IsTold content) p → OfFiles content request p s t → OfFiles content request q z w
+  one_of_files : {p q : List (List ℕ)} {s z : Status} {t w : List ℕ} → All (IsFileTold content) p → OfFiles content request p s t → OfFiles content request q z w
       → SameAnswer p s t q z w
   one_of_files tell (above _) (above _) = (refl, refl, same_text)
   one_of_files tell (above many) (stopped _ _ _ _ few _ _ _) = absurd (few_or_many many few)
@@ -135,7 +135,7 @@ tells : (words : List (List ℕ)) (text : List ℕ) → AreRefused words text �
 tells words text (not_taken _ _ told) = told
 tells words text (number_off _) = record { detail = []; text_is = sym (append-nil words_refused_text) }
 
-one_of_words : (call : Call) {p q : List (List ℕ)} {s z : Status} {t w : List ℕ} → All (IsTold call.content) p → OfWords call p s t
+one_of_words : (call : Call) {p q : List (List ℕ)} {s z : Status} {t w : List ℕ} → All (IsFileTold call.content) p → OfWords call p s t
     → OfWords call q z w → SameAnswer p s t q z w
 one_of_words call tell (refused t one) (refused w other) = (refl, refl, words_refused (tells call.words t one) (tells call.words w other))
 one_of_words call tell (refused t one) (asks request ask _) = absurd (refused_or_asks call.words t request one ask)
@@ -145,12 +145,12 @@ one_of_words call {q = q} {z = z} {w = w} tell (asks one ask files) (asks other 
     one_of_files call.content one tell files (subst (λ request. OfFiles call.content request q z w) (sym one_thing) also)
 
 -- a call has one answer
-pub one_answer : (call : Call) (p q : List (List ℕ)) (s z : Status) (t w : List ℕ) → All (IsTold call.content) p → s ≢ ReadFault → z ≢ ReadFault
+pub one_answer : (call : Call) (p q : List (List ℕ)) (s z : Status) (t w : List ℕ) → All (IsFileTold call.content) p → s ≢ ReadFault → z ≢ ReadFault
     → IsAnswer call p s t → IsAnswer call q z w → SameAnswer p s t q z w
 one_answer call p q s z t w tell no_fault no_other one other = one_of_words call tell (steps_of no_fault one) (steps_of no_other other)
 
 -- and ends with it, or by a read fault
-pub ends_so : (call : Call) (p q : List (List ℕ)) (s z : Status) (t w : List ℕ) → All (IsTold call.content) p → s ≢ ReadFault
+pub ends_so : (call : Call) (p q : List (List ℕ)) (s z : Status) (t w : List ℕ) → All (IsFileTold call.content) p → s ≢ ReadFault
     → IsAnswer call p s t → IsAnswer call q z w → (z ≡ ReadFault) ⊎ (z ≢ ReadFault) → MayEnd s z
 ends_so call p q s z t w tell no_fault one other (inl fault) = subst (MayEnd s) (sym fault) by_read_fault
 ends_so call p q s z t w tell no_fault one other (inr no_other) =

@@ -20,7 +20,7 @@ use Rattle.plan_theory.specs.declared.planned.Planned.TheVariants.{Searched}
 use Rattle.planned_texts.proofs.ReadBack.{chain_tagged, plan_reads_back}
 use Rattle.refutation_check.specs.Verdicts.{leaf_count}
 use Rattle.step_scripts.specs.WavesTexts.{waves_text}
-use Rattle.store_edge.specs.Sink.{Adds}
+use Rattle.store_edge.specs.Sink.{AddsBytes}
 use Rattle.migrate_words.specs.Asked.{Asks}
 use Rattle.migrate_words.specs.Requests.{Request, plan}
 use Rattle.migrate_words.proofs.OneRequest.{one_request}
@@ -107,7 +107,7 @@ plan_holds {budget} {net} some network (refuted tree ends refutes) =
 
 module _ (call : Call) (configs : List (List ℕ)) (before after : Outside) where
   means_so : (status : Status) (texts : List (List ℕ)) (net : Network) (text : List ℕ) → AreRead call.content (map config_file configs) texts →
-      GiveNetwork texts net → Adds before.written after.written text → HoldsOf net status text → MeansOf call configs before after status
+      GiveNetwork texts net → AddsBytes before.written after.written text → HoldsOf net status text → MeansOf call configs before after status
   means_so Done texts net text read gives adds holds =
       record { texts = texts; read = read; net = net; gives = gives; text = text; written = adds; holds = holds }
   means_so Negative texts net text read gives adds holds =
@@ -121,7 +121,7 @@ module _ (call : Call) (configs : List (List ℕ)) (before after : Outside) wher
   refusal_means _ status is = subst (MeansOf call configs before after) (same_Some Refused status is) tt
 
   verdict_means : (budget : ℕ) (texts : List (List ℕ)) {status : Status} {text : List ℕ} → AreRead call.content (map config_file configs) texts →
-      Adds before.written after.written text → IsVerdict (plan budget configs) [] texts status text → MeansOf call configs before after status
+      AddsBytes before.written after.written text → IsVerdict (plan budget configs) [] texts status text → MeansOf call configs before after status
   verdict_means budget texts read adds (faulty_configuration _ _ _ _) = tt
   verdict_means budget texts read adds (no_network _ refusal status _ _ is) = refusal_means refusal status is
   verdict_means budget texts read adds (off_start _ _ _ _ _ _ _) = tt
@@ -129,7 +129,7 @@ module _ (call : Call) (configs : List (List ℕ)) (before after : Outside) wher
       means_so status texts net text read gives adds (plan_holds verdict.1.some verdict.1.network verdict.1.plan)
 
   answer_means : (budget : ℕ) {asked : List (List ℕ)} {status : Status} {text : List ℕ} → Asks call.words (plan budget configs) →
-      Adds before.written after.written text → IsAnswer call asked status text → MeansOf call configs before after status
+      AddsBytes before.written after.written text → IsAnswer call asked status text → MeansOf call configs before after status
   answer_means budget asks adds (refused_words _ _) = tt
   answer_means budget asks adds (many_files _ _ _) = tt
   answer_means budget asks adds (read_fault _ _ _ _ _ _) = tt

@@ -3,7 +3,7 @@ use Rattle.std.proofs.Common.{◌≡◌, ◌≢◌, ◌<◌, ◌∷◌, [], Cont
 use Rattle.std.proofs.lemmas.List.Elements.{All-contains_itself}
 use Rattle.std.proofs.lemmas.List.Sorted.{All-permutation, IsPermutation-sym}
 use Rattle.std.proofs.lemmas.Option.{same_Some}
-use Rattle.store_edge.specs.Sink.{Adds}
+use Rattle.store_edge.specs.Sink.{AddsBytes}
 use Rattle.net_model.specs.Configuration.{Configuration}
 use Rattle.net_model.specs.Network.{Network}
 use Rattle.net_model.specs.declared.refusal.NetRefusal.{NetRefusal}
@@ -118,7 +118,7 @@ network_read (text ∷ texts) net settled gives fits some = prepared_texts_read 
 
 -- what was written is read back
 pub reads_back : (call : Call) (before after : Outside) (asked : List (List ℕ)) (status : Status) (text : List ℕ) →
-    IsAnswer call asked status text → Adds before.written after.written text →
+    IsAnswer call asked status text → AddsBytes before.written after.written text →
     (file : List ℕ) (configs : List (List ℕ)) → Asks call.words (prepare file configs) → status ≡ Done → HasPrepared call file configs before after
 reads_back call before after asked status text answer adds file configs ask done =
     let it = judged_done answer done in

@@ -22,7 +22,7 @@ use Rattle.migrate_cli.specs.PlanCompleteness.{Plans}
 use Rattle.migrate_cli.specs.PlanCompleteness.Plans.{waves as by_waves}
 use Rattle.migrate_cli.specs.PlanVerdict.{IsPlanVerdict}
 use Rattle.migrate_cli.specs.PlanVerdict.IsPlanOver.{waves}
-use Rattle.migrate_cli.specs.Reading.{Contents, File, ReadUpTo, names_of as file_names}
+use Rattle.migrate_cli.specs.Reading.{Contents, File, ReadUpTo, file_names}
 use Rattle.migrate_cli.specs.SampleClaim.{AcceptsSample, EndsSample, HasSampled, IsAsPlanned, IsVerdictOfSample, SamplePromises}
 use Rattle.migrate_cli.specs.SampleClaim.EndsSample.{whole as whole_verdict, cut as cut_verdict, no_memory as none_written}
 use Rattle.migrate_cli.specs.SampleVerdict.{IsSampleOver}

@@ -2,8 +2,8 @@
 use Rattle.std.proofs.Common.{◌≡◌, ℕ, ◌+◌, ◌-◌, ◌≤◌, List, ◌++◌, take, drop, Option, Result, Ok, Err, OnErr, arith, ap, ◌∙◌, sym, subst}
 use Rattle.std.proofs.lemmas.List.{take-append-drop}
 use Rattle.std.proofs.Math.Seq.{take-add}
-use Rattle.store_edge.specs.Sink.{Adds, AddsFront}
-use Rattle.store_edge.proofs.OutsideLaws.{Adds-then, AddsFront-then, AddsFront-longer}
+use Rattle.store_edge.specs.Sink.{AddsBytes, AddsFront}
+use Rattle.store_edge.proofs.OutsideLaws.{AddsBytes-then, AddsFront-then, AddsFront-longer}
 
 -- what holds holds on an error too
 pub OnErr-from : {T E P : Type 0} (r : Result T E) → P → OnErr r P
@@ -17,13 +17,13 @@ front_and_piece text done stop up =
     sym (take-add done (stop - done) text) ∙ ap (λ n. take n text) e
 
 -- the next piece of a text
-pub adds_piece : (a b c : Option (List ℕ)) (text : List ℕ) (done stop : ℕ) → done ≤ stop → Adds a b (take done text)
-    → Adds b c (take (stop - done) (drop done text)) → Adds a c (take stop text)
+pub adds_piece : (a b c : Option (List ℕ)) (text : List ℕ) (done stop : ℕ) → done ≤ stop → AddsBytes a b (take done text)
+    → AddsBytes b c (take (stop - done) (drop done text)) → AddsBytes a c (take stop text)
 adds_piece a b c text done stop up first next =
-    subst (Adds a c) (front_and_piece text done stop up) (Adds-then a b c (take done text) (take (stop - done) (drop done text)) first next)
+    subst (AddsBytes a c) (front_and_piece text done stop up) (AddsBytes-then a b c (take done text) (take (stop - done) (drop done text)) first next)
 
 -- a part of the next piece
-pub adds_part : (a b c : Option (List ℕ)) (text : List ℕ) (done stop : ℕ) → done ≤ stop → Adds a b (take done text)
+pub adds_part : (a b c : Option (List ℕ)) (text : List ℕ) (done stop : ℕ) → done ≤ stop → AddsBytes a b (take done text)
     → AddsFront b c (take (stop - done) (drop done text)) → AddsFront a c text
 adds_part a b c text done stop up first next =
     let front : AddsFront a c (take stop text) =

@@ -2,7 +2,7 @@
 use Rattle.std.proofs.Common.{◌≡◌, ℕ, zero, suc, ◌+◌, ◌<◌, List, [], ◌∷◌, ◌++◌, length, take, drop, map, get_or, Option, Ok, Err, IfSome, arith, ap, ◌∙◌, refl}
 use Rattle.std.proofs.Common.{sym, subst, append-nil, append_assoc}
 use Rattle.std.proofs.lemmas.List.{take_more, map-append}
-use Rattle.migrate_cli.specs.Reading.{Contents, File, names_of, IsReadOf, AreRead, AreWithin, ReadUpTo, total_of}
+use Rattle.migrate_cli.specs.Reading.{Contents, File, file_names, IsReadOf, AreRead, AreWithin, ReadUpTo, total_of}
 use Rattle.migrate_cli.proofs.ReadingFacts.{AreRead-more, AreWithin-more, total_of-more, within_front}
 use Rattle.migrate_cli.specs.steps.Stops.{KeptTexts, StopsAt, IsFrontOf, HasAsked, IsNextText, MayRead, HasRead}
 use Rattle.migrate_cli.specs.steps.Stops.MayRead.{none_yet, so_far}
@@ -41,12 +41,12 @@ StopsAt-same content other file before OutOfMemory same stops = tt
 -- the names asked for up to a file
 abbrev up_to : (content : Contents) (files before after : List File) (texts : List (List ℕ)) (file : File) (asked : List (List ℕ)) →
     files ≡ before ++ file ∷ after
-    → AreRead content before texts → AreWithin before texts → asked ≡ file.name ∷ [] → ReadUpTo content files (names_of before ++ asked) texts file
+    → AreRead content before texts → AreWithin before texts → asked ≡ file.name ∷ [] → ReadUpTo content files (file_names before ++ asked) texts file
 up_to content files before after texts file asked files_are read within alone = record {
   before = before;
   after = after;
   files_are = files_are;
-  asked_are = ap (λ more. names_of before ++ more) alone;
+  asked_are = ap (λ more. file_names before ++ more) alone;
   read = read;
   within = within;
 }
@@ -70,45 +70,45 @@ ends_read content (f ∷ files) [] read = absurd read
 ends_read content (f ∷ files) (t ∷ texts) read = one_before f t read.0 (ends_read content files texts read.1)
 
 -- the name of the last file
-names_of-more : (files : List File) (file : File) → names_of (files ++ file ∷ []) ≡ names_of files ++ file.name ∷ []
-names_of-more files file = map-append (λ (f : File). f.name) files (file ∷ [])
+file_names-more : (files : List File) (file : File) → file_names (files ++ file ∷ []) ≡ file_names files ++ file.name ∷ []
+file_names-more files file = map-append (λ (f : File). f.name) files (file ∷ [])
 
 -- where the first files were read within the limits memory may run out
 from_end : {content : Contents} {before : List File} {texts : List (List ℕ)} (files after : List File) → files ≡ before ++ after → AreWithin before texts
-    → EndsRead content before texts → MayRead content files (names_of before)
+    → EndsRead content before texts → MayRead content files (file_names before)
 from_end files after files_are within nothing = none_yet
 from_end {content} files after files_are within (last before texts file text read) =
-    so_far (names_of (before ++ file ∷ [])) texts file (record {
+    so_far (file_names (before ++ file ∷ [])) texts file (record {
       before = before;
       after = after;
       files_are = files_are ∙ append_assoc before (file ∷ []) after;
-      asked_are = names_of-more before file;
+      asked_are = file_names-more before file;
       read = read;
       within = within_front content before (file ∷ []) texts (text ∷ []) read within;
     })
 
 pub read_so_far : (content : Contents) (files before after : List File) (texts : List (List ℕ)) → files ≡ before ++ after →
     AreRead content before texts → AreWithin before texts
-    → MayRead content files (names_of before)
+    → MayRead content files (file_names before)
 read_so_far content files before after texts files_are read within = from_end files after files_are within (ends_read content before texts read)
 
 -- and so it may in the next read, before or after its name counts as asked for
 may_read : (content : Contents) (files before after : List File) (texts : List (List ℕ)) (file : File) (asked : List (List ℕ)) → files ≡ before ++ file ∷ after
-    → AreRead content before texts → AreWithin before texts → IsFrontOf (file.name ∷ []) asked → MayRead content files (names_of before ++ asked)
+    → AreRead content before texts → AreWithin before texts → IsFrontOf (file.name ∷ []) asked → MayRead content files (file_names before ++ asked)
 may_read content files before after texts file [] files_are read within front =
-    subst (MayRead content files) (sym (append-nil (names_of before))) (read_so_far content files before (file ∷ after) texts files_are read within)
+    subst (MayRead content files) (sym (append-nil (file_names before))) (read_so_far content files before (file ∷ after) texts files_are read within)
 may_read content files before after texts file (n ∷ []) files_are read within front =
     let same : file.name ≡ n = cc front.all_are in
-    so_far (names_of before ++ n ∷ []) texts file (up_to content files before after texts file (n ∷ []) files_are read within (ap (λ x. x ∷ []) (sym same)))
+    so_far (file_names before ++ n ∷ []) texts file (up_to content files before after texts file (n ∷ []) files_are read within (ap (λ x. x ∷ []) (sym same)))
 may_read content files before after texts file (n ∷ m ∷ more) files_are read within front = absurd (cc front.all_are)
 
 -- the reading of several files stops where that of one of them does
 pub stops_among : (content : Contents) (files before after : List File) (texts : List (List ℕ)) (file : File) (old now new : List (List ℕ)) (stop : Stop)
-    → files ≡ before ++ file ∷ after → AreRead content before texts → AreWithin before texts → now ≡ old ++ names_of before
+    → files ≡ before ++ file ∷ after → AreRead content before texts → AreWithin before texts → now ≡ old ++ file_names before
     → StopsAt content file (total_of before texts) stop → HasAsked {A = Unit {0}} file.name now new (Err stop) → HasRead content files old new (Err stop)
 stops_among content files before after texts file old now new (Fault name) files_are read within now_is stops asks = record {
-  asked = names_of before ++ asks.asked;
-  asked_is = asks.asked_is ∙ ap (λ some. some ++ asks.asked) now_is ∙ append_assoc old (names_of before) asks.asked;
+  asked = file_names before ++ asks.asked;
+  asked_is = asks.asked_is ∙ ap (λ some. some ++ asks.asked) now_is ∙ append_assoc old (file_names before) asks.asked;
   reads = record {
     texts = texts;
     file = file;
@@ -117,8 +117,8 @@ stops_among content files before after texts file old now new (Fault name) files
   };
 }
 stops_among content files before after texts file old now new (Long name) files_are read within now_is stops asks = record {
-  asked = names_of before ++ asks.asked;
-  asked_is = asks.asked_is ∙ ap (λ some. some ++ asks.asked) now_is ∙ append_assoc old (names_of before) asks.asked;
+  asked = file_names before ++ asks.asked;
+  asked_is = asks.asked_is ∙ ap (λ some. some ++ asks.asked) now_is ∙ append_assoc old (file_names before) asks.asked;
   reads = record {
     texts = texts;
     file = file;
@@ -127,8 +127,8 @@ stops_among content files before after texts file old now new (Long name) files_
   };
 }
 stops_among content files before after texts file old now new (Total number) files_are read within now_is stops asks = record {
-  asked = names_of before ++ asks.asked;
-  asked_is = asks.asked_is ∙ ap (λ some. some ++ asks.asked) now_is ∙ append_assoc old (names_of before) asks.asked;
+  asked = file_names before ++ asks.asked;
+  asked_is = asks.asked_is ∙ ap (λ some. some ++ asks.asked) now_is ∙ append_assoc old (file_names before) asks.asked;
   reads = record {
     texts = texts;
     file = file;
@@ -137,8 +137,8 @@ stops_among content files before after texts file old now new (Total number) fil
   };
 }
 stops_among content files before after texts file old now new OutOfMemory files_are read within now_is stops asks = record {
-  asked = names_of before ++ asks.asked;
-  asked_is = asks.asked_is ∙ ap (λ some. some ++ asks.asked) now_is ∙ append_assoc old (names_of before) asks.asked;
+  asked = file_names before ++ asks.asked;
+  asked_is = asks.asked_is ∙ ap (λ some. some ++ asks.asked) now_is ∙ append_assoc old (file_names before) asks.asked;
   reads = may_read content files before after texts file asks.asked files_are read within asks.asks_for;
 }
 
@@ -193,8 +193,8 @@ counted_more other files file before after is within next =
     sum ∙ ap (total_of (files ++ file ∷ [])) (sym next.last)
 
 -- and its name was asked for
-pub asked_more : (files : List File) (file : File) (old now new : List (List ℕ)) → now ≡ old ++ names_of files
-    → HasAsked {A = Unit {0}} file.name now new (Ok tt) → new ≡ old ++ names_of (files ++ file ∷ [])
+pub asked_more : (files : List File) (file : File) (old now new : List (List ℕ)) → now ≡ old ++ file_names files
+    → HasAsked {A = Unit {0}} file.name now new (Ok tt) → new ≡ old ++ file_names (files ++ file ∷ [])
 asked_more files file old now new now_is asks =
-    asks.asked_is ∙ ap (λ some. some ++ asks.asked) now_is ∙ append_assoc old (names_of files) asks.asked
-    ∙ ap (λ more. old ++ (names_of files ++ more)) asks.asks_for ∙ ap (λ more. old ++ more) (sym (names_of-more files file))
+    asks.asked_is ∙ ap (λ some. some ++ asks.asked) now_is ∙ append_assoc old (file_names files) asks.asked
+    ∙ ap (λ more. old ++ (file_names files ++ more)) asks.asks_for ∙ ap (λ more. old ++ more) (sym (file_names-more files file))

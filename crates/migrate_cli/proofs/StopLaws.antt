@@ -5,8 +5,8 @@ use Rattle.std.proofs.lemmas.List.{map-append}
 use Rattle.std.proofs.lemmas.List.Elements.{All-head, All-tail, All-cons, All-contains, Contains-append_right}
 use Rattle.net_model.proofs.Members.{Contains-first}
 use Rattle.migration_report.specs.Texts.{long_file_text, long_files_text}
-use Rattle.migrate_cli.specs.AnswerLaws.{IsTold}
-use Rattle.migrate_cli.specs.Reading.{Contents, File, names_of, IsReadOf, AreRead, counted, total_of, IsShort, AreShort, AreWithin}
+use Rattle.migrate_cli.specs.AnswerLaws.{IsFileTold}
+use Rattle.migrate_cli.specs.Reading.{Contents, File, file_names, IsReadOf, AreRead, counted, total_of, IsShort, AreShort, AreWithin}
 use Rattle.migrate_cli.specs.steps.Stops.{IsFrontOf}
 use Rattle.migrate_cli.specs.declared.status.Status.{Status}
 use Rattle.migrate_cli.specs.declared.status.Status.TheVariants.{Limit}
@@ -21,18 +21,18 @@ All-front P (x ∷ xs) ys all = All-cons P x xs (All-head P x (xs ++ ys) all) (A
 
 -- what the file holds is told
 abbrev pub IsToldOf : Contents → File → Type 0
-IsToldOf content file = IsTold content file.name
+IsToldOf content file = IsFileTold content file.name
 
 -- the files whose names are told are told
-pub told_files : (content : Contents) (files : List File) → All (IsTold content) (names_of files) → All (IsToldOf content) files
-told_files content files tell = All-mapped (IsTold content) (λ (file : File). file.name) files tell
+pub told_files : (content : Contents) (files : List File) → All (IsFileTold content) (file_names files) → All (IsToldOf content) files
+told_files content files tell = All-mapped (IsFileTold content) (λ (file : File). file.name) files tell
 
 -- also up to one of them
-pub told_up_to : (content : Contents) (before : List File) (file : File) (asked : List (List ℕ)) → asked ≡ names_of before ++ file.name ∷ []
-    → All (IsTold content) asked → All (IsToldOf content) (before ++ file ∷ [])
+pub told_up_to : (content : Contents) (before : List File) (file : File) (asked : List (List ℕ)) → asked ≡ file_names before ++ file.name ∷ []
+    → All (IsFileTold content) asked → All (IsToldOf content) (before ++ file ∷ [])
 told_up_to content before file asked asked_are tell =
     told_files content (before ++ file ∷ [])
-    (subst (All (IsTold content)) (asked_are ∙ sym (map-append (λ (f : File). f.name) before (file ∷ []))) tell)
+    (subst (All (IsFileTold content)) (asked_are ∙ sym (map-append (λ (f : File). f.name) before (file ∷ []))) tell)
 
 -- ---- limits ----
 

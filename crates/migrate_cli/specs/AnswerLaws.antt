@@ -17,8 +17,8 @@ OneVerdictLaw =
     (status ≡ other_status) × (text ≡ other_text)
 
 -- what a name's file holds is told
-abbrev pub IsTold : Contents → List ℕ → Type 0
-IsTold content name = IsSome (content name)
+abbrev pub IsFileTold : Contents → List ℕ → Type 0
+IsFileTold content name = IsSome (content name)
 
 -- two answers tell the same: the text is the same, or they say that the words are refused, and the first line is the same
 pub data TellTheSame : Status → List ℕ → List ℕ → Type 0 where
@@ -30,7 +30,7 @@ pub data TellTheSame : Status → List ℕ → List ℕ → Type 0 where
 -- first line of the refusal of words
 abbrev pub OneAnswerLaw : Type 0
 OneAnswerLaw =
-    (call : Call) (asked other_asked : List (List ℕ)) (status other_status : Status) (text other_text : List ℕ) → All (IsTold call.content) asked →
+    (call : Call) (asked other_asked : List (List ℕ)) (status other_status : Status) (text other_text : List ℕ) → All (IsFileTold call.content) asked →
     status ≢ ReadFault → other_status ≢ ReadFault →
     IsAnswer call asked status text → IsAnswer call other_asked other_status other_text →
     (asked ≡ other_asked) × (status ≡ other_status) × TellTheSame status text other_text
@@ -45,5 +45,5 @@ pub data MayEnd (status : Status) : Status → Type 0 where
 -- a call ends as its answer says, where the files that it asks for are told
 abbrev pub EndsByAnswer : Call → Status → Type 0
 EndsByAnswer call result =
-    (asked : List (List ℕ)) (status : Status) (text : List ℕ) → All (IsTold call.content) asked → status ≢ ReadFault →
+    (asked : List (List ℕ)) (status : Status) (text : List ℕ) → All (IsFileTold call.content) asked → status ≢ ReadFault →
     IsAnswer call asked status text → MayEnd status result

@@ -2,7 +2,7 @@
 use Rattle.std.specs.Prelude.{◌≡◌, ◌≢◌, ℕ, ◌<◌, ◌≤◌, List, [], ◌++◌, Result, Ok, Err, length}
 use Rattle.std.specs.declared.alloc.AllocError.{AllocError}
 use Rattle.store_edge.specs.Faults.{Rose}
-use Rattle.store_edge.specs.Sink.{Adds, AddsFront}
+use Rattle.store_edge.specs.Sink.{AddsBytes, AddsFront}
 use Rattle.migrate_words.specs.Asked.{Asks}
 use Rattle.migrate_words.specs.Requests.{Request}
 use Rattle.migrate_words.specs.declared.refusal.WordsRefused.{WordsRefused}
@@ -11,7 +11,7 @@ use Rattle.migration_report.specs.Texts.{long_file_text, long_files_text, many_f
 use Rattle.migrate_cli.specs.Calls.{Call, Outside}
 use Rattle.migrate_cli.specs.CallWords.{AreRefused, TellsWordsRefused}
 use Rattle.migrate_cli.specs.CommandFiles.{config_names, config_texts, files_of, own_texts}
-use Rattle.migrate_cli.specs.Reading.{File, AreRead, AreWithin, IsTooLong, PassesTotal, ReadUpTo, names_of, total_of}
+use Rattle.migrate_cli.specs.Reading.{File, AreRead, AreWithin, IsTooLong, PassesTotal, ReadUpTo, file_names, total_of}
 use Rattle.migrate_cli.specs.Verdicts.{IsVerdict}
 use Rattle.migrate_cli.specs.declared.run_call.TheConstants.{FILES_MOST}
 use Rattle.migrate_cli.specs.declared.answer.Answer.{Answer}
@@ -41,7 +41,7 @@ pub data IsAnswer (call : Call) : List (List ℕ) → Status → List ℕ → Ty
       IsAnswer call asked Limit (long_files_text number)
   judged : (request : Request) (texts : List (List ℕ)) (status : Status) (text : List ℕ) → AsksForFew call.words request →
       AreRead call.content (files_of request) texts → AreWithin (files_of request) texts →
-      IsVerdict request (own_texts request texts) (config_texts request texts) status text → IsAnswer call (names_of (files_of request)) status text
+      IsVerdict request (own_texts request texts) (config_texts request texts) status text → IsAnswer call (file_names (files_of request)) status text
 
 -- the names that were asked for when memory ran out: none, or those up to a file before which all were read within the limits
 pub data MayAsk (call : Call) : List (List ℕ) → Type 0 where
@@ -57,7 +57,7 @@ pub record FaultsAgree (status : Status) (before after : ℕ) : Type 0 where
 -- how a call ends that asked for these names: its answer is written whole, or its front, or there was no memory and nothing is written
 pub data Ends (call : Call) (asked : List (List ℕ)) (before after : Outside) : Status → Type 0 where
   whole : (status : Status) (text : List ℕ) → IsAnswer call asked status text → FaultsAgree status before.file_faults after.file_faults →
-      Adds before.written after.written text → Ends call asked before after status
+      AddsBytes before.written after.written text → Ends call asked before after status
   cut : (status : Status) (text : List ℕ) → IsAnswer call asked status text → FaultsAgree status before.file_faults after.file_faults →
       AddsFront before.written after.written text → Ends call asked before after WriteFault
   no_memory : MayAsk call asked → after.written ≡ before.written → Ends call asked before after Memory

@@ -14,3 +14,12 @@ pub record Outside : Type 0 where
   pub file_faults : ℕ
   pub written : Option (List ℕ)
   pub sink_faults : ℕ
+
+-- the call of these words, where the files tell this
+abbrev pub call_of : List (List ℕ) → Contents → Call
+call_of words content = record { words = words; content = content }
+
+-- the names asked for, the faults of the files, the bytes written, the faults of the sink
+abbrev pub outside : List (List ℕ) → ℕ → Option (List ℕ) → ℕ → Outside
+outside asked file_faults written sink_faults =
+    record { asked = asked; file_faults = file_faults; written = written; sink_faults = sink_faults }

@@ -9,12 +9,12 @@ use Rattle.igp_theory.specs.Waves.{HasNoneSeamless}
 use Rattle.step_scripts.specs.WaveFiles.{NamesWaves}
 use Rattle.step_scripts.specs.declared.version.Version.{Version}
 use Rattle.store_edge.specs.Faults.{Rose}
-use Rattle.migrate_cli.specs.AnswerLaws.{IsTold}
+use Rattle.migrate_cli.specs.AnswerLaws.{IsFileTold}
 use Rattle.migrate_cli.specs.Answers.{AsksForFew}
 use Rattle.migrate_cli.specs.Calls.{Call, Outside}
 use Rattle.migrate_cli.specs.CommandFiles.{NeedsStart, config_texts, files_of, own_texts}
 use Rattle.migrate_cli.specs.Configurations.{GiveNetwork, IsAtStart}
-use Rattle.migrate_cli.specs.Reading.{AreRead, AreWithin, names_of}
+use Rattle.migrate_cli.specs.Reading.{AreRead, AreWithin, file_names}
 use Rattle.migrate_cli.specs.declared.status.Status.{Status}
 use Rattle.migrate_cli.specs.declared.status.Status.TheVariants.{Done, Negative, Memory}
 
@@ -22,7 +22,7 @@ use Rattle.migrate_cli.specs.declared.status.Status.TheVariants.{Done, Negative,
 -- is at its start where that is needed
 pub record IsAccepted (call : Call) (request : Request) (texts : List (List ℕ)) (net : Network) : Type 0 where
   pub asked : AsksForFew call.words request
-  pub told : All (IsTold call.content) (names_of (files_of request))
+  pub told : All (IsFileTold call.content) (file_names (files_of request))
   pub read : AreRead call.content (files_of request) texts
   pub within : AreWithin (files_of request) texts
   pub gives : GiveNetwork (config_texts request texts) net

@@ -16,7 +16,7 @@ use Rattle.planned_texts.specs.Chains.{IsTaggedChain}
 use Rattle.step_scripts.specs.WaveFiles.{NamesWaves}
 use Rattle.step_scripts.specs.WavesTexts.{waves_text}
 use Rattle.step_scripts.specs.declared.version.Version.TheVariants.{Two}
-use Rattle.store_edge.specs.Sink.{Adds}
+use Rattle.store_edge.specs.Sink.{AddsBytes}
 use Rattle.migrate_words.specs.Asked.{Asks}
 use Rattle.migrate_words.specs.Requests.{plan}
 use Rattle.migration_report.specs.Texts.{waves_safe_text}
@@ -77,7 +77,7 @@ pub record HasWritten (call : Call) (configs : List (List ℕ)) (before after : 
   pub net : Network
   pub gives : GiveNetwork texts net
   pub text : List ℕ
-  pub written : Adds before.written after.written text
+  pub written : AddsBytes before.written after.written text
   pub holds : P net text
 
 -- what each status of a `plan` of these files means

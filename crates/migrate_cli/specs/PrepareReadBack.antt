@@ -1,6 +1,6 @@
 -- What `prepare` wrote is read as the configurations of its files, with the IS-IS of the design and nothing else changed.
 use Rattle.std.specs.Prelude.{◌≡◌, ℕ, List, [], ◌∷◌, map}
-use Rattle.store_edge.specs.Sink.{Adds}
+use Rattle.store_edge.specs.Sink.{AddsBytes}
 use Rattle.net_model.specs.Network.{Network}
 use Rattle.ios_reader.specs.Texts.{ReadsText}
 use Rattle.design_file.specs.Answers.{SaysDesign, Settles}
@@ -32,7 +32,7 @@ pub record HasPrepared (call : Call) (file : List ℕ) (configs : List (List ℕ
   pub settled : List SettledRouter
   pub settles : Settles design net settled
   pub written : List ℕ
-  pub adds : Adds before.written after.written written
+  pub adds : AddsBytes before.written after.written written
   pub reads_back : ReadsText written (map (prepared net settled) gives.configs)
 
 -- where a call asks for `prepare` and ends with `Done`, it has done so

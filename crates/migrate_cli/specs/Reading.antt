@@ -13,8 +13,8 @@ pub record File : Type 0 where
   pub counts : Bool
 
 -- the names of some files
-abbrev pub names_of : List File → List (List ℕ)
-names_of files = map (λ file. file.name) files
+abbrev pub file_names : List File → List (List ℕ)
+file_names files = map (λ file. file.name) files
 
 -- what is read of a file: one byte more than it may have, and all of it where it is shorter
 pub record IsReadOf (content : Contents) (file : File) (text : List ℕ) : Type 0 where
@@ -73,6 +73,6 @@ pub record ReadUpTo (content : Contents) (files : List File) (asked : List (List
   pub before : List File
   pub after : List File
   pub files_are : files ≡ before ++ file ∷ after
-  pub asked_are : asked ≡ names_of before ++ file.name ∷ []
+  pub asked_are : asked ≡ file_names before ++ file.name ∷ []
   pub read : AreRead content before texts
   pub within : AreWithin before texts

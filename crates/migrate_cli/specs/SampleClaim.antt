@@ -1,7 +1,7 @@
 -- What a call of `sample` promises: its text is planned as that of a file, and no file is asked for.
 use Rattle.std.specs.Prelude.{◌≡◌, ◌≢◌, ℕ, List, [], ◌∷◌, codes}
 use Rattle.store_edge.specs.Faults.{Rose}
-use Rattle.store_edge.specs.Sink.{Adds, AddsFront}
+use Rattle.store_edge.specs.Sink.{AddsBytes, AddsFront}
 use Rattle.net_model.specs.Network.{Network}
 use Rattle.sample_network.specs.SampleTexts.{sample_text}
 use Rattle.migrate_words.specs.Asked.{Asks}
@@ -33,7 +33,7 @@ pub record IsAsPlanned (routers : ℕ) (status : Status) (text : List ℕ) : Typ
 -- nothing is written
 pub data EndsSample (routers : ℕ) (before after : Outside) : Status → Type 0 where
   whole : (status : Status) (text : List ℕ) → IsVerdictOfSample routers status text → IsAsPlanned routers status text →
-      Adds before.written after.written text → EndsSample routers before after status
+      AddsBytes before.written after.written text → EndsSample routers before after status
   cut : (status : Status) (text : List ℕ) → IsVerdictOfSample routers status text → IsAsPlanned routers status text →
       AddsFront before.written after.written text → EndsSample routers before after WriteFault
   no_memory : after.written ≡ before.written → EndsSample routers before after Memory

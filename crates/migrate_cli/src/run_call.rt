@@ -5,7 +5,7 @@ ghost use Rattle.migrate_words.specs.Requests.{IsInRange, request_of};
 ghost use Rattle.migration_report.specs.Texts.{words_refused_text};
 ghost use Rattle.migrate_cli.specs.AnswerLaws.{EndsByAnswer};
 ghost use Rattle.migrate_cli.specs.Answers.{Answers, FaultsAgree, HasAnswer, RefusalAnswer, StopAnswer};
-ghost use Rattle.migrate_cli.specs.Calls.{Call, Outside};
+ghost use Rattle.migrate_cli.specs.Calls.{Call, Outside, call_of, outside};
 ghost use Rattle.migrate_cli.specs.Completeness.{CheckDecides, RefuteDecides, ReplayDecides, ScriptsWrites};
 ghost use Rattle.migrate_cli.specs.PrepareCompleteness.{PrepareWrites};
 ghost use Rattle.migrate_cli.specs.PlanClaim.{PlanPromises};
@@ -32,161 +32,51 @@ const FILES_MOST: usize = 200;
 /// The words are those after the program's name, of one of the commands. The answer is built whole before its first
 /// byte is written.
 pub fn run<F: Files, S: Sink>(alloc: Global, words: &[String], files: &mut F, out: &mut S) -> Status
-    ensures answers { let call : Call = record { words = map string_bytes words.now; content = F.content files.old } in
-        let before : Outside = record {
-          asked = F.asked files.old;
-          file_faults = F.faults files.old;
-          written = S.written out.old;
-          sink_faults = S.faults out.old;
-        } in
-        let after : Outside = record {
-          asked = F.asked files.new;
-          file_faults = F.faults files.new;
-          written = S.written out.new;
-          sink_faults = S.faults out.new;
-        } in
+    ensures answers { let call : Call = call_of (map string_bytes words.now) (F.content files.old) in
+        let before : Outside = outside (F.asked files.old) (F.faults files.old) (S.written out.old) (S.faults out.old) in
+        let after : Outside = outside (F.asked files.new) (F.faults files.new) (S.written out.new) (S.faults out.new) in
         Answers call before after result }
-    ensures exact { let call : Call = record { words = map string_bytes words.now; content = F.content files.old } in
+    ensures exact { let call : Call = call_of (map string_bytes words.now) (F.content files.old) in
         EndsByAnswer call result }
-    ensures plan_promises { let call : Call = record { words = map string_bytes words.now; content = F.content files.old } in
-        let before : Outside = record {
-          asked = F.asked files.old;
-          file_faults = F.faults files.old;
-          written = S.written out.old;
-          sink_faults = S.faults out.old;
-        } in
-        let after : Outside = record {
-          asked = F.asked files.new;
-          file_faults = F.faults files.new;
-          written = S.written out.new;
-          sink_faults = S.faults out.new;
-        } in
+    ensures plan_promises { let call : Call = call_of (map string_bytes words.now) (F.content files.old) in
+        let before : Outside = outside (F.asked files.old) (F.faults files.old) (S.written out.old) (S.faults out.old) in
+        let after : Outside = outside (F.asked files.new) (F.faults files.new) (S.written out.new) (S.faults out.new) in
         PlanPromises call before after result }
-    ensures plan_decides { let call : Call = record { words = map string_bytes words.now; content = F.content files.old } in
-        let before : Outside = record {
-          asked = F.asked files.old;
-          file_faults = F.faults files.old;
-          written = S.written out.old;
-          sink_faults = S.faults out.old;
-        } in
-        let after : Outside = record {
-          asked = F.asked files.new;
-          file_faults = F.faults files.new;
-          written = S.written out.new;
-          sink_faults = S.faults out.new;
-        } in
+    ensures plan_decides { let call : Call = call_of (map string_bytes words.now) (F.content files.old) in
+        let before : Outside = outside (F.asked files.old) (F.faults files.old) (S.written out.old) (S.faults out.old) in
+        let after : Outside = outside (F.asked files.new) (F.faults files.new) (S.written out.new) (S.faults out.new) in
         PlanDecides call before after result }
-    ensures check_decides { let call : Call = record { words = map string_bytes words.now; content = F.content files.old } in
-        let before : Outside = record {
-          asked = F.asked files.old;
-          file_faults = F.faults files.old;
-          written = S.written out.old;
-          sink_faults = S.faults out.old;
-        } in
-        let after : Outside = record {
-          asked = F.asked files.new;
-          file_faults = F.faults files.new;
-          written = S.written out.new;
-          sink_faults = S.faults out.new;
-        } in
+    ensures check_decides { let call : Call = call_of (map string_bytes words.now) (F.content files.old) in
+        let before : Outside = outside (F.asked files.old) (F.faults files.old) (S.written out.old) (S.faults out.old) in
+        let after : Outside = outside (F.asked files.new) (F.faults files.new) (S.written out.new) (S.faults out.new) in
         CheckDecides call before after result }
-    ensures refute_decides { let call : Call = record { words = map string_bytes words.now; content = F.content files.old } in
-        let before : Outside = record {
-          asked = F.asked files.old;
-          file_faults = F.faults files.old;
-          written = S.written out.old;
-          sink_faults = S.faults out.old;
-        } in
-        let after : Outside = record {
-          asked = F.asked files.new;
-          file_faults = F.faults files.new;
-          written = S.written out.new;
-          sink_faults = S.faults out.new;
-        } in
+    ensures refute_decides { let call : Call = call_of (map string_bytes words.now) (F.content files.old) in
+        let before : Outside = outside (F.asked files.old) (F.faults files.old) (S.written out.old) (S.faults out.old) in
+        let after : Outside = outside (F.asked files.new) (F.faults files.new) (S.written out.new) (S.faults out.new) in
         RefuteDecides call before after result }
-    ensures replay_decides { let call : Call = record { words = map string_bytes words.now; content = F.content files.old } in
-        let before : Outside = record {
-          asked = F.asked files.old;
-          file_faults = F.faults files.old;
-          written = S.written out.old;
-          sink_faults = S.faults out.old;
-        } in
-        let after : Outside = record {
-          asked = F.asked files.new;
-          file_faults = F.faults files.new;
-          written = S.written out.new;
-          sink_faults = S.faults out.new;
-        } in
+    ensures replay_decides { let call : Call = call_of (map string_bytes words.now) (F.content files.old) in
+        let before : Outside = outside (F.asked files.old) (F.faults files.old) (S.written out.old) (S.faults out.old) in
+        let after : Outside = outside (F.asked files.new) (F.faults files.new) (S.written out.new) (S.faults out.new) in
         ReplayDecides call before after result }
-    ensures scripts_write { let call : Call = record { words = map string_bytes words.now; content = F.content files.old } in
-        let before : Outside = record {
-          asked = F.asked files.old;
-          file_faults = F.faults files.old;
-          written = S.written out.old;
-          sink_faults = S.faults out.old;
-        } in
-        let after : Outside = record {
-          asked = F.asked files.new;
-          file_faults = F.faults files.new;
-          written = S.written out.new;
-          sink_faults = S.faults out.new;
-        } in
+    ensures scripts_write { let call : Call = call_of (map string_bytes words.now) (F.content files.old) in
+        let before : Outside = outside (F.asked files.old) (F.faults files.old) (S.written out.old) (S.faults out.old) in
+        let after : Outside = outside (F.asked files.new) (F.faults files.new) (S.written out.new) (S.faults out.new) in
         ScriptsWrites call before after result }
-    ensures prepare_writes { let call : Call = record { words = map string_bytes words.now; content = F.content files.old } in
-        let before : Outside = record {
-          asked = F.asked files.old;
-          file_faults = F.faults files.old;
-          written = S.written out.old;
-          sink_faults = S.faults out.old;
-        } in
-        let after : Outside = record {
-          asked = F.asked files.new;
-          file_faults = F.faults files.new;
-          written = S.written out.new;
-          sink_faults = S.faults out.new;
-        } in
+    ensures prepare_writes { let call : Call = call_of (map string_bytes words.now) (F.content files.old) in
+        let before : Outside = outside (F.asked files.old) (F.faults files.old) (S.written out.old) (S.faults out.old) in
+        let after : Outside = outside (F.asked files.new) (F.faults files.new) (S.written out.new) (S.faults out.new) in
         PrepareWrites call before after result }
-    ensures prepare_reads_back { let call : Call = record { words = map string_bytes words.now; content = F.content files.old } in
-        let before : Outside = record {
-          asked = F.asked files.old;
-          file_faults = F.faults files.old;
-          written = S.written out.old;
-          sink_faults = S.faults out.old;
-        } in
-        let after : Outside = record {
-          asked = F.asked files.new;
-          file_faults = F.faults files.new;
-          written = S.written out.new;
-          sink_faults = S.faults out.new;
-        } in
+    ensures prepare_reads_back { let call : Call = call_of (map string_bytes words.now) (F.content files.old) in
+        let before : Outside = outside (F.asked files.old) (F.faults files.old) (S.written out.old) (S.faults out.old) in
+        let after : Outside = outside (F.asked files.new) (F.faults files.new) (S.written out.new) (S.faults out.new) in
         PrepareReadsBack call before after result }
-    ensures sample_promises { let call : Call = record { words = map string_bytes words.now; content = F.content files.old } in
-        let before : Outside = record {
-          asked = F.asked files.old;
-          file_faults = F.faults files.old;
-          written = S.written out.old;
-          sink_faults = S.faults out.old;
-        } in
-        let after : Outside = record {
-          asked = F.asked files.new;
-          file_faults = F.faults files.new;
-          written = S.written out.new;
-          sink_faults = S.faults out.new;
-        } in
+    ensures sample_promises { let call : Call = call_of (map string_bytes words.now) (F.content files.old) in
+        let before : Outside = outside (F.asked files.old) (F.faults files.old) (S.written out.old) (S.faults out.old) in
+        let after : Outside = outside (F.asked files.new) (F.faults files.new) (S.written out.new) (S.faults out.new) in
         SamplePromises call before after result }
-    ensures sample_decides { let call : Call = record { words = map string_bytes words.now; content = F.content files.old } in
-        let before : Outside = record {
-          asked = F.asked files.old;
-          file_faults = F.faults files.old;
-          written = S.written out.old;
-          sink_faults = S.faults out.old;
-        } in
-        let after : Outside = record {
-          asked = F.asked files.new;
-          file_faults = F.faults files.new;
-          written = S.written out.new;
-          sink_faults = S.faults out.new;
-        } in
+    ensures sample_decides { let call : Call = call_of (map string_bytes words.now) (F.content files.old) in
+        let before : Outside = outside (F.asked files.old) (F.faults files.old) (S.written out.old) (S.faults out.old) in
+        let after : Outside = outside (F.asked files.new) (F.faults files.new) (S.written out.new) (S.faults out.new) in
         SampleDecides call before after result }
     ensures read_fault { result ≡ Status.ReadFault → Rose (F.faults files.old) (F.faults files.new) }
     ensures write_fault { result ≡ Status.WriteFault → Rose (S.faults out.old) (S.faults out.new) }

@@ -1,6 +1,6 @@
 ghost use Rattle.std.specs.Prelude.{◌≡◌, ◌+◌, min, OnOk, OnErr};
 ghost use Rattle.store_edge.specs.Faults.{Rose};
-ghost use Rattle.store_edge.specs.Sink.{Adds, AddsFront};
+ghost use Rattle.store_edge.specs.Sink.{AddsBytes, AddsFront};
 
 use store_edge::{Failed, Sink};
 
@@ -9,7 +9,7 @@ const PIECE: usize = 4096;
 
 /// Writes a text in pieces of 4,096 bytes, of which the last one may be shorter and none is empty.
 pub fn send<S: Sink>(out: &mut S, text: &[u8]) -> Result<(), Failed>
-    ensures ok { OnOk result (Adds (S.written out.old) (S.written out.new) text.now) }
+    ensures ok { OnOk result (AddsBytes (S.written out.old) (S.written out.new) text.now) }
     ensures cut { OnErr result (AddsFront (S.written out.old) (S.written out.new) text.now) }
     ensures failed { OnErr result (Rose (S.faults out.old) (S.faults out.new)) }
     ensures unless_failed { OnOk result (S.faults out.new ≡ S.faults out.old) }

@@ -6,7 +6,7 @@ use Rattle.clap.specs.declared.error.kind.ErrorKind.TheVariants as kind
 use Rattle.clap.specs.declared.parser.matches.ArgMatches.{ArgMatches}
 use Rattle.migrate_words.specs.CommandLine.{command_line}
 use Rattle.migrate_words.specs.Asked.{AreTaken}
-use Rattle.migrate_words.specs.Refusals.{IsAnswer, IsEntered, IsRefusal, IsTold, ReadsAs}
+use Rattle.migrate_words.specs.Refusals.{AnswersWords, IsEntered, IsRefusal, IsToldCause, ReadsAs}
 use Rattle.migrate_words.specs.Requests.{request_of}
 use Rattle.migrate_words.proofs.TakenLaws.{number_off}
 use Rattle.migrate_words.specs.declared.command.Command.{Command}
@@ -15,7 +15,7 @@ use Rattle.migrate_words.specs.declared.refusal.WordsRefused.TheVariants.{Words,
 
 -- the command that was entered is what the words ask for
 pub answer_of_matches : (words : List Text) (matches : ArgMatches) (read : Result Command WordsRefused) → AreTaken words
-    → subcommand_rows_of matches ≡ subcommand_of command_line words → ReadsAs request_of (IsEntered matches) read → IsAnswer words read
+    → subcommand_rows_of matches ≡ subcommand_of command_line words → ReadsAs request_of (IsEntered matches) read → AnswersWords words read
 answer_of_matches words matches (Ok command) taken same entered =
     record { taken = taken; rows = entered.0; entered = sym same ∙ entered.1; given = entered.2 }
 answer_of_matches words matches (Err (Words detail)) taken same none = absurd none
@@ -28,7 +28,7 @@ among_none cause kinds none among = subst (IsAmong cause) none among
 
 -- an error other than want of memory has a kind that the command line refuses the words for
 pub refusal_of_error : (words : List Text) (cause : ErrorKind) (refused : WordsRefused)
-    → ((cause ≡ kind.OutOfMemory) ⊎ IsAmong cause (fault_of command_line words)) → IsTold cause refused → IsRefusal words refused
+    → ((cause ≡ kind.OutOfMemory) ⊎ IsAmong cause (fault_of command_line words)) → IsToldCause cause refused → IsRefusal words refused
 refusal_of_error words cause (Words detail) (inl memory) other = λ taken. other memory
 refusal_of_error words cause (Words detail) (inr among) other = λ taken. among_none cause (fault_of command_line words) taken among
 refusal_of_error words cause Number fails none = absurd none

@@ -17,15 +17,15 @@ IsRefusal words Number = AreTaken words × HasNumberOff words
 IsRefusal words OutOfMemory = Unit {0}
 
 -- the answer to words: the command that they ask for, or why there is none
-abbrev pub IsAnswer : List Text → Result Command WordsRefused → Type 0
-IsAnswer words (Ok command) = Asks words (request_of command)
-IsAnswer words (Err refused) = IsRefusal words refused
+abbrev pub AnswersWords : List Text → Result Command WordsRefused → Type 0
+AnswersWords words (Ok command) = Asks words (request_of command)
+AnswersWords words (Err refused) = IsRefusal words refused
 
 -- what is said of an error of this kind: its text, but of want of memory
-abbrev pub IsTold : ErrorKind → WordsRefused → Type 0
-IsTold cause (Words detail) = cause ≢ kind.OutOfMemory
-IsTold cause Number = ⊥
-IsTold cause OutOfMemory = Unit {0}
+abbrev pub IsToldCause : ErrorKind → WordsRefused → Type 0
+IsToldCause cause (Words detail) = cause ≢ kind.OutOfMemory
+IsToldCause cause Number = ⊥
+IsToldCause cause OutOfMemory = Unit {0}
 
 -- what is read is what it stands for; a number is refused where there is nothing that it stands for
 abbrev pub ReadsAs : {T U : Type 0} → (T → U) → (U → Type 0) → Result T WordsRefused → Type 0
@@ -35,8 +35,8 @@ ReadsAs {T} {U} seen StandsFor (Err Number) = (u : U) → StandsFor u → ⊥
 ReadsAs seen StandsFor (Err OutOfMemory) = Unit {0}
 
 -- the request is for the subcommand of this name, with these values of its arguments
-abbrev pub IsNamed : Text → List Row → Request → Type 0
-IsNamed name rows request = (name_of request ≡ name) × Gives rows request
+abbrev pub NamesRequest : Text → List Row → Request → Type 0
+NamesRequest name rows request = (name_of request ≡ name) × Gives rows request
 
 -- the request is for the subcommand that was entered, with the values of its arguments
 abbrev pub IsEntered : ArgMatches → Request → Type 0

@@ -1,6 +1,6 @@
 ghost use Rattle.std.specs.Prelude.{◌≡◌, List, codes, map, string_bytes};
 ghost use Rattle.clap.specs.Words.{found_of, rows_of};
-ghost use Rattle.migrate_words.specs.Refusals.{IsAnswer, IsEntered, IsNamed, ReadsAs};
+ghost use Rattle.migrate_words.specs.Refusals.{AnswersWords, IsEntered, NamesRequest, ReadsAs};
 ghost use Rattle.migrate_words.specs.Requests.{request_of};
 
 use crate::arguments::{budget_of, configs_of, routers_of, text_of};
@@ -14,7 +14,7 @@ use std::alloc::Global;
 ///
 /// The words are refused where the command line doesn't take them, or a number isn't in its range.
 pub fn read_command<'a>(alloc: Global, words: &'a [String]) -> Result<Command<'a>, WordsRefused>
-    ensures { IsAnswer (map string_bytes words.now) result }
+    ensures { AnswersWords (map string_bytes words.now) result }
 {
     let line = match command_line(alloc) {
         Ok(line) => line,
@@ -38,7 +38,7 @@ fn entered<'a>(alloc: Global, matches: &ArgMatches<'a>) -> Result<Command<'a>, W
 
 /// The command of the subcommand of a name, by the values of its arguments.
 fn named<'a>(alloc: Global, name: &str, given: &ArgMatches<'a>) -> Result<Command<'a>, WordsRefused>
-    ensures { ReadsAs request_of (IsNamed name.now (rows_of (found_of given.now))) result }
+    ensures { ReadsAs request_of (NamesRequest name.now (rows_of (found_of given.now))) result }
 {
     match name {
         "check" => check(alloc, given),
@@ -53,7 +53,7 @@ fn named<'a>(alloc: Global, name: &str, given: &ArgMatches<'a>) -> Result<Comman
 }
 
 fn check<'a>(alloc: Global, given: &ArgMatches<'a>) -> Result<Command<'a>, WordsRefused>
-    ensures { ReadsAs request_of (IsNamed (codes "check") (rows_of (found_of given.now))) result }
+    ensures { ReadsAs request_of (NamesRequest (codes "check") (rows_of (found_of given.now))) result }
 {
     let order = text_of(given, "ORDER")?;
     let configs = configs_of(alloc, given)?;
@@ -61,7 +61,7 @@ fn check<'a>(alloc: Global, given: &ArgMatches<'a>) -> Result<Command<'a>, Words
 }
 
 fn prepare<'a>(alloc: Global, given: &ArgMatches<'a>) -> Result<Command<'a>, WordsRefused>
-    ensures { ReadsAs request_of (IsNamed (codes "prepare") (rows_of (found_of given.now))) result }
+    ensures { ReadsAs request_of (NamesRequest (codes "prepare") (rows_of (found_of given.now))) result }
 {
     let design = text_of(given, "DESIGN")?;
     let configs = configs_of(alloc, given)?;
@@ -69,7 +69,7 @@ fn prepare<'a>(alloc: Global, given: &ArgMatches<'a>) -> Result<Command<'a>, Wor
 }
 
 fn plan<'a>(alloc: Global, given: &ArgMatches<'a>) -> Result<Command<'a>, WordsRefused>
-    ensures { ReadsAs request_of (IsNamed (codes "plan") (rows_of (found_of given.now))) result }
+    ensures { ReadsAs request_of (NamesRequest (codes "plan") (rows_of (found_of given.now))) result }
 {
     let budget = budget_of(given)?;
     let configs = configs_of(alloc, given)?;
@@ -77,7 +77,7 @@ fn plan<'a>(alloc: Global, given: &ArgMatches<'a>) -> Result<Command<'a>, WordsR
 }
 
 fn refute<'a>(alloc: Global, given: &ArgMatches<'a>) -> Result<Command<'a>, WordsRefused>
-    ensures { ReadsAs request_of (IsNamed (codes "refute") (rows_of (found_of given.now))) result }
+    ensures { ReadsAs request_of (NamesRequest (codes "refute") (rows_of (found_of given.now))) result }
 {
     let tree = text_of(given, "TREE")?;
     let configs = configs_of(alloc, given)?;
@@ -85,7 +85,7 @@ fn refute<'a>(alloc: Global, given: &ArgMatches<'a>) -> Result<Command<'a>, Word
 }
 
 fn scripts<'a>(alloc: Global, given: &ArgMatches<'a>) -> Result<Command<'a>, WordsRefused>
-    ensures { ReadsAs request_of (IsNamed (codes "scripts") (rows_of (found_of given.now))) result }
+    ensures { ReadsAs request_of (NamesRequest (codes "scripts") (rows_of (found_of given.now))) result }
 {
     let order = text_of(given, "ORDER")?;
     let configs = configs_of(alloc, given)?;
@@ -93,7 +93,7 @@ fn scripts<'a>(alloc: Global, given: &ArgMatches<'a>) -> Result<Command<'a>, Wor
 }
 
 fn replay<'a>(alloc: Global, given: &ArgMatches<'a>) -> Result<Command<'a>, WordsRefused>
-    ensures { ReadsAs request_of (IsNamed (codes "replay") (rows_of (found_of given.now))) result }
+    ensures { ReadsAs request_of (NamesRequest (codes "replay") (rows_of (found_of given.now))) result }
 {
     let order = text_of(given, "ORDER")?;
     let journal = text_of(given, "JOURNAL")?;
@@ -106,7 +106,7 @@ fn replay<'a>(alloc: Global, given: &ArgMatches<'a>) -> Result<Command<'a>, Word
 }
 
 fn sample<'a>(given: &ArgMatches<'a>) -> Result<Command<'a>, WordsRefused>
-    ensures { ReadsAs request_of (IsNamed (codes "sample") (rows_of (found_of given.now))) result }
+    ensures { ReadsAs request_of (NamesRequest (codes "sample") (rows_of (found_of given.now))) result }
 {
     let routers = routers_of(given)?;
     Ok(Command::Sample { routers })

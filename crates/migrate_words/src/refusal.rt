@@ -1,4 +1,4 @@
-ghost use Rattle.migrate_words.specs.Refusals.{IsTold};
+ghost use Rattle.migrate_words.specs.Refusals.{IsToldCause};
 ghost use Rattle.clap.specs.Words.{kind_of};
 
 use clap::Error;
@@ -30,7 +30,7 @@ impl From<AllocError> for WordsRefused {
 
 /// What `clap` says of words that it doesn't take.
 pub(crate) fn told(alloc: Global, error: &Error) -> WordsRefused
-    ensures { IsTold (kind_of error.now) result }
+    ensures { IsToldCause (kind_of error.now) result }
 {
     if error.kind() == ErrorKind::OutOfMemory {
         return WordsRefused::OutOfMemory;

@@ -1,16 +1,30 @@
 //! The texts that the planner prints: what it found of an order, why an end of a migration isn't sound, where a journal
 //! stands, what is found of a tree, what sums up a plan, and why it refused its input.
+//!
+//! | File | The lines that it prints |
+//! |---|---|
+//! | `report`, `ends` | `safe ..`, `unsafe ..`, `unsound ..`: an order, a wave list, an end of the migration |
+//! | `journal` | `reached ..`, `next ..`, `departs ..`: where a journal stands |
+//! | `tree` | `closed ..`, `unfinished ..`, `wrong ..`: what is found of a tree file |
+//! | `summary` | what sums up a plan |
+//! | `refusal`, `network`, `design`, `kinds` | `refused ..`, `limit ..`, `read fault ..`, `words refused`, with the names of kinds |
+//!
+//! What each line says is defined once, over plain data, in the file of `specs/` that bears its subject's name, and a call
+//! of the program cites it. A text takes time of its length.
 #![tactic(auto)]
 
-mod design;
+// what was found
 mod ends;
 mod journal;
-mod kinds;
-mod network;
-mod refusal;
 mod report;
 mod summary;
 mod tree;
+
+// why input is refused
+mod design;
+mod kinds;
+mod network;
+mod refusal;
 
 pub use design::refused_design_text;
 pub use ends::{End, unsound_text};

@@ -3,17 +3,17 @@ use Rattle.std.specs.Prelude.{◌≡◌, ℕ, ◌+◌, ◌<◌, List, ◌++◌, 
 use Rattle.store_edge.specs.Faults.{next_count}
 
 -- these bytes came last, where the bytes written are still told afterwards
-abbrev pub Adds : Option (List ℕ) → Option (List ℕ) → List ℕ → Type 0
-Adds before None bytes = Unit {0}
-Adds None (Some after) bytes = ⊥
-Adds (Some before) (Some after) bytes = after ≡ before ++ bytes
+abbrev pub AddsBytes : Option (List ℕ) → Option (List ℕ) → List ℕ → Type 0
+AddsBytes before None bytes = Unit {0}
+AddsBytes None (Some after) bytes = ⊥
+AddsBytes (Some before) (Some after) bytes = after ≡ before ++ bytes
 
 -- a cut write: a front of the piece came last
 pub record AddsFront (before after : Option (List ℕ)) (piece : List ℕ) : Type 0 where
   pub front : List ℕ
   pub rest : List ℕ
   pub cut : front ++ rest ≡ piece
-  pub adds : Adds before after front
+  pub adds : AddsBytes before after front
 
 -- bytes that are kept, and how many there is room for in all
 pub record BytesWithRoom : Type 0 where

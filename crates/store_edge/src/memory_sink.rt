@@ -1,6 +1,6 @@
 ghost use Rattle.std.specs.Prelude.{◌≡◌, ◌≢◌, ◌≤◌, ◌++◌, [], Some, max, OnOk, OnErr, IsOk};
 ghost use Rattle.store_edge.specs.Faults.{Rose, next_count};
-ghost use Rattle.store_edge.specs.Sink.{Adds, AddsFront, WriteFails, MemorySinkState};
+ghost use Rattle.store_edge.specs.Sink.{AddsBytes, AddsFront, WriteFails, MemorySinkState};
 
 use crate::calls::Calls;
 use crate::kept::KeptBytes;
@@ -54,7 +54,7 @@ impl Sink for MemorySink {
 
     /// It fails exactly where the number of the write is one that fails, or the piece passes the room, and keeps nothing then.
     fn write(&mut self, piece: &[u8]) -> Result<(), Failed>
-        ensures ok { OnOk result (Adds (Some self.old.bytes) (Some self.new.bytes) piece.now) }
+        ensures ok { OnOk result (AddsBytes (Some self.old.bytes) (Some self.new.bytes) piece.now) }
         ensures cut { OnErr result (AddsFront (Some self.old.bytes) (Some self.new.bytes) piece.now) }
         ensures empty { piece.now ≡ [] → IsOk result × (self.new ≡ self.old) }
 

@@ -1,7 +1,7 @@
 ghost use Rattle.std.specs.Prelude.{◌≡◌, ◌≤◌, [], None, OnOk, OnErr, IsOk};
 ghost use Rattle.std.specs.Io.KnownBytes.{Appends};
 ghost use Rattle.store_edge.specs.Faults.{Rose, next_count};
-ghost use Rattle.store_edge.specs.Sink.{Adds, AddsFront};
+ghost use Rattle.store_edge.specs.Sink.{AddsBytes, AddsFront};
 ghost use Rattle.store_edge.specs.Transfer.{AppendsFront};
 
 use crate::sink::{Failed, Sink};
@@ -39,7 +39,7 @@ impl<W: Write + Drop> Sink for RealSink<W> {
     ghost faults = { λ sink. sink.1 };
 
     fn write(&mut self, piece: &[u8]) -> Result<(), Failed>
-        ensures ok { OnOk result (Adds None None piece.now) }
+        ensures ok { OnOk result (AddsBytes None None piece.now) }
         ensures cut { OnErr result (AddsFront None None piece.now) }
         ensures empty { piece.now ≡ [] → IsOk result × (self.new ≡ self.old) }
 

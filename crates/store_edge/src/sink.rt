@@ -1,6 +1,6 @@
 ghost use Rattle.std.specs.Prelude.{◌≡◌, ◌≤◌, ℕ, List, [], Option, OnOk, OnErr, IsOk};
 ghost use Rattle.store_edge.specs.Faults.{Rose};
-ghost use Rattle.store_edge.specs.Sink.{Adds, AddsFront};
+ghost use Rattle.store_edge.specs.Sink.{AddsBytes, AddsFront};
 
 /// A write failed, and the count of faults rose.
 #[derive(Clone, Copy, Debug, PartialEq, Eq)]
@@ -16,7 +16,7 @@ pub trait Sink {
 
     /// Writes the whole piece, or fails after a front of it. An empty piece isn't a write at all.
     fn write(&mut self, piece: &[u8]) -> Result<(), Failed>
-        ensures ok { OnOk result (Adds (written self.old) (written self.new) piece.now) }
+        ensures ok { OnOk result (AddsBytes (written self.old) (written self.new) piece.now) }
         ensures cut { OnErr result (AddsFront (written self.old) (written self.new) piece.now) }
         ensures empty { piece.now ≡ [] → IsOk result × (self.new ≡ self.old) }
 

@@ -1,7 +1,7 @@
 -- What reading files answers.
 use Rattle.std.specs.Prelude.{◌≡◌, ℕ, ◌+◌, ◌≤◌, List, [], ◌∷◌, ◌++◌, Result, Ok, Err}
 use Rattle.store_edge.specs.Faults.{Rose}
-use Rattle.migrate_cli.specs.Reading.{Contents, File, names_of, IsReadOf, AreRead, AreWithin, IsShort, IsTooLong, PassesTotal, ReadUpTo, counted, total_of}
+use Rattle.migrate_cli.specs.Reading.{Contents, File, file_names, IsReadOf, AreRead, AreWithin, IsShort, IsTooLong, PassesTotal, ReadUpTo, counted, total_of}
 use Rattle.migrate_cli.specs.declared.reading.Stop.{Stop}
 use Rattle.migrate_cli.specs.declared.reading.Stop.TheVariants.{Fault, Long, Total, OutOfMemory}
 use Rattle.migrate_cli.specs.declared.reading.TheConstants.{CONFIGS_MOST}
@@ -85,12 +85,12 @@ StopsAmong content files asked (Total number) = StopsIn content files asked (Tot
 StopsAmong content files asked OutOfMemory = MayRead content files asked
 
 -- all were read, and are within the limits; or the reading stopped
-abbrev pub Reads : Contents → List File → List (List ℕ) → Result KeptTexts Stop → Type 0
-Reads content files asked (Ok kept) = (asked ≡ names_of files) × AreRead content files kept.all × AreWithin files kept.all
-Reads content files asked (Err stop) = StopsAmong content files asked stop
+abbrev pub ReadsOrStops : Contents → List File → List (List ℕ) → Result KeptTexts Stop → Type 0
+ReadsOrStops content files asked (Ok kept) = (asked ≡ file_names files) × AreRead content files kept.all × AreWithin files kept.all
+ReadsOrStops content files asked (Err stop) = StopsAmong content files asked stop
 
 -- some names were asked for, and so much was read of the files
 pub record HasRead (content : Contents) (files : List File) (asked_before asked_after : List (List ℕ)) (answer : Result KeptTexts Stop) : Type 0 where
   pub asked : List (List ℕ)
   pub asked_is : asked_after ≡ asked_before ++ asked
-  pub reads : Reads content files asked answer
+  pub reads : ReadsOrStops content files asked answer

@@ -1,7 +1,7 @@
 use Rattle.std.proofs.Common.{◌≡◌, ◌+◌, ◌++◌, ◌∷◌, [], take, drop, map, get_or, false, sym, ◌∙◌, ap, subst, arith}
 use Rattle.migrate_cli.specs.steps.FilesRead.{file_of}
 use Rattle.migrate_cli.specs.declared.files.Wanted.{Wanted}
-use Rattle.migrate_cli.specs.Reading.{AreRead, AreWithin, names_of, total_of}
+use Rattle.migrate_cli.specs.Reading.{AreRead, AreWithin, file_names, total_of}
 use Rattle.migrate_cli.specs.steps.Stops.{StopsAt, StopFaults}
 use Rattle.migrate_cli.proofs.StopFacts.{stops_among, StopsAt-same, read_more, within_more, counted_more, asked_more, element, map_around, map_take_more}
 use Rattle.migrate_cli.proofs.reading.read_texts.Goals as goal
@@ -51,7 +51,7 @@ loop-file-preserved g c =
       counted = counted_more other before file old new held.counted held.within next ∙ ap (λ some. total_of some new.all) (sym files);
       asked = asked_more before file (g.F.Files.asked c.args.files.now) (g.F.Files.asked c.loop-file.files) (g.F.Files.asked c.read_next.new.files) held.asked
           c.in_default.ensures.asked
-          ∙ ap (λ some. g.F.Files.asked c.args.files.now ++ names_of some) (sym files);
+          ∙ ap (λ some. g.F.Files.asked c.args.files.now ++ file_names some) (sym files);
       contents_stay = λ name. c.in_default.ensures.contents_stay name ∙ held.contents_stay name;
       faults_stand = c.in_default.ensures.faults ∙ held.faults_stand;
     }

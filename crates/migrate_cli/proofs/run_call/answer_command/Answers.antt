@@ -9,7 +9,7 @@ use Rattle.migrate_cli.specs.Answers.IsAnswer.{judged, many_files}
 use Rattle.migrate_cli.specs.Calls.{Call}
 use Rattle.migrate_cli.specs.CommandFiles.{config_names, config_texts, files_of, own_texts}
 use Rattle.migrate_cli.specs.steps.FilesRead.{file_of}
-use Rattle.migrate_cli.specs.Reading.{AreRead, AreWithin, File, names_of}
+use Rattle.migrate_cli.specs.Reading.{AreRead, AreWithin, File, file_names}
 use Rattle.migrate_cli.specs.steps.Stops.{HasRead}
 use Rattle.migrate_cli.specs.Verdicts.{IsVerdict}
 use Rattle.migrate_cli.specs.declared.status.Status.TheVariants.{Limit}
@@ -64,7 +64,7 @@ returns-in-Ok-read_texts-clause-answer g c = λ words asks.
     answered call before after has.asked r has.asked_is
     (subst (λ asked. IfOk r (λ a. IsAnswer call asked a.status a.text)) (sym has.reads.0)
     (IfOk-weaker r (λ a. IsVerdict request (own_texts request texts) (config_texts request texts) a.status a.text)
-    (λ a. IsAnswer call (names_of (files_of request)) a.status a.text)
+    (λ a. IsAnswer call (file_names (files_of request)) a.status a.text)
     (λ a verdict. judged request texts a.status a.text ask read within verdict) c.judge.ensures))
     (subst (MayAsk call) (sym has.reads.0) (may_ask_all call request texts ask read within))
 

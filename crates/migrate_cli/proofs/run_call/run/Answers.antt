@@ -1,5 +1,5 @@
 use Rattle.std.proofs.Common.{refl, subst}
-use Rattle.store_edge.specs.Sink.{Adds, AddsFront}
+use Rattle.store_edge.specs.Sink.{AddsBytes, AddsFront}
 use Rattle.migrate_cli.specs.AnswerLaws.MayEnd.{by_write_fault, by_memory}
 use Rattle.migrate_cli.specs.Answers.Ends.{whole, cut, no_memory}
 use Rattle.migrate_cli.specs.Completeness.Decides.{memory}
@@ -57,7 +57,7 @@ returns-in_default-clause-prepare_reads_back g c = λ _ _ _ e. absurd (Prim.cc e
 pub returns-in-Ok-send-clause-answers : goal.returns-in-Ok-send-clause-answers
 returns-in-Ok-send-clause-answers g c =
     let h = c.in-Ok.ensures.answer in
-    let adds = subst (Adds (g.S.Sink.written c.args.out.now) (g.S.Sink.written c.send.new.out)) c.as_slice.ensures c.in-Ok-send.ensures.ok in
+    let adds = subst (AddsBytes (g.S.Sink.written c.args.out.now) (g.S.Sink.written c.send.new.out)) c.as_slice.ensures c.in-Ok-send.ensures.ok in
     record { asked = h.asked; asked_is = h.asked_is; ends = whole c.in-Ok.answer.status c.in-Ok.answer.text h.answers c.in-Ok.ensures.faults adds }
 
 pub returns-in-Ok-send-clause-exact : goal.returns-in-Ok-send-clause-exact
@@ -109,7 +109,7 @@ returns-in-Ok-send-clause-prepare_writes g c = λ accepts calm.
 pub returns-in-Ok-send-clause-prepare_reads_back : goal.returns-in-Ok-send-clause-prepare_reads_back
 returns-in-Ok-send-clause-prepare_reads_back g c = λ file configs ask done.
     let h = c.in-Ok.ensures.answer in
-    let adds = subst (Adds (g.S.Sink.written c.args.out.now) (g.S.Sink.written c.send.new.out)) c.as_slice.ensures c.in-Ok-send.ensures.ok in
+    let adds = subst (AddsBytes (g.S.Sink.written c.args.out.now) (g.S.Sink.written c.send.new.out)) c.as_slice.ensures c.in-Ok-send.ensures.ok in
     reads_back _ _ _ h.asked c.in-Ok.answer.status c.in-Ok.answer.text h.answers adds file configs ask done
 
 pub returns-in-Ok-send-clause-write_fault : goal.returns-in-Ok-send-clause-write_fault
