@@ -6,7 +6,8 @@
 OURS is the built program (`crates/migrate/out/migrate`), OTHER a program that takes the same words, BENCH a folder with
 `isp-200` and `ring-200` (their `*.cfg`, `order.txt`, `reversed.txt`). Each call is run N times by each program (9 unless
 said), by turns; the table has the medians of the wall and the processor time of the whole process, the greatest peak
-memory, and the ratios (a peak below that of this script, some 16 MB, shows as that). Where the two write different bytes or end with different codes, the row says so. The growth
+memory, which `/usr/bin/time` reads in a run of its own (a process that this script starts itself begins with this script's
+peak), and the ratios. Where the two write different bytes or end with different codes, the row says so. The growth
 networks (rings, one LAN, areas) are made in a temporary folder. `--plan` adds the calls of `plan`.
 """
 
@@ -99,12 +100,20 @@ def calls(bench, folder, with_plan):
 
 
 def run(program, words):
-    """One run: wall seconds, processor seconds, peak kilobytes, what was written, the code."""
+    """One run: wall seconds, processor seconds, what was written, the code."""
     begun = time.perf_counter()
     process = subprocess.Popen([*program, *words], stdout=subprocess.PIPE, stderr=subprocess.DEVNULL)
     text = process.stdout.read()
     _, status, used = os.wait4(process.pid, 0)
-    return time.perf_counter() - begun, used.ru_utime + used.ru_stime, used.ru_maxrss, text, os.waitstatus_to_exitcode(status)
+    return time.perf_counter() - begun, used.ru_utime + used.ru_stime, text, os.waitstatus_to_exitcode(status)
+
+
+def peak_of(program, words):
+    """The peak memory of a run, in kilobytes."""
+    with tempfile.NamedTemporaryFile("r") as told:
+        subprocess.run(["/usr/bin/time", "-f", "%M", "-o", told.name, *program, *words], stdout=subprocess.DEVNULL,
+                       stderr=subprocess.DEVNULL, check=False)
+        return int(told.read().split()[-1])
 
 
 def main():
@@ -125,8 +134,8 @@ def main():
                 for program, result in zip(programs, results):
                     result.append(run(program, call))
             wall, used = ([statistics.median(it[part] for it in result) * 1000 for result in results] for part in (0, 1))
-            peak = [max(it[2] for it in result) for result in results]
-            same = "" if len({it[3:] for result in results for it in result}) == 1 else "  answers differ"
+            peak = [peak_of(program, call) for program in programs]
+            same = "" if len({it[2:] for result in results for it in result}) == 1 else "  answers differ"
             print(f"{title:36} {wall[0]:8.1f} /{used[0]:7.1f} {wall[1]:8.1f} /{used[1]:7.1f} {wall[0] / wall[1]:5.1f} / {used[0] / used[1]:5.1f}"
                   f" {peak[0]:8} {peak[1]:8} {peak[0] / peak[1]:6.1f}{same}", flush=True)
 
