@@ -11,9 +11,9 @@ use Rattle.net_model.specs.Network.{Network, HasConfiguration, Connected}
 use Rattle.net_model.specs.declared.interface.Interface.{Interface}
 use Rattle.net_model.proofs.Members.{Contains-none, Contains-first, Contains-rest, Contains-cases, Contains-flat_map, Contains-in_flat_map, Contains-map}
 use Rattle.net_model.proofs.Members.{Contains-in_map}
-use Rattle.route_core.specs.Tables.{HasEntry}
 use Rattle.route_core.specs.declared.entry.Entry.{Entry}
 use Rattle.igp_theory.specs.Forwarding.{Usable, connected, of_old, of_new, OldCounts, NewCounts, Counts, connected_counts, old_counts, new_counts, Uses}
+use Rattle.igp_theory.specs.Migrations.{listed_migration}
 use Rattle.igp_theory.specs.declared.phase.Phase.{Phase}
 use Rattle.igp_theory.specs.declared.phase.Phase.TheVariants.{Old, Middle, New}
 use Rattle.igp_theory.proofs.OrderedLists.{contains_one}
@@ -155,7 +155,7 @@ pub record Place : Type 0 where
   pub has : HasConfiguration net u config
 
 abbrev CountsAt : Place → Phase → Counted → Type 0
-CountsAt w phase c = Counts w.net (HasEntry w.old) (HasEntry w.new) w.u phase c.prefix c.distance c.used
+CountsAt w phase c = Counts (listed_migration w.net w.old w.new) w.u phase c.prefix c.distance c.used
 
 subnet_sound : (w : Place) (phase : Phase) (i : Interface) (up : Bool) (subnet : Option Block) (c : Counted) → Contains w.config.interfaces i →
     i.up ≡ up → i.subnet ≡ subnet → Contains (subnet_counted up subnet) c → CountsAt w phase c
@@ -251,7 +251,7 @@ counted_without w phase far =
       complete = λ c counts. complete c.prefix c.distance c.used counts;
     }
   where
-    complete : (p : Block) (d : ℕ) (x : Usable) → Counts w.net (HasEntry w.old) (HasEntry w.new) w.u phase p d x →
+    complete : (p : Block) (d : ℕ) (x : Usable) → Counts (listed_migration w.net w.old w.new) w.u phase p d x →
         Contains (connected_list w ++ new_list w phase) (counted_at p d x)
     complete p d x (connected_counts is) =
         Contains-append_left (connected_list w) (new_list w phase) (counted_at p 0 connected) (connected_complete w p is)
@@ -276,7 +276,7 @@ counted_with w phase set =
       complete = λ c counts. complete c.prefix c.distance c.used counts;
     }
   where
-    complete : (p : Block) (d : ℕ) (x : Usable) → Counts w.net (HasEntry w.old) (HasEntry w.new) w.u phase p d x →
+    complete : (p : Block) (d : ℕ) (x : Usable) → Counts (listed_migration w.net w.old w.new) w.u phase p d x →
         Contains (connected_list w ++ (old_list w phase ++ new_list w phase)) (counted_at p d x)
     complete p d x (connected_counts is) =
         Contains-append_left (connected_list w) (old_list w phase ++ new_list w phase) (counted_at p 0 connected) (connected_complete w p is)
@@ -299,8 +299,8 @@ are_counted w phase = elim (cases_eq w.config.distances.ospf 255) [
 
 -- a router uses an entry for an address, or nothing that counts there contains it
 pub data UsesOrNone (net : Network) (old new : ℕ → List (Block × Entry)) (u : ℕ) (phase : Phase) (a : ℕ) : Type 0 where
-  one : (x : Usable) → Uses net (HasEntry old) (HasEntry new) u phase a x → UsesOrNone net old new u phase a
-  nothing : ((q : Block) (d : ℕ) (x : Usable) → Counts net (HasEntry old) (HasEntry new) u phase q d x → ContainsAddress q a → ⊥) →
+  one : (x : Usable) → Uses (listed_migration net old new) u phase a x → UsesOrNone net old new u phase a
+  nothing : ((q : Block) (d : ℕ) (x : Usable) → Counts (listed_migration net old new) u phase q d x → ContainsAddress q a → ⊥) →
       UsesOrNone net old new u phase a
 
 pub uses_or_none : (w : Place) (phase : Phase) (a : ℕ) → UsesOrNone w.net w.old w.new w.u phase a

@@ -17,8 +17,9 @@ use Rattle.route_core.specs.declared.entry.Entry.{Entry}
 use Rattle.igp_theory.specs.Forwarding.{Usable, Counts, connected_counts, old_counts, new_counts, LeadsTo, IsTarget, Steps}
 use Rattle.igp_theory.specs.Isis.{IsisEntry}
 use Rattle.igp_theory.specs.Laws.{IsOspfNeighbor, IsIsisNeighbor}
+use Rattle.igp_theory.specs.Migrations.{Migration}
 use Rattle.igp_theory.specs.Ospf.{OspfEntry}
-use Rattle.igp_theory.specs.Routes.{Tables, EntryLeadsTo}
+use Rattle.igp_theory.specs.Routes.{EntryLeadsTo}
 use Rattle.igp_theory.specs.States.{State, StepsIn, Follows, IsSoundAt, IsSound}
 use Rattle.igp_theory.specs.WaveLaws.{HopsAreRouters, Delivers}
 use Rattle.igp_theory.specs.declared.phase.Phase.{Phase}
@@ -44,15 +45,15 @@ isis_hop_is_router net u h p e entry leads =
       | inr two ↦ up_is_router h two.far_up
     ]
 
-leads_inside : {net : Network} {old new : Tables} {u d h : ℕ} {phase : Phase} {p : Block} {x : Usable} → HopsAreRouters net old →
-    HopsAreRouters net new →
-    u < length net → Counts net old new u phase p d x → LeadsTo x h → h < length net
+leads_inside : {move : Migration} {u d h : ℕ} {phase : Phase} {p : Block} {x : Usable} → HopsAreRouters move.net move.old →
+    HopsAreRouters move.net move.new →
+    u < length move.net → Counts move u phase p d x → LeadsTo x h → h < length move.net
 leads_inside in_old in_new below (connected_counts is) leads = absurd leads
 leads_inside {u = u} {h = h} {p = p} in_old in_new below (old_counts {e = e} counts c has is set entry) leads = in_old u h p e below entry leads
 leads_inside {u = u} {h = h} {p = p} in_old in_new below (new_counts {e = e} counts entry) leads = in_new u h p e below entry leads
 
-pub steps_inside : {net : Network} {old new : Tables} {u a h : ℕ} {phase : Phase} → HopsAreRouters net old → HopsAreRouters net new →
-    Steps net old new u phase a h → h < length net
+pub steps_inside : {move : Migration} {u a h : ℕ} {phase : Phase} → HopsAreRouters move.net move.old → HopsAreRouters move.net move.new →
+    Steps move u phase a h → h < length move.net
 steps_inside in_old in_new steps = leads_inside in_old in_new steps.must.router steps.uses.counts steps.leads
 
 -- Lists of steps
@@ -180,16 +181,16 @@ connected_or_not net u p below = elim (slice_get_cases net u).1 [
 ]
 
 -- a sound state delivers
-pub sound_delivers : (net : Network) (old new : Tables) (state : State) (a : ℕ) (p : Block) → HopsAreRouters net old → HopsAreRouters net new →
-    IsSound net old new state → a < 2 ^ 32 → IsTarget net a p → Delivers net old new state a p
-sound_delivers net old new state a p in_old in_new sound address target =
-    let here : IsSoundAt net old new state a = sound a address in
-    let inside : (u h : ℕ) → StepsIn net old new state a u h → h < length net = λ u h steps. steps_inside in_old in_new steps in
+pub sound_delivers : (move : Migration) (state : State) (a : ℕ) (p : Block) → HopsAreRouters move.net move.old → HopsAreRouters move.net move.new →
+    IsSound move state → a < 2 ^ 32 → IsTarget move.net a p → Delivers move state a p
+sound_delivers move state a p in_old in_new sound address target =
+    let here : IsSoundAt move state a = sound a address in
+    let inside : (u h : ℕ) → StepsIn move state a u h → h < length move.net = λ u h steps. steps_inside in_old in_new steps in
     record {
-      short = λ u v hops below follows. short_lists (StepsIn net old new state a) (length net) inside here.returns_never u hops v below follows;
+      short = λ u v hops below follows. short_lists (StepsIn move state a) (length move.net) inside here.returns_never u hops v below follows;
       onward = λ u v hops below follows.
-          let router : v < length net = last_below (StepsIn net old new state a) (length net) inside u hops v below follows in
-          elim (connected_or_not net v p router) [
+          let router : v < length move.net = last_below (StepsIn move state a) (length move.net) inside u hops v below follows in
+          elim (connected_or_not move.net v p router) [
             | inl reached ↦ inl reached
             | inr away ↦ inr (here.forwards v (record { router = router; target = p; is_target = target; away = away }))
           ];
@@ -223,16 +224,16 @@ long_return step u h hops returns (suc k) =
           omega (arith, e, rest.many);
     }
 
-pub delivers_sound : (net : Network) (old new : Tables) (state : State) →
-    ((a : ℕ) (p : Block) → a < 2 ^ 32 → IsTarget net a p → Delivers net old new state a p) → IsSound net old new state
-delivers_sound net old new state delivers a address = record {
+pub delivers_sound : (move : Migration) (state : State) →
+    ((a : ℕ) (p : Block) → a < 2 ^ 32 → IsTarget move.net a p → Delivers move state a p) → IsSound move state
+delivers_sound move state delivers a address = record {
   forwards = λ u must. elim ((delivers a must.target address must.is_target).onward u u [] must.router refl) [
     | inl reached ↦ absurd (must.away reached)
     | inr has ↦ has
   ];
   returns_never = λ u h hops follows.
       let must = follows.0.must in
-      let long : LongReturn (StepsIn net old new state a) u (length net) = long_return (StepsIn net old new state a) u h hops follows (length net) in
+      let long : LongReturn (StepsIn move state a) u (length move.net) = long_return (StepsIn move state a) u h hops follows (length move.net) in
       let short = (delivers a must.target address must.is_target).short u u long.hops must.router long.follows in
       let many = long.many in
       omega (arith, short, many);

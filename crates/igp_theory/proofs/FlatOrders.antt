@@ -2,11 +2,10 @@
 use Rattle.std.proofs.Common.{◌≡◌, ℕ, inl, inr, List, [], ◌∷◌, length, map, take, Contains, arith, refl, sym, ap, ◌∙◌, subst}
 use Rattle.std.specs.List.{AllPairs}
 use Rattle.std.proofs.lemmas.List.{take-map}
-use Rattle.net_model.specs.Network.{Network}
 use Rattle.order_core.specs.Orders.{IsOrder}
 use Rattle.order_core.specs.Rankings.{IsRanking, rank_of, wave_count, flat_of, ComesBefore}
 use Rattle.order_core.proofs.WaveLists.{flat_is_order, waves_by_rank}
-use Rattle.igp_theory.specs.Routes.{Tables}
+use Rattle.igp_theory.specs.Migrations.{Migration}
 use Rattle.igp_theory.specs.States.{State, IsSeamless, changes_of, changes_on, phase_after, state_of}
 use Rattle.igp_theory.specs.WaveLaws.{IsStateOfSomeWave}
 use Rattle.igp_theory.specs.Waves.{Change, first, second, changed, IsRun, IsWavesState, AreSeamlessWaves, run_along, state_after}
@@ -68,12 +67,12 @@ flat_in_turn ranks =
     in_turn u v (inr (same, lower)) = record { apart = λ one. omega (arith, lower, one); wave = omega (arith, same) }
 
 -- a seamless wave list, written wave by wave, is a seamless order
-pub flat_is_seamless : (net : Network) (old new : Tables) (ranks : List ℕ) → AreSeamlessWaves net old new ranks → IsSeamless net old new (flat_of ranks)
-flat_is_seamless net old new ranks seamless =
-    let lists : IsOrder (length net) (flat_of ranks) = flat_lists (length net) ranks seamless.waves in
+pub flat_is_seamless : (move : Migration) (ranks : List ℕ) → AreSeamlessWaves move ranks → IsSeamless move (flat_of ranks)
+flat_is_seamless move ranks seamless =
+    let lists : IsOrder (length move.net) (flat_of ranks) = flat_lists (length move.net) ranks seamless.waves in
     record {
       lists = lists;
-      sound = λ k within. seamless.sound (state_of (flat_of ranks) k) (along_is_state (length net) ranks (flat_of ranks) k lists (flat_in_turn ranks));
+      sound = λ k within. seamless.sound (state_of (flat_of ranks) k) (along_is_state (length move.net) ranks (flat_of ranks) k lists (flat_in_turn ranks));
     }
 
 pub flat_is_run : (n : ℕ) (ranks : List ℕ) → IsRanking n ranks → IsRun n ranks (run_along (flat_of ranks))

@@ -2,7 +2,6 @@
 use Rattle.std.proofs.Common.{◌≡◌, ◌≢◌, ℕ, ◌^◌, ◌<◌, ◌≤◌, ◌⊎◌, inl, inr, Bool, true, false, cond, List, [], ◌∷◌}
 use Rattle.std.proofs.Common.{length, filter, Contains, AllPairs, refl, sym, ap, ◌∙◌, subst, arith}
 use Rattle.std.proofs.lemmas.Bool.{cases_lt, false≢true}
-use Rattle.net_model.specs.Network.{Network}
 use Rattle.order_core.specs.Turns.{is_old, is_new, routers_of, old_routers, new_routers, HasBothTags}
 use Rattle.order_core.specs.declared.turn.Tag.{Tag}
 use Rattle.order_core.specs.declared.turn.Tag.TheVariants as tag
@@ -10,7 +9,7 @@ use Rattle.order_core.specs.declared.turn.Turn.{Turn}
 use Rattle.igp_theory.specs.Forwarding.{Steps}
 use Rattle.igp_theory.specs.LoopLaws.{AgreesWithTags, AreSoundEnds, IsLoopOfState, IsLoopFault}
 use Rattle.igp_theory.specs.Loops.{IsTagOf, IsTag, IsLoop, Arises, Fault, IsFault, missing_step, loop_arises}
-use Rattle.igp_theory.specs.Routes.{Tables}
+use Rattle.igp_theory.specs.Migrations.{Migration}
 use Rattle.igp_theory.specs.States.{State, StepsIn, IsSoundAt, IsSound}
 use Rattle.igp_theory.specs.declared.phase.Phase.{Phase}
 use Rattle.igp_theory.specs.declared.phase.Phase.TheVariants.{Old, Middle, New}
@@ -87,8 +86,8 @@ new_listed ring t inside tagged = turn_passes is_new ring t inside (ap is_new ta
 -- What a router steps to
 
 -- a router that steps to h in both phases does so in every phase
-both_step : {net : Network} {old new : Tables} {u a h : ℕ} → Steps net old new u Old a h → Steps net old new u New a h → (phase : Phase) →
-    Steps net old new u phase a h
+both_step : {move : Migration} {u a h : ℕ} → Steps move u Old a h → Steps move u New a h → (phase : Phase) →
+    Steps move u phase a h
 both_step one two Old = one
 both_step one two New = two
 both_step one two Middle = elim (middle_uses_one one.uses two.uses) [
@@ -97,8 +96,8 @@ both_step one two Middle = elim (middle_uses_one one.uses two.uses) [
 ]
 
 -- what it steps to in a phase it steps to in Old or in New
-pub old_or_new_step : {net : Network} {old new : Tables} {u a h : ℕ} (phase : Phase) → Steps net old new u phase a h →
-    Steps net old new u Old a h ⊎ Steps net old new u New a h
+pub old_or_new_step : {move : Migration} {u a h : ℕ} (phase : Phase) → Steps move u phase a h →
+    Steps move u Old a h ⊎ Steps move u New a h
 old_or_new_step Old steps = inl steps
 old_or_new_step New steps = inr steps
 old_or_new_step Middle steps = elim (middle_is_old_or_new steps.uses) [
@@ -107,185 +106,185 @@ old_or_new_step Middle steps = elim (middle_is_old_or_new steps.uses) [
 ]
 
 -- a router by its tag
-tag_step : {net : Network} {old new : Tables} {u a h : ℕ} (t : Tag) (phase : Phase) →
-    IsTagOf t (Steps net old new u Old a h) (Steps net old new u New a h) →
-    (t ≡ tag.Old → phase ≡ Old) → (t ≡ tag.New → phase ≡ New) → Steps net old new u phase a h
-tag_step {net} {old} {new} {u} {a} {h} tag.Old phase is in_old in_new = subst (λ (p : Phase). Steps net old new u p a h) (sym (in_old refl)) is.0
-tag_step {net} {old} {new} {u} {a} {h} tag.New phase is in_old in_new = subst (λ (p : Phase). Steps net old new u p a h) (sym (in_new refl)) is.1
+tag_step : {move : Migration} {u a h : ℕ} (t : Tag) (phase : Phase) →
+    IsTagOf t (Steps move u Old a h) (Steps move u New a h) →
+    (t ≡ tag.Old → phase ≡ Old) → (t ≡ tag.New → phase ≡ New) → Steps move u phase a h
+tag_step {move} {u} {a} {h} tag.Old phase is in_old in_new = subst (λ (p : Phase). Steps move u p a h) (sym (in_old refl)) is.0
+tag_step {move} {u} {a} {h} tag.New phase is in_old in_new = subst (λ (p : Phase). Steps move u p a h) (sym (in_new refl)) is.1
 tag_step tag.Both phase is in_old in_new = both_step is.0 is.1 phase
 
 -- a tag other than Old has a step in New, a tag other than New one in Old
-new_step : {net : Network} {old new : Tables} {u a h : ℕ} (t : Tag) → IsTagOf t (Steps net old new u Old a h) (Steps net old new u New a h) →
-    (t ≡ tag.Old → ⊥) → Steps net old new u New a h
+new_step : {move : Migration} {u a h : ℕ} (t : Tag) → IsTagOf t (Steps move u Old a h) (Steps move u New a h) →
+    (t ≡ tag.Old → ⊥) → Steps move u New a h
 new_step tag.Old is other = absurd (other refl)
 new_step tag.New is other = is.1
 new_step tag.Both is other = is.1
 
-old_step : {net : Network} {old new : Tables} {u a h : ℕ} (t : Tag) → IsTagOf t (Steps net old new u Old a h) (Steps net old new u New a h) →
-    (t ≡ tag.New → ⊥) → Steps net old new u Old a h
+old_step : {move : Migration} {u a h : ℕ} (t : Tag) → IsTagOf t (Steps move u Old a h) (Steps move u New a h) →
+    (t ≡ tag.New → ⊥) → Steps move u Old a h
 old_step tag.Old is other = is.0
 old_step tag.New is other = absurd (other refl)
 old_step tag.Both is other = is.0
 
 -- each router of a loop is one of the network
-pub tag_inside : (net : Network) (old new : Tables) (u a h : ℕ) (t : Tag) →
-    IsTagOf t (Steps net old new u Old a h) (Steps net old new u New a h) → u < length net
-tag_inside net old new u a h tag.Old is = is.0.must.router
-tag_inside net old new u a h tag.New is = is.1.must.router
-tag_inside net old new u a h tag.Both is = is.0.must.router
+pub tag_inside : (move : Migration) (u a h : ℕ) (t : Tag) →
+    IsTagOf t (Steps move u Old a h) (Steps move u New a h) → u < length move.net
+tag_inside move u a h tag.Old is = is.0.must.router
+tag_inside move u a h tag.New is = is.1.must.router
+tag_inside move u a h tag.Both is = is.0.must.router
 
 -- Where loops arise
 
-pub loop_arises_by_tags : (net : Network) (old new : Tables) (state : State) (a : ℕ) (ring : List Turn) → IsLoop net old new a ring →
-    AgreesWithTags state ring → Arises net old new state a ring
-loop_arises_by_tags net old new state a ring is agrees =
-    around_inside (IsTagTo net old new a) (λ (r s : Turn). StepsIn net old new state a r.router s.router) ring
+pub loop_arises_by_tags : (move : Migration) (state : State) (a : ℕ) (ring : List Turn) → IsLoop move a ring →
+    AgreesWithTags state ring → Arises move state a ring
+loop_arises_by_tags move state a ring is agrees =
+    around_inside (IsTagTo move a) (λ (r s : Turn). StepsIn move state a r.router s.router) ring
     (λ r s inside tagged. tag_step r.tag (state r.router) tagged.steps
     (λ is_old. agrees.old r.router (old_listed ring r inside is_old)) (λ is_new. agrees.new r.router (new_listed ring r inside is_new)))
     is.tags
 
 -- a state in which a ring arises isn't sound for its address
-ring_is_unsound : {net : Network} {old new : Tables} (state : State) {a : ℕ} (ring : List Turn) → 0 < length ring → Arises net old new state a ring →
-    IsSoundAt net old new state a → ⊥
-ring_is_unsound {net} {old} {new} state {a} ring some arises sound =
-    let returns = turns_return (StepsIn net old new state a) ring some arises in
+ring_is_unsound : {move : Migration} (state : State) {a : ℕ} (ring : List Turn) → 0 < length ring → Arises move state a ring →
+    IsSoundAt move state a → ⊥
+ring_is_unsound {move} state {a} ring some arises sound =
+    let returns = turns_return (StepsIn move state a) ring some arises in
     sound.returns_never returns.0 returns.1.hop returns.1.hops returns.1.follows
 
-pub arising_is_unsound : (net : Network) (old new : Tables) (state : State) (a : ℕ) (ring : List Turn) → IsLoop net old new a ring →
-    Arises net old new state a ring → IsSound net old new state → ⊥
-arising_is_unsound net old new state a ring is arises sound =
+pub arising_is_unsound : (move : Migration) (state : State) (a : ℕ) (ring : List Turn) → IsLoop move a ring →
+    Arises move state a ring → IsSound move state → ⊥
+arising_is_unsound move state a ring is arises sound =
     let some = is.some in ring_is_unsound state ring (omega (arith, some)) arises (sound a is.address)
 
 -- Between sound ends
 
 -- no router steps to itself
-no_self_step : {net : Network} {old new : Tables} {u a : ℕ} (phase : Phase) → AreSoundEnds net old new → a < 2 ^ 32 →
-    Steps net old new u phase a u → ⊥
+no_self_step : {move : Migration} {u a : ℕ} (phase : Phase) → AreSoundEnds move → a < 2 ^ 32 →
+    Steps move u phase a u → ⊥
 no_self_step {u = u} {a = a} phase ends address steps = elim (old_or_new_step phase steps) [
   | inl one ↦ (ends.first a address).returns_never u u [] (one, refl)
   | inr two ↦ (ends.last a address).returns_never u u [] (two, refl)
 ]
 
-two_or_more : {net : Network} {old new : Tables} (state : State) {a : ℕ} (ring : List Turn) → AreSoundEnds net old new →
+two_or_more : {move : Migration} (state : State) {a : ℕ} (ring : List Turn) → AreSoundEnds move →
     a < 2 ^ 32 → 0 < length ring →
-    Arises net old new state a ring → 2 ≤ length ring
+    Arises move state a ring → 2 ≤ length ring
 two_or_more state [] ends address some arises = absurd (omega (arith, some))
 two_or_more state (r ∷ []) ends address some arises = absurd (no_self_step (state r.router) ends address arises)
 two_or_more state (r ∷ s ∷ rest) ends address some arises = omega arith
 
 -- a ring without a router tagged Old arises in the last state, one without a router tagged New in the first
-has_old : {net : Network} {old new : Tables} {a : ℕ} (ring : List Turn) → AreSoundEnds net old new → a < 2 ^ 32 → 0 < length ring →
-    AreTagged net old new a ring → 0 < length (old_routers ring)
-has_old {net} {old} {new} {a} ring ends address some tags = elim (cases_lt 0 (length (old_routers ring))) [
+has_old : {move : Migration} {a : ℕ} (ring : List Turn) → AreSoundEnds move → a < 2 ^ 32 → 0 < length ring →
+    AreTagged move a ring → 0 < length (old_routers ring)
+has_old {move} {a} ring ends address some tags = elim (cases_lt 0 (length (old_routers ring))) [
   | inl has ↦ has
   | inr none ↦ absurd (ring_is_unsound (λ (u : ℕ). New) ring some
-      (around_inside (IsTagTo net old new a) (λ (r s : Turn). Steps net old new r.router New a s.router) ring
+      (around_inside (IsTagTo move a) (λ (r s : Turn). Steps move r.router New a s.router) ring
       (λ r s inside tagged. new_step r.tag tagged.steps
       (λ is. let among = old_listed ring r inside is in let within = among.1 in omega (arith, within, none))) tags)
       (ends.last a address))
 ]
 
-has_new : {net : Network} {old new : Tables} {a : ℕ} (ring : List Turn) → AreSoundEnds net old new → a < 2 ^ 32 → 0 < length ring →
-    AreTagged net old new a ring → 0 < length (new_routers ring)
-has_new {net} {old} {new} {a} ring ends address some tags = elim (cases_lt 0 (length (new_routers ring))) [
+has_new : {move : Migration} {a : ℕ} (ring : List Turn) → AreSoundEnds move → a < 2 ^ 32 → 0 < length ring →
+    AreTagged move a ring → 0 < length (new_routers ring)
+has_new {move} {a} ring ends address some tags = elim (cases_lt 0 (length (new_routers ring))) [
   | inl has ↦ has
   | inr none ↦ absurd (ring_is_unsound (λ (u : ℕ). Old) ring some
-      (around_inside (IsTagTo net old new a) (λ (r s : Turn). Steps net old new r.router Old a s.router) ring
+      (around_inside (IsTagTo move a) (λ (r s : Turn). Steps move r.router Old a s.router) ring
       (λ r s inside tagged. old_step r.tag tagged.steps
       (λ is. let among = new_listed ring r inside is in let within = among.1 in omega (arith, within, none))) tags)
       (ends.first a address))
 ]
 
-pub loop_has_both_tags : (net : Network) (old new : Tables) (a : ℕ) (ring : List Turn) → AreSoundEnds net old new → IsLoop net old new a ring →
+pub loop_has_both_tags : (move : Migration) (a : ℕ) (ring : List Turn) → AreSoundEnds move → IsLoop move a ring →
     HasBothTags ring
-loop_has_both_tags net old new a ring ends is =
+loop_has_both_tags move a ring ends is =
     let many = is.some in
     let some : 0 < length ring = omega (arith, many) in
     record { old = has_old ring ends is.address some is.tags; new = has_new ring ends is.address some is.tags }
 
 -- a router that doesn't step to h in New, and does in this phase, is in Old or Middle
-early_phase : {net : Network} {old new : Tables} {u a h : ℕ} (phase : Phase) → Steps net old new u phase a h → (Steps net old new u New a h → ⊥) →
+early_phase : {move : Migration} {u a h : ℕ} (phase : Phase) → Steps move u phase a h → (Steps move u New a h → ⊥) →
     (phase ≡ Old) ⊎ (phase ≡ Middle)
 early_phase Old steps not = inl refl
 early_phase Middle steps not = inr refl
 early_phase New steps not = absurd (not steps)
 
-late_phase : {net : Network} {old new : Tables} {u a h : ℕ} (phase : Phase) → Steps net old new u phase a h → (Steps net old new u Old a h → ⊥) →
+late_phase : {move : Migration} {u a h : ℕ} (phase : Phase) → Steps move u phase a h → (Steps move u Old a h → ⊥) →
     (phase ≡ Middle) ⊎ (phase ≡ New)
 late_phase Old steps not = absurd (not steps)
 late_phase Middle steps not = inl refl
 late_phase New steps not = inr refl
 
 -- the steps of a ring's router in a state, with its tag
-pub record StepsWithTag (net : Network) (old new : Tables) (state : State) (a : ℕ) (r s : Turn) : Type 0 where
-  pub tagged : IsTag net old new a r s.router
-  pub steps : StepsIn net old new state a r.router s.router
+pub record StepsWithTag (move : Migration) (state : State) (a : ℕ) (r s : Turn) : Type 0 where
+  pub tagged : IsTag move a r s.router
+  pub steps : StepsIn move state a r.router s.router
 
-steps_with_tags : {net : Network} {old new : Tables} (state : State) {a : ℕ} (ring : List Turn) →
-    AreTagged net old new a ring → Arises net old new state a ring → (r : Turn) → Contains ring r →
-    (s : Turn) × StepsWithTag net old new state a r s
-steps_with_tags {net} {old} {new} state {a} ring tags arises r inside =
-    let both = around_at (λ (x y : Turn). IsTag net old new a x y.router × StepsIn net old new state a x.router y.router) ring r
-    (around_both (IsTagTo net old new a) (λ (x y : Turn). StepsIn net old new state a x.router y.router) ring tags arises) inside in
+steps_with_tags : {move : Migration} (state : State) {a : ℕ} (ring : List Turn) →
+    AreTagged move a ring → Arises move state a ring → (r : Turn) → Contains ring r →
+    (s : Turn) × StepsWithTag move state a r s
+steps_with_tags {move} state {a} ring tags arises r inside =
+    let both = around_at (λ (x y : Turn). IsTag move a x y.router × StepsIn move state a x.router y.router) ring r
+    (around_both (IsTagTo move a) (λ (x y : Turn). StepsIn move state a x.router y.router) ring tags arises) inside in
     (both.0, record { tagged = both.1.0; steps = both.1.1 })
 
-not_new : {net : Network} {old new : Tables} {u a h : ℕ} (t : Tag) → t ≡ tag.Old →
-    IsTagOf t (Steps net old new u Old a h) (Steps net old new u New a h) →
-    Steps net old new u New a h → ⊥
+not_new : {move : Migration} {u a h : ℕ} (t : Tag) → t ≡ tag.Old →
+    IsTagOf t (Steps move u Old a h) (Steps move u New a h) →
+    Steps move u New a h → ⊥
 not_new tag.Old same is steps = is.1 steps
 not_new tag.New same is steps = cc
 not_new tag.Both same is steps = cc
 
-not_old : {net : Network} {old new : Tables} {u a h : ℕ} (t : Tag) → t ≡ tag.New →
-    IsTagOf t (Steps net old new u Old a h) (Steps net old new u New a h) →
-    Steps net old new u Old a h → ⊥
+not_old : {move : Migration} {u a h : ℕ} (t : Tag) → t ≡ tag.New →
+    IsTagOf t (Steps move u Old a h) (Steps move u New a h) →
+    Steps move u Old a h → ⊥
 not_old tag.Old same is steps = cc
 not_old tag.New same is steps = is.0 steps
 not_old tag.Both same is steps = cc
 
-pub old_is_early : (net : Network) (old new : Tables) (state : State) (a : ℕ) (ring : List Turn) →
-    AreTagged net old new a ring → Arises net old new state a ring → (u : ℕ) → Contains (old_routers ring) u →
+pub old_is_early : (move : Migration) (state : State) (a : ℕ) (ring : List Turn) →
+    AreTagged move a ring → Arises move state a ring → (u : ℕ) → Contains (old_routers ring) u →
     (state u ≡ Old) ⊎ (state u ≡ Middle)
-old_is_early net old new state a ring tags arises u inside =
+old_is_early move state a ring tags arises u inside =
     let one = old_turn ring u inside in
-    let at : (s : Turn) × StepsWithTag net old new state a one.turn s = steps_with_tags state ring tags arises one.turn one.among in
+    let at : (s : Turn) × StepsWithTag move state a one.turn s = steps_with_tags state ring tags arises one.turn one.among in
     subst (λ (v : ℕ). (state v ≡ Old) ⊎ (state v ≡ Middle)) one.router
     (early_phase (state one.turn.router) at.1.steps (not_new one.turn.tag one.tagged at.1.tagged.steps))
 
-pub new_is_late : (net : Network) (old new : Tables) (state : State) (a : ℕ) (ring : List Turn) →
-    AreTagged net old new a ring → Arises net old new state a ring → (u : ℕ) → Contains (new_routers ring) u →
+pub new_is_late : (move : Migration) (state : State) (a : ℕ) (ring : List Turn) →
+    AreTagged move a ring → Arises move state a ring → (u : ℕ) → Contains (new_routers ring) u →
     (state u ≡ Middle) ⊎ (state u ≡ New)
-new_is_late net old new state a ring tags arises u inside =
+new_is_late move state a ring tags arises u inside =
     let one = new_turn ring u inside in
-    let at : (s : Turn) × StepsWithTag net old new state a one.turn s = steps_with_tags state ring tags arises one.turn one.among in
+    let at : (s : Turn) × StepsWithTag move state a one.turn s = steps_with_tags state ring tags arises one.turn one.among in
     subst (λ (v : ℕ). (state v ≡ Middle) ⊎ (state v ≡ New)) one.router
     (late_phase (state one.turn.router) at.1.steps (not_old one.turn.tag one.tagged at.1.tagged.steps))
 
 -- a ring of distinct routers with its tags that arises between sound ends is a loop with both tags
-pub ring_between_ends : (net : Network) (old new : Tables) (state : State) (a : ℕ) (ring : List Turn) → AreSoundEnds net old new → a < 2 ^ 32 →
-    0 < length ring → AllPairs (λ (r s : Turn). r.router ≢ s.router) ring → AreTagged net old new a ring →
-    Arises net old new state a ring → IsLoopOfState net old new state a ring
-ring_between_ends net old new state a ring ends address some distinct tags arises = record {
+pub ring_between_ends : (move : Migration) (state : State) (a : ℕ) (ring : List Turn) → AreSoundEnds move → a < 2 ^ 32 →
+    0 < length ring → AllPairs (λ (r s : Turn). r.router ≢ s.router) ring → AreTagged move a ring →
+    Arises move state a ring → IsLoopOfState move state a ring
+ring_between_ends move state a ring ends address some distinct tags arises = record {
   is_loop = record { address = address; some = two_or_more state ring ends address some arises; distinct = distinct; tags = tags };
   arises = arises;
   both = record { old = has_old ring ends address some tags; new = has_new ring ends address some tags };
-  old_early = old_is_early net old new state a ring tags arises;
-  new_late = new_is_late net old new state a ring tags arises;
+  old_early = old_is_early move state a ring tags arises;
+  new_late = new_is_late move state a ring tags arises;
 }
 
 -- the fault of an unsound state between sound ends is such a loop
-pub fault_between_ends : (net : Network) (old new : Tables) (state : State) (fault : Fault) → AreSoundEnds net old new →
-    IsFault net old new state fault →
-    IsLoopFault net old new state fault
-fault_between_ends net old new state fault ends (missing_step {a = a} {u = u} address below must lacks lowest) =
+pub fault_between_ends : (move : Migration) (state : State) (fault : Fault) → AreSoundEnds move →
+    IsFault move state fault →
+    IsLoopFault move state fault
+fault_between_ends move state fault ends (missing_step {a = a} {u = u} address below must lacks lowest) =
     absurd (lacks (every_phase_steps ((ends.first a address).forwards u must) ((ends.last a address).forwards u must) (state u)))
-fault_between_ends net old new state fault ends (loop_arises {a = a} {ring = ring} address below forwards found tags) =
+fault_between_ends move state fault ends (loop_arises {a = a} {ring = ring} address below forwards found tags) =
     let begins = found.first in
     let some : 0 < length ring = some_turn ring found.lowest found.others begins in
     record {
       address = a;
       ring = ring;
       is = refl;
-      of_state = ring_between_ends net old new state a ring ends address some (turns_distinct ring (found_distinct found)) tags
-          (around_of_routers (StepsIn net old new state a) ring (found_goes_round found));
+      of_state = ring_between_ends move state a ring ends address some (turns_distinct ring (found_distinct found)) tags
+          (around_of_routers (StepsIn move state a) ring (found_goes_round found));
     }

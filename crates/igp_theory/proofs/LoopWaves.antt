@@ -3,7 +3,6 @@ use Rattle.std.proofs.Common.{◌≡◌, ◌≢◌, ℕ, ◌^◌, ◌<◌, ◌�
 use Rattle.std.proofs.Common.{refl, sym, ap, ◌∙◌, subst, arith}
 use Rattle.std.proofs.lemmas.Bool.{cases_lt, cases_eq}
 use Rattle.std.proofs.lemmas.List.Elements.{Contains-get_or}
-use Rattle.net_model.specs.Network.{Network}
 use Rattle.order_core.specs.Orders.{AreDistinct}
 use Rattle.order_core.specs.Rankings.{IsRanking, rank_of}
 use Rattle.order_core.specs.Turns.{routers_of, old_routers, new_routers, RanksSomeOldFirst}
@@ -13,7 +12,7 @@ use Rattle.order_core.specs.declared.turn.Turn.{Turn}
 use Rattle.igp_theory.specs.Forwarding.{Steps}
 use Rattle.igp_theory.specs.LoopLaws.{AgreesWithTags, AreSoundEnds, IsLoopOfState, ArisesInWave, StandsRoundWave, PutsSomeOldFirstInEach, IsLoopOfWave}
 use Rattle.igp_theory.specs.Loops.{IsTagOf, IsTag, EachToNext, AroundRing, IsLoop, Arises, Fault, loop}
-use Rattle.igp_theory.specs.Routes.{Tables}
+use Rattle.igp_theory.specs.Migrations.{Migration}
 use Rattle.igp_theory.specs.States.{State, StepsIn, Follows, IsSound}
 use Rattle.igp_theory.specs.WaveFaults.{StepsInSome, IsUnsoundInSome, IsFaultOver, missing_in_one, loop_over_all, IsWavesFault}
 use Rattle.igp_theory.specs.WaveLaws.{IsStateOfSomeWave}
@@ -35,23 +34,23 @@ use Rattle.igp_theory.proofs.WaveStates.{state_of_wave}
 -- Where a loop arises
 
 -- each router of a loop is one of the network
-turn_inside : (net : Network) (old new : Tables) (a : ℕ) (ring : List Turn) (t : Turn) → AreTagged net old new a ring →
-    Contains ring t → t.router < length net
-turn_inside net old new a ring t tags inside =
-    let at = around_at (IsTagTo net old new a) ring t tags inside in
-    tag_inside net old new t.router a at.0.router t.tag at.1.steps
+turn_inside : (move : Migration) (a : ℕ) (ring : List Turn) (t : Turn) → AreTagged move a ring →
+    Contains ring t → t.router < length move.net
+turn_inside move a ring t tags inside =
+    let at = around_at (IsTagTo move a) ring t tags inside in
+    tag_inside move t.router a at.0.router t.tag at.1.steps
 
-old_inside : (net : Network) (old new : Tables) (a : ℕ) (ring : List Turn) (u : ℕ) → AreTagged net old new a ring →
-    Contains (old_routers ring) u → u < length net
-old_inside net old new a ring u tags inside =
+old_inside : (move : Migration) (a : ℕ) (ring : List Turn) (u : ℕ) → AreTagged move a ring →
+    Contains (old_routers ring) u → u < length move.net
+old_inside move a ring u tags inside =
     let one = old_turn ring u inside in
-    subst (λ (v : ℕ). v < length net) one.router (turn_inside net old new a ring one.turn tags one.among)
+    subst (λ (v : ℕ). v < length move.net) one.router (turn_inside move a ring one.turn tags one.among)
 
-new_inside : (net : Network) (old new : Tables) (a : ℕ) (ring : List Turn) (u : ℕ) → AreTagged net old new a ring →
-    Contains (new_routers ring) u → u < length net
-new_inside net old new a ring u tags inside =
+new_inside : (move : Migration) (a : ℕ) (ring : List Turn) (u : ℕ) → AreTagged move a ring →
+    Contains (new_routers ring) u → u < length move.net
+new_inside move a ring u tags inside =
     let one = new_turn ring u inside in
-    subst (λ (v : ℕ). v < length net) one.router (turn_inside net old new a ring one.turn tags one.among)
+    subst (λ (v : ℕ). v < length move.net) one.router (turn_inside move a ring one.turn tags one.among)
 
 is_not_old : (phase : Phase) → (phase ≡ Middle) ⊎ (phase ≡ New) → phase ≡ Old → ⊥
 is_not_old phase (inl middle) old = let clash : Middle ≡ Old = sym middle ∙ old in cc
@@ -62,19 +61,19 @@ is_not_new phase (inl old) new = let clash : Old ≡ New = sym old ∙ new in cc
 is_not_new phase (inr middle) new = let clash : Middle ≡ New = sym middle ∙ new in cc
 
 -- a ring that arises in a state of a wave stands round it
-pub stands_round : (net : Network) (old new : Tables) (ranks : List ℕ) (w : ℕ) (state : State) (a : ℕ) (ring : List Turn) →
-    AreTagged net old new a ring → IsStateOfWave (length net) ranks w state → Arises net old new state a ring →
+pub stands_round : (move : Migration) (ranks : List ℕ) (w : ℕ) (state : State) (a : ℕ) (ring : List Turn) →
+    AreTagged move a ring → IsStateOfWave (length move.net) ranks w state → Arises move state a ring →
     StandsRoundWave ranks w ring
-stands_round net old new ranks w state a ring tags of_wave arises = record {
+stands_round move ranks w state a ring tags of_wave arises = record {
   new = λ u inside. elim (cases_lt w (rank_of ranks u)) [
     | inr within ↦ within
-    | inl later ↦ absurd (is_not_old (state u) (new_is_late net old new state a ring tags arises u inside)
-        (of_wave.later u (new_inside net old new a ring u tags inside) later))
+    | inl later ↦ absurd (is_not_old (state u) (new_is_late move state a ring tags arises u inside)
+        (of_wave.later u (new_inside move a ring u tags inside) later))
   ];
   old = λ u inside. elim (cases_lt (rank_of ranks u) w) [
     | inr within ↦ within
-    | inl earlier ↦ absurd (is_not_new (state u) (old_is_early net old new state a ring tags arises u inside)
-        (of_wave.earlier u (old_inside net old new a ring u tags inside) earlier))
+    | inl earlier ↦ absurd (is_not_new (state u) (old_is_early move state a ring tags arises u inside)
+        (of_wave.earlier u (old_inside move a ring u tags inside) earlier))
   ];
 }
 
@@ -139,12 +138,12 @@ for_agrees ranks w ring distinct round = record {
       ∙ pick_first (contains_or_not u (new_routers ring)) New Old (λ absent. absent inside));
 }
 
-pub arises_in_wave : (net : Network) (old new : Tables) (ranks : List ℕ) (w a : ℕ) (ring : List Turn) → IsLoop net old new a ring →
-    StandsRoundWave ranks w ring → ArisesInWave net old new ranks w a ring
-arises_in_wave net old new ranks w a ring is round = record {
+pub arises_in_wave : (move : Migration) (ranks : List ℕ) (w a : ℕ) (ring : List Turn) → IsLoop move a ring →
+    StandsRoundWave ranks w ring → ArisesInWave move ranks w a ring
+arises_in_wave move ranks w a ring is round = record {
   state = state_for ranks w ring;
-  of_wave = for_is_of_wave (length net) ranks w ring;
-  arises = loop_arises_by_tags net old new (state_for ranks w ring) a ring is (for_agrees ranks w ring is.distinct round);
+  of_wave = for_is_of_wave (length move.net) ranks w ring;
+  arises = loop_arises_by_tags move (state_for ranks w ring) a ring is (for_agrees ranks w ring is.distinct round);
 }
 
 -- Seamless wave lists put some router tagged Old first
@@ -210,146 +209,146 @@ earlier_or_none ranks w (x ∷ routers) = elim (cases_lt (rank_of ranks x) w) [
   ]
 ]
 
-pub seamless_puts_old_first : (net : Network) (old new : Tables) (ranks : List ℕ) → AreSeamlessWaves net old new ranks →
-    PutsSomeOldFirstInEach net old new ranks
-seamless_puts_old_first net old new ranks seamless a ring is both =
+pub seamless_puts_old_first : (move : Migration) (ranks : List ℕ) → AreSeamlessWaves move ranks →
+    PutsSomeOldFirstInEach move ranks
+seamless_puts_old_first move ranks seamless a ring is both =
     let last = latest_of_some ranks (new_routers ring) both.new in
     let w : ℕ = rank_of ranks last.0 in
-    let within : last.0 < length ranks = let k = new_inside net old new a ring last.0 is.tags last.1.among in omega (arith, k, seamless.waves.each) in
+    let within : last.0 < length ranks = let k = new_inside move a ring last.0 is.tags last.1.among in omega (arith, k, seamless.waves.each) in
     elim (earlier_or_none ranks w (old_routers ring)) [
       | inl one ↦ record { old = one.0; new = last.0; is_old = one.1; is_new = last.1.among; keeps = one.2 }
       | inr none ↦
-          let there : ArisesInWave net old new ranks w a ring = arises_in_wave net old new ranks w a ring is (record { new = last.1.latest; old = none }) in
-          let reached : IsWavesState (length net) ranks there.state = wave_state_is_reached (length net) ranks there.state seamless.waves
+          let there : ArisesInWave move ranks w a ring = arises_in_wave move ranks w a ring is (record { new = last.1.latest; old = none }) in
+          let reached : IsWavesState (length move.net) ranks there.state = wave_state_is_reached (length move.net) ranks there.state seamless.waves
           (record { wave = w; is_wave = Contains-get_or ranks last.0 0 within; of_wave = there.of_wave }) in
-          absurd (arising_is_unsound net old new there.state a ring is there.arises (seamless.sound there.state reached))
+          absurd (arising_is_unsound move there.state a ring is there.arises (seamless.sound there.state reached))
     ]
 
 -- Between sound ends that is enough
 
 -- a router that steps to h in some phase has a tag towards it, so what holds for no tag holds not
-tag_towards : {net : Network} {old new : Tables} {u a h : ℕ} → Steps net old new u Old a h ⊎ Steps net old new u New a h →
-    ((t : Tag) → IsTagOf t (Steps net old new u Old a h) (Steps net old new u New a h) → ⊥) → ⊥
+tag_towards : {move : Migration} {u a h : ℕ} → Steps move u Old a h ⊎ Steps move u New a h →
+    ((t : Tag) → IsTagOf t (Steps move u Old a h) (Steps move u New a h) → ⊥) → ⊥
 tag_towards (inl one) none = none tag.Old (one, λ two. none tag.Both (one, two))
 tag_towards (inr two) none = none tag.New ((λ one. none tag.Both (one, two)), two)
 
 -- turns of some routers with their tags
-record TaggedTurns (net : Network) (old new : Tables) (a : ℕ) (first : Turn) (routers : List ℕ) : Type 0 where
+record TaggedTurns (move : Migration) (a : ℕ) (first : Turn) (routers : List ℕ) : Type 0 where
   turns : List Turn
   same : routers_of turns ≡ routers
-  tags : EachToNext (IsTagTo net old new a) first turns
+  tags : EachToNext (IsTagTo move a) first turns
 
-one_more : {net : Network} {old new : Tables} {a : ℕ} (first : Turn) (u v : ℕ) (rest : List ℕ) (t : Tag) →
-    IsTagOf t (Steps net old new u Old a v) (Steps net old new u New a v) → TaggedTurns net old new a first (v ∷ rest) →
-    TaggedTurns net old new a first (u ∷ v ∷ rest)
-one_more {net} {old} {new} {a} first u v rest t is others = more others.turns others.same others.tags
+one_more : {move : Migration} {a : ℕ} (first : Turn) (u v : ℕ) (rest : List ℕ) (t : Tag) →
+    IsTagOf t (Steps move u Old a v) (Steps move u New a v) → TaggedTurns move a first (v ∷ rest) →
+    TaggedTurns move a first (u ∷ v ∷ rest)
+one_more {move} {a} first u v rest t is others = more others.turns others.same others.tags
   where
-    more : (turns : List Turn) → routers_of turns ≡ v ∷ rest → EachToNext (IsTagTo net old new a) first turns →
-        TaggedTurns net old new a first (u ∷ v ∷ rest)
+    more : (turns : List Turn) → routers_of turns ≡ v ∷ rest → EachToNext (IsTagTo move a) first turns →
+        TaggedTurns move a first (u ∷ v ∷ rest)
     more [] same tags = cc
     more (s ∷ turns) same tags =
         let next : v ≡ s.router = cc in
         record {
           turns = record { router = u; tag = t } ∷ s ∷ turns;
           same = ap (λ (l : List ℕ). u ∷ l) same;
-          tags = (record { steps = subst (λ (h : ℕ). IsTagOf t (Steps net old new u Old a h) (Steps net old new u New a h)) next is }, tags);
+          tags = (record { steps = subst (λ (h : ℕ). IsTagOf t (Steps move u Old a h) (Steps move u New a h)) next is }, tags);
         }
 
 -- it can't be that the routers have no tags
-tagged_turns : (net : Network) (old new : Tables) (state : State) (a : ℕ) (first : Turn) (routers : List ℕ) →
-    EachToNext (StepsIn net old new state a) first.router routers → (TaggedTurns net old new a first routers → ⊥) → ⊥
-tagged_turns net old new state a first [] goes none = none (record { turns = []; same = refl; tags = tt })
-tagged_turns net old new state a first (u ∷ []) goes none =
+tagged_turns : (move : Migration) (state : State) (a : ℕ) (first : Turn) (routers : List ℕ) →
+    EachToNext (StepsIn move state a) first.router routers → (TaggedTurns move a first routers → ⊥) → ⊥
+tagged_turns move state a first [] goes none = none (record { turns = []; same = refl; tags = tt })
+tagged_turns move state a first (u ∷ []) goes none =
     tag_towards (old_or_new_step (state u) goes)
     (λ t is. none (record { turns = record { router = u; tag = t } ∷ []; same = refl; tags = record { steps = is } }))
-tagged_turns net old new state a first (u ∷ v ∷ rest) goes none =
+tagged_turns move state a first (u ∷ v ∷ rest) goes none =
     tag_towards (old_or_new_step (state u) goes.0)
-    (λ t is. tagged_turns net old new state a first (v ∷ rest) goes.1 (λ others. none (one_more first u v rest t is others)))
+    (λ t is. tagged_turns move state a first (v ∷ rest) goes.1 (λ others. none (one_more first u v rest t is others)))
 
 -- the first element of a ring may be told by its router alone
-other_first : (net : Network) (old new : Tables) (a : ℕ) (first other : Turn) (ring : List Turn) → first.router ≡ other.router →
-    EachToNext (IsTagTo net old new a) first ring → EachToNext (IsTagTo net old new a) other ring
-other_first net old new a first other [] same tags = tt
-other_first net old new a first other (r ∷ []) same tags = subst (λ (h : ℕ). IsTag net old new a r h) same tags
-other_first net old new a first other (r ∷ s ∷ rest) same tags = (tags.0, other_first net old new a first other (s ∷ rest) same tags.1)
+other_first : (move : Migration) (a : ℕ) (first other : Turn) (ring : List Turn) → first.router ≡ other.router →
+    EachToNext (IsTagTo move a) first ring → EachToNext (IsTagTo move a) other ring
+other_first move a first other [] same tags = tt
+other_first move a first other (r ∷ []) same tags = subst (λ (h : ℕ). IsTag move a r h) same tags
+other_first move a first other (r ∷ s ∷ rest) same tags = (tags.0, other_first move a first other (s ∷ rest) same tags.1)
 
 -- a ring of turns with their tags, of these routers
-record TaggedRing (net : Network) (old new : Tables) (a : ℕ) (routers : List ℕ) : Type 0 where
+record TaggedRing (move : Migration) (a : ℕ) (routers : List ℕ) : Type 0 where
   ring : List Turn
   same : routers_of ring ≡ routers
-  tags : AreTagged net old new a ring
+  tags : AreTagged move a ring
 
-close_ring : {net : Network} {old new : Tables} {a : ℕ} (u : ℕ) (rest : List ℕ) →
-    TaggedTurns net old new a (record { router = u; tag = tag.Both }) (u ∷ rest) →
-    TaggedRing net old new a (u ∷ rest)
-close_ring {net} {old} {new} {a} u rest turns = close turns.turns turns.same turns.tags
+close_ring : {move : Migration} {a : ℕ} (u : ℕ) (rest : List ℕ) →
+    TaggedTurns move a (record { router = u; tag = tag.Both }) (u ∷ rest) →
+    TaggedRing move a (u ∷ rest)
+close_ring {move} {a} u rest turns = close turns.turns turns.same turns.tags
   where
-    close : (ring : List Turn) → routers_of ring ≡ u ∷ rest → EachToNext (IsTagTo net old new a) (record { router = u; tag = tag.Both }) ring →
-        TaggedRing net old new a (u ∷ rest)
+    close : (ring : List Turn) → routers_of ring ≡ u ∷ rest → EachToNext (IsTagTo move a) (record { router = u; tag = tag.Both }) ring →
+        TaggedRing move a (u ∷ rest)
     close [] same tags = cc
     close (t ∷ ring) same tags =
         let first : u ≡ t.router = cc in
-        record { ring = t ∷ ring; same = same; tags = other_first net old new a (record { router = u; tag = tag.Both }) t (t ∷ ring) first tags }
+        record { ring = t ∷ ring; same = same; tags = other_first move a (record { router = u; tag = tag.Both }) t (t ∷ ring) first tags }
 
-tagged_ring : (net : Network) (old new : Tables) (state : State) (a u : ℕ) (rest : List ℕ) → AroundRing (StepsIn net old new state a) (u ∷ rest) →
-    (TaggedRing net old new a (u ∷ rest) → ⊥) → ⊥
-tagged_ring net old new state a u rest goes none =
-    tagged_turns net old new state a (record { router = u; tag = tag.Both }) (u ∷ rest) goes (λ turns. none (close_ring u rest turns))
+tagged_ring : (move : Migration) (state : State) (a u : ℕ) (rest : List ℕ) → AroundRing (StepsIn move state a) (u ∷ rest) →
+    (TaggedRing move a (u ∷ rest) → ⊥) → ⊥
+tagged_ring move state a u rest goes none =
+    tagged_turns move state a (record { router = u; tag = tag.Both }) (u ∷ rest) goes (λ turns. none (close_ring u rest turns))
 
 -- what a ring between sound ends in a state of a wave would say of the wave list
-ring_breaks : (net : Network) (old new : Tables) (ranks : List ℕ) (w : ℕ) (state : State) (a u : ℕ) (rest : List ℕ) →
-    AreSoundEnds net old new → a < 2 ^ 32 →
-    PutsSomeOldFirstInEach net old new ranks → IsStateOfWave (length net) ranks w state → AreDistinct (u ∷ rest) →
-    AroundRing (StepsIn net old new state a) (u ∷ rest) → TaggedRing net old new a (u ∷ rest) → ⊥
-ring_breaks net old new ranks w state a u rest ends address puts of_wave distinct goes tagged =
+ring_breaks : (move : Migration) (ranks : List ℕ) (w : ℕ) (state : State) (a u : ℕ) (rest : List ℕ) →
+    AreSoundEnds move → a < 2 ^ 32 →
+    PutsSomeOldFirstInEach move ranks → IsStateOfWave (length move.net) ranks w state → AreDistinct (u ∷ rest) →
+    AroundRing (StepsIn move state a) (u ∷ rest) → TaggedRing move a (u ∷ rest) → ⊥
+ring_breaks move ranks w state a u rest ends address puts of_wave distinct goes tagged =
     let some : 0 < length tagged.ring = some_turn tagged.ring u rest tagged.same in
-    let arises : Arises net old new state a tagged.ring = around_of_routers (StepsIn net old new state a) tagged.ring
-    (subst (AroundRing (StepsIn net old new state a)) (sym tagged.same) goes) in
-    let is : IsLoopOfState net old new state a tagged.ring = ring_between_ends net old new state a tagged.ring ends address some
+    let arises : Arises move state a tagged.ring = around_of_routers (StepsIn move state a) tagged.ring
+    (subst (AroundRing (StepsIn move state a)) (sym tagged.same) goes) in
+    let is : IsLoopOfState move state a tagged.ring = ring_between_ends move state a tagged.ring ends address some
     (turns_distinct tagged.ring (subst AreDistinct (sym tagged.same) distinct)) tagged.tags arises in
     let first : RanksSomeOldFirst ranks tagged.ring = puts a tagged.ring is.is_loop is.both in
-    let round : StandsRoundWave ranks w tagged.ring = stands_round net old new ranks w state a tagged.ring tagged.tags of_wave arises in
+    let round : StandsRoundWave ranks w tagged.ring = stands_round move ranks w state a tagged.ring tagged.tags of_wave arises in
     let upto = round.new first.new first.is_new in
     let from = round.old first.old first.is_old in
     let before = first.keeps in
     omega (arith, upto, from, before)
 
-wave_is_sound : (net : Network) (old new : Tables) (ranks : List ℕ) (w : ℕ) (state : State) → AreSoundEnds net old new →
-    PutsSomeOldFirstInEach net old new ranks → IsStateOfWave (length net) ranks w state → IsSound net old new state
-wave_is_sound net old new ranks w state ends puts of_wave a address = record {
+wave_is_sound : (move : Migration) (ranks : List ℕ) (w : ℕ) (state : State) → AreSoundEnds move →
+    PutsSomeOldFirstInEach move ranks → IsStateOfWave (length move.net) ranks w state → IsSound move state
+wave_is_sound move ranks w state ends puts of_wave a address = record {
   forwards = λ u must. every_phase_steps ((ends.first a address).forwards u must) ((ends.last a address).forwards u must) (state u);
   returns_never = λ u h hops follows.
-      let ring : StepRing (StepsIn net old new state a) = ring_of_return (StepsIn net old new state a) u h hops follows in
-      tagged_ring net old new state a ring.first ring.others ring.goes
-      (ring_breaks net old new ranks w state a ring.first ring.others ends address puts of_wave ring.distinct ring.goes);
+      let ring : StepRing (StepsIn move state a) = ring_of_return (StepsIn move state a) u h hops follows in
+      tagged_ring move state a ring.first ring.others ring.goes
+      (ring_breaks move ranks w state a ring.first ring.others ends address puts of_wave ring.distinct ring.goes);
 }
 
 -- a network without a router has sound states alone
-pub empty_is_sound : (net : Network) (old new : Tables) (state : State) → length net ≤ 0 → IsSound net old new state
-empty_is_sound net old new state none a address = record {
+pub empty_is_sound : (move : Migration) (state : State) → length move.net ≤ 0 → IsSound move state
+empty_is_sound move state none a address = record {
   forwards = λ u must. let within = must.router in absurd (omega (arith, within, none));
   returns_never = λ u h hops follows. let within = follows.0.must.router in omega (arith, within, none);
 }
 
-pub old_first_is_seamless : (net : Network) (old new : Tables) (ranks : List ℕ) → AreSoundEnds net old new → IsRanking (length net) ranks →
-    PutsSomeOldFirstInEach net old new ranks → AreSeamlessWaves net old new ranks
-old_first_is_seamless net old new ranks ends waves puts = record {
+pub old_first_is_seamless : (move : Migration) (ranks : List ℕ) → AreSoundEnds move → IsRanking (length move.net) ranks →
+    PutsSomeOldFirstInEach move ranks → AreSeamlessWaves move ranks
+old_first_is_seamless move ranks ends waves puts = record {
   waves = waves;
-  sound = λ state is. elim (cases_lt 0 (length net)) [
-    | inr none ↦ empty_is_sound net old new state none
+  sound = λ state is. elim (cases_lt 0 (length move.net)) [
+    | inr none ↦ empty_is_sound move state none
     | inl some ↦
-        let one : IsStateOfSomeWave (length net) ranks state = state_of_wave (length net) ranks state some waves is in
-        wave_is_sound net old new ranks one.wave state ends puts one.of_wave
+        let one : IsStateOfSomeWave (length move.net) ranks state = state_of_wave (length move.net) ranks state some waves is in
+        wave_is_sound move ranks one.wave state ends puts one.of_wave
   ];
 }
 
 -- Over every hop of a wave's states
 
 -- a state of a wave in which each of some routers steps to the next
-record WaveSteps (net : Network) (old new : Tables) (ranks : List ℕ) (w a first : ℕ) (routers : List ℕ) : Type 0 where
+record WaveSteps (move : Migration) (ranks : List ℕ) (w a first : ℕ) (routers : List ℕ) : Type 0 where
   state : State
-  of_wave : IsStateOfWave (length net) ranks w state
-  goes : EachToNext (StepsIn net old new state a) first routers
+  of_wave : IsStateOfWave (length move.net) ranks w state
+  goes : EachToNext (StepsIn move state a) first routers
 
 abbrev put : ℕ → Phase → State → State
 put u phase state v = pick (cases_eq v u) phase (state v)
@@ -366,38 +365,38 @@ put_of_wave n ranks w u one state is_one is = record {
     by_router v (inl same) phase first second = ap one (sym same) ∙ first
     by_router v (inr apart) phase first second = second
 
-wave_steps : (net : Network) (old new : Tables) (ranks : List ℕ) (w a first : ℕ) (routers : List ℕ) → AreDistinct routers →
-    EachToNext (StepsInSome net old new (IsStateOfWave (length net) ranks w) a) first routers → WaveSteps net old new ranks w a first routers
-wave_steps net old new ranks w a first [] distinct goes =
-    record { state = state_for ranks w []; of_wave = for_is_of_wave (length net) ranks w []; goes = tt }
-wave_steps net old new ranks w a first (u ∷ []) distinct goes = record { state = goes.state; of_wave = goes.among; goes = goes.steps }
-wave_steps net old new ranks w a first (u ∷ v ∷ rest) distinct goes =
-    let others : WaveSteps net old new ranks w a first (v ∷ rest) =
-    wave_steps net old new ranks w a first (v ∷ rest) (pairs_rest (λ x y. x ≢ y) u (v ∷ rest) distinct) goes.1 in
+wave_steps : (move : Migration) (ranks : List ℕ) (w a first : ℕ) (routers : List ℕ) → AreDistinct routers →
+    EachToNext (StepsInSome move (IsStateOfWave (length move.net) ranks w) a) first routers → WaveSteps move ranks w a first routers
+wave_steps move ranks w a first [] distinct goes =
+    record { state = state_for ranks w []; of_wave = for_is_of_wave (length move.net) ranks w []; goes = tt }
+wave_steps move ranks w a first (u ∷ []) distinct goes = record { state = goes.state; of_wave = goes.among; goes = goes.steps }
+wave_steps move ranks w a first (u ∷ v ∷ rest) distinct goes =
+    let others : WaveSteps move ranks w a first (v ∷ rest) =
+    wave_steps move ranks w a first (v ∷ rest) (pairs_rest (λ x y. x ≢ y) u (v ∷ rest) distinct) goes.1 in
     let state : State = put u (goes.0.state u) others.state in
     record {
       state = state;
-      of_wave = put_of_wave (length net) ranks w u goes.0.state others.state goes.0.among others.of_wave;
+      of_wave = put_of_wave (length move.net) ranks w u goes.0.state others.state goes.0.among others.of_wave;
       goes = (
-        subst (λ (phase : Phase). Steps net old new u phase a v)
+        subst (λ (phase : Phase). Steps move u phase a v)
             (sym (pick_first (cases_eq u u) (goes.0.state u) (others.state u) (λ apart. apart refl))) goes.0.steps,
-        each_inside (StepsIn net old new others.state a) (StepsIn net old new state a) first (v ∷ rest)
-            (λ x y inside steps. subst (λ (phase : Phase). Steps net old new x phase a y)
+        each_inside (StepsIn move others.state a) (StepsIn move state a) first (v ∷ rest)
+            (λ x y inside steps. subst (λ (phase : Phase). Steps move x phase a y)
             (sym (pick_second (cases_eq x u) (goes.0.state u) (others.state x)
             (λ same. pairs_first (λ p q. p ≢ q) u (v ∷ rest) distinct x inside (sym same)))) steps)
             others.goes,
       );
     }
 
-pub return_is_unsound : (net : Network) (old new : Tables) (ranks : List ℕ) (w a u h : ℕ) (hops : List ℕ) →
-    Follows (StepsInSome net old new (IsStateOfWave (length net) ranks w) a) u (h ∷ hops) u →
-    IsUnsoundInSome net old new (IsStateOfWave (length net) ranks w) a
-return_is_unsound net old new ranks w a u h hops follows =
-    let ring : StepRing (StepsInSome net old new (IsStateOfWave (length net) ranks w) a) =
-    ring_of_return (StepsInSome net old new (IsStateOfWave (length net) ranks w) a) u h hops follows in
-    let there : WaveSteps net old new ranks w a ring.first (ring.first ∷ ring.others) =
-    wave_steps net old new ranks w a ring.first (ring.first ∷ ring.others) ring.distinct ring.goes in
-    let returns = ring_returns (StepsIn net old new there.state a) ring.first ring.others there.goes in
+pub return_is_unsound : (move : Migration) (ranks : List ℕ) (w a u h : ℕ) (hops : List ℕ) →
+    Follows (StepsInSome move (IsStateOfWave (length move.net) ranks w) a) u (h ∷ hops) u →
+    IsUnsoundInSome move (IsStateOfWave (length move.net) ranks w) a
+return_is_unsound move ranks w a u h hops follows =
+    let ring : StepRing (StepsInSome move (IsStateOfWave (length move.net) ranks w) a) =
+    ring_of_return (StepsInSome move (IsStateOfWave (length move.net) ranks w) a) u h hops follows in
+    let there : WaveSteps move ranks w a ring.first (ring.first ∷ ring.others) =
+    wave_steps move ranks w a ring.first (ring.first ∷ ring.others) ring.distinct ring.goes in
+    let returns = ring_returns (StepsIn move there.state a) ring.first ring.others there.goes in
     record {
       state = there.state;
       among = there.of_wave;
@@ -405,30 +404,30 @@ return_is_unsound net old new ranks w a u h hops follows =
     }
 
 -- a wave list is seamless exactly where the states of its waves are sound
-pub seamless_by_waves : (net : Network) (old new : Tables) (ranks : List ℕ) → IsRanking (length net) ranks →
-    ((state : State) → IsStateOfSomeWave (length net) ranks state → IsSound net old new state) → AreSeamlessWaves net old new ranks
-seamless_by_waves net old new ranks waves sound = record {
+pub seamless_by_waves : (move : Migration) (ranks : List ℕ) → IsRanking (length move.net) ranks →
+    ((state : State) → IsStateOfSomeWave (length move.net) ranks state → IsSound move state) → AreSeamlessWaves move ranks
+seamless_by_waves move ranks waves sound = record {
   waves = waves;
-  sound = λ state is. elim (cases_lt 0 (length net)) [
-    | inr none ↦ empty_is_sound net old new state none
-    | inl some ↦ sound state (state_of_wave (length net) ranks state some waves is)
+  sound = λ state is. elim (cases_lt 0 (length move.net)) [
+    | inr none ↦ empty_is_sound move state none
+    | inl some ↦ sound state (state_of_wave (length move.net) ranks state some waves is)
   ];
 }
 
 -- The fault of a wave between sound ends
 
 -- a ring over every hop of a wave's states, with its tags, is a loop of the wave
-ring_of_wave : (net : Network) (old new : Tables) (ranks : List ℕ) (w a : ℕ) (ring : List Turn) (u : ℕ) (rest : List ℕ) →
-    AreSoundEnds net old new →
-    a < 2 ^ 32 → routers_of ring ≡ u ∷ rest → AreDistinct (routers_of ring) → AreTagged net old new a ring →
-    AroundRing (StepsInSome net old new (IsStateOfWave (length net) ranks w) a) (routers_of ring) → IsLoopOfWave net old new ranks w (loop a ring)
-ring_of_wave net old new ranks w a ring u rest ends address begins distinct tags goes =
-    let there : WaveSteps net old new ranks w a u (u ∷ rest) = wave_steps net old new ranks w a u (u ∷ rest) (subst AreDistinct begins distinct)
-    (subst (AroundRing (StepsInSome net old new (IsStateOfWave (length net) ranks w) a)) begins goes) in
-    let arises : Arises net old new there.state a ring = around_of_routers (StepsIn net old new there.state a) ring
-    (subst (AroundRing (StepsIn net old new there.state a)) (sym begins) there.goes) in
-    let is : IsLoopOfState net old new there.state a ring =
-    ring_between_ends net old new there.state a ring ends address (some_turn ring u rest begins) (turns_distinct ring distinct) tags arises in
+ring_of_wave : (move : Migration) (ranks : List ℕ) (w a : ℕ) (ring : List Turn) (u : ℕ) (rest : List ℕ) →
+    AreSoundEnds move →
+    a < 2 ^ 32 → routers_of ring ≡ u ∷ rest → AreDistinct (routers_of ring) → AreTagged move a ring →
+    AroundRing (StepsInSome move (IsStateOfWave (length move.net) ranks w) a) (routers_of ring) → IsLoopOfWave move ranks w (loop a ring)
+ring_of_wave move ranks w a ring u rest ends address begins distinct tags goes =
+    let there : WaveSteps move ranks w a u (u ∷ rest) = wave_steps move ranks w a u (u ∷ rest) (subst AreDistinct begins distinct)
+    (subst (AroundRing (StepsInSome move (IsStateOfWave (length move.net) ranks w) a)) begins goes) in
+    let arises : Arises move there.state a ring = around_of_routers (StepsIn move there.state a) ring
+    (subst (AroundRing (StepsIn move there.state a)) (sym begins) there.goes) in
+    let is : IsLoopOfState move there.state a ring =
+    ring_between_ends move there.state a ring ends address (some_turn ring u rest begins) (turns_distinct ring distinct) tags arises in
     record {
       address = a;
       ring = ring;
@@ -436,18 +435,18 @@ ring_of_wave net old new ranks w a ring u rest ends address begins distinct tags
       is_loop = is.is_loop;
       both = is.both;
       arises = record { state = there.state; of_wave = there.of_wave; arises = arises };
-      round = stands_round net old new ranks w there.state a ring tags there.of_wave arises;
+      round = stands_round move ranks w there.state a ring tags there.of_wave arises;
     }
 
-fault_of_wave : (net : Network) (old new : Tables) (ranks : List ℕ) (w : ℕ) (fault : Fault) → AreSoundEnds net old new →
-    IsFaultOver net old new (IsStateOfWave (length net) ranks w) fault → IsLoopOfWave net old new ranks w fault
-fault_of_wave net old new ranks w fault ends (missing_in_one {a = a} {u = u} least lacks lowest) =
+fault_of_wave : (move : Migration) (ranks : List ℕ) (w : ℕ) (fault : Fault) → AreSoundEnds move →
+    IsFaultOver move (IsStateOfWave (length move.net) ranks w) fault → IsLoopOfWave move ranks w fault
+fault_of_wave move ranks w fault ends (missing_in_one {a = a} {u = u} least lacks lowest) =
     let first = (ends.first a least.address).forwards u lacks.must in
     let last = (ends.last a least.address).forwards u lacks.must in
     absurd (lacks.lacks (every_phase_steps first last (lacks.state u)))
-fault_of_wave net old new ranks w fault ends (loop_over_all {a = a} {ring = ring} least forwards found tags) =
-    ring_of_wave net old new ranks w a ring found.lowest found.others ends least.address found.first (found_distinct found) tags (found_goes_round found)
+fault_of_wave move ranks w fault ends (loop_over_all {a = a} {ring = ring} least forwards found tags) =
+    ring_of_wave move ranks w a ring found.lowest found.others ends least.address found.first (found_distinct found) tags (found_goes_round found)
 
-pub wave_fault_between_ends : (net : Network) (old new : Tables) (ranks : List ℕ) (w : ℕ) (fault : Fault) → AreSoundEnds net old new →
-    IsWavesFault net old new ranks w fault → IsLoopOfWave net old new ranks w fault
-wave_fault_between_ends net old new ranks w fault ends is = fault_of_wave net old new ranks w fault ends is.here
+pub wave_fault_between_ends : (move : Migration) (ranks : List ℕ) (w : ℕ) (fault : Fault) → AreSoundEnds move →
+    IsWavesFault move ranks w fault → IsLoopOfWave move ranks w fault
+wave_fault_between_ends move ranks w fault ends is = fault_of_wave move ranks w fault ends is.here

@@ -9,8 +9,7 @@ use Rattle.std.proofs.lemmas.List.FromFn.{get_or-range_with_len, length-range_wi
 use Rattle.order_core.specs.Orders.{IsOrder}
 use Rattle.order_core.specs.Rankings.{IsRanking, numbers_below}
 use Rattle.order_core.proofs.Orders.{order_length}
-use Rattle.net_model.specs.Network.{Network}
-use Rattle.igp_theory.specs.Routes.{Tables}
+use Rattle.igp_theory.specs.Migrations.{Migration}
 use Rattle.igp_theory.specs.Waves.{AreSeamlessWaves, HasNoneSeamless, Change, first, second, changed, MayPrecede, IsRun, AreOnes, run_along}
 use Rattle.igp_theory.proofs.FlatOrders.{along_is_run}
 use Rattle.igp_theory.proofs.OnesWaves.{ones_are_waves, ones_in_turn, rank_tells, order_is_seamless}
@@ -112,10 +111,10 @@ order_has_one_run n order ranks run lists ones is =
     (λ c inside. (is.all c).1 ((along.all c).0 inside))
 
 -- where no wave list is seamless, no order is: as a wave list of ones it would be one
-pub none_without_waves : (net : Network) (old new : Tables) → ((ranks : List ℕ) → ¬ AreSeamlessWaves net old new ranks) → HasNoneSeamless net old new
-none_without_waves net old new none = record {
+pub none_without_waves : (move : Migration) → ((ranks : List ℕ) → ¬ AreSeamlessWaves move ranks) → HasNoneSeamless move
+none_without_waves move none = record {
   waves = none;
   orders = λ order seamless.
-      let ones = order_has_ones (length net) order seamless.lists in
-      none ones.0 (order_is_seamless net old new order ones.0 seamless ones.1);
+      let ones = order_has_ones (length move.net) order seamless.lists in
+      none ones.0 (order_is_seamless move order ones.0 seamless ones.1);
 }

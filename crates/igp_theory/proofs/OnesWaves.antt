@@ -6,11 +6,10 @@ use Rattle.std.proofs.lemmas.Bool.{cases_lt, cases_order}
 use Rattle.std.proofs.lemmas.Bool.Decides.{eqb_tells}
 use Rattle.std.proofs.lemmas.List.{get_or_default}
 use Rattle.std.proofs.lemmas.List.Elements.{Contains-get_or}
-use Rattle.net_model.specs.Network.{Network}
 use Rattle.order_core.specs.Orders.{IsOrder}
 use Rattle.order_core.specs.Rankings.{IsRanking, rank_of}
 use Rattle.order_core.proofs.Orders.{order_length}
-use Rattle.igp_theory.specs.Routes.{Tables}
+use Rattle.igp_theory.specs.Migrations.{Migration}
 use Rattle.igp_theory.specs.States.{State, IsSeamless, changes_of, changes_on, phase_after, state_of}
 use Rattle.igp_theory.specs.Waves.{AreSeamlessWaves, IsStateOfWave, AreOnes}
 use Rattle.igp_theory.specs.WaveLaws.{IsStateOfSomeWave}
@@ -171,19 +170,19 @@ alike_order n order ranks w state lists ones of_wave u below =
     ]
 
 -- a seamless order is a seamless wave list of ones
-pub order_is_seamless : (net : Network) (old new : Tables) (order ranks : List ℕ) → IsSeamless net old new order → AreOnes order ranks →
-    AreSeamlessWaves net old new ranks
-order_is_seamless net old new order ranks seamless ones =
-    let waves : IsRanking (length net) ranks = ones_are_waves (length net) order ranks seamless.lists ones in
+pub order_is_seamless : (move : Migration) (order ranks : List ℕ) → IsSeamless move order → AreOnes order ranks →
+    AreSeamlessWaves move ranks
+order_is_seamless move order ranks seamless ones =
+    let waves : IsRanking (length move.net) ranks = ones_are_waves (length move.net) order ranks seamless.lists ones in
     record {
       waves = waves;
-      sound = λ state is. elim (cases_lt 0 (length net)) [
+      sound = λ state is. elim (cases_lt 0 (length move.net)) [
         | inr none ↦ sound_alike (λ u below. absurd (omega (arith, none, below))) (seamless.sound 0 (omega arith))
         | inl some ↦
-            let one : IsStateOfSomeWave (length net) ranks state = state_of_wave (length net) ranks state some waves is in
-            let within = wave_is_place (length net) order ranks one.wave seamless.lists ones one.is_wave in
+            let one : IsStateOfSomeWave (length move.net) ranks state = state_of_wave (length move.net) ranks state some waves is in
+            let within = wave_is_place (length move.net) order ranks one.wave seamless.lists ones one.is_wave in
             let few = changes_to_few (state (get_or order one.wave 0)) in
-            sound_alike (alike_order (length net) order ranks one.wave state seamless.lists ones one.of_wave)
+            sound_alike (alike_order (length move.net) order ranks one.wave state seamless.lists ones one.of_wave)
             (seamless.sound (2 * one.wave + changes_to (state (get_or order one.wave 0))) (omega (arith, within, few)))
       ];
     }

@@ -1,19 +1,19 @@
 -- Tables with the same entries at the routers of the network act alike.
 use Rattle.std.proofs.Common.{ℕ, ◌<◌, ◌↔◌, List, [], ◌∷◌, length}
 use Rattle.net_addr.specs.Addresses.{Block}
-use Rattle.net_model.specs.Network.{Network}
 use Rattle.order_core.specs.declared.turn.Turn.{Turn}
 use Rattle.igp_theory.specs.Forwarding.{Usable, Counts, connected_counts, old_counts, new_counts, Uses, Steps, HasStep}
 use Rattle.igp_theory.specs.Laws.{HaveSameTables}
 use Rattle.igp_theory.specs.Loops.{IsTag, EachToNext, AroundRing, IsLoop, Arises, Fault, IsLive, IsLowestLive, IsLowestLiveHop, IsFoundRing, IsFault}
 use Rattle.igp_theory.specs.Loops.{missing_step, loop_arises, IsFirstFault}
+use Rattle.igp_theory.specs.Migrations.{Migration, migration}
 use Rattle.igp_theory.specs.Routes.{Tables}
 use Rattle.igp_theory.specs.States.{State, StepsIn, Follows, IsSoundAt, IsSound, IsSeamless}
 use Rattle.igp_theory.specs.declared.phase.Phase.{Phase}
 use Rattle.igp_theory.proofs.Tags.{tags_over}
 
-pub same_tables_sym : {net : Network} {old new old' new' : Tables} → HaveSameTables net old new old' new' →
-    HaveSameTables net old' new' old new
+pub same_tables_sym : {move : Migration} {old' new' : Tables} → HaveSameTables move old' new' →
+    HaveSameTables (migration move.net old' new') move.old move.new
 same_tables_sym same = record {
   same_old = λ u p e within. ((same.same_old u p e within).1, (same.same_old u p e within).0);
   same_new = λ u p e within. ((same.same_new u p e within).1, (same.same_new u p e within).0);
@@ -21,8 +21,8 @@ same_tables_sym same = record {
 
 -- Used entries and steps
 
-counts_over : {net : Network} {old new old' new' : Tables} {u d : ℕ} {phase : Phase} {p : Block} {x : Usable} →
-    HaveSameTables net old new old' new' → u < length net → Counts net old new u phase p d x → Counts net old' new' u phase p d x
+counts_over : {move : Migration} {old' new' : Tables} {u d : ℕ} {phase : Phase} {p : Block} {x : Usable} →
+    HaveSameTables move old' new' → u < length move.net → Counts move u phase p d x → Counts (migration move.net old' new') u phase p d x
 counts_over same within (connected_counts is) = connected_counts is
 counts_over {u = u} {p = p} same within (old_counts {e = e} counts c has is set entry) =
     old_counts counts c has is set ((same.same_old u p e within).0 entry)
@@ -30,8 +30,8 @@ counts_over {u = u} {p = p} same within (new_counts {e = e} counts entry) =
     new_counts counts ((same.same_new u p e within).0 entry)
 
 -- the used entries are the same
-pub uses_over : {net : Network} {old new old' new' : Tables} {u a : ℕ} {phase : Phase} {x : Usable} →
-    HaveSameTables net old new old' new' → u < length net → Uses net old new u phase a x → Uses net old' new' u phase a x
+pub uses_over : {move : Migration} {old' new' : Tables} {u a : ℕ} {phase : Phase} {x : Usable} →
+    HaveSameTables move old' new' → u < length move.net → Uses move u phase a x → Uses (migration move.net old' new') u phase a x
 uses_over same within uses = record {
   prefix = uses.prefix;
   distance = uses.distance;
@@ -42,8 +42,8 @@ uses_over same within uses = record {
 }
 
 -- the steps are the same
-pub steps_over : {net : Network} {old new old' new' : Tables} {u a h : ℕ} {phase : Phase} →
-    HaveSameTables net old new old' new' → Steps net old new u phase a h → Steps net old' new' u phase a h
+pub steps_over : {move : Migration} {old' new' : Tables} {u a h : ℕ} {phase : Phase} →
+    HaveSameTables move old' new' → Steps move u phase a h → Steps (migration move.net old' new') u phase a h
 steps_over same steps = record {
   must = steps.must;
   used = steps.used;
@@ -51,8 +51,8 @@ steps_over same steps = record {
   leads = steps.leads;
 }
 
-pub has_step_over : {net : Network} {old new old' new' : Tables} {u a : ℕ} {phase : Phase} →
-    HaveSameTables net old new old' new' → HasStep net old new u phase a → HasStep net old' new' u phase a
+pub has_step_over : {move : Migration} {old' new' : Tables} {u a : ℕ} {phase : Phase} →
+    HaveSameTables move old' new' → HasStep move u phase a → HasStep (migration move.net old' new') u phase a
 has_step_over same has = record { hop = has.hop; steps = steps_over same has.steps }
 
 -- States and orders
@@ -63,8 +63,8 @@ pub follows_over : {step other : ℕ → ℕ → Type 0} → ((u h : ℕ) → st
 follows_over over u [] v follows = follows
 follows_over over u (h ∷ hops) v follows = (over u h follows.0, follows_over over h hops v follows.1)
 
-pub sound_at_over : {net : Network} {old new old' new' : Tables} {state : State} {a : ℕ} →
-    HaveSameTables net old new old' new' → IsSoundAt net old new state a → IsSoundAt net old' new' state a
+pub sound_at_over : {move : Migration} {old' new' : Tables} {state : State} {a : ℕ} →
+    HaveSameTables move old' new' → IsSoundAt move state a → IsSoundAt (migration move.net old' new') state a
 sound_at_over same sound = record {
   forwards = λ u must. has_step_over same (sound.forwards u must);
   returns_never = λ u h hops follows.
@@ -72,13 +72,13 @@ sound_at_over same sound = record {
 }
 
 -- the sound states are the same
-pub sound_over : {net : Network} {old new old' new' : Tables} {state : State} →
-    HaveSameTables net old new old' new' → IsSound net old new state → IsSound net old' new' state
+pub sound_over : {move : Migration} {old' new' : Tables} {state : State} →
+    HaveSameTables move old' new' → IsSound move state → IsSound (migration move.net old' new') state
 sound_over same sound a address = sound_at_over same (sound a address)
 
 -- the seamless orders are the same
-pub seamless_over : {net : Network} {old new old' new' : Tables} {order : List ℕ} →
-    HaveSameTables net old new old' new' → IsSeamless net old new order → IsSeamless net old' new' order
+pub seamless_over : {move : Migration} {old' new' : Tables} {order : List ℕ} →
+    HaveSameTables move old' new' → IsSeamless move order → IsSeamless (migration move.net old' new') order
 seamless_over same seamless = record {
   lists = seamless.lists;
   sound = λ k within. sound_over same (seamless.sound k within);
@@ -97,15 +97,15 @@ pub around_ring_over : {A : Type 0} {R S : A → A → Type 0} → ((r s : A) �
 around_ring_over over [] goes = tt
 around_ring_over over (r ∷ rest) goes = each_to_next_over over r (r ∷ rest) goes
 
-pub tag_over : {net : Network} {old new old' new' : Tables} {a next : ℕ} {r : Turn} →
-    HaveSameTables net old new old' new' → IsTag net old new a r next → IsTag net old' new' a r next
+pub tag_over : {move : Migration} {old' new' : Tables} {a next : ℕ} {r : Turn} →
+    HaveSameTables move old' new' → IsTag move a r next → IsTag (migration move.net old' new') a r next
 tag_over {r = r} same tag = record {
   steps = tags_over r.tag (steps_over same, steps_over (same_tables_sym same)) (steps_over same, steps_over (same_tables_sym same)) tag.steps;
 }
 
 -- the loops of the network are the same
-pub loop_over : {net : Network} {old new old' new' : Tables} {a : ℕ} {ring : List Turn} →
-    HaveSameTables net old new old' new' → IsLoop net old new a ring → IsLoop net old' new' a ring
+pub loop_over : {move : Migration} {old' new' : Tables} {a : ℕ} {ring : List Turn} →
+    HaveSameTables move old' new' → IsLoop move a ring → IsLoop (migration move.net old' new') a ring
 loop_over {ring = ring} same is = record {
   address = is.address;
   some = is.some;
@@ -113,8 +113,8 @@ loop_over {ring = ring} same is = record {
   tags = around_ring_over (λ (r s : Turn). tag_over {next = s.router} {r = r} same) ring is.tags;
 }
 
-pub arises_over : {net : Network} {old new old' new' : Tables} (state : State) (a : ℕ) (ring : List Turn) →
-    HaveSameTables net old new old' new' → Arises net old new state a ring → Arises net old' new' state a ring
+pub arises_over : {move : Migration} {old' new' : Tables} (state : State) (a : ℕ) (ring : List Turn) →
+    HaveSameTables move old' new' → Arises move state a ring → Arises (migration move.net old' new') state a ring
 arises_over state a ring same arises =
     around_ring_over (λ (r s : Turn). steps_over {u = r.router} {a = a} {h = s.router} {phase = state r.router} same) ring arises
 
@@ -174,13 +174,13 @@ found_ring_over same is = record {
 
 -- Faults
 
-same_steps_in : {net : Network} {old new old' new' : Tables} (state : State) (a : ℕ) →
-    HaveSameTables net old new old' new' → SameHops (StepsIn net old new state a) (StepsIn net old' new' state a)
+same_steps_in : {move : Migration} {old' new' : Tables} (state : State) (a : ℕ) →
+    HaveSameTables move old' new' → SameHops (StepsIn move state a) (StepsIn (migration move.net old' new') state a)
 same_steps_in state a same u h = (steps_over same, steps_over (same_tables_sym same))
 
 -- the faults of a state are the same
-pub fault_over : {net : Network} {old new old' new' : Tables} {state : State} {fault : Fault} →
-    HaveSameTables net old new old' new' → IsFault net old new state fault → IsFault net old' new' state fault
+pub fault_over : {move : Migration} {old' new' : Tables} {state : State} {fault : Fault} →
+    HaveSameTables move old' new' → IsFault move state fault → IsFault (migration move.net old' new') state fault
 fault_over same (missing_step address below must lacks lowest) =
     missing_step address (λ b less. sound_at_over same (below b less)) must
     (λ has. lacks (has_step_over (same_tables_sym same) has))
@@ -190,8 +190,8 @@ fault_over {state = state} same (loop_arises {a = a} {ring = ring} address below
     (found_ring_over (same_steps_in state a same) found) (around_ring_over (λ (r s : Turn). tag_over {next = s.router} {r = r} same) ring tags)
 
 -- the first fault of an order is the same
-pub first_fault_over : {net : Network} {old new old' new' : Tables} {order : List ℕ} {k : ℕ} {fault : Fault} →
-    HaveSameTables net old new old' new' → IsFirstFault net old new order k fault → IsFirstFault net old' new' order k fault
+pub first_fault_over : {move : Migration} {old' new' : Tables} {order : List ℕ} {k : ℕ} {fault : Fault} →
+    HaveSameTables move old' new' → IsFirstFault move order k fault → IsFirstFault (migration move.net old' new') order k fault
 first_fault_over same first = record {
   before = λ j less. sound_over same (first.before j less);
   here = fault_over same first.here;

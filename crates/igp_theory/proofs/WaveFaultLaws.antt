@@ -2,12 +2,12 @@
 use Rattle.std.proofs.Common.{◌≡◌, ℕ, ◌^◌, ◌<◌, inl, inr, List, length, refl, sym, subst}
 use Rattle.std.proofs.lemmas.Bool.{cases_order}
 use Rattle.net_addr.specs.Addresses.{Block}
-use Rattle.net_model.specs.Network.{Network}
 use Rattle.order_core.specs.Turns.{routers_of}
 use Rattle.order_core.specs.declared.turn.Turn.{Turn}
 use Rattle.igp_theory.specs.Forwarding.{MustForward, HasStep}
 use Rattle.igp_theory.specs.Laws.{HaveSameTables}
 use Rattle.igp_theory.specs.Loops.{IsFoundRing, Fault, loop, IsFault, missing_step, loop_arises}
+use Rattle.igp_theory.specs.Migrations.{Migration, migration}
 use Rattle.igp_theory.specs.Routes.{Tables}
 use Rattle.igp_theory.specs.States.{State, StepsIn, IsSoundAt, IsSound}
 use Rattle.igp_theory.specs.WaveFaults.{StepsInSome, LacksStep, HasStepsInAll, IsLeastUnsound, IsFaultOver, missing_in_one, loop_over_all, IsWavesFault}
@@ -22,8 +22,8 @@ use Rattle.igp_theory.proofs.Tags.{AreTagged, same_tagged}
 
 -- One fault
 
-least_same : {net : Network} {old new : Tables} {states : State → Type 0} {a b : ℕ} → IsLeastUnsound net old new states a →
-    IsLeastUnsound net old new states b → a ≡ b
+least_same : {move : Migration} {states : State → Type 0} {a b : ℕ} → IsLeastUnsound move states a →
+    IsLeastUnsound move states b → a ≡ b
 least_same {a = a} {b = b} one other = elim (cases_order a b) [
   | inl same ↦ same
   | inr (inl before) ↦ absurd (one.unsound.unsound (other.below a before one.unsound.state one.unsound.among))
@@ -31,12 +31,12 @@ least_same {a = a} {b = b} one other = elim (cases_order a b) [
 ]
 
 -- the lowest-numbered router that lacks a step
-record IsLowestLack (net : Network) (old new : Tables) (states : State → Type 0) (a u : ℕ) : Type 0 where
-  lacks : LacksStep net old new states a u
-  lowest : (v : ℕ) → v < u → MustForward net a v → HasStepsInAll net old new states a v
+record IsLowestLack (move : Migration) (states : State → Type 0) (a u : ℕ) : Type 0 where
+  lacks : LacksStep move states a u
+  lowest : (v : ℕ) → v < u → MustForward move.net a v → HasStepsInAll move states a v
 
-lack_same : {net : Network} {old new : Tables} {states : State → Type 0} {a u v : ℕ} → IsLowestLack net old new states a u →
-    IsLowestLack net old new states a v → u ≡ v
+lack_same : {move : Migration} {states : State → Type 0} {a u v : ℕ} → IsLowestLack move states a u →
+    IsLowestLack move states a v → u ≡ v
 lack_same {u = u} {v = v} one other = elim (cases_order u v) [
   | inl same ↦ same
   | inr (inl before) ↦ absurd (one.lacks.lacks (other.lowest u before one.lacks.must one.lacks.state one.lacks.among))
@@ -44,44 +44,44 @@ lack_same {u = u} {v = v} one other = elim (cases_order u v) [
 ]
 
 -- every router has its steps in all of the states
-abbrev AllForward : Network → Tables → Tables → (State → Type 0) → ℕ → Type 0
-AllForward net old new states a = (v : ℕ) → MustForward net a v → HasStepsInAll net old new states a v
+abbrev AllForward : Migration → (State → Type 0) → ℕ → Type 0
+AllForward move states a = (v : ℕ) → MustForward move.net a v → HasStepsInAll move states a v
 
-none_lacks : {net : Network} {old new : Tables} {states : State → Type 0} {a u : ℕ} → LacksStep net old new states a u →
-    AllForward net old new states a → ⊥
+none_lacks : {move : Migration} {states : State → Type 0} {a u : ℕ} → LacksStep move states a u →
+    AllForward move states a → ⊥
 none_lacks {u = u} lack forwards = lack.lacks (forwards u lack.must lack.state lack.among)
 
 -- a set of states has one fault
-pub fault_over_unique : {net : Network} {old new : Tables} {states : State → Type 0} {fault other : Fault} →
-    IsFaultOver net old new states fault → IsFaultOver net old new states other → fault ≡ other
-fault_over_unique {net} {old} {new} {states} (missing_in_one {a = a} {u = u} least lacks lowest) (missing_in_one {a = b} {u = v} last lack low) =
+pub fault_over_unique : {move : Migration} {states : State → Type 0} {fault other : Fault} →
+    IsFaultOver move states fault → IsFaultOver move states other → fault ≡ other
+fault_over_unique {move} {states} (missing_in_one {a = a} {u = u} least lacks lowest) (missing_in_one {a = b} {u = v} last lack low) =
     let address : a ≡ b = least_same least last in
-    let one : IsLowestLack net old new states a u = record { lacks = lacks; lowest = lowest } in
-    let two : IsLowestLack net old new states b v = record { lacks = lack; lowest = low } in
-    let router : u ≡ v = lack_same one (subst (λ (x : ℕ). IsLowestLack net old new states x v) (sym address) two) in
+    let one : IsLowestLack move states a u = record { lacks = lacks; lowest = lowest } in
+    let two : IsLowestLack move states b v = record { lacks = lack; lowest = low } in
+    let router : u ≡ v = lack_same one (subst (λ (x : ℕ). IsLowestLack move states x v) (sym address) two) in
     cc
-fault_over_unique {net} {old} {new} {states} (missing_in_one {a = a} {u = u} least lacks lowest) (loop_over_all {a = b} last forwards found tags) =
-    absurd (none_lacks lacks (subst (λ (x : ℕ). AllForward net old new states x) (sym (least_same least last)) forwards))
-fault_over_unique {net} {old} {new} {states} (loop_over_all {a = a} least forwards found tags) (missing_in_one {a = b} {u = v} last lack low) =
-    absurd (none_lacks lack (subst (λ (x : ℕ). AllForward net old new states x) (least_same least last) forwards))
-fault_over_unique {net} {old} {new} {states} (loop_over_all {a = a} {ring = one} least _ found tags) (loop_over_all {a = b} {ring = two} last _ finds marks) =
+fault_over_unique {move} {states} (missing_in_one {a = a} {u = u} least lacks lowest) (loop_over_all {a = b} last forwards found tags) =
+    absurd (none_lacks lacks (subst (λ (x : ℕ). AllForward move states x) (sym (least_same least last)) forwards))
+fault_over_unique {move} {states} (loop_over_all {a = a} least forwards found tags) (missing_in_one {a = b} {u = v} last lack low) =
+    absurd (none_lacks lack (subst (λ (x : ℕ). AllForward move states x) (least_same least last) forwards))
+fault_over_unique {move} {states} (loop_over_all {a = a} {ring = one} least _ found tags) (loop_over_all {a = b} {ring = two} last _ finds marks) =
     let address : a ≡ b = least_same least last in
-    let again : IsFoundRing (StepsInSome net old new states a) (length net) (routers_of two) =
-    subst (λ (x : ℕ). IsFoundRing (StepsInSome net old new states x) (length net) (routers_of two)) (sym address) finds in
-    let tagged : AreTagged net old new a two = subst (λ (x : ℕ). AreTagged net old new x two) (sym address) marks in
-    let rings : one ≡ two = same_tagged net old new a one two (found_ring_unique found again) tags tagged in
+    let again : IsFoundRing (StepsInSome move states a) (length move.net) (routers_of two) =
+    subst (λ (x : ℕ). IsFoundRing (StepsInSome move states x) (length move.net) (routers_of two)) (sym address) finds in
+    let tagged : AreTagged move a two = subst (λ (x : ℕ). AreTagged move x two) (sym address) marks in
+    let rings : one ≡ two = same_tagged move a one two (found_ring_unique found again) tags tagged in
     cc
 
 -- the state in which a fault's address is unsound
-fault_over_unsound : {net : Network} {old new : Tables} {states : State → Type 0} {fault : Fault} → IsFaultOver net old new states fault →
-    ((state : State) → states state → IsSound net old new state) → ⊥
+fault_over_unsound : {move : Migration} {states : State → Type 0} {fault : Fault} → IsFaultOver move states fault →
+    ((state : State) → states state → IsSound move state) → ⊥
 fault_over_unsound (missing_in_one {a = a} least lacks lowest) sound =
     least.unsound.unsound (sound least.unsound.state least.unsound.among a least.address)
 fault_over_unsound (loop_over_all {a = a} least forwards found tags) sound =
     least.unsound.unsound (sound least.unsound.state least.unsound.among a least.address)
 
-same_wave : {net : Network} {old new : Tables} {ranks : List ℕ} {w v : ℕ} {fault other : Fault} → IsWavesFault net old new ranks w fault →
-    IsWavesFault net old new ranks v other → w ≡ v
+same_wave : {move : Migration} {ranks : List ℕ} {w v : ℕ} {fault other : Fault} → IsWavesFault move ranks w fault →
+    IsWavesFault move ranks v other → w ≡ v
 same_wave {w = w} {v = v} one other = elim (cases_order w v) [
   | inl same ↦ same
   | inr (inl before) ↦ absurd (fault_over_unsound one.here (other.before w before))
@@ -89,73 +89,73 @@ same_wave {w = w} {v = v} one other = elim (cases_order w v) [
 ]
 
 -- a wave list has one fault
-pub waves_fault_unique : {net : Network} {old new : Tables} {ranks : List ℕ} {w v : ℕ} {fault other : Fault} → IsWavesFault net old new ranks w fault →
-    IsWavesFault net old new ranks v other → (w ≡ v) × (fault ≡ other)
-waves_fault_unique {net} {old} {new} {ranks} {w} {v} {fault} {other} one two =
+pub waves_fault_unique : {move : Migration} {ranks : List ℕ} {w v : ℕ} {fault other : Fault} → IsWavesFault move ranks w fault →
+    IsWavesFault move ranks v other → (w ≡ v) × (fault ≡ other)
+waves_fault_unique {move} {ranks} {w} {v} {fault} {other} one two =
     let wave : w ≡ v = same_wave one two in
-    let here : IsFaultOver net old new (IsStateOfWave (length net) ranks w) other =
-    subst (λ (x : ℕ). IsFaultOver net old new (IsStateOfWave (length net) ranks x) other) (sym wave) two.here in
+    let here : IsFaultOver move (IsStateOfWave (length move.net) ranks w) other =
+    subst (λ (x : ℕ). IsFaultOver move (IsStateOfWave (length move.net) ranks x) other) (sym wave) two.here in
     (wave, fault_over_unique one.here here)
 
 -- a wave list that has a fault isn't seamless
-pub waves_fault_unsound : (net : Network) (old new : Tables) (ranks : List ℕ) (w : ℕ) (fault : Fault) → IsWavesFault net old new ranks w fault →
-    AreSeamlessWaves net old new ranks → ⊥
-waves_fault_unsound net old new ranks w fault is seamless =
+pub waves_fault_unsound : (move : Migration) (ranks : List ℕ) (w : ℕ) (fault : Fault) → IsWavesFault move ranks w fault →
+    AreSeamlessWaves move ranks → ⊥
+waves_fault_unsound move ranks w fault is seamless =
     fault_over_unsound is.here (λ state of_wave. seamless.sound state
-    (wave_state_is_reached (length net) ranks state seamless.waves (record { wave = w; is_wave = is.is_wave; of_wave = of_wave })))
+    (wave_state_is_reached (length move.net) ranks state seamless.waves (record { wave = w; is_wave = is.is_wave; of_wave = of_wave })))
 
 -- A single state
 
-hops_of_one : {net : Network} {old new : Tables} (state : State) (a : ℕ) →
-    SameHops (StepsInSome net old new (λ (other : State). other ≡ state) a) (StepsIn net old new state a)
-hops_of_one {net} {old} {new} state a u h = (
-  λ some. subst (λ (x : State). StepsIn net old new x a u h) some.among some.steps,
+hops_of_one : {move : Migration} (state : State) (a : ℕ) →
+    SameHops (StepsInSome move (λ (other : State). other ≡ state) a) (StepsIn move state a)
+hops_of_one {move} state a u h = (
+  λ some. subst (λ (x : State). StepsIn move x a u h) some.among some.steps,
   λ steps. record { state = state; among = refl; steps = steps },
 )
 
-hops_in_one : {net : Network} {old new : Tables} (state : State) (a : ℕ) →
-    SameHops (StepsIn net old new state a) (StepsInSome net old new (λ (other : State). other ≡ state) a)
-hops_in_one {net} {old} {new} state a u h = (
+hops_in_one : {move : Migration} (state : State) (a : ℕ) →
+    SameHops (StepsIn move state a) (StepsInSome move (λ (other : State). other ≡ state) a)
+hops_in_one {move} state a u h = (
   λ steps. record { state = state; among = refl; steps = steps },
-  λ some. subst (λ (x : State). StepsIn net old new x a u h) some.among some.steps,
+  λ some. subst (λ (x : State). StepsIn move x a u h) some.among some.steps,
 )
 
-pub fault_of_one : (net : Network) (old new : Tables) (state : State) (fault : Fault) →
-    IsFaultOver net old new (λ (other : State). other ≡ state) fault → IsFault net old new state fault
-fault_of_one net old new state fault (missing_in_one {a = a} {u = u} least lacks lowest) =
+pub fault_of_one : (move : Migration) (state : State) (fault : Fault) →
+    IsFaultOver move (λ (other : State). other ≡ state) fault → IsFault move state fault
+fault_of_one move state fault (missing_in_one {a = a} {u = u} least lacks lowest) =
     missing_step least.address (λ b less. least.below b less state refl) lacks.must
-    (subst (λ (x : State). HasStep net old new u (x u) a → ⊥) lacks.among lacks.lacks)
+    (subst (λ (x : State). HasStep move u (x u) a → ⊥) lacks.among lacks.lacks)
     (λ v less must. lowest v less must state refl)
-fault_of_one net old new state fault (loop_over_all {a = a} least forwards found tags) =
+fault_of_one move state fault (loop_over_all {a = a} least forwards found tags) =
     loop_arises least.address (λ b less. least.below b less state refl) (λ v must. forwards v must state refl)
     (found_ring_over (hops_of_one state a) found) tags
 
 -- an address that is unsound in a state and the least such one
-least_of_one : (net : Network) (old new : Tables) (state : State) (a : ℕ) → a < 2 ^ 32 → ((b : ℕ) → b < a → IsSoundAt net old new state b) →
-    (IsSoundAt net old new state a → ⊥) → IsLeastUnsound net old new (λ (other : State). other ≡ state) a
-least_of_one net old new state a address below unsound = record {
+least_of_one : (move : Migration) (state : State) (a : ℕ) → a < 2 ^ 32 → ((b : ℕ) → b < a → IsSoundAt move state b) →
+    (IsSoundAt move state a → ⊥) → IsLeastUnsound move (λ (other : State). other ≡ state) a
+least_of_one move state a address below unsound = record {
   address = address;
   unsound = record { state = state; among = refl; unsound = unsound };
-  below = λ b less other same. subst (λ (x : State). IsSoundAt net old new x b) (sym same) (below b less);
+  below = λ b less other same. subst (λ (x : State). IsSoundAt move x b) (sym same) (below b less);
 }
 
-pub fault_in_one : (net : Network) (old new : Tables) (state : State) (fault : Fault) →
-    IsFault net old new state fault → IsFaultOver net old new (λ (other : State). other ≡ state) fault
-fault_in_one net old new state fault (missing_step {a = a} {u = u} address below must lacks lowest) =
-    missing_in_one (least_of_one net old new state a address below (λ sound. lacks (sound.forwards u must)))
+pub fault_in_one : (move : Migration) (state : State) (fault : Fault) →
+    IsFault move state fault → IsFaultOver move (λ (other : State). other ≡ state) fault
+fault_in_one move state fault (missing_step {a = a} {u = u} address below must lacks lowest) =
+    missing_in_one (least_of_one move state a address below (λ sound. lacks (sound.forwards u must)))
     (record { must = must; state = state; among = refl; lacks = lacks })
-    (λ v less needs other same. subst (λ (x : State). HasStep net old new v (x v) a) (sym same) (lowest v less needs))
-fault_in_one net old new state fault (loop_arises {a = a} {ring = ring} address below forwards found tags) =
-    let is : IsFault net old new state (loop a ring) = loop_arises address below forwards found tags in
-    loop_over_all (least_of_one net old new state a address below (fault_is_unsound is))
-    (λ v must other same. subst (λ (x : State). HasStep net old new v (x v) a) (sym same) (forwards v must))
+    (λ v less needs other same. subst (λ (x : State). HasStep move v (x v) a) (sym same) (lowest v less needs))
+fault_in_one move state fault (loop_arises {a = a} {ring = ring} address below forwards found tags) =
+    let is : IsFault move state (loop a ring) = loop_arises address below forwards found tags in
+    loop_over_all (least_of_one move state a address below (fault_is_unsound is))
+    (λ v must other same. subst (λ (x : State). HasStep move v (x v) a) (sym same) (forwards v must))
     (found_ring_over (hops_in_one state a) found) tags
 
 -- Tables with the same entries
 
-pub delivers_over : {net : Network} {old new old' new' : Tables} {state : State} {a : ℕ} {p : Block} → HaveSameTables net old new old' new' →
-    Delivers net old new state a p → Delivers net old' new' state a p
-delivers_over {net} {old} {new} {old'} {new'} {state} {a} same is = record {
+pub delivers_over : {move : Migration} {old' new' : Tables} {state : State} {a : ℕ} {p : Block} → HaveSameTables move old' new' →
+    Delivers move state a p → Delivers (migration move.net old' new') state a p
+delivers_over {move} {old'} {new'} {state} {a} same is = record {
   short = λ u v hops below follows. is.short u v hops below (follows_over (λ w h. steps_over (same_tables_sym same)) u hops v follows);
   onward = λ u v hops below follows. elim (is.onward u v hops below (follows_over (λ w h. steps_over (same_tables_sym same)) u hops v follows)) [
     | inl reached ↦ inl reached
@@ -163,19 +163,19 @@ delivers_over {net} {old} {new} {old'} {new'} {state} {a} same is = record {
   ];
 }
 
-pub seamless_waves_over : {net : Network} {old new old' new' : Tables} {ranks : List ℕ} → HaveSameTables net old new old' new' →
-    AreSeamlessWaves net old new ranks → AreSeamlessWaves net old' new' ranks
+pub seamless_waves_over : {move : Migration} {old' new' : Tables} {ranks : List ℕ} → HaveSameTables move old' new' →
+    AreSeamlessWaves move ranks → AreSeamlessWaves (migration move.net old' new') ranks
 seamless_waves_over same seamless = record { waves = seamless.waves; sound = λ state is. sound_over same (seamless.sound state is) }
 
-some_steps_over : {net : Network} {old new old' new' : Tables} {states : State → Type 0} (a : ℕ) → HaveSameTables net old new old' new' →
-    SameHops (StepsInSome net old new states a) (StepsInSome net old' new' states a)
+some_steps_over : {move : Migration} {old' new' : Tables} {states : State → Type 0} (a : ℕ) → HaveSameTables move old' new' →
+    SameHops (StepsInSome move states a) (StepsInSome (migration move.net old' new') states a)
 some_steps_over a same u h = (
   λ some. record { state = some.state; among = some.among; steps = steps_over same some.steps },
   λ some. record { state = some.state; among = some.among; steps = steps_over (same_tables_sym same) some.steps },
 )
 
-least_over : {net : Network} {old new old' new' : Tables} {states : State → Type 0} {a : ℕ} → HaveSameTables net old new old' new' →
-    IsLeastUnsound net old new states a → IsLeastUnsound net old' new' states a
+least_over : {move : Migration} {old' new' : Tables} {states : State → Type 0} {a : ℕ} → HaveSameTables move old' new' →
+    IsLeastUnsound move states a → IsLeastUnsound (migration move.net old' new') states a
 least_over same least = record {
   address = least.address;
   unsound = record {
@@ -186,8 +186,8 @@ least_over same least = record {
   below = λ b less state among. sound_at_over same (least.below b less state among);
 }
 
-pub fault_over_tables : {net : Network} {old new old' new' : Tables} {states : State → Type 0} {fault : Fault} → HaveSameTables net old new old' new' →
-    IsFaultOver net old new states fault → IsFaultOver net old' new' states fault
+pub fault_over_tables : {move : Migration} {old' new' : Tables} {states : State → Type 0} {fault : Fault} → HaveSameTables move old' new' →
+    IsFaultOver move states fault → IsFaultOver (migration move.net old' new') states fault
 fault_over_tables same (missing_in_one least lacks lowest) =
     missing_in_one (least_over same least)
     (record {
@@ -201,8 +201,8 @@ fault_over_tables same (loop_over_all {a = a} {ring = ring} least forwards found
     loop_over_all (least_over same least) (λ v must state among. has_step_over same (forwards v must state among))
     (found_ring_over (some_steps_over a same) found) (around_ring_over (λ (r s : Turn). tag_over {next = s.router} {r = r} same) ring tags)
 
-pub waves_fault_over : {net : Network} {old new old' new' : Tables} {ranks : List ℕ} {w : ℕ} {fault : Fault} → HaveSameTables net old new old' new' →
-    IsWavesFault net old new ranks w fault → IsWavesFault net old' new' ranks w fault
+pub waves_fault_over : {move : Migration} {old' new' : Tables} {ranks : List ℕ} {w : ℕ} {fault : Fault} → HaveSameTables move old' new' →
+    IsWavesFault move ranks w fault → IsWavesFault (migration move.net old' new') ranks w fault
 waves_fault_over same is = record {
   is_wave = is.is_wave;
   before = λ v less state of_wave. sound_over same (is.before v less state of_wave);

@@ -1,4 +1,4 @@
--- Forwarding by longest match and administrative distance, over the network and any two tables.
+-- Forwarding by longest match and administrative distance, over a migration.
 use Rattle.std.specs.Prelude.{◌≡◌, ◌≢◌, ℕ, ◌<◌, ◌≤◌, ◌⊎◌, length, Some, IsTrue, IsSome}
 use Rattle.net_addr.specs.Addresses.{Block, ContainsAddress}
 use Rattle.net_addr.specs.LongestMatches.{IsLongestMatch}
@@ -7,7 +7,8 @@ use Rattle.net_model.specs.Network.{Network, HasConfiguration, UpInterface, Conn
 use Rattle.net_model.specs.declared.bounds.TheConstants.{ISIS_DISTANCE, MOST_DISTANCE}
 use Rattle.net_model.specs.declared.interface.Interface.{Interface}
 use Rattle.route_core.specs.declared.entry.Entry.{Entry}
-use Rattle.igp_theory.specs.Routes.{Tables, EntryLeadsTo}
+use Rattle.igp_theory.specs.Migrations.{Migration}
+use Rattle.igp_theory.specs.Routes.{EntryLeadsTo}
 use Rattle.igp_theory.specs.declared.phase.Phase.{Phase}
 use Rattle.igp_theory.specs.declared.phase.Phase.TheVariants.{Old, Middle, New}
 
@@ -47,21 +48,21 @@ NewCounts New = Unit {0}
 
 -- at router u in a phase this entry for p counts, at this distance: a connected prefix at 0, the old
 -- table at the router's OSPF distance unless that is the greatest, the new table at that of IS-IS
-pub data Counts (net : Network) (old new : Tables) (u : ℕ) (phase : Phase) (p : Block) : ℕ → Usable → Type 0 where
-  connected_counts : Connected net u p → Counts net old new u phase p 0 connected
-  old_counts : {distance : ℕ} {e : Entry} → OldCounts phase → (c : Configuration) → HasConfiguration net u c →
-      c.distances.ospf ≡ distance → distance ≢ MOST_DISTANCE → old u p e → Counts net old new u phase p distance (of_old e)
-  new_counts : {e : Entry} → NewCounts phase → new u p e → Counts net old new u phase p ISIS_DISTANCE (of_new e)
+pub data Counts (move : Migration) (u : ℕ) (phase : Phase) (p : Block) : ℕ → Usable → Type 0 where
+  connected_counts : Connected move.net u p → Counts move u phase p 0 connected
+  old_counts : {distance : ℕ} {e : Entry} → OldCounts phase → (c : Configuration) → HasConfiguration move.net u c →
+      c.distances.ospf ≡ distance → distance ≢ MOST_DISTANCE → move.old u p e → Counts move u phase p distance (of_old e)
+  new_counts : {e : Entry} → NewCounts phase → move.new u p e → Counts move u phase p ISIS_DISTANCE (of_new e)
 
 -- the used entry of an address: of the entries that count and contain it the longest, and of these
 -- the one of lowest distance
-pub record Uses (net : Network) (old new : Tables) (u : ℕ) (phase : Phase) (a : ℕ) (used : Usable) : Type 0 where
+pub record Uses (move : Migration) (u : ℕ) (phase : Phase) (a : ℕ) (used : Usable) : Type 0 where
   pub prefix : Block
   pub distance : ℕ
-  pub counts : Counts net old new u phase prefix distance used
+  pub counts : Counts move u phase prefix distance used
   pub contains : ContainsAddress prefix a
-  pub longest : (q : Block) (d : ℕ) (other : Usable) → Counts net old new u phase q d other → ContainsAddress q a → q.len ≤ prefix.len
-  pub lowest : (q : Block) (d : ℕ) (other : Usable) → Counts net old new u phase q d other → ContainsAddress q a →
+  pub longest : (q : Block) (d : ℕ) (other : Usable) → Counts move u phase q d other → ContainsAddress q a → q.len ≤ prefix.len
+  pub lowest : (q : Block) (d : ℕ) (other : Usable) → Counts move u phase q d other → ContainsAddress q a →
       q.len ≡ prefix.len → distance ≤ d
 
 -- Steps
@@ -80,13 +81,13 @@ pub record MustForward (net : Network) (a u : ℕ) : Type 0 where
   pub away : Connected net u target → ⊥
 
 -- such a router steps to each hop of its used entry
-pub record Steps (net : Network) (old new : Tables) (u : ℕ) (phase : Phase) (a h : ℕ) : Type 0 where
-  pub must : MustForward net a u
+pub record Steps (move : Migration) (u : ℕ) (phase : Phase) (a h : ℕ) : Type 0 where
+  pub must : MustForward move.net a u
   pub used : Usable
-  pub uses : Uses net old new u phase a used
+  pub uses : Uses move u phase a used
   pub leads : LeadsTo used h
 
 -- router u has a step for a
-pub record HasStep (net : Network) (old new : Tables) (u : ℕ) (phase : Phase) (a : ℕ) : Type 0 where
+pub record HasStep (move : Migration) (u : ℕ) (phase : Phase) (a : ℕ) : Type 0 where
   pub hop : ℕ
-  pub steps : Steps net old new u phase a hop
+  pub steps : Steps move u phase a hop

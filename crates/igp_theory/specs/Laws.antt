@@ -11,6 +11,7 @@ use Rattle.route_core.specs.declared.entry.Entry.TheVariants.{Discard}
 use Rattle.order_core.specs.declared.turn.Turn.{Turn}
 use Rattle.igp_theory.specs.Forwarding.{Usable, Uses, Steps}
 use Rattle.igp_theory.specs.Loops.{IsLoop, Arises, Fault, missing, loop, IsFault, IsFirstFault}
+use Rattle.igp_theory.specs.Migrations.{Migration, migration}
 use Rattle.igp_theory.specs.Routes.{Tables, EntryLeadsTo, HaveSameEntries}
 use Rattle.igp_theory.specs.States.{State, IsSoundAt, IsSound, IsSeamless}
 use Rattle.igp_theory.specs.declared.phase.Phase.{Phase}
@@ -114,57 +115,57 @@ IsisEntriesForward =
 -- Tables with the same entries
 
 -- at the routers of the network two pairs of tables have the same entries
-pub record HaveSameTables (net : Network) (old new other_old other_new : Tables) : Type 0 where
-  pub same_old : HaveSameEntries net old other_old
-  pub same_new : HaveSameEntries net new other_new
+pub record HaveSameTables (move : Migration) (other_old other_new : Tables) : Type 0 where
+  pub same_old : HaveSameEntries move.net move.old other_old
+  pub same_new : HaveSameEntries move.net move.new other_new
 
 -- then each router uses for an address the same entry
-abbrev pub SameUsedEntries : Tables → Tables → Tables → Tables → Type 0
-SameUsedEntries old new other_old other_new =
-    (net : Network) (u a : ℕ) (phase : Phase) (used : Usable) → HaveSameTables net old new other_old other_new →
-    u < length net → Uses net old new u phase a used ↔ Uses net other_old other_new u phase a used
+abbrev pub SameUsedEntries : Migration → Tables → Tables → Type 0
+SameUsedEntries move other_old other_new =
+    (u a : ℕ) (phase : Phase) (used : Usable) → HaveSameTables move other_old other_new →
+    u < length move.net → Uses move u phase a used ↔ Uses (migration move.net other_old other_new) u phase a used
 
 -- and steps to the same hops
-abbrev pub SameSteps : Tables → Tables → Tables → Tables → Type 0
-SameSteps old new other_old other_new =
-    (net : Network) (u a h : ℕ) (phase : Phase) → HaveSameTables net old new other_old other_new →
-    Steps net old new u phase a h ↔ Steps net other_old other_new u phase a h
+abbrev pub SameSteps : Migration → Tables → Tables → Type 0
+SameSteps move other_old other_new =
+    (u a h : ℕ) (phase : Phase) → HaveSameTables move other_old other_new →
+    Steps move u phase a h ↔ Steps (migration move.net other_old other_new) u phase a h
 
 -- the same states are sound
-abbrev pub SameSoundStates : Tables → Tables → Tables → Tables → Type 0
-SameSoundStates old new other_old other_new =
-    (net : Network) (state : State) → HaveSameTables net old new other_old other_new →
-    IsSound net old new state ↔ IsSound net other_old other_new state
+abbrev pub SameSoundStates : Migration → Tables → Tables → Type 0
+SameSoundStates move other_old other_new =
+    (state : State) → HaveSameTables move other_old other_new →
+    IsSound move state ↔ IsSound (migration move.net other_old other_new) state
 
 -- the same orders are seamless
-abbrev pub SameSeamlessOrders : Tables → Tables → Tables → Tables → Type 0
-SameSeamlessOrders old new other_old other_new =
-    (net : Network) (order : List ℕ) → HaveSameTables net old new other_old other_new →
-    IsSeamless net old new order ↔ IsSeamless net other_old other_new order
+abbrev pub SameSeamlessOrders : Migration → Tables → Tables → Type 0
+SameSeamlessOrders move other_old other_new =
+    (order : List ℕ) → HaveSameTables move other_old other_new →
+    IsSeamless move order ↔ IsSeamless (migration move.net other_old other_new) order
 
 -- the network has the same loops
-abbrev pub SameLoops : Tables → Tables → Tables → Tables → Type 0
-SameLoops old new other_old other_new =
-    (net : Network) (a : ℕ) (ring : List Turn) → HaveSameTables net old new other_old other_new →
-    IsLoop net old new a ring ↔ IsLoop net other_old other_new a ring
+abbrev pub SameLoops : Migration → Tables → Tables → Type 0
+SameLoops move other_old other_new =
+    (a : ℕ) (ring : List Turn) → HaveSameTables move other_old other_new →
+    IsLoop move a ring ↔ IsLoop (migration move.net other_old other_new) a ring
 
 -- the same loops arise in a state
-abbrev pub SameArisingLoops : Tables → Tables → Tables → Tables → Type 0
-SameArisingLoops old new other_old other_new =
-    (net : Network) (state : State) (a : ℕ) (ring : List Turn) → HaveSameTables net old new other_old other_new →
-    Arises net old new state a ring ↔ Arises net other_old other_new state a ring
+abbrev pub SameArisingLoops : Migration → Tables → Tables → Type 0
+SameArisingLoops move other_old other_new =
+    (state : State) (a : ℕ) (ring : List Turn) → HaveSameTables move other_old other_new →
+    Arises move state a ring ↔ Arises (migration move.net other_old other_new) state a ring
 
 -- a state has the same faults
-abbrev pub SameFaults : Tables → Tables → Tables → Tables → Type 0
-SameFaults old new other_old other_new =
-    (net : Network) (state : State) (fault : Fault) → HaveSameTables net old new other_old other_new →
-    IsFault net old new state fault ↔ IsFault net other_old other_new state fault
+abbrev pub SameFaults : Migration → Tables → Tables → Type 0
+SameFaults move other_old other_new =
+    (state : State) (fault : Fault) → HaveSameTables move other_old other_new →
+    IsFault move state fault ↔ IsFault (migration move.net other_old other_new) state fault
 
 -- an order has the same first fault
-abbrev pub SameFirstFaults : Tables → Tables → Tables → Tables → Type 0
-SameFirstFaults old new other_old other_new =
-    (net : Network) (order : List ℕ) (k : ℕ) (fault : Fault) → HaveSameTables net old new other_old other_new →
-    IsFirstFault net old new order k fault ↔ IsFirstFault net other_old other_new order k fault
+abbrev pub SameFirstFaults : Migration → Tables → Tables → Type 0
+SameFirstFaults move other_old other_new =
+    (order : List ℕ) (k : ℕ) (fault : Fault) → HaveSameTables move other_old other_new →
+    IsFirstFault move order k fault ↔ IsFirstFault (migration move.net other_old other_new) order k fault
 
 -- Faults
 
@@ -174,26 +175,26 @@ fault_address (missing a u) = a
 fault_address (loop a ring) = a
 
 -- a state that has a fault isn't sound for the fault's address, and so isn't sound
-abbrev pub FaultsAreUnsound : Tables → Tables → Type 0
-FaultsAreUnsound old new =
-    (net : Network) (state : State) (fault : Fault) → IsFault net old new state fault →
-    (IsSoundAt net old new state (fault_address fault) → ⊥) × (IsSound net old new state → ⊥)
+abbrev pub FaultsAreUnsound : Migration → Type 0
+FaultsAreUnsound move =
+    (state : State) (fault : Fault) → IsFault move state fault →
+    (IsSoundAt move state (fault_address fault) → ⊥) × (IsSound move state → ⊥)
 
 -- an order that has a first fault isn't seamless. The number of the fault isn't bounded here: once all
 -- changes are made the state stays the last one
-abbrev pub FirstFaultsAreUnsound : Tables → Tables → Type 0
-FirstFaultsAreUnsound old new =
-    (net : Network) (order : List ℕ) (k : ℕ) (fault : Fault) → IsFirstFault net old new order k fault →
-    IsSeamless net old new order → ⊥
+abbrev pub FirstFaultsAreUnsound : Migration → Type 0
+FirstFaultsAreUnsound move =
+    (order : List ℕ) (k : ℕ) (fault : Fault) → IsFirstFault move order k fault →
+    IsSeamless move order → ⊥
 
 -- a state has at most one fault
-abbrev pub FaultsAreUnique : Tables → Tables → Type 0
-FaultsAreUnique old new =
-    (net : Network) (state : State) (fault other : Fault) →
-    IsFault net old new state fault → IsFault net old new state other → fault ≡ other
+abbrev pub FaultsAreUnique : Migration → Type 0
+FaultsAreUnique move =
+    (state : State) (fault other : Fault) →
+    IsFault move state fault → IsFault move state other → fault ≡ other
 
 -- an order has at most one first fault: one number and one fault
-abbrev pub FirstFaultsAreUnique : Tables → Tables → Type 0
-FirstFaultsAreUnique old new =
-    (net : Network) (order : List ℕ) (k j : ℕ) (fault other : Fault) →
-    IsFirstFault net old new order k fault → IsFirstFault net old new order j other → (k ≡ j) × (fault ≡ other)
+abbrev pub FirstFaultsAreUnique : Migration → Type 0
+FirstFaultsAreUnique move =
+    (order : List ℕ) (k j : ℕ) (fault other : Fault) →
+    IsFirstFault move order k fault → IsFirstFault move order j other → (k ≡ j) × (fault ≡ other)

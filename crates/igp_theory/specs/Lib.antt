@@ -8,6 +8,7 @@ pub use Rattle.order_core.specs.Orders
 pub use Rattle.order_core.specs.Rankings
 pub use Rattle.order_core.specs.Turns
 pub mod Routes
+pub mod Migrations
 pub mod Ospf
 pub mod Isis
 pub mod Forwarding

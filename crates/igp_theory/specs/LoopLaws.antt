@@ -1,11 +1,10 @@
 -- What the laws of loops say: state by state, and wave by wave (Vanbever et al., SIGCOMM 2011).
 use Rattle.std.specs.Prelude.{◌≡◌, ℕ, ◌≤◌, ◌↔◌, ◌⊎◌, List, ◌∷◌, length, Contains}
-use Rattle.net_model.specs.Network.{Network}
 use Rattle.order_core.specs.Rankings.{IsRanking, rank_of}
 use Rattle.order_core.specs.Turns.{old_routers, new_routers, HasBothTags, RanksSomeOldFirst}
 use Rattle.order_core.specs.declared.turn.Turn.{Turn}
 use Rattle.igp_theory.specs.Loops.{IsLoop, Arises, Fault, loop, IsFault}
-use Rattle.igp_theory.specs.Routes.{Tables}
+use Rattle.igp_theory.specs.Migrations.{Migration}
 use Rattle.igp_theory.specs.States.{State, Follows, IsSound, all_old, all_new}
 use Rattle.igp_theory.specs.WaveFaults.{StepsInSome, IsUnsoundInSome, IsWavesFault}
 use Rattle.igp_theory.specs.Waves.{AreSeamlessWaves, IsStateOfWave}
@@ -19,56 +18,56 @@ pub record AgreesWithTags (state : State) (ring : List Turn) : Type 0 where
   pub new : (u : ℕ) → Contains (new_routers ring) u → state u ≡ New
 
 -- there the loop arises
-abbrev pub LoopsArise : Tables → Tables → Type 0
-LoopsArise old new =
-    (net : Network) (state : State) (a : ℕ) (ring : List Turn) → IsLoop net old new a ring → AgreesWithTags state ring →
-    Arises net old new state a ring
+abbrev pub LoopsArise : Migration → Type 0
+LoopsArise move =
+    (state : State) (a : ℕ) (ring : List Turn) → IsLoop move a ring → AgreesWithTags state ring →
+    Arises move state a ring
 
 -- a state in which a loop arises isn't sound
-abbrev pub ArisingLoopsAreUnsound : Tables → Tables → Type 0
-ArisingLoopsAreUnsound old new =
-    (net : Network) (state : State) (a : ℕ) (ring : List Turn) → IsLoop net old new a ring → Arises net old new state a ring →
-    IsSound net old new state → ⊥
+abbrev pub ArisingLoopsAreUnsound : Migration → Type 0
+ArisingLoopsAreUnsound move =
+    (state : State) (a : ℕ) (ring : List Turn) → IsLoop move a ring → Arises move state a ring →
+    IsSound move state → ⊥
 
 -- the ends are sound
-pub record AreSoundEnds (net : Network) (old new : Tables) : Type 0 where
-  pub first : IsSound net old new all_old
-  pub last : IsSound net old new all_new
+pub record AreSoundEnds (move : Migration) : Type 0 where
+  pub first : IsSound move all_old
+  pub last : IsSound move all_new
 
 -- a loop of the network that arises in a state, with a turn tagged Old and one tagged New: each of its
 -- routers tagged Old is in Old or Middle there, and each tagged New in Middle or New
-pub record IsLoopOfState (net : Network) (old new : Tables) (state : State) (a : ℕ) (ring : List Turn) : Type 0 where
-  pub is_loop : IsLoop net old new a ring
-  pub arises : Arises net old new state a ring
+pub record IsLoopOfState (move : Migration) (state : State) (a : ℕ) (ring : List Turn) : Type 0 where
+  pub is_loop : IsLoop move a ring
+  pub arises : Arises move state a ring
   pub both : HasBothTags ring
   pub old_early : (u : ℕ) → Contains (old_routers ring) u → (state u ≡ Old) ⊎ (state u ≡ Middle)
   pub new_late : (u : ℕ) → Contains (new_routers ring) u → (state u ≡ Middle) ⊎ (state u ≡ New)
 
 -- a fault is such a loop, and no missing step
-pub record IsLoopFault (net : Network) (old new : Tables) (state : State) (fault : Fault) : Type 0 where
+pub record IsLoopFault (move : Migration) (state : State) (fault : Fault) : Type 0 where
   pub address : ℕ
   pub ring : List Turn
   pub is : fault ≡ loop address ring
-  pub of_state : IsLoopOfState net old new state address ring
+  pub of_state : IsLoopOfState move state address ring
 
 -- between sound ends the fault of an unsound state is a loop that arises there, with both tags
-abbrev pub FaultsBetweenSoundEndsAreLoops : Tables → Tables → Type 0
-FaultsBetweenSoundEndsAreLoops old new =
-    (net : Network) (state : State) (fault : Fault) → AreSoundEnds net old new → IsFault net old new state fault →
-    IsLoopFault net old new state fault
+abbrev pub FaultsBetweenSoundEndsAreLoops : Migration → Type 0
+FaultsBetweenSoundEndsAreLoops move =
+    (state : State) (fault : Fault) → AreSoundEnds move → IsFault move state fault →
+    IsLoopFault move state fault
 
 -- between sound ends every loop of the network has both tags
-abbrev pub LoopsBetweenSoundEndsHaveBothTags : Tables → Tables → Type 0
-LoopsBetweenSoundEndsHaveBothTags old new =
-    (net : Network) (a : ℕ) (ring : List Turn) → AreSoundEnds net old new → IsLoop net old new a ring → HasBothTags ring
+abbrev pub LoopsBetweenSoundEndsHaveBothTags : Migration → Type 0
+LoopsBetweenSoundEndsHaveBothTags move =
+    (a : ℕ) (ring : List Turn) → AreSoundEnds move → IsLoop move a ring → HasBothTags ring
 
 -- Wave by wave
 
 -- a loop arises in a state of wave w
-pub record ArisesInWave (net : Network) (old new : Tables) (ranks : List ℕ) (w a : ℕ) (ring : List Turn) : Type 0 where
+pub record ArisesInWave (move : Migration) (ranks : List ℕ) (w a : ℕ) (ring : List Turn) : Type 0 where
   pub state : State
-  pub of_wave : IsStateOfWave (length net) ranks w state
-  pub arises : Arises net old new state a ring
+  pub of_wave : IsStateOfWave (length move.net) ranks w state
+  pub arises : Arises move state a ring
 
 -- the routers tagged New stand in waves up to w, and those tagged Old in waves from w on
 pub record StandsRoundWave (ranks : List ℕ) (w : ℕ) (ring : List Turn) : Type 0 where
@@ -76,49 +75,49 @@ pub record StandsRoundWave (ranks : List ℕ) (w : ℕ) (ring : List Turn) : Typ
   pub old : (u : ℕ) → Contains (old_routers ring) u → w ≤ rank_of ranks u
 
 -- a loop arises in a state of wave w exactly there
-abbrev pub LoopsAriseInWaves : Tables → Tables → Type 0
-LoopsAriseInWaves old new =
-    (net : Network) (ranks : List ℕ) (w a : ℕ) (ring : List Turn) → IsLoop net old new a ring →
-    ArisesInWave net old new ranks w a ring ↔ StandsRoundWave ranks w ring
+abbrev pub LoopsAriseInWaves : Migration → Type 0
+LoopsAriseInWaves move =
+    (ranks : List ℕ) (w a : ℕ) (ring : List Turn) → IsLoop move a ring →
+    ArisesInWave move ranks w a ring ↔ StandsRoundWave ranks w ring
 
 -- over the states of wave w a router may have hops of both phases. Where a list of steps over all these
 -- hops returns to its first router, some state of w is unsound for the address: the list contains a ring of
 -- distinct routers, and each of them keeps one phase that makes its step
-abbrev pub ReturnsInWavesAreUnsound : Tables → Tables → Type 0
-ReturnsInWavesAreUnsound old new =
-    (net : Network) (ranks : List ℕ) (w a u h : ℕ) (hops : List ℕ) →
-    Follows (StepsInSome net old new (IsStateOfWave (length net) ranks w) a) u (h ∷ hops) u →
-    IsUnsoundInSome net old new (IsStateOfWave (length net) ranks w) a
+abbrev pub ReturnsInWavesAreUnsound : Migration → Type 0
+ReturnsInWavesAreUnsound move =
+    (ranks : List ℕ) (w a u h : ℕ) (hops : List ℕ) →
+    Follows (StepsInSome move (IsStateOfWave (length move.net) ranks w) a) u (h ∷ hops) u →
+    IsUnsoundInSome move (IsStateOfWave (length move.net) ranks w) a
 
 -- a wave list puts some router tagged Old of each loop with both tags in an earlier wave than some router tagged New
-abbrev pub PutsSomeOldFirstInEach : Network → Tables → Tables → List ℕ → Type 0
-PutsSomeOldFirstInEach net old new ranks =
-    (a : ℕ) (ring : List Turn) → IsLoop net old new a ring → HasBothTags ring → RanksSomeOldFirst ranks ring
+abbrev pub PutsSomeOldFirstInEach : Migration → List ℕ → Type 0
+PutsSomeOldFirstInEach move ranks =
+    (a : ℕ) (ring : List Turn) → IsLoop move a ring → HasBothTags ring → RanksSomeOldFirst ranks ring
 
 -- whatever the ends, a wave list that is seamless does so
-abbrev pub SeamlessWavesPutOldFirst : Tables → Tables → Type 0
-SeamlessWavesPutOldFirst old new =
-    (net : Network) (ranks : List ℕ) → AreSeamlessWaves net old new ranks → PutsSomeOldFirstInEach net old new ranks
+abbrev pub SeamlessWavesPutOldFirst : Migration → Type 0
+SeamlessWavesPutOldFirst move =
+    (ranks : List ℕ) → AreSeamlessWaves move ranks → PutsSomeOldFirstInEach move ranks
 
 -- between sound ends a wave list is seamless exactly where it does so
-abbrev pub WavesAreSeamlessByLoops : Tables → Tables → Type 0
-WavesAreSeamlessByLoops old new =
-    (net : Network) (ranks : List ℕ) → AreSoundEnds net old new → IsRanking (length net) ranks →
-    AreSeamlessWaves net old new ranks ↔ PutsSomeOldFirstInEach net old new ranks
+abbrev pub WavesAreSeamlessByLoops : Migration → Type 0
+WavesAreSeamlessByLoops move =
+    (ranks : List ℕ) → AreSoundEnds move → IsRanking (length move.net) ranks →
+    AreSeamlessWaves move ranks ↔ PutsSomeOldFirstInEach move ranks
 
 -- the fault of a wave is a loop of the network with both tags, and no missing step; it arises in a state of
 -- the wave, and stands round it
-pub record IsLoopOfWave (net : Network) (old new : Tables) (ranks : List ℕ) (w : ℕ) (fault : Fault) : Type 0 where
+pub record IsLoopOfWave (move : Migration) (ranks : List ℕ) (w : ℕ) (fault : Fault) : Type 0 where
   pub address : ℕ
   pub ring : List Turn
   pub is : fault ≡ loop address ring
-  pub is_loop : IsLoop net old new address ring
+  pub is_loop : IsLoop move address ring
   pub both : HasBothTags ring
-  pub arises : ArisesInWave net old new ranks w address ring
+  pub arises : ArisesInWave move ranks w address ring
   pub round : StandsRoundWave ranks w ring
 
 -- between sound ends the fault of a wave list is such a loop
-abbrev pub WaveFaultsBetweenSoundEndsAreLoops : Tables → Tables → Type 0
-WaveFaultsBetweenSoundEndsAreLoops old new =
-    (net : Network) (ranks : List ℕ) (w : ℕ) (fault : Fault) → AreSoundEnds net old new →
-    IsWavesFault net old new ranks w fault → IsLoopOfWave net old new ranks w fault
+abbrev pub WaveFaultsBetweenSoundEndsAreLoops : Migration → Type 0
+WaveFaultsBetweenSoundEndsAreLoops move =
+    (ranks : List ℕ) (w : ℕ) (fault : Fault) → AreSoundEnds move →
+    IsWavesFault move ranks w fault → IsLoopOfWave move ranks w fault

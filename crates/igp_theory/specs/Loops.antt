@@ -1,12 +1,11 @@
 -- Loops of the network, and the fault of an unsound state (Vanbever et al., SIGCOMM 2011).
 use Rattle.std.specs.Prelude.{◌≡◌, ◌≢◌, ℕ, ◌^◌, ◌<◌, ◌≤◌, List, [], ◌∷◌, ◌++◌, length, All, AllPairs}
-use Rattle.net_model.specs.Network.{Network}
 use Rattle.order_core.specs.Turns.{routers_of}
 use Rattle.order_core.specs.declared.turn.Tag.{Tag}
 use Rattle.order_core.specs.declared.turn.Tag.TheVariants as tag
 use Rattle.order_core.specs.declared.turn.Turn.{Turn}
 use Rattle.igp_theory.specs.Forwarding.{MustForward, Steps, HasStep}
-use Rattle.igp_theory.specs.Routes.{Tables}
+use Rattle.igp_theory.specs.Migrations.{Migration}
 use Rattle.igp_theory.specs.States.{State, StepsIn, Follows, IsSoundAt, IsSound, state_of}
 use Rattle.igp_theory.specs.declared.phase.Phase.TheVariants.{Old, New}
 
@@ -18,8 +17,8 @@ IsTagOf tag.New old new = (¬ old) × new
 IsTagOf tag.Both old new = old × new
 
 -- the tag of a ring's router says which of its phases Old and New step to the next router
-pub record IsTag (net : Network) (old new : Tables) (a : ℕ) (turn : Turn) (next : ℕ) : Type 0 where
-  pub steps : IsTagOf turn.tag (Steps net old new turn.router Old a next) (Steps net old new turn.router New a next)
+pub record IsTag (move : Migration) (a : ℕ) (turn : Turn) (next : ℕ) : Type 0 where
+  pub steps : IsTagOf turn.tag (Steps move turn.router Old a next) (Steps move turn.router New a next)
 
 -- R holds of each router of a list and the next one, and of the last one and `first`
 abbrev pub EachToNext : {A : Type 0} → (A → A → Type 0) → A → List A → Type 0
@@ -34,16 +33,16 @@ AroundRing R (r ∷ rest) = EachToNext R r (r ∷ rest)
 
 -- a loop of the network: an address, and a ring of two or more distinct routers with their tags.
 -- By its tag each of them has to pass packets on: the address has a target that it doesn't originate
-pub record IsLoop (net : Network) (old new : Tables) (a : ℕ) (ring : List Turn) : Type 0 where
+pub record IsLoop (move : Migration) (a : ℕ) (ring : List Turn) : Type 0 where
   pub address : a < 2 ^ 32
   pub some : 2 ≤ length ring
   pub distinct : AllPairs (λ (r s : Turn). r.router ≢ s.router) ring
-  pub tags : AroundRing (λ (r s : Turn). IsTag net old new a r s.router) ring
+  pub tags : AroundRing (λ (r s : Turn). IsTag move a r s.router) ring
 
 -- a loop arises in a state where each of its routers steps there to the next
-abbrev pub Arises : Network → Tables → Tables → State → ℕ → List Turn → Type 0
-Arises net old new state a ring =
-    AroundRing (λ (r s : Turn). StepsIn net old new state a r.router s.router) ring
+abbrev pub Arises : Migration → State → ℕ → List Turn → Type 0
+Arises move state a ring =
+    AroundRing (λ (r s : Turn). StepsIn move state a r.router s.router) ring
 
 -- what is wrong in an unsound state, at its least address: a router without a step, or a loop
 pub data Fault : Type 0 where
@@ -92,18 +91,18 @@ pub record IsFoundRing (step : ℕ → ℕ → Type 0) (n : ℕ) (ring : List �
 
 -- the fault of an unsound state: at the least address for which it isn't sound the lowest-numbered
 -- router that lacks a step, else the ring that is found, with its tags
-pub data IsFault (net : Network) (old new : Tables) (state : State) : Fault → Type 0 where
-  missing_step : {a u : ℕ} → a < 2 ^ 32 → ((b : ℕ) → b < a → IsSoundAt net old new state b) →
-      MustForward net a u → (HasStep net old new u (state u) a → ⊥) →
-      ((v : ℕ) → v < u → MustForward net a v → HasStep net old new v (state v) a) →
-      IsFault net old new state (missing a u)
-  loop_arises : {a : ℕ} {ring : List Turn} → a < 2 ^ 32 → ((b : ℕ) → b < a → IsSoundAt net old new state b) →
-      ((v : ℕ) → MustForward net a v → HasStep net old new v (state v) a) →
-      IsFoundRing (StepsIn net old new state a) (length net) (routers_of ring) →
-      AroundRing (λ (r s : Turn). IsTag net old new a r s.router) ring →
-      IsFault net old new state (loop a ring)
+pub data IsFault (move : Migration) (state : State) : Fault → Type 0 where
+  missing_step : {a u : ℕ} → a < 2 ^ 32 → ((b : ℕ) → b < a → IsSoundAt move state b) →
+      MustForward move.net a u → (HasStep move u (state u) a → ⊥) →
+      ((v : ℕ) → v < u → MustForward move.net a v → HasStep move v (state v) a) →
+      IsFault move state (missing a u)
+  loop_arises : {a : ℕ} {ring : List Turn} → a < 2 ^ 32 → ((b : ℕ) → b < a → IsSoundAt move state b) →
+      ((v : ℕ) → MustForward move.net a v → HasStep move v (state v) a) →
+      IsFoundRing (StepsIn move state a) (length move.net) (routers_of ring) →
+      AroundRing (λ (r s : Turn). IsTag move a r s.router) ring →
+      IsFault move state (loop a ring)
 
 -- the first fault of an order: the number of its first unsound state, with that state's fault
-pub record IsFirstFault (net : Network) (old new : Tables) (order : List ℕ) (k : ℕ) (fault : Fault) : Type 0 where
-  pub before : (j : ℕ) → j < k → IsSound net old new (state_of order j)
-  pub here : IsFault net old new (state_of order k) fault
+pub record IsFirstFault (move : Migration) (order : List ℕ) (k : ℕ) (fault : Fault) : Type 0 where
+  pub before : (j : ℕ) → j < k → IsSound move (state_of order j)
+  pub here : IsFault move (state_of order k) fault

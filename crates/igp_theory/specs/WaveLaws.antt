@@ -5,6 +5,7 @@ use Rattle.net_model.specs.Network.{Network, Connected}
 use Rattle.route_core.specs.declared.entry.Entry.{Entry}
 use Rattle.igp_theory.specs.Forwarding.{IsTarget, HasStep}
 use Rattle.igp_theory.specs.Isis.{IsisEntry}
+use Rattle.igp_theory.specs.Migrations.{Migration}
 use Rattle.igp_theory.specs.Ospf.{OspfEntry}
 use Rattle.igp_theory.specs.Routes.{Tables, EntryLeadsTo}
 use Rattle.order_core.specs.Orders.{IsOrder}
@@ -29,17 +30,17 @@ IsisHopsAreRouters = (net : Network) → HopsAreRouters net (IsisEntry net)
 -- a state delivers packets for an address with the target p: from every router every list of steps is
 -- shorter than the count of routers, and it has reached an originator or can be extended. So each packet
 -- reaches an originator, whichever of the equal-cost hops it takes at each router
-pub record Delivers (net : Network) (old new : Tables) (state : State) (a : ℕ) (p : Block) : Type 0 where
-  pub short : (u v : ℕ) (hops : List ℕ) → u < length net → Follows (StepsIn net old new state a) u hops v → length hops < length net
-  pub onward : (u v : ℕ) (hops : List ℕ) → u < length net → Follows (StepsIn net old new state a) u hops v →
-      Connected net v p ⊎ HasStep net old new v (state v) a
+pub record Delivers (move : Migration) (state : State) (a : ℕ) (p : Block) : Type 0 where
+  pub short : (u v : ℕ) (hops : List ℕ) → u < length move.net → Follows (StepsIn move state a) u hops v → length hops < length move.net
+  pub onward : (u v : ℕ) (hops : List ℕ) → u < length move.net → Follows (StepsIn move state a) u hops v →
+      Connected move.net v p ⊎ HasStep move v (state v) a
 
 -- over tables whose hops are routers a state is sound exactly where it delivers the packets of every
 -- address with a target
-abbrev pub SoundStatesDeliver : Tables → Tables → Type 0
-SoundStatesDeliver old new =
-    (net : Network) (state : State) → HopsAreRouters net old → HopsAreRouters net new →
-    IsSound net old new state ↔ ((a : ℕ) (p : Block) → a < 2 ^ 32 → IsTarget net a p → Delivers net old new state a p)
+abbrev pub SoundStatesDeliver : Migration → Type 0
+SoundStatesDeliver move =
+    (state : State) → HopsAreRouters move.net move.old → HopsAreRouters move.net move.new →
+    IsSound move state ↔ ((a : ℕ) (p : Block) → a < 2 ^ 32 → IsTarget move.net a p → Delivers move state a p)
 
 -- The states of a wave list
 
@@ -57,11 +58,11 @@ StatesAreThoseOfWaves =
     IsWavesState n ranks state ↔ IsStateOfSomeWave n ranks state
 
 -- so a wave list is seamless exactly where every state of each of its waves is sound
-abbrev pub SeamlessWaveByWave : Tables → Tables → Type 0
-SeamlessWaveByWave old new =
-    (net : Network) (ranks : List ℕ) → IsRanking (length net) ranks →
-    AreSeamlessWaves net old new ranks
-    ↔ ((state : State) → IsStateOfSomeWave (length net) ranks state → IsSound net old new state)
+abbrev pub SeamlessWaveByWave : Migration → Type 0
+SeamlessWaveByWave move =
+    (ranks : List ℕ) → IsRanking (length move.net) ranks →
+    AreSeamlessWaves move ranks
+    ↔ ((state : State) → IsStateOfSomeWave (length move.net) ranks state → IsSound move state)
 
 -- Wave lists and orders
 
@@ -75,15 +76,15 @@ StatesAlongAreThoseOfOrders =
     (order : List ℕ) (k u : ℕ) → state_after (take k (run_along order)) u ≡ state_of order k u
 
 -- a seamless wave list, written wave by wave in number order, is a seamless order
-abbrev pub FlatOrdersAreSeamless : Tables → Tables → Type 0
-FlatOrdersAreSeamless old new =
-    (net : Network) (ranks : List ℕ) → AreSeamlessWaves net old new ranks → IsSeamless net old new (flat_of ranks)
+abbrev pub FlatOrdersAreSeamless : Migration → Type 0
+FlatOrdersAreSeamless move =
+    (ranks : List ℕ) → AreSeamlessWaves move ranks → IsSeamless move (flat_of ranks)
 
 -- a seamless order is a seamless wave list of ones
-abbrev pub OrdersAreSeamlessWaves : Tables → Tables → Type 0
-OrdersAreSeamlessWaves old new =
-    (net : Network) (order ranks : List ℕ) → IsSeamless net old new order → AreOnes order ranks →
-    AreSeamlessWaves net old new ranks
+abbrev pub OrdersAreSeamlessWaves : Migration → Type 0
+OrdersAreSeamlessWaves move =
+    (order ranks : List ℕ) → IsSeamless move order → AreOnes order ranks →
+    AreSeamlessWaves move ranks
 
 -- each order is a wave list of ones, and as that it has one run
 abbrev pub OrdersAreOnes : Type 0

@@ -2,9 +2,8 @@
 use Rattle.std.specs.Prelude.{◌≡◌, ◌≢◌, ℕ, ◌<◌, ◌≤◌, ◌↔◌, List, [], ◌∷◌, length, take, map, slice_index, Contains}
 use Rattle.std.specs.Prelude.{AllPairs}
 use Rattle.std.specs.List.{flat_map}
-use Rattle.net_model.specs.Network.{Network}
 use Rattle.order_core.specs.Rankings.{IsRanking, rank_of}
-use Rattle.igp_theory.specs.Routes.{Tables}
+use Rattle.igp_theory.specs.Migrations.{Migration}
 use Rattle.igp_theory.specs.States.{State, IsSound, IsSeamless, changes_on, phase_after}
 use Rattle.igp_theory.specs.declared.phase.Phase.TheVariants.{Old, New}
 
@@ -52,14 +51,14 @@ pub record IsWavesState (n : ℕ) (ranks : List ℕ) (state : State) : Type 0 wh
   pub after : (u : ℕ) → u < n → state u ≡ state_after (take k run) u
 
 -- a wave list is seamless where all its states are sound
-pub record AreSeamlessWaves (net : Network) (old new : Tables) (ranks : List ℕ) : Type 0 where
-  pub waves : IsRanking (length net) ranks
-  pub sound : (state : State) → IsWavesState (length net) ranks state → IsSound net old new state
+pub record AreSeamlessWaves (move : Migration) (ranks : List ℕ) : Type 0 where
+  pub waves : IsRanking (length move.net) ranks
+  pub sound : (state : State) → IsWavesState (length move.net) ranks state → IsSound move state
 
 -- no wave list of the network is seamless, and no order is
-pub record HasNoneSeamless (net : Network) (old new : Tables) : Type 0 where
-  pub waves : (ranks : List ℕ) → ¬ AreSeamlessWaves net old new ranks
-  pub orders : (order : List ℕ) → ¬ IsSeamless net old new order
+pub record HasNoneSeamless (move : Migration) : Type 0 where
+  pub waves : (ranks : List ℕ) → ¬ AreSeamlessWaves move ranks
+  pub orders : (order : List ℕ) → ¬ IsSeamless move order
 
 -- a state of wave w: each router of an earlier wave is New, each of a later wave is Old, and each of w
 -- has any phase

@@ -4,6 +4,7 @@
 //! | Specification | What it defines | By |
 //! |---|---|---|
 //! | `Routes` | a table: which entry a router has for a prefix | |
+//! | `Migrations` | a migration: a network, its old and its new tables | |
 //! | `Ospf` | routes within an area, ranges and summaries, routes between areas, the table | RFC 2328, sections 16.1, 12.4.3, 16.2 |
 //! | `Isis` | the levels 1 and 2, what is leaked, attached routers, the table | RFC 1195; RFC 5305; RFC 5302 |
 //! | `Forwarding` | the used entry of an address: the longest match, then the distance; the steps | RFC 1812, section 5.2.4.3 |
@@ -16,9 +17,9 @@
 //! a body, whose contract says it; its proof is found under its name in `proofs`.
 #![tactic(auto)]
 
-// A router's phase, and any two tables.
+// A router's phase, and any migration.
+mod migration;
 mod phase;
-mod tables;
 
 // Costs, entries, used entries and steps.
 mod cost_laws;
@@ -46,11 +47,11 @@ pub use loop_laws::{
     loops_say_which_waves_are_seamless, returns_in_waves_are_unsound,
 };
 pub use middle_laws::{middle_acts_as_old_or_new, middle_uses_none};
+pub use migration::AnyMigration;
 pub use phase::Phase;
 pub use same_table_laws::same_tables_act_alike;
 pub use sound_laws::{hops_are_routers, sound_states_deliver};
 pub use table_laws::{costs_are_unique, entries_are_unique, entries_forward, hops_are_neighbors};
-pub use tables::TablePair;
 pub use wave_fault_laws::{
     StateSet, faults_over_states_are_unique, same_tables_have_same_waves, wave_faults_are_unique,
 };

@@ -2,38 +2,38 @@ ghost use Rattle.igp_theory.specs.LoopLaws.{LoopsArise, ArisingLoopsAreUnsound, 
 ghost use Rattle.igp_theory.specs.LoopLaws.{LoopsAriseInWaves, ReturnsInWavesAreUnsound, WaveFaultsBetweenSoundEndsAreLoops, SeamlessWavesPutOldFirst};
 ghost use Rattle.igp_theory.specs.LoopLaws.{WavesAreSeamlessByLoops};
 
-use crate::tables::TablePair;
+use crate::migration::AnyMigration;
 
 /// The law that a loop of the network arises where every router tagged `Old` is in `Old` and every router
 /// tagged `New` in `New`, and that a state in which a loop arises isn't sound.
-pub fn loops_arise<T: TablePair>()
-    ensures arise { LoopsArise T.old T.new }
-    ensures unsound { ArisingLoopsAreUnsound T.old T.new }
+pub fn loops_arise<T: AnyMigration>()
+    ensures arise { LoopsArise T.migration }
+    ensures unsound { ArisingLoopsAreUnsound T.migration }
 {}
 
 /// The law that between sound ends faults are loops with a turn tagged `Old` and one tagged `New`.
 ///
 /// The fault of an unsound state is such a loop that arises there, that of a wave list one that arises in a
 /// state of its wave. A missing step and a loop of one tag are impossible there.
-pub fn faults_between_sound_ends_are_loops<T: TablePair>()
-    ensures state { FaultsBetweenSoundEndsAreLoops T.old T.new }
-    ensures waves { WaveFaultsBetweenSoundEndsAreLoops T.old T.new }
+pub fn faults_between_sound_ends_are_loops<T: AnyMigration>()
+    ensures state { FaultsBetweenSoundEndsAreLoops T.migration }
+    ensures waves { WaveFaultsBetweenSoundEndsAreLoops T.migration }
 {}
 
 /// The law of the waves in which loops arise.
 ///
 /// A loop arises in a state of wave w exactly where its routers tagged `New` stand in waves up to w and its
 /// routers tagged `Old` in waves from w on.
-pub fn loops_arise_in_waves<T: TablePair>()
-    ensures { LoopsAriseInWaves T.old T.new }
+pub fn loops_arise_in_waves<T: AnyMigration>()
+    ensures { LoopsAriseInWaves T.migration }
 {}
 
 /// The law of lists of steps over every hop that a router has in some state of a wave.
 ///
 /// Where such a list returns to its first router some state of the wave is unsound: the list contains a
 /// ring of distinct routers, and each of them keeps one phase that makes its step.
-pub fn returns_in_waves_are_unsound<T: TablePair>()
-    ensures { ReturnsInWavesAreUnsound T.old T.new }
+pub fn returns_in_waves_are_unsound<T: AnyMigration>()
+    ensures { ReturnsInWavesAreUnsound T.migration }
 {}
 
 /// The law that loops say which wave lists are seamless.
@@ -41,8 +41,8 @@ pub fn returns_in_waves_are_unsound<T: TablePair>()
 /// Whatever the ends, a seamless wave list puts some router tagged `Old` of each loop with both tags in an
 /// earlier wave than some router tagged `New`. Between sound ends a wave list is seamless exactly where it
 /// does so for each such loop, and every loop has both tags there.
-pub fn loops_say_which_waves_are_seamless<T: TablePair>()
-    ensures both_tags { LoopsBetweenSoundEndsHaveBothTags T.old T.new }
-    ensures seamless { SeamlessWavesPutOldFirst T.old T.new }
-    ensures exact { WavesAreSeamlessByLoops T.old T.new }
+pub fn loops_say_which_waves_are_seamless<T: AnyMigration>()
+    ensures both_tags { LoopsBetweenSoundEndsHaveBothTags T.migration }
+    ensures seamless { SeamlessWavesPutOldFirst T.migration }
+    ensures exact { WavesAreSeamlessByLoops T.migration }
 {}

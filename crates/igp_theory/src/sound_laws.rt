@@ -1,6 +1,6 @@
 ghost use Rattle.igp_theory.specs.WaveLaws.{OspfHopsAreRouters, IsisHopsAreRouters, SoundStatesDeliver};
 
-use crate::tables::TablePair;
+use crate::migration::AnyMigration;
 
 /// The law that every hop of both protocols' entries is a router of the network.
 pub fn hops_are_routers()
@@ -14,6 +14,6 @@ pub fn hops_are_routers()
 /// From every router every list of steps is shorter than the count of routers, and it has reached an
 /// originator or can be extended. So each packet reaches an originator, whichever of the equal-cost hops it
 /// takes.
-pub fn sound_states_deliver<T: TablePair>()
-    ensures { SoundStatesDeliver T.old T.new }
+pub fn sound_states_deliver<T: AnyMigration>()
+    ensures { SoundStatesDeliver T.migration }
 {}

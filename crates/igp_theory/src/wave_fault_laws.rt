@@ -2,7 +2,7 @@ ghost use Rattle.igp_theory.specs.WaveFaultLaws.{FaultsOverAreUnique, FaultsOver
 ghost use Rattle.igp_theory.specs.WaveFaultLaws.{SameSeamlessWaves, SameFaultsOver, SameWavesFaults};
 ghost use Rattle.igp_theory.specs.States.{State};
 
-use crate::tables::TablePair;
+use crate::migration::AnyMigration;
 
 /// Any set of states.
 ///
@@ -13,22 +13,22 @@ pub trait StateSet {
 }
 
 /// The law that a set of states has at most one fault, and that of a single state is the state's fault.
-pub fn faults_over_states_are_unique<T: TablePair, S: StateSet>()
-    ensures unique { FaultsOverAreUnique T.old T.new S.states }
-    ensures single { FaultsOverOneAreFaults T.old T.new }
+pub fn faults_over_states_are_unique<T: AnyMigration, S: StateSet>()
+    ensures unique { FaultsOverAreUnique T.migration S.states }
+    ensures single { FaultsOverOneAreFaults T.migration }
 {}
 
 /// The law that a wave list has at most one fault, and isn't seamless where it has one.
-pub fn wave_faults_are_unique<T: TablePair>()
-    ensures unique { WavesFaultsAreUnique T.old T.new }
-    ensures unsound { WavesFaultsAreUnsound T.old T.new }
+pub fn wave_faults_are_unique<T: AnyMigration>()
+    ensures unique { WavesFaultsAreUnique T.migration }
+    ensures unsound { WavesFaultsAreUnsound T.migration }
 {}
 
 /// The law that tables with the same entries at the routers of a network have the same seamless wave lists
 /// and the same faults of waves, and deliver the same packets.
-pub fn same_tables_have_same_waves<T: TablePair, U: TablePair, S: StateSet>()
-    ensures deliveries { SameDeliveries T.old T.new U.old U.new }
-    ensures seamless { SameSeamlessWaves T.old T.new U.old U.new }
-    ensures faults { SameFaultsOver T.old T.new U.old U.new S.states }
-    ensures waves_faults { SameWavesFaults T.old T.new U.old U.new }
+pub fn same_tables_have_same_waves<T: AnyMigration, U: AnyMigration, S: StateSet>()
+    ensures deliveries { SameDeliveries T.migration U.migration.old U.migration.new }
+    ensures seamless { SameSeamlessWaves T.migration U.migration.old U.migration.new }
+    ensures faults { SameFaultsOver T.migration U.migration.old U.migration.new S.states }
+    ensures waves_faults { SameWavesFaults T.migration U.migration.old U.migration.new }
 {}

@@ -1,7 +1,7 @@
 ghost use Rattle.igp_theory.specs.WaveLaws.{StatesAreThoseOfWaves, FlatRunsAreRuns, StatesAlongAreThoseOfOrders, FlatOrdersAreSeamless};
 ghost use Rattle.igp_theory.specs.WaveLaws.{OrdersAreSeamlessWaves, OrdersAreOnes, OrdersHaveOneRun, SeamlessWaveByWave};
 
-use crate::tables::TablePair;
+use crate::migration::AnyMigration;
 
 /// The law that the states of a wave list are those of its waves.
 ///
@@ -12,8 +12,8 @@ pub fn states_are_those_of_waves()
 {}
 
 /// The law that a wave list is seamless exactly where every state of each of its waves is sound.
-pub fn waves_are_seamless_one_by_one<T: TablePair>()
-    ensures { SeamlessWaveByWave T.old T.new }
+pub fn waves_are_seamless_one_by_one<T: AnyMigration>()
+    ensures { SeamlessWaveByWave T.migration }
 {}
 
 /// The law that the flat run of a wave list is a run of it, with the states of the flat order.
@@ -26,9 +26,9 @@ pub fn flat_runs_are_runs()
 ///
 /// A seamless wave list, written wave by wave in number order, is a seamless order, and a seamless order is
 /// a seamless wave list of ones.
-pub fn seamless_waves_are_orders<T: TablePair>()
-    ensures flat { FlatOrdersAreSeamless T.old T.new }
-    ensures ones { OrdersAreSeamlessWaves T.old T.new }
+pub fn seamless_waves_are_orders<T: AnyMigration>()
+    ensures flat { FlatOrdersAreSeamless T.migration }
+    ensures ones { OrdersAreSeamlessWaves T.migration }
 {}
 
 /// The law that each order is a wave list of ones, and that as such it has one run.

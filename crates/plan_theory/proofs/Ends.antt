@@ -2,23 +2,22 @@
 use Rattle.std.proofs.Common.{◌≡◌, ℕ, ◌+◌, ◌-◌, ◌<◌, inl, inr, List, length, arith, refl}
 use Rattle.std.proofs.lemmas.Bool.{cases_lt}
 use Rattle.std.proofs.lemmas.List.Elements.{Contains-get_or}
-use Rattle.net_model.specs.Network.{Network}
 use Rattle.order_core.specs.Rankings.{IsRanking, rank_of, wave_count, flat_of}
 use Rattle.order_core.proofs.WaveLists.{rank_below_count, rank_stands}
-use Rattle.igp_theory.specs.Routes.{Tables}
+use Rattle.igp_theory.specs.Migrations.{Migration}
 use Rattle.igp_theory.specs.States.{IsSound, all_old, all_new}
 use Rattle.igp_theory.specs.Waves.{IsWavesState, AreSeamlessWaves, IsStateOfWave, run_along}
 use Rattle.igp_theory.proofs.FlatOrders.{flat_is_run, wave_state_is_reached}
 use Rattle.igp_theory.proofs.LoopWaves.{empty_is_sound}
 
 -- before any change every router is Old
-pub begins_sound : (net : Network) (old new : Tables) (ranks : List ℕ) → AreSeamlessWaves net old new ranks → IsSound net old new all_old
-begins_sound net old new ranks seamless = seamless.sound all_old begins
+pub begins_sound : (move : Migration) (ranks : List ℕ) → AreSeamlessWaves move ranks → IsSound move all_old
+begins_sound move ranks seamless = seamless.sound all_old begins
   where
-    begins : IsWavesState (length net) ranks all_old
+    begins : IsWavesState (length move.net) ranks all_old
     begins = record {
       run = run_along (flat_of ranks);
-      is_run = flat_is_run (length net) ranks seamless.waves;
+      is_run = flat_is_run (length move.net) ranks seamless.waves;
       k = 0;
       after = λ u below. refl;
     }
@@ -47,8 +46,8 @@ ends_in_last n ranks some waves =
       later = λ u below after. absurd (omega (arith, rank_below n ranks u waves below, after, is_last));
     }
 
-pub ends_sound : (net : Network) (old new : Tables) (ranks : List ℕ) → AreSeamlessWaves net old new ranks → IsSound net old new all_new
-ends_sound net old new ranks seamless = elim (cases_lt 0 (length net)) [
-  | inl some ↦ seamless.sound all_new (ends_in_last (length net) ranks some seamless.waves)
-  | inr none ↦ empty_is_sound net old new all_new none
+pub ends_sound : (move : Migration) (ranks : List ℕ) → AreSeamlessWaves move ranks → IsSound move all_new
+ends_sound move ranks seamless = elim (cases_lt 0 (length move.net)) [
+  | inl some ↦ seamless.sound all_new (ends_in_last (length move.net) ranks some seamless.waves)
+  | inr none ↦ empty_is_sound move all_new none
 ]

@@ -1,7 +1,6 @@
 -- What a plan means.
 use Rattle.std.proofs.Common.{ℕ}
-use Rattle.net_model.specs.Network.{Network}
-use Rattle.igp_theory.specs.Routes.{Tables}
+use Rattle.igp_theory.specs.Migrations.{Migration}
 use Rattle.igp_theory.proofs.FaultLaws.{faulty_not_sound}
 use Rattle.igp_theory.proofs.FlatOrders.{flat_is_seamless}
 use Rattle.igp_theory.proofs.OnesRuns.{none_without_waves}
@@ -17,18 +16,18 @@ use Rattle.plan_theory.specs.declared.planned.Planned.TheVariants.{UnsoundOld, U
 use Rattle.plan_theory.proofs.Decided.{waves_are_decisive}
 use Rattle.plan_theory.proofs.Ends.{begins_sound, ends_sound}
 
-found_means : (net : Network) (old new : Tables) (budget : ℕ) (found : Found) → IsFound (waves_meaning net old new) budget found →
-    FoundMeans net old new found
-found_means net old new budget (Waves ranks pairs chain trail) is =
-    record { waves = is.is_good; order = flat_is_seamless net old new ranks is.is_good }
-found_means net old new budget (Refuted tree) is =
-    none_without_waves net old new (refutation_refutes (waves_meaning net old new) (waves_are_decisive net old new) budget tree is)
-found_means net old new budget (Spent tree) is = tt
+found_means : (move : Migration) (budget : ℕ) (found : Found) → IsFound (waves_meaning move) budget found →
+    FoundMeans move found
+found_means move budget (Waves ranks pairs chain trail) is =
+    record { waves = is.is_good; order = flat_is_seamless move ranks is.is_good }
+found_means move budget (Refuted tree) is =
+    none_without_waves move (refutation_refutes (waves_meaning move) (waves_are_decisive move) budget tree is)
+found_means move budget (Spent tree) is = tt
 
-pub plan_means : (net : Network) (old new : Tables) (budget : ℕ) (planned : Planned) → IsPlanned net old new budget planned →
-    PlanMeans net old new planned
-plan_means net old new budget (UnsoundOld fault) is =
-    none_without_waves net old new (λ ranks seamless. faulty_not_sound is (begins_sound net old new ranks seamless))
-plan_means net old new budget (UnsoundNew fault) is =
-    none_without_waves net old new (λ ranks seamless. faulty_not_sound is.last (ends_sound net old new ranks seamless))
-plan_means net old new budget (Searched found) is = found_means net old new budget found is.is_found
+pub plan_means : (move : Migration) (budget : ℕ) (planned : Planned) → IsPlanned move budget planned →
+    PlanMeans move planned
+plan_means move budget (UnsoundOld fault) is =
+    none_without_waves move (λ ranks seamless. faulty_not_sound is (begins_sound move ranks seamless))
+plan_means move budget (UnsoundNew fault) is =
+    none_without_waves move (λ ranks seamless. faulty_not_sound is.last (ends_sound move ranks seamless))
+plan_means move budget (Searched found) is = found_means move budget found is.is_found

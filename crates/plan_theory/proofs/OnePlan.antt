@@ -1,7 +1,6 @@
 -- A network has one plan.
 use Rattle.std.proofs.Common.{◌≡◌, ℕ, ap}
-use Rattle.net_model.specs.Network.{Network}
-use Rattle.igp_theory.specs.Routes.{Tables}
+use Rattle.igp_theory.specs.Migrations.{Migration}
 use Rattle.igp_theory.proofs.FaultLaws.{fault_unique, faulty_not_sound}
 use Rattle.order_search.proofs.OneAnswer.{one_answer}
 use Rattle.order_search.specs.declared.found.Found.{Found}
@@ -20,18 +19,18 @@ told_once (Loop a s) (Missing b v) same = cc
 told_once (Missing a u) (Loop b t) same = cc
 told_once (Missing a u) (Missing b v) same = cc
 
-pub one_plan : (net : Network) (old new : Tables) (budget : ℕ) (planned other : Planned) → IsPlanned net old new budget planned →
-    IsPlanned net old new budget other → planned ≡ other
-one_plan net old new budget (UnsoundOld fault) (UnsoundOld other) is too =
+pub one_plan : (move : Migration) (budget : ℕ) (planned other : Planned) → IsPlanned move budget planned →
+    IsPlanned move budget other → planned ≡ other
+one_plan move budget (UnsoundOld fault) (UnsoundOld other) is too =
     ap (λ (f : EndFault). UnsoundOld f) (told_once fault other (fault_unique is too))
-one_plan net old new budget (UnsoundOld fault) (UnsoundNew other) is too = absurd (faulty_not_sound is too.first)
-one_plan net old new budget (UnsoundOld fault) (Searched found) is too = absurd (faulty_not_sound is too.ends.first)
-one_plan net old new budget (UnsoundNew fault) (UnsoundOld other) is too = absurd (faulty_not_sound too is.first)
-one_plan net old new budget (UnsoundNew fault) (UnsoundNew other) is too =
+one_plan move budget (UnsoundOld fault) (UnsoundNew other) is too = absurd (faulty_not_sound is too.first)
+one_plan move budget (UnsoundOld fault) (Searched found) is too = absurd (faulty_not_sound is too.ends.first)
+one_plan move budget (UnsoundNew fault) (UnsoundOld other) is too = absurd (faulty_not_sound too is.first)
+one_plan move budget (UnsoundNew fault) (UnsoundNew other) is too =
     ap (λ (f : EndFault). UnsoundNew f) (told_once fault other (fault_unique is.last too.last))
-one_plan net old new budget (UnsoundNew fault) (Searched found) is too = absurd (faulty_not_sound is.last too.ends.last)
-one_plan net old new budget (Searched found) (UnsoundOld other) is too = absurd (faulty_not_sound too is.ends.first)
-one_plan net old new budget (Searched found) (UnsoundNew other) is too = absurd (faulty_not_sound too.last is.ends.last)
-one_plan net old new budget (Searched found) (Searched other) is too =
+one_plan move budget (UnsoundNew fault) (Searched found) is too = absurd (faulty_not_sound is.last too.ends.last)
+one_plan move budget (Searched found) (UnsoundOld other) is too = absurd (faulty_not_sound too is.ends.first)
+one_plan move budget (Searched found) (UnsoundNew other) is too = absurd (faulty_not_sound too.last is.ends.last)
+one_plan move budget (Searched found) (Searched other) is too =
     ap (λ (f : Found). Searched f)
-    (one_answer (waves_meaning net old new) budget (waves_pick_one net old new) found other is.is_found too.is_found)
+    (one_answer (waves_meaning move) budget (waves_pick_one move) found other is.is_found too.is_found)

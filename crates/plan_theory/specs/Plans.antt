@@ -1,9 +1,8 @@
 -- What may be planned of a network: the fault of an end that isn't sound, or what the search finds between sound ends.
 use Rattle.std.specs.Prelude.{ℕ}
-use Rattle.net_model.specs.Network.{Network}
 use Rattle.igp_theory.specs.LoopLaws.{AreSoundEnds}
 use Rattle.igp_theory.specs.Loops.{Fault, missing, loop, IsFault}
-use Rattle.igp_theory.specs.Routes.{Tables}
+use Rattle.igp_theory.specs.Migrations.{Migration}
 use Rattle.igp_theory.specs.States.{IsSound, all_old, all_new}
 use Rattle.order_search.specs.Answers.{IsFound}
 use Rattle.order_search.specs.declared.found.Found.{Found}
@@ -19,17 +18,17 @@ fault_told (Loop address turns) = loop address turns
 fault_told (Missing address router) = missing address router
 
 -- the first state is sound, and the last one has this fault, so it isn't
-pub record IsUnsoundNew (net : Network) (old new : Tables) (fault : Fault) : Type 0 where
-  pub first : IsSound net old new all_old
-  pub last : IsFault net old new all_new fault
+pub record IsUnsoundNew (move : Migration) (fault : Fault) : Type 0 where
+  pub first : IsSound move all_old
+  pub last : IsFault move all_new fault
 
 -- both are sound, and this is what the search found between them
-pub record IsSearched (net : Network) (old new : Tables) (budget : ℕ) (found : Found) : Type 0 where
-  pub ends : AreSoundEnds net old new
-  pub is_found : IsFound (waves_meaning net old new) budget found
+pub record IsSearched (move : Migration) (budget : ℕ) (found : Found) : Type 0 where
+  pub ends : AreSoundEnds move
+  pub is_found : IsFound (waves_meaning move) budget found
 
 -- what is planned of a network, with this budget of branches
-abbrev pub IsPlanned : Network → Tables → Tables → ℕ → Planned → Type 0
-IsPlanned net old new budget (UnsoundOld fault) = IsFault net old new all_old (fault_told fault)
-IsPlanned net old new budget (UnsoundNew fault) = IsUnsoundNew net old new (fault_told fault)
-IsPlanned net old new budget (Searched found) = IsSearched net old new budget found
+abbrev pub IsPlanned : Migration → ℕ → Planned → Type 0
+IsPlanned move budget (UnsoundOld fault) = IsFault move all_old (fault_told fault)
+IsPlanned move budget (UnsoundNew fault) = IsUnsoundNew move (fault_told fault)
+IsPlanned move budget (Searched found) = IsSearched move budget found

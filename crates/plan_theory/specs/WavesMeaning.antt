@@ -1,26 +1,25 @@
 -- What the search asks of a network: which wave lists are seamless, which loops there are, and which loop is told of a
 -- wave list.
 use Rattle.std.specs.Prelude.{ℕ, List, [], length}
-use Rattle.net_model.specs.Network.{Network}
 use Rattle.order_core.specs.declared.turn.Turn.{Turn}
 use Rattle.igp_theory.specs.Loops.{IsLoop, loop}
-use Rattle.igp_theory.specs.Routes.{Tables}
+use Rattle.igp_theory.specs.Migrations.{Migration}
 use Rattle.igp_theory.specs.WaveFaults.{IsWavesFault}
 use Rattle.igp_theory.specs.Waves.{AreSeamlessWaves}
 use Rattle.order_search.specs.Meanings.{Meaning}
 
 -- the loop that is told of a wave list: the fault of its first wave with an unsound state
-pub record IsPickedFault (net : Network) (old new : Tables) (ranks : List ℕ) (address : ℕ) (turns : List Turn) : Type 0 where
+pub record IsPickedFault (move : Migration) (ranks : List ℕ) (address : ℕ) (turns : List Turn) : Type 0 where
   pub wave : ℕ
-  pub is_fault : IsWavesFault net old new ranks wave (loop address turns)
+  pub is_fault : IsWavesFault move ranks wave (loop address turns)
 
 -- what the search asks: the routers are ranked by wave lists, a wave list is good where it is seamless, what may be
 -- branched on are the loops of the network, and no pair is assumed from the start
-abbrev pub waves_meaning : Network → Tables → Tables → Meaning
-waves_meaning net old new = record {
-  good = AreSeamlessWaves net old new;
-  real = IsLoop net old new;
-  picked = IsPickedFault net old new;
-  size = length net;
+abbrev pub waves_meaning : Migration → Meaning
+waves_meaning move = record {
+  good = AreSeamlessWaves move;
+  real = IsLoop move;
+  picked = IsPickedFault move;
+  size = length move.net;
   base = [];
 }

@@ -1,9 +1,8 @@
 -- What was planned has a text, and the text reads back.
 use Rattle.std.proofs.Common.{ℕ, ◌<◌, List, [], length}
-use Rattle.net_model.specs.Network.{Network}
 use Rattle.net_model.specs.Refusals.{IsNetwork}
 use Rattle.net_model.specs.RouterNames.{names_of}
-use Rattle.igp_theory.specs.Routes.{Tables}
+use Rattle.igp_theory.specs.Migrations.{Migration}
 use Rattle.igp_theory.specs.Waves.{AreSeamlessWaves}
 use Rattle.order_core.specs.Pairs.{Pair}
 use Rattle.order_search.specs.Answers.{AreFoundWaves, IsFound}
@@ -29,47 +28,47 @@ use Rattle.step_scripts.specs.declared.version.Version.TheVariants.{Two}
 use Rattle.step_scripts.proofs.TextFacts.{waves_read_back}
 use Rattle.step_scripts.proofs.WaveFileLaws.{no_fault, one_wave_list}
 
-module _ (old new : Tables) (net : Network) (budget : ℕ) where
-  pub plan_printable : (found : Found) → IsFound (waves_meaning net old new) budget found → IsPrintable net found
+module _ (move : Migration) (budget : ℕ) where
+  pub plan_printable : (found : Found) → IsFound (waves_meaning move) budget found → IsPrintable move.net found
   plan_printable (Waves ranks pairs chain trail) is = record {
-    each = found_each net old new (AreSeamlessWaves net old new) (IsPickedFault net old new) budget ranks pairs chain trail is;
-    one_of_each = found_one_of_each net old new (AreSeamlessWaves net old new) (IsPickedFault net old new) budget ranks pairs chain trail is;
+    each = found_each move (AreSeamlessWaves move) (IsPickedFault move) budget ranks pairs chain trail is;
+    one_of_each = found_one_of_each move (AreSeamlessWaves move) (IsPickedFault move) budget ranks pairs chain trail is;
   }
   plan_printable (Refuted tree) is =
-      nodes_below net old new [] tree (refuted_fill net old new (AreSeamlessWaves net old new) (IsPickedFault net old new) budget tree is)
+      nodes_below move [] tree (refuted_fill move (AreSeamlessWaves move) (IsPickedFault move) budget tree is)
   plan_printable (Spent tree) is =
-      nodes_below net old new [] tree (spent_fill net old new (AreSeamlessWaves net old new) (IsPickedFault net old new) budget tree is)
+      nodes_below move [] tree (spent_fill move (AreSeamlessWaves move) (IsPickedFault move) budget tree is)
 
   pub chain_tagged : (ranks : List ℕ) (pairs : List Pair) (chain : List ℕ) (trail : List Node) →
-      AreFoundWaves (waves_meaning net old new) budget ranks pairs chain trail → IsTaggedChain net old new chain
+      AreFoundWaves (waves_meaning move) budget ranks pairs chain trail → IsTaggedChain move chain
   chain_tagged ranks pairs chain trail is =
-      found_tagged net old new (AreSeamlessWaves net old new) (IsPickedFault net old new) budget ranks pairs chain trail is
+      found_tagged move (AreSeamlessWaves move) (IsPickedFault move) budget ranks pairs chain trail is
 
-  module _ (network : IsNetwork net) (some : 0 < length net) where
+  module _ (network : IsNetwork move.net) (some : 0 < length move.net) where
     waves_read : (ranks : List ℕ) (pairs : List Pair) (chain : List ℕ) (trail : List Node) →
-        AreFoundWaves (waves_meaning net old new) budget ranks pairs chain trail →
-        ReadsAsSafeWaves net old new (waves_text (names_of net) ranks chain) ranks
+        AreFoundWaves (waves_meaning move) budget ranks pairs chain trail →
+        ReadsAsSafeWaves move (waves_text (names_of move.net) ranks chain) ranks
     waves_read ranks pairs chain trail is =
-        let each = found_one_of_each net old new (AreSeamlessWaves net old new) (IsPickedFault net old new) budget ranks pairs chain trail is in
-        let names : NamesWaves net (waves_text (names_of net) ranks chain) Two ranks =
-        waves_read_back net ranks chain network some is.is_good.waves each in
-        let text : List ℕ = waves_text (names_of net) ranks chain in
+        let each = found_one_of_each move (AreSeamlessWaves move) (IsPickedFault move) budget ranks pairs chain trail is in
+        let names : NamesWaves move.net (waves_text (names_of move.net) ranks chain) Two ranks =
+        waves_read_back move.net ranks chain network some is.is_good.waves each in
+        let text : List ℕ = waves_text (names_of move.net) ranks chain in
         record {
           names = names;
-          faultless = λ number kind. no_fault net text Two ranks number kind network.ascending names;
-          alone = λ version other has. one_wave_list net text version Two other ranks network.ascending has names;
+          faultless = λ number kind. no_fault move.net text Two ranks number kind network.ascending names;
+          alone = λ version other has. one_wave_list move.net text version Two other ranks network.ascending has names;
           seamless = is.is_good;
         }
 
-    has_verdict : (text : List ℕ) (verdict : Verdict) → IsTextVerdict net old new text verdict → HasVerdict net old new text verdict
-    has_verdict text verdict is = record { is = is; alone = λ other its. one_verdict net network old new text other verdict its is }
+    has_verdict : (text : List ℕ) (verdict : Verdict) → IsTextVerdict move text verdict → HasVerdict move text verdict
+    has_verdict text verdict is = record { is = is; alone = λ other its. one_verdict move network text other verdict its is }
 
-    pub plan_reads_back : (found : Found) → IsFound (waves_meaning net old new) budget found →
-        FoundReadsBack net old new found (planned_text (names_of net) found)
+    pub plan_reads_back : (found : Found) → IsFound (waves_meaning move) budget found →
+        FoundReadsBack move found (planned_text (names_of move.net) found)
     plan_reads_back (Waves ranks pairs chain trail) is = waves_read ranks pairs chain trail is
     plan_reads_back (Refuted tree) is =
-        has_verdict (tree_text (names_of net) tree) (Closed (branch_count tree) (leaf_count tree))
-        (refutation_closes net old new (AreSeamlessWaves net old new) (IsPickedFault net old new) budget network tree is)
+        has_verdict (tree_text (names_of move.net) tree) (Closed (branch_count tree) (leaf_count tree))
+        (refutation_closes move (AreSeamlessWaves move) (IsPickedFault move) budget network tree is)
     plan_reads_back (Spent tree) is =
-        has_verdict (tree_text (names_of net) tree) (Unfinished (open_count tree))
-        (spent_stays_open net old new (AreSeamlessWaves net old new) (IsPickedFault net old new) budget network tree is)
+        has_verdict (tree_text (names_of move.net) tree) (Unfinished (open_count tree))
+        (spent_stays_open move (AreSeamlessWaves move) (IsPickedFault move) budget network tree is)

@@ -1,10 +1,9 @@
 -- The nodes of a tree whose branches are loops of a network: they are of its routers, and they read back.
 use Rattle.std.proofs.Common.{ℕ, ◌<◌, ◌≤◌, List, [], ◌∷◌, ◌++◌, length, All, arith, ap, subst, sym}
 use Rattle.std.proofs.lemmas.List.Elements.{All-append, All-cons, All-contains, All-head, All-map, All-nil, All-push, All-tail, All-weaker}
-use Rattle.net_model.specs.Network.{Network}
 use Rattle.igp_theory.specs.Forwarding.{Steps}
 use Rattle.igp_theory.specs.Loops.{EachToNext, IsLoop, IsTag, IsTagOf}
-use Rattle.igp_theory.specs.Routes.{Tables}
+use Rattle.igp_theory.specs.Migrations.{Migration}
 use Rattle.igp_theory.specs.declared.phase.Phase.TheVariants.{Old, New}
 use Rattle.order_core.specs.Pairs.{Pair, AreBelow, IsPath}
 use Rattle.order_core.specs.Turns.{child_pairs}
@@ -19,8 +18,8 @@ use Rattle.refutation_check.specs.TreeTexts.{IsPrintedNode, NodeBelow}
 use Rattle.refutation_check.proofs.Leaving.{children_below}
 
 -- the meaning of a search for a good ranking over the loops of a network
-abbrev pub over_loops : Network → Tables → Tables → Good → Picked → Meaning
-over_loops net old new good picked = record { good = good; real = IsLoop net old new; picked = picked; size = length net; base = [] }
+abbrev pub over_loops : Migration → Good → Picked → Meaning
+over_loops move good picked = record { good = good; real = IsLoop move; picked = picked; size = length move.net; base = [] }
 
 -- what holds of a node at each place where Q does, and keeps Q at the places below it, holds of all nodes
 pub Fill-each : (P : NodeFact) (Q : Place → Type 0) (R : Node → Type 0) →
@@ -36,26 +35,26 @@ Fill-each P Q R each (place ∷ places) left (node ∷ nodes) fill here =
 -- The routers of a loop
 
 -- whoever has a tag is a router of the network
-tag_below : (net : Network) (old new : Tables) (u a h : ℕ) (t : Tag) →
-    IsTagOf t (Steps net old new u Old a h) (Steps net old new u New a h) → u < length net
-tag_below net old new u a h tag.Old is = is.0.must.router
-tag_below net old new u a h tag.New is = is.1.must.router
-tag_below net old new u a h tag.Both is = is.0.must.router
+tag_below : (move : Migration) (u a h : ℕ) (t : Tag) →
+    IsTagOf t (Steps move u Old a h) (Steps move u New a h) → u < length move.net
+tag_below move u a h tag.Old is = is.0.must.router
+tag_below move u a h tag.New is = is.1.must.router
+tag_below move u a h tag.Both is = is.0.must.router
 
-ring_below : (net : Network) (old new : Tables) (a : ℕ) (first : Turn) (turns : List Turn) →
-    EachToNext (λ (r s : Turn). IsTag net old new a r s.router) first turns → All (λ (t : Turn). t.router < length net) turns
-ring_below net old new a first [] each = All-nil (λ (t : Turn). t.router < length net)
-ring_below net old new a first (r ∷ []) each =
-    All-cons (λ (t : Turn). t.router < length net) r [] (tag_below net old new r.router a first.router r.tag each.steps)
-    (All-nil (λ (t : Turn). t.router < length net))
-ring_below net old new a first (r ∷ s ∷ rest) each =
-    All-cons (λ (t : Turn). t.router < length net) r (s ∷ rest) (tag_below net old new r.router a s.router r.tag each.0.steps)
-    (ring_below net old new a first (s ∷ rest) each.1)
+ring_below : (move : Migration) (a : ℕ) (first : Turn) (turns : List Turn) →
+    EachToNext (λ (r s : Turn). IsTag move a r s.router) first turns → All (λ (t : Turn). t.router < length move.net) turns
+ring_below move a first [] each = All-nil (λ (t : Turn). t.router < length move.net)
+ring_below move a first (r ∷ []) each =
+    All-cons (λ (t : Turn). t.router < length move.net) r [] (tag_below move r.router a first.router r.tag each.steps)
+    (All-nil (λ (t : Turn). t.router < length move.net))
+ring_below move a first (r ∷ s ∷ rest) each =
+    All-cons (λ (t : Turn). t.router < length move.net) r (s ∷ rest) (tag_below move r.router a s.router r.tag each.0.steps)
+    (ring_below move a first (s ∷ rest) each.1)
 
-pub loop_below : (net : Network) (old new : Tables) (a : ℕ) (turns : List Turn) → IsLoop net old new a turns →
-    All (λ (t : Turn). t.router < length net) turns
-loop_below net old new a [] loop = All-nil (λ (t : Turn). t.router < length net)
-loop_below net old new a (r ∷ rest) loop = ring_below net old new a r (r ∷ rest) loop.tags
+pub loop_below : (move : Migration) (a : ℕ) (turns : List Turn) → IsLoop move a turns →
+    All (λ (t : Turn). t.router < length move.net) turns
+loop_below move a [] loop = All-nil (λ (t : Turn). t.router < length move.net)
+loop_below move a (r ∷ rest) loop = ring_below move a r (r ∷ rest) loop.tags
 
 -- The routers of a cycle
 
@@ -84,37 +83,37 @@ cycle_some pairs cycle is = omega (arith, is.some, ap (λ (vs : List ℕ). lengt
 abbrev pub IsPrintableNode : ℕ → Node → Type 0
 IsPrintableNode n node = NodeBelow n node × IsPrintedNode node
 
-module _ (net : Network) (old new : Tables) where
-  node_printable : (place : Place) (node : Node) → AreBelow (length net) place → IsTreeNode (IsLoop net old new) place node →
-      IsPrintableNode (length net) node × All (AreBelow (length net)) (places_below place node)
+module _ (move : Migration) where
+  node_printable : (place : Place) (node : Node) → AreBelow (length move.net) place → IsTreeNode (IsLoop move) place node →
+      IsPrintableNode (length move.net) node × All (AreBelow (length move.net)) (places_below place node)
   node_printable place (Branch a turns) below is =
-      let routers = loop_below net old new a turns is.0 in
-      let pairs = children_below (length net) turns routers in
-      let more : (p : Pair) → (p.0 < length net) × (p.1 < length net) → AreBelow (length net) (place ++ p ∷ []) = λ p fine.
-      All-push (λ (q : Pair). (q.0 < length net) × (q.1 < length net)) place p below fine in (
+      let routers = loop_below move a turns is.0 in
+      let pairs = children_below (length move.net) turns routers in
+      let more : (p : Pair) → (p.0 < length move.net) × (p.1 < length move.net) → AreBelow (length move.net) (place ++ p ∷ []) = λ p fine.
+      All-push (λ (q : Pair). (q.0 < length move.net) × (q.1 < length move.net)) place p below fine in (
         (routers, (is.0.address, record { some = is.0.some; distinct = is.0.distinct })),
-        All-map (AreBelow (length net)) (λ (p : Pair). place ++ p ∷ []) (child_pairs turns)
-            (All-weaker (λ (p : Pair). (p.0 < length net) × (p.1 < length net)) (λ (p : Pair). AreBelow (length net) (place ++ p ∷ [])) more
+        All-map (AreBelow (length move.net)) (λ (p : Pair). place ++ p ∷ []) (child_pairs turns)
+            (All-weaker (λ (p : Pair). (p.0 < length move.net) × (p.1 < length move.net)) (λ (p : Pair). AreBelow (length move.net) (place ++ p ∷ [])) more
             (child_pairs turns) pairs),
       )
   node_printable place (Leaf cycle) below is = (
-    (cycle_below (length net) place cycle below is, record { some = cycle_some place cycle is; distinct = is.distinct }),
-    All-nil (AreBelow (length net)),
+    (cycle_below (length move.net) place cycle below is, record { some = cycle_some place cycle is; distinct = is.distinct }),
+    All-nil (AreBelow (length move.net)),
   )
-  node_printable place Unvisited below is = ((tt, tt), All-nil (AreBelow (length net)))
+  node_printable place Unvisited below is = ((tt, tt), All-nil (AreBelow (length move.net)))
 
   -- the nodes of a tree over no pairs are printable
-  pub nodes_printable : (left : List Place) (nodes : List Node) → Fill (IsTreeNode (IsLoop net old new)) ([] ∷ []) nodes left →
-      All (IsPrintableNode (length net)) nodes
+  pub nodes_printable : (left : List Place) (nodes : List Node) → Fill (IsTreeNode (IsLoop move)) ([] ∷ []) nodes left →
+      All (IsPrintableNode (length move.net)) nodes
   nodes_printable left nodes fill =
-      let none : AreBelow (length net) [] = All-nil (λ (p : Pair). (p.0 < length net) × (p.1 < length net)) in
-      Fill-each (IsTreeNode (IsLoop net old new)) (AreBelow (length net)) (IsPrintableNode (length net)) node_printable ([] ∷ []) left nodes fill
-      (All-cons (AreBelow (length net)) [] [] none (All-nil (AreBelow (length net))))
+      let none : AreBelow (length move.net) [] = All-nil (λ (p : Pair). (p.0 < length move.net) × (p.1 < length move.net)) in
+      Fill-each (IsTreeNode (IsLoop move)) (AreBelow (length move.net)) (IsPrintableNode (length move.net)) node_printable ([] ∷ []) left nodes fill
+      (All-cons (AreBelow (length move.net)) [] [] none (All-nil (AreBelow (length move.net))))
 
-  pub nodes_below : (left : List Place) (nodes : List Node) → Fill (IsTreeNode (IsLoop net old new)) ([] ∷ []) nodes left →
-      All (NodeBelow (length net)) nodes
+  pub nodes_below : (left : List Place) (nodes : List Node) → Fill (IsTreeNode (IsLoop move)) ([] ∷ []) nodes left →
+      All (NodeBelow (length move.net)) nodes
   nodes_below left nodes fill = λ k d within. (nodes_printable left nodes fill k d within).0
 
-  pub nodes_read : (left : List Place) (nodes : List Node) → Fill (IsTreeNode (IsLoop net old new)) ([] ∷ []) nodes left →
+  pub nodes_read : (left : List Place) (nodes : List Node) → Fill (IsTreeNode (IsLoop move)) ([] ∷ []) nodes left →
       All IsPrintedNode nodes
   nodes_read left nodes fill = λ k d within. (nodes_printable left nodes fill k d within).1

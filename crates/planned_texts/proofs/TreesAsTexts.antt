@@ -1,10 +1,9 @@
 -- The texts of the trees that a search makes: a closed tree where it refutes, an unfinished one where it was stopped.
 use Rattle.std.proofs.Common.{◌≡◌, ℕ, suc, ◌+◌, ◌<◌, List, [], ◌∷◌, ◌++◌, length, replicate, arith, refl, sym, subst}
-use Rattle.net_model.specs.Network.{Network}
 use Rattle.net_model.specs.Refusals.{IsNetwork}
 use Rattle.net_model.specs.RouterNames.{names_of}
 use Rattle.igp_theory.specs.Loops.{IsLoop}
-use Rattle.igp_theory.specs.Routes.{Tables}
+use Rattle.igp_theory.specs.Migrations.{Migration}
 use Rattle.order_search.specs.Answers.{IsFoundNode, IsRefutation, IsSpent}
 use Rattle.order_search.specs.Meanings.{Good, Picked}
 use Rattle.order_search.specs.Trees.{Fill, IsTreeNode, Place, Real, branch_count}
@@ -31,39 +30,39 @@ open_count-append (node ∷ nodes) more = omega (arith, open_count-append nodes 
 open_some : (nodes : List Node) (n : ℕ) → 0 < open_count (nodes ++ replicate (suc n) Unvisited)
 open_some nodes n = omega (arith, open_count-append nodes (replicate (suc n) Unvisited))
 
-module _ (net : Network) (old new : Tables) (good : Good) (picked : Picked) (budget : ℕ) where
-  found_fill : (places left : List Place) (nodes : List Node) → Fill (IsFoundNode (over_loops net old new good picked)) places nodes left →
-      Fill (IsTreeNode (IsLoop net old new)) places nodes left
+module _ (move : Migration) (good : Good) (picked : Picked) (budget : ℕ) where
+  found_fill : (places left : List Place) (nodes : List Node) → Fill (IsFoundNode (over_loops move good picked)) places nodes left →
+      Fill (IsTreeNode (IsLoop move)) places nodes left
   found_fill places left nodes fill =
-      Fill-weaker (IsFoundNode (over_loops net old new good picked)) (IsTreeNode (IsLoop net old new)) (λ place node is. is.is_node) places left nodes fill
+      Fill-weaker (IsFoundNode (over_loops move good picked)) (IsTreeNode (IsLoop move)) (λ place node is. is.is_node) places left nodes fill
 
   -- the branches of a refutation are loops of the network
-  pub refuted_fill : (tree : List Node) → IsRefutation (over_loops net old new good picked) budget tree →
-      Fill (IsTreeNode (IsLoop net old new)) ([] ∷ []) tree []
+  pub refuted_fill : (tree : List Node) → IsRefutation (over_loops move good picked) budget tree →
+      Fill (IsTreeNode (IsLoop move)) ([] ∷ []) tree []
   refuted_fill tree is = found_fill ([] ∷ []) [] tree is.closed.tree
 
   -- and so are those of a tree that was stopped
-  pub spent_fill : (tree : List Node) → IsSpent (over_loops net old new good picked) budget tree →
-      Fill (IsTreeNode (IsLoop net old new)) ([] ∷ []) tree []
+  pub spent_fill : (tree : List Node) → IsSpent (over_loops move good picked) budget tree →
+      Fill (IsTreeNode (IsLoop move)) ([] ∷ []) tree []
   spent_fill tree is =
       let stopped = is.stopped in
       let before = found_fill ([] ∷ []) (stopped.place ∷ stopped.later) stopped.before stopped.stands.fills in
-      let rest = open_places (IsLoop net old new) (stopped.place ∷ stopped.later) in
-      subst (λ (nodes : List Node). Fill (IsTreeNode (IsLoop net old new)) ([] ∷ []) nodes []) (sym stopped.ends)
-      (Fill-append (IsTreeNode (IsLoop net old new)) ([] ∷ []) (stopped.place ∷ stopped.later) [] stopped.before
+      let rest = open_places (IsLoop move) (stopped.place ∷ stopped.later) in
+      subst (λ (nodes : List Node). Fill (IsTreeNode (IsLoop move)) ([] ∷ []) nodes []) (sym stopped.ends)
+      (Fill-append (IsTreeNode (IsLoop move)) ([] ∷ []) (stopped.place ∷ stopped.later) [] stopped.before
       (replicate (suc (length stopped.later)) Unvisited) before rest)
 
-  module _ (network : IsNetwork net) where
+  module _ (network : IsNetwork move.net) where
     -- a tree whose branches are loops of the network reads back as this tree
-    tree_reads : (nodes : List Node) → Fill (IsTreeNode (IsLoop net old new)) ([] ∷ []) nodes [] →
-        IsTreeText net old new (tree_text (names_of net) nodes) nodes
+    tree_reads : (nodes : List Node) → Fill (IsTreeNode (IsLoop move)) ([] ∷ []) nodes [] →
+        IsTreeText move (tree_text (names_of move.net) nodes) nodes
     tree_reads nodes fill =
-        let back = trees_read_back net nodes network (nodes_below net old new [] nodes fill) (nodes_read net old new [] nodes fill) in
+        let back = trees_read_back move.net nodes network (nodes_below move [] nodes fill) (nodes_read move [] nodes fill) in
         record { lines = back.lines; text_is = back.text_is; right = record { said = back.said; fills = fill } }
 
     -- a refutation is a closed text
-    pub refutation_closes : (tree : List Node) → IsRefutation (over_loops net old new good picked) budget tree →
-        IsClosedText net old new (tree_text (names_of net) tree) (branch_count tree) (leaf_count tree)
+    pub refutation_closes : (tree : List Node) → IsRefutation (over_loops move good picked) budget tree →
+        IsClosedText move (tree_text (names_of move.net) tree) (branch_count tree) (leaf_count tree)
     refutation_closes tree is = record {
       nodes = tree;
       tree = tree_reads tree (refuted_fill tree is);
@@ -73,8 +72,8 @@ module _ (net : Network) (old new : Tables) (good : Good) (picked : Picked) (bud
     }
 
     -- a tree that was stopped is an unfinished text
-    pub spent_stays_open : (tree : List Node) → IsSpent (over_loops net old new good picked) budget tree →
-        IsUnfinishedText net old new (tree_text (names_of net) tree) (open_count tree)
+    pub spent_stays_open : (tree : List Node) → IsSpent (over_loops move good picked) budget tree →
+        IsUnfinishedText move (tree_text (names_of move.net) tree) (open_count tree)
     spent_stays_open tree is = record {
       nodes = tree;
       tree = tree_reads tree (spent_fill tree is);

@@ -4,12 +4,11 @@ use Rattle.std.proofs.Common.{subst, sym}
 use Rattle.std.specs.List.{AllZip, range_with_len}
 use Rattle.std.proofs.lemmas.Bool.{cases_lt}
 use Rattle.std.proofs.lemmas.List.Elements.{All-contains, Contains-push_cases}
-use Rattle.net_model.specs.Network.{Network}
-use Rattle.igp_theory.specs.Routes.{Tables}
 use Rattle.order_core.specs.Pairs.{Pair, AreBelow}
 use Rattle.order_core.specs.Rankings.{wave_count, wave_of}
 use Rattle.order_core.specs.declared.turn.Turn.{Turn}
 use Rattle.order_core.proofs.WaveLists.{wave_routers}
+use Rattle.igp_theory.specs.Migrations.{Migration}
 use Rattle.order_search.specs.Answers.{AreFoundWaves, IsFoundNode}
 use Rattle.order_search.specs.Meanings.{Good, Meaning, Picked}
 use Rattle.order_search.specs.Places.{LeadsToRanking}
@@ -89,28 +88,28 @@ trail_branch m place ranks trail address turns leads has =
       | inr same ↦ cc
     ]
 
-module _ (net : Network) (old new : Tables) (good : Good) (picked : Picked) where
+module _ (move : Migration) (good : Good) (picked : Picked) where
   module _ (budget : ℕ) (ranks : List ℕ) (pairs : List Pair) (chain : List ℕ) (trail : List Node)
-      (found : AreFoundWaves (over_loops net old new good picked) budget ranks pairs chain trail) where
+      (found : AreFoundWaves (over_loops move good picked) budget ranks pairs chain trail) where
     pub found_one_of_each : AreOneOfEach ranks chain
     found_one_of_each =
-        chain_one_of_each (length net) pairs ranks chain found.leads.stands.layered.layers.whole found.leads.stands.layered.below found.chained
+        chain_one_of_each (length move.net) pairs ranks chain found.leads.stands.layered.layers.whole found.leads.stands.layered.below found.chained
 
-    pub found_each : length ranks ≡ length net
+    pub found_each : length ranks ≡ length move.net
     found_each = found.leads.stands.layered.layers.whole
 
     -- a pair that is assumed is tagged in a loop of the trail
-    pair_tagged : (pair : Pair) → Contains pairs pair → AreTaggedInLoop net old new pair.0 pair.1
+    pair_tagged : (pair : Pair) → Contains pairs pair → AreTaggedInLoop move pair.0 pair.1
     pair_tagged pair has = elim (found.turned pair has) [
       | inl base ↦ absurd (omega (arith, base.1))
       | inr turned ↦ record {
         address = turned.address;
         ring = turned.turns;
-        is_loop = trail_branch (over_loops net old new good picked) pairs ranks trail turned.address turned.turns found.leads turned.branch;
+        is_loop = trail_branch (over_loops move good picked) pairs ranks trail turned.address turned.turns found.leads turned.branch;
         is_old = turned.old;
         is_new = turned.new;
       }
     ]
 
-    pub found_tagged : IsTaggedChain net old new chain
+    pub found_tagged : IsTaggedChain move chain
     found_tagged k within = pair_tagged (get_or chain k 0, get_or chain (suc k) 0) (found.neighbours k within)

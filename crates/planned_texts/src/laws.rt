@@ -1,25 +1,25 @@
 ghost use Rattle.planned_texts.specs.ReadingBack.{ChainsAreTagged, PlannedTextsReadBack, PlansArePrintable};
 
-use igp_theory::TablePair;
+use igp_theory::AnyMigration;
 
 /// The law that what the search finds of a network has a text: it speaks of the network's routers, and the chain of
 /// waves has one router of each.
-pub fn plans_are_printable<T: TablePair>()
-    ensures { PlansArePrintable T.old T.new }
+pub fn plans_are_printable<T: AnyMigration>()
+    ensures { PlansArePrintable T.migration }
 {}
 
 /// The law that the text of a plan reads back.
 ///
 /// The text of planned waves is an order file that names these waves, and they are seamless; that of a refutation is a
 /// closed tree; that of a tree where the budget was spent has unvisited places. Each reads so in one way only.
-pub fn planned_texts_read_back<T: TablePair>()
-    ensures { PlannedTextsReadBack T.old T.new }
+pub fn planned_texts_read_back<T: AnyMigration>()
+    ensures { PlannedTextsReadBack T.migration }
 {}
 
 /// The law that each two neighbours of the chain of planned waves are tagged `Old` and `New` in one loop of the network.
 ///
 /// In that loop the first of them has to be switched before the second, unless another router tagged `Old` is switched
 /// before another one tagged `New`.
-pub fn chains_are_tagged<T: TablePair>()
-    ensures { ChainsAreTagged T.old T.new }
+pub fn chains_are_tagged<T: AnyMigration>()
+    ensures { ChainsAreTagged T.migration }
 {}

@@ -12,7 +12,7 @@ use Rattle.net_model.specs.Network.{Network, Connected}
 use Rattle.net_model.specs.Refusals.{IsNetwork}
 use Rattle.igp_theory.specs.Forwarding.{IsOriginated, IsTarget, MustForward}
 use Rattle.igp_theory.specs.Loops.{AroundRing, IsTag}
-use Rattle.igp_theory.specs.Routes.{Tables}
+use Rattle.igp_theory.specs.Migrations.{Migration}
 use Rattle.order_core.specs.Turns.{HasBothTags}
 use Rattle.order_core.specs.declared.turn.Turn.{Turn}
 use Rattle.refutation_check.specs.WrongLines.{IsOriginatedBySome, WrongBranch, IsLowestKind, kind_number}
@@ -38,14 +38,14 @@ abbrev pub SomeOriginates : Network → List Turn → Block → Type 0
 SomeOriginates net turns p = Any (λ (turn : Turn). Connected net turn.router p) turns
 
 -- the turns go round a ring
-abbrev pub GoesRound : Network → Tables → Tables → ℕ → List Turn → Type 0
-GoesRound net old new a turns = AroundRing (λ (r s : Turn). IsTag net old new a r s.router) turns
+abbrev pub GoesRound : Migration → ℕ → List Turn → Type 0
+GoesRound move a turns = AroundRing (λ (r s : Turn). IsTag move a r s.router) turns
 
-pub no_target_lowest : (net : Network) (old new : Tables) (a : ℕ) (turns : List Turn) →
-    ((p : Block) → ¬ IsTarget net a p) → IsLowestKind (WrongBranch net old new a turns) Address
-no_target_lowest net old new a turns none = record { wrong = none; lowest = lowest }
+pub no_target_lowest : (move : Migration) (a : ℕ) (turns : List Turn) →
+    ((p : Block) → ¬ IsTarget move.net a p) → IsLowestKind (WrongBranch move a turns) Address
+no_target_lowest move a turns none = record { wrong = none; lowest = lowest }
   where
-    lowest : (other : WrongKind) → WrongBranch net old new a turns other → 3 ≤ kind_number other
+    lowest : (other : WrongKind) → WrongBranch move a turns other → 3 ≤ kind_number other
     lowest Form w = absurd w
     lowest Router w = absurd w
     lowest Address w = omega arith
@@ -54,11 +54,11 @@ no_target_lowest net old new a turns none = record { wrong = none; lowest = lowe
     lowest OneSided w = omega arith
     lowest NotAssumed w = absurd w
 
-pub originates_lowest : (net : Network) (old new : Tables) (a : ℕ) (turns : List Turn) (p : Block) → IsTarget net a p → SomeOriginates net turns p →
-    IsLowestKind (WrongBranch net old new a turns) Originator
-originates_lowest net old new a turns p target some = record { wrong = record { target = p; is_target = target; by_some = some }; lowest = lowest }
+pub originates_lowest : (move : Migration) (a : ℕ) (turns : List Turn) (p : Block) → IsTarget move.net a p → SomeOriginates move.net turns p →
+    IsLowestKind (WrongBranch move a turns) Originator
+originates_lowest move a turns p target some = record { wrong = record { target = p; is_target = target; by_some = some }; lowest = lowest }
   where
-    lowest : (other : WrongKind) → WrongBranch net old new a turns other → 4 ≤ kind_number other
+    lowest : (other : WrongKind) → WrongBranch move a turns other → 4 ≤ kind_number other
     lowest Form w = absurd w
     lowest Router w = absurd w
     lowest Address w = absurd (w p target)
@@ -73,30 +73,30 @@ none_originated : (net : Network) (a : ℕ) (turns : List Turn) (p : Block) → 
 none_originated net a turns p network target none w =
     none (subst (λ (q : Block). SomeOriginates net turns q) (one_target net a w.target p network w.is_target target) w.by_some)
 
-pub off_step_lowest : (net : Network) (old new : Tables) (a : ℕ) (turns : List Turn) (p : Block) → IsNetwork net → IsTarget net a p →
-    ¬ SomeOriginates net turns p → ¬ GoesRound net old new a turns
-    → IsLowestKind (WrongBranch net old new a turns) Step
-off_step_lowest net old new a turns p network target none off = record { wrong = off; lowest = lowest }
+pub off_step_lowest : (move : Migration) (a : ℕ) (turns : List Turn) (p : Block) → IsNetwork move.net → IsTarget move.net a p →
+    ¬ SomeOriginates move.net turns p → ¬ GoesRound move a turns
+    → IsLowestKind (WrongBranch move a turns) Step
+off_step_lowest move a turns p network target none off = record { wrong = off; lowest = lowest }
   where
-    lowest : (other : WrongKind) → WrongBranch net old new a turns other → 5 ≤ kind_number other
+    lowest : (other : WrongKind) → WrongBranch move a turns other → 5 ≤ kind_number other
     lowest Form w = absurd w
     lowest Router w = absurd w
     lowest Address w = absurd (w p target)
-    lowest Originator w = absurd (none_originated net a turns p network target none w)
+    lowest Originator w = absurd (none_originated move.net a turns p network target none w)
     lowest Step w = omega arith
     lowest OneSided w = omega arith
     lowest NotAssumed w = absurd w
 
-pub one_sided_lowest : (net : Network) (old new : Tables) (a : ℕ) (turns : List Turn) (p : Block) → IsNetwork net → IsTarget net a p →
-    ¬ SomeOriginates net turns p → GoesRound net old new a turns → ¬ HasBothTags turns
-    → IsLowestKind (WrongBranch net old new a turns) OneSided
-one_sided_lowest net old new a turns p network target none round sided = record { wrong = sided; lowest = lowest }
+pub one_sided_lowest : (move : Migration) (a : ℕ) (turns : List Turn) (p : Block) → IsNetwork move.net → IsTarget move.net a p →
+    ¬ SomeOriginates move.net turns p → GoesRound move a turns → ¬ HasBothTags turns
+    → IsLowestKind (WrongBranch move a turns) OneSided
+one_sided_lowest move a turns p network target none round sided = record { wrong = sided; lowest = lowest }
   where
-    lowest : (other : WrongKind) → WrongBranch net old new a turns other → 6 ≤ kind_number other
+    lowest : (other : WrongKind) → WrongBranch move a turns other → 6 ≤ kind_number other
     lowest Form w = absurd w
     lowest Router w = absurd w
     lowest Address w = absurd (w p target)
-    lowest Originator w = absurd (none_originated net a turns p network target none w)
+    lowest Originator w = absurd (none_originated move.net a turns p network target none w)
     lowest Step w = absurd (w round)
     lowest OneSided w = omega arith
     lowest NotAssumed w = absurd w

@@ -7,11 +7,11 @@ use Rattle.std.proofs.lemmas.List.{append-nil}
 use Rattle.std.proofs.lemmas.List.Elements.{All-head, All-tail}
 use Rattle.net_addr.specs.Addresses.{Block}
 use Rattle.net_addr.specs.Lines.{line_texts}
-use Rattle.net_model.specs.Network.{Network, Connected}
+use Rattle.net_model.specs.Network.{Connected}
 use Rattle.net_model.specs.Refusals.{IsNetwork}
 use Rattle.igp_theory.specs.Forwarding.{MustForward, Steps}
 use Rattle.igp_theory.specs.Loops.{IsLoop, IsTag, IsTagOf}
-use Rattle.igp_theory.specs.Routes.{Tables}
+use Rattle.igp_theory.specs.Migrations.{Migration}
 use Rattle.igp_theory.specs.declared.phase.Phase.TheVariants.{Old, New}
 use Rattle.order_core.specs.declared.turn.Tag.{Tag}
 use Rattle.order_core.specs.declared.turn.Tag.TheVariants as tag
@@ -112,57 +112,57 @@ said_parts R (x ∷ xs) ys (z ∷ zs) said =
 -- A node that is right has no wrong kind
 
 -- whoever has a tag has to pass packets on
-tag_must : (net : Network) (old new : Tables) (u a h : ℕ) (t : Tag) →
-    IsTagOf t (Steps net old new u Old a h) (Steps net old new u New a h) → MustForward net a u
-tag_must net old new u a h tag.Old is = is.0.must
-tag_must net old new u a h tag.New is = is.1.must
-tag_must net old new u a h tag.Both is = is.0.must
+tag_must : (move : Migration) (u a h : ℕ) (t : Tag) →
+    IsTagOf t (Steps move u Old a h) (Steps move u New a h) → MustForward move.net a u
+tag_must move u a h tag.Old is = is.0.must
+tag_must move u a h tag.New is = is.1.must
+tag_must move u a h tag.Both is = is.0.must
 
 -- the turn at a place of a loop has to pass packets on
-loop_must : (net : Network) (old new : Tables) (a : ℕ) (turns : List Turn) (k : ℕ) (turn : Turn) → IsLoop net old new a turns → k < length turns →
-    get_or turns k turn ≡ turn → MustForward net a turn.router
-loop_must net old new a turns k turn loop within is =
-    let at = around_at (λ (r s : Turn). IsTag net old new a r s.router) turns k turn loop.tags within in
-    subst (λ (t : Turn). MustForward net a t.router) is
-    (tag_must net old new (get_or turns k turn).router a (next_at turns k turn).router (get_or turns k turn).tag at.steps)
+loop_must : (move : Migration) (a : ℕ) (turns : List Turn) (k : ℕ) (turn : Turn) → IsLoop move a turns → k < length turns →
+    get_or turns k turn ≡ turn → MustForward move.net a turn.router
+loop_must move a turns k turn loop within is =
+    let at = around_at (λ (r s : Turn). IsTag move a r s.router) turns k turn loop.tags within in
+    subst (λ (t : Turn). MustForward move.net a t.router) is
+    (tag_must move (get_or turns k turn).router a (next_at turns k turn).router (get_or turns k turn).tag at.steps)
 
-right_no_wrong : (net : Network) → IsNetwork net → (old new : Tables) (place : Place) (node : Node) (kind : WrongKind) →
-    IsRightNode net old new place node → WrongNode net old new place node kind → ⊥
-right_no_wrong net network old new place (Branch a turns) Form right w = w
-right_no_wrong net network old new place (Branch a turns) Router right w = w
-right_no_wrong net network old new place (Branch a turns) Address right w = first turns right.0
+right_no_wrong : (move : Migration) → IsNetwork move.net → (place : Place) (node : Node) (kind : WrongKind) →
+    IsRightNode move place node → WrongNode move place node kind → ⊥
+right_no_wrong move network place (Branch a turns) Form right w = w
+right_no_wrong move network place (Branch a turns) Router right w = w
+right_no_wrong move network place (Branch a turns) Address right w = first turns right.0
   where
-    first : (ts : List Turn) → IsLoop net old new a ts → ⊥
+    first : (ts : List Turn) → IsLoop move a ts → ⊥
     first [] loop = omega (arith, loop.some)
     first (t ∷ ts) loop =
-        let must = loop_must net old new a (t ∷ ts) 0 t loop (omega arith) refl in
+        let must = loop_must move a (t ∷ ts) 0 t loop (omega arith) refl in
         w must.target must.is_target
-right_no_wrong net network old new place (Branch a turns) Originator right w =
-    let must = loop_must net old new a turns w.by_some.0 w.by_some.1 right.0 w.by_some.2 w.by_some.3 in
-    let same : must.target ≡ w.target = one_target net a must.target w.target network must.is_target w.is_target in
-    must.away (subst (λ (p : Block). Connected net w.by_some.1.router p) (sym same) w.by_some.4)
-right_no_wrong net network old new place (Branch a turns) Step right w = w right.0.tags
-right_no_wrong net network old new place (Branch a turns) OneSided right w = w right.1
-right_no_wrong net network old new place (Branch a turns) NotAssumed right w = w
-right_no_wrong net network old new place (Leaf cycle) Form right w = w
-right_no_wrong net network old new place (Leaf cycle) Router right w = w
-right_no_wrong net network old new place (Leaf cycle) Address right w = w
-right_no_wrong net network old new place (Leaf cycle) Originator right w = w
-right_no_wrong net network old new place (Leaf cycle) Step right w = w
-right_no_wrong net network old new place (Leaf cycle) OneSided right w = w
-right_no_wrong net network old new place (Leaf cycle) NotAssumed right w = w (round_from place cycle right)
-right_no_wrong net network old new place Unvisited kind right w = w
+right_no_wrong move network place (Branch a turns) Originator right w =
+    let must = loop_must move a turns w.by_some.0 w.by_some.1 right.0 w.by_some.2 w.by_some.3 in
+    let same : must.target ≡ w.target = one_target move.net a must.target w.target network must.is_target w.is_target in
+    must.away (subst (λ (p : Block). Connected move.net w.by_some.1.router p) (sym same) w.by_some.4)
+right_no_wrong move network place (Branch a turns) Step right w = w right.0.tags
+right_no_wrong move network place (Branch a turns) OneSided right w = w right.1
+right_no_wrong move network place (Branch a turns) NotAssumed right w = w
+right_no_wrong move network place (Leaf cycle) Form right w = w
+right_no_wrong move network place (Leaf cycle) Router right w = w
+right_no_wrong move network place (Leaf cycle) Address right w = w
+right_no_wrong move network place (Leaf cycle) Originator right w = w
+right_no_wrong move network place (Leaf cycle) Step right w = w
+right_no_wrong move network place (Leaf cycle) OneSided right w = w
+right_no_wrong move network place (Leaf cycle) NotAssumed right w = w (round_from place cycle right)
+right_no_wrong move network place Unvisited kind right w = w
 
 -- nor have words that say it
-module _ (net : Network) (network : IsNetwork net) (old new : Tables) (place : Place) (words : List (List ℕ)) (node : Node)
-    (says : SaysNode net words node) (right : IsRightNode net old new place node) where
-  no_wrong : (other : Node) (kind : WrongKind) → SaysNode net words other → WrongNode net old new place other kind → ⊥
+module _ (move : Migration) (network : IsNetwork move.net) (place : Place) (words : List (List ℕ)) (node : Node)
+    (says : SaysNode move.net words node) (right : IsRightNode move place node) where
+  no_wrong : (other : Node) (kind : WrongKind) → SaysNode move.net words other → WrongNode move place other kind → ⊥
   no_wrong other kind said w =
-      right_no_wrong net network old new place node kind right
-      (subst (λ (n : Node). WrongNode net old new place n kind) (one_node net network words other node said says) w)
+      right_no_wrong move network place node kind right
+      (subst (λ (n : Node). WrongNode move place n kind) (one_node move.net network words other node said says) w)
 
-  no_wrong_words : (kind : WrongKind) → WrongWords net old new place words kind → ⊥
-  no_wrong_words Form w = w (form_of net words node says)
+  no_wrong_words : (kind : WrongKind) → WrongWords move place words kind → ⊥
+  no_wrong_words Form w = w (form_of move.net words node says)
   no_wrong_words Router w = w node says
   no_wrong_words Address w = no_wrong w.node Address w.says w.wrong
   no_wrong_words Originator w = no_wrong w.node Originator w.says w.wrong
@@ -192,7 +192,7 @@ one_lowest P k l low least = one_kind k l (omega (arith, low.lowest l least.wron
 
 -- How far the lines are right
 
-module _ (net : Network) (network : IsNetwork net) (old new : Tables) where
+module _ (move : Migration) (network : IsNetwork move.net) where
   -- the verdict where some lines are right, with their nodes, so many of them, the places that they leave open and the lines behind them
   abbrev Outcome : List Place → List (List ℕ) → List Node → ℕ → Verdict → Type 0
   Outcome [] [] nodes count (Closed branches leaves) = All IsVisited nodes × (branches ≡ branch_count nodes) × (leaves ≡ leaf_count nodes)
@@ -206,7 +206,7 @@ module _ (net : Network) (network : IsNetwork net) (old new : Tables) where
   Outcome (p ∷ left) [] nodes count (Wrong line kind) = (line ≡ count + 2) × (kind ≡ Form)
   Outcome (p ∷ left) (x ∷ rest) nodes count (Closed branches leaves) = ⊥
   Outcome (p ∷ left) (x ∷ rest) nodes count (Unfinished unvisited) = ⊥
-  Outcome (p ∷ left) (x ∷ rest) nodes count (Wrong line kind) = (line ≡ count + 2) × IsLowestKind (WrongWords net old new p (pieces_of x)) kind
+  Outcome (p ∷ left) (x ∷ rest) nodes count (Wrong line kind) = (line ≡ count + 2) × IsLowestKind (WrongWords move p (pieces_of x)) kind
 
   -- no closed tree has an unvisited place
   none_open : (nodes : List Node) → All IsVisited nodes → open_count nodes ≡ 0
@@ -243,7 +243,7 @@ module _ (net : Network) (network : IsNetwork net) (old new : Tables) where
   one_outcome (p ∷ left) (x ∷ rest) nodes count (Wrong n k) (Closed b l) f g = absurd g
   one_outcome (p ∷ left) (x ∷ rest) nodes count (Wrong n k) (Unfinished u) f g = absurd g
   one_outcome (p ∷ left) (x ∷ rest) nodes count (Wrong n k) (Wrong m j) f g =
-      same_wrong n m k j (f.0 ∙ sym g.0) (one_lowest (WrongWords net old new p (pieces_of x)) k j f.1 g.1)
+      same_wrong n m k j (f.0 ∙ sym g.0) (one_lowest (WrongWords move p (pieces_of x)) k j f.1 g.1)
 
   -- some first lines are right, and the verdict is what follows
   record Stops (lines : List (List ℕ)) (verdict : Verdict) : Type 0 where
@@ -252,38 +252,38 @@ module _ (net : Network) (network : IsNetwork net) (old new : Tables) where
     nodes : List Node
     left : List Place
     is : lines ≡ before ++ rest
-    right : AreRightLines net old new before nodes left
+    right : AreRightLines move before nodes left
     outcome : Outcome left rest nodes (length before) verdict
 
   -- where a line is wrong or stands behind the tree, no right line goes on
   stops_there : (left : List Place) (line : List ℕ) (later : List (List ℕ)) (nodes : List Node) (count : ℕ) (verdict : Verdict) (more : List Node)
       (end : List Place) → Outcome left (line ∷ later) nodes count verdict → (after : List (List ℕ)) →
-      AllZip (λ (l : List ℕ) (node : Node). SaysNode net (pieces_of l) node) (line ∷ after) more →
-      Fill (IsRightNode net old new) left more end → ⊥
+      AllZip (λ (l : List ℕ) (node : Node). SaysNode move.net (pieces_of l) node) (line ∷ after) more →
+      Fill (IsRightNode move) left more end → ⊥
   stops_there left line later nodes count verdict [] end out after said fills = said
   stops_there [] line later nodes count verdict (n ∷ more) end out after said fills = fills
   stops_there (p ∷ left) line later nodes count (Closed b l) (n ∷ more) end out after said fills = out
   stops_there (p ∷ left) line later nodes count (Unfinished u) (n ∷ more) end out after said fills = out
   stops_there (p ∷ left) line later nodes count (Wrong m k) (n ∷ more) end out after said fills =
-      no_wrong_words net network old new p (pieces_of line) n said.0 fills.0 k out.1.wrong
+      no_wrong_words move network p (pieces_of line) n said.0 fills.0 k out.1.wrong
 
   -- so none stops further on than another
   no_further : (lines : List (List ℕ)) (v w : Verdict) (s : Stops lines v) (t : Stops lines w) → length s.before < length t.before → ⊥
   no_further lines v w s t less =
-      let says : List ℕ → Node → Type 0 = λ (l : List ℕ) (node : Node). SaysNode net (pieces_of l) node in
+      let says : List ℕ → Node → Type 0 = λ (l : List ℕ) (node : Node). SaysNode move.net (pieces_of l) node in
       let more = goes_on s.before t.before s.rest t.rest (sym s.is ∙ t.is) less in
       let parts = said_parts says s.before (more.line ∷ more.goes.after) t.nodes
       (subst (λ (l : List (List ℕ)). AllZip says l t.nodes) more.goes.is t.right.said) in
-      let fills = fills_on (IsRightNode net old new) ([] ∷ []) parts.front parts.rest t.left
-      (subst (λ (ns : List Node). Fill (IsRightNode net old new) ([] ∷ []) ns t.left) parts.is t.right.fills) in
-      let front : parts.front ≡ s.nodes = one_zip says (λ l m n f g. one_node net network (pieces_of l) m n f g) s.before parts.front s.nodes
+      let fills = fills_on (IsRightNode move) ([] ∷ []) parts.front parts.rest t.left
+      (subst (λ (ns : List Node). Fill (IsRightNode move) ([] ∷ []) ns t.left) parts.is t.right.fills) in
+      let front : parts.front ≡ s.nodes = one_zip says (λ l m n f g. one_node move.net network (pieces_of l) m n f g) s.before parts.front s.nodes
       parts.first s.right.said in
-      let left : fills.mid ≡ s.left = one_left (IsRightNode net old new) ([] ∷ []) s.nodes fills.mid s.left
-      (subst (λ (ns : List Node). Fill (IsRightNode net old new) ([] ∷ []) ns fills.mid) front fills.first) s.right.fills in
+      let left : fills.mid ≡ s.left = one_left (IsRightNode move) ([] ∷ []) s.nodes fills.mid s.left
+      (subst (λ (ns : List Node). Fill (IsRightNode move) ([] ∷ []) ns fills.mid) front fills.first) s.right.fills in
       stops_there s.left more.line more.later s.nodes (length s.before) v parts.rest t.left
       (subst (λ (r : List (List ℕ)). Outcome s.left r s.nodes (length s.before) v) more.rest_is s.outcome)
       more.goes.after parts.second
-      (subst (λ (ps : List Place). Fill (IsRightNode net old new) ps parts.rest t.left) left fills.second)
+      (subst (λ (ps : List Place). Fill (IsRightNode move) ps parts.rest t.left) left fills.second)
 
   same_length : (lines : List (List ℕ)) (v w : Verdict) (s : Stops lines v) (t : Stops lines w) → length s.before ≡ length t.before
   same_length lines v w s t =
@@ -294,13 +294,13 @@ module _ (net : Network) (network : IsNetwork net) (old new : Tables) where
 
   one_stop : (lines : List (List ℕ)) (v w : Verdict) → Stops lines v → Stops lines w → v ≡ w
   one_stop lines v w s t =
-      let says : List ℕ → Node → Type 0 = λ (l : List ℕ) (node : Node). SaysNode net (pieces_of l) node in
+      let says : List ℕ → Node → Type 0 = λ (l : List ℕ) (node : Node). SaysNode move.net (pieces_of l) node in
       let long = same_length lines v w s t in
       let parts = same_front s.before t.before s.rest t.rest (sym s.is ∙ t.is) long in
-      let nodes : s.nodes ≡ t.nodes = one_zip says (λ l m n f g. one_node net network (pieces_of l) m n f g) t.before s.nodes t.nodes
+      let nodes : s.nodes ≡ t.nodes = one_zip says (λ l m n f g. one_node move.net network (pieces_of l) m n f g) t.before s.nodes t.nodes
       (subst (λ (l : List (List ℕ)). AllZip says l s.nodes) parts.0 s.right.said) t.right.said in
-      let left : s.left ≡ t.left = one_left (IsRightNode net old new) ([] ∷ []) t.nodes s.left t.left
-      (subst (λ (ns : List Node). Fill (IsRightNode net old new) ([] ∷ []) ns s.left) nodes s.right.fills) t.right.fills in
+      let left : s.left ≡ t.left = one_left (IsRightNode move) ([] ∷ []) t.nodes s.left t.left
+      (subst (λ (ns : List Node). Fill (IsRightNode move) ([] ∷ []) ns s.left) nodes s.right.fills) t.right.fills in
       let by_left = subst (λ (ps : List Place). Outcome ps s.rest s.nodes (length s.before) v) left s.outcome in
       let by_rest = subst (λ (r : List (List ℕ)). Outcome t.left r s.nodes (length s.before) v) parts.1 by_left in
       let by_nodes = subst (λ (ns : List Node). Outcome t.left t.rest ns (length s.before) v) nodes by_rest in
@@ -312,7 +312,7 @@ module _ (net : Network) (network : IsNetwork net) (old new : Tables) where
     no_header : ((lines : List (List ℕ)) → ¬ (line_texts text ≡ tree_header ∷ lines)) → verdict ≡ Wrong 1 Form → Judged text verdict
     stops : (lines : List (List ℕ)) → line_texts text ≡ tree_header ∷ lines → Stops lines verdict → Judged text verdict
 
-  wrong_judged : (text : List ℕ) (line : ℕ) (kind : WrongKind) → IsFirstWrongLine net old new text line kind → Judged text (Wrong line kind)
+  wrong_judged : (text : List ℕ) (line : ℕ) (kind : WrongKind) → IsFirstWrongLine move text line kind → Judged text (Wrong line kind)
   wrong_judged text line kind (header_missing none) = no_header none refl
   wrong_judged text line kind (wrong_there before x after nodes place left k is right low) = stops (before ++ x ∷ after) is (record {
     before = before;
@@ -342,7 +342,7 @@ module _ (net : Network) (network : IsNetwork net) (old new : Tables) where
     outcome = (refl, refl);
   })
 
-  judged : (text : List ℕ) (verdict : Verdict) → IsTextVerdict net old new text verdict → Judged text verdict
+  judged : (text : List ℕ) (verdict : Verdict) → IsTextVerdict move text verdict → Judged text verdict
   judged text (Closed b l) is = stops is.tree.lines is.tree.text_is (record {
     before = is.tree.lines;
     rest = [];
@@ -371,5 +371,5 @@ module _ (net : Network) (network : IsNetwork net) (old new : Tables) where
       one_stop others v w
       (subst (λ (l : List (List ℕ)). Stops l v) (later_words tree_header tree_header lines others (sym parts ∙ same)) s) t
 
-  pub one_verdict : (text : List ℕ) (one other : Verdict) → IsTextVerdict net old new text one → IsTextVerdict net old new text other → one ≡ other
+  pub one_verdict : (text : List ℕ) (one other : Verdict) → IsTextVerdict move text one → IsTextVerdict move text other → one ≡ other
   one_verdict text one other first second = one_judged text one other (judged text one first) (judged text other second)

@@ -7,12 +7,11 @@ use Rattle.std.proofs.lemmas.List.{take_more, drop_more, take-append-drop, lengt
 use Rattle.std.proofs.lemmas.List.Elements.{All-cons, All-nil}
 use Rattle.std.proofs.lemmas.Slice.Zip.{AllZip-long, all_zipped_more}
 use Rattle.net_addr.specs.Lines.{line_texts}
-use Rattle.net_model.specs.Network.{Network}
 use Rattle.net_model.specs.Refusals.{IsNetwork}
-use Rattle.igp_theory.specs.Routes.{Tables}
 use Rattle.order_core.specs.Pairs.{Pair}
 use Rattle.order_core.specs.Turns.{child_pairs}
 use Rattle.order_core.specs.declared.turn.Turn.{Turn}
+use Rattle.igp_theory.specs.Migrations.{Migration}
 use Rattle.order_search.specs.Trees.{Place, Fill, IsVisited, branch_count}
 use Rattle.order_search.specs.declared.tree.Node.{Node}
 use Rattle.order_search.specs.declared.tree.Node.TheVariants.{Branch, Leaf, Unvisited}
@@ -71,32 +70,32 @@ all_visited (Leaf cycle ∷ nodes) none = All-cons IsVisited (Leaf cycle) nodes 
 all_visited (Unvisited ∷ nodes) none = absurd (omega (arith, none))
 
 -- how many lines were read
-pub read_long : (net : Network) (old new : Tables) (lines : List (List ℕ)) (reading : Reading) (i : ℕ) → i ≤ length lines →
-    (read : HasReadLines net old new (take i lines) reading) → length read.nodes ≡ i
-read_long net old new lines reading i within read =
-    AllZip-long (λ (line : List ℕ) (node : Node). SaysNode net (pieces_of line) node) (take i lines) read.nodes read.right.said
+pub read_long : (move : Migration) (lines : List (List ℕ)) (reading : Reading) (i : ℕ) → i ≤ length lines →
+    (read : HasReadLines move (take i lines) reading) → length read.nodes ≡ i
+read_long move lines reading i within read =
+    AllZip-long (λ (line : List ℕ) (node : Node). SaysNode move.net (pieces_of line) node) (take i lines) read.nodes read.right.said
     ∙ length-take-le i lines within
 
 -- One line more
 
-pub read_more : (net : Network) (old new : Tables) (lines : List (List ℕ)) (i : ℕ) (before after : Reading) → i < length lines →
-    HasReadLines net old new (take i lines) before
-    → IsTakenThere net old new before.walk.left (get_or lines i []) before after → HasReadLines net old new (take (i + 1) lines) after
-read_more net old new lines i before after within read taken = by_left before.walk.left read.right taken
+pub read_more : (move : Migration) (lines : List (List ℕ)) (i : ℕ) (before after : Reading) → i < length lines →
+    HasReadLines move (take i lines) before
+    → IsTakenThere move before.walk.left (get_or lines i []) before after → HasReadLines move (take (i + 1) lines) after
+read_more move lines i before after within read taken = by_left before.walk.left read.right taken
   where
-    by_left : (places : List Place) → AreRightLines net old new (take i lines) read.nodes places →
-        IsTakenThere net old new places (get_or lines i []) before after → HasReadLines net old new (take (i + 1) lines) after
+    by_left : (places : List Place) → AreRightLines move (take i lines) read.nodes places →
+        IsTakenThere move places (get_or lines i []) before after → HasReadLines move (take (i + 1) lines) after
     by_left [] right t = absurd t
     by_left (place ∷ left) right t = record {
       nodes = read.nodes ++ t.node ∷ [];
       right = record {
         said =
-            subst (λ (l : List (List ℕ)). AllZip (λ (line : List ℕ) (node : Node). SaysNode net (pieces_of line) node) l (read.nodes ++ t.node ∷ []))
+            subst (λ (l : List (List ℕ)). AllZip (λ (line : List ℕ) (node : Node). SaysNode move.net (pieces_of line) node) l (read.nodes ++ t.node ∷ []))
             (sym (take_more lines i [] within))
-            (all_zipped_more (λ (line : List ℕ) (node : Node). SaysNode net (pieces_of line) node) (take i lines) read.nodes
+            (all_zipped_more (λ (line : List ℕ) (node : Node). SaysNode move.net (pieces_of line) node) (take i lines) read.nodes
             (get_or lines i []) t.node right.said t.says);
-        fills = subst (λ (ps : List Place). Fill (IsRightNode net old new) ([] ∷ []) (read.nodes ++ t.node ∷ []) ps) (sym t.taken.places)
-            (Fill-push (IsRightNode net old new) ([] ∷ []) left place read.nodes t.node right.fills t.taken.right);
+        fills = subst (λ (ps : List Place). Fill (IsRightNode move) ([] ∷ []) (read.nodes ++ t.node ∷ []) ps) (sym t.taken.places)
+            (Fill-push (IsRightNode move) ([] ∷ []) left place read.nodes t.node right.fills t.taken.right);
       };
       counted = record {
         branches = omega (arith, t.counts.branches, read.counted.branches, branch_count-append read.nodes (t.node ∷ []));
@@ -112,65 +111,65 @@ split_at lines i within = sym (take-append-drop i lines) ∙ ap (λ (l : List (L
 -- The first wrong line
 
 -- a line that isn't taken is the first wrong one
-pub wrong_at : (net : Network) (old new : Tables) (text : List ℕ) (lines : List (List ℕ)) (i : ℕ) (before : Reading) (kind : WrongKind) →
-    line_texts text ≡ tree_header ∷ lines → i < length lines → HasReadLines net old new (take i lines) before
-    → IsNotTaken net old new before.walk.left (get_or lines i []) kind → IsFirstWrongLine net old new text (i + 2) kind
-wrong_at net old new text lines i before kind is within read wrong =
-    subst (λ (n : ℕ). IsFirstWrongLine net old new text (n + 2) kind) (length-take-le i lines (omega (arith, within)))
+pub wrong_at : (move : Migration) (text : List ℕ) (lines : List (List ℕ)) (i : ℕ) (before : Reading) (kind : WrongKind) →
+    line_texts text ≡ tree_header ∷ lines → i < length lines → HasReadLines move (take i lines) before
+    → IsNotTaken move before.walk.left (get_or lines i []) kind → IsFirstWrongLine move text (i + 2) kind
+wrong_at move text lines i before kind is within read wrong =
+    subst (λ (n : ℕ). IsFirstWrongLine move text (n + 2) kind) (length-take-le i lines (omega (arith, within)))
     (by_left before.walk.left read.right wrong)
   where
     parts : line_texts text ≡ tree_header ∷ (take i lines ++ get_or lines i [] ∷ drop (i + 1) lines)
     parts = is ∙ ap (λ (l : List (List ℕ)). tree_header ∷ l) (split_at lines i within)
 
-    by_left : (places : List Place) → AreRightLines net old new (take i lines) read.nodes places →
-        IsNotTaken net old new places (get_or lines i []) kind →
-        IsFirstWrongLine net old new text (length (take i lines) + 2) kind
+    by_left : (places : List Place) → AreRightLines move (take i lines) read.nodes places →
+        IsNotTaken move places (get_or lines i []) kind →
+        IsFirstWrongLine move text (length (take i lines) + 2) kind
     by_left [] right w =
-        subst (λ (k : WrongKind). IsFirstWrongLine net old new text (length (take i lines) + 2) k) (sym w)
+        subst (λ (k : WrongKind). IsFirstWrongLine move text (length (take i lines) + 2) k) (sym w)
         (after_tree (take i lines) (get_or lines i []) (drop (i + 1) lines) read.nodes parts right)
     by_left (place ∷ left) right w =
         wrong_there (take i lines) (get_or lines i []) (drop (i + 1) lines) read.nodes place left kind parts right w
 
 -- where a place is open behind the last line, the text ends too early
-pub wrong_end : (net : Network) (old new : Tables) (text : List ℕ) (lines : List (List ℕ)) (reading : Reading) →
+pub wrong_end : (move : Migration) (text : List ℕ) (lines : List (List ℕ)) (reading : Reading) →
     line_texts text ≡ tree_header ∷ lines →
-    HasReadLines net old new lines reading → ¬ (reading.walk.left ≡ [])
-    → IsFirstWrongLine net old new text (length lines + 2) Form
-wrong_end net old new text lines reading is read left_some = by_left reading.walk.left read.right left_some
+    HasReadLines move lines reading → ¬ (reading.walk.left ≡ [])
+    → IsFirstWrongLine move text (length lines + 2) Form
+wrong_end move text lines reading is read left_some = by_left reading.walk.left read.right left_some
   where
-    by_left : (places : List Place) → AreRightLines net old new lines read.nodes places → ¬ (places ≡ []) →
-        IsFirstWrongLine net old new text (length lines + 2) Form
+    by_left : (places : List Place) → AreRightLines move lines read.nodes places → ¬ (places ≡ []) →
+        IsFirstWrongLine move text (length lines + 2) Form
     by_left [] right some = absurd (some refl)
     by_left (place ∷ left) right some = ends_early lines read.nodes place left is right
 
 -- The verdict on a whole tree
 
-pub whole_is : (net : Network) (old new : Tables) (text : List ℕ) (lines : List (List ℕ)) (reading : Reading) (verdict : Verdict) →
-    line_texts text ≡ tree_header ∷ lines → HasReadLines net old new lines reading → reading.walk.left ≡ []
-    → IsWholeVerdict reading.tally verdict → IsTextVerdict net old new text verdict
-whole_is net old new text lines reading (Closed branches leaves) is read whole w = record {
+pub whole_is : (move : Migration) (text : List ℕ) (lines : List (List ℕ)) (reading : Reading) (verdict : Verdict) →
+    line_texts text ≡ tree_header ∷ lines → HasReadLines move lines reading → reading.walk.left ≡ []
+    → IsWholeVerdict reading.tally verdict → IsTextVerdict move text verdict
+whole_is move text lines reading (Closed branches leaves) is read whole w = record {
   nodes = read.nodes;
-  tree = record { lines = lines; text_is = is; right = subst (λ (ps : List Place). AreRightLines net old new lines read.nodes ps) whole read.right };
+  tree = record { lines = lines; text_is = is; right = subst (λ (ps : List Place). AreRightLines move lines read.nodes ps) whole read.right };
   visited = all_visited read.nodes (sym read.counted.unvisited ∙ w.0);
   branches_are = w.1 ∙ read.counted.branches;
   leaves_are = w.2 ∙ read.counted.leaves;
 }
-whole_is net old new text lines reading (Unfinished unvisited) is read whole w = record {
+whole_is move text lines reading (Unfinished unvisited) is read whole w = record {
   nodes = read.nodes;
-  tree = record { lines = lines; text_is = is; right = subst (λ (ps : List Place). AreRightLines net old new lines read.nodes ps) whole read.right };
+  tree = record { lines = lines; text_is = is; right = subst (λ (ps : List Place). AreRightLines move lines read.nodes ps) whole read.right };
   some = w.0;
   unvisited_are = w.1 ∙ read.counted.unvisited;
 }
-whole_is net old new text lines reading (Wrong line kind) is read whole w = absurd w
+whole_is move text lines reading (Wrong line kind) is read whole w = absurd w
 
 -- A line that isn't taken
 
 -- words that say no node are wrong with the lowest kind
-pub unread_lowest : (net : Network) (old new : Tables) (place : Place) (words : List (List ℕ)) (kind : WrongKind) → SaysNoNode net words kind →
-    IsLowestKind (WrongWords net old new place words) kind
-unread_lowest net old new place words Form w = record { wrong = w; lowest = least }
+pub unread_lowest : (move : Migration) (place : Place) (words : List (List ℕ)) (kind : WrongKind) → SaysNoNode move.net words kind →
+    IsLowestKind (WrongWords move place words) kind
+unread_lowest move place words Form w = record { wrong = w; lowest = least }
   where
-    least : (other : WrongKind) → WrongWords net old new place words other → 1 ≤ kind_number other
+    least : (other : WrongKind) → WrongWords move place words other → 1 ≤ kind_number other
     least Form x = omega arith
     least Router x = omega arith
     least Address x = omega arith
@@ -178,9 +177,9 @@ unread_lowest net old new place words Form w = record { wrong = w; lowest = leas
     least Step x = omega arith
     least OneSided x = omega arith
     least NotAssumed x = omega arith
-unread_lowest net old new place words Router w = record { wrong = w.none; lowest = least }
+unread_lowest move place words Router w = record { wrong = w.none; lowest = least }
   where
-    least : (other : WrongKind) → WrongWords net old new place words other → 2 ≤ kind_number other
+    least : (other : WrongKind) → WrongWords move place words other → 2 ≤ kind_number other
     least Form x = absurd (x w.form)
     least Router x = omega arith
     least Address x = omega arith
@@ -188,26 +187,26 @@ unread_lowest net old new place words Router w = record { wrong = w.none; lowest
     least Step x = omega arith
     least OneSided x = omega arith
     least NotAssumed x = omega arith
-unread_lowest net old new place words Address w = absurd w
-unread_lowest net old new place words Originator w = absurd w
-unread_lowest net old new place words Step w = absurd w
-unread_lowest net old new place words OneSided w = absurd w
-unread_lowest net old new place words NotAssumed w = absurd w
+unread_lowest move place words Address w = absurd w
+unread_lowest move place words Originator w = absurd w
+unread_lowest move place words Step w = absurd w
+unread_lowest move place words OneSided w = absurd w
+unread_lowest move place words NotAssumed w = absurd w
 
 -- the node of some words is wrong with the lowest kind, and so are the words
-module _ (net : Network) (network : IsNetwork net) (old new : Tables) (place : Place) (words : List (List ℕ)) (node : Node)
-    (says : SaysNode net words node) where
-  no_form : (n : Node) → WrongNode net old new place n Form → ⊥
+module _ (move : Migration) (network : IsNetwork move.net) (place : Place) (words : List (List ℕ)) (node : Node)
+    (says : SaysNode move.net words node) where
+  no_form : (n : Node) → WrongNode move place n Form → ⊥
   no_form (Branch a turns) w = w
   no_form (Leaf cycle) w = w
   no_form Unvisited w = w
 
-  no_router : (n : Node) → WrongNode net old new place n Router → ⊥
+  no_router : (n : Node) → WrongNode move place n Router → ⊥
   no_router (Branch a turns) w = w
   no_router (Leaf cycle) w = w
   no_router Unvisited w = w
 
-  as_words : (kind : WrongKind) → WrongNode net old new place node kind → WrongWords net old new place words kind
+  as_words : (kind : WrongKind) → WrongNode move place node kind → WrongWords move place words kind
   as_words Form w = absurd (no_form node w)
   as_words Router w = absurd (no_router node w)
   as_words Address w = record { node = node; says = says; wrong = w }
@@ -216,15 +215,15 @@ module _ (net : Network) (network : IsNetwork net) (old new : Tables) (place : P
   as_words OneSided w = record { node = node; says = says; wrong = w }
   as_words NotAssumed w = record { node = node; says = says; wrong = w }
 
-  same_wrong : (other : Node) (kind : WrongKind) → SaysNode net words other → WrongNode net old new place other kind →
-      WrongNode net old new place node kind
-  same_wrong other kind said w = subst (λ (n : Node). WrongNode net old new place n kind) (one_node net network words other node said says) w
+  same_wrong : (other : Node) (kind : WrongKind) → SaysNode move.net words other → WrongNode move place other kind →
+      WrongNode move place node kind
+  same_wrong other kind said w = subst (λ (n : Node). WrongNode move place n kind) (one_node move.net network words other node said says) w
 
-  pub wrong_words : (kind : WrongKind) → IsLowestKind (WrongNode net old new place node) kind → IsLowestKind (WrongWords net old new place words) kind
+  pub wrong_words : (kind : WrongKind) → IsLowestKind (WrongNode move place node) kind → IsLowestKind (WrongWords move place words) kind
   wrong_words kind is = record { wrong = as_words kind is.wrong; lowest = least }
     where
-      least : (other : WrongKind) → WrongWords net old new place words other → kind_number kind ≤ kind_number other
-      least Form x = absurd (x (form_of net words node says))
+      least : (other : WrongKind) → WrongWords move place words other → kind_number kind ≤ kind_number other
+      least Form x = absurd (x (form_of move.net words node says))
       least Router x = absurd (x node says)
       least Address x = is.lowest Address (same_wrong x.node Address x.says x.wrong)
       least Originator x = is.lowest Originator (same_wrong x.node Originator x.says x.wrong)
@@ -233,60 +232,60 @@ module _ (net : Network) (network : IsNetwork net) (old new : Tables) (place : P
       least NotAssumed x = is.lowest NotAssumed (same_wrong x.node NotAssumed x.says x.wrong)
 
 -- what came of a node at the first open place
-pub take_there : (net : Network) (old new : Tables) (places : List Place) (line : List ℕ) (before after : Reading) (node : Node) → ¬ (places ≡ []) →
-    SaysNode net (pieces_of line) node
-    → ((place : Place) (left : List Place) → places ≡ place ∷ left → TakesLine net old new place left line before after) →
-    IsTakenThere net old new places line before after
-take_there net old new [] line before after node some says taken = absurd (some refl)
-take_there net old new (place ∷ left) line before after node some says taken = taken place left refl
+pub take_there : (move : Migration) (places : List Place) (line : List ℕ) (before after : Reading) (node : Node) → ¬ (places ≡ []) →
+    SaysNode move.net (pieces_of line) node
+    → ((place : Place) (left : List Place) → places ≡ place ∷ left → TakesLine move place left line before after) →
+    IsTakenThere move places line before after
+take_there move [] line before after node some says taken = absurd (some refl)
+take_there move (place ∷ left) line before after node some says taken = taken place left refl
 
-pub not_there : (net : Network) (old new : Tables) (places : List Place) (line : List ℕ) (kind : WrongKind) → ¬ (places ≡ [])
-    → ((place : Place) (left : List Place) → places ≡ place ∷ left → IsLowestKind (WrongWords net old new place (pieces_of line)) kind) →
-    IsNotTaken net old new places line kind
-not_there net old new [] line kind some wrong = absurd (some refl)
-not_there net old new (place ∷ left) line kind some wrong = wrong place left refl
+pub not_there : (move : Migration) (places : List Place) (line : List ℕ) (kind : WrongKind) → ¬ (places ≡ [])
+    → ((place : Place) (left : List Place) → places ≡ place ∷ left → IsLowestKind (WrongWords move place (pieces_of line)) kind) →
+    IsNotTaken move places line kind
+not_there move [] line kind some wrong = absurd (some refl)
+not_there move (place ∷ left) line kind some wrong = wrong place left refl
 
 -- what came of a node, where it is a branch or a leaf
 
-pub branch_taken : (net : Network) (old new : Tables) (place : Place) (left after : List Place) (node : Node) (a : ℕ) (turns shown entered : List Turn) →
-    node ≡ Branch a turns → shown ≡ turns → entered ≡ turns → IsRinged (length net) node
-    → IsRightBranch net old new a shown → after ≡ map (λ (p : Pair). place ++ p ∷ []) (child_pairs entered) ++ left →
-    IsTaken net old new place left after node
-branch_taken net old new place left after node a turns shown entered is shows enters ringed right below =
-    let here : IsRightBranch net old new a turns = subst (λ (l : List Turn). IsRightBranch net old new a l) shows right in
-    let many : IsRinged (length net) (Branch a turns) = subst (IsRinged (length net)) is ringed in
-    subst (λ (n : Node). IsTaken net old new place left after n) (sym is) (record {
+pub branch_taken : (move : Migration) (place : Place) (left after : List Place) (node : Node) (a : ℕ) (turns shown entered : List Turn) →
+    node ≡ Branch a turns → shown ≡ turns → entered ≡ turns → IsRinged (length move.net) node
+    → IsRightBranch move a shown → after ≡ map (λ (p : Pair). place ++ p ∷ []) (child_pairs entered) ++ left →
+    IsTaken move place left after node
+branch_taken move place left after node a turns shown entered is shows enters ringed right below =
+    let here : IsRightBranch move a turns = subst (λ (l : List Turn). IsRightBranch move a l) shows right in
+    let many : IsRinged (length move.net) (Branch a turns) = subst (IsRinged (length move.net)) is ringed in
+    subst (λ (n : Node). IsTaken move place left after n) (sym is) (record {
       right = (record { address = here.address; some = many.1.some; distinct = many.1.distinct; tags = here.tags }, here.both);
       places = below ∙ ap (λ (l : List Turn). map (λ (p : Pair). place ++ p ∷ []) (child_pairs l) ++ left) enters;
     })
 
-pub leaf_taken : (net : Network) (old new : Tables) (place : Place) (left after : List Place) (node : Node) (cycle shown : List ℕ) →
+pub leaf_taken : (move : Migration) (place : Place) (left after : List Place) (node : Node) (cycle shown : List ℕ) →
     node ≡ Leaf cycle →
-    shown ≡ cycle → IsRinged (length net) node
-    → IsAssumedRound place shown → after ≡ left → IsTaken net old new place left after node
-leaf_taken net old new place left after node cycle shown is shows ringed round behind =
-    let many : IsRinged (length net) (Leaf cycle) = subst (IsRinged (length net)) is ringed in
-    subst (λ (n : Node). IsTaken net old new place left after n) (sym is) (record {
+    shown ≡ cycle → IsRinged (length move.net) node
+    → IsAssumedRound place shown → after ≡ left → IsTaken move place left after node
+leaf_taken move place left after node cycle shown is shows ringed round behind =
+    let many : IsRinged (length move.net) (Leaf cycle) = subst (IsRinged (length move.net)) is ringed in
+    subst (λ (n : Node). IsTaken move place left after n) (sym is) (record {
       right = cycle_from place cycle many.1.some many.1.distinct (subst (λ (l : List ℕ). IsAssumedRound place l) shows round);
       places = behind;
     })
 
 -- the verdict behind the last line
-pub end_is : (net : Network) (old new : Tables) (text : List ℕ) (lines : List (List ℕ)) (reading : Reading) (next : ℕ) (verdict : Verdict) →
-    line_texts text ≡ tree_header ∷ lines → HasReadLines net old new lines reading → next ≡ length lines + 2
-    → IsEndVerdict reading next verdict → IsTextVerdict net old new text verdict
-end_is net old new text lines reading next (Closed branches leaves) is read last end = whole_is net old new text lines reading
+pub end_is : (move : Migration) (text : List ℕ) (lines : List (List ℕ)) (reading : Reading) (next : ℕ) (verdict : Verdict) →
+    line_texts text ≡ tree_header ∷ lines → HasReadLines move lines reading → next ≡ length lines + 2
+    → IsEndVerdict reading next verdict → IsTextVerdict move text verdict
+end_is move text lines reading next (Closed branches leaves) is read last end = whole_is move text lines reading
     (Closed branches leaves) is read end.0 end.1
-end_is net old new text lines reading next (Unfinished unvisited) is read last end = whole_is net old new text lines reading
+end_is move text lines reading next (Unfinished unvisited) is read last end = whole_is move text lines reading
     (Unfinished unvisited) is read end.0 end.1
-end_is net old new text lines reading next (Wrong line kind) is read last end =
-    subst (λ (k : WrongKind). IsFirstWrongLine net old new text line k) (sym end.2)
-    (subst (λ (n : ℕ). IsFirstWrongLine net old new text n Form) (sym (end.1 ∙ last)) (wrong_end net old new text lines reading is read end.0))
+end_is move text lines reading next (Wrong line kind) is read last end =
+    subst (λ (k : WrongKind). IsFirstWrongLine move text line k) (sym end.2)
+    (subst (λ (n : ℕ). IsFirstWrongLine move text n Form) (sym (end.1 ∙ last)) (wrong_end move text lines reading is read end.0))
 
 -- before the first line behind the header
-pub read_none : (net : Network) (old new : Tables) (reading : Reading) → reading.walk.left ≡ [] ∷ [] →
-    reading.tally ≡ record { branches = 0; leaves = 0; unvisited = 0 } → HasReadLines net old new [] reading
-read_none net old new reading left counts = record {
+pub read_none : (move : Migration) (reading : Reading) → reading.walk.left ≡ [] ∷ [] →
+    reading.tally ≡ record { branches = 0; leaves = 0; unvisited = 0 } → HasReadLines move [] reading
+read_none move reading left counts = record {
   nodes = [];
   right = record { said = tt; fills = sym left };
   counted = record {
@@ -298,17 +297,17 @@ read_none net old new reading left counts = record {
 }
 
 -- what came of a node, as a result
-abbrev IsTakenNode : Network → Tables → Tables → Place → List Place → Node → Result PlacesLeft WrongKind → Type 0
-IsTakenNode net old new place left node taken = MatchResult taken (λ (after : PlacesLeft). IsTaken net old new place left after.left node)
-    (IsLowestKind (WrongNode net old new place node))
+abbrev IsTakenNode : Migration → Place → List Place → Node → Result PlacesLeft WrongKind → Type 0
+IsTakenNode move place left node taken = MatchResult taken (λ (after : PlacesLeft). IsTaken move place left after.left node)
+    (IsLowestKind (WrongNode move place node))
 
-pub taken_ok : (net : Network) (old new : Tables) (place : Place) (left : List Place) (node : Node) (taken : Result PlacesLeft WrongKind)
+pub taken_ok : (move : Migration) (place : Place) (left : List Place) (node : Node) (taken : Result PlacesLeft WrongKind)
     (after : PlacesLeft) →
-    taken ≡ Ok after → IsTakenNode net old new place left node taken
-    → IsTaken net old new place left after.left node
-taken_ok net old new place left node taken after is all = subst (IsTakenNode net old new place left node) is all
+    taken ≡ Ok after → IsTakenNode move place left node taken
+    → IsTaken move place left after.left node
+taken_ok move place left node taken after is all = subst (IsTakenNode move place left node) is all
 
-pub taken_err : (net : Network) (old new : Tables) (place : Place) (left : List Place) (node : Node) (taken : Result PlacesLeft WrongKind)
-    (kind : WrongKind) → taken ≡ Err kind → IsTakenNode net old new place left node taken
-    → IsLowestKind (WrongNode net old new place node) kind
-taken_err net old new place left node taken kind is all = subst (IsTakenNode net old new place left node) is all
+pub taken_err : (move : Migration) (place : Place) (left : List Place) (node : Node) (taken : Result PlacesLeft WrongKind)
+    (kind : WrongKind) → taken ≡ Err kind → IsTakenNode move place left node taken
+    → IsLowestKind (WrongNode move place node) kind
+taken_err move place left node taken kind is all = subst (IsTakenNode move place left node) is all

@@ -1,10 +1,9 @@
 -- Tags, told by two tests.
 use Rattle.std.proofs.Common.{◌≡◌, ℕ, ◌↔◌, Bool, true, false, IsTrue, sym, refl, ◌∙◌}
 use Rattle.std.proofs.lemmas.Bool.{false≢true}
-use Rattle.net_model.specs.Network.{Network}
 use Rattle.igp_theory.specs.Forwarding.{Steps}
 use Rattle.igp_theory.specs.Loops.{IsTag, IsTagOf}
-use Rattle.igp_theory.specs.Routes.{Tables}
+use Rattle.igp_theory.specs.Migrations.{Migration}
 use Rattle.igp_theory.specs.declared.phase.Phase.TheVariants.{Old, New}
 use Rattle.order_core.specs.declared.turn.Tag.{Tag}
 use Rattle.order_core.specs.declared.turn.Tag.TheVariants as tag
@@ -23,9 +22,9 @@ told tag.Both true false P Q p q = (λ e. absurd (false≢true e), λ is. absurd
 told tag.Both false new P Q p q = (λ e. absurd (false≢true e), λ is. absurd (false≢true (p.1 is.0)))
 
 -- the tag of a turn, by two tests for its router's steps to the next one
-pub tag_told : (net : Network) (old new : Tables) (a : ℕ) (turn : Turn) (next : ℕ) (b c result : Bool) →
-    (IsTrue b ↔ Steps net old new turn.router Old a next) → (IsTrue c ↔ Steps net old new turn.router New a next)
-    → result ≡ tells turn.tag b c → IsTrue result ↔ IsTag net old new a turn next
-tag_told net old new a turn next b c result by_old by_new is =
-    let tagged = told turn.tag b c (Steps net old new turn.router Old a next) (Steps net old new turn.router New a next) by_old by_new in
+pub tag_told : (move : Migration) (a : ℕ) (turn : Turn) (next : ℕ) (b c result : Bool) →
+    (IsTrue b ↔ Steps move turn.router Old a next) → (IsTrue c ↔ Steps move turn.router New a next)
+    → result ≡ tells turn.tag b c → IsTrue result ↔ IsTag move a turn next
+tag_told move a turn next b c result by_old by_new is =
+    let tagged = told turn.tag b c (Steps move turn.router Old a next) (Steps move turn.router New a next) by_old by_new in
     (λ e. record { steps = tagged.0 (sym is ∙ e) }, λ t. is ∙ tagged.1 t.steps)

@@ -1,20 +1,19 @@
 -- What a verdict means, and that a text has one.
 use Rattle.std.specs.Prelude.{◌≡◌, ℕ, List}
-use Rattle.net_model.specs.Network.{Network}
 use Rattle.net_model.specs.Refusals.{IsNetwork}
-use Rattle.igp_theory.specs.Routes.{Tables}
+use Rattle.igp_theory.specs.Migrations.{Migration}
 use Rattle.refutation_check.specs.Verdicts.{IsTextVerdict, RefutesWhereClosed}
 use Rattle.refutation_check.specs.declared.verdict.Verdict.{Verdict}
 
 -- where a text is a closed tree, no wave list and no order of the network is seamless
-abbrev pub ClosedTreesRefute : Tables → Tables → Type 0
-ClosedTreesRefute old new =
-    (net : Network) (text : List ℕ) (verdict : Verdict) → IsTextVerdict net old new text verdict →
-    RefutesWhereClosed net old new verdict
+abbrev pub ClosedTreesRefute : Migration → Type 0
+ClosedTreesRefute move =
+    (text : List ℕ) (verdict : Verdict) → IsTextVerdict move text verdict →
+    RefutesWhereClosed move verdict
 
 -- a text has one verdict
-abbrev pub HaveOneVerdict : Tables → Tables → Type 0
-HaveOneVerdict old new =
-    (net : Network) (text : List ℕ) (one other : Verdict) → IsNetwork net → IsTextVerdict net old new text one →
-    IsTextVerdict net old new text other →
+abbrev pub HaveOneVerdict : Migration → Type 0
+HaveOneVerdict move =
+    (text : List ℕ) (one other : Verdict) → IsNetwork move.net → IsTextVerdict move text one →
+    IsTextVerdict move text other →
     one ≡ other

@@ -4,7 +4,7 @@ use Rattle.net_addr.specs.Addresses.{Block}
 use Rattle.net_model.specs.Network.{Network, Connected}
 use Rattle.igp_theory.specs.Forwarding.{IsTarget}
 use Rattle.igp_theory.specs.Loops.{AroundRing, IsTag}
-use Rattle.igp_theory.specs.Routes.{Tables}
+use Rattle.igp_theory.specs.Migrations.{Migration}
 use Rattle.order_core.specs.Turns.{HasBothTags}
 use Rattle.order_core.specs.declared.turn.Turn.{Turn}
 use Rattle.order_search.specs.Trees.{Place}
@@ -22,14 +22,14 @@ pub record IsOriginatedBySome (net : Network) (a : ℕ) (turns : List Turn) : Ty
 
 -- a branch is wrong: its address has no target; a turn's router originates the target; a turn hasn't the tag by which
 -- its router steps to the next one, or the last one to the first; no turn is Old, or none is New
-abbrev pub WrongBranch : Network → Tables → Tables → ℕ → List Turn → WrongKind → Type 0
-WrongBranch net old new a turns Form = ⊥
-WrongBranch net old new a turns Router = ⊥
-WrongBranch net old new a turns Address = (p : Block) → ¬ IsTarget net a p
-WrongBranch net old new a turns Originator = IsOriginatedBySome net a turns
-WrongBranch net old new a turns Step = ¬ AroundRing (λ (r s : Turn). IsTag net old new a r s.router) turns
-WrongBranch net old new a turns OneSided = ¬ HasBothTags turns
-WrongBranch net old new a turns NotAssumed = ⊥
+abbrev pub WrongBranch : Migration → ℕ → List Turn → WrongKind → Type 0
+WrongBranch move a turns Form = ⊥
+WrongBranch move a turns Router = ⊥
+WrongBranch move a turns Address = (p : Block) → ¬ IsTarget move.net a p
+WrongBranch move a turns Originator = IsOriginatedBySome move.net a turns
+WrongBranch move a turns Step = ¬ AroundRing (λ (r s : Turn). IsTag move a r s.router) turns
+WrongBranch move a turns OneSided = ¬ HasBothTags turns
+WrongBranch move a turns NotAssumed = ⊥
 
 -- each router of a cycle is assumed before the next one at a place, and the last one before the first
 abbrev pub IsAssumedRound : Place → List ℕ → Type 0
@@ -46,27 +46,27 @@ WrongLeaf place cycle OneSided = ⊥
 WrongLeaf place cycle NotAssumed = ¬ IsAssumedRound place cycle
 
 -- a node is wrong at a place; an unvisited place never is
-abbrev pub WrongNode : Network → Tables → Tables → Place → Node → WrongKind → Type 0
-WrongNode net old new place (Branch a turns) kind = WrongBranch net old new a turns kind
-WrongNode net old new place (Leaf cycle) kind = WrongLeaf place cycle kind
-WrongNode net old new place Unvisited kind = ⊥
+abbrev pub WrongNode : Migration → Place → Node → WrongKind → Type 0
+WrongNode move place (Branch a turns) kind = WrongBranch move a turns kind
+WrongNode move place (Leaf cycle) kind = WrongLeaf place cycle kind
+WrongNode move place Unvisited kind = ⊥
 
 -- words say a node that is wrong at a place
-pub record SaysWrongNode (net : Network) (old new : Tables) (place : Place) (words : List (List ℕ)) (kind : WrongKind) : Type 0 where
+pub record SaysWrongNode (move : Migration) (place : Place) (words : List (List ℕ)) (kind : WrongKind) : Type 0 where
   pub node : Node
-  pub says : SaysNode net words node
-  pub wrong : WrongNode net old new place node kind
+  pub says : SaysNode move.net words node
+  pub wrong : WrongNode move place node kind
 
 -- words are wrong as those of a node: they haven't its form; their names aren't those of distinct routers, so that they
 -- say no node; or the node is wrong at its place
-abbrev pub WrongWords : Network → Tables → Tables → Place → List (List ℕ) → WrongKind → Type 0
-WrongWords net old new place words Form = ¬ HasForm words
-WrongWords net old new place words Router = (node : Node) → ¬ SaysNode net words node
-WrongWords net old new place words Address = SaysWrongNode net old new place words Address
-WrongWords net old new place words Originator = SaysWrongNode net old new place words Originator
-WrongWords net old new place words Step = SaysWrongNode net old new place words Step
-WrongWords net old new place words OneSided = SaysWrongNode net old new place words OneSided
-WrongWords net old new place words NotAssumed = SaysWrongNode net old new place words NotAssumed
+abbrev pub WrongWords : Migration → Place → List (List ℕ) → WrongKind → Type 0
+WrongWords move place words Form = ¬ HasForm words
+WrongWords move place words Router = (node : Node) → ¬ SaysNode move.net words node
+WrongWords move place words Address = SaysWrongNode move place words Address
+WrongWords move place words Originator = SaysWrongNode move place words Originator
+WrongWords move place words Step = SaysWrongNode move place words Step
+WrongWords move place words OneSided = SaysWrongNode move place words OneSided
+WrongWords move place words NotAssumed = SaysWrongNode move place words NotAssumed
 
 -- the number of a kind
 abbrev pub kind_number : WrongKind → ℕ

@@ -1,13 +1,13 @@
 ghost use Rattle.std.specs.Prelude.{◌≡◌, ◌<◌, ◌↔◌, All, Any, IfNone, IfSome, IsTrue, length};
 ghost use Rattle.net_model.specs.Network.{Connected};
 ghost use Rattle.net_model.specs.Refusals.{IsNetwork};
-ghost use Rattle.route_core.specs.Tables.{HasEntry};
 ghost use Rattle.igp_theory.specs.Forwarding.{MustForward, Steps};
 ghost use Rattle.igp_theory.specs.Loops.{AroundRing, IsTag};
 ghost use Rattle.order_core.specs.Turns.{HasBothTags, new_routers, old_routers};
 ghost use Rattle.order_core.specs.declared.turn.Turn.{Turn};
 ghost use Rattle.prefix_atoms.specs.Classes.{IsInClass};
 ghost use Rattle.rib_mix.specs.Answers.{NextLeadsTo};
+ghost use Rattle.rib_mix.specs.Mixture.{migration_of};
 ghost use Rattle.refutation_check.specs.WrongLines.{IsLowestKind, WrongBranch};
 ghost use Rattle.refutation_check.specs.steps.Rings.{next_at};
 ghost use Rattle.refutation_check.specs.steps.Right.{IsRightBranch, tells};
@@ -28,9 +28,8 @@ pub(crate) fn branch_fault<O: RouteSource, N: RouteSource>(
 ) -> Option<WrongKind>
     requires network { IsNetwork mixed.now.net }
     requires below { All (λ turn. turn.router < length mixed.now.net) turns.now }
-    ensures right { IfNone result (IsRightBranch mixed.now.net (HasEntry (O.table mixed.now.old)) (HasEntry (N.table mixed.now.new)) address turns.now) }
-    ensures wrong { IfSome result (IsLowestKind (WrongBranch mixed.now.net (HasEntry (O.table mixed.now.old))
-        (HasEntry (N.table mixed.now.new)) address turns.now)) }
+    ensures right { IfNone result (IsRightBranch (migration_of O.table N.table mixed.now) address turns.now) }
+    ensures wrong { IfSome result (IsLowestKind (WrongBranch (migration_of O.table N.table mixed.now) address turns.now)) }
 {
     let atom = mixed.atoms().of(address);
     let Some(target) = mixed.atoms().target(atom) else {
@@ -70,7 +69,7 @@ fn goes_round<O: RouteSource, N: RouteSource>(
 ) -> bool
     requires class { IsInClass mixed.now.classes atom address }
     requires must { All (λ (turn : Turn). MustForward mixed.now.net address turn.router) turns.now }
-    ensures { IsTrue result ↔ AroundRing (λ (r s : Turn). IsTag mixed.now.net (HasEntry (O.table mixed.now.old)) (HasEntry (N.table mixed.now.new)) address
+    ensures { IsTrue result ↔ AroundRing (λ (r s : Turn). IsTag (migration_of O.table N.table mixed.now) address
         r s.router) turns.now }
 {
     for place in 0..turns.len() {
@@ -105,7 +104,7 @@ fn is_tagged<O: RouteSource, N: RouteSource>(
 ) -> bool
     requires class { IsInClass mixed.now.classes atom address }
     requires must { MustForward mixed.now.net address turn.router }
-    ensures { IsTrue result ↔ IsTag mixed.now.net (HasEntry (O.table mixed.now.old)) (HasEntry (N.table mixed.now.new)) address turn next }
+    ensures { IsTrue result ↔ IsTag (migration_of O.table N.table mixed.now) address turn next }
 {
     let old = steps_to(mixed, address, atom, turn.router, Phase::Old, next);
     let new = steps_to(mixed, address, atom, turn.router, Phase::New, next);
@@ -134,7 +133,7 @@ fn steps_to<O: RouteSource, N: RouteSource>(
 ) -> bool
     requires class { IsInClass mixed.now.classes atom address }
     requires must { MustForward mixed.now.net address router }
-    ensures { IsTrue result ↔ Steps mixed.now.net (HasEntry (O.table mixed.now.old)) (HasEntry (N.table mixed.now.new)) router phase address next }
+    ensures { IsTrue result ↔ Steps (migration_of O.table N.table mixed.now) router phase address next }
 {
     leads_to(mixed.hops(router, atom, phase), next)
 }

@@ -3,7 +3,7 @@ ghost use Rattle.std.specs.Prelude.{MatchResult, length};
 ghost use Rattle.net_addr.specs.Lines.{line_texts, text_lines};
 ghost use Rattle.net_addr.specs.Spans.{LiesIn};
 ghost use Rattle.net_model.specs.Refusals.{IsNetwork};
-ghost use Rattle.route_core.specs.Tables.{HasEntry};
+ghost use Rattle.rib_mix.specs.Mixture.{migration_of};
 ghost use Rattle.refutation_check.specs.TreeLines.{tree_header};
 ghost use Rattle.refutation_check.specs.Verdicts.{IsTextVerdict, RefutesWhereClosed};
 ghost use Rattle.refutation_check.specs.steps.Reading.{AreTreeEntries, HasReadLines, IsEndVerdict, IsWholeVerdict, IsWrongVerdict, line_bytes};
@@ -29,9 +29,9 @@ pub fn verify<O: RouteSource, N: RouteSource>(
     text: &[u8],
 ) -> Result<Verdict, OutOfMemory>
     requires { length text.now < 2 ^ 26 }
-    ensures verdict { IfOk result (IsTextVerdict mixed.now.net (HasEntry (O.table mixed.now.old)) (HasEntry (N.table mixed.now.new)) text.now) }
+    ensures verdict { IfOk result (IsTextVerdict (migration_of O.table N.table mixed.now) text.now) }
     ensures network { IsNetwork mixed.now.net }
-    ensures refutes { IfOk result (RefutesWhereClosed mixed.now.net (HasEntry (O.table mixed.now.old)) (HasEntry (N.table mixed.now.new))) }
+    ensures refutes { IfOk result (RefutesWhereClosed (migration_of O.table N.table mixed.now)) }
 {
     let routers = mixed.net().routers();
     let all = lines(alloc, text)?;
@@ -116,10 +116,10 @@ fn read_lines<O: RouteSource, N: RouteSource>(
     requires entries { AreTreeEntries text.now entries.now }
     requires few { length entries.now < 2 ^ 32 - 2 }
     requires routers { start.walk.routers ≡ length mixed.now.net }
-    requires start { HasReadLines mixed.now.net (HasEntry (O.table mixed.now.old)) (HasEntry (N.table mixed.now.new)) [] start }
+    requires start { HasReadLines (migration_of O.table N.table mixed.now) [] start }
     ensures { IfOk result (λ read. MatchResult read
-        (HasReadLines mixed.now.net (HasEntry (O.table mixed.now.old)) (HasEntry (N.table mixed.now.new)) (line_bytes text.now entries.now))
-        (IsWrongVerdict mixed.now.net (HasEntry (O.table mixed.now.old)) (HasEntry (N.table mixed.now.new)) text.now)) }
+        (HasReadLines (migration_of O.table N.table mixed.now) (line_bytes text.now entries.now))
+        (IsWrongVerdict (migration_of O.table N.table mixed.now) text.now)) }
 {
     let mut reading = start;
     for line in entries {

@@ -1,13 +1,13 @@
 ghost use Rattle.refutation_check.specs.Laws.{ClosedTreesRefute, HaveOneVerdict};
 ghost use Rattle.refutation_check.specs.TreeTexts.{TreesReadBack};
 
-use igp_theory::TablePair;
+use igp_theory::AnyMigration;
 
 /// The law that where a text is a closed tree no wave list and no order of the network is seamless.
 ///
 /// Neither end needs to be sound, and no branch needs to be the one that a search would make.
-pub fn closed_trees_refute<T: TablePair>()
-    ensures { ClosedTreesRefute T.old T.new }
+pub fn closed_trees_refute<T: AnyMigration>()
+    ensures { ClosedTreesRefute T.migration }
 {}
 
 /// The law that a printed tree reads as just its nodes.
@@ -16,6 +16,6 @@ pub fn trees_read_back()
 {}
 
 /// The law that a text has one verdict over a network and two sources of tables.
-pub fn texts_have_one_verdict<T: TablePair>()
-    ensures { HaveOneVerdict T.old T.new }
+pub fn texts_have_one_verdict<T: AnyMigration>()
+    ensures { HaveOneVerdict T.migration }
 {}

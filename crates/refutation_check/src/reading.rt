@@ -1,7 +1,7 @@
 ghost use Rattle.std.specs.Prelude.{◌≡◌, ◌<◌, ◌^◌, ◌-◌, ◌∷◌, List, IfOk, MatchResult, length};
 ghost use Rattle.net_addr.specs.Spans.{bytes_of, LiesIn};
 ghost use Rattle.net_model.specs.Refusals.{IsNetwork};
-ghost use Rattle.route_core.specs.Tables.{HasEntry};
+ghost use Rattle.rib_mix.specs.Mixture.{migration_of};
 ghost use Rattle.order_search.specs.Trees.{Place};
 ghost use Rattle.refutation_check.specs.WrongLines.{IsLowestKind, WrongNode};
 ghost use Rattle.refutation_check.specs.steps.Reading.{IsNotTaken, IsTakenThere};
@@ -45,8 +45,8 @@ impl Reading {
         requires unvisited { self.tally.unvisited < 2 ^ 32 - 1 }
         ensures routers { IfOk result (λ taken. IfOk taken (λ after. after.walk.routers ≡ length mixed.now.net)) }
         ensures taken { IfOk result (λ taken. MatchResult taken
-            (IsTakenThere mixed.now.net (HasEntry (O.table mixed.now.old)) (HasEntry (N.table mixed.now.new)) self.walk.left (bytes_of text.now line) self)
-            (IsNotTaken mixed.now.net (HasEntry (O.table mixed.now.old)) (HasEntry (N.table mixed.now.new)) self.walk.left (bytes_of text.now line))) }
+            (IsTakenThere (migration_of O.table N.table mixed.now) self.walk.left (bytes_of text.now line) self)
+            (IsNotTaken (migration_of O.table N.table mixed.now) self.walk.left (bytes_of text.now line))) }
     {
         if self.walk.is_whole() {
             return Ok(Err(WrongKind::Form));
@@ -78,8 +78,8 @@ fn take_node<O: RouteSource, N: RouteSource>(
     requires ringed { IsRinged (length mixed.now.net) node.now }
     ensures routers { IfOk result (λ taken. IfOk taken (λ after. after.routers ≡ walk.routers)) }
     ensures taken { IfOk result (λ taken. (place : Place) (left : List Place) → walk.left ≡ place ∷ left → MatchResult taken
-        (λ after. IsTaken mixed.now.net (HasEntry (O.table mixed.now.old)) (HasEntry (N.table mixed.now.new)) place left after.left node.now)
-        (IsLowestKind (WrongNode mixed.now.net (HasEntry (O.table mixed.now.old)) (HasEntry (N.table mixed.now.new)) place node.now))) }
+        (λ after. IsTaken (migration_of O.table N.table mixed.now) place left after.left node.now)
+        (IsLowestKind (WrongNode (migration_of O.table N.table mixed.now) place node.now))) }
 {
     match node {
         Node::Branch { address, turns } => {

@@ -4,21 +4,19 @@ use Rattle.std.proofs.Common.{ap, subst, ◌∙◌, ⊎_elim, arith}
 use Rattle.std.proofs.lemmas.List.Quantifiers.{all_pairs_push}
 use Rattle.std.proofs.lemmas.List.{take_more, get_or_append_left, get_or-append-add, get_or_default, length-append, append_assoc}
 use Rattle.std.proofs.lemmas.List.Elements.{Contains-append_left, Contains-append_right, Contains-append_cases}
+use Rattle.net_model.proofs.Members.{Contains-none}
 use Rattle.order_core.specs.Orders.{AreDistinct}
 use Rattle.step_scripts.specs.WaveFiles.{all_in, wave_at}
 use Rattle.step_scripts.specs.steps.ReadWaves.{HasSeat}
 
-none_in : {A : Type 0} (x : A) → Contains [] x → ⊥
-none_in x c = omega (arith, c.1)
-
 -- a router of a wave stands among all
 pub in_all : (seats : List (List ℕ)) (w u : ℕ) → Contains (wave_at seats w) u → Contains (all_in seats) u
-in_all [] w u c = absurd (none_in u c)
+in_all [] w u c = absurd (Contains-none u c)
 in_all (wave ∷ seats) zero u c = Contains-append_left wave (all_in seats) u c
 in_all (wave ∷ seats) (suc w) u c = Contains-append_right wave (all_in seats) u (in_all seats w u c)
 
 pub seat_of : (seats : List (List ℕ)) (u : ℕ) → Contains (all_in seats) u → HasSeat seats u
-seat_of [] u c = absurd (none_in u c)
+seat_of [] u c = absurd (Contains-none u c)
 seat_of (wave ∷ seats) u c =
     ⊎_elim
     (λ here. record { wave = 0; is_in = record { within = omega arith; among = here } })
@@ -50,7 +48,7 @@ in_one front back u once c d =
 -- a router stands in one wave
 pub one_wave : (seats : List (List ℕ)) (u v w : ℕ) → AreDistinct (all_in seats) → Contains (wave_at seats v) u →
     Contains (wave_at seats w) u → v ≡ w
-one_wave [] u v w once c d = absurd (none_in u c)
+one_wave [] u v w once c d = absurd (Contains-none u c)
 one_wave (wave ∷ seats) u zero zero once c d = refl
 one_wave (wave ∷ seats) u zero (suc w) once c d = absurd (in_one wave (all_in seats) u once c (in_all seats w u d))
 one_wave (wave ∷ seats) u (suc v) zero once c d = absurd (in_one wave (all_in seats) u once d (in_all seats v u c))

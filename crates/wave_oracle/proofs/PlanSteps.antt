@@ -1,8 +1,7 @@
 -- What is told of both ends, and what is planned then.
 use Rattle.std.proofs.Common.{◌≡◌, ℕ, Option, Some, None, IfSome, IfNone, refl, subst}
-use Rattle.route_core.specs.Tables.{HasEntry}
 use Rattle.igp_theory.specs.declared.phase.Phase.TheVariants.{Old, New}
-use Rattle.rib_mix.specs.Mixture.{Mixture}
+use Rattle.rib_mix.specs.Mixture.{Mixture, migration_of}
 use Rattle.loop_finder.specs.ClassSteps.{Listing}
 use Rattle.plan_theory.specs.Plans.{IsPlanned}
 use Rattle.plan_theory.specs.declared.planned.EndFault.{EndFault}
@@ -12,7 +11,7 @@ use Rattle.wave_oracle.specs.Oracles.{IsSoundEnd, HasEndFault, HasSoundEnds}
 
 -- this is planned of what is mixed
 abbrev pub IsPlannedOf : {O N : Type 0} → Listing O → Listing N → Mixture O N → ℕ → Planned → Type 0
-IsPlannedOf old new m budget planned = IsPlanned m.net (HasEntry (old m.old)) (HasEntry (new m.new)) budget planned
+IsPlannedOf old new m budget planned = IsPlanned (migration_of old new m) budget planned
 
 -- where no fault is told
 pub none_told : {P : Type 0} (told : Option EndFault) → ((fault : EndFault) → told ≡ Some fault → ⊥) → IfNone told P → P

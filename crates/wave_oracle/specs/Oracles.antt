@@ -1,11 +1,10 @@
 -- The ends of what is mixed, and what the oracle of wave lists keeps.
 use Rattle.std.specs.Prelude.{◌≡◌, ℕ, length}
-use Rattle.route_core.specs.Tables.{HasEntry}
 use Rattle.igp_theory.specs.LoopLaws.{AreSoundEnds}
 use Rattle.igp_theory.specs.Loops.{IsFault}
 use Rattle.igp_theory.specs.States.{IsSound}
 use Rattle.igp_theory.specs.declared.phase.Phase.{Phase}
-use Rattle.rib_mix.specs.Mixture.{Mixture}
+use Rattle.rib_mix.specs.Mixture.{Mixture, migration_of}
 use Rattle.loop_finder.specs.Faults.{Finding}
 use Rattle.loop_finder.specs.ClassSteps.{Listing}
 use Rattle.loop_finder.specs.declared.fault.Fault.{Fault}
@@ -15,15 +14,15 @@ use Rattle.plan_theory.specs.declared.planned.EndFault.{EndFault}
 
 -- the state in which every router has this phase is sound
 abbrev pub IsSoundEnd : {O N : Type 0} → Listing O → Listing N → Mixture O N → Phase → Type 0
-IsSoundEnd old new m phase = IsSound m.net (HasEntry (old m.old)) (HasEntry (new m.new)) (λ _. phase)
+IsSoundEnd old new m phase = IsSound (migration_of old new m) (λ _. phase)
 
 -- it has this fault
 abbrev pub HasEndFault : {O N : Type 0} → Listing O → Listing N → Mixture O N → Phase → EndFault → Type 0
-HasEndFault old new m phase fault = IsFault m.net (HasEntry (old m.old)) (HasEntry (new m.new)) (λ _. phase) (fault_told fault)
+HasEndFault old new m phase fault = IsFault (migration_of old new m) (λ _. phase) (fault_told fault)
 
 -- both ends are sound
 abbrev pub HasSoundEnds : {O N : Type 0} → Listing O → Listing N → Mixture O N → Type 0
-HasSoundEnds old new m = AreSoundEnds m.net (HasEntry (old m.old)) (HasEntry (new m.new))
+HasSoundEnds old new m = AreSoundEnds (migration_of old new m)
 
 -- the oracle's count is that of the network's routers, and both ends are sound
 pub record IsWaveOracle {O N : Type 0} (old : Listing O) (new : Listing N) (finding : Finding O N) (routers : ℕ) : Type 0 where

@@ -1,5 +1,5 @@
 ghost use Rattle.std.specs.Prelude.{◌≡◌, length};
-ghost use Rattle.route_core.specs.Tables.{HasEntry};
+ghost use Rattle.rib_mix.specs.Mixture.{migration_of};
 ghost use Rattle.wave_oracle.specs.Oracles.{HasSoundEnds, IsToldLoop};
 
 use loop_finder::{Fault, Finder};
@@ -47,11 +47,11 @@ impl<'a, O: RouteSource, N: RouteSource> Oracle for WaveOracle<'a, O, N> {
     ghost use Rattle.plan_theory.specs.WavesMeaning.{IsPickedFault};
     ghost use Rattle.plan_theory.proofs.Decided.{seamless_ranks_old_first};
 
-    ghost good = { λ o. AreSeamlessWaves o.mixture.net (HasEntry (O.table o.mixture.old)) (HasEntry (N.table o.mixture.new)) };
+    ghost good = { λ o. AreSeamlessWaves (migration_of O.table N.table o.mixture) };
 
-    ghost real = { λ o. IsLoop o.mixture.net (HasEntry (O.table o.mixture.old)) (HasEntry (N.table o.mixture.new)) };
+    ghost real = { λ o. IsLoop (migration_of O.table N.table o.mixture) };
 
-    ghost picked = { λ o. IsPickedFault o.mixture.net (HasEntry (O.table o.mixture.old)) (HasEntry (N.table o.mixture.new)) };
+    ghost picked = { λ o. IsPickedFault (migration_of O.table N.table o.mixture) };
 
     ghost size = { λ o. length o.mixture.net };
 
@@ -61,7 +61,7 @@ impl<'a, O: RouteSource, N: RouteSource> Oracle for WaveOracle<'a, O, N> {
 
     ghost keeps_base = { λ o ranks _. KeepsPairs-nil ranks };
 
-    ghost decides = { λ o. seamless_ranks_old_first o.mixture.net (HasEntry (O.table o.mixture.old)) (HasEntry (N.table o.mixture.new)) };
+    ghost decides = { λ o. seamless_ranks_old_first (migration_of O.table N.table o.mixture) };
 
     fn size(&self) -> u32 {
         self.routers

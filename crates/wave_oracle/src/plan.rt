@@ -1,5 +1,5 @@
 ghost use Rattle.std.specs.Prelude.{◌≤◌, IfOk, length};
-ghost use Rattle.route_core.specs.Tables.{HasEntry};
+ghost use Rattle.rib_mix.specs.Mixture.{migration_of};
 ghost use Rattle.plan_theory.specs.Plans.{IsPlanned};
 
 use crate::ends::end_fault;
@@ -22,7 +22,7 @@ pub fn plan_waves<'a, O: RouteSource, N: RouteSource>(
     requires budget { 1 ≤ budget }
     requires some { 1 ≤ length mixed.now.net }
     requires few { length mixed.now.net ≤ 1000 }
-    ensures planned { IfOk result (IsPlanned mixed.now.net (HasEntry (O.table mixed.now.old)) (HasEntry (N.table mixed.now.new)) budget) }
+    ensures planned { IfOk result (IsPlanned (migration_of O.table N.table mixed.now) budget) }
 {
     let routers = mixed.net().routers();
     let mut finder = Finder::new(alloc, mixed)?;

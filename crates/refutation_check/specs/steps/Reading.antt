@@ -3,8 +3,7 @@ use Rattle.std.specs.Prelude.{◌≡◌, ℕ, ◌+◌, ◌<◌, List, [], ◌∷
 use Rattle.net_addr.specs.Lines.{line_texts}
 use Rattle.net_addr.specs.Spans.{bytes_of, LiesIn}
 use Rattle.net_addr.specs.declared.line.Line.{Line}
-use Rattle.net_model.specs.Network.{Network}
-use Rattle.igp_theory.specs.Routes.{Tables}
+use Rattle.igp_theory.specs.Migrations.{Migration}
 use Rattle.order_search.specs.Trees.{Place, branch_count}
 use Rattle.order_search.specs.declared.tree.Node.{Node}
 use Rattle.refutation_check.specs.TreeLines.{tree_header, pieces_of, SaysNode}
@@ -36,33 +35,33 @@ pub record AreTallied (tally : Tally) (nodes : List Node) : Type 0 where
   pub unvisited : tally.unvisited ≡ open_count nodes
 
 -- the lines before the next one are right; their nodes are counted, and leave these places open
-pub record HasReadLines (net : Network) (old new : Tables) (lines : List (List ℕ)) (reading : Reading) : Type 0 where
+pub record HasReadLines (move : Migration) (lines : List (List ℕ)) (reading : Reading) : Type 0 where
   pub nodes : List Node
-  pub right : AreRightLines net old new lines nodes reading.walk.left
+  pub right : AreRightLines move lines nodes reading.walk.left
   pub counted : AreTallied reading.tally nodes
 
 -- a line says a node that is right at a place; the node is counted, and its children are open before the other places
-pub record TakesLine (net : Network) (old new : Tables) (place : Place) (left : List Place) (line : List ℕ) (before after : Reading) : Type 0 where
+pub record TakesLine (move : Migration) (place : Place) (left : List Place) (line : List ℕ) (before after : Reading) : Type 0 where
   pub node : Node
-  pub says : SaysNode net (pieces_of line) node
-  pub taken : IsTaken net old new place left after.walk.left node
+  pub says : SaysNode move.net (pieces_of line) node
+  pub taken : IsTaken move place left after.walk.left node
   pub counts : CountsNode before.tally after.tally node
 
 -- why a line isn't taken: no place is open, or it is wrong at the first open place
-abbrev pub IsNotTaken : Network → Tables → Tables → List Place → List ℕ → WrongKind → Type 0
-IsNotTaken net old new [] line kind = kind ≡ Form
-IsNotTaken net old new (place ∷ left) line kind = IsLowestKind (WrongWords net old new place (pieces_of line)) kind
+abbrev pub IsNotTaken : Migration → List Place → List ℕ → WrongKind → Type 0
+IsNotTaken move [] line kind = kind ≡ Form
+IsNotTaken move (place ∷ left) line kind = IsLowestKind (WrongWords move place (pieces_of line)) kind
 
 -- what came of a line where some place is open
-abbrev pub IsTakenThere : Network → Tables → Tables → List Place → List ℕ → Reading → Reading → Type 0
-IsTakenThere net old new [] line before after = ⊥
-IsTakenThere net old new (place ∷ left) line before after = TakesLine net old new place left line before after
+abbrev pub IsTakenThere : Migration → List Place → List ℕ → Reading → Reading → Type 0
+IsTakenThere move [] line before after = ⊥
+IsTakenThere move (place ∷ left) line before after = TakesLine move place left line before after
 
 -- the verdict is that a line is wrong, and which
-abbrev pub IsWrongVerdict : Network → Tables → Tables → List ℕ → Verdict → Type 0
-IsWrongVerdict net old new text (Closed branches leaves) = ⊥
-IsWrongVerdict net old new text (Unfinished unvisited) = ⊥
-IsWrongVerdict net old new text (Wrong line kind) = IsFirstWrongLine net old new text line kind
+abbrev pub IsWrongVerdict : Migration → List ℕ → Verdict → Type 0
+IsWrongVerdict move text (Closed branches leaves) = ⊥
+IsWrongVerdict move text (Unfinished unvisited) = ⊥
+IsWrongVerdict move text (Wrong line kind) = IsFirstWrongLine move text line kind
 
 -- the verdict on a whole tree by its counts
 abbrev pub IsWholeVerdict : Tally → Verdict → Type 0

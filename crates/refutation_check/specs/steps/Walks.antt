@@ -1,10 +1,9 @@
 -- The places of a tree that are open, told by the children that are left along one path.
 use Rattle.std.specs.Prelude.{◌≡◌, ℕ, ◌<◌, List, [], ◌∷◌, ◌++◌, if◌then◌else◌, map, reverse, All}
-use Rattle.net_model.specs.Network.{Network}
-use Rattle.igp_theory.specs.Routes.{Tables}
 use Rattle.order_core.specs.Pairs.{Pair, AreBelow}
 use Rattle.order_search.specs.Trees.{Place, places_below}
 use Rattle.order_core.specs.declared.turn.Turn.{Turn}
+use Rattle.igp_theory.specs.Migrations.{Migration}
 use Rattle.order_search.specs.declared.tree.Node.{Node}
 use Rattle.order_search.specs.declared.tree.Node.TheVariants.{Branch, Leaf, Unvisited}
 use Rattle.refutation_check.specs.TreeTexts.{AreDistinctTurns, AreDistinctRouters}
@@ -55,6 +54,6 @@ IsRinged count (Leaf cycle) = All (λ (u : ℕ). u < count) cycle × AreDistinct
 IsRinged count Unvisited = Unit {0}
 
 -- a node is right at a place, and its children stand before the places that were open after it
-pub record IsTaken (net : Network) (old new : Tables) (place : Place) (left after : List Place) (node : Node) : Type 0 where
-  pub right : IsRightNode net old new place node
+pub record IsTaken (move : Migration) (place : Place) (left after : List Place) (node : Node) : Type 0 where
+  pub right : IsRightNode move place node
   pub places : after ≡ places_below place node ++ left

@@ -3,6 +3,6 @@ use Rattle.igp_theory.proofs.fault_laws.faults_are_unique.Goals as goal
 
 pub returns : goal.returns
 returns g c = record {
-  state = λ net state fault other is again. fault_unique is again;
-  order = λ net order k j fault other one two. first_fault_unique one two;
+  state = λ state fault other is again. fault_unique is again;
+  order = λ order k j fault other one two. first_fault_unique one two;
 }

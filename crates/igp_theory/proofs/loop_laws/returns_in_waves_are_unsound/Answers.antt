@@ -2,4 +2,4 @@ use Rattle.igp_theory.proofs.LoopWaves.{return_is_unsound}
 use Rattle.igp_theory.proofs.loop_laws.returns_in_waves_are_unsound.Goals as goal
 
 pub returns : goal.returns
-returns g c net ranks w a u h hops follows = return_is_unsound net g.T.TablePair.old g.T.TablePair.new ranks w a u h hops follows
+returns g c ranks w a u h hops follows = return_is_unsound g.T.AnyMigration.migration ranks w a u h hops follows

@@ -4,12 +4,12 @@ use Rattle.igp_theory.proofs.same_table_laws.same_tables_act_alike.Goals as goal
 
 pub returns : goal.returns
 returns g c = record {
-  used = λ net u a phase used same within. (uses_over same within, uses_over (same_tables_sym same) within);
-  steps = λ net u a h phase same. (steps_over same, steps_over (same_tables_sym same));
-  sound = λ net state same. (sound_over same, sound_over (same_tables_sym same));
-  seamless = λ net order same. (seamless_over same, seamless_over (same_tables_sym same));
-  loops = λ net a ring same. (loop_over same, loop_over (same_tables_sym same));
-  arising = λ net state a ring same. (arises_over state a ring same, arises_over state a ring (same_tables_sym same));
-  faults = λ net state fault same. (fault_over same, fault_over (same_tables_sym same));
-  first_faults = λ net order k fault same. (first_fault_over same, first_fault_over (same_tables_sym same));
+  used = λ u a phase used same within. (uses_over same within, uses_over (same_tables_sym same) within);
+  steps = λ u a h phase same. (steps_over same, steps_over (same_tables_sym same));
+  sound = λ state same. (sound_over same, sound_over (same_tables_sym same));
+  seamless = λ order same. (seamless_over same, seamless_over (same_tables_sym same));
+  loops = λ a ring same. (loop_over same, loop_over (same_tables_sym same));
+  arising = λ state a ring same. (arises_over state a ring same, arises_over state a ring (same_tables_sym same));
+  faults = λ state fault same. (fault_over same, fault_over (same_tables_sym same));
+  first_faults = λ order k fault same. (first_fault_over same, first_fault_over (same_tables_sym same));
 }

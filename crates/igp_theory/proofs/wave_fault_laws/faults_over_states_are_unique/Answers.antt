@@ -3,9 +3,9 @@ use Rattle.igp_theory.proofs.wave_fault_laws.faults_over_states_are_unique.Goals
 
 pub returns : goal.returns
 returns g c = record {
-  unique = λ net fault other one two. fault_over_unique one two;
-  single = λ net state fault. (
-    fault_of_one net g.T.TablePair.old g.T.TablePair.new state fault,
-    fault_in_one net g.T.TablePair.old g.T.TablePair.new state fault,
+  unique = λ fault other one two. fault_over_unique one two;
+  single = λ state fault. (
+    fault_of_one g.T.AnyMigration.migration state fault,
+    fault_in_one g.T.AnyMigration.migration state fault,
   );
 }

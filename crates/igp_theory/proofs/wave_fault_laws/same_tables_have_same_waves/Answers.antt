@@ -4,8 +4,8 @@ use Rattle.igp_theory.proofs.wave_fault_laws.same_tables_have_same_waves.Goals a
 
 pub returns : goal.returns
 returns g c = record {
-  deliveries = λ net state a p same. (delivers_over same, delivers_over (same_tables_sym same));
-  seamless = λ net ranks same. (seamless_waves_over same, seamless_waves_over (same_tables_sym same));
-  faults = λ net fault same. (fault_over_tables same, fault_over_tables (same_tables_sym same));
-  waves_faults = λ net ranks w fault same. (waves_fault_over same, waves_fault_over (same_tables_sym same));
+  deliveries = λ state a p same. (delivers_over same, delivers_over (same_tables_sym same));
+  seamless = λ ranks same. (seamless_waves_over same, seamless_waves_over (same_tables_sym same));
+  faults = λ fault same. (fault_over_tables same, fault_over_tables (same_tables_sym same));
+  waves_faults = λ ranks w fault same. (waves_fault_over same, waves_fault_over (same_tables_sym same));
 }

@@ -3,6 +3,6 @@ use Rattle.igp_theory.proofs.wave_fault_laws.wave_faults_are_unique.Goals as goa
 
 pub returns : goal.returns
 returns g c = record {
-  unique = λ net ranks w v fault other one two. waves_fault_unique one two;
-  unsound = λ net ranks w fault is seamless. waves_fault_unsound net g.T.TablePair.old g.T.TablePair.new ranks w fault is seamless;
+  unique = λ ranks w v fault other one two. waves_fault_unique one two;
+  unsound = λ ranks w fault is seamless. waves_fault_unsound g.T.AnyMigration.migration ranks w fault is seamless;
 }

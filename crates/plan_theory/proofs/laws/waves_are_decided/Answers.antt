@@ -3,6 +3,6 @@ use Rattle.plan_theory.proofs.laws.waves_are_decided.Goals as goal
 
 pub returns : goal.returns
 returns g c = record {
-  decisive = λ net. waves_are_decisive net g.T.TablePair.old g.T.TablePair.new;
-  one = λ net. waves_pick_one net g.T.TablePair.old g.T.TablePair.new;
+  decisive = waves_are_decisive g.T.AnyMigration.migration;
+  one = waves_pick_one g.T.AnyMigration.migration;
 }

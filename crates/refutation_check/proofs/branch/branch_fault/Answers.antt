@@ -3,7 +3,7 @@ use Rattle.std.specs.List.{slice_get}
 use Rattle.std.proofs.lemmas.Bool.{false≢true}
 use Rattle.net_model.specs.Network.{Network}
 use Rattle.prefix_atoms.specs.Classes.{Classes, IsInClass}
-use Rattle.route_core.specs.Tables.{HasEntry}
+use Rattle.rib_mix.specs.Mixture.{migration_of}
 use Rattle.refutation_check.proofs.BranchFacts.{SomeOriginates, no_target_lowest, originates_lowest, off_step_lowest, one_sided_lowest, all_must}
 use Rattle.refutation_check.proofs.branch.branch_fault.Goals as goal
 
@@ -14,7 +14,7 @@ returns-in_default-clause-wrong g c =
     c.atoms.ensures.atoms c.of-atom.ensures in
     let told : slice_get m.classes.targets c.of-atom.result ≡ Some None = subst (λ (x : Classes). slice_get x.targets c.of-atom.result ≡ Some None)
     c.atoms-2.ensures.atoms c.in_default.ensures in
-    no_target_lowest m.net (HasEntry (g.O.RouteSource.table m.old)) (HasEntry (g.N.RouteSource.table m.new)) c.args.address c.args.turns.now
+    no_target_lowest (migration_of g.O.RouteSource.table g.N.RouteSource.table m) c.args.address c.args.turns.now
     (c.atoms.ensures.classes.target c.of-atom.result c.args.address None inside told)
 
 pub returns-then-some_originates-clause-wrong : goal.returns-then-some_originates-clause-wrong
@@ -24,7 +24,7 @@ returns-then-some_originates-clause-wrong g c =
     c.atoms.ensures.atoms c.of-atom.ensures in
     let told : slice_get m.classes.targets c.of-atom.result ≡ Some (Some c.in-Some.target) = subst
     (λ (x : Classes). slice_get x.targets c.of-atom.result ≡ Some (Some c.in-Some.target)) c.atoms-2.ensures.atoms c.in-Some.ensures in
-    originates_lowest m.net (HasEntry (g.O.RouteSource.table m.old)) (HasEntry (g.N.RouteSource.table m.new)) c.args.address c.args.turns.now
+    originates_lowest (migration_of g.O.RouteSource.table g.N.RouteSource.table m) c.args.address c.args.turns.now
     c.in-Some.target
     (c.atoms.ensures.classes.target c.of-atom.result c.args.address (Some c.in-Some.target) inside told)
     (subst (λ (n : Network). SomeOriginates n c.args.turns.now c.in-Some.target) c.net.ensures (c.some_originates.ensures.0 c.if-some_originates.true))
@@ -49,7 +49,7 @@ returns-then-not-goes_round-clause-wrong g c =
     c.atoms.ensures.atoms c.of-atom.ensures in
     let told : slice_get m.classes.targets c.of-atom.result ≡ Some (Some c.in-Some.target) = subst
     (λ (x : Classes). slice_get x.targets c.of-atom.result ≡ Some (Some c.in-Some.target)) c.atoms-2.ensures.atoms c.in-Some.ensures in
-    off_step_lowest m.net (HasEntry (g.O.RouteSource.table m.old)) (HasEntry (g.N.RouteSource.table m.new)) c.args.address c.args.turns.now c.in-Some.target
+    off_step_lowest (migration_of g.O.RouteSource.table g.N.RouteSource.table m) c.args.address c.args.turns.now c.in-Some.target
     c.requires.network
     (c.atoms.ensures.classes.target c.of-atom.result c.args.address (Some c.in-Some.target) inside told)
     (λ some. false≢true (sym c.if-some_originates.false ∙ c.some_originates.ensures.1
@@ -63,7 +63,7 @@ returns-then-not-has_both_tags-clause-wrong g c =
     c.atoms.ensures.atoms c.of-atom.ensures in
     let told : slice_get m.classes.targets c.of-atom.result ≡ Some (Some c.in-Some.target) = subst
     (λ (x : Classes). slice_get x.targets c.of-atom.result ≡ Some (Some c.in-Some.target)) c.atoms-2.ensures.atoms c.in-Some.ensures in
-    one_sided_lowest m.net (HasEntry (g.O.RouteSource.table m.old)) (HasEntry (g.N.RouteSource.table m.new)) c.args.address c.args.turns.now
+    one_sided_lowest (migration_of g.O.RouteSource.table g.N.RouteSource.table m) c.args.address c.args.turns.now
     c.in-Some.target c.requires.network
     (c.atoms.ensures.classes.target c.of-atom.result c.args.address (Some c.in-Some.target) inside told)
     (λ some. false≢true (sym c.if-some_originates.false ∙ c.some_originates.ensures.1

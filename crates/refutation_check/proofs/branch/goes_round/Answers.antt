@@ -1,11 +1,11 @@
 use Rattle.std.proofs.Common.{get_or, arith, refl, sym, ◌∙◌, subst}
 use Rattle.std.proofs.lemmas.Bool.{false≢true}
 use Rattle.std.proofs.lemmas.List.{get_or_default}
-use Rattle.route_core.specs.Tables.{HasEntry}
 use Rattle.igp_theory.specs.Loops.{IsTag}
-use Rattle.igp_theory.specs.Routes.{Tables}
+use Rattle.igp_theory.specs.Migrations.{Migration}
 use Rattle.order_core.specs.declared.turn.Tag.TheVariants.{Old}
 use Rattle.order_core.specs.declared.turn.Turn.{Turn}
+use Rattle.rib_mix.specs.Mixture.{migration_of}
 use Rattle.refutation_check.proofs.RingPlaces.{around_from, around_at, places_more}
 use Rattle.refutation_check.proofs.branch.goes_round.Goals as goal
 
@@ -14,36 +14,33 @@ loop-place-init g c = λ k d less. absurd (omega (arith, less))
 
 pub returns-then-not-is_tagged : goal.returns-then-not-is_tagged
 returns-then-not-is_tagged g c =
-    let old : Tables = HasEntry (g.O.RouteSource.table c.args.mixed.now.old) in
-    let new : Tables = HasEntry (g.N.RouteSource.table c.args.mixed.now.new) in
+    let move : Migration = migration_of g.O.RouteSource.table g.N.RouteSource.table c.args.mixed.now in
     let d : Turn = record { router = 0; tag = Old } in (
       λ e. absurd (false≢true e),
       λ round.
-          let here = around_at (λ (r s : Turn). IsTag c.args.mixed.now.net old new c.args.address r s.router) c.args.turns.now c.loop-place.place d round
+          let here = around_at (λ (r s : Turn). IsTag move c.args.address r s.router) c.args.turns.now c.loop-place.place d round
           c.loop-place-test.true in
           sym c.if-not-is_tagged.true ∙ c.is_tagged.ensures.1
-          (subst (λ (t : Turn). IsTag c.args.mixed.now.net old new c.args.address (get_or c.args.turns.now c.loop-place.place d) t.router)
+          (subst (λ (t : Turn). IsTag move c.args.address (get_or c.args.turns.now c.loop-place.place d) t.router)
           (sym (c.next_turn-next.ensures d)) here),
     )
 
 pub loop-place-preserved : goal.loop-place-preserved
 loop-place-preserved g c =
-    let old : Tables = HasEntry (g.O.RouteSource.table c.args.mixed.now.old) in
-    let new : Tables = HasEntry (g.N.RouteSource.table c.args.mixed.now.new) in
+    let move : Migration = migration_of g.O.RouteSource.table g.N.RouteSource.table c.args.mixed.now in
     let e : Turn = record { router = 0; tag = Old } in
-    places_more (λ (r s : Turn). IsTag c.args.mixed.now.net old new c.args.address r s.router) c.args.turns.now c.loop-place.place c.loop-place.invariant
+    places_more (λ (r s : Turn). IsTag move c.args.address r s.router) c.args.turns.now c.loop-place.place c.loop-place.invariant
     (λ d.
-    subst (λ (t : Turn). IsTag c.args.mixed.now.net old new c.args.address (get_or c.args.turns.now c.loop-place.place d) t.router)
+    subst (λ (t : Turn). IsTag move c.args.address (get_or c.args.turns.now c.loop-place.place d) t.router)
     (c.next_turn-next.ensures d)
-    (subst (λ (t : Turn). IsTag c.args.mixed.now.net old new c.args.address t c.next_turn-next.result.router)
+    (subst (λ (t : Turn). IsTag move c.args.address t c.next_turn-next.result.router)
     (get_or_default c.args.turns.now c.loop-place.place e d c.loop-place-test.true)
     (c.is_tagged.ensures.0 c.if-not-is_tagged.false)))
 
 pub returns : goal.returns
 returns g c =
-    let old : Tables = HasEntry (g.O.RouteSource.table c.args.mixed.now.old) in
-    let new : Tables = HasEntry (g.N.RouteSource.table c.args.mixed.now.new) in (
-      λ e. around_from (λ (r s : Turn). IsTag c.args.mixed.now.net old new c.args.address r s.router) c.args.turns.now
+    let move : Migration = migration_of g.O.RouteSource.table g.N.RouteSource.table c.args.mixed.now in (
+      λ e. around_from (λ (r s : Turn). IsTag move c.args.address r s.router) c.args.turns.now
           (λ k d within. c.loop-place.invariant k d (omega (arith, within, c.loop-place-test.false))),
       λ round. refl,
     )

@@ -3,8 +3,8 @@ use Rattle.std.proofs.lemmas.List.{length-map}
 use Rattle.std.proofs.lemmas.Result.{MatchResult-at_ok}
 use Rattle.net_addr.specs.Spans.{bytes_of}
 use Rattle.net_addr.specs.declared.line.Line.{Line}
-use Rattle.route_core.specs.Tables.{HasEntry}
-use Rattle.igp_theory.specs.Routes.{Tables}
+use Rattle.igp_theory.specs.Migrations.{Migration}
+use Rattle.rib_mix.specs.Mixture.{migration_of}
 use Rattle.refutation_check.specs.Verdicts.{header_missing}
 use Rattle.refutation_check.specs.steps.Reading.{HasReadLines, IsWrongVerdict, line_bytes}
 use Rattle.refutation_check.proofs.ReadingFacts.{end_is, read_none}
@@ -17,34 +17,32 @@ returns-in_default-clause-verdict g c = header_missing c.in_default.ensures.none
 pub read_lines-requires-clause-start : goal.read_lines-requires-clause-start
 read_lines-requires-clause-start g c =
     let m = c.args.mixed.now in
-    read_none m.net (HasEntry (g.O.RouteSource.table m.old)) (HasEntry (g.N.RouteSource.table m.new)) c.in_ok-start.start c.in_ok-start.ensures.left
+    read_none (migration_of g.O.RouteSource.table g.N.RouteSource.table m) c.in_ok-start.start c.in_ok-start.ensures.left
     c.in_ok-start.ensures.tally
 
 pub returns-in-Ok-clause-verdict : goal.returns-in-Ok-clause-verdict
 returns-in-Ok-clause-verdict g c =
     let m = c.args.mixed.now in
-    let old : Tables = HasEntry (g.O.RouteSource.table m.old) in
-    let new : Tables = HasEntry (g.N.RouteSource.table m.new) in
+    let move : Migration = migration_of g.O.RouteSource.table g.N.RouteSource.table m in
     let text = c.args.text.now in
     let entries = c.in-Some.entries.now in
     let lines = line_bytes text entries in
-    let read : HasReadLines m.net old new lines c.in-Ok.read =
-    MatchResult-at_ok (HasReadLines m.net old new lines) (IsWrongVerdict m.net old new text) c.in-Ok.read
+    let read : HasReadLines move lines c.in-Ok.read =
+    MatchResult-at_ok (HasReadLines move lines) (IsWrongVerdict move text) c.in-Ok.read
     c.in-Ok.is c.in_ok-read.ensures in
-    end_is m.net old new text lines c.in-Ok.read (length entries + 2) c.end_verdict.result c.in-Some.ensures.some.lines read
+    end_is move text lines c.in-Ok.read (length entries + 2) c.end_verdict.result c.in-Some.ensures.some.lines read
     (omega (arith, length-map entries (λ (line : Line). bytes_of text line.span))) c.end_verdict.ensures
 
 pub returns-in-Ok-clause-refutes : goal.returns-in-Ok-clause-refutes
 returns-in-Ok-clause-refutes g c =
     let m = c.args.mixed.now in
-    let old : Tables = HasEntry (g.O.RouteSource.table m.old) in
-    let new : Tables = HasEntry (g.N.RouteSource.table m.new) in
+    let move : Migration = migration_of g.O.RouteSource.table g.N.RouteSource.table m in
     let text = c.args.text.now in
     let entries = c.in-Some.entries.now in
     let lines = line_bytes text entries in
-    let read : HasReadLines m.net old new lines c.in-Ok.read =
-    MatchResult-at_ok (HasReadLines m.net old new lines) (IsWrongVerdict m.net old new text) c.in-Ok.read
+    let read : HasReadLines move lines c.in-Ok.read =
+    MatchResult-at_ok (HasReadLines move lines) (IsWrongVerdict move text) c.in-Ok.read
     c.in-Ok.is c.in_ok-read.ensures in
-    verdict_refutes m.net old new text c.end_verdict.result
-    (end_is m.net old new text lines c.in-Ok.read (length entries + 2) c.end_verdict.result c.in-Some.ensures.some.lines read
+    verdict_refutes move text c.end_verdict.result
+    (end_is move text lines c.in-Ok.read (length entries + 2) c.end_verdict.result c.in-Some.ensures.some.lines read
     (omega (arith, length-map entries (λ (line : Line). bytes_of text line.span))) c.end_verdict.ensures)

@@ -4,8 +4,8 @@ use Rattle.std.proofs.lemmas.Bool.{false≢true}
 use Rattle.net_addr.specs.Spans.{bytes_of}
 use Rattle.net_model.specs.Network.{Network}
 use Rattle.net_model.specs.Refusals.{IsNetwork}
-use Rattle.route_core.specs.Tables.{HasEntry}
-use Rattle.igp_theory.specs.Routes.{Tables}
+use Rattle.igp_theory.specs.Migrations.{Migration}
+use Rattle.rib_mix.specs.Mixture.{migration_of}
 use Rattle.order_search.specs.declared.tree.Node.{Node}
 use Rattle.refutation_check.specs.TreeLines.{SaysNode, pieces_of}
 use Rattle.refutation_check.specs.declared.verdict.WrongKind.{WrongKind}
@@ -34,10 +34,9 @@ pub returns-in-Err-clause-taken : goal.returns-in-Err-clause-taken
 returns-in-Err-clause-taken g c =
     let m = c.args.mixed.now in
     let line = bytes_of c.args.text.now c.args.line in
-    let old : Tables = HasEntry (g.O.RouteSource.table m.old) in
-    let new : Tables = HasEntry (g.N.RouteSource.table m.new) in
-    not_there m.net old new c.args.self.walk.left line c.in-Err.kind (λ e. false≢true (sym c.if-is_whole.false ∙ c.is_whole.ensures.1 e))
-    (λ place left is. unread_lowest m.net old new place (pieces_of line) c.in-Err.kind
+    let move : Migration = migration_of g.O.RouteSource.table g.N.RouteSource.table m in
+    not_there move c.args.self.walk.left line c.in-Err.kind (λ e. false≢true (sym c.if-is_whole.false ∙ c.is_whole.ensures.1 e))
+    (λ place left is. unread_lowest move place (pieces_of line) c.in-Err.kind
     (read_err m.net c.net.result.now (pieces_of line) c.in_ok-node.field-0 c.in-Err.kind c.net.ensures c.in_ok-node.ensures c.in-Err.is))
 
 pub take_node-requires-clause-ringed : goal.take_node-requires-clause-ringed
@@ -50,15 +49,14 @@ pub returns-in-Ok-2-clause-taken : goal.returns-in-Ok-2-clause-taken
 returns-in-Ok-2-clause-taken g c =
     let m = c.args.mixed.now in
     let line = bytes_of c.args.text.now c.args.line in
-    let old : Tables = HasEntry (g.O.RouteSource.table m.old) in
-    let new : Tables = HasEntry (g.N.RouteSource.table m.new) in
+    let move : Migration = migration_of g.O.RouteSource.table g.N.RouteSource.table m in
     let says = read_ok m.net c.net.result.now (pieces_of line) c.in_ok-node.field-0 c.in-Ok.node c.net.ensures c.in_ok-node.ensures c.in-Ok.is in
-    take_there m.net old new c.args.self.walk.left line c.args.self (record { walk = c.in-Ok-2.walk; tally = c.with.result }) c.in-Ok.node
+    take_there move c.args.self.walk.left line c.args.self (record { walk = c.in-Ok-2.walk; tally = c.with.result }) c.in-Ok.node
     (λ e. false≢true (sym c.if-is_whole.false ∙ c.is_whole.ensures.1 e)) says
     (λ place left is. record {
       node = c.in-Ok.node;
       says = says;
-      taken = taken_ok m.net old new place left c.in-Ok.node c.in_ok-walk.field-0 c.in-Ok-2.walk c.in-Ok-2.is (c.in_ok-walk.ensures.taken place left is);
+      taken = taken_ok move place left c.in-Ok.node c.in_ok-walk.field-0 c.in-Ok-2.walk c.in-Ok-2.is (c.in_ok-walk.ensures.taken place left is);
       counts = c.with.ensures;
     })
 
@@ -66,10 +64,9 @@ pub returns-clause-taken : goal.returns-clause-taken
 returns-clause-taken g c =
     let m = c.args.mixed.now in
     let line = bytes_of c.args.text.now c.args.line in
-    let old : Tables = HasEntry (g.O.RouteSource.table m.old) in
-    let new : Tables = HasEntry (g.N.RouteSource.table m.new) in
+    let move : Migration = migration_of g.O.RouteSource.table g.N.RouteSource.table m in
     let says = read_ok m.net c.net.result.now (pieces_of line) c.in_ok-node.field-0 c.in-Ok.node c.net.ensures c.in_ok-node.ensures c.in-Ok.is in
-    not_there m.net old new c.args.self.walk.left line c.in-Err-2.kind (λ e. false≢true (sym c.if-is_whole.false ∙ c.is_whole.ensures.1 e))
+    not_there move c.args.self.walk.left line c.in-Err-2.kind (λ e. false≢true (sym c.if-is_whole.false ∙ c.is_whole.ensures.1 e))
     (λ place left is.
-    wrong_words m.net c.requires.network old new place (pieces_of line) c.in-Ok.node says c.in-Err-2.kind
-    (taken_err m.net old new place left c.in-Ok.node c.in_ok-walk.field-0 c.in-Err-2.kind c.in-Err-2.is (c.in_ok-walk.ensures.taken place left is)))
+    wrong_words move c.requires.network place (pieces_of line) c.in-Ok.node says c.in-Err-2.kind
+    (taken_err move place left c.in-Ok.node c.in_ok-walk.field-0 c.in-Err-2.kind c.in-Err-2.is (c.in_ok-walk.ensures.taken place left is)))

@@ -1,0 +1,9 @@
+ghost use Rattle.igp_theory.specs.Migrations.{Migration};
+
+/// Any network with any old and any new table of its routers.
+///
+/// It exists for the laws, which hold of every migration; no program has a value of it.
+pub trait AnyMigration {
+    /// The network and its tables.
+    ghost migration: { Migration };
+}
