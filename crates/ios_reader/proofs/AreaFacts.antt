@@ -1,7 +1,8 @@
 -- The laws of the ranges and stub areas of an OSPF process: of the values that replace one another the last one stays.
 use Rattle.std.proofs.Common.{◌≡◌, ◌↔◌, ℕ, ◌⊎◌, inl, inr, Bool, true, false, ◌&&◌, cond, List, [], ◌∷◌, ◌++◌, nat_eq, refl, sym, ap, subst, ◌∙◌, arith}
 use Rattle.std.specs.Prelude.{fold, filter_map, All, Contains}
-use Rattle.std.proofs.lemmas.Bool.{false≢true}
+use Rattle.std.specs.Cmp.{nat_eq_equiv}
+use Rattle.std.proofs.lemmas.Bool.{false≢true, eqb-true}
 use Rattle.std.proofs.lemmas.List.Elements.{All-nil, All-cons, All-head, All-tail, Contains-get_or, Contains-append_right, Contains-append_cases}
 use Rattle.std.proofs.lemmas.List.Elements.{Contains-push_cases}
 use Rattle.ios_lines.specs.Lookups.{replaced}
@@ -9,7 +10,6 @@ use Rattle.ios_lines.specs.declared.ospf_line.OspfStatement.{OspfStatement}
 use Rattle.ios_lines.proofs.NumberFacts.{and_left, and_right}
 use Rattle.ios_reader.specs.Routers.{range_said, is_same_range, stub_said, is_same_area}
 use Rattle.ios_reader.specs.AreaLaws.{IsSaidLast, LastRangesLaw, LastStubLinesLaw}
-use Rattle.ios_reader.proofs.KeyedFacts.{same_number, nat_eq_swap}
 
 -- a value is one of a list
 abbrev Has : {A : Type 0} → List A → A → Type 0
@@ -146,11 +146,11 @@ module _ {A : Type 0} (same : A → A → Bool) (laws : IsSameness same) where
   )
 
 number_through : (a b c : ℕ) → nat_eq a b ≡ true → nat_eq a c ≡ nat_eq b c
-number_through a b c e = ap (λ (n : ℕ). nat_eq n c) (same_number a b e)
+number_through a b c e = ap (λ (n : ℕ). nat_eq n c) (eqb-true a b e)
 
 same_area : IsSameness is_same_area
 same_area = record {
-  swap = λ s t. nat_eq_swap s.area t.area;
+  swap = λ s t. nat_eq_equiv.symm s.area t.area;
   through = λ s t u. number_through s.area t.area u.area;
 }
 
@@ -163,9 +163,9 @@ all_same a b c = a && b && c
 same_range : IsSameness is_same_range
 same_range = record {
   swap = λ r s.
-      ap (λ (b : Bool). all_same b (nat_eq r.dest.base s.dest.base) (nat_eq r.dest.len s.dest.len)) (nat_eq_swap r.area s.area)
-      ∙ ap (λ (b : Bool). all_same (nat_eq s.area r.area) b (nat_eq r.dest.len s.dest.len)) (nat_eq_swap r.dest.base s.dest.base)
-      ∙ ap (all_same (nat_eq s.area r.area) (nat_eq s.dest.base r.dest.base)) (nat_eq_swap r.dest.len s.dest.len);
+      ap (λ (b : Bool). all_same b (nat_eq r.dest.base s.dest.base) (nat_eq r.dest.len s.dest.len)) (nat_eq_equiv.symm r.area s.area)
+      ∙ ap (λ (b : Bool). all_same (nat_eq s.area r.area) b (nat_eq r.dest.len s.dest.len)) (nat_eq_equiv.symm r.dest.base s.dest.base)
+      ∙ ap (all_same (nat_eq s.area r.area) (nat_eq s.dest.base r.dest.base)) (nat_eq_equiv.symm r.dest.len s.dest.len);
   through = λ r s t e.
       let front : (nat_eq r.area s.area && nat_eq r.dest.base s.dest.base) ≡ true =
       and_left (nat_eq r.area s.area && nat_eq r.dest.base s.dest.base) (nat_eq r.dest.len s.dest.len) e in

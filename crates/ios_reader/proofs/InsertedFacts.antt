@@ -307,7 +307,8 @@ block_parts before block outside fits =
     ∙ ap (λ (ps : List Part). parts_of (lines_in before) ++ ps) (parts-none (open_lines before) (block_lines before block) (no_end_in before block fits))
     ∙ append-nil (parts_of (lines_in before))
 
-block_open : (before block : List ℕ) → IsOutsideBanners before → IsLineBlock block → open_lines (before ++ block) ≡ open_lines before ++ block_lines before block
+block_open : (before block : List ℕ) → IsOutsideBanners before → IsLineBlock block →
+    open_lines (before ++ block) ≡ open_lines before ++ block_lines before block
 block_open before block outside fits =
     ap (rest_after []) (counted_joined before block outside)
     ∙ rest-append [] (counted_lines (lines_in before)) (block_lines before block)

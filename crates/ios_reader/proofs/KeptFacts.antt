@@ -5,7 +5,7 @@ use Rattle.std.specs.Prelude.{IfSome, IfOk, IsSome, All, AllPairs, is_some, unwr
 use Rattle.std.specs.List.{list_all}
 use Rattle.std.specs.Char.{is_ascii_digit}
 use Rattle.std.proofs.lemmas.Bool.Decides.{nat_tests}
-use Rattle.std.proofs.lemmas.Bool.{false≢true}
+use Rattle.std.proofs.lemmas.Bool.{false≢true, eqb-true, eq-eqb, or_cases}
 use Rattle.std.proofs.lemmas.List.Elements.{All-nil, All-map}
 use Rattle.std.proofs.lemmas.List.Sums.{AllPass-from_list_all}
 use Rattle.net_addr.specs.Addresses.{Block, IsBlock}
@@ -53,18 +53,11 @@ use Rattle.ios_sections.proofs.GoodSections.{counting_good, number_of_process, o
 
 -- ---- the name ----
 
-or_cases : (a b : Bool) → (a || b) ≡ true → (a ≡ true) ⊎ (b ≡ true)
-or_cases true b h = inl refl
-or_cases false b h = inr h
-
 is_from_tests : (low high b : ℕ) → (nat_le low b && nat_le b high) ≡ true → (low ≤ b) × (b ≤ high)
 is_from_tests low high b h = (le_test low b (and_left (nat_le low b) (nat_le b high) h), le_test b high (and_right (nat_le low b) (nat_le b high) h))
 
 digit_from : (b : ℕ) → is_ascii_digit b ≡ true → (48 ≤ b) × (b ≤ 57)
 digit_from b h = grind (arith, nat_tests)
-
-same_number : (a b : ℕ) → nat_eq a b ≡ true → a ≡ b
-same_number a b h = grind (arith, nat_tests)
 
 name_byte : (b : ℕ) → is_name_byte b ≡ true → IsNameByte b
 name_byte b h = four (or_cases (is_letter b || is_ascii_digit b || nat_eq b 45 || nat_eq b 95) (nat_eq b 46) h)
@@ -79,15 +72,15 @@ name_byte b h = four (or_cases (is_letter b || is_ascii_digit b || nat_eq b 45 |
 
     three : ((is_letter b || is_ascii_digit b) ≡ true) ⊎ (nat_eq b 45 ≡ true) → IsNameByte b
     three (inl e) = two (or_cases (is_letter b) (is_ascii_digit b) e)
-    three (inr e) = inr (inr (inr (inl (same_number b 45 e))))
+    three (inr e) = inr (inr (inr (inl (eqb-true b 45 e))))
 
     more : ((is_letter b || is_ascii_digit b || nat_eq b 45) ≡ true) ⊎ (nat_eq b 95 ≡ true) → IsNameByte b
     more (inl e) = three (or_cases (is_letter b || is_ascii_digit b) (nat_eq b 45) e)
-    more (inr e) = inr (inr (inr (inr (inl (same_number b 95 e)))))
+    more (inr e) = inr (inr (inr (inr (inl (eqb-true b 95 e)))))
 
     four : ((is_letter b || is_ascii_digit b || nat_eq b 45 || nat_eq b 95) ≡ true) ⊎ (nat_eq b 46 ≡ true) → IsNameByte b
     four (inl e) = more (or_cases (is_letter b || is_ascii_digit b || nat_eq b 45) (nat_eq b 95) e)
-    four (inr e) = inr (inr (inr (inr (inr (same_number b 46 e)))))
+    four (inr e) = inr (inr (inr (inr (inr (eqb-true b 46 e)))))
 
 router_name : (name : Word) → is_router_name name ≡ true → IsRouterName name
 router_name name h =
@@ -390,19 +383,16 @@ same_range : (r s : Range) → is_same_range r s ≡ true → (r.area ≡ s.area
 same_range r s e =
     let front : (nat_eq r.area s.area && nat_eq r.dest.base s.dest.base) ≡ true =
     and_left (nat_eq r.area s.area && nat_eq r.dest.base s.dest.base) (nat_eq r.dest.len s.dest.len) e in
-    let base : r.dest.base ≡ s.dest.base = same_number r.dest.base s.dest.base (and_right (nat_eq r.area s.area) (nat_eq r.dest.base s.dest.base) front) in
-    let len : r.dest.len ≡ s.dest.len = same_number r.dest.len s.dest.len
+    let base : r.dest.base ≡ s.dest.base = eqb-true r.dest.base s.dest.base (and_right (nat_eq r.area s.area) (nat_eq r.dest.base s.dest.base) front) in
+    let len : r.dest.len ≡ s.dest.len = eqb-true r.dest.len s.dest.len
     (and_right (nat_eq r.area s.area && nat_eq r.dest.base s.dest.base) (nat_eq r.dest.len s.dest.len) e) in (
-      same_number r.area s.area (and_left (nat_eq r.area s.area) (nat_eq r.dest.base s.dest.base) front),
+      eqb-true r.area s.area (and_left (nat_eq r.area s.area) (nat_eq r.dest.base s.dest.base) front),
       same_parts r.dest.base s.dest.base r.dest.len s.dest.len base len,
     )
 
-equal_number : (a b : ℕ) → a ≡ b → nat_eq a b ≡ true
-equal_number a b h = grind (arith, nat_tests)
-
 range_same : (r s : Range) → (r.area ≡ s.area) × (r.dest ≡ s.dest) → is_same_range r s ≡ true
-range_same r s h = all_three (equal_number r.area s.area h.0) (equal_number r.dest.base s.dest.base (ap (λ (b : Block). b.base) h.1))
-    (equal_number r.dest.len s.dest.len (ap (λ (b : Block). b.len) h.1))
+range_same r s h = all_three (eq-eqb r.area s.area h.0) (eq-eqb r.dest.base s.dest.base (ap (λ (b : Block). b.base) h.1))
+    (eq-eqb r.dest.len s.dest.len (ap (λ (b : Block). b.len) h.1))
   where
     all_three : {a b c : Bool} → a ≡ true → b ≡ true → c ≡ true → (a && b && c) ≡ true
     all_three e f g = rw (e, f, g) refl
@@ -427,10 +417,10 @@ abbrev AreStubsApart : StubLine → StubLine → Type 0
 AreStubsApart s t = s.area ≢ t.area
 
 stubs_takes : (y x z : StubLine) → is_same_area y x ≡ true → AreStubsApart y z → AreStubsApart x z
-stubs_takes y x z e apart h = let same : y.area ≡ x.area = same_number y.area x.area e in apart cc
+stubs_takes y x z e apart h = let same : y.area ≡ x.area = eqb-true y.area x.area e in apart cc
 
 stubs_new : (y x : StubLine) → is_same_area y x ≡ false → AreStubsApart y x
-stubs_new y x e h = let t : is_same_area y x ≡ true = equal_number y.area x.area h in let f : false ≡ true = cc in false≢true f
+stubs_new y x e h = let t : is_same_area y x ≡ true = eq-eqb y.area x.area h in let f : false ≡ true = cc in false≢true f
 
 stub_lines_apart : (lines : List OspfStatement) → AllPairs AreStubsApart (stub_lines_in lines)
 stub_lines_apart lines =

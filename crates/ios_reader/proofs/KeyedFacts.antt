@@ -1,11 +1,11 @@
 -- Tables whose values stand under their keys.
 use Rattle.std.proofs.Common.{sym, ◌≡◌, ℕ, zero, suc, ◌+◌, ◌<◌, Bool, true, false, ◌&&◌, List, [], ◌∷◌, ◌++◌, length, take, get_or, Option, Some, None, refl}
-use Rattle.std.proofs.Common.{ap, ◌∙◌, cond, map, nat_eq, arith, add-one}
+use Rattle.std.proofs.Common.{ap, ◌∙◌, cond, map, nat_eq, add-one}
 use Rattle.std.specs.Prelude.{slice_get}
 use Rattle.std.specs.List.{cons_option}
-use Rattle.std.proofs.lemmas.Bool.{false≢true}
+use Rattle.std.specs.Cmp.{nat_eq_equiv}
+use Rattle.std.proofs.lemmas.Bool.{false≢true, eqb-true}
 use Rattle.std.proofs.lemmas.List.{map-append}
-use Rattle.std.proofs.lemmas.Bool.Decides.{nat_tests}
 use Rattle.std.proofs.lemmas.List.Elements.{All-cons, All-head, All-tail}
 use Rattle.std.specs.Map.{lookup}
 use Rattle.indexmap.specs.IndexMap.{insert_entry}
@@ -61,21 +61,6 @@ value_more vs i = rw add-one (by_suc vs i)
 
 -- ---- numbers as keys ----
 
-pub same_number : (a b : ℕ) → nat_eq a b ≡ true → a ≡ b
-same_number a b h = grind (arith, nat_tests)
-
-number_same : (a b : ℕ) → a ≡ b → nat_eq a b ≡ true
-number_same a b h = grind (arith, nat_tests)
-
-pub nat_eq_swap : (a b : ℕ) → nat_eq a b ≡ nat_eq b a
-nat_eq_swap a b = choice (nat_eq a b) (nat_eq b a) refl refl
-  where
-    choice : (s t : Bool) → nat_eq a b ≡ s → nat_eq b a ≡ t → s ≡ t
-    choice true true e f = refl
-    choice false false e f = refl
-    choice true false e f = sym (number_same b a (sym (same_number a b e))) ∙ f
-    choice false true e f = sym e ∙ number_same a b (sym (same_number b a f))
-
 here_cases : (b : Bool) (old v : ℕ) (rest : Option ℕ) → cond b (Some v) rest ≡ later (cond b (Some old) rest) (cost_if b v)
 here_cases true old v rest = refl
 here_cases false old v rest = refl
@@ -89,19 +74,19 @@ said_cases : (t : Bool) (e : ℕ × ℕ) (es : List (ℕ × ℕ)) (n v q : ℕ) 
     lookup (nat_eq q) (insert_entry nat_eq es n v) ≡ later (lookup (nat_eq q) es) (cost_if (nat_eq n q) v) →
     lookup (nat_eq q) (cond t ((e.0, v) ∷ es) (e ∷ insert_entry nat_eq es n v)) ≡ later (lookup (nat_eq q) (e ∷ es)) (cost_if (nat_eq n q) v)
 said_cases true e es n v q same rest =
-    let swap : nat_eq q e.0 ≡ nat_eq n q = nat_eq_swap q e.0 ∙ ap (λ (w : ℕ). nat_eq w q) (sym (same_number n e.0 same)) in
+    let swap : nat_eq q e.0 ≡ nat_eq n q = nat_eq_equiv.symm q e.0 ∙ ap (λ (w : ℕ). nat_eq w q) (sym (eqb-true n e.0 same)) in
     here_cases (nat_eq q e.0) e.1 v (lookup (nat_eq q) es)
     ∙ ap (λ (b : Bool). later (cond (nat_eq q e.0) (Some e.1) (lookup (nat_eq q) es)) (cost_if b v)) swap
 said_cases false e es n v q same rest =
     there_cases (nat_eq q e.0) e.1 (lookup (nat_eq q) es) (lookup (nat_eq q) (insert_entry nat_eq es n v)) (cost_if (nat_eq n q) v)
     (λ there.
-    let other : nat_eq n q ≡ false = ap (nat_eq n) (same_number q e.0 there) ∙ same in
+    let other : nat_eq n q ≡ false = ap (nat_eq n) (eqb-true q e.0 there) ∙ same in
     ap (λ (b : Bool). cost_if b v) other)
     rest
 
 -- what a table says of a number after one more line
 pub lookup_insert : (es : List (ℕ × ℕ)) (n v q : ℕ) → lookup (nat_eq q) (insert_entry nat_eq es n v) ≡ later (lookup (nat_eq q) es) (cost_if (nat_eq n q) v)
-lookup_insert [] n v q = first (nat_eq q n) (nat_eq n q) (nat_eq_swap q n)
+lookup_insert [] n v q = first (nat_eq q n) (nat_eq n q) (nat_eq_equiv.symm q n)
   where
     first : (s t : Bool) → s ≡ t → cond s (Some v) None ≡ later None (cost_if t v)
     first true true e = refl
@@ -137,12 +122,12 @@ pub key_same : (a b : ℕ × ℕ × ℕ) → key_eq a b ≡ true → a ≡ b
 key_same a b e =
     let front : (nat_eq a.0 b.0 && nat_eq a.1 b.1) ≡ true = and_left (nat_eq a.0 b.0 && nat_eq a.1 b.1) (nat_eq a.2 b.2) e in
     same_parts a.0 b.0 a.1 b.1 a.2 b.2
-    (same_number a.0 b.0 (and_left (nat_eq a.0 b.0) (nat_eq a.1 b.1) front))
-    (same_number a.1 b.1 (and_right (nat_eq a.0 b.0) (nat_eq a.1 b.1) front))
-    (same_number a.2 b.2 (and_right (nat_eq a.0 b.0 && nat_eq a.1 b.1) (nat_eq a.2 b.2) e))
+    (eqb-true a.0 b.0 (and_left (nat_eq a.0 b.0) (nat_eq a.1 b.1) front))
+    (eqb-true a.1 b.1 (and_right (nat_eq a.0 b.0) (nat_eq a.1 b.1) front))
+    (eqb-true a.2 b.2 (and_right (nat_eq a.0 b.0 && nat_eq a.1 b.1) (nat_eq a.2 b.2) e))
 
 pub keys_agree : (x y : Range) → key_eq (range_key x) (range_key y) ≡ is_same_range y x
 keys_agree x y =
-    ap (λ (b : Bool). b && nat_eq x.dest.base y.dest.base && nat_eq x.dest.len y.dest.len) (nat_eq_swap x.area y.area)
-    ∙ ap (λ (b : Bool). nat_eq y.area x.area && b && nat_eq x.dest.len y.dest.len) (nat_eq_swap x.dest.base y.dest.base)
-    ∙ ap (λ (b : Bool). nat_eq y.area x.area && nat_eq y.dest.base x.dest.base && b) (nat_eq_swap x.dest.len y.dest.len)
+    ap (λ (b : Bool). b && nat_eq x.dest.base y.dest.base && nat_eq x.dest.len y.dest.len) (nat_eq_equiv.symm x.area y.area)
+    ∙ ap (λ (b : Bool). nat_eq y.area x.area && b && nat_eq x.dest.len y.dest.len) (nat_eq_equiv.symm x.dest.base y.dest.base)
+    ∙ ap (λ (b : Bool). nat_eq y.area x.area && nat_eq y.dest.base x.dest.base && b) (nat_eq_equiv.symm x.dest.len y.dest.len)

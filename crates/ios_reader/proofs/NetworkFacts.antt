@@ -5,6 +5,7 @@ use Rattle.std.specs.Prelude.{Ok, Err, All, find, fold, option_map, bit_or, nat_
 use Rattle.std.specs.List.{list_any}
 use Rattle.std.specs.Map.{lookup}
 use Rattle.std.specs.Option.{option_or}
+use Rattle.std.proofs.lemmas.Bool.{eqb-true}
 use Rattle.std.proofs.lemmas.Bool.Decides.{nat_tests}
 use Rattle.std.proofs.lemmas.List.{append-nil, length-take-le, take_more}
 use Rattle.std.proofs.lemmas.List.Elements.{All-head, All-tail, All-more, All-weaker}
@@ -19,7 +20,6 @@ use Rattle.ios_reader.specs.declared.networks.PlacedNetwork.{PlacedNetwork}
 use Rattle.ios_reader.specs.Routers.{area_taken}
 use Rattle.ios_reader.specs.steps.Networks.{network_said, placed_at, placed_networks, Ascend, takes, is_block, block_key, same_block, is_of_block, has_wildcard}
 use Rattle.ios_reader.specs.steps.Networks.{HasWildcards, AreNetworkTables, earlier_line, first_of_blocks}
-use Rattle.ios_reader.proofs.KeyedFacts.{same_number}
 
 -- ---- places ----
 
@@ -170,7 +170,7 @@ any_nothing (w ∷ ws) = any_nothing ws
 agrees : (address : ℕ) (line : PlacedNetwork) (w : ℕ) (b : Bool) → nat_eq w line.network.wildcard ≡ b →
     (b && nat_eq (bit_or address w) (bit_or line.network.address line.network.wildcard)) ≡ (b && takes address line)
 agrees address line w true e =
-    ap (λ (v : ℕ). nat_eq (bit_or address v) (bit_or line.network.address line.network.wildcard)) (same_number w line.network.wildcard e)
+    ap (λ (v : ℕ). nat_eq (bit_or address v) (bit_or line.network.address line.network.wildcard)) (eqb-true w line.network.wildcard e)
 agrees address line w false e = refl
 
 and_or : (a b c : Bool) → ((a && c) || (b && c)) ≡ ((a || b) && c)

@@ -1,6 +1,7 @@
 -- Tables of passive interfaces, against the last line that names an interface.
 use Rattle.std.proofs.Common.{sym, ◌≡◌, ℕ, ◌+◌, ◌<◌, Bool, true, false, List, [], ◌∷◌, length, take, get_or, Option, Some, None, refl, ap, ◌∙◌, cond, map}
 use Rattle.std.proofs.Common.{bytes_eq}
+use Rattle.std.specs.Cmp.Lexicographic.{nat_list_eq_equiv}
 use Rattle.std.proofs.lemmas.Slice.Eq.{bytes_eq-Decides}
 use Rattle.std.specs.Map.{lookup}
 use Rattle.indexmap.specs.IndexMap.{insert_entry}
@@ -12,17 +13,8 @@ use Rattle.ios_lines.proofs.LineLookups.{last_of_more}
 same_word : (n m : Word) → bytes_eq n m ≡ true → n ≡ m
 same_word n m e = (bytes_eq-Decides n m).0 e
 
-word_same : (n m : Word) → n ≡ m → bytes_eq n m ≡ true
-word_same n m e = (bytes_eq-Decides n m).1 e
-
 eq_swap : (n m : Word) → bytes_eq n m ≡ bytes_eq m n
-eq_swap n m = choice (bytes_eq n m) (bytes_eq m n) refl refl
-  where
-    choice : (a b : Bool) → bytes_eq n m ≡ a → bytes_eq m n ≡ b → a ≡ b
-    choice true true e f = refl
-    choice false false e f = refl
-    choice true false e f = sym (word_same m n (sym (same_word n m e))) ∙ f
-    choice false true e f = sym e ∙ word_same n m (sym (same_word m n f))
+eq_swap = nat_list_eq_equiv.symm
 
 here_cases : (b : Bool) (old v : Bool) (rest : Option Bool) → cond b (Some v) rest ≡ later (cond b (Some old) rest) (cond b (Some v) None)
 here_cases true old v rest = refl

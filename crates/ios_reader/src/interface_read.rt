@@ -5,7 +5,7 @@ ghost use Rattle.ios_lines.specs.Words.{is_letter};
 ghost use Rattle.ios_lines.specs.Lookups.{good_value};
 ghost use Rattle.ios_reader.specs.steps.Passives.{ArePassivesOf};
 ghost use Rattle.ios_reader.specs.InterfacesAsRead.{address_given, is_loopback, is_up, names_process, area_by, interface_area, default_bandwidth};
-ghost use Rattle.ios_reader.specs.InterfacesAsRead.{cost_of_bandwidth, cost_by_bandwidth, default_cost, cost_given, ospf_cost, is_isis_passive};
+ghost use Rattle.ios_reader.specs.InterfacesAsRead.{cost_of_bandwidth, cost_by_bandwidth, default_cost, cost_given, ospf_cost};
 ghost use Rattle.ios_reader.specs.InterfacesAsRead.{is_ospf_passive, runs_isis, runs_level, metric_by, level_metric, address_field, subnet_field, cost_field};
 ghost use Rattle.ios_reader.specs.InterfacesAsRead.{interface_with};
 
@@ -193,14 +193,6 @@ pub fn ospf_cost(router: &Router, name: &[u8], facts: &InterfaceFacts) -> Option
     )
 }
 
-/// Whether the interface is passive for IS-IS.
-fn is_isis_passive(_router: &Router, passives: &Passives, name: &[u8]) -> bool
-    requires { ArePassivesOf _router.now passives.now }
-    ensures { result ≡ is_isis_passive _router.now name.now }
-{
-    passives.isis.get(name).unwrap_or(false)
-}
-
 /// Whether the interface is passive for OSPF.
 fn is_ospf_passive(router: &Router, passives: &Passives, name: &[u8]) -> bool
     requires { ArePassivesOf router.now passives.now }
@@ -315,7 +307,7 @@ pub fn interface_with(
     let up = is_up(facts);
     let loopback = is_loopback(name.as_slice());
     let ospf_passive = is_ospf_passive(router, passives, name.as_slice());
-    let isis_passive = is_isis_passive(router, passives, name.as_slice());
+    let isis_passive = passives.is_isis_passive(name.as_slice());
     let level1 = runs_level_one(router.levels, isis_passive, facts);
     let level2 = runs_level_two(router.levels, isis_passive, facts);
     let metric1 = level_metric(router.metric, isis_passive, facts, facts.metric1);

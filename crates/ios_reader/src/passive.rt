@@ -1,6 +1,7 @@
 ghost use Rattle.std.specs.Prelude.{◌≡◌, [], List, ℕ, OnOk, IfOk};
 ghost use Rattle.ios_lines.specs.Lookups.{later, last_of};
-ghost use Rattle.ios_reader.specs.Routers.{ospf_passive_said, isis_passive_said};
+ghost use Rattle.ios_reader.specs.InterfacesAsRead.{is_isis_passive};
+ghost use Rattle.ios_reader.specs.Routers.{Router, ospf_passive_said, isis_passive_said};
 ghost use Rattle.ios_reader.specs.steps.Passives.{said_of, with_said, ArePassivesOf};
 
 use crate::OutOfMemory;
@@ -112,6 +113,15 @@ impl Model for Passives {
     ghost Value = { Passives };
 
     ghost view = { λ p. record { ospf = p.ospf; isis = p.isis } };
+}
+
+impl Passives {
+    /// Whether an interface is passive for IS-IS, on a router whose lines these names are of.
+    pub fn is_isis_passive(&self, name: &[u8]) -> bool
+        ensures { (router : Router) → ArePassivesOf router self.now → result ≡ is_isis_passive router name.now }
+    {
+        self.isis.get(name).unwrap_or(false)
+    }
 }
 
 /// Which interfaces the lines of the two processes make passive.

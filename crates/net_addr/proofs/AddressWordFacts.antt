@@ -69,11 +69,7 @@ IsAddressWord-unique word a b x y =
     cut_unique x.second (x.third ++ 46 ∷ x.fourth) y.second (y.third ++ 46 ∷ y.fourth) (no_dot x.second_octet) (no_dot y.second_octet) one.1 in
     let three : (x.third ≡ y.third) × (x.fourth ≡ y.fourth) =
     cut_unique x.third x.fourth y.third y.fourth (no_dot x.third_octet) (no_dot y.third_octet) two.1 in
-    let w : decimal_value x.first ≡ decimal_value y.first = ap decimal_value one.0 in
-    let u : decimal_value x.second ≡ decimal_value y.second = ap decimal_value two.0 in
-    let v : decimal_value x.third ≡ decimal_value y.third = ap decimal_value three.0 in
-    let z : decimal_value x.fourth ≡ decimal_value y.fourth = ap decimal_value three.1 in
-    omega (arith, x.value, y.value)
+    omega (arith, x.value, y.value, ap decimal_value one.0, ap decimal_value two.0, ap decimal_value three.0, ap decimal_value three.1)
 
 -- what is left after one, two and three cuts of an address
 pub rest_one : (word : List ℕ) (n : ℕ) (rest : List ℕ) (a : ℕ) → CutsOctet word n rest → (x : IsAddressWord word a) →

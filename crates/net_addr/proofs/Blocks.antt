@@ -7,19 +7,13 @@ use Rattle.net_addr.specs.Addresses.{Block, block_at, first_bits, ContainsAddres
 abbrev pub block_size : Block → ℕ
 block_size p = 2 ^ (32 - p.len)
 
-multiple_of : (a n : ℕ) → 0 < n → a % n ≡ 0 → a ≡ a / n * n
-multiple_of a n h e = omega arith
-
 multiple_is_clear : (q n : ℕ) → 0 < n → (q * n) % n ≡ 0
 multiple_is_clear q n h = let e : q * n ≡ q * n + 0 = omega arith in ap (λ m. m % n) e ∙ mod-mul-add q n 0 h
-
-multiple_below : (a n : ℕ) → 0 < n → a / n * n ≤ a
-multiple_below a n h = omega arith
 
 block_around : (a n len : ℕ) → len ≤ 32 → a < 2 ^ 32 → n ≡ 2 ^ (32 - len) → 0 < n → IsBlock (block_at (a / n * n) len)
 block_around a n len short below e h = record {
   short = short;
-  address = let under : a / n * n ≤ a = multiple_below a n h in omega arith;
+  address = let under : a / n * n ≤ a = omega arith in omega arith;
   clear = subst (λ (m : ℕ). (a / n * n) % m ≡ 0) e (multiple_is_clear (a / n) n h);
 }
 
@@ -33,7 +27,7 @@ same_quotient_bounds a b n h e same =
 
 bounds_same_quotient : (a b n : ℕ) → 0 < n → b % n ≡ 0 → b ≤ a → a < b + n → a / n ≡ b / n
 bounds_same_quotient a b n h e low high =
-    let whole : b ≡ b / n * n = multiple_of b n h e in
+    let whole : b ≡ b / n * n = omega arith in
     let split : a ≡ b / n * n + (a - b) = omega arith in
     let small : a - b < n = omega arith in
     ap (λ m. m / n) split ∙ div-mul-add (b / n) n (a - b) small
@@ -56,8 +50,8 @@ same_block p q a left right same_len in_p in_q =
     let same_bits : p.base / block_size q ≡ q.base / block_size q =
     ap (λ (m : ℕ). p.base / m) (sym one_size) ∙ sym in_p ∙ ap (λ (m : ℕ). a / m) one_size ∙ in_q in
     let clear : p.base % block_size q ≡ 0 = ap (λ (m : ℕ). p.base % m) (sym one_size) ∙ left.clear in
-    let p_whole : p.base ≡ p.base / block_size q * block_size q = multiple_of p.base (block_size q) (pow_pos (32 - q.len)) clear in
-    let q_whole : q.base ≡ q.base / block_size q * block_size q = multiple_of q.base (block_size q) (pow_pos (32 - q.len)) right.clear in
+    let p_whole : p.base ≡ p.base / block_size q * block_size q = let pos = pow_pos (32 - q.len) in omega (arith, pos, clear) in
+    let q_whole : q.base ≡ q.base / block_size q * block_size q = let pos = pow_pos (32 - q.len) in omega (arith, pos, right.clear) in
     let same_base : p.base ≡ q.base = p_whole ∙ ap (λ (m : ℕ). m * block_size q) same_bits ∙ sym q_whole in
     same_parts p.base q.base p.len q.len same_base same_len
 

@@ -45,11 +45,10 @@ decimal_value-take word i =
 pub no_numeral : (most : ℕ) (word : List ℕ) (i value : ℕ) → i < length word → decimal_value (take i word) ≡ value →
     ¬ (IsAsciiDigit (get_or word i 0) × (10 * value + (get_or word i 0 - 48) ≤ most)) → (n : ℕ) → ¬ (IsNumeralUpTo most word n)
 no_numeral most word i value within read off n stands =
-    let part : decimal_value (take (i + 1) word) ≤ decimal_value word = decimal_value-take word (i + 1) in
-    let more : decimal_value (take (i + 1) word) ≡ 10 * decimal_value (take i word) + (get_or word i 0 - 48) = decimal_value_more word i within in
-    let whole : decimal_value word ≡ n = stands.numeral.value in
-    let small : n ≤ most = stands.within in
-    off (stands.numeral.digits i 0 within, omega arith)
+    off (
+      stands.numeral.digits i 0 within,
+      omega (arith, decimal_value-take word (i + 1), decimal_value_more word i within, stands.numeral.value, stands.within),
+    )
 
 -- a word of digits, read to its end
 pub whole_numeral : (most : ℕ) (word : List ℕ) (i value : ℕ) → 0 < length word → length word ≤ i →

@@ -7,6 +7,7 @@ ghost use Rattle.net_addr.specs.Spans.{bytes_of, LiesIn};
 
 use crate::blank::is_blank;
 use crate::span::Span;
+use memchr::memchr;
 use std::alloc::{AllocError as OutOfMemory, Global};
 use std::marker::Model;
 
@@ -82,7 +83,7 @@ pub(crate) fn piece_len(bytes: &[u8]) -> usize
     ensures value { result ≡ position_or_len is_line_feed bytes.now }
     ensures bound { result ≤ length bytes.now }
 {
-    bytes.iter().take_while(|byte| **byte != b'\n').count()
+    memchr(b'\n', bytes).unwrap_or(bytes.len())
 }
 
 /// The line whose piece lies between `start` and `stop`.

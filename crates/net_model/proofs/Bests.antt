@@ -1,7 +1,8 @@
 -- The least item that a list offers, element by element, and of things that say the same.
-use Rattle.std.proofs.Common.{◌≡◌, ℕ, ◌+◌, ◌<◌, ◌≤◌, true, false, ◌||◌, ◌&&◌, nat_lt, nat_eq, if◌then◌else◌, List, [], ◌∷◌, ◌++◌, length, get_or, take, Option}
+use Rattle.std.proofs.Common.{◌≡◌, ℕ, ◌+◌, ◌<◌, ◌≤◌, Bool, ◌||◌, ◌&&◌, nat_lt, nat_eq, if◌then◌else◌, List, [], ◌∷◌, ◌++◌, length, get_or, take, Option}
 use Rattle.std.proofs.Common.{Some, None, Any, Contains, min, refl, sym, ap, ◌∙◌, subst, ◌⊎◌, inl, inr, ⊎_elim, arith}
-use Rattle.std.proofs.lemmas.Bool.{cases_lt, or_cases, or_parts, and_parts, and_cases, cond_both, ltb-true, ltb-false, eqb-true, eqb-false}
+use Rattle.std.proofs.lemmas.Bool.{cases_lt, cond_both}
+use Rattle.std.proofs.lemmas.Bool.Decides.{nat_tests}
 use Rattle.std.proofs.lemmas.List.{take_more}
 use Rattle.std.proofs.lemmas.List.Elements.{Contains-append_left, Contains-push, Contains-push_cases}
 use Rattle.net_addr.specs.Addresses.{Block}
@@ -88,51 +89,20 @@ lower_is (Some a) None = refl
 lower_is (Some a) (Some b) = refl
 
 -- the first of two prefixes
+abbrev is_before : Block → Block → Bool
+is_before q p = nat_lt q.base p.base || (nat_eq q.base p.base && nat_lt q.len p.len)
+
 abbrev pub pick_block : Block → Block → Block
-pick_block p q = if nat_lt q.base p.base || (nat_eq q.base p.base && nat_lt q.len p.len) then q else p
+pick_block p q = if is_before q p then q else p
 
 pub first_is : (a b : Option Block) → better_by pick_block a b ≡ first_block a b
 first_is None b = refl
 first_is (Some a) None = refl
 first_is (Some a) (Some b) = refl
 
-block_below : (p q r : Block) → (q.base < p.base) ⊎ ((q.base ≡ p.base) × (q.len < p.len)) → IsBlockAtMost p r → IsBlockAtMost q r
-block_below p q r h k =
-    ⊎_elim
-    (λ b. ⊎_elim (λ l. inl (omega arith)) (λ l. inl (omega (arith, l.0))) k)
-    (λ b. ⊎_elim (λ l. inl (omega (arith, b.0))) (λ l. inr (b.0 ∙ l.0, omega (arith, b.1, l.1))) k)
-    h
-
-block_not_below : (p q r : Block) → p.base ≤ q.base → (q.base ≡ p.base → p.len ≤ q.len) → IsBlockAtMost q r → IsBlockAtMost p r
-block_not_below p q r h k =
-    ⊎_elim (λ l. inl (omega arith))
-    (λ l. ⊎_elim (λ s. inl (omega (arith, l.0))) (λ g. let e : q.base ≡ p.base = omega arith in inr (sym e ∙ l.0, omega (arith, k e, l.1)))
-    (cases_lt p.base q.base))
-
--- what the test of two prefixes says
-when_true : (p q : Block) → (nat_lt q.base p.base || (nat_eq q.base p.base && nat_lt q.len p.len)) ≡ true → (q.base < p.base) ⊎
-    ((q.base ≡ p.base) × (q.len < p.len))
-when_true p q e =
-    ⊎_elim (λ l. inl (ltb-true q.base p.base l))
-    (λ r. let parts = and_parts (nat_eq q.base p.base) (nat_lt q.len p.len) r in inr (eqb-true q.base p.base parts.0, ltb-true q.len p.len parts.1))
-    (or_cases (nat_lt q.base p.base) (nat_eq q.base p.base && nat_lt q.len p.len) e)
-
-when_false : (p q : Block) → (nat_lt q.base p.base || (nat_eq q.base p.base && nat_lt q.len p.len)) ≡ false → (p.base ≤ q.base) ×
-    (q.base ≡ p.base → p.len ≤ q.len)
-when_false p q e =
-    let parts = or_parts (nat_lt q.base p.base) (nat_eq q.base p.base && nat_lt q.len p.len) e in (
-      ltb-false q.base p.base parts.0,
-      λ same.
-          ⊎_elim (λ l. absurd (eqb-false q.base p.base l same)) (λ r. ltb-false q.len p.len r) (and_cases (nat_eq q.base p.base) (nat_lt q.len p.len) parts.1),
-    )
-
 pub picks_block : Picks IsBlockAtMost pick_block
 picks_block = record {
-  one_of = λ p q. by_test p q (λ b. (b ≡ p) ⊎ (b ≡ q)) (λ e. inr refl) (λ e. inl refl);
-  left = λ p q r h. by_test p q (λ b. IsBlockAtMost b r) (λ e. block_below p q r (when_true p q e) h) (λ e. h);
-  right = λ p q r h. by_test p q (λ b. IsBlockAtMost b r) (λ e. h) (λ e. let w = when_false p q e in block_not_below p q r w.0 w.1 h);
+  one_of = λ p q. cond_both (is_before q p) q p (λ b. (b ≡ p) ⊎ (b ≡ q)) (λ e. inr refl) (λ e. inl refl);
+  left = λ p q r h. cond_both (is_before q p) q p (λ b. IsBlockAtMost b r) (λ e. grind (arith, nat_tests)) (λ e. h);
+  right = λ p q r h. cond_both (is_before q p) q p (λ b. IsBlockAtMost b r) (λ e. h) (λ e. grind (arith, nat_tests));
 }
-  where
-    by_test : (p q : Block) (P : Block → Type 0) → ((nat_lt q.base p.base || (nat_eq q.base p.base && nat_lt q.len p.len)) ≡ true → P q) →
-        ((nat_lt q.base p.base || (nat_eq q.base p.base && nat_lt q.len p.len)) ≡ false → P p) → P (pick_block p q)
-    by_test p q P this that = cond_both (nat_lt q.base p.base || (nat_eq q.base p.base && nat_lt q.len p.len)) q p P this that

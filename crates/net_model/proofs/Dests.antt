@@ -7,6 +7,7 @@ use Rattle.std.specs.Ordering.{nat_cmp, ordering_then, eq_by_cmp}
 use Rattle.std.specs.declared.cmp.Ordering.TheVariants.{Less}
 use Rattle.std.specs.List.{dedup}
 use Rattle.std.specs.List.Sorted.{IsSorted, IsStrictlySortedBy}
+use Rattle.std.proofs.lemmas.Bool.{and_parts}
 use Rattle.std.proofs.lemmas.List.Sorted.{Contains-permutation, IsPermutation-sym, length_permutation, sum_by-IsPermutation}
 use Rattle.std.proofs.lemmas.List.Kept.{Contains-dedup, Contains-from_dedup, IsStrictlySortedBy-dedup}
 use Rattle.std.proofs.lemmas.List.Elements.{Contains-append_left, Contains-append_right, Contains-append_cases}
@@ -36,13 +37,9 @@ block_ties : (x y : Block) → block_eq x y ≡ eq_by_cmp block_cmp x y
 block_ties x y = both_tied (x.base == y.base) (x.len == y.len) (nat_cmp x.base y.base) (nat_cmp x.len y.len) (unsigned_ties x.base y.base)
     (unsigned_ties x.len y.len)
 
-both_true : (a b : Bool) → (a && b) ≡ true → (a ≡ true) × (b ≡ true)
-both_true true b e = (refl, e)
-both_true false b e = cc
-
 pub block_same : (x y : Block) → block_eq x y ≡ true → x ≡ y
 block_same x y e =
-    let parts = both_true (x.base == y.base) (x.len == y.len) e in
+    let parts = and_parts (x.base == y.base) (x.len == y.len) e in
     let base = eqb-true x.base y.base parts.0 in
     let len = eqb-true x.len y.len parts.1 in
     λ i. record { base = base i; len = len i }
@@ -51,9 +48,9 @@ if_up : (up : Bool) (subnet : Option Block) (p : Block) → (if up then subnet e
 if_up true subnet p e = (refl, e)
 if_up false subnet p e = cc
 
-subnet_from : (up : Bool) (subnet : Option Block) (p : Block) → IsTrue up → subnet ≡ Some p → (if up then subnet else None) ≡ Some p
-subnet_from true subnet p u e = e
-subnet_from false subnet p u e = cc
+pub from_up : {X : Type 0} (up : Bool) (given : Option X) (x : X) → IsTrue up → given ≡ Some x → (if up then given else None) ≡ Some x
+from_up true given x u e = e
+from_up false given x u e = cc
 
 own_from_list : (c : Configuration) (p : Block) → Contains (own_dests c) p → NamesDest c p
 own_from_list c p h =
@@ -69,7 +66,7 @@ own_from_list c p h =
 
 list_from_own : (c : Configuration) (p : Block) → NamesDest c p → Contains (own_dests c) p
 list_from_own c p (by_interface i c' u e) =
-    Contains-append_left _ _ p (Contains-in_filter_map subnet_if_up c.interfaces i p c' (subnet_from i.up i.subnet p u e))
+    Contains-append_left _ _ p (Contains-in_filter_map subnet_if_up c.interfaces i p c' (from_up i.up i.subnet p u e))
 list_from_own c p (by_range r c' e) =
     Contains-append_right _ _ p (subst (Contains (map (λ (g : Range). g.dest) c.ranges)) e (Contains-in_map (λ (g : Range). g.dest) c.ranges r c'))
 

@@ -1,5 +1,5 @@
 -- Configurations in byte order of their names: when they ascend, and which name is the least that two have.
-use Rattle.std.proofs.Common.{◌≡◌, ◌≢◌, ℕ, zero, suc, ◌+◌, ◌-◌, ◌<◌, ◌≤◌, false, List, length, get_or, Ordering, IsPermutation, refl, sym, ap, subst, ◌∙◌, ◌⊎◌}
+use Rattle.std.proofs.Common.{◌≡◌, ◌≢◌, ℕ, ◌+◌, ◌-◌, ◌<◌, ◌≤◌, false, List, length, get_or, Ordering, IsPermutation, refl, sym, ap, subst, ◌∙◌, ◌⊎◌}
 use Rattle.std.proofs.Common.{⊎_elim, inl, inr, arith}
 use Rattle.std.specs.Cmp.Lexicographic.{slice_cmp, nat_list_cmp_total}
 use Rattle.std.specs.FinMap.{nat_cmp-IsAntisymmetric, slice_cmp-IsAntisymmetric}
@@ -58,31 +58,21 @@ module _ (ys : List Configuration) (up : IsSortedByKey (λ (c : Configuration). 
   double_from k d l e d' =
       ap (λ (c : Configuration). c.name) (get_or_default ys k d' d (omega arith)) ∙ e ∙ ap (λ (c : Configuration). c.name) (get_or_default ys (k + 1) d d' l)
 
+  not_above : (i j : ℕ) (d : Configuration) → i ≤ j → j < length ys → is_lt (slice_cmp nat_cmp (name_at ys j d) (name_at ys i d)) ≡ false
+  not_above = sorted_far (λ (x y : Configuration). is_lt (slice_cmp nat_cmp x.name y.name)) (ranks_by nat_list_cmp_total (λ (c : Configuration). c.name)) ys up
+
   module _ (none : NoDoubles ys (length ys)) where
     next_below : (k : ℕ) (d : Configuration) → k + 1 < length ys → IsBelow (name_at ys k d) (name_at ys (k + 1) d)
     next_below k d l =
         ⊎_elim (λ b. b) (λ e. absurd (none k l (double_from k d l e)))
         (below_or_same (name_at ys k d) (name_at ys (k + 1) d) (up k d (omega arith) l))
 
-    far_below : (i m : ℕ) (d : Configuration) → i + m + 1 < length ys → IsBelow (name_at ys i d) (name_at ys (i + m + 1) d)
-    far_below i zero d l =
-        let P : ℕ → Type 0 = λ k. IsBelow (name_at ys i d) (name_at ys k d) in
-        let e : i + 1 ≡ i + zero + 1 = omega arith in
-        subst P e (next_below i d (omega arith))
-    far_below i (suc m) d l =
-        let P : ℕ → Type 0 = λ k. IsBelow (name_at ys i d) (name_at ys k d) in
-        let e : i + m + 1 + 1 ≡ i + suc m + 1 = omega arith in
-        subst P e (nat_list_cmp_total.trans (name_at ys i d) (name_at ys (i + m + 1) d) (name_at ys (i + m + 1 + 1) d) (far_below i m d (omega arith))
-        (next_below (i + m + 1) d (omega arith)))
-
     pub NamesAscend-from_sorted : NamesAscend ys
     NamesAscend-from_sorted i j d l h =
-        let P : ℕ → Type 0 = λ k. IsBelow (name_at ys i d) (name_at ys k d) in
-        let e : i + (j - i - 1) + 1 ≡ j = omega arith in
-        subst P e (far_below i (j - i - 1) d (omega arith))
-
-  not_above : (i j : ℕ) (d : Configuration) → i ≤ j → j < length ys → is_lt (slice_cmp nat_cmp (name_at ys j d) (name_at ys i d)) ≡ false
-  not_above = sorted_far (λ (x y : Configuration). is_lt (slice_cmp nat_cmp x.name y.name)) (ranks_by nat_list_cmp_total (λ (c : Configuration). c.name)) ys up
+        let next = next_below i d (omega arith) in
+        ⊎_elim (nat_list_cmp_total.trans (name_at ys i d) (name_at ys (i + 1) d) (name_at ys j d) next)
+        (λ e. subst (IsBelow (name_at ys i d)) e next)
+        (below_or_same (name_at ys (i + 1) d) (name_at ys j d) (not_above (i + 1) j d (omega arith) h))
 
   -- two places of one name don't begin before the first double
   none_earlier : (k : ℕ) → IsFirstDouble ys k → (p q : ℕ) (d : Configuration) → p < q → q < length ys → name_at ys p d ≡ name_at ys q d → p < k → ⊥

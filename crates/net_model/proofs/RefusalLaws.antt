@@ -1,16 +1,16 @@
 -- Configurations make one network or are refused, and in one way.
 use Rattle.std.proofs.Common.{◌≡◌, ◌≢◌, ℕ, suc, ◌≤◌, List, [], ◌∷◌, Contains, refl, sym, ap, subst, ◌∙◌, ⊎_elim, arith}
 use Rattle.std.specs.Cmp.Lexicographic.{nat_list_cmp_total}
+use Rattle.std.proofs.Math.Nat.{le_antisymm}
 use Rattle.std.proofs.lemmas.List.Sorted.{Contains-permutation, IsPermutation-sym}
 use Rattle.net_addr.specs.Addresses.{Block}
-use Rattle.net_model.specs.Conditions.{HaveOneAddress, RunTwoAreas, LacksBackbone, HaveOneSystem, DifferOnStub, ospf_cost_sum, isis_metric_sum, IsConsistent}
+use Rattle.net_model.specs.Conditions.{HaveOneAddress, RunTwoAreas, LacksBackbone, HaveOneSystem, DifferOnStub, IsConsistent}
 use Rattle.net_model.specs.Configuration.{Configuration}
 use Rattle.net_model.specs.Least.{IsBlockAtMost}
 use Rattle.net_model.specs.Limits.{CountsDests, IsWithinLimits}
 use Rattle.net_model.specs.Network.{Network}
-use Rattle.net_model.specs.Refusals.{IsBelow, NamesAscend, IsNetworkOf, MakeNetwork, TwoHaveName, IsLeastDouble, IsAbove, HoldsOfNetwork}
+use Rattle.net_model.specs.Refusals.{IsBelow, NamesAscend, IsNetworkOf, MakeNetwork, TwoHaveName, IsLeastDouble, HoldsOfNetwork}
 use Rattle.net_model.specs.Refusals.{RefusesNetwork, Refuses}
-use Rattle.net_model.specs.declared.bounds.TheConstants.{MOST_COST, MOST_PATH_METRIC}
 use Rattle.net_model.specs.declared.refusal.LimitWhat.{LimitWhat}
 use Rattle.net_model.specs.declared.refusal.LimitWhat.TheVariants.{Routers, Interfaces, Dests}
 use Rattle.net_model.specs.declared.refusal.NetRefusal.{NetRefusal}
@@ -62,9 +62,6 @@ later x xs y ys a c same m h =
     (λ r. r)
     (Contains-cases y ys c h)
 
-cons_same : {X : Type 0} (x y : X) (xs ys : List X) → x ≡ y → xs ≡ ys → x ∷ xs ≡ y ∷ ys
-cons_same x y xs ys e f = λ i. e i ∷ f i
-
 same_ascending : (xs ys : List Configuration) → NamesAscend xs → NamesAscend ys → ((c : Configuration) → Contains xs c → Contains ys c) →
     ((c : Configuration) → Contains ys c → Contains xs c) → xs ≡ ys
 same_ascending [] [] a b into back = refl
@@ -76,7 +73,7 @@ same_ascending (x ∷ xs) (y ∷ ys) a b into back =
     same_ascending xs ys (λ i j d l h. a (suc i) (suc j) d (omega arith) (omega arith)) (λ i j d l h. b (suc i) (suc j) d (omega arith) (omega arith))
     (λ c m. later x xs y ys a c (sym first) m (into c (Contains-rest x xs c m)))
     (λ c m. later y ys x xs b c first m (back c (Contains-rest y ys c m))) in
-    cons_same x y xs ys first rest
+    λ i. first i ∷ rest i
 
 -- configurations make one network
 pub IsNetworkOf-unique : (configs : List Configuration) (one other : Network) → IsNetworkOf configs one → IsNetworkOf configs other → one ≡ other
@@ -127,9 +124,6 @@ same_limit configs Dests Dests m n h k =
 IsLeastDouble-unique : (configs : List Configuration) (a b : List ℕ) → IsLeastDouble configs a → IsLeastDouble configs b → a ≡ b
 IsLeastDouble-unique configs a b h k = neither_below a b (k.least a h.double) (h.least b k.double)
 
-antisymmetric : (a b : ℕ) → a ≤ b → b ≤ a → a ≡ b
-antisymmetric a b l m = omega arith
-
 block_antisymmetric : (p q : Block) → IsBlockAtMost p q → IsBlockAtMost q p → p ≡ q
 block_antisymmetric p q l m =
     let base : p.base ≡ q.base = ⊎_elim (λ a. ⊎_elim (λ b. absurd (omega arith)) (λ b. absurd (omega (arith, b.0))) m) (λ a. a.0) l in
@@ -137,13 +131,10 @@ block_antisymmetric p q l m =
     ⊎_elim (λ a. absurd (omega (arith, base))) (λ a. ⊎_elim (λ b. absurd (omega (arith, base))) (λ b. omega (arith, a.1, b.1)) m) l in
     λ i. record { base = base i; len = len i }
 
-carried_same : (most count m n : ℕ) → IsAbove most count m → IsAbove most count n → m ≡ n
-carried_same most count m n h k = h.number_is ∙ sym k.number_is
-
 -- of two refusals of one network the later one needs that the earlier one's condition doesn't hold
 RefusesNetwork-unique : (net : Network) (one other : NetRefusal) → RefusesNetwork one net → RefusesNetwork other net → one ≡ other
 RefusesNetwork-unique net (AddressTwice u1 v1 a1) (AddressTwice u2 v2 a2) h k =
-    let same = IsLeastNamedPair-unique (λ a b. a ≤ b) (HaveOneAddress net) net u1 v1 a1 u2 v2 a2 antisymmetric h k in
+    let same = IsLeastNamedPair-unique (λ a b. a ≤ b) (HaveOneAddress net) net u1 v1 a1 u2 v2 a2 (λ a b. le_antisymm) h k in
     λ i. AddressTwice (same.0 i) (same.1 i) (same.2 i)
 RefusesNetwork-unique net (AddressTwice u1 v1 a1) (PrefixInTwoAreas u2 v2 p2) h k = absurd (k.0 h.first h.second a1 h.pair.clash)
 RefusesNetwork-unique net (AddressTwice u1 v1 a1) (BorderWithoutBackbone u2) h k = absurd (k.0.0 h.first h.second a1 h.pair.clash)
@@ -171,8 +162,7 @@ RefusesNetwork-unique net (BorderWithoutBackbone u1) (StubMismatch u2 v2 n2) h k
 RefusesNetwork-unique net (OspfCostSum s1) (AddressTwice u2 v2 a2) h k = absurd (h.0.0.0 k.first k.second a2 k.pair.clash)
 RefusesNetwork-unique net (OspfCostSum s1) (PrefixInTwoAreas u2 v2 p2) h k = absurd (h.0.0.1 k.1.first k.1.second p2 k.1.pair.clash)
 RefusesNetwork-unique net (OspfCostSum s1) (BorderWithoutBackbone u2) h k = absurd (h.0.1 k.1.router k.1.lowest.holds)
-RefusesNetwork-unique net (OspfCostSum s1) (OspfCostSum s2) h k =
-    ap OspfCostSum (carried_same MOST_COST (ospf_cost_sum net) s1 s2 h.1 k.1)
+RefusesNetwork-unique net (OspfCostSum s1) (OspfCostSum s2) h k = ap OspfCostSum (h.1.number_is ∙ sym k.1.number_is)
 RefusesNetwork-unique net (OspfCostSum s1) (IsisMetricSum s2) h k = absurd (omega (arith, k.0.1, h.1.above))
 RefusesNetwork-unique net (OspfCostSum s1) (SystemIdTwice u2 v2) h k = absurd (omega (arith, k.0.0.1, h.1.above))
 RefusesNetwork-unique net (OspfCostSum s1) (StubMismatch u2 v2 n2) h k = absurd (omega (arith, k.0.0.0.1, h.1.above))
@@ -180,8 +170,7 @@ RefusesNetwork-unique net (IsisMetricSum s1) (AddressTwice u2 v2 a2) h k = absur
 RefusesNetwork-unique net (IsisMetricSum s1) (PrefixInTwoAreas u2 v2 p2) h k = absurd (h.0.0.0.1 k.1.first k.1.second p2 k.1.pair.clash)
 RefusesNetwork-unique net (IsisMetricSum s1) (BorderWithoutBackbone u2) h k = absurd (h.0.0.1 k.1.router k.1.lowest.holds)
 RefusesNetwork-unique net (IsisMetricSum s1) (OspfCostSum s2) h k = absurd (omega (arith, h.0.1, k.1.above))
-RefusesNetwork-unique net (IsisMetricSum s1) (IsisMetricSum s2) h k =
-    ap IsisMetricSum (carried_same MOST_PATH_METRIC (isis_metric_sum net) s1 s2 h.1 k.1)
+RefusesNetwork-unique net (IsisMetricSum s1) (IsisMetricSum s2) h k = ap IsisMetricSum (h.1.number_is ∙ sym k.1.number_is)
 RefusesNetwork-unique net (IsisMetricSum s1) (SystemIdTwice u2 v2) h k = absurd (omega (arith, k.0.1, h.1.above))
 RefusesNetwork-unique net (IsisMetricSum s1) (StubMismatch u2 v2 n2) h k = absurd (omega (arith, k.0.0.1, h.1.above))
 RefusesNetwork-unique net (SystemIdTwice u1 v1) (AddressTwice u2 v2 a2) h k = absurd (h.0.0.0.0.0 k.first k.second a2 k.pair.clash)
@@ -190,7 +179,7 @@ RefusesNetwork-unique net (SystemIdTwice u1 v1) (BorderWithoutBackbone u2) h k =
 RefusesNetwork-unique net (SystemIdTwice u1 v1) (OspfCostSum s2) h k = absurd (omega (arith, h.0.0.1, k.1.above))
 RefusesNetwork-unique net (SystemIdTwice u1 v1) (IsisMetricSum s2) h k = absurd (omega (arith, h.0.1, k.1.above))
 RefusesNetwork-unique net (SystemIdTwice u1 v1) (SystemIdTwice u2 v2) h k =
-    let same = IsLeastNamedPair-unique (λ a b. a ≤ b) (HaveOneSystem net) net u1 v1 h.1.0 u2 v2 k.1.0 antisymmetric h.1.1 k.1.1 in
+    let same = IsLeastNamedPair-unique (λ a b. a ≤ b) (HaveOneSystem net) net u1 v1 h.1.0 u2 v2 k.1.0 (λ a b. le_antisymm) h.1.1 k.1.1 in
     λ i. SystemIdTwice (same.0 i) (same.1 i)
 RefusesNetwork-unique net (SystemIdTwice u1 v1) (StubMismatch u2 v2 n2) h k = absurd (k.0.1 h.1.1.first h.1.1.second h.1.0 h.1.1.pair.clash)
 RefusesNetwork-unique net (StubMismatch u1 v1 n1) (AddressTwice u2 v2 a2) h k = absurd (h.0.0.0.0.0.0 k.first k.second a2 k.pair.clash)
@@ -200,7 +189,7 @@ RefusesNetwork-unique net (StubMismatch u1 v1 n1) (OspfCostSum s2) h k = absurd 
 RefusesNetwork-unique net (StubMismatch u1 v1 n1) (IsisMetricSum s2) h k = absurd (omega (arith, h.0.0.1, k.1.above))
 RefusesNetwork-unique net (StubMismatch u1 v1 n1) (SystemIdTwice u2 v2) h k = absurd (h.0.1 k.1.1.first k.1.1.second k.1.0 k.1.1.pair.clash)
 RefusesNetwork-unique net (StubMismatch u1 v1 n1) (StubMismatch u2 v2 n2) h k =
-    let same = IsLeastNamedPair-unique (λ a b. a ≤ b) (DifferOnStub net) net u1 v1 n1 u2 v2 n2 antisymmetric h.1 k.1 in
+    let same = IsLeastNamedPair-unique (λ a b. a ≤ b) (DifferOnStub net) net u1 v1 n1 u2 v2 n2 (λ a b. le_antisymm) h.1 k.1 in
     λ i. StubMismatch (same.0 i) (same.1 i) (same.2 i)
 RefusesNetwork-unique net (Limit _ _) other h k = absurd h
 RefusesNetwork-unique net (TwoNames _) other h k = absurd h

@@ -30,7 +30,8 @@ pub fn check_addresses(alloc: Global, configs: &[Config]) -> Result<(), NetRefus
     }
 }
 
-/// Whether each address is of one router, which has it once. Then no pair of routers needs to be looked at.
+/// Whether each address is of one router, which has it once, or of loopbacks. Then no pair of routers needs to be
+/// looked at.
 fn addresses_differ(alloc: Global, configs: &[Config]) -> Result<bool, AllocError>
     requires { length configs.now < 2 ^ 32 }
     ensures { IfOk result (λ apart. OnTrue apart (AddressesDiffer configs.now)) }
@@ -53,7 +54,7 @@ fn own_addresses_differ(configs: &[Config]) -> bool
     true
 }
 
-/// An up interface claims its address for its router.
+/// An up interface claims its address for its router, a loopback for all loopbacks.
 struct AddressClaims;
 
 impl Claims for AddressClaims {
@@ -61,11 +62,11 @@ impl Claims for AddressClaims {
 
     ghost claimed = { address_claim };
 
-    fn claim(router: u32, interface: &Interface) -> Option<Claim> {
+    fn claim(router: u32, _config: &Config, interface: &Interface) -> Option<Claim> {
         if interface.up {
             Some(Claim {
                 key: interface.address,
-                value: router,
+                value: if interface.loopback { u32::MAX } else { router },
             })
         } else {
             None

@@ -40,7 +40,7 @@ impl Claims for AreaClaims {
 
     ghost claimed = { area_claim };
 
-    fn claim(_router: u32, interface: &Interface) -> Option<Claim> {
+    fn claim(_router: u32, _config: &Config, interface: &Interface) -> Option<Claim> {
         match (interface.subnet, interface.area) {
             (Some(subnet), Some(area)) if interface.up => Some(Claim {
                 key: subnet.base(),

@@ -2,6 +2,7 @@ ghost use Rattle.std.specs.Prelude.{◌≡◌, ℕ, ◌<◌, ◌^◌, ◌∷◌,
 ghost use Rattle.std.specs.List.{filter_map};
 ghost use Rattle.std.specs.Bool.{OnTrue};
 ghost use Rattle.std.specs.List.Sorted.{IsNonDecreasingBy};
+ghost use Rattle.net_model.specs.Configuration.{Configuration};
 ghost use Rattle.net_model.specs.declared.interface.Interface.{Interface};
 ghost use Rattle.net_model.specs.steps.Claims.{ClaimsAgree, HoldsClaims, NeighboursAgree};
 
@@ -11,9 +12,9 @@ use std::alloc::{AllocError, Global};
 /// What an interface claims: a key, for a value.
 #[derive(Clone, Copy)]
 pub struct Claim {
-    /// An address, or the first one of a subnet.
+    /// An address, the first one of a subnet, or an area.
     pub key: u32,
-    /// A router, or an area.
+    /// Who has it alone: a router, or an area. Or whether it is a stub area.
     pub value: u32,
 }
 
@@ -22,11 +23,11 @@ pub trait Claims {
     ghost use Rattle.net_model.specs.declared.claims.Claim.{Claim};
 
     /// What an interface of a router claims, if anything.
-    ghost claimed: { ℕ → Interface → Option Claim };
+    ghost claimed: { ℕ → Configuration → Interface → Option Claim };
 
     /// What an interface of a router claims, if anything.
-    fn claim(router: u32, interface: &Interface) -> Option<Claim>
-        ensures { result ≡ claimed router interface.now };
+    fn claim(router: u32, config: &Config, interface: &Interface) -> Option<Claim>
+        ensures { result ≡ claimed router config.now interface.now };
 }
 
 /// Whether each key is claimed for one value alone. Takes the time of sorting the claims.
@@ -46,8 +47,7 @@ fn all_claims<C: Claims>(alloc: Global, configs: &[Config]) -> Result<Vec<Claim>
 {
     let mut claims = Vec::new(alloc);
     for router in 0..configs.len() as u32 {
-        let config = &configs[router as usize];
-        push_claims::<C>(&mut claims, router, config.interfaces.as_slice())?;
+        push_claims::<C>(&mut claims, router, &configs[router as usize])?;
     }
     Ok(claims)
 }
@@ -56,12 +56,12 @@ fn all_claims<C: Claims>(alloc: Global, configs: &[Config]) -> Result<Vec<Claim>
 fn push_claims<C: Claims>(
     claims: &mut Vec<Claim>,
     router: u32,
-    interfaces: &[Interface],
+    config: &Config,
 ) -> Result<(), AllocError>
-    ensures { OnOk result (claims.new.items ≡ claims.old.items ++ filter_map (C.claimed router) interfaces.now) }
+    ensures { OnOk result (claims.new.items ≡ claims.old.items ++ filter_map (C.claimed router config.now) config.now.interfaces) }
 {
-    for interface in interfaces {
-        push_claim(claims, C::claim(router, interface))?;
+    for interface in config.interfaces.as_slice() {
+        push_claim(claims, C::claim(router, config, interface))?;
     }
     Ok(())
 }

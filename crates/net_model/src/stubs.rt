@@ -1,10 +1,12 @@
-ghost use Rattle.std.specs.Prelude.{◌≤◌, ◌↔◌, length, Any, IfErr, IsTrue, OnOk};
+ghost use Rattle.std.specs.Prelude.{◌≡◌, ◌≤◌, ◌↔◌, nat_eq, length, Any, IfErr, IsTrue, OnOk};
+ghost use Rattle.std.specs.List.{list_any};
 ghost use Rattle.net_model.specs.Conditions.{DifferOnStub, IsConsistent, PassesSystems};
 ghost use Rattle.net_model.specs.Least.{IsBest};
 ghost use Rattle.net_model.specs.Refusals.{MayRefuse};
 ghost use Rattle.net_model.specs.steps.Scans.{ClashOnStub, HaveStub, OffersArea, OneHasStub};
 
 use crate::areas::has_area;
+use crate::claims::{Claim, Claims, claims_agree};
 use crate::links::lower;
 use crate::pairs::{Clash, first_clash};
 use crate::{Config, Interface, MOST_ROUTERS, NetRefusal, Stub};
@@ -17,6 +19,9 @@ pub fn check_stubs(alloc: Global, configs: &[Config]) -> Result<(), NetRefusal>
     ensures ok { OnOk result (IsConsistent configs.now) }
     ensures err { IfErr result (λ e. MayRefuse e configs.now) }
 {
+    if claims_agree::<StubClaims>(alloc, configs)? {
+        return Ok(());
+    }
     match first_clash::<OneStub>(alloc, configs)? {
         Some(pair) => Err(NetRefusal::StubMismatch {
             one: pair.one,
@@ -24,6 +29,29 @@ pub fn check_stubs(alloc: Global, configs: &[Config]) -> Result<(), NetRefusal>
             area: pair.item,
         }),
         None => Ok(()),
+    }
+}
+
+/// An up interface that runs OSPF claims that its area is a stub area, or that it is none, as its router says.
+struct StubClaims;
+
+impl Claims for StubClaims {
+    ghost use Rattle.net_model.specs.steps.Claims.{stub_claim};
+
+    ghost claimed = { stub_claim };
+
+    fn claim(_router: u32, config: &Config, interface: &Interface) -> Option<Claim> {
+        match interface.area {
+            Some(area) if interface.up => Some(Claim {
+                key: area,
+                value: if has_stub(config.stubs.as_slice(), area) {
+                    1
+                } else {
+                    0
+                },
+            }),
+            _ => None,
+        }
     }
 }
 
@@ -81,7 +109,8 @@ fn one_has_stub(area: u32, ones: &[Stub], twos: &[Stub]) -> bool
 
 /// Whether a stub line for the area is among these.
 fn has_stub(stubs: &[Stub], area: u32) -> bool
-    ensures { IsTrue result ↔ HaveStub area stubs.now }
+    ensures whether { IsTrue result ↔ HaveStub area stubs.now }
+    ensures value { result ≡ list_any (λ s. nat_eq s.area area) stubs.now }
 {
     stubs.iter().any(|s| s.area == area)
 }

@@ -5,7 +5,7 @@ use Rattle.std.specs.List.{All}
 use Rattle.std.proofs.lemmas.Bool.{cases_eq}
 use Rattle.std.proofs.lemmas.List.{length-map}
 use Rattle.std.proofs.lemmas.List.Elements.{Contains-get_or}
-use Rattle.net_model.proofs.Members.{Contains-none, Contains-first, Contains-rest, Contains-cases}
+use Rattle.net_model.proofs.Members.{Contains-none, Contains-first, Contains-rest, Contains-cases, Contains-map}
 use Rattle.order_core.proofs.DistinctLists.{length-le_from_distinct}
 use Rattle.igp_theory.specs.States.{changes_on}
 use Rattle.igp_theory.specs.Waves.{Change, first, second, changed, MayPrecede}
@@ -116,55 +116,38 @@ module _ (n : ℕ) (ranks : List ℕ) (changes : List Change) (u : ℕ) (front :
   counts = counted ranks changes u front.in_turn
 
   pub none_made : changes_on u (map changed changes) ≡ 0 → Contains changes (first u) → ⊥
-  none_made none here =
-      let sum = counts.sum in
-      let one = counts.first_is.one here in
-      omega (arith, sum, one, none)
+  none_made none here = omega (arith, counts.sum, counts.first_is.one here, none)
 
   pub first_made : changes_on u (map changed changes) ≡ 1 → Contains changes (first u)
-  first_made one =
-      let sum = counts.sum in
-      elim (cases_eq counts.seconds 1) [
-        | inl two ↦ front.halves u (counts.second_is.made two)
-        | inr apart ↦
-            let few = counts.second_is.most in
-            counts.first_is.made (omega (arith, sum, one, few, apart))
-      ]
+  first_made one = elim (cases_eq counts.seconds 1) [
+    | inl two ↦ front.halves u (counts.second_is.made two)
+    | inr apart ↦ counts.first_is.made (omega (arith, counts.sum, one, counts.second_is.most, apart))
+  ]
 
   pub second_open : changes_on u (map changed changes) ≡ 1 → Contains changes (second u) → ⊥
-  second_open one here =
-      let sum = counts.sum in
-      let two = counts.second_is.one here in
-      let too = counts.first_is.one (front.halves u here) in
-      omega (arith, sum, one, two, too)
+  second_open one here = omega (arith, counts.sum, one, counts.second_is.one here, counts.first_is.one (front.halves u here))
 
   pub both_made : changes_on u (map changed changes) ≡ 2 → Contains changes (first u) × Contains changes (second u)
-  both_made all =
-      let sum = counts.sum in
-      let few = counts.first_is.most in
-      let most = counts.second_is.most in
-      (counts.first_is.made (omega (arith, sum, few, most, all)), counts.second_is.made (omega (arith, sum, few, most, all)))
+  both_made all = (
+    counts.first_is.made (omega (arith, counts.sum, counts.first_is.most, counts.second_is.most, all)),
+    counts.second_is.made (omega (arith, counts.sum, counts.first_is.most, counts.second_is.most, all)),
+  )
 
   pub is_none : (Contains changes (first u) → ⊥) → changes_on u (map changed changes) ≡ 0
   is_none absent =
-      let sum = counts.sum in
-      let firsts = count_zero changes (first u) counts.firsts counts.first_is absent in
-      let seconds = count_zero changes (second u) counts.seconds counts.second_is (λ here. absent (front.halves u here)) in
-      omega (arith, sum, firsts, seconds)
+      omega (
+        arith,
+        counts.sum,
+        count_zero changes (first u) counts.firsts counts.first_is absent,
+        count_zero changes (second u) counts.seconds counts.second_is (λ here. absent (front.halves u here)),
+      )
 
   pub is_one : Contains changes (first u) → (Contains changes (second u) → ⊥) → changes_on u (map changed changes) ≡ 1
   is_one here absent =
-      let sum = counts.sum in
-      let one = counts.first_is.one here in
-      let none = count_zero changes (second u) counts.seconds counts.second_is absent in
-      omega (arith, sum, one, none)
+      omega (arith, counts.sum, counts.first_is.one here, count_zero changes (second u) counts.seconds counts.second_is absent)
 
   pub is_both : Contains changes (first u) → Contains changes (second u) → changes_on u (map changed changes) ≡ 2
-  is_both here there =
-      let sum = counts.sum in
-      let one = counts.first_is.one here in
-      let two = counts.second_is.one there in
-      omega (arith, sum, one, two)
+  is_both here there = omega (arith, counts.sum, counts.first_is.one here, counts.second_is.one there)
 
 -- ---- how many changes there may be ----
 
@@ -187,28 +170,16 @@ distinct_places : (ranks : List ℕ) (changes : List Change) → AllPairs (MayPr
 distinct_places ranks [] pairs = pairs_none (λ u v. u ≢ v)
 distinct_places ranks (c ∷ changes) pairs =
     pairs_more (λ u v. u ≢ v) (place_of c) (map place_of changes)
-    (λ k inside. other_place changes k inside (pairs_first (MayPrecede ranks) c changes pairs))
+    (λ k inside.
+    let from = Contains-map place_of changes k inside in
+    subst (λ (m : ℕ). place_of c ≢ m) from.gives
+    (places_apart c from.item (pairs_first (MayPrecede ranks) c changes pairs from.item from.among).other))
     (distinct_places ranks changes (pairs_rest (MayPrecede ranks) c changes pairs))
-  where
-    other_place : (changes : List Change) (k : ℕ) → Contains (map place_of changes) k →
-        ((d : Change) → Contains changes d → MayPrecede ranks c d) →
-        place_of c ≢ k
-    other_place [] k inside later = absurd (Contains-none k inside)
-    other_place (d ∷ changes) k inside later = elim (Contains-cases (place_of d) (map place_of changes) k inside) [
-      | inl same ↦ subst (λ (m : ℕ). place_of c ≢ m) same (places_apart c d (later d (Contains-first d changes)).other)
-      | inr there ↦ other_place changes k there (λ e among. later e (Contains-rest d changes e among))
-    ]
 
 places_below : (n : ℕ) (changes : List Change) → ((c : Change) → Contains changes c → changed c < n) → All (λ k. k < 2 * n) (map place_of changes)
-places_below n changes below k d within = at_place changes (get_or (map place_of changes) k d) (Contains-get_or (map place_of changes) k d within) below
-  where
-    at_place : (changes : List Change) (k : ℕ) → Contains (map place_of changes) k → ((c : Change) → Contains changes c → changed c < n) →
-        k < 2 * n
-    at_place [] k inside below = absurd (Contains-none k inside)
-    at_place (d ∷ changes) k inside below = elim (Contains-cases (place_of d) (map place_of changes) k inside) [
-      | inl same ↦ subst (λ (m : ℕ). m < 2 * n) same (place_below n d (below d (Contains-first d changes)))
-      | inr there ↦ at_place changes k there (λ c among. below c (Contains-rest d changes c among))
-    ]
+places_below n changes below k d within =
+    let from = Contains-map place_of changes (get_or (map place_of changes) k d) (Contains-get_or (map place_of changes) k d within) in
+    subst (λ (m : ℕ). m < 2 * n) from.gives (place_below n from.item (below from.item from.among))
 
 -- changes that begin a run are at most two for each router
 pub few_changes : (n : ℕ) (ranks : List ℕ) (changes : List Change) → BeginRun n ranks changes → length changes ≤ 2 * n

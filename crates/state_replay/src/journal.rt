@@ -27,7 +27,7 @@ pub fn replay(net: &Net, ranks: &[u32], journal: &[u8], done: &mut [u8]) -> Plac
     }
     let mut changes = 0;
     while let Some(line) = lines.next_line() {
-        if !make_change(net, ranks, line, done) {
+        if !judge_line(net, ranks, line, done) {
             return Place::Departs(changes + 2);
         }
         changes += 1;
@@ -56,8 +56,8 @@ fn begins_journal(lines: &mut LineCursor) -> bool
     }
 }
 
-/// Makes the change that a line tells, where it may come next; else nothing is made, and the line fits no run.
-fn make_change(net: &Net, ranks: &[u32], line: &[u8], done: &mut [u8]) -> bool
+/// Judges a line: makes the change that it tells where that may come next, else makes nothing, since the line fits no run.
+fn judge_line(net: &Net, ranks: &[u32], line: &[u8], done: &mut [u8]) -> bool
     requires network { IsNetwork net.now }
     requires ranking { IsRanking (length net.now) ranks.now }
     requires counts { length done.old ≡ length net.now }

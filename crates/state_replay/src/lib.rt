@@ -1,9 +1,18 @@
 //! Journals of a migration: what was done of a wave list, the first line that fits no run, and what may come next.
 //!
-//! A journal is the line `journal 1`, then a line for each change that was made (`specs/Journals.antt`, `specs/Halves.antt`); the
-//! format is this project's own. `replay` says where it stands, in time of its lines times the routers; `next_change` says which
-//! change of a router may come next, in time of the routers. `specs/Fitting.antt` and `specs/Making.antt` are how the code sees it:
-//! by the counts of the changes made.
+//! A journal is the line `journal 1`, then a line for each change that was made; the format is this project's own.
+//!
+//! | Notion | Definition | Code |
+//! |---|---|---|
+//! | the two changes of a router, and how a line writes them | `specs/Halves.antt` | `half.rt` |
+//! | the change that a line tells | `TellsChange` in `specs/Journals.antt` | `told.rt` |
+//! | where a journal line is judged: its change may come next, or the line fits no run | `MayComeNext` in `specs/Journals.antt` | `judge_line` in `journal.rt` |
+//! | where a whole journal stands | `IsPlace` in `specs/Journals.antt` | `replay` in `journal.rt`, `place.rt` |
+//! | which change of a router may come next | `IsNextOn` in `specs/Journals.antt` | `next_change` in `next.rt` |
+//! | that a journal stands at one place | `specs/ReplayLaws.antt` | `laws.rt` |
+//!
+//! `replay` takes time of the lines times the routers, `next_change` of the routers. How the code sees a journal, by the counts of the
+//! changes made, is in `specs/steps/Fitting.antt` (which change fits next) and `specs/steps/Making.antt` (how a line is taken).
 #![tactic(auto)]
 
 // Changes, and the lines that tell them.

@@ -1,44 +1,31 @@
 ghost use Rattle.std.specs.Prelude.{◌≡◌, ◌<◌, ◌≤◌, length, take, IfOk, IfSome, OnOk, OnErr};
 ghost use Rattle.std.specs.Io.KnownBytes.{Appends, Keeps};
-ghost use Rattle.store_edge.specs.Transfer.{AppendsFront, Takes};
+ghost use Rattle.store_edge.specs.Transfer.{AppendsFront};
 
 use crate::files::FileAnswer;
 use crate::sink::Failed;
 use net_addr::Bytes;
 use std::alloc::Global;
-use std::io::{Read, Write};
+use std::io::{ErrorKind, Read, Write};
 
-/// How many bytes are asked for at a time.
-const CHUNK: usize = 4096;
+/// How many bytes there is room for at first. Most files are shorter; what isn't needed is given back.
+const ROOM: usize = 65_536;
 
-/// The next `most` bytes of a reader, all of them where there are fewer. A read that gives no byte is the end.
+/// The next `most` bytes of a reader, all of them where there are fewer.
 pub fn read_front<F: Read>(alloc: Global, file: &mut F, most: u64) -> Result<Bytes, FileAnswer>
     ensures at_most { IfOk result (λ bytes. length bytes ≤ most) }
     ensures bytes { IfOk result (λ bytes. IfSome (F.remaining file.old) (λ text. bytes ≡ take most text)) }
 {
-    let mut bytes = Vec::new(alloc);
-    let mut left = most;
-    while left > 0 {
-        let count = read_some(file, &mut bytes, left)?;
-        if count == 0 {
-            break;
-        }
-        left -= count;
+    let mut bytes = Vec::with_capacity(alloc, ROOM)?;
+    let mut front = file.take(most);
+    match front.read_to_end(&mut bytes) {
+        Ok(_) => {}
+        Err(error) if error.kind() == ErrorKind::OutOfMemory => return Err(FileAnswer::OutOfMemory),
+        Err(_) => return Err(FileAnswer::Failed),
     }
+    bytes.truncate(most as usize);
+    bytes.shrink_to_fit();
     Ok(Bytes::from_vec(bytes))
-}
-
-/// Reads once, at most `left` bytes, and adds them to `bytes`. It says how many they were: none at the end alone.
-fn read_some<F: Read>(file: &mut F, bytes: &mut Vec<u8>, left: u64) -> Result<u64, FileAnswer>
-    ensures taken { IfOk result (Takes (F.remaining file.old) (F.remaining file.new) bytes.old.items bytes.new.items left) }
-{
-    let mut buffer = [0; CHUNK];
-    let end = CHUNK.min(left as usize);
-    let Ok(count) = file.read(&mut buffer[..end]) else {
-        return Err(FileAnswer::Failed);
-    };
-    bytes.extend_from_slice(&buffer[..count])?;
-    Ok(count as u64)
 }
 
 /// Writes the whole piece, or fails after a front of it. A write that takes no byte is a fault.

@@ -1,9 +1,7 @@
-use Rattle.std.proofs.Common.{◌≡◌, ℕ, ◌+◌, ◌≤◌, List, ◌∷◌, length, drop, subst, sym, map, arith, ◌∙◌, ap}
-use Rattle.std.specs.List.{All, slice_range, position_or_len}
+use Rattle.std.proofs.Common.{◌≡◌, ℕ, ◌+◌, ◌≤◌, List, ◌∷◌, length, drop, subst, arith, ◌∙◌, ap}
+use Rattle.std.specs.List.{slice_range, position_or_len}
 use Rattle.std.proofs.lemmas.Slice.{between_to_end}
-use Rattle.net_addr.specs.declared.line.Line.{Line}
-use Rattle.net_addr.specs.Spans.{LiesIn, bytes_of}
-use Rattle.net_addr.specs.Lines.{is_line_feed, line_pieces, lines_of, text_lines}
+use Rattle.net_addr.specs.Lines.{is_line_feed, line_pieces, lines_of}
 use Rattle.net_addr.proofs.PieceFacts.{lines_of-first, lines_of-end, one_more}
 use Rattle.net_addr.proofs.PlacedPieces.{text_lines-inside, text_lines-texts}
 use Rattle.net_addr.proofs.line.lines.Goals as goal
@@ -28,12 +26,10 @@ loop-start-preserved c =
 
 pub returns-clause-inside : goal.returns-clause-inside
 returns-clause-inside c =
-    let all : c.loop-start.all.items ≡ text_lines c.args.text.now =
-    lines_of-end c.args.text.now c.loop-start.all.items c.loop-start.number c.loop-start.start c.loop-start.invariant.read c.loop-start-test.false in
-    subst (All (λ (line : Line). LiesIn c.args.text.now line.span)) (sym all) (text_lines-inside c.args.text.now)
+    rw (lines_of-end c.args.text.now c.loop-start.all.items c.loop-start.number c.loop-start.start c.loop-start.invariant.read c.loop-start-test.false)
+    (text_lines-inside c.args.text.now)
 
 pub returns-clause-texts : goal.returns-clause-texts
 returns-clause-texts c =
-    let all : c.loop-start.all.items ≡ text_lines c.args.text.now =
-    lines_of-end c.args.text.now c.loop-start.all.items c.loop-start.number c.loop-start.start c.loop-start.invariant.read c.loop-start-test.false in
-    ap (map (λ (line : Line). bytes_of c.args.text.now line.span)) all ∙ text_lines-texts c.args.text.now
+    rw (lines_of-end c.args.text.now c.loop-start.all.items c.loop-start.number c.loop-start.start c.loop-start.invariant.read c.loop-start-test.false)
+    (text_lines-texts c.args.text.now)

@@ -1,6 +1,4 @@
-use Rattle.std.proofs.Common.{◌≡◌, sym, subst, ap, map, ◌∙◌}
-use Rattle.std.specs.List.{All}
-use Rattle.net_addr.specs.Spans.{LiesIn, bytes_of}
+use Rattle.std.proofs.Common.{◌∙◌}
 use Rattle.net_addr.specs.Blanks.{word_spans}
 use Rattle.net_addr.proofs.WordFacts.{words_more, words_end, word_spans-inside, word_spans-texts}
 use Rattle.net_addr.proofs.word.words.Goals as goal
@@ -15,14 +13,12 @@ loop-start-preserved c =
 
 pub returns-clause-inside : goal.returns-clause-inside
 returns-clause-inside c =
-    let all : c.from_vec.result ≡ word_spans c.args.text.now c.args.span =
-    c.from_vec.ensures ∙ words_end c.args.text.now c.loop-start.all.items
-    (word_spans c.args.text.now c.args.span) c.loop-start.start c.args.span.stop c.loop-start-test.false c.loop-start.invariant in
-    subst (All (LiesIn c.args.text.now)) (sym all) (word_spans-inside c.args.text.now c.args.span c.requires.inside)
+    rw (c.from_vec.ensures ∙ words_end c.args.text.now c.loop-start.all.items
+    (word_spans c.args.text.now c.args.span) c.loop-start.start c.args.span.stop c.loop-start-test.false c.loop-start.invariant)
+    (word_spans-inside c.args.text.now c.args.span c.requires.inside)
 
 pub returns-clause-texts : goal.returns-clause-texts
 returns-clause-texts c =
-    let all : c.from_vec.result ≡ word_spans c.args.text.now c.args.span =
-    c.from_vec.ensures ∙ words_end c.args.text.now c.loop-start.all.items
-    (word_spans c.args.text.now c.args.span) c.loop-start.start c.args.span.stop c.loop-start-test.false c.loop-start.invariant in
-    ap (map (bytes_of c.args.text.now)) all ∙ word_spans-texts c.args.text.now c.args.span c.requires.inside
+    rw (c.from_vec.ensures ∙ words_end c.args.text.now c.loop-start.all.items
+    (word_spans c.args.text.now c.args.span) c.loop-start.start c.args.span.stop c.loop-start-test.false c.loop-start.invariant)
+    (word_spans-texts c.args.text.now c.args.span c.requires.inside)

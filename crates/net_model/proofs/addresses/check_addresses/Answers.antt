@@ -4,10 +4,8 @@ use Rattle.net_model.proofs.addresses.check_addresses.Goals as goal
 
 pub returns-in-Some-clause-err : goal.returns-in-Some-clause-err
 returns-in-Some-clause-err c =
-    let least = MatchOption-at_some _ _ c.in-Some.pair c.in-Some.is (c.in_ok-pair.ensures (HaveOneAddress-mutual c.args.configs.now)) in
-    least
+    MatchOption-at_some _ _ c.in-Some.pair c.in-Some.is (c.in_ok-pair.ensures (HaveOneAddress-mutual c.args.configs.now))
 
 pub returns-in-None-clause-ok : goal.returns-in-None-clause-ok
 returns-in-None-clause-ok c =
-    let none = MatchOption-at_none _ _ c.in-None.is (c.in_ok-pair.ensures (HaveOneAddress-mutual c.args.configs.now)) in
-    none
+    MatchOption-at_none _ _ c.in-None.is (c.in_ok-pair.ensures (HaveOneAddress-mutual c.args.configs.now))

@@ -10,10 +10,8 @@ returns-then-branch-clause-ok c =
 
 pub returns-in-Some-clause-err : goal.returns-in-Some-clause-err
 returns-in-Some-clause-err c =
-    let least = MatchOption-at_some _ _ c.in-Some.pair c.in-Some.is (c.in_ok-pair.ensures (RunTwoAreas-mutual c.args.configs.now)) in
-    (c.requires.addresses, least)
+    (c.requires.addresses, MatchOption-at_some _ _ c.in-Some.pair c.in-Some.is (c.in_ok-pair.ensures (RunTwoAreas-mutual c.args.configs.now)))
 
 pub returns-in-None-clause-ok : goal.returns-in-None-clause-ok
 returns-in-None-clause-ok c =
-    let none = MatchOption-at_none _ _ c.in-None.is (c.in_ok-pair.ensures (RunTwoAreas-mutual c.args.configs.now)) in
-    (c.requires.addresses, none)
+    (c.requires.addresses, MatchOption-at_none _ _ c.in-None.is (c.in_ok-pair.ensures (RunTwoAreas-mutual c.args.configs.now)))

@@ -3,11 +3,15 @@ use Rattle.net_model.proofs.SystemClashes.{HaveOneSystem-mutual}
 use Rattle.net_model.proofs.systems.check_systems.Goals as goal
 
 pub returns-in-Some-clause-err : goal.returns-in-Some-clause-err
-returns-in-Some-clause-err c =
-    let least = MatchOption-at_some _ _ c.in-Some.pair c.in-Some.is (c.in_ok-pair.ensures (HaveOneSystem-mutual c.args.configs.now)) in
-    (c.requires.metrics, (c.in-Some.pair.item, least))
+returns-in-Some-clause-err c = (
+  c.requires.metrics,
+  (
+    c.in-Some.pair.item,
+    MatchOption-at_some _ _ c.in-Some.pair c.in-Some.is
+        (c.in_ok-pair.ensures (HaveOneSystem-mutual c.args.configs.now)),
+  ),
+)
 
 pub returns-in-None-clause-ok : goal.returns-in-None-clause-ok
 returns-in-None-clause-ok c =
-    let none = MatchOption-at_none _ _ c.in-None.is (c.in_ok-pair.ensures (HaveOneSystem-mutual c.args.configs.now)) in
-    (c.requires.metrics, none)
+    (c.requires.metrics, MatchOption-at_none _ _ c.in-None.is (c.in_ok-pair.ensures (HaveOneSystem-mutual c.args.configs.now)))

@@ -11,24 +11,28 @@ loop-line-init c =
 
 pub overflow_add-result : goal.overflow_add-result
 overflow_add-result c =
-    let few = taken_few c.args.net.now c.args.ranks.now c.args.journal.now c.loop-line.lines c.loop-line.changes c.loop-line.done c.loop-line.invariant in
-    let most = c.start_counts.ensures.network.limits.routers in
-    omega (arith, few, most)
+    omega (
+      arith,
+      c.start_counts.ensures.network.limits.routers,
+      taken_few c.args.net.now c.args.ranks.now c.args.journal.now c.loop-line.lines c.loop-line.changes c.loop-line.done c.loop-line.invariant,
+    )
 
 pub overflow_add-changes : goal.overflow_add-changes
 overflow_add-changes c =
-    let few = taken_few c.args.net.now c.args.ranks.now c.args.journal.now c.loop-line.lines c.loop-line.changes c.loop-line.done c.loop-line.invariant in
-    let most = c.start_counts.ensures.network.limits.routers in
-    omega (arith, few, most)
+    omega (
+      arith,
+      c.start_counts.ensures.network.limits.routers,
+      taken_few c.args.net.now c.args.ranks.now c.args.journal.now c.loop-line.lines c.loop-line.changes c.loop-line.done c.loop-line.invariant,
+    )
 
-pub returns-then-not-make_change : goal.returns-then-not-make_change
-returns-then-not-make_change c =
-    let no : c.make_change.result ≡ false = search rules in
+pub returns-then-not-judge_line : goal.returns-then-not-judge_line
+returns-then-not-judge_line c =
+    let no : c.judge_line.result ≡ false = search rules in
     inr (taken_not c.args.net.now c.args.ranks.now c.args.journal.now c.loop-line.lines c.in-Some.line.now c.next_line.new.self c.loop-line.changes
-    c.loop-line.done c.make_change.new.done c.make_change.result c.in-Some.ensures.some c.loop-line.invariant c.make_change.ensures no)
+    c.loop-line.done c.judge_line.new.done c.judge_line.result c.in-Some.ensures.some c.loop-line.invariant c.judge_line.ensures no)
 
 pub loop-line-preserved : goal.loop-line-preserved
 loop-line-preserved c =
-    let yes : c.make_change.result ≡ true = search rules in
+    let yes : c.judge_line.result ≡ true = search rules in
     taken_made c.args.net.now c.args.ranks.now c.args.journal.now c.loop-line.lines c.in-Some.line.now c.next_line.new.self c.loop-line.changes
-    c.loop-line.done c.make_change.new.done c.make_change.result c.in-Some.ensures.some c.loop-line.invariant c.make_change.ensures yes
+    c.loop-line.done c.judge_line.new.done c.judge_line.result c.in-Some.ensures.some c.loop-line.invariant c.judge_line.ensures yes

@@ -5,7 +5,7 @@ use Rattle.state_replay.specs.steps.Making.{IsMade}
 use Rattle.state_replay.specs.declared.half.Half.{Half}
 use Rattle.state_replay.proofs.Lines.{told_below}
 use Rattle.state_replay.proofs.Takings.{made_next, none_next, other_next}
-use Rattle.state_replay.proofs.journal.make_change.Goals as goal
+use Rattle.state_replay.proofs.journal.judge_line.Goals as goal
 
 pub returns : goal.returns
 returns c changes begin counts =
