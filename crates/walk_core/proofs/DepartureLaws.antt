@@ -1,12 +1,11 @@
 -- Departures and first hops, one more at a time, and what they come to.
-use Rattle.std.proofs.Common.{◌≡◌, ℕ, ◌+◌, ◌<◌, ◌↔◌, List, [], ◌∷◌, ◌++◌, Option, Some, length, get_or, Contains, sym, ◌∙◌, subst, inl, inr}
-use Rattle.std.proofs.lemmas.List.{get_or_default}
+use Rattle.std.proofs.Common.{◌≡◌, ℕ, ◌+◌, ◌<◌, ◌↔◌, List, [], ◌∷◌, ◌++◌, Option, Some, Contains, sym, subst, inl, inr}
 use Rattle.std.proofs.lemmas.List.Elements.{Contains-push, Contains-append_left, Contains-push_cases}
 use borrow.Author.Count.{below_more}
 use Rattle.walk_core.specs.declared.hops.Departure.{Departure}
 use Rattle.walk_core.specs.Walks.{Arcs, FirstHop}
 use Rattle.walk_core.specs.Distances.{distance_at, distance_between, AreLeastDistances, KnowsEnds}
-use Rattle.walk_core.specs.steps.Departures.{LeavesTo, AreDepartures, Begins, BeginsAt}
+use Rattle.walk_core.specs.steps.Departures.{LeavesTo, AreDepartures, BeginsAt}
 use Rattle.walk_core.proofs.HopLaws.{BeginsLeast, begins_least_from_first_hop, first_hop_from_begins_least}
 
 pub departs_more : (arc : Arcs) (root : ℕ) (ds : List Departure) (d : Departure) →
@@ -32,46 +31,23 @@ leaves_more ends ds d i every leads costs =
     })
     (record { departure = d; among = Contains-push ds d; leads = leads; costs = costs })
 
-pub hops_begin_more : (ds : List Departure) (rows : List (List (Option ℕ))) (v : ℕ) (distance : Option ℕ) (hops : List ℕ) (d : Departure) →
-    ((h : ℕ) → Contains hops h → BeginsAt ds rows v distance h) → Contains ds d → Begins rows d v distance →
-    (h : ℕ) → Contains (hops ++ d.to ∷ []) h → BeginsAt ds rows v distance h
-hops_begin_more ds rows v distance hops d begin among begins h is =
-    elim (Contains-push_cases hops d.to h is) [
-      | inl before ↦ begin h before
-      | inr last ↦ record { departure = d; among = among; begins = begins; leads = last }
-    ]
-
--- the departures so far that begin are listed, and one more
-pub hops_listed_more : (ds : List Departure) (rows : List (List (Option ℕ))) (v : ℕ) (distance : Option ℕ) (hops more : List ℕ) (i : ℕ) (item : Departure) →
-    i < length ds → item ≡ get_or ds i item →
-    ((h : ℕ) → Contains hops h → Contains more h) → (Begins rows item v distance → Contains more item.to) →
-    ((k : ℕ) → k < i → (d : Departure) → get_or ds k d ≡ d → Begins rows d v distance → Contains hops d.to) →
-    (k : ℕ) → k < i + 1 → (d : Departure) → get_or ds k d ≡ d → Begins rows d v distance → Contains more d.to
-hops_listed_more ds rows v distance hops more i item in_range is kept added listed =
-    below_more (λ k. (d : Departure) → get_or ds k d ≡ d → Begins rows d v distance → Contains more d.to) i
-    (λ k below d at begins. kept d.to (listed k below d at begins))
-    (λ d at begins.
-    let same : item ≡ d = is ∙ (get_or_default ds i item d in_range ∙ at) in
-    let P : Departure → Type 0 = λ x. Begins rows x v distance → Contains more x.to in
-    subst P same added begins)
-
 -- the first hops are the ends of departures that begin
 pub begins_at_is_first_hop : (arc : Arcs) (root : ℕ) (ds : List Departure) (rows : List (List (Option ℕ))) (distances : List (Option ℕ))
     (v h : ℕ) → AreDepartures arc root ds → KnowsEnds arc root rows → AreLeastDistances arc root distances →
     BeginsAt ds rows v (distance_at distances v) h ↔ FirstHop arc root v h
 begins_at_is_first_hop arc root ds rows distances v h departures ends least = (
   λ at.
-      let d : Departure = at.departure in
+      let d : Departure = at.thing in
       let over : arc root d.to d.cost = departures.each d at.among in
       let P : ℕ → Type 0 = λ n. FirstHop arc root v n in
       let begins : BeginsLeast arc root v d.to = record {
         cost = d.cost;
-        beyond = at.begins.beyond;
+        beyond = at.leads.0.beyond;
         over = over;
-        rest = ((ends d.to d.cost over).least v at.begins.beyond).0 at.begins.far;
-        whole = (least.least v (d.cost + at.begins.beyond)).0 at.begins.whole;
+        rest = ((ends d.to d.cost over).least v at.leads.0.beyond).0 at.leads.0.far;
+        whole = (least.least v (d.cost + at.leads.0.beyond)).0 at.leads.0.whole;
       } in
-      subst P at.leads (first_hop_from_begins_least begins),
+      subst P at.leads.1 (first_hop_from_begins_least begins),
   λ hop.
       let begins = begins_least_from_first_hop hop in
       let leaves = departures.every h begins.cost begins.over in
@@ -83,13 +59,11 @@ begins_at_is_first_hop arc root ds rows distances v h departures ends least = (
       (least.least v (begins.cost + begins.beyond)).1 begins.whole
       in
       record {
-        departure = leaves.departure;
+        thing = leaves.departure;
         among = leaves.among;
-        begins = record {
-          beyond = begins.beyond;
-          far = subst At (sym leaves.leads) far;
-          whole = rw leaves.costs whole;
-        };
-        leads = leaves.leads;
+        leads = (
+          record { beyond = begins.beyond; far = subst At (sym leaves.leads) far; whole = rw leaves.costs whole },
+          leaves.leads,
+        );
       },
 )

@@ -41,6 +41,15 @@ total_parts (Some n) c total is = (n, refl, let k : Some (n + c) ≡ Some total 
 pub segment_among : (segments : List (List Port)) (place : ℕ) → place < length segments → Contains segments (segment_at segments place)
 segment_among segments place within = Contains-get_or segments place [] within
 
+-- the vertex of a port that is read is one of the graph
+pub vertex_below : (segments : List (List Port)) (place i n : ℕ) (given : List Port) → place < length segments → given ≡ segment_at segments place →
+    i < length given → AreSegments n segments → (get_or given i (record { vertex = 0; cost = 0 })).vertex < n
+vertex_below segments place i n given in_place is within are =
+    let none : Port = record { vertex = 0; cost = 0 } in
+    let among : Contains (segment_at segments place) (get_or given i none) =
+    subst (λ (l : List Port). Contains l (get_or given i none)) is (Contains-get_or given i none within) in
+    (are (segment_at segments place) (segment_among segments place in_place) (get_or given i none) among).vertex
+
 -- what one step of lowering leaves
 pub record IsLowered (arc : Arcs) (ports : List Port) (now after : List (Option ℕ)) (v found : ℕ) (fell : Bool) : Type 0 where
   pub relaxes : Relaxes arc now after fell
@@ -130,11 +139,6 @@ pub sends_at_place : (segments : List (List Port)) (u v c : ℕ) → Sends segme
 sends_at_place segments u v c arc =
     let at : segment_at segments arc.among.0 ≡ arc.segment = get_or_default segments arc.among.0 [] arc.segment arc.among.1 ∙ arc.among.2 in
     (arc.among.0, arc.among.1, subst (λ (s : List Port). SendsOn s u v c) (sym at) arc.over)
-
--- the ports that are read at a place are those of its segment
-pub ports_are : (segments : List (List Port)) (place : ℕ) (read given : List Port) → place < length segments →
-    read ≡ get_or segments place read → given ≡ read → given ≡ segment_at segments place
-ports_are segments place read given within is same = same ∙ (is ∙ get_or_default segments place read [] within)
 
 -- what holds below one number holds below a lower one
 pub below_all : (fell : Bool) (P : ℕ → Type 0) (n m : ℕ) → m ≤ n → OnFalse fell ((j : ℕ) → j < n → P j) → OnFalse fell ((j : ℕ) → j < m → P j)

@@ -1,7 +1,7 @@
 -- Spans of one list of numbers as lists.
 use Rattle.std.proofs.Common.{◌≡◌, ℕ, ◌-◌, ◌≤◌, List, [], ◌∷◌, ◌++◌, length, length-append, take, drop, refl, sym, ap, ◌∙◌, arith}
 use Rattle.std.proofs.lemmas.List.{drop-append-le, drop_at, take-append-le, take_all, map-append, length-drop}
-use Rattle.std.proofs.lemmas.List.Elements.{All-head, All-tail, All-append, All-cons, All-nil, All-weaker}
+use Rattle.std.proofs.lemmas.List.Elements.{All-head, All-tail, All-weaker}
 use Rattle.walk_core.specs.steps.NumberLists.{part_of, lists_of, IsWithin, AreSpansWithin}
 use Rattle.walk_core.specs.declared.number_lists.Span.{Span}
 
@@ -41,12 +41,3 @@ within_more numbers more spans are =
       ordered = is.ordered;
       within = omega (arith, length-append numbers more, is.within);
     }) spans are
-
-pub within_push : (numbers more : List ℕ) (spans : List Span) (span : Span) → AreSpansWithin numbers spans → span.start ≡ length numbers →
-    span.end ≡ length (numbers ++ more) → AreSpansWithin (numbers ++ more) (spans ++ span ∷ [])
-within_push numbers more spans span are starts ends =
-    All-append (IsWithin (numbers ++ more)) spans (span ∷ []) (within_more numbers more spans are)
-    (All-cons (IsWithin (numbers ++ more)) span [] (record {
-      ordered = omega (arith, length-append numbers more);
-      within = omega (arith);
-    }) (All-nil (IsWithin (numbers ++ more))))

@@ -1,6 +1,6 @@
 -- The rows of first hops, one vertex after another, and what they come to with the distances.
-use Rattle.std.proofs.Common.{◌≡◌, ℕ, ◌+◌, ◌<◌, ◌≤◌, ◌↔◌, ◌⊎◌, List, [], ◌∷◌, ◌++◌, Option, Some, None, length, length-append, get_or, set, get_or-set_same}
-use Rattle.std.proofs.Common.{get_or-set_other, Contains, sym, ap, subst, ◌∙◌, arith, inl, inr}
+use Rattle.std.proofs.Common.{◌≡◌, ℕ, ◌+◌, ◌<◌, ◌↔◌, ◌⊎◌, List, [], ◌∷◌, ◌++◌, Option, Some, None, length, length-append, get_or, set, get_or-set_same}
+use Rattle.std.proofs.Common.{get_or-set_other, Contains, refl, sym, ap, subst, ◌∙◌, arith, inl, inr}
 use Rattle.std.specs.List.{slice_get}
 use Rattle.std.specs.List.Sorted.{IsStrictlyIncreasing}
 use Rattle.std.proofs.Math.ListN.{get_or-eq_default}
@@ -8,34 +8,28 @@ use Rattle.std.proofs.lemmas.Bool.{cases_lt, cases_eq}
 use Rattle.std.proofs.lemmas.List.{get_or_append_left, get_or_push}
 use Rattle.std.proofs.lemmas.Option.{slice_get_within, slice_get-get_or, same_Some}
 use borrow.Author.Count.{below_more}
-use Rattle.walk_core.specs.declared.hops.Departure.{Departure}
 use Rattle.walk_core.specs.Walks.{Arcs, FirstHop, walk_cost}
-use Rattle.walk_core.specs.Distances.{distance_at, AreLeastDistances, KnowsEnds, IsDistanceRow, AreDistanceRows}
-use Rattle.walk_core.specs.steps.Departures.{AreDepartures, BeginsAt}
+use Rattle.walk_core.specs.Distances.{distance_at, AreLeastDistances, IsDistanceRow, AreDistanceRows}
+use Rattle.walk_core.specs.steps.FirstHops.{AreFirstHops, ListFirstHops}
 use Rattle.walk_core.specs.Reach.{Reach, AreAscending, AreLeastWalks, AreNear, AreWalksBelow}
 use Rattle.walk_core.proofs.WalkLaws.{first_hop_has_least_cost}
-use Rattle.walk_core.proofs.DepartureLaws.{begins_at_is_first_hop}
 
 -- what holds of each element so far and of one more holds of all of them
-pub each_more : {X : Type 0} (P : ℕ → List X → Type 0) (rows : List (List X)) (v : ℕ) (row : List X) →
-    length rows ≡ v → ((w : ℕ) → w < v → P w (get_or rows w [])) → P v row →
-    (w : ℕ) → w < v + 1 → P w (get_or (rows ++ row ∷ []) w [])
-each_more {X} P rows v row long before last =
-    below_more (λ w. P w (get_or (rows ++ row ∷ []) w [])) v
+pub each_at_more : {X : Type 0} (d : X) (P : ℕ → X → Type 0) (xs : List X) (n : ℕ) (x : X) → length xs ≡ n →
+    ((w : ℕ) → w < n → P w (get_or xs w d)) → P n x → (w : ℕ) → w < n + 1 → P w (get_or (xs ++ x ∷ []) w d)
+each_at_more {X} d P xs n x long before last =
+    below_more (λ w. P w (get_or (xs ++ x ∷ []) w d)) n
     (λ w below.
-    let kept : get_or (rows ++ row ∷ []) w [] ≡ get_or rows w [] =
-    let near : w < length rows = omega arith in get_or_append_left rows (row ∷ []) [] w near
-    in
-    subst (λ (r : List X). P w r) (sym kept) (before w below))
-    (let new : get_or (rows ++ row ∷ []) v [] ≡ row = get_or_push rows row [] v long in
-    subst (λ (r : List X). P v r) (sym new) last)
+    let near : w < length xs = omega (arith, long, below) in
+    subst (λ (y : X). P w y) (sym (get_or_append_left xs (x ∷ []) d w near)) (before w below))
+    (subst (λ (y : X). P n y) (sym (get_or_push xs x d n long)) last)
 
 -- the distances from one more vertex
 pub rows_more : (arc : Arcs) (count n : ℕ) (rows : List (List (Option ℕ))) (row : List (Option ℕ)) → AreDistanceRows arc count n rows →
     IsDistanceRow arc count n row → AreDistanceRows arc count (n + 1) (rows ++ row ∷ [])
 rows_more arc count n rows row are is = record {
   long = omega (arith, length-append rows (row ∷ []), are.long);
-  each = each_more (IsDistanceRow arc count) rows n row are.long are.each is;
+  each = each_at_more [] (IsDistanceRow arc count) rows n row are.long are.each is;
 }
 
 -- the rows of the first ends, and of one more
@@ -50,56 +44,12 @@ known_more arc ends rows i to row within is before here = below_more (λ j. AreL
     old : (j : ℕ) → j < i → AreLeastDistances arc (ends j).0 (get_or (set rows to row) (ends j).0 [])
     old j below = elim (cases_eq (ends j).0 to) [
       | inl same ↦ subst (λ (n : ℕ). AreLeastDistances arc n (get_or (set rows to row) n [])) (sym same) at_end
-      | inr other ↦ subst (λ (r : List (Option ℕ)). AreLeastDistances arc (ends j).0 r) (sym (get_or-set_other rows to (ends j).0 row [] other)) (before j below)
+      | inr other ↦ subst (λ (r : List (Option ℕ)). AreLeastDistances arc (ends j).0 r)
+          (sym (get_or-set_other rows to (ends j).0 row [] other)) (before j below)
     ]
 
     new : AreLeastDistances arc (ends i).0 (get_or (set rows to row) (ends i).0 [])
     new = subst (λ (n : ℕ). AreLeastDistances arc n (get_or (set rows to row) n [])) is at_end
-
--- the list of vertex v has the departures that begin a way to v
-abbrev pub AreHopsOf : List Departure → List (List (Option ℕ)) → List (Option ℕ) → ℕ → List ℕ → Type 0
-AreHopsOf ds rows distances v hops = (h : ℕ) → Contains hops h ↔ BeginsAt ds rows v (distance_at distances v) h
-
--- distances and first hops for every vertex are the least walks
-pub are_least_walks : (arc : Arcs) (root count : ℕ) (ds : List Departure) (rows : List (List (Option ℕ))) (reach : Reach) →
-    AreDepartures arc root ds → KnowsEnds arc root rows → AreLeastDistances arc root reach.distances →
-    length reach.distances ≤ count → (listed : ℕ) → length reach.hops ≡ listed → (listed ≡ count) ⊎ (length ds ≡ 0) →
-    ((v : ℕ) → v < listed → AreHopsOf ds rows reach.distances v (get_or reach.hops v [])) →
-    AreLeastWalks arc root reach
-are_least_walks arc root count ds rows reach departures ends least long listed hops_long all lists = record {
-  distances = least.least;
-  unreached = least.none;
-  hops = λ v h.
-      elim (cases_lt v listed) [
-        | inl below ↦
-            let list = lists v below h in
-            let hops = begins_at_is_first_hop arc root ds rows reach.distances v h departures ends least in
-            (λ has. hops.0 (list.0 has), λ first. list.1 (hops.1 first))
-        | inr past ↦
-            let no_list : get_or reach.hops v [] ≡ [] = get_or-eq_default reach.hops [] (omega arith) in (
-              λ has.
-                  let none : Contains [] h = rw no_list at has in
-                  absurd (omega (arith, none.1)),
-              λ first. absurd (no_first v h past first),
-            )
-      ];
-}
-  where
-    no_first : (v h : ℕ) → listed ≤ v → FirstHop arc root v h → ⊥
-    no_first v h past first = elim all [
-      | inl full ↦
-          let no_distance : distance_at reach.distances v ≡ None =
-          get_or-eq_default reach.distances None (omega arith)
-          in
-          let cost = walk_cost (first.leg ∷ first.legs) in
-          let some : distance_at reach.distances v ≡ Some cost =
-          (least.least v cost).1 (first_hop_has_least_cost first)
-          in
-          cc (some, no_distance)
-      | inr alone ↦
-          let at = (begins_at_is_first_hop arc root ds rows reach.distances v h departures ends least).1 first in
-          omega (arith, at.among.1)
-    ]
 
 -- one more list that ascends
 pub ascending_more : (lists : List (List ℕ)) (list : List ℕ) → AreAscending lists → IsStrictlyIncreasing list → AreAscending (lists ++ list ∷ [])
@@ -114,10 +64,53 @@ ascending_more lists list are is v =
       ]
     ]
 
--- the walks from one more vertex
+-- no hops of the vertices below 0
+pub no_hops_listed : (arc : Arcs) (root : ℕ) → AreFirstHops arc root 0 []
+no_hops_listed arc root = record {
+  long = refl;
+  exact = λ v below. absurd (omega (arith, below));
+  ascending = λ v k short. absurd (omega (arith, short));
+}
+
+-- the hops of one more vertex
+pub hops_more : (arc : Arcs) (root n : ℕ) (lists : List (List ℕ)) (list : List ℕ) → AreFirstHops arc root n lists →
+    ((h : ℕ) → Contains list h ↔ FirstHop arc root n h) → IsStrictlyIncreasing list → AreFirstHops arc root (n + 1) (lists ++ list ∷ [])
+hops_more arc root n lists list are exact ascending = record {
+  long = omega (arith, length-append lists (list ∷ []), are.long);
+  exact = each_at_more [] (λ v l. (h : ℕ) → Contains l h ↔ FirstHop arc root v h) lists n list are.long are.exact exact;
+  ascending = ascending_more lists list are.ascending ascending;
+}
+
+-- first hops lead only to vertices that have a distance
+pub hop_below : (arc : Arcs) (root count v h : ℕ) (row : List (Option ℕ)) → IsDistanceRow arc count root row → FirstHop arc root v h → v < count
+hop_below arc root count v h row is first = elim (cases_lt v count) [
+  | inl below ↦ below
+  | inr past ↦
+      let cost = walk_cost (first.leg ∷ first.legs) in
+      let none : distance_at row v ≡ None = get_or-eq_default row None (omega (arith, past, is.within)) in
+      let some : distance_at row v ≡ Some cost = (is.least.least v cost).1 (first_hop_has_least_cost first) in
+      absurd (cc (none, some))
+]
+
+-- the lists of all vertices, or none where no arc leaves the root, are those of every vertex
+pub lists_of_all : (arc : Arcs) (root count n : ℕ) (row : List (Option ℕ)) (lists : List (List ℕ)) → IsDistanceRow arc count root row →
+    AreFirstHops arc root n lists → (n ≡ count) ⊎ ((v c : ℕ) → arc root v c → ⊥) → ListFirstHops arc root lists
+lists_of_all arc root count n row lists is are all v h = elim (cases_lt v n) [
+  | inl below ↦ are.exact v below h
+  | inr past ↦
+      let no_list : get_or lists v [] ≡ [] = get_or-eq_default lists [] (omega (arith, past, are.long)) in (
+        λ has. let none : Contains [] h = subst (λ (l : List ℕ). Contains l h) no_list has in absurd (omega (arith, none.1)),
+        λ first. elim all [
+          | inl full ↦ absurd (omega (arith, hop_below arc root count v h row is first, full, past))
+          | inr alone ↦ absurd (alone first.leg.to first.leg.cost first.walk.leads.0)
+        ],
+      )
+]
+
+-- the walks from one more vertex, by its row and its first hops
 pub walks_more : (arc : Arcs) (count u : ℕ) (walks : List Reach) (reach : Reach) → AreWalksBelow arc count u walks →
-    AreLeastWalks arc u reach → AreNear count reach → AreWalksBelow arc count (u + 1) (walks ++ reach ∷ [])
-walks_more arc count u walks reach before least near = record {
+    IsDistanceRow arc count u reach.distances → ListFirstHops arc u reach.hops → AreWalksBelow arc count (u + 1) (walks ++ reach ∷ [])
+walks_more arc count u walks reach before row hops = record {
   long = omega (arith, length-append walks (reach ∷ []), before.long);
   least = λ w r at. elim (place w r at) [
     | inl earlier ↦ before.least w r earlier
@@ -125,10 +118,13 @@ walks_more arc count u walks reach before least near = record {
   ];
   near = λ w r at. elim (place w r at) [
     | inl earlier ↦ before.near w r earlier
-    | inr here ↦ subst (λ (x : Reach). AreNear count x) here.1 near
+    | inr here ↦ subst (λ (x : Reach). AreNear count x) here.1 row.near
   ];
 }
   where
+    least : AreLeastWalks arc u reach
+    least = record { distances = row.least.least; unreached = row.least.none; hops = hops }
+
     below_cases : (a i : ℕ) → a < i + 1 → (a < i) ⊎ (a ≡ i)
     below_cases a i h = elim (cases_lt a i) [ inl less ↦ inl less | inr not ↦ inr (omega arith) ]
 

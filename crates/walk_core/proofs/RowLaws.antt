@@ -27,7 +27,7 @@ lone_elsewhere (suc root) zero d is = absurd (let k : None ≡ Some d = is in cc
 lone_elsewhere (suc root) (suc v) d is = let there = lone_elsewhere root v d is in (ap suc there.0, there.1)
 
 -- a vertex without a port has no arc
-no_arc : (segments : List (List Port)) (root : ℕ) (outlets : List Outlet) → AreOutlets segments root (length segments) outlets → length outlets ≡ 0 →
+pub no_arc : (segments : List (List Port)) (root : ℕ) (outlets : List Outlet) → AreOutlets segments root (length segments) outlets → length outlets ≡ 0 →
     (v c : ℕ) → SendsAcross segments root v c → ⊥
 no_arc segments root outlets are none v c arc =
     let at = sends_at_place segments root v c arc.over in

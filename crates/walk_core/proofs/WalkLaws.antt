@@ -1,5 +1,5 @@
 -- Laws of walks, least costs, first hops and best offers, over any arc relation.
-use Rattle.std.proofs.Common.{◌≡◌, ℕ, ◌+◌, ◌≤◌, ◌↔◌, List, [], ◌∷◌, refl, subst, arith}
+use Rattle.std.proofs.Common.{◌≡◌, ℕ, ◌≤◌, ◌↔◌, List, [], ◌∷◌, refl, subst, arith}
 use Rattle.walk_core.specs.Walks.{Arcs, Leg, Walks, walk_cost, LeastWalk, LeastCost, FirstHop}
 use Rattle.walk_core.specs.Reach.{Reach, AreLeastWalks}
 use Rattle.walk_core.specs.Offers.{Offers, OfferCosts, BestCost, BestHop}
@@ -11,11 +11,6 @@ least_cost_at_most {arc} {u} {v} {d} least legs leads =
     let below : walk_cost least.legs ≤ walk_cost legs = least.walk.least legs leads in
     let P : ℕ → Type 0 = λ n. n ≤ walk_cost legs in
     subst P least.costs below
-
--- a least cost is what some walk costs
-pub least_cost_of_walk : {arc : Arcs} {u v d : ℕ} → LeastCost arc u v d →
-    (legs : List Leg) × Walks arc u legs v × (walk_cost legs ≡ d)
-least_cost_of_walk least = (least.legs, least.walk.leads, least.costs)
 
 -- a walk of this cost that no walk undercuts makes it the least cost
 pub least_cost_from : {arc : Arcs} {u v : ℕ} (d : ℕ) (legs : List Leg) → Walks arc u legs v →
@@ -54,47 +49,6 @@ pub first_hop_is_arc : {arc : Arcs} {u v h : ℕ} → FirstHop arc u v h → (c 
 first_hop_is_arc {arc} {u} {v} {h} hop =
     let P : ℕ → Type 0 = λ n. arc u n hop.leg.cost in
     (hop.leg.cost, subst P hop.begins (hop.walk.leads.0))
-
--- a router reaches itself at the cost 0
-pub least_cost_of_self : (arc : Arcs) (u : ℕ) → LeastCost arc u u 0
-least_cost_of_self arc u = record {
-  legs = [];
-  walk = record { leads = refl; least = λ others other. omega arith };
-  costs = refl;
-}
-
--- a router has no first hop towards itself, where every arc costs at least 1
-pub no_first_hop_to_self : {arc : Arcs} {u h : ℕ} → ((a b c : ℕ) → arc a b c → 1 ≤ c) →
-    FirstHop arc u u h → ⊥
-no_first_hop_to_self {arc} {u} {h} positive hop =
-    let costs : 1 ≤ hop.leg.cost = positive u hop.leg.to hop.leg.cost (hop.walk.leads.0) in
-    let none : hop.leg.cost + walk_cost hop.legs ≤ 0 = hop.walk.least [] refl in
-    omega arith
-
--- what an offer costs grows with what it asks
-pub offer_costs_compare : {arc : Arcs} {offer : Offers} {u at c d : ℕ}
-    (one : OfferCosts arc offer u at c) (other : OfferCosts arc offer u at d) →
-    one.asks ≤ other.asks → c ≤ d
-offer_costs_compare {arc} {offer} {u} {at} {c} {d} one other less =
-    let walks : one.walk ≡ other.walk = least_cost_unique one.reached other.reached in
-    let here : one.walk + one.asks ≡ c = one.costs in
-    let there : other.walk + other.asks ≡ d = other.costs in
-    omega arith
-
--- offers at one router that ask the same cost the same
-pub offer_costs_unique : {arc : Arcs} {offer : Offers} {u at c d : ℕ}
-    (one : OfferCosts arc offer u at c) (other : OfferCosts arc offer u at d) →
-    one.asks ≡ other.asks → c ≡ d
-offer_costs_unique {arc} {offer} {u} {at} {c} {d} one other same =
-    let walks : one.walk ≡ other.walk = least_cost_unique one.reached other.reached in
-    let here : one.walk + one.asks ≡ c = one.costs in
-    let there : other.walk + other.asks ≡ d = other.costs in
-    omega arith
-
--- a best cost is at most what each offer costs
-pub best_cost_at_most : {arc : Arcs} {offer : Offers} {u at c d : ℕ} → BestCost arc offer u c →
-    OfferCosts arc offer u at d → c ≤ d
-best_cost_at_most {arc} {offer} {u} {at} {c} {d} best offered = best.least at d offered
 
 -- there is one best cost
 pub best_cost_unique : {arc : Arcs} {offer : Offers} {u c d : ℕ} → BestCost arc offer u c →
@@ -146,10 +100,6 @@ least_cost_over same least = record {
   costs = least.costs;
 }
 
-pub least_cost_same : {arc other : Arcs} → SameArcs arc other → (u v d : ℕ) →
-    LeastCost arc u v d ↔ LeastCost other u v d
-least_cost_same same u v d = (least_cost_over same, least_cost_over (same_arcs_sym same))
-
 -- first hops are the same over the same arcs
 pub first_hop_over : {arc other : Arcs} {u v h : ℕ} → SameArcs arc other → FirstHop arc u v h →
     FirstHop other u v h
@@ -159,10 +109,6 @@ first_hop_over same hop = record {
   walk = least_walk_over same hop.walk;
   begins = hop.begins;
 }
-
-pub first_hop_same : {arc other : Arcs} → SameArcs arc other → (u v h : ℕ) →
-    FirstHop arc u v h ↔ FirstHop other u v h
-first_hop_same same u v h = (first_hop_over same, first_hop_over (same_arcs_sym same))
 
 -- what an offer costs is the same over the same arcs and offers
 pub offer_costs_over : {arc other : Arcs} {offer others : Offers} {u at c : ℕ} →
@@ -191,23 +137,6 @@ pub best_cost_same : {arc other : Arcs} {offer others : Offers} → SameArcs arc
     BestCost arc offer u c ↔ BestCost other others u c
 best_cost_same same offers u c =
     (best_cost_over same offers, best_cost_over (same_arcs_sym same) (same_offers_sym offers))
-
--- first hops towards best offers are the same over the same arcs and offers
-pub best_hop_over : {arc other : Arcs} {offer others : Offers} {u h : ℕ} → SameArcs arc other →
-    SameOffers offer others → BestHop arc offer u h → BestHop other others u h
-best_hop_over same offers best = record {
-  cost = best.cost;
-  best = best_cost_over same offers best.best;
-  at = best.at;
-  attained = offer_costs_over same offers best.attained;
-  hop = first_hop_over same best.hop;
-}
-
-pub best_hop_same : {arc other : Arcs} {offer others : Offers} → SameArcs arc other →
-    SameOffers offer others → (u h : ℕ) →
-    BestHop arc offer u h ↔ BestHop other others u h
-best_hop_same same offers u h =
-    (best_hop_over same offers, best_hop_over (same_arcs_sym same) (same_offers_sym offers))
 
 -- what is known of the least walks is the same over the same arcs
 pub least_walks_over : {arc other : Arcs} {root : ℕ} {reach : Reach} → SameArcs arc other →

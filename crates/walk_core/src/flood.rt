@@ -13,7 +13,7 @@ use crate::offers::least_of;
 use crate::outlets::{Outlet, Outlets};
 use crate::relax::{distance_at, relax};
 use crate::rows::Distances;
-use crate::segment::{Port, Segment};
+use crate::segment::{Port, Segment, ports_at};
 use std::alloc::Global;
 
 /// The distances from a root over segments that join so many vertices, by their ports.
@@ -123,7 +123,7 @@ fn flood(
     ensures settled { AreSettled segments.now distances.new stale.new }
     ensures level { IsLevel (segment_at segments.now place) distances.new }
 {
-    match cost_of_coming(segments[place].as_slice(), distances) {
+    match cost_of_coming(ports_at(segments, place), distances) {
         Some(found) => lower(segments, outlets, place, found, stale, distances),
         None => false,
     }
@@ -171,7 +171,7 @@ fn lower(
     ensures level { IsLevel (segment_at segments.now place) distances.new }
 {
     let mut fell = false;
-    for port in segments[place].as_slice() {
+    for port in ports_at(segments, place) {
         fell = lower_vertex(outlets, port.vertex, found, stale, distances) || fell;
     }
     fell

@@ -27,7 +27,7 @@ impl Distances {
     ghost use Rattle.walk_core.specs.Distances.{distance_at};
 
     /// No distances.
-    fn none(alloc: Global) -> Distances
+    pub fn none(alloc: Global) -> Distances
         ensures { result ≡ [] }
     {
         Distances {

@@ -1,4 +1,5 @@
-ghost use Rattle.std.specs.Prelude.{◌≡◌};
+ghost use Rattle.std.specs.Prelude.{◌≡◌, ◌<◌, length};
+ghost use Rattle.walk_core.specs.steps.Flooding.{segment_at};
 
 use std::marker::Model;
 
@@ -50,4 +51,12 @@ impl Segment {
     {
         self.ports.as_slice()
     }
+}
+
+/// The ports of the segment of a place.
+pub fn ports_at(segments: &[Segment], place: usize) -> &[Port]
+    requires { place < length segments.now }
+    ensures { result.now ≡ segment_at segments.now place }
+{
+    segments[place].as_slice()
 }

@@ -90,6 +90,14 @@ impl LeastWalks {
     ghost use Rattle.std.specs.List.Sorted.{IsStrictlyIncreasing};
     ghost use Rattle.walk_core.specs.Reach.{distance_of, listed_hops_of, HasHop};
 
+    /// Nothing known, of no vertex.
+    pub(crate) fn none(alloc: Global) -> LeastWalks {
+        LeastWalks {
+            distances: Distances::none(alloc),
+            hops: NumberLists::none(alloc),
+        }
+    }
+
     /// The least cost of a walk from the root to v, and None where no walk leads there.
     pub fn distance(&self, v: u32) -> Option<u64>
         ensures { result ≡ distance_of self.now v }

@@ -14,8 +14,9 @@ use Rattle.net_model.proofs.Adjacency.{HasConfiguration-unique}
 use Rattle.net_model.proofs.NetworkFacts.{HasConfiguration-keeps, Adjacent-from_within, Adjacent-to_within}
 use Rattle.walk_core.specs.Segments.{IsPort, SendsAcross}
 use Rattle.walk_core.specs.declared.segment.Port.{Port}
+use Rattle.zone_graph.specs.Segments.{AreZoneSegments}
 use Rattle.zone_graph.specs.steps.Attachments.{IsGroup, IsAttachment, AreAttachments, IsOfLinks, AddsLinks, IsPortOf}
-use Rattle.zone_graph.specs.steps.Attachments.{HasBoth, AreTheSegments, AreZoneSegments}
+use Rattle.zone_graph.specs.steps.Attachments.{HasBoth, AreTheSegments}
 use Rattle.zone_graph.specs.steps.LinkLists.{IsLinkOf, AreRouterLinks}
 use Rattle.zone_graph.specs.declared.attachments.Attachment.{Attachment}
 use Rattle.zone_graph.specs.declared.links.Link.{Link}

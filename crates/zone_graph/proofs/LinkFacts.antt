@@ -10,8 +10,6 @@ use Rattle.net_model.specs.declared.zone.Zone.{Zone}
 use Rattle.zone_graph.specs.declared.links.Link.{Link}
 use Rattle.zone_graph.specs.steps.LinkLists.{IsLinkOf, IsLinkAt, AreLinksOf}
 
--- Links of interfaces
-
 any_left : {Y : Type 0} (P : Y → Type 0) (front : List Y) (y : Y) → Any P front → Any P (front ++ y ∷ [])
 any_left P front y any =
     let more = Contains-append_left front (y ∷ []) any.1 (any.0, any.2, any.3) in (more.0, any.1, more.1, more.2, any.4)

@@ -23,5 +23,6 @@ mod links;
 mod segments;
 mod zone_walks;
 
+pub use segments::zone_segments;
 pub use std::alloc::AllocError as OutOfMemory;
 pub use zone_walks::ZoneWalks;

@@ -1,7 +1,7 @@
-ghost use Rattle.std.specs.Prelude.{◌≡◌, ◌↔◌, Any, IsTrue};
+ghost use Rattle.std.specs.Prelude.{◌↔◌, IsTrue};
 ghost use Rattle.net_model.specs.Links.{IsLink};
 ghost use Rattle.net_model.specs.Network.{RunsIn};
-ghost use Rattle.zone_graph.specs.steps.LinkLists.{CostsAtLeast, IsLinkAt};
+ghost use Rattle.zone_graph.specs.steps.LinkLists.{IsLinkAt};
 
 use crate::OutOfMemory;
 use net_addr::Prefix;
@@ -71,20 +71,6 @@ fn link_of(zone: Zone, interface: &Interface) -> Option<Link>
         }),
         _ => None,
     }
-}
-
-/// Whether one of the interfaces may take part in an adjacency of the zone at so high a cost.
-pub(crate) fn some_cost_at_least(zone: Zone, interfaces: &[Interface], cost: u64) -> bool
-    ensures { IsTrue result ↔ Any (CostsAtLeast zone cost) interfaces.now }
-{
-    interfaces.iter().any(|i| costs_at_least(zone, i, cost))
-}
-
-/// Whether an interface may take part in an adjacency of the zone at so high a cost.
-fn costs_at_least(zone: Zone, interface: &Interface, cost: u64) -> bool
-    ensures { IsTrue result ↔ CostsAtLeast zone cost interface.now }
-{
-    is_link(zone, interface) && cost <= u64::from(cost_in(zone, interface))
 }
 
 /// Whether an interface may take part in an adjacency of the zone.

@@ -1,7 +1,8 @@
 ghost use Rattle.std.specs.Prelude.{◌≡◌, ◌+◌, ◌<◌, ◌↔◌, length, IfOk, OnOk, IsTrue};
 ghost use Rattle.std.specs.Bool.{OnFalse};
 ghost use Rattle.std.specs.List.Sorted.{IsNonDecreasingBy};
-ghost use Rattle.zone_graph.specs.steps.Attachments.{AreOfOneSegment, ArePortsLike, AreTheSegments, AreZoneSegments};
+ghost use Rattle.zone_graph.specs.Segments.{AreZoneSegments};
+ghost use Rattle.zone_graph.specs.steps.Attachments.{AreOfOneSegment, ArePortsLike, AreTheSegments};
 ghost use Rattle.zone_graph.specs.steps.Runs.{HasEarlier, IsRunEnd, AreSegmentsTo};
 
 use crate::OutOfMemory;
@@ -11,11 +12,7 @@ use std::alloc::Global;
 use walk_core::{Port, Segment};
 
 /// The segments of a zone: one for each subnet that joins routers there, with a port for each of their interfaces.
-pub(crate) fn zone_segments(
-    alloc: Global,
-    net: &Net,
-    zone: Zone,
-) -> Result<Vec<Segment>, OutOfMemory>
+pub fn zone_segments(alloc: Global, net: &Net, zone: Zone) -> Result<Vec<Segment>, OutOfMemory>
     ensures { IfOk result (λ segments. AreZoneSegments net.now zone segments.items) }
 {
     let mut attachments = all_attachments(alloc, net, zone)?;

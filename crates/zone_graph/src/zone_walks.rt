@@ -1,10 +1,7 @@
-ghost use Rattle.std.specs.Prelude.{◌≡◌, ◌<◌, ℕ, length, IfOk, MatchOption, slice_get, Some};
-ghost use Rattle.net_model.specs.Lookups.{LeastArc};
-ghost use Rattle.net_model.specs.Network.{Adjacent};
+ghost use Rattle.std.specs.Prelude.{◌≡◌, ◌<◌, length, IfOk, slice_get, Some};
 ghost use Rattle.zone_graph.specs.Walks.{AreZoneWalks};
 
 use crate::OutOfMemory;
-use crate::links::some_cost_at_least;
 use crate::segments::zone_segments;
 use net_model::{Net, Zone};
 use std::alloc::Global;
@@ -49,22 +46,5 @@ impl ZoneWalks {
         ensures { slice_get self.now u ≡ Some result.now }
     {
         &self.all[u as usize]
-    }
-
-    /// The least cost at which two routers are adjacent in the zone of these walks. Their interfaces aren't compared
-    /// where no walk leads from one to the other, nor where each link of the first one costs less than a walk there.
-    pub fn arc(&self, net: &Net, zone: Zone, u: u32, v: u32) -> Option<u32>
-        requires from { u < length net.now }
-        requires to { v < length net.now }
-        requires walks { AreZoneWalks net.now zone self.now }
-        ensures { MatchOption result
-            ((cost : ℕ) → Adjacent net.now zone u v cost → ⊥)
-            (LeastArc net.now zone u v) }
-    {
-        let distance = self.from_router(u).distance(v)?;
-        if !some_cost_at_least(zone, net.config(u).interfaces.as_slice(), distance) {
-            return None;
-        }
-        net.arc(zone, u, v)
     }
 }

@@ -3,6 +3,7 @@ use Rattle.std.specs.Prelude.{◌≡◌, ℕ, ◌+◌, List, Option, Some, Conta
 use Rattle.walk_core.specs.declared.hops.Departure.{Departure}
 use Rattle.walk_core.specs.Walks.{Arcs}
 use Rattle.walk_core.specs.Distances.{distance_between}
+use Rattle.walk_core.specs.steps.Adding.{SomeLeadsTo}
 
 -- one of the departures is the arc to h at this cost
 pub record LeavesTo (departures : List Departure) (h cost : ℕ) : Type 0 where
@@ -23,8 +24,5 @@ pub record Begins (rows : List (List (Option ℕ))) (departure : Departure) (v :
   pub whole : distance ≡ Some (departure.cost + beyond)
 
 -- a departure to h begins a way to v of this distance
-pub record BeginsAt (departures : List Departure) (rows : List (List (Option ℕ))) (v : ℕ) (distance : Option ℕ) (h : ℕ) : Type 0 where
-  pub departure : Departure
-  pub among : Contains departures departure
-  pub begins : Begins rows departure v distance
-  pub leads : departure.to ≡ h
+abbrev pub BeginsAt : List Departure → List (List (Option ℕ)) → ℕ → Option ℕ → ℕ → Type 0
+BeginsAt departures rows v distance h = SomeLeadsTo (λ departure n. Begins rows departure v distance × (departure.to ≡ n)) departures h

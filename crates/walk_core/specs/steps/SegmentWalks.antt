@@ -1,9 +1,12 @@
 -- Least walks that begin on a segment, and the first hops of its vertices by them.
-use Rattle.std.specs.Prelude.{◌≡◌, ℕ, ◌+◌, ◌<◌, ◌↔◌, ◌⊎◌, List, [], length, Option, Some, Contains, slice_index_or}
+use Rattle.std.specs.Prelude.{◌≡◌, ℕ, ◌+◌, ◌<◌, ◌≤◌, ◌↔◌, ◌⊎◌, List, [], length, Option, Some, Contains, Any, MatchOption, slice_index_or}
+use Rattle.walk_core.specs.steps.Adding.{SomeLeadsTo}
 use Rattle.walk_core.specs.steps.Cheapest.{IsCheapestCost}
-use Rattle.walk_core.specs.Distances.{distance_at, distance_between}
+use Rattle.walk_core.specs.Distances.{AreDistanceRows, distance_between}
 use Rattle.walk_core.specs.steps.Flooding.{segment_at}
-use Rattle.walk_core.specs.Reach.{Reach, AreAscending, distance_of, HasHop}
+use Rattle.walk_core.specs.Reach.{Reach, distance_of, HasHop}
+use Rattle.walk_core.specs.Segments.{AreSegments, SendsAcross}
+use Rattle.walk_core.specs.declared.beyond.Aim.{Aim}
 use Rattle.walk_core.specs.declared.outlets.Outlet.{Outlet}
 use Rattle.walk_core.specs.declared.segment.Port.{Port}
 
@@ -11,32 +14,51 @@ use Rattle.walk_core.specs.declared.segment.Port.{Port}
 abbrev pub beyond_port : List (List (Option ℕ)) → ℕ → Port → Option ℕ
 beyond_port rows v port = distance_between rows port.vertex v
 
--- v is at this distance from the vertex of a port
-pub record IsPortAt (rows : List (List (Option ℕ))) (v : ℕ) (distance : Option ℕ) (port : Port) : Type 0 where
-  pub beyond : ℕ
-  pub whole : distance ≡ Some beyond
-  pub far : beyond_port rows v port ≡ Some beyond
+-- h has the port, and what is looked for is as far from it
+pub record IsEnd (rows : List (List (Option ℕ))) (aim : Aim) (port : Port) (h : ℕ) : Type 0 where
+  pub far : beyond_port rows aim.vertex port ≡ Some aim.distance
+  pub vertex : port.vertex ≡ h
 
--- v is at this distance from h, which has one of the ports
-pub record IsEndAt (rows : List (List (Option ℕ))) (ports : List Port) (v : ℕ) (distance : Option ℕ) (h : ℕ) : Type 0 where
-  pub port : Port
-  pub among : Contains ports port
-  pub is_at : IsPortAt rows v distance port
-  pub leads : port.vertex ≡ h
+-- h has one of the ports
+abbrev pub IsEndAt : List (List (Option ℕ)) → List Port → Aim → ℕ → Type 0
+IsEndAt rows ports aim h = SomeLeadsTo (IsEnd rows aim) ports h
 
 -- what is known of the walks that begin on a segment: how far the nearest of its vertices is from v, and which are
 pub record AreWalksFrom (rows : List (List (Option ℕ))) (ports : List Port) (count : ℕ) (reach : Reach) : Type 0 where
   pub distances : (v : ℕ) → v < count → IsCheapestCost (beyond_port rows v) ports (distance_of reach v)
-  pub hops : (v h : ℕ) → v < count → HasHop reach v h ↔ IsEndAt rows ports v (distance_of reach v) h
+  pub hops : (v d h : ℕ) → v < count → distance_of reach v ≡ Some d → HasHop reach v h ↔ IsEndAt rows ports (record { vertex = v; distance = d }) h
 
 -- what is known of the walks from the segment of this place
 abbrev pub reach_at : List Reach → ℕ → Reach
 reach_at beyond place = slice_index_or beyond place (record { distances = []; hops = [] })
 
--- it is known of each segment below n
-pub record KnowsBeyond (rows : List (List (Option ℕ))) (segments : List (List Port)) (count n : ℕ) (beyond : List Reach) : Type 0 where
-  pub long : length beyond ≡ n
-  pub each : (i : ℕ) → i < n → AreWalksFrom rows (segment_at segments i) count (reach_at beyond i)
+-- a segment of more than two ports
+abbrev pub IsLan : List Port → Type 0
+IsLan ports = 2 < length ports
+
+-- so many vertices, their segments, how far the vertices are from each other, and the walks that begin on the segments
+pub record Mesh : Type 0 where
+  pub count : ℕ
+  pub segments : List (List Port)
+  pub rows : List (List (Option ℕ))
+  pub beyond : List Reach
+
+-- the walks are known of each LAN among the first n segments
+pub record KnowsBeyond (mesh : Mesh) (n : ℕ) : Type 0 where
+  pub long : length mesh.beyond ≡ n
+  pub each : (i : ℕ) → i < n → IsLan (segment_at mesh.segments i) → AreWalksFrom mesh.rows (segment_at mesh.segments i) mesh.count (reach_at mesh.beyond i)
+
+-- it is so of all
+pub record IsMesh (mesh : Mesh) : Type 0 where
+  pub ports : AreSegments mesh.count mesh.segments
+  pub rows : AreDistanceRows (SendsAcross mesh.segments) mesh.count mesh.count mesh.rows
+  pub beyond : KnowsBeyond mesh (length mesh.segments)
+
+-- a segment has at most a port of another vertex besides those of this one, and `to` has one
+pub record IsFarEnd (ports : List Port) (vertex to : ℕ) : Type 0 where
+  pub few : length ports ≤ 2
+  pub port : Any (λ p. p.vertex ≡ to) ports
+  pub only : (p : Port) → Contains ports p → (p.vertex ≡ vertex) ⊎ (p.vertex ≡ to)
 
 -- the outlet is a port of the root
 pub record IsOutlet (segments : List (List Port)) (root : ℕ) (outlet : Outlet) : Type 0 where
@@ -45,6 +67,7 @@ pub record IsOutlet (segments : List (List Port)) (root : ℕ) (outlet : Outlet)
   pub among : Contains (segment_at segments outlet.place) port
   pub vertex : port.vertex ≡ root
   pub costs : port.cost ≡ outlet.cost
+  pub leads : MatchOption outlet.to (IsLan (segment_at segments outlet.place)) (IsFarEnd (segment_at segments outlet.place) root)
 
 -- one of the outlets leads onto the segment of this place at this cost
 pub record HasOutlet (outlets : List Outlet) (place cost : ℕ) : Type 0 where
@@ -63,36 +86,42 @@ pub record AreOutlets (segments : List (List Port)) (root n : ℕ) (outlets : Li
   pub each : (outlet : Outlet) → Contains outlets outlet → IsOutlet segments root outlet
   pub every : (i : ℕ) → i < n → ListsPorts (segment_at segments i) i root outlets
 
+-- the outlets of each vertex in the first n segments
+abbrev pub AreOutletsBefore : List (List Port) → ℕ → List (List Outlet) → Type 0
+AreOutletsBefore segments n all = (u : ℕ) → u < length all → AreOutlets segments u n (slice_index_or all u [])
+
 -- the outlets of each vertex below n
 pub record AreAllOutlets (segments : List (List Port)) (n : ℕ) (all : List (List Outlet)) : Type 0 where
   pub long : length all ≡ n
   pub each : (u : ℕ) → u < n → AreOutlets segments u (length segments) (slice_index_or all u [])
 
--- a whole distance is a cost and the rest
-pub record IsSumOf (cost : ℕ) (rest whole : Option ℕ) : Type 0 where
-  pub beyond : ℕ
-  pub rest_is : rest ≡ Some beyond
-  pub whole_is : whole ≡ Some (cost + beyond)
+-- what is left behind a cost
+pub record IsBehind (aim : Aim) (cost : ℕ) (rest : Aim) : Type 0 where
+  pub vertex : rest.vertex ≡ aim.vertex
+  pub sum : cost + rest.distance ≡ aim.distance
 
--- v is as far as the outlet costs and it is from the nearest vertex of its segment, which h is
-pub record GoesOver (beyond : List Reach) (outlet : Outlet) (v : ℕ) (distance : Option ℕ) (h : ℕ) : Type 0 where
-  pub sum : IsSumOf outlet.cost (distance_of (reach_at beyond outlet.place) v) distance
-  pub hop : HasHop (reach_at beyond outlet.place) v h
+-- h has a port of the outlet's segment, and behind the cost of the outlet it is as far from what is looked for
+pub record GoesOver (mesh : Mesh) (aim : Aim) (outlet : Outlet) (h : ℕ) : Type 0 where
+  pub rest : Aim
+  pub behind : IsBehind aim outlet.cost rest
+  pub end : IsEndAt mesh.rows (segment_at mesh.segments outlet.place) rest h
 
--- this is so of one of the outlets
-pub record GoesOut (beyond : List Reach) (outlets : List Outlet) (v : ℕ) (distance : Option ℕ) (h : ℕ) : Type 0 where
-  pub outlet : Outlet
-  pub among : Contains outlets outlet
-  pub over : GoesOver beyond outlet v distance h
+-- it goes over one of the outlets
+abbrev pub GoesOut : Mesh → List Outlet → Aim → ℕ → Type 0
+GoesOut mesh outlets aim h = SomeLeadsTo (GoesOver mesh aim) outlets h
 
--- the hop lists of the vertices below n
-pub record AreListsBelow (beyond : List Reach) (outlets : List Outlet) (distances : List (Option ℕ)) (n : ℕ) (hops : List (List ℕ)) : Type 0 where
-  pub long : length hops ≡ n
-  pub lists : (w : ℕ) → w < n → (h : ℕ) → Contains (slice_index_or hops w []) h ↔ GoesOut beyond outlets w (distance_at distances w) h
-  pub ascending : AreAscending hops
+-- over the outlet what is looked for is no nearer than it is
+abbrev pub IsNoNearer : Mesh → Outlet → Aim → Type 0
+IsNoNearer mesh outlet aim = (port : Port) (d : ℕ) → Contains (segment_at mesh.segments outlet.place) port →
+    beyond_port mesh.rows aim.vertex port ≡ Some d → aim.distance ≤ outlet.cost + d
 
--- the hop lists of all vertices, or none where there is no outlet
-pub record AreHopsOut (beyond : List Reach) (outlets : List Outlet) (count : ℕ) (reach : Reach) : Type 0 where
-  pub listed : ℕ
-  pub lists : AreListsBelow beyond outlets reach.distances listed reach.hops
-  pub all : (listed ≡ count) ⊎ (length outlets ≡ 0)
+-- h is the end of a link, and what is looked for is as far from it
+pub record IsLinkEnd (rows : List (List (Option ℕ))) (rest : Aim) (to h : ℕ) : Type 0 where
+  pub far : distance_between rows to rest.vertex ≡ Some rest.distance
+  pub is : to ≡ h
+
+-- where an outlet leads over a link, the end of this is the only one behind its cost; else it leads onto a LAN
+abbrev pub EndsAlone : Mesh → Outlet → Aim → Type 0
+EndsAlone mesh outlet aim = MatchOption outlet.to (IsLan (segment_at mesh.segments outlet.place))
+    (λ to. (rest : Aim) (h : ℕ) → IsBehind aim outlet.cost rest →
+    IsEndAt mesh.rows (segment_at mesh.segments outlet.place) rest h ↔ IsLinkEnd mesh.rows rest to h)

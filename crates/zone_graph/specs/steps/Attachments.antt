@@ -1,10 +1,9 @@
 -- The links of all routers, and the segments that those of one subnet make.
-use Rattle.std.specs.Prelude.{◌≡◌, ◌≢◌, ℕ, ◌<◌, ◌↔◌, ◌⊎◌, List, Contains, length}
+use Rattle.std.specs.Prelude.{◌≡◌, ◌≢◌, ℕ, ◌<◌, ◌↔◌, ◌⊎◌, List, Contains}
 use Rattle.net_model.specs.Configuration.{Configuration}
-use Rattle.net_model.specs.Network.{Network, HasConfiguration, MayJoin, Adjacent}
+use Rattle.net_model.specs.Network.{Network, HasConfiguration, MayJoin}
 use Rattle.net_model.specs.declared.interface.Interface.{Interface}
 use Rattle.net_model.specs.declared.zone.Zone.{Zone}
-use Rattle.walk_core.specs.Segments.{AreSegments, SendsAcross}
 use Rattle.walk_core.specs.declared.segment.Port.{Port}
 use Rattle.zone_graph.specs.steps.LinkLists.{IsLinkOf}
 use Rattle.zone_graph.specs.declared.attachments.Attachment.{Attachment}
@@ -93,8 +92,3 @@ pub record IsOfAttachments (all : List Attachment) (segment : List Port) : Type 
 pub record AreTheSegments (all : List Attachment) (segments : List (List Port)) : Type 0 where
   pub sound : (segment : List Port) → Contains segments segment → IsOfAttachments all segment
   pub every : (a b : Attachment) → Contains all a → Contains all b → AreOfOneSegment a b → a.router ≢ b.router → HasBoth segments a b
-
--- the segments of a zone stand for the adjacencies of the network in it
-pub record AreZoneSegments (net : Network) (zone : Zone) (segments : List (List Port)) : Type 0 where
-  pub ports : AreSegments (length net) segments
-  pub exact : (u v cost : ℕ) → SendsAcross segments u v cost ↔ Adjacent net zone u v cost

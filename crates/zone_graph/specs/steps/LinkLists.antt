@@ -1,5 +1,5 @@
 -- The interfaces of routers that may take part in an adjacency, as links.
-use Rattle.std.specs.Prelude.{◌≡◌, ◌≤◌, ◌↔◌, ℕ, List, Option, Some, Contains, Any}
+use Rattle.std.specs.Prelude.{◌≡◌, ◌↔◌, ℕ, List, Option, Some, Contains, Any}
 use Rattle.net_model.specs.Links.{IsLink}
 use Rattle.net_model.specs.Network.{Network, HasConfiguration, cost_in}
 use Rattle.net_model.specs.Configuration.{Configuration}
@@ -24,8 +24,3 @@ AreLinksOf zone interfaces links = (link : Link) → Contains links link ↔ Any
 -- these are the links of router u
 abbrev pub AreRouterLinks : Network → Zone → ℕ → List Link → Type 0
 AreRouterLinks net zone u links = (c : Configuration) → HasConfiguration net u c → AreLinksOf zone c.interfaces links
-
--- an interface may take part in an adjacency of the zone, and costs at least this
-pub record CostsAtLeast (zone : Zone) (cost : ℕ) (i : Interface) : Type 0 where
-  pub link : IsLink zone i
-  pub costs : cost ≤ cost_in zone i

@@ -1,4 +1,4 @@
-use Rattle.std.proofs.Common.{◌≡◌, ◌++◌, ◌∷◌, [], ◌+◌, ℕ, List, take, get_or, set, true, sym, subst}
+use Rattle.std.proofs.Common.{◌≡◌, None, ◌++◌, ◌∷◌, [], ◌+◌, ℕ, List, take, get_or, set, true, sym, subst}
 use Rattle.std.proofs.lemmas.List.{take_more, take_all}
 use Rattle.walk_core.specs.steps.Flooding.{MarksStale}
 use Rattle.walk_core.specs.declared.outlets.Outlet.{Outlet}
@@ -10,7 +10,7 @@ loop-outlet-init c = no_marks c.args.outlets.now c.args.stale.now
 
 pub loop-outlet-preserved : goal.loop-outlet-preserved
 loop-outlet-preserved c =
-    let none : Outlet = record { place = 0; cost = 0 } in
+    let none : Outlet = record { place = 0; cost = 0; to = None } in
     let outlets : List Outlet = c.args.outlets.now in
     let i : ℕ = c.loop-outlet.outlet-index in
     let outlet : Outlet = get_or outlets i none in

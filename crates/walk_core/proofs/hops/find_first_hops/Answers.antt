@@ -1,52 +1,45 @@
-use Rattle.std.proofs.Common.{◌≡◌, ℕ, [], ◌∷◌, ◌++◌, Contains, arith, ap, ◌∙◌, get_or, Vec, Global}
-use Rattle.std.proofs.lemmas.List.Elements.{Contains-get_or, Contains-push, Contains-append_left}
+use Rattle.std.proofs.Common.{◌≡◌, ℕ, [], List, Vec, Global, get_or, refl, sym, ap, subst, ◌∙◌}
 use Rattle.std.proofs.lemmas.List.{get_or_default}
 use Rattle.walk_core.specs.declared.hops.Departure.{Departure}
-use Rattle.walk_core.specs.steps.Departures.{Begins}
-use Rattle.walk_core.proofs.DepartureLaws.{hops_begin_more, hops_listed_more}
+use Rattle.walk_core.specs.steps.Adding.{AddsNumbers}
+use Rattle.walk_core.specs.steps.Departures.{Begins, BeginsAt}
+use Rattle.walk_core.proofs.AddingLaws.{adds_nothing, adds_one, adds_to_none, leads_all, leads_more, leads_nowhere}
 use Rattle.walk_core.proofs.hops.find_first_hops.Goals as goal
 use Rattle.walk_core.proofs.hops.find_first_hops.Goals.{then-begins+in_ok-push, else-begins}
 
+pub loop-departure-init : goal.loop-departure-init
+loop-departure-init c =
+    let Leads : Departure → ℕ → Type 0 = λ d n. Begins c.args.rows.now d c.args.v c.args.distance × (d.to ≡ n) in
+    subst (λ (l : List ℕ). AddsNumbers (BeginsAt [] c.args.rows.now c.args.v c.args.distance) [] l) (sym c.clear.ensures.items)
+    (leads_nowhere Leads c.args.departures.now [])
+
 pub loop-departure-preserved : goal.loop-departure-preserved
 loop-departure-preserved c =
-    let before = c.loop-departure.invariant in
-    let ds = c.args.departures.now in
-    let hops = c.loop-departure.found.items in
-    let i = c.loop-departure.departure-index in
+    let Leads : Departure → ℕ → Type 0 = λ d n. Begins c.args.rows.now d c.args.v c.args.distance × (d.to ≡ n) in
     let none : Departure = record { to = 0; cost = 0 } in
+    let ds : List Departure = c.args.departures.now in
+    let i : ℕ = c.loop-departure.departure-index in
     let item : Departure = get_or ds i none in
-    let is : item ≡ get_or ds i item = get_or_default ds i none item c.loop-departure-test.true in
-    let among : Contains ds item = Contains-get_or ds i none c.loop-departure-test.true in
+    let now : List ℕ = c.loop-departure.found.items in
     let items = λ (all : Vec ℕ Global). all.items in
-    elim c.if-begins.branch [
+    let step : AddsNumbers (Leads item) now c.if-begins.found.items = elim c.if-begins.branch [
       | then-begins+in_ok-push w ↦
-          let begins : Begins c.args.rows.now item c.args.v c.args.distance = c.begins.ensures.0 w.if-begins.true in
-          let e : c.if-begins.found.items ≡ hops ++ item.to ∷ [] =
-          ap items w.found-is ∙ w.in_ok-push.ensures.items
-          in
-          rw e (record {
-            begin = hops_begin_more ds c.args.rows.now c.args.v c.args.distance hops item before.begin among begins;
-            listed = hops_listed_more ds c.args.rows.now c.args.v c.args.distance hops (hops ++ item.to ∷ []) i item
-                c.loop-departure-test.true is
-                (λ h is. Contains-append_left hops (item.to ∷ []) h is)
-                (λ b. Contains-push hops item.to) before.listed;
-          })
+          subst (λ (l : List ℕ). AddsNumbers (Leads item) now l) (sym (ap items w.found-is ∙ w.in_ok-push.ensures.items))
+          (adds_one (Leads item) now item.to (c.begins.ensures.0 w.if-begins.true, refl) (λ h leads. leads.1))
       | else-begins w ↦
-          let e : c.if-begins.found.items ≡ hops = ap items w.found-is in
-          rw e (record {
-            begin = before.begin;
-            listed = hops_listed_more ds c.args.rows.now c.args.v c.args.distance hops hops i item
-                c.loop-departure-test.true is (λ h is. is)
-                (λ b. let yes = c.begins.ensures.1 b in let no = w.if-begins.false in absurd (cc (yes, no))) before.listed;
-          })
-    ]
+          subst (λ (l : List ℕ). AddsNumbers (Leads item) now l) (sym (ap items w.found-is))
+          (adds_nothing (Leads item) now (λ h leads. let yes = c.begins.ensures.1 leads.0 in let no = w.if-begins.false in cc (yes, no)))
+    ] in
+    leads_more Leads ds i item [] now c.if-begins.found.items c.loop-departure-test.true (get_or_default ds i item none c.loop-departure-test.true)
+    c.loop-departure.invariant step
 
 pub returns-clause-exact : goal.returns-clause-exact
-returns-clause-exact c h = (
-  λ has. c.loop-departure.invariant.begin h ((c.put_in_order.ensures.kept h).0 has),
-  λ at.
-      let listed : Contains c.loop-departure.found.items at.departure.to =
-      c.loop-departure.invariant.listed at.among.0 (omega (arith, at.among.1)) at.departure at.among.2 at.begins
-      in
-      (c.put_in_order.ensures.kept h).1 (rw at.leads at listed),
-)
+returns-clause-exact c h =
+    let Leads : Departure → ℕ → Type 0 = λ d n. Begins c.args.rows.now d c.args.v c.args.distance × (d.to ≡ n) in
+    let found : List ℕ = c.loop-departure.found.items in
+    let adds : AddsNumbers (BeginsAt c.args.departures.now c.args.rows.now c.args.v c.args.distance) [] found =
+    leads_all Leads c.args.departures.now c.loop-departure.departure-index [] found c.loop-departure-test.false c.loop-departure.invariant in
+    let are = adds_to_none (BeginsAt c.args.departures.now c.args.rows.now c.args.v c.args.distance) [] found refl adds h in (
+      λ has. are.0 ((c.put_in_order.ensures.kept h).0 has),
+      λ at. (c.put_in_order.ensures.kept h).1 (are.1 at),
+    )

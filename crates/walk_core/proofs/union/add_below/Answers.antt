@@ -1,18 +1,27 @@
-use Rattle.std.proofs.Common.{ap, ◌∙◌, refl, arith}
+use Rattle.std.proofs.Common.{ℕ, ◌∙◌, List, get_or, ap, refl, sym, subst, arith}
 use Rattle.std.specs.Vec.{vec_len, vec_capacity}
-use Rattle.walk_core.proofs.HopLists.{adds_no_hops, adds_hop, adds_no_hop, adds_all}
+use Rattle.std.proofs.lemmas.List.{get_or_default}
+use Rattle.walk_core.specs.steps.Adding.{AddsNumbers}
+use Rattle.walk_core.proofs.AddingLaws.{IsBelow, adds_below, adds_nothing, adds_one, leads_all, leads_more, leads_nowhere}
 use Rattle.walk_core.proofs.union.add_below.Goals as goal
 use Rattle.walk_core.proofs.union.add_below.Goals.{then-number-count, else-number-count}
 
 pub loop-number-init : goal.loop-number-init
-loop-number-init c = (adds_no_hops c.args.numbers.now.items c.args.count c.args.list.now, (omega (arith, c.requires), refl))
+loop-number-init c = (leads_nowhere (IsBelow c.args.count) c.args.list.now c.args.numbers.now.items, (omega (arith, c.requires), refl))
 
 pub loop-number-preserved : goal.loop-number-preserved
 loop-number-preserved c =
+    let i : ℕ = c.loop-number.number-index in
+    let list : List ℕ = c.args.list.now in
+    let x : ℕ = get_or list i 0 in
+    let now : List ℕ = c.loop-number.numbers.items in
+    let P : ℕ → Type 0 = IsBelow c.args.count x in
+    let more = leads_more (IsBelow c.args.count) list i x c.args.numbers.now.items now c.if-number-count.numbers.items c.loop-number-test.true
+    (get_or_default list i x 0 c.loop-number-test.true) c.loop-number.invariant.0 in
     elim c.if-number-count.branch [
       | then-number-count w ↦ (
-        adds_hop c.args.numbers.now.items c.loop-number.numbers.items c.if-number-count.numbers.items c.args.count _ c.loop-number.number-index
-            c.loop-number-test.true c.loop-number.invariant.0 w.if-number-count.true (ap (λ v. v.items) w.numbers-is ∙ w.push_reserved.ensures.items),
+        more (subst (λ (l : List ℕ). AddsNumbers P now l) (sym (ap (λ v. v.items) w.numbers-is ∙ w.push_reserved.ensures.items))
+            (adds_one P now x (w.if-number-count.true, refl) (λ h below. below.1))),
         (
           omega (
             arith,
@@ -27,8 +36,8 @@ loop-number-preserved c =
         ),
       )
       | else-number-count w ↦ (
-        adds_no_hop c.args.numbers.now.items c.loop-number.numbers.items c.if-number-count.numbers.items c.args.count _ c.loop-number.number-index
-            c.loop-number-test.true c.loop-number.invariant.0 w.if-number-count.false (ap (λ v. v.items) w.numbers-is),
+        more (subst (λ (l : List ℕ). AddsNumbers P now l) (sym (ap (λ v. v.items) w.numbers-is))
+            (adds_nothing P now (λ h below. omega (arith, below.0, below.1, w.if-number-count.false)))),
         (
           omega (arith, ap vec_len w.numbers-is, ap vec_capacity w.numbers-is, c.loop-number-test.true, c.loop-number.invariant.1.0),
           ap vec_capacity w.numbers-is ∙ c.loop-number.invariant.1.1,
@@ -38,5 +47,6 @@ loop-number-preserved c =
 
 pub returns-clause-added : goal.returns-clause-added
 returns-clause-added c =
-    adds_all c.args.numbers.now.items c.loop-number.numbers.items c.args.count c.args.list.now c.loop-number.number-index c.loop-number-test.false
-    c.loop-number.invariant.0
+    adds_below c.args.count c.args.list.now c.args.numbers.now.items c.loop-number.numbers.items
+    (leads_all (IsBelow c.args.count) c.args.list.now c.loop-number.number-index c.args.numbers.now.items c.loop-number.numbers.items
+    c.loop-number-test.false c.loop-number.invariant.0)

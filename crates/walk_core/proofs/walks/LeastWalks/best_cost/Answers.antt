@@ -1,16 +1,22 @@
-use Rattle.std.proofs.Common.{MatchOption, List, subst}
-use Rattle.std.proofs.lemmas.List.{take_all}
-use Rattle.walk_core.specs.BestOffers.{IsBestTotal, NoneTotals}
+use Rattle.std.proofs.Common.{get_or}
+use Rattle.std.proofs.lemmas.List.{get_or_default}
+use Rattle.walk_core.specs.BestOffers.{total_towards}
 use Rattle.walk_core.specs.declared.offers.Offer.{Offer}
-use Rattle.walk_core.proofs.OfferLaws.{best_step}
+use Rattle.walk_core.proofs.CheapestLaws.{nothing_costs, cheapest_step, cheapest_end}
+use Rattle.walk_core.proofs.OfferLaws.{best_of_cheapest}
 use Rattle.walk_core.proofs.walks.LeastWalks.best_cost.Goals as goal
+
+pub loop-offer-init : goal.loop-offer-init
+loop-offer-init c = nothing_costs (total_towards c.args.self.now)
 
 pub loop-offer-preserved : goal.loop-offer-preserved
 loop-offer-preserved c =
-    best_step c.args.self.now c.args.offers.now c.loop-offer.offer-index _ c.loop-offer.best c.total.result c.least_of-best.result c.loop-offer-test.true
-    c.total.ensures c.least_of-best.ensures c.loop-offer.invariant
+    let none : Offer = record { at = 0; asks = 0 } in
+    let i = c.loop-offer.offer-index in
+    let offer : Offer = get_or c.args.offers.now i none in
+    cheapest_step (total_towards c.args.self.now) c.args.offers.now i offer c.loop-offer.best c.total.result c.least_of-best.result c.loop-offer-test.true
+    (get_or_default c.args.offers.now i offer none c.loop-offer-test.true) c.total.ensures c.least_of-best.ensures c.loop-offer.invariant
 
 pub returns : goal.returns
-returns c =
-    subst (λ (l : List Offer). MatchOption c.loop-offer.best (NoneTotals c.args.self.now l) (IsBestTotal c.args.self.now l))
-    (take_all c.loop-offer.offer-index c.args.offers.now c.loop-offer-test.false) c.loop-offer.invariant
+returns c = best_of_cheapest c.args.self.now c.args.offers.now c.loop-offer.best
+    (cheapest_end (total_towards c.args.self.now) c.args.offers.now c.loop-offer.offer-index c.loop-offer.best c.loop-offer-test.false c.loop-offer.invariant)

@@ -2,7 +2,7 @@ use Rattle.std.proofs.Common.{ℕ, List, length, sym, subst}
 use Rattle.walk_core.specs.Reach.{AreWalksBelow}
 use Rattle.walk_core.specs.Segments.{AreSegments, SendsAcross}
 use Rattle.walk_core.specs.declared.segment.Port.{Port}
-use Rattle.zone_graph.specs.steps.Attachments.{AreZoneSegments}
+use Rattle.zone_graph.specs.Segments.{AreZoneSegments}
 use Rattle.zone_graph.proofs.WalkFacts.{are_zone_walks}
 use Rattle.zone_graph.proofs.zone_walks.ZoneWalks.build.Goals as goal
 
