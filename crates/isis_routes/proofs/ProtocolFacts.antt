@@ -1,21 +1,21 @@
 -- What IS-IS gives routers keeps what every protocol keeps.
-use Rattle.std.proofs.Common.{◌≡◌, ℕ, ◌<◌, ◌≤◌, ◌↔◌, inl, inr, List, length, Option, Some, None, MatchOption, IsTrue, false, get_or, refl, sym, arith}
+use Rattle.std.proofs.Common.{ℕ, ◌<◌, ◌≤◌, inl, inr, List, ◌++◌, length, get_or, arith}
 use Rattle.std.specs.List.{Contains}
-use Rattle.std.specs.Option.{is_some}
 use Rattle.std.specs.List.Sorted.{IsStrictlyIncreasing}
-use Rattle.std.proofs.lemmas.Bool.{false≢true}
 use Rattle.std.proofs.lemmas.List.Elements.{Contains-get_or}
 use Rattle.net_addr.specs.Addresses.{Block}
 use Rattle.net_model.proofs.NetworkFacts.{Adjacent-to_within}
-use Rattle.net_model.specs.Network.{Network, Adjacent}
-use Rattle.net_model.specs.Lookups.{LeastArc}
+use Rattle.net_model.specs.Network.{Network}
 use Rattle.net_model.specs.declared.zone.Zone.TheVariants.{One as ZoneOne, Two as ZoneTwo}
 use Rattle.route_core.specs.Tables.{AreLinkedHops}
 use Rattle.route_core.specs.declared.entry.Entry.TheVariants.{Via}
 use Rattle.igp_theory.specs.Isis.{IsisEntry, level_one, level_two, down, default_route}
 use Rattle.igp_theory.specs.Laws.{IsIsisNeighbor}
 use Rattle.igp_theory.proofs.TableLaws.{isis_entry_unique, isis_entry_forwards, isis_hop_is_neighbor}
-use Rattle.route_tables.specs.Entries.{IsLawful}
+use Rattle.route_tables.specs.Entries.{AreJoinedBy, IsLawful}
+use Rattle.route_tables.proofs.JoinedLaws.{joined_both}
+use Rattle.walk_core.specs.declared.segment.Port.{Port}
+use Rattle.zone_graph.specs.Segments.{AreZoneSegments}
 
 -- Neighbors
 
@@ -26,21 +26,19 @@ neighbor_is_router net u v is = elim is.adjacent [
   | inr two ↦ Adjacent-to_within net ZoneTwo u v is.cost two
 ]
 
--- two routers are neighbors where some arc leads from one to the other in either level
-pub neighbor_by_one : (net : Network) (u v : ℕ) (one : Option ℕ) → MatchOption one ((c : ℕ) → Adjacent net ZoneOne u v c → ⊥) (LeastArc net ZoneOne u v) →
-    IsTrue (is_some one) → IsIsisNeighbor net u v
-neighbor_by_one net u v None none wrong = absurd (false≢true wrong)
-neighbor_by_one net u v (Some c) least _ = record { cost = c; adjacent = inl least.adjacent }
-
-pub neighbor_by_two : (net : Network) (u v : ℕ) (one two : Option ℕ) →
-    MatchOption one ((c : ℕ) → Adjacent net ZoneOne u v c → ⊥) (LeastArc net ZoneOne u v) → is_some one ≡ false →
-    MatchOption two ((c : ℕ) → Adjacent net ZoneTwo u v c → ⊥) (LeastArc net ZoneTwo u v) → IsTrue (is_some two) ↔ IsIsisNeighbor net u v
-neighbor_by_two net u v (Some c) two least wrong found = absurd (false≢true (sym wrong))
-neighbor_by_two net u v None None without_level_one _ no_two = (
-  λ yes. absurd (false≢true yes),
-  λ is. elim is.adjacent [ inl one ↦ absurd (without_level_one is.cost one) | inr two ↦ absurd (no_two is.cost two) ],
+-- the segments of both levels join neighbors, and no others
+pub joined_in_levels : (net : Network) (one two : List (List Port)) → AreZoneSegments net ZoneOne one → AreZoneSegments net ZoneTwo two →
+    AreJoinedBy (IsIsisNeighbor net) (one ++ two)
+joined_in_levels net one two in_one in_two u v = (
+  λ joined. elim ((joined_both one two u v).0 joined) [
+    | inl first ↦ record { cost = first.cost; adjacent = inl ((in_one.exact u v first.cost).0 first.sends) }
+    | inr second ↦ record { cost = second.cost; adjacent = inr ((in_two.exact u v second.cost).0 second.sends) }
+  ],
+  λ is. (joined_both one two u v).1 (elim is.adjacent [
+    | inl first ↦ inl (record { cost = is.cost; sends = (in_one.exact u v is.cost).1 first })
+    | inr second ↦ inr (record { cost = is.cost; sends = (in_two.exact u v is.cost).1 second })
+  ]),
 )
-neighbor_by_two net u v None (Some c) without_level_one _ least = (λ _. record { cost = c; adjacent = inr least.adjacent }, λ _. refl)
 
 -- Entries
 

@@ -3,7 +3,6 @@ ghost use Rattle.net_model.specs.Network.{Adjacent};
 ghost use Rattle.walk_core.specs.BestOffers.{ListsOffer};
 ghost use Rattle.walk_core.specs.Offers.{BestCost};
 ghost use Rattle.igp_theory.specs.Isis.{Leaks, OffersDefault, RunsLevelOne, RunsLevelTwo};
-ghost use Rattle.igp_theory.specs.Laws.{IsIsisNeighbor};
 ghost use Rattle.route_tables.specs.Lists.{Exactly};
 ghost use Rattle.route_tables.specs.Routings.{ForwardsBy, IsRouteFor};
 ghost use Rattle.isis_routes.specs.steps.Domain.{IsKnown};
@@ -19,7 +18,7 @@ use crate::level_walks::LevelWalks;
 use crate::runs::{
     leaking_routers, routers_of_both_levels, runs_level_one, runs_level_one_alone, runs_level_two,
 };
-use net_model::{Net, Zone};
+use net_model::Net;
 use route_tables::{Route, best_route};
 use std::alloc::Global;
 use std::marker::Model;
@@ -155,17 +154,5 @@ impl<'a> Domain<'a> {
         let number = level.zone();
         let walks = self.walks(router, number);
         best_route(alloc, walks, number, offers, self.net().routers())
-    }
-
-    /// Whether a router is adjacent to another one in either level.
-    pub fn are_neighbors(&self, router: u32, other: u32) -> bool
-        requires from_router { router < length self.now.net }
-        requires to_router { other < length self.now.net }
-        ensures { IsTrue result ↔ IsIsisNeighbor self.now.net router other }
-    {
-        let net = self.net;
-        let walks = &self.walks;
-        walks.one.arc(net, Zone::One, router, other).is_some()
-            || walks.two.arc(net, Zone::Two, router, other).is_some()
     }
 }

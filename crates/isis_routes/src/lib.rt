@@ -10,10 +10,11 @@
 //! 4. `announcements.rt`: what is announced into level 2 (RFC 1195, section 3.2).
 //! 5. `leaked.rt`: what is announced into level 1, marked down (RFC 5302).
 //! 6. `alike.rt`: prefixes with the same routes.
-//! 7. `entry.rt`: the level 1 route, else the level 2 route, else the down route, else the default.
+//! 7. `segments.rt`: who is adjacent to whom.
+//! 8. `entry.rt`: the level 1 route, else the level 2 route, else the down route, else the default.
 //!
 //! Steps 2 to 6 take time of the connected prefixes of all routers, and of prefixes times the routers that run both
-//! levels; step 7 of routers times prefixes that aren't alike times the offers of a prefix.
+//! levels; step 8 of routers times prefixes that aren't alike times the offers of a prefix.
 #![tactic(auto)]
 
 mod alike;
@@ -32,6 +33,7 @@ mod offers;
 mod protocol;
 mod routes;
 mod runs;
+mod segments;
 
 pub use route_tables::OutOfMemory;
 pub use routes::IsisRoutes;

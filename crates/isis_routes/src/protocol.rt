@@ -5,12 +5,13 @@ use crate::alike::{earlier_alike, named_at};
 use crate::destinations::{Destination, destinations};
 use crate::domain::Domain;
 use crate::entry::route_of;
+use crate::segments::level_segments;
 use net_addr::Prefix;
 use net_model::Net;
 use route_tables::{Protocol, Route};
 use std::alloc::Global;
 use std::marker::Model;
-use walk_core::LeastWalks;
+use walk_core::{LeastWalks, Segment};
 
 /// IS-IS on a network: what its routers know, also of each prefix that may have entries, and for each an earlier one
 /// with the same routes, where one is known.
@@ -96,7 +97,7 @@ impl<'a> Protocol for Isis<'a> {
         self.domain.walks(router, zone)
     }
 
-    fn is_neighbor(&self, router: u32, other: u32) -> bool {
-        self.domain.are_neighbors(router, other)
+    fn segments(&self, alloc: Global) -> Result<Vec<Segment>, OutOfMemory> {
+        level_segments(alloc, self.domain.net())
     }
 }

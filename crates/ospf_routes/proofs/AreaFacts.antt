@@ -18,6 +18,7 @@ use Rattle.zone_graph.specs.Walks.{AreZoneWalks}
 use Rattle.igp_theory.specs.Ospf.{ListensTo, backbone, one_area}
 use Rattle.igp_theory.proofs.TableLaws.{listens_to_one_area}
 use Rattle.ospf_routes.specs.steps.Areas.{RunsOther, HasArea, HasWalks, AreNumbered, AreAreas, AreListeners, IsListener, IsReach}
+use Rattle.ospf_routes.specs.steps.Members.{AreMembersBelow}
 use Rattle.ospf_routes.specs.Lists.{Adds}
 use Rattle.ospf_routes.specs.declared.areas.AreaWalks.{AreaWalks}
 use Rattle.route_tables.proofs.ListFacts.{any_of, any_in}
@@ -45,12 +46,19 @@ has_area_left : (areas : List AreaWalks) (a : AreaWalks) (n : ℕ) → HasArea a
 has_area_left areas a n has = record { area = has.area; among = Contains-append_left areas (a ∷ []) has.area has.among; number = has.number }
 
 pub numbered_none : (net : Network) → AreNumbered net [] []
-numbered_none net = record { walks = λ k d within. absurd (omega arith); every = λ n has. absurd (omega (arith, has.1)) }
+numbered_none net = record {
+  walks = λ k d within. absurd (omega arith);
+  members = λ k d within. absurd (omega arith);
+  every = λ n has. absurd
+      (omega (arith, has.1));
+}
 
 pub numbered_more : (net : Network) (numbers : List ℕ) (areas : List AreaWalks) (a : AreaWalks) → AreNumbered net numbers areas →
-    AreZoneWalks net (Area a.number) a.walks → AreNumbered net (numbers ++ a.number ∷ []) (areas ++ a ∷ [])
-numbered_more net numbers areas a before walks = record {
+    AreZoneWalks net (Area a.number) a.walks → AreMembersBelow net a.number (length net) a.members →
+    AreNumbered net (numbers ++ a.number ∷ []) (areas ++ a ∷ [])
+numbered_more net numbers areas a before walks members = record {
   walks = All-push (λ (x : AreaWalks). AreZoneWalks net (Area x.number) x.walks) areas a before.walks walks;
+  members = All-push (λ (x : AreaWalks). AreMembersBelow net x.number (length net) x.members) areas a before.members members;
   every = λ n has. ⊎_elim
       (λ earlier. has_area_left areas a n (before.every n earlier))
       (λ same. record { area = a; among = Contains-push areas a; number = same })
@@ -62,6 +70,7 @@ pub areas_of_numbers : (net : Network) (numbers given : List ℕ) (areas : List 
 areas_of_numbers net numbers given areas network same zero every are = record {
   network = network;
   walks = are.walks;
+  members = are.members;
   backbone = are.every 0 (subst (λ (l : List ℕ). Contains l 0) (sym same) zero);
   every = λ u n inside. are.every n (subst (λ (l : List ℕ). Contains l n) (sym same) (every u n inside));
 }

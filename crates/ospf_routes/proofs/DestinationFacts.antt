@@ -43,5 +43,6 @@ same_dest ds all k d s same within is_d is_s =
     let many : length all ≡ length ds = as_many ds all same in
     let one : get_or (map (λ (x : Summaries). x.dest) all) k p ≡ s.dest = get_or-map (λ (x : Summaries). x.dest) all k s p (omega arith)
     ∙ ap (λ (x : Summaries). x.dest) (sym is_s) in
-    let other : get_or (ospf_prefixes ds) k p ≡ d.dest = get_or-map (λ (x : Destination). x.dest) ds k d p within ∙ ap (λ (x : Destination). x.dest) (sym is_d) in
+    let other : get_or (ospf_prefixes ds) k p ≡ d.dest = get_or-map (λ (x : Destination). x.dest) ds k d p within ∙ ap (λ (x : Destination). x.dest)
+    (sym is_d) in
     sym one ∙ ap (λ (l : List Block). get_or l k p) same ∙ other

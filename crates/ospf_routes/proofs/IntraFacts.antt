@@ -3,7 +3,7 @@ use Rattle.std.proofs.Common.{◌≡◌, ℕ, ◌↔◌, ◌⊎◌, ⊎_elim, ge
 use Rattle.std.proofs.Common.{arith}
 use Rattle.std.specs.List.{Contains, Any, All}
 use Rattle.std.proofs.lemmas.Option.{none-some}
-use Rattle.std.proofs.lemmas.List.Elements.{All-weaker, All-contains, Contains-append_left, Contains-get_or, Contains-push, Contains-push_cases}
+use Rattle.std.proofs.lemmas.List.Elements.{All-weaker, All-contains, Contains-get_or, Contains-push_cases}
 use Rattle.net_addr.specs.Addresses.{Block}
 use Rattle.net_model.proofs.NetworkFacts.{Adjacent-in_area}
 use Rattle.net_model.specs.Network.{Network, Adjacent, Connected, InArea}
@@ -27,12 +27,6 @@ use Rattle.route_tables.proofs.BestRoutes.{best_cost_is}
 use Rattle.route_tables.proofs.ListFacts.{any_of, any_in, exactly_same}
 
 -- The offers of an area
-
-pub has_part_left : (parts : List AreaOffers) (part : AreaOffers) (n : ℕ) → HasAreaPart parts n → HasAreaPart (parts ++ part ∷ []) n
-has_part_left parts part n has = record { part = has.part; among = Contains-append_left parts (part ∷ []) has.part has.among; area = has.area }
-
-pub has_part_here : (parts : List AreaOffers) (part : AreaOffers) → HasAreaPart (parts ++ part ∷ []) part.area
-has_part_here parts part = record { part = part; among = Contains-push parts part; area = refl }
 
 -- what is offered in an area
 pub part_offers : (net : Network) (p : Block) (routes given : List AreaRoute) (part : AreaOffers) →

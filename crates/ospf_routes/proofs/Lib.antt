@@ -1,8 +1,9 @@
+mod MemberFacts
 mod AreaFacts
 mod CandidateLists
 mod CostBounds
 mod SubnetFacts
-mod AdjacentFacts
+mod SegmentFacts
 mod IntraFacts
 mod RangeFacts
 mod SummaryFacts

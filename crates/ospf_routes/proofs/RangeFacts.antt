@@ -1,5 +1,5 @@
 -- Components and active ranges.
-use Rattle.std.proofs.Common.{◌≡◌, ℕ, ◌+◌, ◌<◌, ◌≤◌, ◌↔◌, inl, inr, ⊎_elim, List, [], ◌∷◌, ◌++◌, length, get_or, Option, Some, None, MatchOption, Bool, true}
+use Rattle.std.proofs.Common.{◌≡◌, ℕ, ◌+◌, ◌<◌, ◌↔◌, inl, inr, ⊎_elim, List, [], ◌∷◌, ◌++◌, length, get_or, Option, Some, None, MatchOption, Bool, true}
 use Rattle.std.proofs.Common.{false, refl, sym, ap, subst, ◌∙◌, arith, length-append}
 use Rattle.std.specs.List.{Contains, Any, All}
 use Rattle.std.proofs.lemmas.Bool.{cases_lt, false≢true}
@@ -51,28 +51,14 @@ component_is net b config given r p cost has router are covers none reached = re
 }
 
 -- and what it costs within its area is what it costs as a component
-pub component_at : (net : Network) (b : ℕ) (config : Configuration) (given : List Range) (r : Range) (p : Block) (found : ℕ) → HasRange net b r →
+pub component_at : (net : Network) (b : ℕ) (config : Configuration) (given : List Range) (r : Range) (p : Block) (found : Option ℕ) → HasRange net b r →
     HasConfiguration net b config → given ≡ config.ranges → Covers r.dest p → (Any (IsLonger r p) given → ⊥) →
-    ((cost : ℕ) → (Some found ≡ Some cost) ↔ IntraAreaCost net r.area p b cost) →
-    (cost : ℕ) → (Some found ≡ Some cost) ↔ IsComponent net b r p cost
+    ((cost : ℕ) → (found ≡ Some cost) ↔ IntraAreaCost net r.area p b cost) →
+    (cost : ℕ) → (found ≡ Some cost) ↔ IsComponent net b r p cost
 component_at net b config given r p found has router are covers none costs cost = (
   λ same. component_is net b config given r p cost has router are covers none ((costs cost).0 same),
   λ component. (costs cost).1 component.reached,
 )
-
-pub no_component_past_longer : (net : Network) (b : ℕ) (config : Configuration) (given : List Range) (r : Range) (p : Block) (cost : ℕ) → HasRange net b r →
-    HasConfiguration net b config → given ≡ config.ranges →
-    Any (IsLonger r p) given → IsComponent net b r p cost → ⊥
-no_component_past_longer net b config given r p cost has router are any component =
-    let f = any_in (IsLonger r p) given any in
-    let short : f.item.dest.len ≤ r.dest.len = component.longest f.item (range_at net b config given f.item has.border router are f.among)
-    f.holds.area f.holds.covers in
-    let longer : r.dest.len < f.item.dest.len = f.holds.longer in
-    omega arith
-
-pub no_component : (net : Network) (b : ℕ) (r : Range) (p : Block) → ((cost : ℕ) → IsComponent net b r p cost → ⊥) → (cost : ℕ) →
-    (◌≡◌ {A = Option ℕ} None (Some cost)) ↔ IsComponent net b r p cost
-no_component net b r p none cost = (λ no. absurd (none-some cost no), λ is. absurd (none cost is))
 
 -- a prefix with an intra-area cost is a subnet
 pub intra_is_candidate : (net : Network) (n : ℕ) (p : Block) (u cost : ℕ) → IntraAreaCost net n p u cost → IsOspfCandidate net p
@@ -174,9 +160,6 @@ pub record ActivesSoFar (net : Network) (b : ℕ) (front : List Range) (actives 
   pub exact : (a : ActiveRange) → Contains actives a → RangeCost net b a.range a.cost
   pub every : (r : Range) → Contains front r → IsActive net b r → HasActive actives r
 
-pub actives_none : (net : Network) (b : ℕ) → ActivesSoFar net b [] []
-actives_none net b = record { exact = λ a has. absurd (omega (arith, has.1)); every = λ r has. absurd (omega (arith, has.1)) }
-
 pub actives_more : (net : Network) (b : ℕ) (front : List Range) (r : Range) (old new : List ActiveRange) (found : Option ActiveRange) →
     ActivesSoFar net b front old →
     MatchOption found (IsActive net b r → ⊥) (IsActiveAt net b r) → Adds old new (λ a. found ≡ Some a) → ActivesSoFar net b (front ++ r ∷ []) new
@@ -219,13 +202,6 @@ actives_all net b config given actives router are so_far = record {
   where
     every : (r : Range) → IsActive net b r → HasActive actives r
     every r active = so_far.every r (range_among net b config given r router are active.component.range) active
-
--- a router that isn't a border router has none
-pub no_actives : (net : Network) (b : ℕ) → (IsBorderRouter net b → ⊥) → AreActiveRanges net b []
-no_actives net b inner = record {
-  exact = λ a. (λ has. absurd (omega (arith, has.1)), λ costs. absurd (inner (range_cost_active net b a.range a.cost costs).component.range.border));
-  every = λ r active. absurd (inner active.component.range.border);
-}
 
 -- the prefix of an active range
 pub active_range_is : (net : Network) (u : ℕ) (p : Block) (actives : List ActiveRange) → AreActiveRanges net u actives →

@@ -12,13 +12,13 @@ use Rattle.net_model.proofs.NetworkFacts.{Adjacent-to_within}
 use Rattle.net_model.specs.Network.{Network, Adjacent, InArea}
 use Rattle.net_model.specs.declared.zone.Zone.TheVariants.{Area}
 use Rattle.walk_core.specs.Walks.{Arcs}
-use Rattle.walk_core.specs.Offers.{Offers, BestCost, BestHop}
+use Rattle.walk_core.specs.Offers.{Offers, OfferCosts, BestCost, BestHop}
 use Rattle.walk_core.specs.Reach.{Reach}
 use Rattle.walk_core.specs.BestOffers.{NoneTotals}
 use Rattle.walk_core.specs.declared.offers.Offer.{Offer}
 use Rattle.walk_core.proofs.OfferLaws.{best_total_is_best_cost, none_totals_no_best}
 use Rattle.walk_core.proofs.WalkLaws.{best_hop_is_arc}
-use Rattle.igp_theory.specs.Ospf.{OffersSubnet, IntraAreaCost, IntraAreaHop, IsIntraArea, ListensTo, backbone, one_area, OfOthers, Summary, InterAreaHop}
+use Rattle.igp_theory.specs.Ospf.{OffersSubnet, IntraAreaCost, IntraAreaHop, IsActiveRange, IsIntraArea, ListensTo, backbone, one_area, OfOthers, Summary, InterAreaHop}
 use Rattle.igp_theory.proofs.TableLaws.{listens_to_one_area}
 use Rattle.ospf_routes.specs.steps.Areas.{AreAreas, HasArea, IsReach}
 use Rattle.ospf_routes.specs.steps.Offered.{AreOffers}
@@ -28,13 +28,13 @@ use Rattle.route_tables.specs.BestRoutes.{AreBestHops}
 use Rattle.ospf_routes.specs.steps.Routing.{AreUnited, AreSomeUnited, IsAreaRoute, AreAreaRoutes, IsIntraRoute, ListenedCost, IsListenedRoute}
 use Rattle.ospf_routes.specs.steps.Destinations.{HasAreaPart, IsDestination}
 use Rattle.ospf_routes.specs.declared.intra_area.Destination.{Destination}
-use Rattle.ospf_routes.specs.steps.Summarized.{AreSummaries, IsSummaryOf}
+use Rattle.ospf_routes.specs.steps.Summarized.{AreSummaries, IsHeard, IsSummaryOf}
 use Rattle.ospf_routes.specs.declared.areas.AreaWalks.{AreaWalks}
 use Rattle.ospf_routes.specs.declared.intra_area.AreaOffers.{AreaOffers}
 use Rattle.ospf_routes.specs.declared.announcements.Summaries.{Summaries}
 use Rattle.ospf_routes.proofs.CostBounds.{lists_from}
 use Rattle.ospf_routes.proofs.IntraFacts.{reaches_inside}
-use Rattle.ospf_routes.proofs.SummaryFacts.{OfReached, reached_best, reached_hop}
+use Rattle.ospf_routes.proofs.SummaryFacts.{listened_cost, listened_hop, reached_inside}
 use Rattle.route_tables.proofs.ListFacts.{any_of, any_in, any_left, any_cases, one_more}
 
 -- Within an area
@@ -103,7 +103,8 @@ area_lists_all net d given u lists is same so_far = record {
   each = so_far.each;
   every = λ n cost costs.
       let best = costs.best in
-      let has : HasAreaPart given n = subst (λ (l : List AreaOffers). HasAreaPart l n) (sym same) (is.every n best.at best.attained.asks best.attained.offered) in
+      let has : HasAreaPart given n = subst (λ (l : List AreaOffers). HasAreaPart l n) (sym same)
+      (is.every n best.at best.attained.asks best.attained.offered) in
       so_far.every n cost has costs;
 }
 
@@ -196,48 +197,55 @@ intra_route_is net p u lists given count are same counted (Some hops) some =
 
 -- Between areas
 
-pub listened_route_is : (net : Network) (n : ℕ) (p : Block) (u : ℕ) (reach : Reach) (others given : List Offer) → ListensTo net u n → IsReach net n u reach →
-    AreOffers (OfReached (Adjacent net (Area n)) (OfOthers (Summary net p n) u) u) others → given ≡ others → (count : ℕ) → count ≡ length net →
-    (found : Option (List ℕ)) → MatchOption found (NoneTotals reach given) (AreBestHops reach given count) →
+pub listened_route_is : (net : Network) (n : ℕ) (p : Block) (u : ℕ) (reach : Reach) (offers given : List Offer) → (IsIntraArea net p u → ⊥) →
+    (IsActiveRange net p u → ⊥) → ListensTo net u n → IsReach net n u reach → AreOffers (IsHeard net p n) offers → given ≡ offers → (count : ℕ) →
+    count ≡ length net → (found : Option (List ℕ)) → MatchOption found (NoneTotals reach given) (AreBestHops reach given count) →
     MatchOption found ((cost : ℕ) → ListenedCost net p u cost → ⊥) (IsListenedRoute net p u)
-listened_route_is net n p u reach others given listens is are same count counted None none = λ cost costs.
+listened_route_is net n p u reach offers given no_intra no_range listens is are same count counted None none = λ cost costs.
     let arc : Arcs = Adjacent net (Area n) in
-    let offer : Offers = OfOthers (Summary net p n) u in
-    let here : BestCost arc offer u cost = subst (λ (m : ℕ). BestCost (Adjacent net (Area m)) (OfOthers (Summary net p m) u) u cost)
+    let offer : Offers = IsHeard net p n in
+    let here : BestCost arc (OfOthers (Summary net p n) u) u cost = subst (λ (m : ℕ). BestCost (Adjacent net (Area m)) (OfOthers (Summary net p m) u) u cost)
     (listens_to_one_area costs.listens listens) costs.best in
-    none_totals_no_best arc u reach (OfReached arc offer u) given is.least (lists_from (OfReached arc offer u) others given are same) none cost
-    ((reached_best arc offer u cost).1 here)
-listened_route_is net n p u reach others given listens is are same count counted (Some hops) best =
+    none_totals_no_best arc u reach offer given is.least (lists_from offer offers given are same) none cost
+    ((listened_cost net p n u cost no_intra no_range listens).0 here)
+listened_route_is net n p u reach offers given no_intra no_range listens is are same count counted (Some hops) best =
     let arc : Arcs = Adjacent net (Area n) in
-    let offer : Offers = OfOthers (Summary net p n) u in
-    let listed = lists_from (OfReached arc offer u) others given are same in
-    let costs : BestCost arc (OfReached arc offer u) u best.cost =
-    (best_total_is_best_cost arc u reach (OfReached arc offer u) given best.cost is.least listed).0 best.best in
+    let offer : Offers = IsHeard net p n in
+    let listed = lists_from offer offers given are same in
+    let costs : BestCost arc offer u best.cost = (best_total_is_best_cost arc u reach offer given best.cost is.least listed).0 best.best in
     record {
       cost = best.cost;
-      costs = record { area = n; listens = listens; best = (reached_best arc offer u best.cost).0 costs };
-      hops_are = hops_same (BestHop arc (OfReached arc offer u) u) (InterAreaHop net p u) hops
+      costs = record { area = n; listens = listens; best = (listened_cost net p n u best.cost no_intra no_range listens).1 costs };
+      hops_are = hops_same (BestHop arc offer u) (InterAreaHop net p u) hops
           (λ h. (
-            λ hop. record { area = n; listens = listens; best = (reached_hop arc offer u h).0 hop },
-            λ hop. (reached_hop arc offer u h).1 (subst (λ (m : ℕ). BestHop (Adjacent net (Area m)) (OfOthers (Summary net p m) u) u h)
-                (listens_to_one_area hop.listens listens) hop.best),
+            λ hop. record { area = n; listens = listens; best = (listened_hop net p n u h no_intra no_range listens).1 hop },
+            λ hop. (listened_hop net p n u h no_intra no_range listens).0
+                (subst (λ (m : ℕ). BestHop (Adjacent net (Area m)) (OfOthers (Summary net p m) u) u h) (listens_to_one_area hop.listens listens) hop.best),
           ))
-          (best_hops_are arc u reach (OfReached arc offer u) given count hops is.least listed
+          (best_hops_are arc u reach offer given count hops is.least listed
           (λ h c over. subst (λ (m : ℕ). h < m) (sym counted) (Adjacent-to_within net (Area n) u h c over)) best);
     }
 
 -- The announcements into an area
 
 pub summary_part_is : (net : Network) (areas : List AreaWalks) (s : Summaries) (given : List AreaOffers) (part : AreaOffers) (n : ℕ) →
-    AreSummaries net areas s → given ≡ s.parts.items → Contains given part → part.area ≡ n → AreOffers (Summary net s.dest n) part.offers.items
+    AreSummaries net areas s → given ≡ s.parts.items → Contains given part → part.area ≡ n → AreOffers (IsHeard net s.dest n) part.offers.items
 summary_part_is net areas s given part n are same among area =
-    subst (λ (m : ℕ). AreOffers (Summary net s.dest m) part.offers.items) area
+    subst (λ (m : ℕ). AreOffers (IsHeard net s.dest m) part.offers.items) area
     (All-contains (IsSummaryOf net s.dest) s.parts.items part are.exact (subst (λ (l : List AreaOffers). Contains l part) same among))
 
 -- the area that a router listens to is there
 pub listened_area : (net : Network) (areas : List AreaWalks) (n u : ℕ) → AreAreas net areas → ListensTo net u n → HasArea areas n
 listened_area net areas _ u are (backbone border) = are.backbone
 listened_area net areas n u are (one_area _ inside) = are.every u n inside
+
+-- what another router announces and is reached is heard
+heard_of : (net : Network) (p : Block) (n u at c : ℕ) → (costs : OfferCosts (Adjacent net (Area n)) (OfOthers (Summary net p n) u) u at c) →
+    IsHeard net p n at costs.asks
+heard_of net p n u at c costs = record {
+  inside = reached_inside net n u at costs.walk costs.reached costs.offered.other;
+  summary = costs.offered.offered;
+}
 
 pub summary_part_there : (net : Network) (areas : List AreaWalks) (s : Summaries) (given : List AreaOffers) (n u : ℕ) → AreAreas net areas →
     AreSummaries net areas s → given ≡ s.parts.items → ListensTo net u n →
@@ -246,12 +254,12 @@ summary_part_there net areas s given n u are summaries same listens none cost co
     let best : BestCost (Adjacent net (Area n)) (OfOthers (Summary net s.dest n) u) u cost =
     subst (λ (m : ℕ). BestCost (Adjacent net (Area m)) (OfOthers (Summary net s.dest m) u) u cost) (listens_to_one_area costs.listens listens) costs.best in
     none (subst (λ (l : List AreaOffers). HasAreaPart l n) (sym same)
-    (summaries.every n best.at best.attained.asks (listened_area net areas n u are listens) best.attained.offered.offered))
+    (summaries.every n best.at best.attained.asks (listened_area net areas n u are listens) (heard_of net s.dest n u best.at cost best.attained)))
 
 -- without announcements nothing is listened to
 pub no_summaries : (net : Network) (areas : List AreaWalks) (s : Summaries) (u : ℕ) → AreAreas net areas → AreSummaries net areas s →
     length s.parts.items ≡ 0 → (cost : ℕ) → ListenedCost net s.dest u cost → ⊥
 no_summaries net areas s u are summaries empty cost costs =
     let has = summaries.every costs.area costs.best.at costs.best.attained.asks (listened_area net areas costs.area u are costs.listens)
-    costs.best.attained.offered.offered in
+    (heard_of net s.dest costs.area u costs.best.at cost costs.best.attained) in
     omega (arith, empty, has.among.1)

@@ -1,32 +1,31 @@
 -- What border routers summarize of a prefix, and announce into each area.
-use Rattle.std.proofs.Common.{◌≡◌, ◌≢◌, ℕ, ◌<◌, ◌↔◌, ◌⊎◌, inl, inr, ⊎_elim, List, [], length, get_or, Option, Some, None, MatchOption, IsTrue, refl, sym, ap}
+use Rattle.std.proofs.Common.{◌≡◌, ◌≢◌, ℕ, ◌<◌, ◌↔◌, ◌⊎◌, inl, inr, ⊎_elim, List, [], ◌∷◌, length, get_or, Option, Some, None, MatchOption, refl, sym, ap}
 use Rattle.std.proofs.Common.{subst, ◌∙◌, arith}
 use Rattle.std.specs.List.{Contains, Any, All}
 use Rattle.std.proofs.lemmas.Option.{none-some, same_Some}
 use Rattle.std.proofs.lemmas.List.Elements.{Contains-get_or}
 use Rattle.net_addr.specs.Addresses.{Block, default_prefix}
 use Rattle.net_model.proofs.Adjacency.{HasConfiguration-unique}
-use Rattle.net_model.proofs.NetworkFacts.{InArea-within}
+use Rattle.net_model.proofs.NetworkFacts.{Adjacent-in_area, InArea-within}
 use Rattle.net_model.specs.Configuration.{Configuration}
-use Rattle.net_model.specs.Network.{Network, HasConfiguration, IsBorderRouter, Adjacent}
+use Rattle.net_model.specs.Network.{Network, HasConfiguration, InArea, IsBorderRouter, Adjacent}
 use Rattle.net_model.specs.declared.area.Stub.{Stub}
 use Rattle.net_model.specs.declared.zone.Zone.TheVariants.{Area}
-use Rattle.walk_core.specs.Walks.{Arcs, LeastCost}
+use Rattle.walk_core.specs.Walks.{Arcs, LeastCost, Leg, Walks}
 use Rattle.walk_core.specs.Offers.{Offers, OfferCosts, BestCost, BestHop}
-use Rattle.walk_core.specs.Reach.{Reach, AreLeastWalks}
+use Rattle.walk_core.specs.Reach.{Reach}
 use Rattle.walk_core.specs.BestOffers.{NoneTotals, IsBestTotal}
 use Rattle.walk_core.specs.declared.offers.Offer.{Offer}
-use Rattle.walk_core.proofs.WalkLaws.{best_cost_unique}
+use Rattle.walk_core.proofs.WalkLaws.{SameArcs, SameOffers, best_cost_unique, best_cost_same}
 use Rattle.igp_theory.specs.Ospf.{IntraAreaCost, IsIntraArea, IsActiveRange, BackboneSummary, AreaSummary, BorderCost, RangeCost, HasStub, IsTotallyStubby}
-use Rattle.igp_theory.specs.Ospf.{Summary, into_backbone, into_area, OfOthers}
+use Rattle.igp_theory.specs.Ospf.{Summary, into_backbone, into_area, OfOthers, ListensTo, backbone, one_area}
 use Rattle.ospf_routes.specs.steps.Areas.{IsReach}
 use Rattle.ospf_routes.specs.steps.Destinations.{IsDestination}
 use Rattle.ospf_routes.specs.Lists.{Exactly, Adds}
 use Rattle.ospf_routes.specs.steps.Offered.{AreOffers, OutsideOf}
 use Rattle.ospf_routes.specs.steps.Ranges.{IsComponentOfSome, AreActiveRanges}
-use Rattle.ospf_routes.specs.steps.Routing.{IsReachedOther}
 use Rattle.ospf_routes.specs.steps.Summarized.{IsSubnetSummary, SummarizedSubnet, IsRangeRoute, SummarizedRange, SummarizedFrom, AreSummarized, OutsideSummary}
-use Rattle.ospf_routes.specs.steps.Summarized.{IsBorderOffer, IsAllowed, IsAlone, IsDefault, RouterDefault, HasDefault}
+use Rattle.ospf_routes.specs.steps.Summarized.{Announces, IsBorderOffer, IsAllowed, IsHeard, IsAlone, IsDefault, RouterDefault, HasDefault}
 use Rattle.ospf_routes.specs.declared.intra_area.AreaOffers.{AreaOffers}
 use Rattle.ospf_routes.specs.declared.intra_area.Destination.{Destination}
 use Rattle.ospf_routes.specs.declared.ranges.ActiveRange.{ActiveRange}
@@ -78,18 +77,6 @@ subnets_are net d given b is same border alone r = (
       (record { area = sym has.area; at = s.at; costs = subst (λ (n : ℕ). IntraAreaCost net n d.dest b r.asks) (sym has.area) s.costs }),
 )
 
-pub range_route_some : (a : ActiveRange) (p : Block) (b : ℕ) → a.range.dest ≡ p → IsTrue a.range.advertise → (r : AreaRoute) →
-    (Some (record { area = a.range.area; at = b; asks = a.cost }) ≡ Some r) ↔ IsRangeRoute a p b r
-range_route_some a p b dest advertised r =
-    let one : AreaRoute = record { area = a.range.area; at = b; asks = a.cost } in (
-      λ same. subst (λ (x : AreaRoute). IsRangeRoute a p b x) (same_Some one r same)
-          (record { dest = dest; advertised = advertised; area = refl; at = refl; costs = refl }),
-      λ is. ap Some (same_route is),
-    )
-  where
-    same_route : IsRangeRoute a p b r → ◌≡◌ {A = AreaRoute} (record { area = a.range.area; at = b; asks = a.cost }) r
-    same_route is = λ i. record { area = (sym is.area) i; at = (sym is.at) i; asks = (sym is.costs) i }
-
 pub ranges_are : (net : Network) (p : Block) (b : ℕ) (actives given : List ActiveRange) → AreActiveRanges net b actives → given ≡ actives → (r : AreaRoute) →
     Any (λ (a : ActiveRange). IsRangeRoute a p b r) given ↔ SummarizedRange net p b r
 ranges_are net p b actives given are same r =
@@ -126,12 +113,6 @@ summarized_at net p b r (SummarizedFrom.of_range s) = (s.at, s.has.border)
 
 border_within : (net : Network) (b : ℕ) → IsBorderRouter net b → b < length net
 border_within net b border = InArea-within net b border.one border.in_one
-
-pub summarized_below : (net : Network) (p : Block) (n : ℕ) → length net ≡ n → (r : AreaRoute) → SummarizedFrom net p r.at r →
-    AnyBelow (SummarizedFrom net p) n r
-summarized_below net p n count r from =
-    let within : r.at < length net = border_within net r.at (summarized_at net p r.at r from).1 in
-    record { source = r.at; below = omega arith; given = from }
 
 pub summarized_back : (net : Network) (p : Block) (b : ℕ) (r : AreaRoute) → SummarizedFrom net p b r → SummarizedFrom net p r.at r
 summarized_back net p b r from = subst (λ (k : ℕ). SummarizedFrom net p k r) (sym (summarized_at net p b r from).0) from
@@ -197,109 +178,141 @@ backbone_are net p offers given are same =
     exactly_same given (λ (o : Offer). OutsideSummary net 0 p o.at o.asks) (λ (o : Offer). BackboneSummary net p o.at o.asks)
     (subst (λ (l : List Offer). AreOffers (OutsideSummary net 0 p) l) (sym same) are) (λ o. backbone_is net p o.at o.asks)
 
-pub summaries_into_backbone : (net : Network) (p : Block) (n : ℕ) (offers : List Offer) → n ≡ 0 → AreOffers (OutsideSummary net n p) offers →
-    AreOffers (Summary net p n) offers
-summaries_into_backbone net p n offers zero are =
-    subst (λ (m : ℕ). AreOffers (Summary net p m) offers) (sym zero)
-    (exactly_same offers (λ (o : Offer). OutsideSummary net 0 p o.at o.asks) (λ (o : Offer). Summary net p 0 o.at o.asks)
-    (subst (λ (m : ℕ). AreOffers (OutsideSummary net m p) offers) zero are)
-    (λ o. (λ out. into_backbone ((backbone_is net p o.at o.asks).0 out), λ s. (backbone_is net p o.at o.asks).1 (of_zero 0 o.at o.asks s refl))))
+backbone_summary : (net : Network) (p : Block) (n b cost : ℕ) → n ≡ 0 → OutsideSummary net n p b cost ↔ Summary net p n b cost
+backbone_summary net p n b cost zero =
+    subst (λ (m : ℕ). OutsideSummary net m p b cost ↔ Summary net p m b cost) (sym zero)
+    (λ out. into_backbone ((backbone_is net p b cost).0 out), λ s. (backbone_is net p b cost).1 (of_zero 0 s refl))
   where
-    of_zero : (m b c : ℕ) → Summary net p m b c → m ≡ 0 → BackboneSummary net p b c
-    of_zero _ b c (into_backbone s) is = s
-    of_zero m b c (into_area other s) is = absurd (other is)
+    of_zero : (m : ℕ) → Summary net p m b cost → m ≡ 0 → BackboneSummary net p b cost
+    of_zero _ (into_backbone s) is = s
+    of_zero m (into_area other s) is = absurd (other is)
 
-pub summaries_into_area : (net : Network) (p : Block) (n : ℕ) (offers : List Offer) → n ≢ 0 → AreOffers (AreaSummary net n p) offers →
-    AreOffers (Summary net p n) offers
-summaries_into_area net p n offers other are =
-    exactly_same offers (λ (o : Offer). AreaSummary net n p o.at o.asks) (λ (o : Offer). Summary net p n o.at o.asks) are
-    (λ o. (λ s. into_area other s, λ s. of_area n o.at o.asks s other))
+of_area : (net : Network) (p : Block) (n b cost : ℕ) → n ≢ 0 → Summary net p n b cost → AreaSummary net n p b cost
+of_area net p _ b cost apart (into_backbone s) = absurd (apart refl)
+of_area net p n b cost apart (into_area _ s) = s
+
+-- The announcements of others
+
+-- a router announces nothing of a prefix that has no intra-area route there and is no active range of it
+own_backbone : (net : Network) (p : Block) (b cost : ℕ) → (IsIntraArea net p b → ⊥) → (IsActiveRange net p b → ⊥) → BackboneSummary net p b cost → ⊥
+own_backbone net p b cost no_intra no_range (BackboneSummary.of_subnet s) = no_intra (record { area = s.area; cost = cost; costs = s.costs })
+own_backbone net p b cost no_intra no_range (BackboneSummary.of_range s) =
+    no_range (record { range = s.range; active = range_cost_active net b s.range cost s.costs; dest = s.dest })
+
+area_border : (net : Network) (n : ℕ) (p : Block) (b cost : ℕ) → AreaSummary net n p b cost → IsBorderRouter net b
+area_border net n p b cost (AreaSummary.of_subnet _ s) = s.border
+area_border net n p b cost (AreaSummary.of_range _ s) = s.has.border
+area_border net n p b cost (AreaSummary.of_route _ s) = s.border
+area_border net n p b cost (AreaSummary.of_stub border _ _ _ _) = border
+
+inner_listener : (net : Network) (u n : ℕ) → ListensTo net u n → n ≢ 0 → IsBorderRouter net u → ⊥
+inner_listener net u _ (backbone _) apart border = apart refl
+inner_listener net u n (one_area inner _) apart border = inner border
+
+own_summary : (net : Network) (p : Block) (n u cost : ℕ) → (IsIntraArea net p u → ⊥) → (IsActiveRange net p u → ⊥) → ListensTo net u n →
+    Summary net p n u cost → ⊥
+own_summary net p _ u cost no_intra no_range listens (into_backbone s) = own_backbone net p u cost no_intra no_range s
+own_summary net p n u cost no_intra no_range listens (into_area apart s) = inner_listener net u n listens apart (area_border net n p u cost s)
+
+same_arcs : (arc : Arcs) → SameArcs arc arc
+same_arcs arc a b c = (λ x. x, λ x. x)
+
+-- where a router announces nothing itself, all announcements are of others
+all_of_others : (offer : Offers) (u : ℕ) → ((cost : ℕ) → offer u cost → ⊥) → SameOffers (OfOthers offer u) offer
+all_of_others offer u own at asks = (
+  λ o. o.offered,
+  λ o. record { other = λ same. own asks (subst (λ (b : ℕ). offer b asks) same o); offered = o },
+)
+
+-- another router that is reached in an area is in it
+pub reached_inside : (net : Network) (n u at d : ℕ) → LeastCost (Adjacent net (Area n)) u at d → at ≢ u → InArea net at n
+reached_inside net n u at d reached apart = start reached.legs reached.walk.leads
   where
-    of_area : (m b c : ℕ) → Summary net p m b c → m ≢ 0 → AreaSummary net m p b c
-    of_area _ b c (into_backbone s) apart = absurd (apart refl)
-    of_area m b c (into_area _ s) apart = s
+    ends : (legs : List Leg) (v : ℕ) → InArea net v n → Walks (Adjacent net (Area n)) v legs at → InArea net at n
+    ends [] v inside here = subst (λ (w : ℕ). InArea net w n) here inside
+    ends (leg ∷ legs) v inside over = ends legs leg.to (Adjacent-in_area net n v leg.to leg.cost over.0).1 over.1
 
--- The best of the offers of others that are reached
+    start : (legs : List Leg) → Walks (Adjacent net (Area n)) u legs at → InArea net at n
+    start [] here = absurd (apart (sym here))
+    start (leg ∷ legs) over = ends legs leg.to (Adjacent-in_area net n u leg.to leg.cost over.0).1 over.1
 
--- an offer that is reached
-pub record OfReached (arc : Arcs) (offer : Offers) (u : ℕ) (at asks : ℕ) : Type 0 where
-  pub offered : offer at asks
-  pub walk : ℕ
-  pub reached : LeastCost arc u at walk
-
-pub reached_are : (arc : Arcs) (u : ℕ) (reach : Reach) (offer : Offers) (offers given others : List Offer) → AreLeastWalks arc u reach →
-    AreOffers offer offers → given ≡ offers →
-    Exactly (λ (o : Offer). Any (IsReachedOther reach u o) given) others → AreOffers (OfReached arc (OfOthers offer u) u) others
-reached_are arc u reach offer offers given others walks are same listed =
-    let all : AreOffers offer given = subst (λ (l : List Offer). AreOffers offer l) (sym same) are in
-    exactly_same others (λ (o : Offer). Any (IsReachedOther reach u o) given) (λ (o : Offer). OfReached arc (OfOthers offer u) u o.at o.asks) listed
-    (λ o. (
-      λ any.
-          let f = any_in (IsReachedOther reach u o) given any in
-          let Goal : Offer → Type 0 = λ x. OfReached arc (OfOthers offer u) u x.at x.asks in
-          subst Goal f.holds.same (record {
-            offered = record { other = f.holds.other; offered = (all f.item).0 f.among };
-            walk = f.holds.distance;
-            reached = (walks.distances f.item.at f.holds.distance).0 f.holds.reached;
-          }),
-      λ r. any_of (IsReachedOther reach u o) given o ((all o).1 r.offered.offered)
-          (record { same = refl; other = r.offered.other; distance = r.walk; reached = (walks.distances o.at r.walk).1 r.reached }),
-    ))
-
-reached_costs : {arc : Arcs} {offer : Offers} {u at cost : ℕ} → OfferCosts arc (OfReached arc offer u) u at cost ↔ OfferCosts arc offer u at cost
-reached_costs = (
-  λ c. record { asks = c.asks; walk = c.walk; offered = c.offered.offered; reached = c.reached; costs = c.costs },
-  λ c. record {
-    asks = c.asks;
-    walk = c.walk;
-    offered = record { offered = c.offered; walk = c.walk; reached = c.reached };
-    reached = c.reached;
-    costs = c.costs;
+-- so what others announce and what is heard cost the same
+heard_costs : (net : Network) (p : Block) (n u : ℕ) → (IsIntraArea net p u → ⊥) → (IsActiveRange net p u → ⊥) → ListensTo net u n → (at c : ℕ) →
+    OfferCosts (Adjacent net (Area n)) (OfOthers (Summary net p n) u) u at c ↔ OfferCosts (Adjacent net (Area n)) (IsHeard net p n) u at c
+heard_costs net p n u no_intra no_range listens at c = (
+  λ costs. record {
+    asks = costs.asks;
+    walk = costs.walk;
+    offered = record { inside = reached_inside net n u at costs.walk costs.reached costs.offered.other; summary = costs.offered.offered };
+    reached = costs.reached;
+    costs = costs.costs;
+  },
+  λ costs. record {
+    asks = costs.asks;
+    walk = costs.walk;
+    offered = record {
+      other = λ same. own_summary net p n u costs.asks no_intra no_range listens
+          (subst (λ (b : ℕ). Summary net p n b costs.asks) same costs.offered.summary);
+      offered = costs.offered.summary;
+    };
+    reached = costs.reached;
+    costs = costs.costs;
   },
 )
 
-pub reached_best : (arc : Arcs) (offer : Offers) (u cost : ℕ) → BestCost arc (OfReached arc offer u) u cost ↔ BestCost arc offer u cost
-reached_best arc offer u cost = (
-  λ best. record { at = best.at; attained = reached_costs.0 best.attained; least = λ other less costs. best.least other less (reached_costs.1 costs) },
-  λ best. record { at = best.at; attained = reached_costs.1 best.attained; least = λ other less costs. best.least other less (reached_costs.0 costs) },
-)
+pub listened_cost : (net : Network) (p : Block) (n u cost : ℕ) → (IsIntraArea net p u → ⊥) → (IsActiveRange net p u → ⊥) → ListensTo net u n →
+    BestCost (Adjacent net (Area n)) (OfOthers (Summary net p n) u) u cost ↔ BestCost (Adjacent net (Area n)) (IsHeard net p n) u cost
+listened_cost net p n u cost no_intra no_range listens =
+    let same = heard_costs net p n u no_intra no_range listens in (
+      λ best. record {
+        at = best.at;
+        attained = (same best.at cost).0 best.attained;
+        least = λ other less costs. best.least other less ((same other less).1 costs);
+      },
+      λ best. record {
+        at = best.at;
+        attained = (same best.at cost).1 best.attained;
+        least = λ other less costs. best.least other less ((same other less).0 costs);
+      },
+    )
 
-pub reached_hop : (arc : Arcs) (offer : Offers) (u h : ℕ) → BestHop arc (OfReached arc offer u) u h ↔ BestHop arc offer u h
-reached_hop arc offer u h = (
-  λ hop. record {
-    cost = hop.cost;
-    best = (reached_best arc offer u hop.cost).0 hop.best;
-    at = hop.at;
-    attained = reached_costs.0 hop.attained;
-    hop = hop.hop;
-  },
-  λ hop. record {
-    cost = hop.cost;
-    best = (reached_best arc offer u hop.cost).1 hop.best;
-    at = hop.at;
-    attained = reached_costs.1 hop.attained;
-    hop = hop.hop;
-  },
-)
+pub listened_hop : (net : Network) (p : Block) (n u h : ℕ) → (IsIntraArea net p u → ⊥) → (IsActiveRange net p u → ⊥) → ListensTo net u n →
+    BestHop (Adjacent net (Area n)) (OfOthers (Summary net p n) u) u h ↔ BestHop (Adjacent net (Area n)) (IsHeard net p n) u h
+listened_hop net p n u h no_intra no_range listens =
+    let same = heard_costs net p n u no_intra no_range listens in (
+      λ hop. record {
+        cost = hop.cost;
+        best = (listened_cost net p n u hop.cost no_intra no_range listens).0 hop.best;
+        at = hop.at;
+        attained = (same hop.at hop.cost).0 hop.attained;
+        hop = hop.hop;
+      },
+      λ hop. record {
+        cost = hop.cost;
+        best = (listened_cost net p n u hop.cost no_intra no_range listens).1 hop.best;
+        at = hop.at;
+        attained = (same hop.at hop.cost).1 hop.attained;
+        hop = hop.hop;
+      },
+    )
 
 -- Border routers
 
-pub no_border_cost : (net : Network) (p : Block) (u : ℕ) → ((IsIntraArea net p u → ⊥) → (IsActiveRange net p u → ⊥) → ⊥) →
+pub no_border_cost : (net : Network) (p : Block) (u : ℕ) → ((cost : ℕ) → BorderCost net p u cost → ⊥) →
     (cost : ℕ) → (◌≡◌ {A = Option ℕ} None (Some cost)) ↔ BorderCost net p u cost
-no_border_cost net p u none cost = (λ no. absurd (none-some cost no), λ costs. absurd (none costs.no_intra costs.no_range))
+no_border_cost net p u none cost = (λ no. absurd (none-some cost no), λ costs. absurd (none cost costs))
 
-pub border_cost_is : (net : Network) (p : Block) (u : ℕ) (reach : Reach) (others given_others : List Offer) → IsBorderRouter net u →
-    (IsIntraArea net p u → ⊥) → (IsActiveRange net p u → ⊥) → IsReach net 0 u reach →
-    AreOffers (OfReached (Adjacent net (Area 0)) (OfOthers (BackboneSummary net p) u) u) others → given_others ≡ others →
-    (found : Option ℕ) → MatchOption found (NoneTotals reach given_others) (IsBestTotal reach given_others) → (cost : ℕ) →
-    (found ≡ Some cost) ↔ BorderCost net p u cost
-border_cost_is net p u reach others given_others border no_intra no_range is are same found best cost =
+pub border_cost_is : (net : Network) (p : Block) (u : ℕ) (reach : Reach) (given : List Offer) → IsBorderRouter net u → IsReach net 0 u reach →
+    AreOffers (BackboneSummary net p) given → (found : Option ℕ) → MatchOption found (NoneTotals reach given) (IsBestTotal reach given) → (cost : ℕ) →
+    BorderCost net p u cost ↔ ((found ≡ Some cost) × (IsIntraArea net p u → ⊥) × (IsActiveRange net p u → ⊥))
+border_cost_is net p u reach given border is are found best cost =
     let arc : Arcs = Adjacent net (Area 0) in
-    let offer : Offers = OfOthers (BackboneSummary net p) u in
-    let listed = best_cost_is arc u reach (OfReached arc offer u) given_others is.least (lists_from (OfReached arc offer u) others given_others are same)
-    found best cost in (
-      λ e. record { border = border; no_intra = no_intra; no_range = no_range; best = (reached_best arc offer u cost).0 (listed.0 e) },
-      λ costs. listed.1 ((reached_best arc offer u cost).1 costs.best),
+    let offer : Offers = BackboneSummary net p in
+    let listed = best_cost_is arc u reach offer given is.least (lists_from offer given given are refl) found best cost in
+    let others : (IsIntraArea net p u → ⊥) → (IsActiveRange net p u → ⊥) → BestCost arc (OfOthers offer u) u cost ↔ BestCost arc offer u cost =
+    λ no_intra no_range. best_cost_same (same_arcs arc) (all_of_others offer u (λ c. own_backbone net p u c no_intra no_range)) u cost in (
+      λ costs. (listed.1 ((others costs.no_intra costs.no_range).0 costs.best), costs.no_intra, costs.no_range),
+      λ is. record { border = border; no_intra = is.1; no_range = is.2; best = (others is.1 is.2).1 (listed.0 is.0) },
     )
 
 -- the offer of border router u
@@ -315,21 +328,6 @@ border_of_router net p u cost one costs offers o = (
       (is.at, subst (λ (k : ℕ). BorderCost net p k o.asks) (sym is.at) ((costs o.asks).0 is.costs)),
   λ both. (offers o).1 (record { at = both.0; costs = (costs o.asks).1 (subst (λ (k : ℕ). BorderCost net p k o.asks) both.0 both.1) }),
 )
-
-pub border_below : (net : Network) (p : Block) (n : ℕ) → length net ≡ n → (o : Offer) → BorderCost net p o.at o.asks → AnyBelow (BorderOfRouter net p) n o
-border_below net p n count o costs =
-    let within : o.at < length net = border_within net o.at costs.border in
-    record { source = o.at; below = omega arith; given = (refl, costs) }
-
-pub border_offer_some : (u asks : ℕ) (o : Offer) → (Some (record { at = u; asks = asks }) ≡ Some o) ↔ IsBorderOffer u (Some asks) o
-border_offer_some u asks o =
-    let one : Offer = record { at = u; asks = asks } in (
-      λ same. subst (λ (x : Offer). IsBorderOffer u (Some asks) x) (same_Some one o same) (record { at = refl; costs = refl }),
-      λ is. ap Some (same_offer is),
-    )
-  where
-    same_offer : IsBorderOffer u (Some asks) o → ◌≡◌ {A = Offer} (record { at = u; asks = asks }) o
-    same_offer is = let e : asks ≡ o.asks = same_Some asks o.asks is.costs in λ i. record { at = (sym is.at) i; asks = e i }
 
 -- Into an area other than the backbone
 
@@ -353,55 +351,71 @@ border_routers net p offers given are same k d within =
     (Contains-get_or given k d within) in
     border_within net o.at costs.border
 
-allowed_is : (net : Network) (n : ℕ) (offer : Offers) (offers given : List Offer) → AreOffers offer offers → given ≡ offers → (o : Offer) →
-    Any (IsAllowed net n o) given ↔ ((IsTotallyStubby net o.at n → ⊥) × offer o.at o.asks)
-allowed_is net n offer offers given are same o =
-    let listed : AreOffers offer given = subst (λ (l : List Offer). AreOffers offer l) (sym same) are in (
-      λ any.
-          let f = any_in (IsAllowed net n o) given any in
-          (f.holds.allowed, (listed o).0 (subst (λ (x : Offer). Contains given x) f.holds.same f.among)),
-      λ both. any_of (IsAllowed net n o) given o ((listed o).1 both.1) (record { same = refl; allowed = both.0 }),
-    )
+allowed_is : (net : Network) (n : ℕ) (offer : Offers) (given : List Offer) → AreOffers offer given → (o : Offer) →
+    Any (IsAllowed net n o) given ↔ (Announces net n o.at × offer o.at o.asks)
+allowed_is net n offer given listed o = (
+  λ any.
+      let f = any_in (IsAllowed net n o) given any in
+      (f.holds.announces, (listed o).0 (subst (λ (x : Offer). Contains given x) f.holds.same f.among)),
+  λ both. any_of (IsAllowed net n o) given o ((listed o).1 both.1) (record { same = refl; announces = both.0 }),
+)
 
-pub area_summaries_are : (net : Network) (n : ℕ) (p : Block) (outside given_outside borders given_borders none first second third : List Offer) →
-    AreOffers (OutsideSummary net n p) outside → given_outside ≡ outside →
-    AreOffers (BorderCost net p) borders → given_borders ≡ borders → none ≡ [] → Adds none first (λ o. Any (IsAllowed net n o) given_outside) →
-    Adds first second (λ o. Any (IsAllowed net n o) given_borders) →
-    Adds second third (HasDefault net n p) → AreOffers (AreaSummary net n p) third
-area_summaries_are net n p outside given_outside borders given_borders none first second third are_outside same_outside are_borders
-    same_borders empty one two three =
-    let Outside : Offer → Type 0 = λ o. Any (IsAllowed net n o) given_outside in
-    let Borders : Offer → Type 0 = λ o. Any (IsAllowed net n o) given_borders in
+pub heard_in_backbone : (net : Network) (n : ℕ) (p : Block) (outside none first : List Offer) → n ≡ 0 → AreOffers (OutsideSummary net n p) outside →
+    none ≡ [] → Adds none first (λ o. Any (IsAllowed net n o) outside) → AreOffers (IsHeard net p n) first
+heard_in_backbone net n p outside none first zero are empty adds =
+    let Outside : Offer → Type 0 = λ o. Any (IsAllowed net n o) outside in
+    let Heard : Offer → Type 0 = λ o. IsHeard net p n o.at o.asks in
+    exactly_added none first Heard empty (adds_same none first Outside Heard adds (λ o. (
+      λ any.
+          let both = (allowed_is net n (OutsideSummary net n p) outside are o).0 any in
+          record { inside = both.0.inside; summary = (backbone_summary net p n o.at o.asks zero).0 both.1 },
+      λ heard. (allowed_is net n (OutsideSummary net n p) outside are o).1 (
+        record { inside = heard.inside; summaries = λ apart. absurd (apart zero) },
+        (backbone_summary net p n o.at o.asks zero).1 heard.summary,
+      ),
+    )))
+
+pub heard_in_area : (net : Network) (n : ℕ) (p : Block) (outside borders none first second third : List Offer) → n ≢ 0 →
+    AreOffers (OutsideSummary net n p) outside → AreOffers (BorderCost net p) borders → none ≡ [] → Adds none first (λ o. Any (IsAllowed net n o) outside) →
+    Adds first second (λ o. Any (IsAllowed net n o) borders) → Adds second third (HasDefault net n p) → AreOffers (IsHeard net p n) third
+heard_in_area net n p outside borders none first second third apart are_outside are_borders empty one two three =
+    let Outside : Offer → Type 0 = λ o. Any (IsAllowed net n o) outside in
+    let Borders : Offer → Type 0 = λ o. Any (IsAllowed net n o) borders in
     let Both : Offer → Type 0 = λ o. Outside o ⊎ Borders o in
     let All_of : Offer → Type 0 = λ o. Both o ⊎ HasDefault net n p o in
-    exactly_added none third (λ (o : Offer). AreaSummary net n p o.at o.asks) empty
-    (adds_same none third All_of (λ (o : Offer). AreaSummary net n p o.at o.asks)
+    exactly_added none third (λ (o : Offer). IsHeard net p n o.at o.asks) empty
+    (adds_same none third All_of (λ (o : Offer). IsHeard net p n o.at o.asks)
     (adds_both none second third Both (HasDefault net n p) All_of
     (adds_both none first second Outside Borders Both one two (λ o. (λ x. x, λ x. x))) three (λ o. (λ x. x, λ x. x)))
-    (λ o. (there o, back o)))
+    (λ o. (there o, λ heard. back o heard.inside (of_area net p n o.at o.asks apart heard.summary))))
   where
     from_outside : (o : Offer) → (IsTotallyStubby net o.at n → ⊥) → OutsideSummary net n p o.at o.asks → AreaSummary net n p o.at o.asks
     from_outside o allowed (OutsideSummary.of_subnet s) = AreaSummary.of_subnet allowed s
     from_outside o allowed (OutsideSummary.of_range s) = AreaSummary.of_range allowed s
 
-    there : (o : Offer) → (Any (IsAllowed net n o) given_outside ⊎ Any (IsAllowed net n o) given_borders) ⊎ HasDefault net n p o →
-        AreaSummary net n p o.at o.asks
-    there o (inl (inl any)) = let both = (allowed_is net n (OutsideSummary net n p) outside given_outside are_outside same_outside o).0 any in
-        from_outside o both.0 both.1
-    there o (inl (inr any)) = let both = (allowed_is net n (BorderCost net p) borders given_borders are_borders same_borders o).0 any in
-        AreaSummary.of_route both.0 both.1
-    there o (inr has) = AreaSummary.of_stub has.default.border has.all has.default.stub has.default.has has.default.costs
+    there : (o : Offer) → (Any (IsAllowed net n o) outside ⊎ Any (IsAllowed net n o) borders) ⊎ HasDefault net n p o → IsHeard net p n o.at o.asks
+    there o (inl (inl any)) = let both = (allowed_is net n (OutsideSummary net n p) outside are_outside o).0 any in
+        record { inside = both.0.inside; summary = into_area apart (from_outside o (both.0.summaries apart) both.1) }
+    there o (inl (inr any)) = let both = (allowed_is net n (BorderCost net p) borders are_borders o).0 any in
+        record { inside = both.0.inside; summary = into_area apart (AreaSummary.of_route (both.0.summaries apart) both.1) }
+    there o (inr has) = record {
+      inside = has.default.inside;
+      summary = into_area apart (AreaSummary.of_stub has.default.border has.all has.default.stub has.default.has has.default.costs);
+    }
 
-    back : (o : Offer) → AreaSummary net n p o.at o.asks →
-        (Any (IsAllowed net n o) given_outside ⊎ Any (IsAllowed net n o) given_borders) ⊎ HasDefault net n p o
-    back o (AreaSummary.of_subnet allowed s) = inl (inl
-        ((allowed_is net n (OutsideSummary net n p) outside given_outside are_outside same_outside o).1 (allowed, OutsideSummary.of_subnet s)))
-    back o (AreaSummary.of_range allowed s) = inl (inl
-        ((allowed_is net n (OutsideSummary net n p) outside given_outside are_outside same_outside o).1 (allowed, OutsideSummary.of_range s)))
-    back o (AreaSummary.of_route allowed s) = inl (inr
-        ((allowed_is net n (BorderCost net p) borders given_borders are_borders same_borders o).1 (allowed, s)))
-    back o (AreaSummary.of_stub border all s has is) = inr
-        (record { all = all; default = record { at = refl; border = border; stub = s; has = has; costs = is } })
+    outside_back : (o : Offer) → InArea net o.at n → (IsTotallyStubby net o.at n → ⊥) → OutsideSummary net n p o.at o.asks →
+        Any (IsAllowed net n o) outside
+    outside_back o inside allowed out =
+        (allowed_is net n (OutsideSummary net n p) outside are_outside o).1 (record { inside = inside; summaries = λ _. allowed }, out)
+
+    back : (o : Offer) → InArea net o.at n → AreaSummary net n p o.at o.asks →
+        (Any (IsAllowed net n o) outside ⊎ Any (IsAllowed net n o) borders) ⊎ HasDefault net n p o
+    back o inside (AreaSummary.of_subnet allowed s) = inl (inl (outside_back o inside allowed (OutsideSummary.of_subnet s)))
+    back o inside (AreaSummary.of_range allowed s) = inl (inl (outside_back o inside allowed (OutsideSummary.of_range s)))
+    back o inside (AreaSummary.of_route allowed s) = inl (inr
+        ((allowed_is net n (BorderCost net p) borders are_borders o).1 (record { inside = inside; summaries = λ _. allowed }, s)))
+    back o inside (AreaSummary.of_stub border all s has is) = inr
+        (record { all = all; default = record { at = refl; inside = inside; border = border; stub = s; has = has; costs = is } })
 
 -- Stub areas
 
@@ -424,13 +438,14 @@ totally_stubby_is net b n config given router are = (
         subst (λ (l : List Stub). Contains l s) (sym are)
         (subst (λ (c : Configuration). Contains c.stubs s) (HasConfiguration-unique net b has.config config has.router router) has.among)
 
-pub router_default_is : (net : Network) (n b : ℕ) (config : Configuration) (given : List Stub) → IsBorderRouter net b → HasConfiguration net b config →
-    given ≡ config.stubs → (o : Offer) → Any (IsDefault n b o) given ↔ RouterDefault net n b o
-router_default_is net n b config given border router are o = (
+pub router_default_is : (net : Network) (n b : ℕ) (config : Configuration) (given : List Stub) → InArea net b n → IsBorderRouter net b →
+    HasConfiguration net b config → given ≡ config.stubs → (o : Offer) → Any (IsDefault n b o) given ↔ RouterDefault net n b o
+router_default_is net n b config given inside border router are o = (
   λ any.
       let f = any_in (IsDefault n b o) given any in
       record {
         at = f.holds.at;
+        inside = inside;
         border = border;
         stub = f.item;
         has = record { config = config; router = router; among = subst (λ (l : List Stub). Contains l f.item) are f.among; area = f.holds.area };
@@ -445,6 +460,9 @@ router_default_is net n b config given border router are o = (
 pub no_router_default : (net : Network) (n b : ℕ) (old : List Offer) → (IsBorderRouter net b → ⊥) → Adds old old (RouterDefault net n b)
 no_router_default net n b old inner = adds_nothing old (RouterDefault net n b) (λ o is. inner is.border)
 
+pub no_member_default : (net : Network) (n b : ℕ) (old : List Offer) → (InArea net b n → ⊥) → Adds old old (RouterDefault net n b)
+no_member_default net n b old away = adds_nothing old (RouterDefault net n b) (λ o is. away is.inside)
+
 pub no_default : (net : Network) (n : ℕ) (p : Block) (old : List Offer) → (p ≡ default_prefix → ⊥) → Adds old old (HasDefault net n p)
 no_default net n p old other = adds_nothing old (HasDefault net n p) (λ o is. other is.all)
 
@@ -458,13 +476,3 @@ defaults_are net n p m old new count all adds =
           let within : o.at < length net = border_within net o.at has.default.border in
           record { source = o.at; below = omega arith; given = has.default },
     ))
-
-pub default_some : (s : Stub) (n b : ℕ) → s.area ≡ n → (o : Offer) → (Some (record { at = b; asks = s.default_cost }) ≡ Some o) ↔ IsDefault n b o s
-default_some s n b area o =
-    let one : Offer = record { at = b; asks = s.default_cost } in (
-      λ same. subst (λ (x : Offer). IsDefault n b x s) (same_Some one o same) (record { area = area; at = refl; costs = refl }),
-      λ is. ap Some (same_offer is),
-    )
-  where
-    same_offer : IsDefault n b o s → ◌≡◌ {A = Offer} (record { at = b; asks = s.default_cost }) o
-    same_offer is = λ i. record { at = (sym is.at) i; asks = (sym is.costs) i }

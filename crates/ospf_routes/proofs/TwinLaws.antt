@@ -1,5 +1,5 @@
 -- Prefixes that are connected at the same routers and offered and announced alike have the same entries.
-use Rattle.std.proofs.Common.{◌≡◌, ◌≢◌, ℕ, ◌<◌, ◌↔◌, ◌⊎◌, inl, inr, List, [], length, get_or, refl, sym, subst, ◌∙◌, arith}
+use Rattle.std.proofs.Common.{◌≡◌, ℕ, ◌<◌, ◌↔◌, ◌⊎◌, inl, inr, List, [], length, get_or, refl, sym, subst, ◌∙◌, arith}
 use Rattle.std.specs.List.{All, Any}
 use Rattle.std.proofs.lemmas.List.Elements.{All-contains, Contains-get_or}
 use Rattle.net_addr.specs.Addresses.{Block}
@@ -9,16 +9,16 @@ use Rattle.walk_core.specs.Offers.{Offers}
 use Rattle.route_core.specs.declared.entry.Entry.{Entry}
 use Rattle.route_core.specs.declared.entry.Entry.TheVariants.{Via, Discard}
 use Rattle.igp_theory.specs.Routes.{ForwardsTo}
-use Rattle.igp_theory.specs.Ospf.{OffersSubnet, IntraAreaHop, IsIntraArea, IsActiveRange, ListensTo, OfOthers, Summary, InterAreaCost, InterAreaHop}
+use Rattle.igp_theory.specs.Ospf.{OffersSubnet, IntraAreaHop, IsIntraArea, IsActiveRange, ListensTo, InterAreaCost, InterAreaHop}
 use Rattle.igp_theory.specs.Ospf.{OspfEntry, intra_area, discard, inter_area}
 use Rattle.route_tables.specs.Entries.{AreAlikePrefixes}
-use Rattle.route_tables.proofs.AlikeRoutes.{AskAlike, alike_cost, alike_hop, alike_among, alike_lists}
+use Rattle.route_tables.proofs.AlikeRoutes.{AskAlike, alike_cost, alike_hop, alike_lists}
 use Rattle.route_tables.proofs.BestRoutes.{hops_same}
 use Rattle.ospf_routes.specs.steps.Areas.{AreAreas}
 use Rattle.ospf_routes.specs.steps.Destinations.{HasAreaPart, IsDestination}
 use Rattle.ospf_routes.specs.steps.Offered.{AreOffers}
 use Rattle.ospf_routes.specs.steps.Ranges.{AreRangesBelow}
-use Rattle.ospf_routes.specs.steps.Summarized.{AreSummaries}
+use Rattle.ospf_routes.specs.steps.Summarized.{AreSummaries, IsHeard}
 use Rattle.ospf_routes.specs.steps.Twins.{IsTwinPart, AreTwinParts, AreTwinDestinations}
 use Rattle.ospf_routes.specs.declared.areas.AreaWalks.{AreaWalks}
 use Rattle.ospf_routes.specs.declared.intra_area.AreaOffers.{AreaOffers}
@@ -30,6 +30,7 @@ use Rattle.ospf_routes.proofs.BorderLists.{border_is_router}
 use Rattle.ospf_routes.proofs.CostBounds.{lists_from}
 use Rattle.ospf_routes.proofs.RangeFacts.{active_range_is}
 use Rattle.ospf_routes.proofs.RouteFacts.{listened_area}
+use Rattle.ospf_routes.proofs.SummaryFacts.{listened_cost, listened_hop}
 
 -- the second prefix is connected where the first one is alone, no active range is of either, and where the first one is
 -- offered or announced in an area, the second one is so alike
@@ -38,14 +39,7 @@ pub record IsTwinPrefix (net : Network) (p q : Block) : Type 0 where
   pub no_range : (u : ℕ) → IsActiveRange net p u → ⊥
   pub other_no_range : (u : ℕ) → IsActiveRange net q u → ⊥
   pub offered : (n at asks : ℕ) → OffersSubnet net n p at asks → AskAlike (OffersSubnet net n p) (OffersSubnet net n q)
-  pub announced : (u n at asks : ℕ) → ListensTo net u n → Summary net p n at asks → AskAlike (Summary net p n) (Summary net q n)
-
--- the offers of others are alike too
-alike_others : (u : ℕ) (one other : Offers) → AskAlike one other → AskAlike (OfOthers one u) (OfOthers other u)
-alike_others u one other =
-    alike_among (λ at. at ≢ u) one other (OfOthers one u) (OfOthers other u)
-    (λ at asks. (λ is. (is.other, is.offered), λ both. record { other = both.0; offered = both.1 }))
-    (λ at asks. (λ is. (is.other, is.offered), λ both. record { other = both.0; offered = both.1 }))
+  pub announced : (u n at asks : ℕ) → ListensTo net u n → IsHeard net p n at asks → AskAlike (IsHeard net p n) (IsHeard net q n)
 
 -- Routes
 
@@ -72,28 +66,33 @@ inter_over : (net : Network) (p q : Block) (u cost : ℕ) → IsTwinPrefix net p
     (twin : ℕ) × InterAreaCost net q u twin
 inter_over net p q u cost t back is =
     let n : ℕ = is.area in
-    let costs = is.best.attained in
-    let b = alike_cost (Adjacent net (Area n)) u (OfOthers (Summary net p n) u) (OfOthers (Summary net q n) u)
-    (alike_others u (Summary net p n) (Summary net q n) (t.announced u n is.best.at costs.asks is.listens costs.offered.offered)) cost is.best in (
+    let heard = (listened_cost net p n u cost is.no_intra is.no_range is.listens).0 is.best in
+    let costs = heard.attained in
+    let no_intra : IsIntraArea net q u → ⊥ = λ intra. is.no_intra (intra_over net q p u back intra) in
+    let b = alike_cost (Adjacent net (Area n)) u (IsHeard net p n) (IsHeard net q n)
+    (t.announced u n heard.at costs.asks is.listens costs.offered) cost heard in (
       b.0,
       record {
-        no_intra = λ intra. is.no_intra (intra_over net q p u back intra);
+        no_intra = no_intra;
         no_range = t.other_no_range u;
         area = n;
         listens = is.listens;
-        best = b.1;
+        best = (listened_cost net q n u b.0 no_intra (t.other_no_range u) is.listens).1 b.1;
       },
     )
 
-inter_hop_over : (net : Network) (p q : Block) (u h : ℕ) → IsTwinPrefix net p q → InterAreaHop net p u h → InterAreaHop net q u h
-inter_hop_over net p q u h t hop =
+inter_hop_over : (net : Network) (p q : Block) (u h : ℕ) → IsTwinPrefix net p q → (IsIntraArea net p u → ⊥) → (IsIntraArea net q u → ⊥) →
+    InterAreaHop net p u h → InterAreaHop net q u h
+inter_hop_over net p q u h t no_intra other_no_intra hop =
     let n : ℕ = hop.area in
-    let costs = hop.best.attained in
+    let heard = (listened_hop net p n u h no_intra (t.no_range u) hop.listens).0 hop.best in
+    let costs = heard.attained in
     record {
       area = n;
       listens = hop.listens;
-      best = alike_hop (Adjacent net (Area n)) u (OfOthers (Summary net p n) u) (OfOthers (Summary net q n) u)
-          (alike_others u (Summary net p n) (Summary net q n) (t.announced u n hop.best.at costs.asks hop.listens costs.offered.offered)) h hop.best;
+      best = (listened_hop net q n u h other_no_intra (t.other_no_range u) hop.listens).1
+          (alike_hop (Adjacent net (Area n)) u (IsHeard net p n) (IsHeard net q n)
+          (t.announced u n heard.at costs.asks hop.listens costs.offered) h heard);
     }
 
 forwards_over : (hop other : ℕ → Type 0) (e : Entry) → ((h : ℕ) → hop h ↔ other h) → ForwardsTo hop e → ForwardsTo other e
@@ -108,7 +107,10 @@ entry_over net p q u e t back (discard _ _ range _) = absurd (t.no_range u range
 entry_over net p q u e t back (inter_area away cost costs forwards) =
     let twin = inter_over net p q u cost t back costs in
     inter_area (λ here. away (t.homes u here)) twin.0 twin.1
-    (forwards_over (InterAreaHop net p u) (InterAreaHop net q u) e (λ h. (inter_hop_over net p q u h t, inter_hop_over net q p u h back)) forwards)
+    (forwards_over (InterAreaHop net p u) (InterAreaHop net q u) e (λ h. (
+      inter_hop_over net p q u h t costs.no_intra twin.1.no_intra,
+      inter_hop_over net q p u h back twin.1.no_intra costs.no_intra,
+    )) forwards)
 
 -- twin prefixes have the same entries
 pub twins_are_alike : (net : Network) (p q : Block) → IsTwinPrefix net p q → IsTwinPrefix net q p → AreAlikePrefixes (length net) (OspfEntry net) p q
@@ -179,8 +181,8 @@ is_twin_prefix net areas ranges d e s t areas_are ranges_are is_d is_e is_s is_t
       alike_parts (λ m. OffersSubnet net m d.dest) (λ m. OffersSubnet net m e.dest) d.parts.items e.parts.items n is_d.exact is_e.exact twins.parts
       (is_d.every n at asks is);
   announced = λ u n at asks listens is.
-      subst (λ (p : Block). AskAlike (Summary net p n) (Summary net e.dest n)) dest_s
-      (subst (λ (q : Block). AskAlike (Summary net s.dest n) (Summary net q n)) dest_t
-      (alike_parts (Summary net s.dest) (Summary net t.dest) s.parts.items t.parts.items n is_s.exact is_t.exact twins.announced
-      (is_s.every n at asks (listened_area net areas n u areas_are listens) (subst (λ (p : Block). Summary net p n at asks) (sym dest_s) is))));
+      subst (λ (p : Block). AskAlike (IsHeard net p n) (IsHeard net e.dest n)) dest_s
+      (subst (λ (q : Block). AskAlike (IsHeard net s.dest n) (IsHeard net q n)) dest_t
+      (alike_parts (IsHeard net s.dest) (IsHeard net t.dest) s.parts.items t.parts.items n is_s.exact is_t.exact twins.announced
+      (is_s.every n at asks (listened_area net areas n u areas_are listens) (subst (λ (p : Block). IsHeard net p n at asks) (sym dest_s) is))));
 }

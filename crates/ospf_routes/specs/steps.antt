@@ -1,8 +1,8 @@
+pub mod Members
 pub mod Areas
 pub mod Candidates
 pub mod Offered
 pub mod Subnets
-pub mod Adjacent
 pub mod Destinations
 pub mod Domain
 pub mod Ranges

@@ -1,13 +1,14 @@
-ghost use Rattle.std.specs.Prelude.{◌≡◌, ◌<◌, ◌↔◌, ℕ, length, Some, All, Any, IfOk, OnOk};
-ghost use Rattle.igp_theory.specs.Ospf.{AreaSummary, BorderCost, Summary};
+ghost use Rattle.std.specs.Prelude.{◌≡◌, ◌<◌, ◌↔◌, ℕ, length, Some, All, Any, IfOk, IsTrue, OnOk};
+ghost use Rattle.igp_theory.specs.Ospf.{BorderCost};
 ghost use Rattle.walk_core.specs.declared.offers.Offer.{Offer as OfferValue};
 ghost use Rattle.ospf_routes.specs.steps.Areas.{AreAreas, HasArea};
+ghost use Rattle.ospf_routes.specs.steps.Members.{AreMembersBelow};
 ghost use Rattle.ospf_routes.specs.steps.Destinations.{HasAreaPart, IsDestination};
 ghost use Rattle.net_model.specs.Network.{IsBorderRouter};
 ghost use Rattle.ospf_routes.specs.Lists.{Adds, Exactly};
 ghost use Rattle.ospf_routes.specs.steps.Offered.{AreOffers};
 ghost use Rattle.ospf_routes.specs.steps.Ranges.{AreRangesBelow};
-ghost use Rattle.ospf_routes.specs.steps.Summarized.{AreSummaries, AreSummarized, IsAllowed, IsSummaryOf, OutsideSummary};
+ghost use Rattle.ospf_routes.specs.steps.Summarized.{Announces, AreSummaries, AreSummarized, IsAllowed, IsHeard, IsSummaryOf};
 
 use crate::OutOfMemory;
 use crate::area_route::{AreaRoute, offers_outside};
@@ -23,7 +24,7 @@ use route_tables::push_option;
 use std::alloc::Global;
 use walk_core::Offer;
 
-/// What border routers announce of a prefix into each area (RFC 2328, section 12.4.3).
+/// What border routers announce of a prefix into each of their areas (RFC 2328, section 12.4.3).
 #[derive(Debug, Drop)]
 pub struct Summaries {
     /// The prefix.
@@ -83,71 +84,57 @@ fn area_parts(
     routes: &[AreaRoute],
     borders: &[Offer],
 ) -> Result<Vec<AreaOffers>, OutOfMemory>
+    requires areas { AreAreas net.now areas.now }
     requires routes { AreSummarized net.now dest routes.now }
     requires borders { AreOffers (BorderCost net.now dest) borders.now }
     ensures exact { IfOk result (λ parts. All (IsSummaryOf net.now dest) parts.items) }
-    ensures every { IfOk result (λ parts. (n at asks : ℕ) → HasArea areas.now n → Summary net.now dest n at asks → HasAreaPart parts.items n) }
+    ensures every { IfOk result (λ parts. (n at asks : ℕ) → HasArea areas.now n → IsHeard net.now dest n at asks → HasAreaPart parts.items n) }
 {
     let mut parts = Vec::new(alloc);
     for area in areas {
-        let offers = summaries_into(alloc, net, area.number, dest, routes, borders)?;
+        let offers = summaries_into(alloc, net, area, dest, routes, borders)?;
         push_part(&mut parts, area.number, offers)?;
     }
     Ok(parts)
 }
 
-/// The announcements into an area: into the backbone the subnets and ranges of other areas, and nothing
-/// else.
+/// The announcements of an area's routers into it: the subnets and ranges of other areas, and into an area other than the
+/// backbone what border routers reach over the backbone, and the defaults of stub areas (RFC 2328, sections 12.4.3 and 3.6).
 fn summaries_into(
     alloc: Global,
     net: &Net,
-    area: u32,
+    area: &AreaWalks,
     dest: Prefix,
     routes: &[AreaRoute],
     borders: &[Offer],
 ) -> Result<Vec<Offer>, OutOfMemory>
+    requires members { AreMembersBelow net.now area.now.number (length net.now) area.now.members }
     requires routes { AreSummarized net.now dest routes.now }
     requires borders { AreOffers (BorderCost net.now dest) borders.now }
-    ensures { IfOk result (λ offers. AreOffers (Summary net.now dest area) offers.items) }
+    ensures { IfOk result (λ offers. AreOffers (IsHeard net.now dest area.now.number) offers.items) }
 {
-    let outside = offers_outside(alloc, routes, area)?;
-    let is_backbone = area == 0;
-    if is_backbone {
-        return Ok(outside);
-    }
-    area_summaries(alloc, net, area, dest, outside.as_slice(), borders)
-}
-
-/// The announcements into an area other than the backbone: the subnets and ranges of other areas, what
-/// border routers reach over the backbone, and the defaults of stub areas (RFC 2328, section 3.6).
-fn area_summaries(
-    alloc: Global,
-    net: &Net,
-    area: u32,
-    dest: Prefix,
-    outside: &[Offer],
-    borders: &[Offer],
-) -> Result<Vec<Offer>, OutOfMemory>
-    requires outside { AreOffers (OutsideSummary net.now area dest) outside.now }
-    requires borders { AreOffers (BorderCost net.now dest) borders.now }
-    ensures { IfOk result (λ offers. AreOffers (AreaSummary net.now area dest) offers.items) }
-{
+    let outside = offers_outside(alloc, routes, area.number)?;
     let mut offers = Vec::new(alloc);
-    push_allowed(&mut offers, net, area, outside)?;
+    push_allowed(&mut offers, net, area, outside.as_slice())?;
+    let is_backbone = area.number == 0;
+    if is_backbone {
+        return Ok(offers);
+    }
     push_allowed(&mut offers, net, area, borders)?;
     push_defaults(&mut offers, net, area, dest)?;
     Ok(offers)
 }
 
-/// Adds the offers of routers that don't announce the default route alone into the area.
+/// Adds the offers that their routers announce into the area.
 fn push_allowed(
     offers: &mut Vec<Offer>,
     net: &Net,
-    area: u32,
+    area: &AreaWalks,
     others: &[Offer],
 ) -> Result<(), OutOfMemory>
-    requires { All (λ o. o.at < length net.now) others.now }
-    ensures { OnOk result (Adds offers.old.items offers.new.items (λ o. Any (IsAllowed net.now area o) others.now)) }
+    requires members { AreMembersBelow net.now area.now.number (length net.now) area.now.members }
+    requires routers { All (λ o. o.at < length net.now) others.now }
+    ensures { OnOk result (Adds offers.old.items offers.new.items (λ o. Any (IsAllowed net.now area.now.number o) others.now)) }
 {
     for other in others {
         push_option(offers, allowed(net, area, *other))?;
@@ -155,14 +142,31 @@ fn push_allowed(
     Ok(())
 }
 
-/// The offer, unless its router announces the default route alone into the area.
-fn allowed(net: &Net, area: u32, offer: Offer) -> Option<Offer>
-    requires { offer.at < length net.now }
-    ensures { (o : OfferValue) → (result ≡ Some o) ↔ IsAllowed net.now area o offer }
+/// The offer, where its router announces it into the area.
+fn allowed(net: &Net, area: &AreaWalks, offer: Offer) -> Option<Offer>
+    requires router { offer.at < length net.now }
+    requires members { AreMembersBelow net.now area.now.number (length net.now) area.now.members }
+    ensures { (o : OfferValue) → (result ≡ Some o) ↔ IsAllowed net.now area.now.number o offer }
 {
-    if is_totally_stubby(net, offer.at, area) {
-        None
-    } else {
+    if announces(net, area, offer.at) {
         Some(offer)
+    } else {
+        None
     }
+}
+
+/// Whether a router is in the area, and announces more than the default route into it. The backbone is no stub area
+/// (RFC 2328, section 3.6).
+fn announces(net: &Net, area: &AreaWalks, b: u32) -> bool
+    requires router { b < length net.now }
+    requires members { AreMembersBelow net.now area.now.number (length net.now) area.now.members }
+    ensures { IsTrue result ↔ Announces net.now area.now.number b }
+{
+    if !area.members.has(b) {
+        return false;
+    }
+    if area.number == 0 {
+        return true;
+    }
+    !is_totally_stubby(net, b, area.number)
 }

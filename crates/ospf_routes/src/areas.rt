@@ -6,22 +6,25 @@ ghost use Rattle.ospf_routes.specs.steps.AreaReach.{IsThisBorder, IsZoneReach};
 ghost use Rattle.ospf_routes.specs.Lists.{Adds, Exactly};
 
 use crate::OutOfMemory;
+use crate::members::Members;
 use net_model::{Interface, Net, Zone};
 use route_tables::push_option;
 use std::alloc::Global;
 use walk_core::LeastWalks;
 use zone_graph::ZoneWalks;
 
-/// An area with its least walks.
+/// An area with its least walks and its routers.
 #[derive(Debug, Drop)]
 pub struct AreaWalks {
     /// The number of the area.
     pub number: u32,
     /// The least walks of the area.
     pub walks: ZoneWalks,
+    /// The routers of the area.
+    pub members: Members,
 }
 
-/// The backbone and every area that a router is in, each with its least walks.
+/// The backbone and every area that a router is in, each with its least walks and its routers.
 pub fn all_areas(alloc: Global, net: &Net) -> Result<Vec<AreaWalks>, OutOfMemory>
     ensures { IfOk result (λ areas. AreAreas net.now areas.items) }
 {
@@ -29,7 +32,7 @@ pub fn all_areas(alloc: Global, net: &Net) -> Result<Vec<AreaWalks>, OutOfMemory
     walks_of_areas(alloc, net, numbers.as_slice())
 }
 
-/// The least walks of each of these areas.
+/// The least walks and the routers of each of these areas.
 fn walks_of_areas(alloc: Global, net: &Net, numbers: &[u32]) -> Result<Vec<AreaWalks>, OutOfMemory>
     ensures { IfOk result (λ areas. AreNumbered net.now numbers.now areas.items) }
 {
@@ -38,6 +41,7 @@ fn walks_of_areas(alloc: Global, net: &Net, numbers: &[u32]) -> Result<Vec<AreaW
         areas.push(AreaWalks {
             number: *number,
             walks: ZoneWalks::build(alloc, net, Zone::Area(*number))?,
+            members: Members::of_area(alloc, net, *number)?,
         })?;
     }
     Ok(areas)
@@ -94,6 +98,13 @@ fn first_area(interfaces: &[Interface]) -> Option<u32>
         }
     }
     None
+}
+
+/// Whether one of the interfaces is up and runs OSPF in the area.
+pub fn has_area(interfaces: &[Interface], number: u32) -> bool
+    ensures { IsTrue result ↔ Any (RunsArea number) interfaces.now }
+{
+    interfaces.iter().any(|i| i.up && i.area == Some(number))
 }
 
 /// Whether the interface is up and runs OSPF in another area.

@@ -11,7 +11,6 @@ ghost use Rattle.ospf_routes.specs.steps.Summarized.{IsBorderOffer};
 
 use crate::OutOfMemory;
 use crate::areas::{AreaWalks, reach};
-use crate::best_of_others::reached_others;
 use crate::intra_area::{Destination, has_intra};
 use crate::ranges::ActiveRanges;
 use net_model::Net;
@@ -39,7 +38,7 @@ pub fn border_offers(
     let mut offers = Vec::new(alloc);
     for u in borders {
         let active = &ranges[*u as usize];
-        let cost = border_cost(alloc, net, areas, active, destination, backbone, *u)?;
+        let cost = border_cost(net, areas, active, destination, backbone, *u);
         push_option(&mut offers, border_offer(*u, cost))?;
     }
     Ok(offers)
@@ -55,36 +54,32 @@ fn border_offer(u: u32, cost: Option<u64>) -> Option<Offer>
     }
 }
 
-/// The inter-area cost of the prefix at border router `u`, over what others announce into the backbone.
-/// There is none where the prefix has an intra-area route or is an active range of `u`.
+/// The inter-area cost of the prefix at border router `u`, over what is announced into the backbone.
+/// There is none where the prefix has an intra-area route or is an active range of `u`, so `u` itself
+/// announces nothing of a prefix that has one.
 fn border_cost(
-    alloc: Global,
     net: &Net,
     areas: &[AreaWalks],
     ranges: &ActiveRanges,
     destination: &Destination,
     backbone: &[Offer],
     u: u32,
-) -> Result<Option<u64>, OutOfMemory>
+) -> Option<u64>
     requires border { IsBorderRouter net.now u }
     requires router { u < length net.now }
     requires areas { AreAreas net.now areas.now }
     requires ranges { AreActiveRanges net.now u ranges.now }
     requires destination { IsDestination net.now destination.now }
     requires backbone { AreOffers (BackboneSummary net.now destination.now.dest) backbone.now }
-    ensures { IfOk result (λ found. (cost : ℕ) → (found ≡ Some cost) ↔ BorderCost net.now destination.now.dest u cost) }
+    ensures { (cost : ℕ) → (result ≡ Some cost) ↔ BorderCost net.now destination.now.dest u cost }
 {
+    let walks = reach(net, areas, 0, u)?;
+    let cost = walks.best_cost(backbone)?;
     if ranges.contains(destination.dest) {
-        return Ok(None);
+        return None;
     }
     if has_intra(net, areas, destination, u) {
-        return Ok(None);
+        return None;
     }
-    match reach(net, areas, 0, u) {
-        Some(walks) => {
-            let others = reached_others(alloc, walks, backbone, u)?;
-            Ok(walks.best_cost(others.as_slice()))
-        }
-        None => Ok(None),
-    }
+    Some(cost)
 }

@@ -7,7 +7,6 @@ ghost use Rattle.ospf_routes.specs.steps.Domain.{IsOspfDomain};
 ghost use Rattle.ospf_routes.specs.steps.Subnets.{IsUpSubnet};
 
 use crate::OutOfMemory;
-use crate::adjacent::{AdjacentRouters, all_adjacent};
 use crate::areas::{AreaWalks, all_areas};
 use crate::candidates::candidates_of;
 use crate::intra_area::Destination;
@@ -17,15 +16,13 @@ use net_model::Net;
 use std::alloc::Global;
 
 /// What the routers of a network know by OSPF before anything is summarized: the least walks of each
-/// area, what the interfaces of each area offer of each prefix, and who is adjacent to whom.
+/// area, and what the interfaces of each area offer of each prefix.
 #[derive(Debug, Drop)]
 pub struct Domain {
     /// The areas with their least walks.
     pub areas: Vec<AreaWalks>,
     /// The prefixes that may have entries.
     pub destinations: Vec<Destination>,
-    /// The routers that each router is adjacent to.
-    pub adjacent: Vec<AdjacentRouters>,
 }
 
 impl Domain {
@@ -36,11 +33,9 @@ impl Domain {
         let areas = all_areas(alloc, net)?;
         let subnets = Subnets::of_network(alloc, net)?;
         let destinations = destinations(alloc, net, areas.as_slice(), &subnets)?;
-        let adjacent = all_adjacent(alloc, net, &subnets)?;
         Ok(Domain {
             areas,
             destinations,
-            adjacent,
         })
     }
 }

@@ -1,5 +1,5 @@
 ghost use Rattle.std.specs.Prelude.{◌≡◌, ◌<◌, ℕ, length, Contains, IfOk, MatchOption};
-ghost use Rattle.igp_theory.specs.Ospf.{IntraAreaCost, IsIntraArea, ListensTo, OspfEntry};
+ghost use Rattle.igp_theory.specs.Ospf.{IntraAreaCost, IsActiveRange, IsIntraArea, ListensTo, OspfEntry};
 ghost use Rattle.route_core.specs.declared.entry.Entry.{Entry};
 ghost use Rattle.route_tables.specs.Routings.{ForwardsBy, IsRouteFor};
 ghost use Rattle.ospf_routes.specs.steps.AreaReach.{area_reach};
@@ -12,9 +12,9 @@ ghost use Rattle.ospf_routes.specs.steps.Summarized.{AreSummaries};
 use crate::OutOfMemory;
 use crate::announcements::Summaries;
 use crate::areas::{AreaWalks, reach, zone_reach};
-use crate::best_of_others::{best_of_others, united_some};
 use crate::intra_area::{AreaOffers, Destination, part_of};
 use crate::ranges::ActiveRanges;
+use crate::united::united_some;
 use net_model::Net;
 use route_core::Hops;
 use route_tables::{Route, best_hops, best_route, push_option};
@@ -175,7 +175,8 @@ fn area_hops(
     }
 }
 
-/// The inter-area route, over what others announce into the area that the router listens to (RFC 2328, section 16.2).
+/// The inter-area route, over what is announced into the area that the router listens to (RFC 2328, section 16.2). The
+/// router itself announces nothing there of a prefix that has no intra-area route and is no active range of it.
 fn inter_route(
     alloc: Global,
     net: &Net,
@@ -188,6 +189,8 @@ fn inter_route(
     requires areas { AreAreas net.now areas.now }
     requires listens { IsListener net.now u listens }
     requires summaries { AreSummaries net.now areas.now summaries.now }
+    requires no_intra { IsIntraArea net.now summaries.now.dest u → ⊥ }
+    requires no_range { IsActiveRange net.now summaries.now.dest u → ⊥ }
     ensures { IfOk result (λ found. MatchOption found
         ((cost : ℕ) → ListenedCost net.now summaries.now.dest u cost → ⊥)
         (IsRouteFor (area_reach areas.now u) (length areas.now) (length net.now) (ForwardsBy (IsListenedRoute net.now summaries.now.dest u)))) }
@@ -201,7 +204,7 @@ fn inter_route(
     }
 }
 
-/// The inter-area route, over what others announce into this area.
+/// The inter-area route, over what is announced into this area.
 fn listened_route(
     alloc: Global,
     net: &Net,
@@ -214,6 +217,8 @@ fn listened_route(
     requires listens { ListensTo net.now u area }
     requires areas { AreAreas net.now areas.now }
     requires summaries { AreSummaries net.now areas.now summaries.now }
+    requires no_intra { IsIntraArea net.now summaries.now.dest u → ⊥ }
+    requires no_range { IsActiveRange net.now summaries.now.dest u → ⊥ }
     ensures { IfOk result (λ found. MatchOption found
         ((cost : ℕ) → ListenedCost net.now summaries.now.dest u cost → ⊥)
         (IsRouteFor (area_reach areas.now u) (length areas.now) (length net.now) (ForwardsBy (IsListenedRoute net.now summaries.now.dest u)))) }
@@ -222,7 +227,7 @@ fn listened_route(
         Some(found) => match part_of(summaries.parts.as_slice(), area) {
             Some(part) => {
                 let offers = part.offers.as_slice();
-                best_of_others(alloc, found.walks, found.zone, offers, u, net.routers())
+                best_route(alloc, found.walks, found.zone, offers, net.routers())
             }
             None => Ok(None),
         },

@@ -1,30 +1,33 @@
 //! The route tables of OSPF: intra-area routes, ranges and summaries, inter-area routes (RFC 2328).
 //!
-//! `Ospf::build` goes by the standard's steps, and `entry.rt` puts their routes in order:
+//! `OspfRoutes::build` (`tables.rt`) makes the tables of `Ospf` (`protocol.rt`). Steps 1 to 3 are `Ospf::build`, step 4 is
+//! `Ospf::route`:
 //!
-//! 1. `areas.rt`: the areas with their least walks (section 16.1), border routers (3.3), whom a router listens to (16.2);
-//!    `candidates.rt`, `subnets.rt`, `area_route.rt`, `intra_area.rt`: the prefixes, where each is connected, what the
-//!    interfaces of each area offer of it, and what it costs within an area; `adjacent.rt`: who is adjacent to whom;
-//!    `domain.rt`: these together.
+//! 1. `domain.rt`: what the routers know before anything is summarized. `areas.rt`, `members.rt`: the areas with their least
+//!    walks (section 16.1) and routers, border routers (3.3), whom a router listens to (16.2); `candidates.rt`,
+//!    `subnets.rt`, `intra_area.rt`: the prefixes, where each is connected, what the interfaces of each area offer of it, and
+//!    what it costs within an area; `segments.rt`: who is adjacent to whom.
 //! 2. `ranges.rt`: the active ranges of border routers (12.4.3, 11.1), and what they cost.
-//! 3. `summarized_routes.rt`: what border routers summarize (12.4.3); `backbone_routes.rt`: what they reach over the
-//!    backbone (16.2); `stub_areas.rt`: the defaults of stub areas (3.6); `announcements.rt`: what is announced into each
-//!    area.
-//! 4. `entry.rt`: the intra-area route, else a discard, else the inter-area route (16, 11.1); `best_of_others.rt`: the
-//!    best of offers of others, and several areas' hops together.
+//! 3. `announcements.rt` (`Summaries::build`, 12.4.3): what the border routers of each area announce of a prefix into it.
+//!    `summarized_routes.rt` has what they summarize out of whichever area. Into the backbone there go the routes of other
+//!    areas (`offers_outside` of `area_route.rt`), into every other area these too, and what border routers reach over the
+//!    backbone (`backbone_routes.rt`, costs alone, 16.2) and the defaults of stub areas (`stub_areas.rt`, 3.6).
+//! 4. `entry.rt`: the intra-area route, else a discard, else the inter-area route (16, 11.1), for which `listened_route` reads
+//!    the `Summaries`; `united.rt`: several areas' hops together.
 //!
-//! `twins.rt` finds prefixes that have the same routes at every router, by what is offered and announced of them.
-//! `protocol.rt` has all of it as a protocol, of which `tables.rt` makes the tables. Steps 1 to 3 take time of prefixes
-//! times border routers and areas; step 4 of routers times prefixes times the offers of a prefix in one area.
+//! `twins.rt` finds prefixes that have the same routes at every router, by what is offered and announced of them. Steps 1
+//! to 3 take time of prefixes times border routers and areas; step 4 of routers times prefixes times the offers of a prefix
+//! in one area.
 #![tactic(auto)]
 
 // Within areas
-mod adjacent;
 mod area_route;
 mod areas;
 mod candidates;
 mod domain;
 mod intra_area;
+mod members;
+mod segments;
 mod subnets;
 
 // Between areas
@@ -35,11 +38,11 @@ mod stub_areas;
 mod summarized_routes;
 
 // The routes of each router
-mod best_of_others;
 mod entry;
 mod protocol;
 mod tables;
 mod twins;
+mod united;
 
 pub use route_tables::OutOfMemory;
 pub use tables::OspfRoutes;

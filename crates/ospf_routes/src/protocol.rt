@@ -11,13 +11,14 @@ use crate::areas::{all_listens, border_routers};
 use crate::domain::Domain;
 use crate::entry::route_of;
 use crate::ranges::{ActiveRanges, all_ranges};
+use crate::segments::segments_of_areas;
 use crate::twins::all_twins;
 use net_addr::Prefix;
 use net_model::Net;
 use route_tables::{Protocol, Route};
 use std::alloc::Global;
 use std::marker::Model;
-use walk_core::LeastWalks;
+use walk_core::{LeastWalks, Segment};
 
 /// OSPF on a network, with what its routers know, the areas that they listen to, the active ranges of border routers,
 /// what these announce of each prefix, and which prefixes have the same routes.
@@ -42,7 +43,8 @@ impl<'a> Model for Ospf<'a> {
 }
 
 impl<'a> Ospf<'a> {
-    /// OSPF on this network.
+    /// OSPF on this network (RFC 2328): the areas and what they offer (section 16.1), the active ranges (12.4.3, 11.1), and
+    /// what border routers announce (12.4.3, 16.2, 3.6).
     pub fn build(alloc: Global, net: &'a Net) -> Result<Ospf<'a>, OutOfMemory>
         ensures { IfOk result (λ ospf. ospf.net ≡ net.now) }
     {
@@ -125,8 +127,8 @@ impl<'a> Protocol for Ospf<'a> {
         self.domain.areas[zone].walks.from_router(router)
     }
 
-    fn is_neighbor(&self, router: u32, other: u32) -> bool {
-        self.domain.adjacent[router as usize].contains(other)
+    fn segments(&self, alloc: Global) -> Result<Vec<Segment>, OutOfMemory> {
+        segments_of_areas(alloc, self.net, self.domain.areas.as_slice())
     }
 }
 

@@ -206,12 +206,11 @@ fn component_cost(
     requires destination { IsDestination net.now destination.now }
     ensures { (cost : ℕ) → (result ≡ Some cost) ↔ IsComponent net.now b range.now destination.now.dest cost }
 {
-    let cost = intra_cost(net, areas, destination, range.area, b)?;
     let ranges = net.config(b).ranges.as_slice();
     if !range.dest.covers(destination.dest) || has_longer(ranges, *range, destination.dest) {
         return None;
     }
-    Some(cost)
+    intra_cost(net, areas, destination, range.area, b)
 }
 
 /// Whether a longer one of these ranges, of the same area, covers the prefix.

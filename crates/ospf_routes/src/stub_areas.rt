@@ -2,10 +2,11 @@ ghost use Rattle.std.specs.Prelude.{◌≡◌, ◌<◌, ◌↔◌, length, Some,
 ghost use Rattle.igp_theory.specs.Ospf.{IsTotallyStubby};
 ghost use Rattle.walk_core.specs.declared.offers.Offer.{Offer as OfferValue};
 ghost use Rattle.ospf_routes.specs.Lists.{Adds};
+ghost use Rattle.ospf_routes.specs.steps.Members.{AreMembersBelow};
 ghost use Rattle.ospf_routes.specs.steps.Summarized.{HasDefault, IsAlone, IsDefault, RouterDefault};
 
 use crate::OutOfMemory;
-use crate::areas::is_border;
+use crate::areas::{AreaWalks, is_border};
 use net_addr::Prefix;
 use net_model::{Net, Stub};
 use route_tables::{is_all_addresses, push_option};
@@ -33,14 +34,15 @@ fn is_alone(stub: Stub, area: u32) -> bool
     stub.area == area && stub.no_summary
 }
 
-/// Adds the default route of each border router that says of the area that it is a stub area.
+/// Adds the default route of each border router in the area that says of it that it is a stub area.
 pub fn push_defaults(
     offers: &mut Vec<Offer>,
     net: &Net,
-    area: u32,
+    area: &AreaWalks,
     dest: Prefix,
 ) -> Result<(), OutOfMemory>
-    ensures { OnOk result (Adds offers.old.items offers.new.items (λ o. HasDefault net.now area dest o)) }
+    requires { AreMembersBelow net.now area.now.number (length net.now) area.now.members }
+    ensures { OnOk result (Adds offers.old.items offers.new.items (λ o. HasDefault net.now area.now.number dest o)) }
 {
     if !is_all_addresses(dest) {
         return Ok(());
@@ -51,20 +53,24 @@ pub fn push_defaults(
     Ok(())
 }
 
-/// Adds the default route of router `b`, where it is a border router.
+/// Adds the default route of router `b`, where it is a border router in the area.
 fn push_router_defaults(
     offers: &mut Vec<Offer>,
     net: &Net,
-    area: u32,
+    area: &AreaWalks,
     b: u32,
 ) -> Result<(), OutOfMemory>
-    requires { b < length net.now }
-    ensures { OnOk result (Adds offers.old.items offers.new.items (λ o. RouterDefault net.now area b o)) }
+    requires router { b < length net.now }
+    requires members { AreMembersBelow net.now area.now.number (length net.now) area.now.members }
+    ensures { OnOk result (Adds offers.old.items offers.new.items (λ o. RouterDefault net.now area.now.number b o)) }
 {
+    if !area.members.has(b) {
+        return Ok(());
+    }
     if !is_border(net, b) {
         return Ok(());
     }
-    push_stub_defaults(offers, net.config(b).stubs.as_slice(), area, b)
+    push_stub_defaults(offers, net.config(b).stubs.as_slice(), area.number, b)
 }
 
 /// Adds the default route of each of the stub areas that is this one.

@@ -3,8 +3,9 @@ use Rattle.std.specs.Prelude.{◌≡◌, ◌<◌, ℕ, List, [], ◌∷◌, ◌+
 use Rattle.net_addr.specs.Addresses.{Block}
 use Rattle.route_core.specs.Tables.{HasDistinctPrefixes}
 use Rattle.route_core.specs.declared.entry.Entry.{Entry}
-use Rattle.route_core.specs.declared.entry.Entry.TheVariants.{Discard}
+use Rattle.route_core.specs.declared.entry.Entry.TheVariants.{Via, Discard}
 use Rattle.route_core.specs.declared.row.Row.{Row}
+use Rattle.route_core.specs.declared.table.TableParts.{TableParts}
 
 -- what a row stands for: its prefix, and the entry of its number
 abbrev pub listed_row : List Entry → Row → Block × Entry
@@ -27,6 +28,11 @@ pub record AreTableRows (entries : List Entry) (rows : List Row) : Type 0 where
   pub numbers : AreNumbersBelow entries rows
   pub distinct : HasDistinctPrefixes (listed_rows entries rows)
 
+-- the parts stand for the entries of a table
+pub record AreTableParts (parts : TableParts) (table : List (Block × Entry)) : Type 0 where
+  pub listed : listed_rows parts.entries.now parts.rows.now ≡ table
+  pub rows : AreTableRows parts.entries.now parts.rows.now
+
 -- a table in the making: the entries that rows may share, and the rows so far
 pub record Draft : Type 0 where
   pub entries : List Entry
@@ -42,3 +48,8 @@ pub record Keeps (old new : Draft) (entry : Entry) (number : ℕ) : Type 0 where
 pub record AddsRow (old new : Draft) (dest : Block) (number : ℕ) : Type 0 where
   pub entries : new.entries ≡ old.entries
   pub rows : new.rows ≡ old.rows ++ (dest, slice_index_or old.entries number Discard) ∷ []
+
+-- the entry of this number forwards to these hops
+pub record HasEntryOver (entries : List Entry) (hops : List ℕ) (number : ℕ) : Type 0 where
+  pub below : number < length entries
+  pub is : slice_index_or entries number Discard ≡ Via hops

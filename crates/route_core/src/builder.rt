@@ -1,6 +1,7 @@
-ghost use Rattle.std.specs.Prelude.{◌≡◌, ◌<◌, [], length, IfOk, OnOk};
+ghost use Rattle.std.specs.Prelude.{◌≡◌, ◌<◌, ◌↔◌, [], length, slice_index_or, IfOk, IfSome, IsTrue, OnOk};
 ghost use Rattle.route_core.specs.Tables.{HasDistinctPrefixes};
-ghost use Rattle.route_core.specs.Rows.{AddsRow, Keeps};
+ghost use Rattle.route_core.specs.Rows.{AddsRow, HasEntryOver, Keeps};
+ghost use Rattle.route_core.specs.declared.entry.Entry.TheVariants.{Discard, Via};
 
 use crate::OutOfMemory;
 use crate::entry::Entry;
@@ -39,6 +40,14 @@ impl TableBuilder {
         })
     }
 
+    /// The number of an entry over these hops, where one is kept. It takes time of the entries.
+    pub fn find(&self, hops: &[u32]) -> Option<u32>
+        ensures { IfSome result (HasEntryOver self.now.entries hops.now) }
+    {
+        let place = place_over(self.entries.as_slice(), hops)?;
+        u32::try_from(place).ok()
+    }
+
     /// Keeps an entry for rows to share, and gives its number.
     pub fn keep(&mut self, entry: Entry) -> Result<u32, OutOfMemory>
         ensures { IfOk result (Keeps self.old self.new entry) }
@@ -67,5 +76,23 @@ impl TableBuilder {
             entries: self.entries,
             rows: self.rows,
         }
+    }
+}
+
+/// The place of the first entry over these hops.
+fn place_over(entries: &[Entry], hops: &[u32]) -> Option<usize>
+    ensures within { IfSome result (λ i. i < length entries.now) }
+    ensures over { IfSome result (λ i. slice_index_or entries.now i Discard ≡ Via hops.now) }
+{
+    entries.iter().position(|entry| goes_over(entry, hops))
+}
+
+/// Whether the entry forwards to these hops.
+fn goes_over(entry: &Entry, hops: &[u32]) -> bool
+    ensures { IsTrue result ↔ (entry.now ≡ Via hops.now) }
+{
+    match entry {
+        Entry::Via(own) => own.as_slice() == hops,
+        Entry::Discard => false,
     }
 }

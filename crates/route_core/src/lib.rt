@@ -18,6 +18,7 @@ mod table;
 pub use builder::TableBuilder;
 pub use entries::Entries;
 pub use entry::{Entry, Hops};
+pub use row::Row;
 pub use source::RouteSource;
 pub use std::alloc::AllocError as OutOfMemory;
-pub use table::Table;
+pub use table::{Table, TableParts};

@@ -2,6 +2,7 @@ ghost use Rattle.std.specs.Prelude.{◌≡◌, ◌<◌, ℕ, length, slice_get, 
 ghost use Rattle.net_addr.specs.Addresses.{Block};
 ghost use Rattle.route_core.specs.declared.entry.Entry.{Entry};
 ghost use Rattle.net_addr.specs.LongestMatches.{HasNoMatch, LongestAt};
+ghost use Rattle.route_core.specs.Rows.{AreTableParts};
 ghost use Rattle.route_core.specs.Tables.{HasDistinctPrefixes, IsListed, LongestEntry, table_prefixes};
 
 use crate::OutOfMemory;
@@ -20,6 +21,15 @@ use std::marker::Model;
 pub struct Table {
     pub(crate) entries: Vec<Entry>,
     pub(crate) rows: Vec<Row>,
+}
+
+/// A table in its two parts, for callers that read many entries by their numbers.
+#[derive(Clone, Copy, Debug)]
+pub struct TableParts<'a> {
+    /// The entries, each kept once.
+    pub entries: &'a [Entry],
+    /// The rows, each with the number of its entry.
+    pub rows: &'a [Row],
 }
 
 impl Model for Table {
@@ -72,6 +82,16 @@ impl Table {
         ensures { (dest : Block) × (slice_get self.now i ≡ Some (dest, result.now)) }
     {
         &self.entries[self.rows[i].number as usize]
+    }
+
+    /// The rows of the table, and the entries that they share.
+    pub fn parts(&self) -> TableParts<'_>
+        ensures { AreTableParts result self.now }
+    {
+        TableParts {
+            entries: self.entries.as_slice(),
+            rows: self.rows.as_slice(),
+        }
     }
 
     /// The entry with the longest prefix that contains the address `a` (RFC 1812, section 5.2.4.3).

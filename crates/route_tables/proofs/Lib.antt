@@ -6,3 +6,4 @@ pub mod AlikeRoutes
 mod BestSteps
 mod SharingLaws
 mod PrefixOrder
+pub mod JoinedLaws

@@ -13,7 +13,7 @@ use Rattle.route_core.specs.declared.entry.Entry.TheVariants.{Via, Discard}
 use Rattle.route_core.specs.Rows.{Keeps}
 use Rattle.route_tables.specs.Prefixes.{prefix_at}
 use Rattle.route_tables.specs.Routings.{AreHopsTo, IsEntryTo, Makes, IsRouteFor}
-use Rattle.route_tables.specs.steps.Sharing.{AreKnown, AreNoted, AreNumbers, AreShared, AreSingle, HasNumber, IsNumberOf, KeepsMore}
+use Rattle.route_tables.specs.steps.Sharing.{AreKnown, AreNoted, AreNumbers, AreShared, AreSingle, HasNumber, IsNumberOf, KeepsMore, KeepsNotes}
 use Rattle.route_tables.specs.declared.route.Route.{Route}
 use Rattle.route_tables.specs.declared.sharing.Known.{Known}
 use Rattle.route_tables.specs.declared.sharing.SharedRows.{SharedRows}
@@ -133,15 +133,26 @@ known_kept reach n old new known kept are =
     kept.entries known
     (noted_kept (towards reach n) (λ (k : Known). k.number) old.builder.entries kept.more old.known.items are.known)
 
-pub shared_kept : (reach : ℕ → Reach) (n : ℕ) (old new : SharedRows) → new.known.items ≡ old.known.items → new.single.items ≡ old.single.items →
-    KeepsMore old new → AreShared reach n old → AreShared reach n new
-shared_kept reach n old new known single kept are = record {
-  known = known_kept reach n old new known kept are;
-  single = noted_as over_one (λ (k : ℕ). k) (old.builder.entries ++ kept.more) new.builder.entries old.single.items new.single.items kept.entries single
-      (noted_kept over_one (λ (k : ℕ). k) old.builder.entries kept.more old.single.items are.single);
-}
+-- and so do the entries over one hop alone
+pub single_kept : (old new : SharedRows) → KeepsNotes old new → KeepsMore old new → AreSingle old.builder.entries old.single.items →
+    AreSingle new.builder.entries new.single.items
+single_kept old new notes kept are =
+    noted_as over_one (λ (k : ℕ). k) (old.builder.entries ++ kept.more) new.builder.entries old.single.items new.single.items kept.entries notes.single
+    (noted_kept over_one (λ (k : ℕ). k) old.builder.entries kept.more old.single.items are)
 
--- the rows stay where an entry is kept
+pub shared_where_kept : {E : Type 0} (reach : ℕ → Reach) (n : ℕ) (old new : SharedRows) (r : Result ℕ E) → OnOk r (KeepsNotes old new) →
+    OnOk r (KeepsMore old new) → AreShared reach n old → OnOk r (AreShared reach n new)
+shared_where_kept reach n old new (Ok number) notes kept are =
+    record { known = known_kept reach n old new notes.known kept are; single = single_kept old new notes kept are.single }
+shared_where_kept reach n old new (Err e) notes kept are = notes
+
+-- what is noted stays where an entry is kept
+pub notes_where_kept : {E : Type 0} (old new : SharedRows) (entry : Entry) (r : Result ℕ E) → new.known.items ≡ old.known.items →
+    new.single.items ≡ old.single.items → IfOk r (Keeps old.builder new.builder entry) → OnOk r (KeepsNotes old new)
+notes_where_kept old new entry (Ok number) known single keeps = record { known = known; single = single }
+notes_where_kept old new entry (Err e) known single keeps = keeps
+
+-- and so do the rows
 pub rows_where_kept : {E : Type 0} (old new : SharedRows) (entry : Entry) (r : Result ℕ E) → new.numbers.items ≡ old.numbers.items →
     IfOk r (Keeps old.builder new.builder entry) → OnOk r (KeepsMore old new)
 rows_where_kept old new entry (Ok number) same keeps =
@@ -183,21 +194,18 @@ single_is reach at n entries all (Some hop) number to are is =
     record { below = has.below; is = record { hops = hop ∷ []; is = has.is; are = to } }
 
 -- and the other way round
-over_hop : (reach : Reach) (at n hop : ℕ) (entry : Entry) → AreHopsTo reach at n (hop ∷ []) → IsEntryTo reach at n entry → entry ≡ Via (hop ∷ [])
-over_hop reach at n hop entry to is =
+over_hop : (reach : Reach) (at n hop : ℕ) (hops : List ℕ) → AreHopsTo reach at n (hop ∷ []) → AreHopsTo reach at n hops → hops ≡ hop ∷ []
+over_hop reach at n hop hops to are =
     let is_hop : ℕ → Type 0 = λ h. (h < n) × HasHop reach at h in
-    is.is ∙ ap Via (AreHops-unique is_hop is.hops (hop ∷ []) (record { ascending = is.are.ascending; exact = is.are.exact })
-    (record { ascending = to.ascending; exact = to.exact }))
+    AreHops-unique is_hop hops (hop ∷ []) (record { ascending = are.ascending; exact = are.exact })
+    (record { ascending = to.ascending; exact = to.exact })
 
--- one more entry, which is noted where it is over one hop alone
-pub single_more : (reach : Reach) (at n : ℕ) (entries : List Entry) (entry : Entry) (all given : List (Option ℕ)) (hop : Option ℕ) (number : ℕ) →
-    IfSome hop (λ h. AreHopsTo reach at n (h ∷ [])) → IsEntryTo reach at n entry → number ≡ length entries → AreSingle entries all →
-    MatchOption hop (given ≡ all) (λ h. given ≡ set all h (Some number)) → AreSingle (entries ++ entry ∷ []) given
-single_more reach at n entries entry all given None number to is last are same =
-    noted_as over_one (λ (k : ℕ). k) (entries ++ entry ∷ []) (entries ++ entry ∷ []) all given refl same
-    (noted_kept over_one (λ (k : ℕ). k) entries (entry ∷ []) all are)
-single_more reach at n entries entry all given (Some hop) number to is last are same =
-    noted_as over_one (λ (k : ℕ). k) (entries ++ entry ∷ []) (entries ++ entry ∷ []) (set all hop (Some number)) given refl same
-    (noted_more over_one (λ (k : ℕ). k) (entries ++ entry ∷ []) all hop number
-    (noted_kept over_one (λ (k : ℕ). k) entries (entry ∷ []) all are)
-    (last_number (over_one hop number) entries entry number last (over_hop reach at n hop entry to is)))
+-- the entry towards a router is noted where it is over one hop alone
+pub single_more : (reach : Reach) (at n : ℕ) (entries : List Entry) (hops : List ℕ) (all given : List (Option ℕ)) (hop : Option ℕ) (number : ℕ) →
+    IfSome hop (λ h. AreHopsTo reach at n (h ∷ [])) → AreHopsTo reach at n hops → HasNumber (λ (e : Entry). e ≡ Via hops) entries number →
+    AreSingle entries all → MatchOption hop (given ≡ all) (λ h. given ≡ set all h (Some number)) → AreSingle entries given
+single_more reach at n entries hops all given None number to towards has are same = noted_as over_one (λ (k : ℕ). k) entries entries all given refl same are
+single_more reach at n entries hops all given (Some hop) number to towards has are same =
+    noted_as over_one (λ (k : ℕ). k) entries entries (set all hop (Some number)) given refl same
+    (noted_more over_one (λ (k : ℕ). k) entries all hop number are
+    (record { below = has.below; is = has.is ∙ ap Via (over_hop reach at n hop hops to towards) }))

@@ -1,17 +1,18 @@
--- Tables, row by row, and the tables and neighbors of all routers.
+-- Tables, row by row, and the tables of all routers.
 use Rattle.std.proofs.Common.{◌≡◌, ℕ, ◌+◌, ◌<◌, ◌≤◌, ◌↔◌, ⊎_elim, List, [], ◌∷◌, ◌++◌, length, take, Option, Some, None, MatchOption, get_or, refl, sym, ap, subst, ◌∙◌, arith, length-append}
 use Rattle.std.specs.List.{Contains}
 use Rattle.std.proofs.lemmas.List.{take_more, take_all, get_or-take, length-take-le, get_or_default}
 use Rattle.std.proofs.lemmas.List.Elements.{Contains-append_left, Contains-push, Contains-push_cases}
 use Rattle.net_addr.specs.Addresses.{Block, default_prefix}
+use Rattle.walk_core.specs.declared.segment.Port.{Port}
 use Rattle.route_core.specs.Tables.{HasDistinctPrefixes, AreLinkedHops}
 use Rattle.route_core.specs.declared.entry.Entry.{Entry}
 use Rattle.route_core.specs.declared.entry.Entry.TheVariants.{Via}
 use Rattle.route_core.proofs.TableLaws.{HasDistinctPrefixes-push}
-use Rattle.route_tables.specs.Entries.{IsLawful, IsTableOf, AreTablesBelow, AreNeighborsOf, AreNeighborsBelow}
+use Rattle.route_tables.specs.Entries.{IsLawful, IsTableOf, AreTablesBelow, AreJoined, AreJoinedBy}
 use Rattle.route_tables.specs.Prefixes.{AreDistinctPrefixes, prefix_at}
 use Rattle.route_tables.specs.Tables.{AreLawful, AreRoutes}
-use Rattle.route_tables.proofs.ListFacts.{at_most, each_more}
+use Rattle.route_tables.proofs.ListFacts.{each_more}
 
 -- Rows
 
@@ -127,83 +128,35 @@ tables_more entry n tables next are is = record {
   each = each_more (λ (u : ℕ). IsTableOf (entry u)) tables n next are.count are.each is;
 }
 
-pub neighbors_none : (neighbor : ℕ → ℕ → Type 0) → AreNeighborsBelow neighbor 0 []
-neighbors_none neighbor = record { count = refl; each = λ u below. absurd (omega arith) }
-
-pub neighbors_more : (neighbor : ℕ → ℕ → Type 0) (n : ℕ) (all : List (List ℕ)) (next : List ℕ) → AreNeighborsBelow neighbor n all →
-    AreNeighborsOf (neighbor n) next → AreNeighborsBelow neighbor (n + 1) (all ++ next ∷ [])
-neighbors_more neighbor n all next are is = record {
-  count = let long = length-append all (next ∷ []) in omega (arith, are.count);
-  each = each_more (λ (u : ℕ). AreNeighborsOf (neighbor u)) all n next are.count are.each is;
-}
-
--- Neighbors
-
--- the neighbors below n are there
-abbrev pub AreNearBelow : (ℕ → Type 0) → ℕ → List ℕ → Type 0
-AreNearBelow neighbor n all = (v : ℕ) → Contains all v ↔ ((v < n) × neighbor v)
-
-pub near_none : (neighbor : ℕ → Type 0) → AreNearBelow neighbor 0 []
-near_none neighbor v = (λ has. absurd (omega (arith, has.1)), λ both. absurd (omega (arith, both.0)))
-
-pub near_more : (neighbor : ℕ → Type 0) (n : ℕ) (all : List ℕ) → AreNearBelow neighbor n all → neighbor n → AreNearBelow neighbor (n + 1) (all ++ n ∷ [])
-near_more neighbor n all are is v = (
-  λ has. ⊎_elim
-      (λ earlier. let both = (are v).0 earlier in (omega (arith, both.0), both.1))
-      (λ same. (omega arith, subst neighbor same is))
-      (Contains-push_cases all n v has),
-  λ both. ⊎_elim
-      (λ less. Contains-append_left all (n ∷ []) v ((are v).1 (less, both.1)))
-      (λ same. subst (λ (k : ℕ). Contains (all ++ n ∷ []) k) (sym same) (Contains-push all n))
-      (at_most v n both.0),
-)
-
-pub near_no_more : (neighbor : ℕ → Type 0) (n : ℕ) (all : List ℕ) → AreNearBelow neighbor n all → (neighbor n → ⊥) → AreNearBelow neighbor (n + 1) all
-near_no_more neighbor n all are none v = (
-  λ has. let both = (are v).0 has in (omega (arith, both.0), both.1),
-  λ both. ⊎_elim
-      (λ less. (are v).1 (less, both.1))
-      (λ same. absurd (none (subst neighbor same both.1)))
-      (at_most v n both.0),
-)
-
-pub near_all : (neighbor : ℕ → Type 0) (routers n : ℕ) (all : List ℕ) → ((v : ℕ) → neighbor v → v < routers) → routers ≤ n → AreNearBelow neighbor n all →
-    AreNeighborsOf neighbor all
-near_all neighbor routers n all inside count are v = (
-  λ has. ((are v).0 has).1,
-  λ is. (are v).1 (let within : v < routers = inside v is in omega arith, is),
-)
-
 -- The source of tables
 
 -- what a protocol gives the routers is what every source of tables promises
 pub are_lawful : (routers : ℕ) (entry : ℕ → Block → Entry → Type 0) (neighbor : ℕ → ℕ → Type 0) (tables : List (List (Block × Entry)))
-    (neighbors : List (List ℕ)) → IsLawful routers entry neighbor → AreTablesBelow entry routers tables → AreNeighborsBelow neighbor routers neighbors →
-    AreLawful (record { tables = tables; neighbors = neighbors })
-are_lawful routers entry neighbor tables neighbors lawful are near = record {
+    (segments : List (List Port)) → IsLawful routers entry neighbor → AreTablesBelow entry routers tables → AreJoinedBy neighbor segments →
+    AreLawful (record { tables = tables; segments = segments })
+are_lawful routers entry neighbor tables segments lawful are joined = record {
   few = let few = lawful.few in omega (arith, are.count);
   tables = record {
     distinct = λ u below. (are.each u (omega (arith, are.count))).distinct;
     hops = λ u p hops below has.
         let within : u < routers = omega (arith, are.count) in
         let given : AreLinkedHops routers (neighbor u) hops = lawful.hops u p hops (((are.each u within).exact p (Via hops)).0 has) in
-        subst (λ (n : ℕ). AreLinkedHops n (λ v. Contains (get_or neighbors u []) v) hops) (sym are.count)
+        subst (λ (n : ℕ). AreLinkedHops n (AreJoined segments u) hops) (sym are.count)
         (record {
           some = given.some;
           ascending = given.ascending;
           below = given.below;
-          linked = λ k d inside. (near.each u within (get_or hops k d)).1 (given.linked k d inside);
+          linked = λ k d inside. (joined u (get_or hops k d)).1 (given.linked k d inside);
         });
   };
-  neighbors = near.count ∙ sym are.count;
 }
 
 -- and they are those of the protocol
 pub are_routes : (routers : ℕ) (entry : ℕ → Block → Entry → Type 0) (neighbor : ℕ → ℕ → Type 0) (tables : List (List (Block × Entry)))
-    (neighbors : List (List ℕ)) → AreTablesBelow entry routers tables → AreNeighborsBelow neighbor routers neighbors →
-    AreRoutes routers entry neighbor (record { tables = tables; neighbors = neighbors })
-are_routes routers entry neighbor tables neighbors are near = record {
+    (segments : List (List Port)) → AreTablesBelow entry routers tables → AreJoinedBy neighbor segments →
+    AreRoutes routers entry neighbor (record { tables = tables; segments = segments })
+are_routes routers entry neighbor tables segments are joined = record {
   routers = are.count;
   entries = λ u p e within. (are.each u within).exact p e;
-  linked = λ u v within. near.each u within v;
+  linked = joined;
 }

@@ -1,6 +1,8 @@
--- The entries and neighbors that a protocol gives routers, as tables and lists.
+-- The entries that a protocol gives routers, as tables, and its neighbors, by segments.
 use Rattle.std.specs.Prelude.{◌≡◌, ◌<◌, ◌≤◌, ◌↔◌, ℕ, List, [], length, slice_index_or, Contains}
 use Rattle.net_addr.specs.Addresses.{Block}
+use Rattle.walk_core.specs.Segments.{SendsAcross}
+use Rattle.walk_core.specs.declared.segment.Port.{Port}
 use Rattle.route_core.specs.Tables.{AreLinkedHops, HasDistinctPrefixes}
 use Rattle.route_core.specs.declared.entry.Entry.{Entry}
 use Rattle.route_core.specs.declared.entry.Entry.TheVariants.{Via}
@@ -27,11 +29,11 @@ pub record AreTablesBelow (entry : ℕ → Block → Entry → Type 0) (n : ℕ)
   pub count : length tables ≡ n
   pub each : (u : ℕ) → u < n → IsTableOf (entry u) (slice_index_or tables u [])
 
--- the list has these neighbors, and no others
-abbrev pub AreNeighborsOf : (ℕ → Type 0) → List ℕ → Type 0
-AreNeighborsOf neighbor neighbors = (v : ℕ) → Contains neighbors v ↔ neighbor v
+-- u sends to v over one of the segments
+pub record AreJoined (segments : List (List Port)) (u v : ℕ) : Type 0 where
+  pub cost : ℕ
+  pub sends : SendsAcross segments u v cost
 
--- these are the neighbors of the routers below n
-pub record AreNeighborsBelow (neighbor : ℕ → ℕ → Type 0) (n : ℕ) (neighbors : List (List ℕ)) : Type 0 where
-  pub count : length neighbors ≡ n
-  pub each : (u : ℕ) → u < n → AreNeighborsOf (neighbor u) (slice_index_or neighbors u [])
+-- two routers are joined by the segments where they are neighbors
+abbrev pub AreJoinedBy : (ℕ → ℕ → Type 0) → List (List Port) → Type 0
+AreJoinedBy neighbor segments = (u v : ℕ) → AreJoined segments u v ↔ neighbor u v

@@ -1,13 +1,15 @@
 -- The tables of all routers, and who is linked to whom.
-use Rattle.std.specs.Prelude.{◌≡◌, ◌<◌, ◌≤◌, ◌↔◌, ℕ, List, [], length, slice_index_or, Contains}
+use Rattle.std.specs.Prelude.{◌≡◌, ◌<◌, ◌≤◌, ◌↔◌, ℕ, List, [], length, slice_index_or}
 use Rattle.net_addr.specs.Addresses.{Block}
+use Rattle.walk_core.specs.declared.segment.Port.{Port}
 use Rattle.route_core.specs.Tables.{AreTables, HasEntry}
 use Rattle.route_core.specs.declared.entry.Entry.{Entry}
+use Rattle.route_tables.specs.Entries.{AreJoined}
 
--- the entries of each router's table, and its neighbors
+-- the entries of each router's table, and the segments that join routers
 pub record Routes : Type 0 where
   pub tables : List (List (Block × Entry))
-  pub neighbors : List (List ℕ)
+  pub segments : List (List Port)
 
 -- how many routers there are
 abbrev pub router_count : Routes → ℕ
@@ -17,19 +19,18 @@ router_count routes = length routes.tables
 abbrev pub table_at : Routes → ℕ → List (Block × Entry)
 table_at routes u = slice_index_or routes.tables u []
 
--- v is among u's neighbors
+-- u sends to v over one of the segments
 abbrev pub AreLinked : Routes → ℕ → ℕ → Type 0
-AreLinked routes u v = Contains (slice_index_or routes.neighbors u []) v
+AreLinked routes u v = AreJoined routes.segments u v
 
--- what every source of tables promises, with neighbors for each of at most 200 routers
+-- what every source of tables promises, of at most 200 routers
 pub record AreLawful (routes : Routes) : Type 0 where
   pub few : router_count routes ≤ 200
   pub tables : AreTables (router_count routes) (table_at routes) (AreLinked routes)
-  pub neighbors : length routes.neighbors ≡ length routes.tables
 
 -- the tables are those of this many routers, for every prefix and entry, and two routers are linked exactly where they
 -- are neighbors
 pub record AreRoutes (count : ℕ) (entry : ℕ → Block → Entry → Type 0) (neighbor : ℕ → ℕ → Type 0) (routes : Routes) : Type 0 where
   pub routers : router_count routes ≡ count
   pub entries : (u : ℕ) (p : Block) (e : Entry) → u < count → HasEntry (table_at routes) u p e ↔ entry u p e
-  pub linked : (u v : ℕ) → u < count → AreLinked routes u v ↔ neighbor u v
+  pub linked : (u v : ℕ) → AreLinked routes u v ↔ neighbor u v

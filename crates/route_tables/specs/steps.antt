@@ -1,3 +1,4 @@
 pub mod BestSoFar
 pub mod Sharing
 pub mod Alike
+pub mod Joined

@@ -1,5 +1,4 @@
-//! Route tables of all routers: the prefixes and routes that they are made of, and the tables and neighbors that a
-//! protocol gives.
+//! Route tables of all routers: the prefixes and routes that they are made of, and the tables that a protocol gives.
 //!
 //! - `protocol.rt`: what a protocol says of a network: candidates, zones with their least walks, the route of each router
 //!   for each candidate, which candidates have the same routes, neighbors.
@@ -10,15 +9,15 @@
 //!   and so do those towards routers that one hop alone leads to; no route is asked for a prefix with the same routes
 //!   as an earlier one.
 //! - `candidates.rt`, `distinct.rt`, `lists.rt`: prefixes, in order and each once, and lists that grow.
-//! - `neighbors.rt`, `routes.rt`: neighbors by asking all pairs; tables and neighbors together as a source of tables.
+//! - `routes.rt`, `joined.rt`: tables as a source of tables, with the segments that join neighbors.
 #![tactic(auto)]
 
 mod alike;
 mod best;
 mod candidates;
 mod distinct;
+mod joined;
 mod lists;
-mod neighbors;
 mod protocol;
 mod route;
 mod routes;

@@ -1,8 +1,8 @@
-ghost use Rattle.std.specs.Prelude.{◌≡◌, ◌↔◌, ◌<◌, ℕ, List, length, Contains, IfOk, IfSome, IsTrue, MatchOption};
+ghost use Rattle.std.specs.Prelude.{◌≡◌, ◌<◌, ℕ, List, length, Contains, IfOk, IfSome, MatchOption};
 ghost use Rattle.net_addr.specs.Addresses.{Block};
 ghost use Rattle.walk_core.specs.Reach.{Reach};
 ghost use Rattle.route_core.specs.declared.entry.Entry.{Entry};
-ghost use Rattle.route_tables.specs.Entries.{AreAlikePrefixes, IsLawful};
+ghost use Rattle.route_tables.specs.Entries.{AreAlikePrefixes, AreJoinedBy, IsLawful};
 ghost use Rattle.route_tables.specs.Routings.{IsRouteFor};
 ghost use Rattle.route_tables.specs.Prefixes.{AreDistinctPrefixes, prefix_at};
 
@@ -10,7 +10,7 @@ use crate::OutOfMemory;
 use crate::route::Route;
 use net_addr::Prefix;
 use std::alloc::Global;
-use walk_core::LeastWalks;
+use walk_core::{LeastWalks, Segment};
 
 /// A routing protocol on a network: what it gives each router.
 ///
@@ -72,9 +72,7 @@ pub trait Protocol {
         requires zone { zone < zones self.now }
         ensures { result.now ≡ reach self.now router zone };
 
-    /// Whether a router has another one as its neighbor.
-    fn is_neighbor(&self, router: u32, other: u32) -> bool
-        requires from_router { router < routers self.now }
-        requires to_router { other < routers self.now }
-        ensures { IsTrue result ↔ neighbor self.now router other };
+    /// Segments that join each router and its neighbors, and no others.
+    fn segments(&self, alloc: Global) -> Result<Vec<Segment>, OutOfMemory>
+        ensures { IfOk result (λ segments. AreJoinedBy (neighbor self.now) segments.items) };
 }

@@ -2,19 +2,20 @@ ghost use Rattle.std.specs.Prelude.{IfOk};
 ghost use Rattle.route_tables.specs.Tables.{AreRoutes};
 
 use crate::OutOfMemory;
-use crate::neighbors::{Neighbors, all_neighbors};
+use crate::joined::are_joined;
 use crate::protocol::Protocol;
 use crate::table::all_tables;
 use route_core::{RouteSource, Table};
 use std::alloc::Global;
 use std::marker::Model;
+use walk_core::Segment;
 
 /// The route tables that a protocol gives the routers of a network. Two routers are linked where the second is a
 /// neighbor of the first.
 #[derive(Debug, Drop)]
 pub struct RouteTables {
     tables: Vec<Table>,
-    neighbors: Vec<Neighbors>,
+    segments: Vec<Segment>,
 }
 
 impl Model for RouteTables {
@@ -22,9 +23,9 @@ impl Model for RouteTables {
 
     ghost Value = { Routes };
 
-    ghost view = { λ x. record { tables = x.tables.items; neighbors = x.neighbors.items } };
+    ghost view = { λ x. record { tables = x.tables.items; segments = x.segments.items } };
 
-    ghost invariant = { λ x. AreLawful (record { tables = x.tables.items; neighbors = x.neighbors.items }) };
+    ghost invariant = { λ x. AreLawful (record { tables = x.tables.items; segments = x.segments.items }) };
 }
 
 impl RouteTables {
@@ -33,8 +34,8 @@ impl RouteTables {
         ensures { IfOk result (AreRoutes (P.routers protocol.now) (P.entry protocol.now) (P.neighbor protocol.now)) }
     {
         let tables = all_tables(alloc, protocol)?;
-        let neighbors = all_neighbors(alloc, protocol)?;
-        Ok(RouteTables { tables, neighbors })
+        let segments = protocol.segments(alloc)?;
+        Ok(RouteTables { tables, segments })
     }
 }
 
@@ -56,6 +57,6 @@ impl RouteSource for RouteTables {
     }
 
     fn linked(&self, router: u32, other: u32) -> bool {
-        self.neighbors[router as usize].contains(other)
+        are_joined(self.segments.as_slice(), router, other)
     }
 }

@@ -1,7 +1,8 @@
 ghost use Rattle.std.specs.Prelude.{◌≡◌, ◌<◌, ◌∷◌, ℕ, [], None, Some, length, slice_index_or, slice_set, IfOk, IfSome, OnOk, MatchOption};
 ghost use Rattle.route_tables.specs.Prefixes.{prefix_at};
 ghost use Rattle.route_tables.specs.Routings.{AreHopsTo, HasZoneTarget, IsEntryTo, IsReached, IsZoneTarget, Makes};
-ghost use Rattle.route_tables.specs.steps.Sharing.{AddsNumber, AreNumbers, AreShared, AreSingle, HasNumber, IsNumberOf, KeepsMore};
+ghost use Rattle.route_tables.specs.steps.Sharing.{AddsNumber, AreNumbers, AreShared, AreSingle, HasNumber, IsNumberOf, KeepsMore, KeepsNotes};
+ghost use Rattle.route_core.specs.declared.entry.Entry.TheVariants.{Via};
 
 use crate::OutOfMemory;
 use crate::protocol::Protocol;
@@ -106,7 +107,19 @@ fn number_of<P: Protocol>(
     match route {
         Route::Drops => shared.builder.keep(Entry::Discard),
         Route::Towards(target) => number_towards(alloc, protocol, router, shared, target),
-        Route::Through(hops) => shared.builder.keep(Entry::Via(hops)),
+        Route::Through(hops) => number_through(shared, hops),
+    }
+}
+
+/// The number of the entry over these hops: that of one that is kept, else that of a new one.
+fn number_through(shared: &mut SharedRows, hops: Hops) -> Result<u32, OutOfMemory>
+    ensures noted { OnOk result (KeepsNotes shared.old shared.new) }
+    ensures kept { OnOk result (KeepsMore shared.old shared.new) }
+    ensures number { IfOk result (HasNumber (λ entry. entry ≡ Via hops) shared.new.builder.entries) }
+{
+    match shared.builder.find(hops.as_slice()) {
+        Some(number) => Ok(number),
+        None => shared.builder.keep(Entry::Via(hops)),
     }
 }
 
@@ -155,8 +168,8 @@ fn number_over(
     if let Some(number) = single_number(shared.single.as_slice(), hop) {
         return Ok(number);
     }
-    let entry = entry_towards(alloc, walks, at, count)?;
-    let number = shared.builder.keep(entry)?;
+    let hops = hops_towards(alloc, walks, at, count)?;
+    let number = number_through(shared, hops)?;
     note_single(&mut shared.single, hop, number);
     Ok(number)
 }
@@ -213,21 +226,16 @@ fn remember(known: &mut Vec<Option<Known>>, target: Target, number: u32)
     }
 }
 
-/// The entry with the first hops below `count` towards a router.
-fn entry_towards(
-    alloc: Global,
-    walks: &LeastWalks,
-    at: u32,
-    count: u32,
-) -> Result<Entry, OutOfMemory>
+/// The first hops below `count` towards a router.
+fn hops_towards(alloc: Global, walks: &LeastWalks, at: u32, count: u32) -> Result<Hops, OutOfMemory>
     requires { IsReached walks.now at }
-    ensures { IfOk result (IsEntryTo walks.now at count) }
+    ensures { IfOk result (AreHopsTo walks.now at count) }
 {
     match walks.distance(at) {
         Some(distance) => {
             let offers = [Offer { at, asks: 0 }];
             let hops = walks.hops_towards(alloc, &offers, distance, count)?;
-            Ok(Entry::Via(Hops::from_vec(hops)))
+            Ok(Hops::from_vec(hops))
         }
         None => unreachable!(),
     }

@@ -1,5 +1,5 @@
 -- The areas of a network, each with its least walks.
-use Rattle.std.specs.Prelude.{◌≡◌, ◌≢◌, ◌<◌, ◌↔◌, ℕ, List, length, Option, None, Some, IsTrue, All, Contains, slice_index_or}
+use Rattle.std.specs.Prelude.{◌≡◌, ◌≢◌, ◌<◌, ◌↔◌, ℕ, List, length, Option, None, Some, All, Contains, slice_index_or}
 use Rattle.net_model.specs.Network.{Network, InArea, RunsArea, Adjacent}
 use Rattle.net_model.specs.Refusals.{IsNetwork}
 use Rattle.net_model.specs.declared.bounds.TheConstants.{MOST_ROUTERS}
@@ -8,6 +8,7 @@ use Rattle.net_model.specs.declared.zone.Zone.TheVariants.{Area}
 use Rattle.igp_theory.specs.Ospf.{ListensTo}
 use Rattle.walk_core.specs.Reach.{Reach, AreLeastWalks, AreNear}
 use Rattle.zone_graph.specs.Walks.{AreZoneWalks}
+use Rattle.ospf_routes.specs.steps.Members.{AreMembersBelow}
 use Rattle.ospf_routes.specs.declared.areas.AreaWalks.{AreaWalks}
 
 -- the interface is up and runs OSPF in another area than n
@@ -33,15 +34,21 @@ pub record HasWalks (areas : List AreaWalks) (n : ℕ) (walks : List Reach) : Ty
 abbrev pub HaveWalks : Network → List AreaWalks → Type 0
 HaveWalks net areas = All (λ (a : AreaWalks). AreZoneWalks net (Area a.number) a.walks) areas
 
--- the areas of these numbers have their least walks
+-- each area has its routers
+abbrev pub HaveMembers : Network → List AreaWalks → Type 0
+HaveMembers net areas = All (λ (a : AreaWalks). AreMembersBelow net a.number (length net) a.members) areas
+
+-- the areas of these numbers have their least walks and their routers
 pub record AreNumbered (net : Network) (numbers : List ℕ) (areas : List AreaWalks) : Type 0 where
   pub walks : HaveWalks net areas
+  pub members : HaveMembers net areas
   pub every : (n : ℕ) → Contains numbers n → HasArea areas n
 
--- the areas of a network have their least walks, and are the backbone and every area that a router is in
+-- the areas of a network have their least walks and their routers, and are the backbone and every area that a router is in
 pub record AreAreas (net : Network) (areas : List AreaWalks) : Type 0 where
   pub network : IsNetwork net
   pub walks : HaveWalks net areas
+  pub members : HaveMembers net areas
   pub backbone : HasArea areas 0
   pub every : (u n : ℕ) → InArea net u n → HasArea areas n
 

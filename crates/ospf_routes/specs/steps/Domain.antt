@@ -1,7 +1,5 @@
 -- What is known of an OSPF domain before anything is summarized.
-use Rattle.std.specs.Prelude.{length}
 use Rattle.net_model.specs.Network.{Network}
-use Rattle.ospf_routes.specs.steps.Adjacent.{AreAdjacentBelow}
 use Rattle.ospf_routes.specs.steps.Areas.{AreAreas}
 use Rattle.ospf_routes.specs.steps.Destinations.{AreOspfDestinations}
 use Rattle.ospf_routes.specs.declared.domain.Domain.{Domain}
@@ -10,4 +8,3 @@ use Rattle.ospf_routes.specs.declared.domain.Domain.{Domain}
 pub record IsOspfDomain (net : Network) (domain : Domain) : Type 0 where
   pub areas : AreAreas net domain.areas.items
   pub destinations : AreOspfDestinations net domain.destinations.items
-  pub adjacent : AreAdjacentBelow net (length net) domain.adjacent.items

@@ -1,21 +1,12 @@
 -- The routes of a router within and between areas.
-use Rattle.std.specs.Prelude.{◌≡◌, ◌≢◌, ◌↔◌, ◌<◌, ℕ, List, length, Some, Any, Contains}
+use Rattle.std.specs.Prelude.{◌↔◌, ◌<◌, ℕ, List, length, Any, Contains}
 use Rattle.std.specs.List.Sorted.{IsStrictlyIncreasing}
 use Rattle.net_addr.specs.Addresses.{Block}
 use Rattle.net_model.specs.Network.{Network, InArea, Adjacent}
 use Rattle.net_model.specs.declared.zone.Zone.TheVariants.{Area}
 use Rattle.walk_core.specs.Offers.{BestCost, BestHop}
-use Rattle.walk_core.specs.Reach.{Reach, distance_of}
-use Rattle.walk_core.specs.declared.offers.Offer.{Offer}
 use Rattle.route_core.specs.Hops.{AreHops}
 use Rattle.igp_theory.specs.Ospf.{OffersSubnet, IntraAreaCost, IntraAreaHop, IsIntraArea, OfOthers, Summary, ListensTo, InterAreaHop}
-
--- the offer is this one, another router than u makes it, and it is reached
-pub record IsReachedOther (reach : Reach) (u : ℕ) (o offer : Offer) : Type 0 where
-  pub same : offer ≡ o
-  pub other : offer.at ≢ u
-  pub distance : ℕ
-  pub reached : distance_of reach offer.at ≡ Some distance
 
 -- the hops below n that are in one of the lists, in ascending order
 pub record AreUnited (lists : List (List ℕ)) (n : ℕ) (hops : List ℕ) : Type 0 where

@@ -1,7 +1,7 @@
 -- What border routers summarize of a prefix, and announce into each area.
-use Rattle.std.specs.Prelude.{◌≡◌, ℕ, List, map, Option, Some, IsTrue, All}
+use Rattle.std.specs.Prelude.{◌≡◌, ◌≢◌, ℕ, List, map, Option, Some, IsTrue, All}
 use Rattle.net_addr.specs.Addresses.{Block, default_prefix}
-use Rattle.net_model.specs.Network.{Network, IsBorderRouter}
+use Rattle.net_model.specs.Network.{Network, InArea, IsBorderRouter}
 use Rattle.net_model.specs.declared.area.Range.{Range}
 use Rattle.net_model.specs.declared.area.Stub.{Stub}
 use Rattle.walk_core.specs.declared.offers.Offer.{Offer}
@@ -67,10 +67,15 @@ pub record IsBorderOffer (u : ℕ) (cost : Option ℕ) (o : Offer) : Type 0 wher
   pub at : o.at ≡ u
   pub costs : cost ≡ Some o.asks
 
--- the offer is this one, and its router doesn't announce the default route alone into area n
+-- router b is in area n, and announces more than the default route into it
+pub record Announces (net : Network) (n b : ℕ) : Type 0 where
+  pub inside : InArea net b n
+  pub summaries : n ≢ 0 → IsTotallyStubby net b n → ⊥
+
+-- the offer is this one, and its router announces it into area n
 pub record IsAllowed (net : Network) (n : ℕ) (o other : Offer) : Type 0 where
   pub same : other ≡ o
-  pub allowed : IsTotallyStubby net o.at n → ⊥
+  pub announces : Announces net n o.at
 
 -- the stub area is n, with a default route alone
 pub record IsAlone (n : ℕ) (s : Stub) : Type 0 where
@@ -83,9 +88,10 @@ pub record IsDefault (n b : ℕ) (o : Offer) (s : Stub) : Type 0 where
   pub at : o.at ≡ b
   pub costs : o.asks ≡ s.default_cost
 
--- the offer is a default route of router b, a border router, into area n
+-- the offer is a default route of router b, a border router in area n, into that area
 pub record RouterDefault (net : Network) (n b : ℕ) (o : Offer) : Type 0 where
   pub at : o.at ≡ b
+  pub inside : InArea net b n
   pub border : IsBorderRouter net b
   pub stub : Stub
   pub has : HasStub net b n stub
@@ -96,14 +102,19 @@ pub record HasDefault (net : Network) (n : ℕ) (p : Block) (o : Offer) : Type 0
   pub all : p ≡ default_prefix
   pub default : RouterDefault net n o.at o
 
--- the part has what is announced of p into its area
+-- router b is in area n, and announces p into it
+pub record IsHeard (net : Network) (p : Block) (n b cost : ℕ) : Type 0 where
+  pub inside : InArea net b n
+  pub summary : Summary net p n b cost
+
+-- the part has what the routers of its area announce of p into it
 abbrev pub IsSummaryOf : Network → Block → AreaOffers → Type 0
-IsSummaryOf net p part = AreOffers (Summary net p part.area) part.offers.items
+IsSummaryOf net p part = AreOffers (IsHeard net p part.area) part.offers.items
 
 -- each part has what is announced into its area, and each area that something is announced into is a part
 pub record AreSummaries (net : Network) (areas : List AreaWalks) (s : Summaries) : Type 0 where
   pub exact : All (IsSummaryOf net s.dest) s.parts.items
-  pub every : (n at asks : ℕ) → HasArea areas n → Summary net s.dest n at asks → HasAreaPart s.parts.items n
+  pub every : (n at asks : ℕ) → HasArea areas n → IsHeard net s.dest n at asks → HasAreaPart s.parts.items n
 
 -- what border routers announce of each prefix, in the order of the destinations
 pub record AreAllSummaries (net : Network) (domain : Domain) (summaries : List Summaries) : Type 0 where

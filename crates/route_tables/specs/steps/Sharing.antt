@@ -47,6 +47,11 @@ pub record KeepsMore (old new : SharedRows) : Type 0 where
   pub rows : new.builder.rows ≡ old.builder.rows
   pub numbers : new.numbers.items ≡ old.numbers.items
 
+-- what is noted stays
+pub record KeepsNotes (old new : SharedRows) : Type 0 where
+  pub known : new.known.items ≡ old.known.items
+  pub single : new.single.items ≡ old.single.items
+
 -- the number of the next prefix has come, with the prefix's row where there is one
 pub record AddsNumber (dest : Block) (number : Option ℕ) (old new : SharedRows) : Type 0 where
   pub entries : new.builder.entries ≡ old.builder.entries

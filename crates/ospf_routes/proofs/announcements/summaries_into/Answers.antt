@@ -1,28 +1,37 @@
 use Rattle.std.proofs.Common.{refl, subst, List, sym}
-use Rattle.std.proofs.lemmas.Result.{IfOk-weaker}
-use Rattle.std.specs.List.{Any}
-use Rattle.igp_theory.specs.Ospf.{AreaSummary, Summary}
 use Rattle.walk_core.specs.declared.offers.Offer.{Offer}
-use Rattle.ospf_routes.proofs.SummaryFacts.{outside_are, summaries_into_backbone, summaries_into_area}
-use Rattle.ospf_routes.specs.Lists.{Exactly}
-use Rattle.ospf_routes.specs.steps.Offered.{OutsideOf, AreOffers}
-use Rattle.ospf_routes.specs.declared.area_route.AreaRoute.{AreaRoute}
+use Rattle.ospf_routes.proofs.SummaryFacts.{border_routers, heard_in_area, heard_in_backbone, outside_are, outside_routers}
+use Rattle.ospf_routes.specs.steps.Offered.{AreOffers}
+use Rattle.ospf_routes.specs.steps.Summarized.{OutsideSummary}
 use Rattle.ospf_routes.proofs.announcements.summaries_into.Goals as goal
 
-pub area_summaries-requires-clause-outside : goal.area_summaries-requires-clause-outside
-area_summaries-requires-clause-outside c =
-    outside_are c.args.net.now c.args.area c.args.dest c.args.routes.now c.args.routes.now c.as_slice.result.now c.requires.routes refl
-    (subst (λ (l : List Offer). Exactly (λ (o : Offer). Any (λ (r : AreaRoute). OutsideOf c.args.area r o) c.args.routes.now) l)
-    (sym c.as_slice.ensures.value) c.in_ok-outside.ensures)
+pub push_allowed-requires-clause-routers : goal.push_allowed-requires-clause-routers
+push_allowed-requires-clause-routers c =
+    outside_routers c.args.net.now c.args.area.now.number c.args.dest c.in_ok-outside.outside.items c.as_slice.result.now
+    (outside_are c.args.net.now c.args.area.now.number c.args.dest c.args.routes.now c.args.routes.now c.in_ok-outside.outside.items c.requires.routes refl
+    c.in_ok-outside.ensures) c.as_slice.ensures.value
+
+pub push_allowed-requires-2-clause-routers : goal.push_allowed-requires-2-clause-routers
+push_allowed-requires-2-clause-routers c =
+    border_routers c.args.net.now c.args.dest c.args.borders.now c.args.borders.now c.requires.borders refl
 
 pub returns-then-is_backbone : goal.returns-then-is_backbone
 returns-then-is_backbone c =
-    summaries_into_backbone c.args.net.now c.args.dest c.args.area c.in_ok-outside.outside.items c.if-is_backbone.true
-    (outside_are c.args.net.now c.args.area c.args.dest c.args.routes.now c.args.routes.now c.in_ok-outside.outside.items c.requires.routes refl
-    c.in_ok-outside.ensures)
+    let net = c.args.net.now in
+    let n = c.args.area.now.number in
+    let outside : List Offer = c.as_slice.result.now in
+    heard_in_backbone net n c.args.dest outside c.new-offers.result.items c.push_allowed.new.offers.items c.if-is_backbone.true
+    (subst (λ (l : List Offer). AreOffers (OutsideSummary net n c.args.dest) l) (sym c.as_slice.ensures.value)
+    (outside_are net n c.args.dest c.args.routes.now c.args.routes.now c.in_ok-outside.outside.items c.requires.routes refl c.in_ok-outside.ensures))
+    c.new-offers.ensures.items c.in_ok-push_allowed.ensures
 
 pub returns : goal.returns
 returns c =
-    IfOk-weaker c.area_summaries.result (λ offers. AreOffers (AreaSummary c.args.net.now c.args.area c.args.dest) offers.items)
-    (λ offers. AreOffers (Summary c.args.net.now c.args.dest c.args.area) offers.items)
-    (λ offers are. summaries_into_area c.args.net.now c.args.dest c.args.area offers.items c.if-is_backbone.false are) c.area_summaries.ensures
+    let net = c.args.net.now in
+    let n = c.args.area.now.number in
+    let outside : List Offer = c.as_slice.result.now in
+    heard_in_area net n c.args.dest outside c.args.borders.now c.new-offers.result.items c.push_allowed.new.offers.items c.push_allowed-2.new.offers.items
+    c.push_defaults.new.offers.items c.if-is_backbone.false
+    (subst (λ (l : List Offer). AreOffers (OutsideSummary net n c.args.dest) l) (sym c.as_slice.ensures.value)
+    (outside_are net n c.args.dest c.args.routes.now c.args.routes.now c.in_ok-outside.outside.items c.requires.routes refl c.in_ok-outside.ensures))
+    c.requires.borders c.new-offers.ensures.items c.in_ok-push_allowed.ensures c.in_ok-push_allowed-2.ensures c.in_ok-push_defaults.ensures

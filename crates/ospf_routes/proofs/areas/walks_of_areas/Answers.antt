@@ -13,10 +13,10 @@ pub loop-number-preserved : goal.loop-number-preserved
 loop-number-preserved c =
     let n : ℕ = c.loop-number.number-index in
     let numbers : List ℕ = c.args.numbers.now in
-    let a : AreaWalks = record { number = get_or numbers n 0; walks = c.in_ok-build.field-0 } in
+    let a : AreaWalks = record { number = get_or numbers n 0; walks = c.in_ok-build.field-0; members = c.in_ok-of_area.field-0 } in
     subst (λ (l : List AreaWalks). AreNumbered c.args.net.now (take (n + 1) numbers) l) (sym c.in_ok-push.ensures.items)
     (subst (λ (l : List ℕ). AreNumbered c.args.net.now l (c.loop-number.areas.items ++ a ∷ [])) (sym (take_more numbers n 0 c.loop-number-test.true))
-    (numbered_more c.args.net.now (take n numbers) c.loop-number.areas.items a c.loop-number.invariant c.in_ok-build.ensures))
+    (numbered_more c.args.net.now (take n numbers) c.loop-number.areas.items a c.loop-number.invariant c.in_ok-build.ensures c.in_ok-of_area.ensures))
 
 pub returns : goal.returns
 returns c =

@@ -1,41 +1,51 @@
-use Rattle.std.proofs.Common.{◌^◌, ◌<◌, refl, arith}
+use Rattle.std.proofs.Common.{◌≡◌, ◌^◌, ◌<◌, ◌↔◌, ℕ, Option, None, Some, arith, refl, subst, sym}
 use Rattle.std.proofs.lemmas.Bool.{false≢true}
-use Rattle.igp_theory.specs.Ospf.{OfOthers, BackboneSummary}
-use Rattle.net_model.specs.Network.{Adjacent}
-use Rattle.net_model.specs.declared.zone.Zone.TheVariants.{Area}
+use Rattle.std.proofs.lemmas.Option.{none-some}
+use Rattle.igp_theory.specs.Ospf.{BackboneSummary, BorderCost}
 use Rattle.ospf_routes.proofs.CostBounds.{in_range, backbone_is_small}
 use Rattle.ospf_routes.proofs.RangeFacts.{active_range_is}
-use Rattle.ospf_routes.proofs.SummaryFacts.{no_border_cost, OfReached, reached_are, border_cost_is}
+use Rattle.ospf_routes.proofs.SummaryFacts.{no_border_cost, border_cost_is}
 use Rattle.ospf_routes.proofs.backbone_routes.border_cost.Goals as goal
+
+pub returns-in_err-walks : goal.returns-in_err-walks
+returns-in_err-walks c = absurd (c.in_err-walks.ensures.none c.requires.areas.backbone)
+
+pub best_cost-requires : goal.best_cost-requires
+best_cost-requires c =
+    in_range c.in_ok-walks.walks.now (BackboneSummary c.args.net.now c.args.destination.now.dest) c.args.backbone.now c.args.backbone.now
+    c.in_ok-walks.ensures.some.near c.requires.backbone refl
+    (λ at asks s. let small : asks < 2 ^ 41 = backbone_is_small c.args.net.now c.args.areas.now c.args.destination.now.dest at asks
+    c.requires.areas s in omega arith)
+
+pub returns-in_err-cost : goal.returns-in_err-cost
+returns-in_err-cost c =
+    let net = c.args.net.now in
+    let p = c.args.destination.now.dest in
+    subst (λ (found : Option ℕ). (cost : ℕ) → (found ≡ Some cost) ↔ BorderCost net p c.args.u cost) (sym c.from_residual-in_err-cost.ensures)
+    (no_border_cost net p c.args.u (λ cost costs. none-some cost
+    ((border_cost_is net p c.args.u c.in_ok-walks.walks.now c.args.backbone.now c.requires.border c.in_ok-walks.ensures.some c.requires.backbone None
+    c.in_err-cost.ensures cost).0 costs).0))
 
 pub returns-then-contains : goal.returns-then-contains
 returns-then-contains c =
     no_border_cost c.args.net.now c.args.destination.now.dest c.args.u
-    (λ _ no_range. no_range ((active_range_is c.args.net.now c.args.u c.args.destination.now.dest c.args.ranges.now c.requires.ranges).0
+    (λ _ costs. costs.no_range ((active_range_is c.args.net.now c.args.u c.args.destination.now.dest c.args.ranges.now c.requires.ranges).0
     (c.if-contains.ensures.0 refl)))
 
 pub returns-then-has_intra : goal.returns-then-has_intra
 returns-then-has_intra c =
-    no_border_cost c.args.net.now c.args.destination.now.dest c.args.u (λ no_intra _. no_intra (c.if-has_intra.ensures.0 refl))
+    no_border_cost c.args.net.now c.args.destination.now.dest c.args.u (λ _ costs. costs.no_intra (c.if-has_intra.ensures.0 refl))
 
-pub best_cost-requires : goal.best_cost-requires
-best_cost-requires c =
-    in_range c.in-Some.walks.now (OfReached (Adjacent c.args.net.now (Area 0))
-    (OfOthers (BackboneSummary c.args.net.now c.args.destination.now.dest) c.args.u) c.args.u)
-    c.in_ok-others-in-Some.others.items c.as_slice.result.now c.in-Some.ensures.some.near
-    (reached_are (Adjacent c.args.net.now (Area 0)) c.args.u c.in-Some.walks.now (BackboneSummary c.args.net.now c.args.destination.now.dest)
-    c.args.backbone.now c.args.backbone.now c.in_ok-others-in-Some.others.items c.in-Some.ensures.some.least c.requires.backbone refl
-    c.in_ok-others-in-Some.ensures) c.as_slice.ensures.value
-    (λ at asks r. let small : asks < 2 ^ 41 = backbone_is_small c.args.net.now c.args.areas.now c.args.destination.now.dest at asks
-    c.requires.areas r.offered.offered in omega arith)
-
-pub returns-in_ok-others-in-Some : goal.returns-in_ok-others-in-Some
-returns-in_ok-others-in-Some c =
-    border_cost_is c.args.net.now c.args.destination.now.dest c.args.u c.in-Some.walks.now c.in_ok-others-in-Some.others.items c.as_slice.result.now
-    c.requires.border
-    (λ is. false≢true (c.if-has_intra.ensures.1 is)) (λ is. false≢true
-    (c.if-contains.ensures.1 ((active_range_is c.args.net.now c.args.u c.args.destination.now.dest c.args.ranges.now c.requires.ranges).1 is)))
-    c.in-Some.ensures.some (reached_are (Adjacent c.args.net.now (Area 0)) c.args.u c.in-Some.walks.now
-    (BackboneSummary c.args.net.now c.args.destination.now.dest)
-    c.args.backbone.now c.args.backbone.now c.in_ok-others-in-Some.others.items c.in-Some.ensures.some.least c.requires.backbone refl
-    c.in_ok-others-in-Some.ensures) c.as_slice.ensures.value c.best_cost.result c.best_cost.ensures
+pub returns : goal.returns
+returns c = λ cost.
+    let net = c.args.net.now in
+    let p = c.args.destination.now.dest in
+    let is = border_cost_is net p c.args.u c.in_ok-walks.walks.now c.args.backbone.now c.requires.border c.in_ok-walks.ensures.some c.requires.backbone
+    (Some c.in_ok-cost.cost) c.in_ok-cost.ensures cost in (
+      λ same. is.1 (
+        same,
+        λ intra. false≢true (c.if-has_intra.ensures.1 intra),
+        λ range. false≢true (c.if-contains.ensures.1 ((active_range_is net c.args.u p c.args.ranges.now c.requires.ranges).1 range)),
+      ),
+      λ costs. (is.0 costs).0,
+    )

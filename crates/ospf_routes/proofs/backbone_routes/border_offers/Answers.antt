@@ -13,17 +13,17 @@ bounds-ranges-u c =
     subst (λ (n : ℕ). get_or c.args.borders.now c.loop-u.u-index 0 < n) (sym c.requires.ranges.count)
     (listed_is_router c.args.net.now c.args.borders.now c.loop-u.u-index 0 c.requires.borders c.loop-u-test.true)
 
-pub border_cost-requires-clause-ranges : goal.border_cost-requires-clause-ranges
-border_cost-requires-clause-ranges c =
+pub border_cost-cost-requires-clause-ranges : goal.border_cost-cost-requires-clause-ranges
+border_cost-cost-requires-clause-ranges c =
     ranges_of c.args.net.now c.args.ranges.now (get_or c.args.borders.now c.loop-u.u-index 0) c.index-ranges-u.result c.requires.ranges
     (listed_is_router c.args.net.now c.args.borders.now c.loop-u.u-index 0 c.requires.borders c.loop-u-test.true) c.index-ranges-u.is
 
-pub border_cost-requires-clause-border : goal.border_cost-requires-clause-border
-border_cost-requires-clause-border c =
+pub border_cost-cost-requires-clause-border : goal.border_cost-cost-requires-clause-border
+border_cost-cost-requires-clause-border c =
     listed_is_border c.args.net.now c.args.borders.now c.loop-u.u-index 0 c.requires.borders c.loop-u-test.true
 
-pub border_cost-requires-clause-router : goal.border_cost-requires-clause-router
-border_cost-requires-clause-router c =
+pub border_cost-cost-requires-clause-router : goal.border_cost-cost-requires-clause-router
+border_cost-cost-requires-clause-router c =
     listed_is_router c.args.net.now c.args.borders.now c.loop-u.u-index 0 c.requires.borders c.loop-u-test.true
 
 pub loop-u-init : goal.loop-u-init
@@ -40,7 +40,7 @@ loop-u-preserved c =
     c.push_option.new.all.items c.args.borders.now i u c.loop-u-test.true (get_or_default c.args.borders.now i 0 u c.loop-u-test.true)
     c.loop-u.invariant
     (adds_same c.loop-u.offers.items c.push_option.new.all.items (λ (o : Offer). c.border_offer.result ≡ Some o) (BorderOfRouter net p u)
-    c.in_ok-push_option.ensures.ok (border_of_router net p u c.in_ok-cost.cost c.border_offer.result c.in_ok-cost.ensures c.border_offer.ensures))
+    c.in_ok-push_option.ensures.ok (border_of_router net p u c.border_cost-cost.result c.border_offer.result c.border_cost-cost.ensures c.border_offer.ensures))
 
 pub returns : goal.returns
 returns c =

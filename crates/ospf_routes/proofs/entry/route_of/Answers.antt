@@ -1,9 +1,9 @@
-use Rattle.std.proofs.Common.{ℕ, length, refl, subst}
+use Rattle.std.proofs.Common.{ℕ, length, refl, sym, subst}
 use Rattle.std.proofs.lemmas.Bool.{false≢true}
 use Rattle.std.proofs.lemmas.Option.{MatchOption-at_some, MatchOption-at_none}
 use Rattle.net_addr.specs.Addresses.{Block}
 use Rattle.walk_core.specs.Reach.{Reach}
-use Rattle.igp_theory.specs.Ospf.{IsIntraArea, OspfEntry}
+use Rattle.igp_theory.specs.Ospf.{IsIntraArea, IsActiveRange, OspfEntry}
 use Rattle.route_tables.specs.Routings.{ForwardsBy, IsRouteFor}
 use Rattle.route_tables.proofs.BestRoutes.{route_by_hops, route_by_discard}
 use Rattle.ospf_routes.specs.steps.AreaReach.{area_reach}
@@ -40,6 +40,23 @@ returns-then-contains c =
     (MatchOption-at_none (IsIntraArea net p u → ⊥) (IsRouteFor reach zones (length net) (ForwardsBy (IsIntraRoute net p u)))
     c.in_default.is c.in_ok-route.ensures)
     ((active_range_is net u p c.args.ranges.now c.requires.ranges).0 (c.if-contains.ensures.0 refl)))
+
+pub inter_route-requires-clause-no_intra : goal.inter_route-requires-clause-no_intra
+inter_route-requires-clause-no_intra c =
+    let net = c.args.net.now in
+    let u = c.args.u in
+    let p : Block = c.args.destination.now.dest in
+    subst (λ (q : Block). IsIntraArea net q u → ⊥) (sym c.requires.dest)
+    (MatchOption-at_none (IsIntraArea net p u → ⊥)
+    (IsRouteFor (area_reach c.args.areas.now u) (length c.args.areas.now) (length net) (ForwardsBy (IsIntraRoute net p u))) c.in_default.is
+    c.in_ok-route.ensures)
+
+pub inter_route-requires-clause-no_range : goal.inter_route-requires-clause-no_range
+inter_route-requires-clause-no_range c =
+    let net = c.args.net.now in
+    let p : Block = c.args.destination.now.dest in
+    subst (λ (q : Block). IsActiveRange net q c.args.u → ⊥) (sym c.requires.dest)
+    (λ is. false≢true (c.if-contains.ensures.1 ((active_range_is net c.args.u p c.args.ranges.now c.requires.ranges).1 is)))
 
 pub returns-in-Some-2 : goal.returns-in-Some-2
 returns-in-Some-2 c =

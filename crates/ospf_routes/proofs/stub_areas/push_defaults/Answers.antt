@@ -7,19 +7,19 @@ use Rattle.ospf_routes.proofs.stub_areas.push_defaults.Goals as goal
 
 pub returns-then-not-is_all_addresses : goal.returns-then-not-is_all_addresses
 returns-then-not-is_all_addresses c =
-    no_default c.args.net.now c.args.area c.args.dest c.args.offers.now.items (λ is. false≢true (c.if-not-is_all_addresses.ensures.1 is))
+    no_default c.args.net.now c.args.area.now.number c.args.dest c.args.offers.now.items (λ is. false≢true (c.if-not-is_all_addresses.ensures.1 is))
 
 pub loop-b-init : goal.loop-b-init
 loop-b-init c =
-    below_start (RouterDefault c.args.net.now c.args.area) c.args.offers.now.items
+    below_start (RouterDefault c.args.net.now c.args.area.now.number) c.args.offers.now.items
 
 pub loop-b-preserved : goal.loop-b-preserved
 loop-b-preserved c =
-    below_step (RouterDefault c.args.net.now c.args.area)
+    below_step (RouterDefault c.args.net.now c.args.area.now.number)
     c.args.offers.now.items c.loop-b.offers.items c.push_router_defaults.new.offers.items c.loop-b.b c.loop-b.invariant
     c.in_ok-push_router_defaults.ensures
 
 pub returns : goal.returns
 returns c =
-    defaults_are c.args.net.now c.args.area c.args.dest c.loop-b.b c.args.offers.now.items c.loop-b.offers.items
+    defaults_are c.args.net.now c.args.area.now.number c.args.dest c.loop-b.b c.args.offers.now.items c.loop-b.offers.items
     (omega (arith, c.routers-b-end.ensures.count)) (c.if-not-is_all_addresses.ensures.0 refl) c.loop-b.invariant

@@ -1,0 +1,54 @@
+-- The segments of all areas join the routers that are adjacent in some area.
+use Rattle.std.proofs.Common.{ℕ, inl, inr, List, [], ◌∷◌, ◌++◌, subst, sym, arith}
+use Rattle.std.specs.List.{Any}
+use Rattle.std.proofs.lemmas.List.Quantifiers.{Any-push}
+use Rattle.net_model.proofs.NetworkFacts.{Adjacent-in_area}
+use Rattle.net_model.specs.Network.{Network, Adjacent}
+use Rattle.net_model.specs.declared.zone.Zone.TheVariants.{Area}
+use Rattle.walk_core.specs.declared.segment.Port.{Port}
+use Rattle.zone_graph.specs.Segments.{AreZoneSegments}
+use Rattle.igp_theory.specs.Laws.{IsOspfNeighbor}
+use Rattle.route_tables.specs.Entries.{AreJoinedBy}
+use Rattle.route_tables.proofs.JoinedLaws.{joined_both}
+use Rattle.route_tables.proofs.ListFacts.{any_cases, any_in, any_left, any_of}
+use Rattle.ospf_routes.specs.steps.Areas.{AreAreas, HasArea}
+use Rattle.ospf_routes.specs.declared.areas.AreaWalks.{AreaWalks}
+
+-- u is adjacent to v in the area
+pub record IsAdjacentIn (net : Network) (u v : ℕ) (area : AreaWalks) : Type 0 where
+  pub cost : ℕ
+  pub adjacent : Adjacent net (Area area.number) u v cost
+
+-- the segments join the routers that are adjacent in one of these areas
+abbrev pub JoinAreas : Network → List AreaWalks → List (List Port) → Type 0
+JoinAreas net areas segments = AreJoinedBy (λ u v. Any (IsAdjacentIn net u v) areas) segments
+
+pub joined_none : (net : Network) → JoinAreas net [] []
+joined_none net u v = (λ joined. absurd (omega (arith, joined.sends.over.among.1)), λ any. absurd (omega (arith, any.2)))
+
+-- one more area, with its segments
+pub joined_more : (net : Network) (areas : List AreaWalks) (a : AreaWalks) (segments own : List (List Port)) → JoinAreas net areas segments →
+    AreZoneSegments net (Area a.number) own → JoinAreas net (areas ++ a ∷ []) (segments ++ own)
+joined_more net areas a segments own before are u v = (
+  λ joined. elim ((joined_both segments own u v).0 joined) [
+    | inl earlier ↦ any_left (IsAdjacentIn net u v) areas a ((before u v).0 earlier)
+    | inr now ↦ Any-push (IsAdjacentIn net u v) areas a (record { cost = now.cost; adjacent = (are.exact u v now.cost).0 now.sends })
+  ],
+  λ any. (joined_both segments own u v).1 (elim (any_cases (IsAdjacentIn net u v) areas a any) [
+    | inl earlier ↦ inl ((before u v).1 earlier)
+    | inr now ↦ inr (record { cost = now.cost; sends = (are.exact u v now.cost).1 now.adjacent })
+  ]),
+)
+
+-- all areas
+pub joined_all : (net : Network) (areas : List AreaWalks) (segments : List (List Port)) → AreAreas net areas → JoinAreas net areas segments →
+    AreJoinedBy (IsOspfNeighbor net) segments
+joined_all net areas segments are join u v = (
+  λ joined.
+      let f = any_in (IsAdjacentIn net u v) areas ((join u v).0 joined) in
+      record { area = f.item.number; cost = f.holds.cost; adjacent = f.holds.adjacent },
+  λ is.
+      let has : HasArea areas is.area = are.every u is.area (Adjacent-in_area net is.area u v is.cost is.adjacent).0 in
+      (join u v).1 (any_of (IsAdjacentIn net u v) areas has.area has.among
+      (record { cost = is.cost; adjacent = subst (λ (n : ℕ). Adjacent net (Area n) u v is.cost) (sym has.number) is.adjacent })),
+)
