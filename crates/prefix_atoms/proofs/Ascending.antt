@@ -26,14 +26,6 @@ place_found xs x i up within at = record {
   after = λ k l m. let h : get_or xs i 0 ≤ get_or xs k 0 = at_most_later xs i k up l m in omega arith;
 }
 
--- an interval begins where a stands
-pub interval_found : (xs : List ℕ) (a i : ℕ) → IsStrictlyIncreasing xs → i < length xs → get_or xs i 0 ≡ a → InInterval xs i a
-interval_found xs a i up within at = record {
-  within = within;
-  from = omega arith;
-  before = λ l. let h : get_or xs i 0 < get_or xs (i + 1) 0 = up i l in omega arith;
-}
-
 -- where a doesn't stand, the place before the one where it would stand is that of its interval
 pub interval_before : (xs : List ℕ) (a i : ℕ) → 0 < i → i ≤ length xs → ((k : ℕ) → k < i → get_or xs k 0 < a)
     → ((k : ℕ) → i ≤ k → k < length xs → a < get_or xs k 0) → InInterval xs (i - 1) a

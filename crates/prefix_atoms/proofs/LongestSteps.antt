@@ -4,8 +4,7 @@ use Rattle.std.proofs.Common.{arith, sym, ap, subst, ◌∙◌, ◌≢◌, below
 use Rattle.std.proofs.lemmas.Bool.{cases_lt}
 use Rattle.std.proofs.lemmas.List.{length-take-le, length-set, length-replicate, get_or-replicate}
 use Rattle.std.proofs.lemmas.List.Elements.{All-push}
-use Rattle.std.proofs.lemmas.Option.{slice_get_within, slice_get-map}
-use Rattle.std.specs.Option.{option_map}
+use Rattle.std.proofs.lemmas.Option.{slice_get_within}
 use Rattle.std.specs.List.Sorted.{IsStrictlyIncreasing}
 use Rattle.net_addr.specs.Addresses.{Block, ContainsAddress, IsBlock}
 use Rattle.net_addr.specs.Boundaries.{last_address}
@@ -15,8 +14,6 @@ use Rattle.net_addr.specs.LongestMatches.{IsBestMatch, IsMatch, AreMatches, Take
 use Rattle.net_addr.specs.declared.matches.Match.{Match}
 use Rattle.net_addr.proofs.LongestMatchLaws.{IsMatch-out, IsMatch-in}
 use Rattle.net_model.proofs.Members.{Contains-none}
-use Rattle.route_core.specs.Tables.{table_prefixes}
-use Rattle.route_core.specs.declared.entry.Entry.{Entry}
 use Rattle.prefix_atoms.specs.Lists.{IsPlaceOf, IsPrefixAt, TakesPrefix}
 use Rattle.prefix_atoms.proofs.Ascending.{at_most_later}
 use Rattle.prefix_atoms.proofs.Collected.{take_place}
@@ -118,9 +115,3 @@ pub blocks_next : (prefixes : List Block) (place : ℕ) (next : Block) → slice
     → IsBlock next → All IsBlock (take (place + 1) prefixes)
 blocks_next prefixes place next at blocks block =
     subst (All IsBlock) (sym (take_place prefixes place next at)) (All-push IsBlock (take place prefixes) next blocks block)
-
--- the prefix of a table's entry stands among the table's prefixes
-pub prefix_stands : (entries : List (Block × Entry)) (place : ℕ) (p : Block) (e : Entry) → slice_get entries place ≡ Some (p, e)
-    → slice_get (table_prefixes entries) place ≡ Some p
-prefix_stands entries place p e at =
-    slice_get-map (λ (x : Block × Entry). x.0) entries place ∙ ap (option_map (λ (x : Block × Entry). x.0)) at

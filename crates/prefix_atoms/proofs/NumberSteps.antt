@@ -4,7 +4,7 @@ use Rattle.std.proofs.Common.{◌∙◌, below_more, length-append, get_or-set_o
 use Rattle.std.proofs.lemmas.Bool.{cases_eq, cases_lt}
 use Rattle.std.proofs.lemmas.List.{get_or_append_left, get_or_push, length-set}
 use Rattle.std.specs.List.Sorted.{IsStrictlyIncreasing}
-use Rattle.prefix_atoms.specs.Numbers.{IsNumbering, TakesNumber}
+use Rattle.prefix_atoms.specs.Numbers.{TakesNumber}
 
 -- what is known of a key: it has a number, or it isn't among the first n keys
 abbrev pub IsSeen : List ℕ → ℕ → List ℕ → ℕ → Option ℕ → Type 0
@@ -22,18 +22,6 @@ pub record Numbered (keys : List ℕ) (bound n : ℕ) (numbers firsts : List ℕ
   pub numbered : (j : ℕ) → j < n → get_or numbers j 0 < length firsts
   pub same : (j : ℕ) → j < n → get_or keys (get_or firsts (get_or numbers j 0) 0) 0 ≡ get_or keys j 0
   pub known : (x : ℕ) → x < bound → IsSeen keys n firsts x (get_or seen x None)
-
--- numbering is done
-pub numbered_all : (keys : List ℕ) (bound n : ℕ) (numbers firsts : List ℕ) (seen : List (Option ℕ)) → n ≡ length keys
-    → Numbered keys bound n numbers firsts seen → IsNumbering keys numbers firsts
-numbered_all keys bound n numbers firsts seen all h = record {
-  count = h.count ∙ all;
-  ascending = h.ascending;
-  within = λ k l. let m : get_or firsts k 0 < n = h.within k l in omega arith;
-  first = h.first;
-  numbered = λ j l. h.numbered j (omega arith);
-  same = λ j l. h.same j (omega arith);
-}
 
 -- a list with one element more, read before it and at it
 old_at : (xs : List ℕ) (y k : ℕ) → k < length xs → get_or (xs ++ y ∷ []) k 0 ≡ get_or xs k 0

@@ -18,7 +18,7 @@ use Rattle.route_core.specs.Tables.{table_prefixes}
 use Rattle.route_core.specs.declared.entry.Entry.{Entry}
 use Rattle.route_core.proofs.TableLaws.{Contains-from_place, place_from_Contains, entry_of_prefix}
 use Rattle.igp_theory.specs.Forwarding.{IsOriginated}
-use Rattle.igp_theory.specs.Routes.{Tables}
+use Rattle.igp_theory.specs.Migrations.{Migration, migration}
 use Rattle.prefix_atoms.specs.Classes.{SourceEntry, HasRangeOf, Occurs, connected_occurs, range_occurs, old_occurs, new_occurs, HasTarget, Classes, AreClasses}
 use Rattle.prefix_atoms.specs.Lists.{originated_subnet, all_originated, source_prefixes, GainsPrefixes, AreClassesOf}
 use Rattle.prefix_atoms.proofs.Gained.{gains_behind, gains_both}
@@ -62,10 +62,10 @@ three_of_some None false false (inr (inr h)) = h
 
 -- Networks
 
-dest_occurs : (net : Network) (old new : Tables) (p : Block) → Contains (all_dests net) p → Occurs net old new p
-dest_occurs net old new p h =
-    let one = Contains-flat_map own_dests net p h in
-    let at = place_from_Contains net one.item one.among in
+dest_occurs : (move : Migration) (p : Block) → Contains (all_dests move.net) p → Occurs move p
+dest_occurs move p h =
+    let one = Contains-flat_map own_dests move.net p h in
+    let at = place_from_Contains move.net one.item one.among in
     ⊎_elim
     (λ l.
     let i = Contains-filter_map subnet_if_up one.item.interfaces p l in
@@ -116,11 +116,11 @@ source_listed table (suc n) u p e l h = ⊎_elim
 
 -- the prefixes that are collected are those that occur
 pub collected_occur : (net : Network) (o n : ℕ) (old new : ℕ → List (Block × Entry)) (p : Block)
-    → Contains ((all_dests net ++ source_prefixes old o) ++ source_prefixes new n) p ↔ Occurs net (SourceEntry o old) (SourceEntry n new) p
+    → Contains ((all_dests net ++ source_prefixes old o) ++ source_prefixes new n) p ↔ Occurs (migration net (SourceEntry o old) (SourceEntry n new)) p
 collected_occur net o n old new p = (
   λ h. ⊎_elim
       (λ l. ⊎_elim
-      (λ d. dest_occurs net (SourceEntry o old) (SourceEntry n new) p d)
+      (λ d. dest_occurs (migration net (SourceEntry o old) (SourceEntry n new)) p d)
       (λ s. let e = source_entry old o p s in old_occurs e.0 e.2 (e.1, e.3))
       (Contains-append_cases (all_dests net) (source_prefixes old o) p l))
       (λ r. let e = source_entry new n p r in new_occurs e.0 e.2 (e.1, e.3))
@@ -128,8 +128,8 @@ collected_occur net o n old new p = (
   occurring_listed net o n old new p,
 )
   where
-    occurring_listed : (net : Network) (o n : ℕ) (old new : ℕ → List (Block × Entry)) (p : Block) → Occurs net (SourceEntry o old) (SourceEntry n new) p
-        → Contains ((all_dests net ++ source_prefixes old o) ++ source_prefixes new n) p
+    occurring_listed : (net : Network) (o n : ℕ) (old new : ℕ → List (Block × Entry)) (p : Block)
+        → Occurs (migration net (SourceEntry o old) (SourceEntry n new)) p → Contains ((all_dests net ++ source_prefixes old o) ++ source_prefixes new n) p
     occurring_listed net o n old new p (connected_occurs u c) =
         Contains-append_left (all_dests net ++ source_prefixes old o) (source_prefixes new n) p (Contains-append_left (all_dests net) (source_prefixes old o) p
         (connected_listed net u p c))
@@ -193,12 +193,12 @@ gathered start own distinct first second all net old new none one once two three
 -- the classes of the prefixes that were collected are those of the network and the tables
 pub classes_collected : (net : Network) (o n : ℕ) (old new : ℕ → List (Block × Entry)) (prefixes originated : List Block) (c : Classes)
     → ((p : Block) → Contains prefixes p ↔ Contains ((all_dests net ++ source_prefixes old o) ++ source_prefixes new n) p)
-    → originated ≡ all_originated net → AreClassesOf prefixes originated c → AreClasses net (SourceEntry o old) (SourceEntry n new) c
+    → originated ≡ all_originated net → AreClassesOf prefixes originated c → AreClasses (migration net (SourceEntry o old) (SourceEntry n new)) c
 classes_collected net o n old new prefixes originated c same targets are = record {
   occur = classes_occur net o n old new prefixes c.prefixes same are.prefixes_are;
   classing = are.classing;
   target = λ k a t inside at.
-      has_target_alike (occur_alike net (SourceEntry o old) (SourceEntry n new) c.prefixes (get_or c.samples k 0) a
+      has_target_alike (occur_alike (migration net (SourceEntry o old) (SourceEntry n new)) c.prefixes (get_or c.samples k 0) a
       (classes_occur net o n old new prefixes c.prefixes same are.prefixes_are) inside.alike) t
       (target_from_list net (get_or c.samples k 0) t
       (subst (λ (ps : List Block). IsBestMatch (Contains ps) (get_or c.samples k 0) t) targets
@@ -207,7 +207,7 @@ classes_collected net o n old new prefixes originated c same targets are = recor
   where
     classes_occur : (net : Network) (o n : ℕ) (old new : ℕ → List (Block × Entry)) (prefixes mine : List Block)
         → ((p : Block) → Contains prefixes p ↔ Contains ((all_dests net ++ source_prefixes old o) ++ source_prefixes new n) p)
-        → mine ≡ prefixes → (p : Block) → Contains mine p ↔ Occurs net (SourceEntry o old) (SourceEntry n new) p
+        → mine ≡ prefixes → (p : Block) → Contains mine p ↔ Occurs (migration net (SourceEntry o old) (SourceEntry n new)) p
     classes_occur net o n old new prefixes mine same is p =
         let exact = collected_occur net o n old new p in (
           λ h. exact.0 ((same p).0 (subst (λ (ps : List Block). Contains ps p) is h)),

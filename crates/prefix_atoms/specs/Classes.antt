@@ -9,6 +9,7 @@ use Rattle.net_model.specs.declared.area.Range.{Range}
 use Rattle.route_core.specs.Tables.{HasEntry}
 use Rattle.route_core.specs.declared.entry.Entry.{Entry}
 use Rattle.igp_theory.specs.Forwarding.{IsTarget}
+use Rattle.igp_theory.specs.Migrations.{Migration}
 use Rattle.igp_theory.specs.Routes.{Tables}
 
 -- the tables of one source as a relation: router u, one of so many, has this entry for this prefix
@@ -24,11 +25,11 @@ pub record HasRangeOf (net : Network) (u : ℕ) (p : Block) : Type 0 where
   pub dest : range.dest ≡ p
 
 -- a prefix occurs where it is connected, where it is a range's, and where a table has an entry for it
-pub data Occurs (net : Network) (old new : Tables) (p : Block) : Type 0 where
-  connected_occurs : (u : ℕ) → Connected net u p → Occurs net old new p
-  range_occurs : (u : ℕ) → HasRangeOf net u p → Occurs net old new p
-  old_occurs : (u : ℕ) (e : Entry) → old u p e → Occurs net old new p
-  new_occurs : (u : ℕ) (e : Entry) → new u p e → Occurs net old new p
+pub data Occurs (move : Migration) (p : Block) : Type 0 where
+  connected_occurs : (u : ℕ) → Connected move.net u p → Occurs move p
+  range_occurs : (u : ℕ) → HasRangeOf move.net u p → Occurs move p
+  old_occurs : (u : ℕ) (e : Entry) → move.old u p e → Occurs move p
+  new_occurs : (u : ℕ) (e : Entry) → move.new u p e → Occurs move p
 
 -- two addresses are in one class where the same prefixes contain them; the samples are the least
 -- addresses of all classes, in ascending order
@@ -60,9 +61,9 @@ pub record IsClassing (c : Classes) : Type 0 where
   pub samples : AreSamples c.prefixes c.samples
   pub targets : length c.targets ≡ length c.samples
 
--- the classes of a network and two tables: their prefixes are those that occur, and all addresses of a
+-- the classes of a migration: their prefixes are those that occur, and all addresses of a
 -- class have its target
-pub record AreClasses (net : Network) (old new : Tables) (c : Classes) : Type 0 where
-  pub occur : (p : Block) → Contains c.prefixes p ↔ Occurs net old new p
+pub record AreClasses (move : Migration) (c : Classes) : Type 0 where
+  pub occur : (p : Block) → Contains c.prefixes p ↔ Occurs move p
   pub classing : IsClassing c
-  pub target : (k a : ℕ) (t : Option Block) → IsInClass c k a → slice_get c.targets k ≡ Some t → HasTarget net a t
+  pub target : (k a : ℕ) (t : Option Block) → IsInClass c k a → slice_get c.targets k ≡ Some t → HasTarget move.net a t

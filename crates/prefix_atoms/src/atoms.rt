@@ -1,6 +1,7 @@
 ghost use Rattle.std.specs.Prelude.{◌≡◌, ◌≢◌, ◌<◌, ◌≤◌, ◌^◌, ◌+◌, All, AllPairs, IfOk, IfSome, List, length, map, slice_get, slice_index, Some};
 ghost use Rattle.std.specs.List.Sorted.{IsStrictlyIncreasing};
 ghost use Rattle.net_addr.specs.Addresses.{IsBlock};
+ghost use Rattle.igp_theory.specs.Migrations.{migration};
 ghost use Rattle.prefix_atoms.specs.Classes.{AreClasses, IsClassing, IsInClass, SourceEntry};
 ghost use Rattle.prefix_atoms.specs.Lists.{AreClassesOf, AreTargets, IsPrefixAt, place_or};
 ghost use Rattle.prefix_atoms.specs.Numbers.{ArePicked, InInterval, NumbersClasses};
@@ -48,8 +49,8 @@ impl Atoms {
         old: &O,
         new: &N,
     ) -> Result<Atoms, OutOfMemory>
-        ensures { IfOk result (λ atoms. AreClasses net.now (SourceEntry (O.routers old.now) (O.table old.now))
-            (SourceEntry (N.routers new.now) (N.table new.now)) atoms) }
+        ensures { IfOk result (λ atoms. AreClasses (migration net.now (SourceEntry (O.routers old.now) (O.table old.now))
+            (SourceEntry (N.routers new.now) (N.table new.now))) atoms) }
     {
         let mut prefixes = Vec::new(alloc);
         add_net(&mut prefixes, net)?;

@@ -28,5 +28,5 @@ mod law;
 pub use atoms::Atoms;
 pub use collect::add_connected;
 pub use law::one_class_acts_alike;
-pub use longest::{longest_in_table, longest_of_each};
+pub use longest::{longest_in_rows, longest_of_each};
 pub use route_core::OutOfMemory;

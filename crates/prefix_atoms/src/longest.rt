@@ -2,12 +2,12 @@ ghost use Rattle.std.specs.Prelude.{◌≡◌, All, IfOk, OnOk, length};
 ghost use Rattle.std.specs.List.Sorted.{IsStrictlyIncreasing};
 ghost use Rattle.net_addr.specs.Addresses.{IsBlock};
 ghost use Rattle.net_addr.specs.LongestMatches.{AreMatches};
-ghost use Rattle.route_core.specs.Tables.{HasDistinctPrefixes, table_prefixes};
+ghost use Rattle.route_core.specs.Rows.{row_prefixes};
 ghost use Rattle.prefix_atoms.specs.Lists.{TakesPrefix};
 
 use crate::near::number_near;
 use net_addr::{Match, Prefix};
-use route_core::Table;
+use route_core::Row;
 use std::alloc::{AllocError as OutOfMemory, Global};
 
 /// For each of some ascending addresses the longest match among the prefixes.
@@ -31,21 +31,20 @@ pub fn longest_of_each(
     Ok(found)
 }
 
-/// The same among the prefixes of a table.
-pub fn longest_in_table(
+/// The same among the prefixes of a table's rows.
+pub fn longest_in_rows(
     alloc: Global,
-    table: &Table,
+    rows: &[Row],
     addresses: &[u32],
 ) -> Result<Vec<Option<Match>>, OutOfMemory>
     requires { IsStrictlyIncreasing addresses.now }
-    ensures longest { IfOk result (λ v. AreMatches (table_prefixes table.now) addresses.now v.items) }
-    ensures blocks { OnOk result (All IsBlock (table_prefixes table.now)) }
-    ensures distinct { OnOk result (HasDistinctPrefixes table.now) }
+    ensures longest { IfOk result (λ v. AreMatches (row_prefixes rows.now) addresses.now v.items) }
+    ensures blocks { OnOk result (All IsBlock (row_prefixes rows.now)) }
 {
     let mut found = vec![in alloc; None; addresses.len()]?;
     let mut start = 0;
-    for place in 0..table.len() {
-        start = take_prefix(table.dest(place), place, addresses, start, &mut found);
+    for (place, row) in rows.iter().enumerate() {
+        start = take_prefix(row.dest, place, addresses, start, &mut found);
     }
     Ok(found)
 }

@@ -1,8 +1,10 @@
-pub mod UsedEntries
-mod FoundFacts
-mod RowSteps
 pub mod NextLaws
-mod BestLaws
-mod MiddleLaws
-mod UseLaws
+mod Contests
+mod OneUsed
+mod CellLaws
+mod ClassUses
+mod MixedLaws
+mod FoundFacts
 mod SubnetFacts
+mod RowSteps
+mod ColumnLaws

@@ -1,9 +1,9 @@
 -- What follows from an answer: the steps that a router makes.
 use Rattle.std.proofs.Common.{ℕ, ◌↔◌, ⊎_elim, sym, subst}
-use Rattle.net_model.specs.Network.{Network}
 use Rattle.route_core.specs.declared.entry.Entry.{Entry}
 use Rattle.igp_theory.specs.Forwarding.{Usable, connected, of_old, of_new, LeadsTo, MustForward, Steps}
-use Rattle.igp_theory.specs.Routes.{Tables, EntryLeadsTo}
+use Rattle.igp_theory.specs.Migrations.{Migration}
+use Rattle.igp_theory.specs.Routes.{EntryLeadsTo}
 use Rattle.igp_theory.specs.declared.phase.Phase.{Phase}
 use Rattle.rib_mix.specs.Answers.{ShowsEntry, Says, IsNext, NextLeadsTo}
 use Rattle.rib_mix.specs.declared.next.Next.{Next}
@@ -23,9 +23,9 @@ says_leads next (of_old e) h says = entry_leads next e h says
 says_leads next (of_new e) h says = entry_leads next e h says
 
 -- a router that has to pass packets on steps exactly to the hops of its answer
-pub steps_to_hops : (net : Network) (old new : Tables) (u : ℕ) (phase : Phase) (a : ℕ) (next : Next) (h : ℕ) → IsNext net old new u phase a next
-    → MustForward net a u → Steps net old new u phase a h ↔ NextLeadsTo next h
-steps_to_hops net old new u phase a next h is must = (
+pub steps_to_hops : (move : Migration) (u : ℕ) (phase : Phase) (a : ℕ) (next : Next) (h : ℕ) → IsNext move u phase a next
+    → MustForward move.net a u → Steps move u phase a h ↔ NextLeadsTo next h
+steps_to_hops move u phase a next h is must = (
   λ s. (says_leads next s.used h (is.only s.used s.uses)).0 s.leads,
   λ f. ⊎_elim
       (λ absent. absurd (subst (λ (n : Next). NextLeadsTo n h) absent f))

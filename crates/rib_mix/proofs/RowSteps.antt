@@ -1,14 +1,13 @@
 -- Lists that are made place by place.
-use Rattle.std.proofs.Common.{◌≡◌, ℕ, zero, suc, ◌+◌, ◌<◌, ◌≤◌, List, [], ◌∷◌, ◌++◌, length, get_or, Option, Some, None, All, slice_get, ⊎_elim, arith}
+use Rattle.std.proofs.Common.{◌≡◌, ℕ, zero, suc, ◌+◌, ◌<◌, ◌≤◌, List, [], ◌∷◌, ◌++◌, length, get_or, Some, All, slice_get, ⊎_elim, arith}
 use Rattle.std.proofs.Common.{sym, ap, subst, ◌∙◌, length-append}
 use Rattle.std.proofs.lemmas.Bool.{cases_lt}
-use Rattle.std.proofs.lemmas.List.{length-map, get_or-map, get_or_default}
+use Rattle.std.proofs.lemmas.List.{length-map, get_or-map}
 use Rattle.std.proofs.lemmas.Option.{slice_get_within}
 use Rattle.net_addr.specs.Addresses.{Block, IsBlock}
-use Rattle.net_addr.specs.declared.matches.Match.{Match}
 use Rattle.route_core.specs.declared.entry.Entry.{Entry}
 use Rattle.route_core.specs.Tables.{HasDistinctPrefixes, table_prefixes}
-use Rattle.rib_mix.specs.Rows.{IsLawfulTable}
+use Rattle.rib_mix.specs.Sites.{IsLawfulTable}
 
 slice_get_push_old : {X : Type 0} (xs : List X) (y : X) (k : ℕ) (x : X) → k < length xs → slice_get (xs ++ y ∷ []) k ≡ Some x → slice_get xs k ≡ Some x
 slice_get_push_old [] y k x l h = absurd (omega arith)
@@ -47,7 +46,3 @@ entries_all P entries h k d l =
 
 pub lawful_from : (entries : List (Block × Entry)) → All IsBlock (table_prefixes entries) → HasDistinctPrefixes entries → IsLawfulTable entries
 lawful_from entries blocks distinct = record { blocks = entries_all IsBlock entries blocks; distinct = distinct }
-
--- what was read of a list's place stands there
-pub read_match : (found : List (Option Match)) (i : ℕ) (one : Option Match) → i < length found → one ≡ get_or found i one → get_or found i None ≡ one
-read_match found i one within read = get_or_default found i None one within ∙ sym read

@@ -1,18 +1,18 @@
 -- The longest connected prefix, found in the list of the connected ones.
-use Rattle.std.proofs.Common.{◌≡◌, ℕ, ◌<◌, Bool, true, false, if◌then◌else◌, IsTrue, List, length, get_or, Contains, Option, Some, None, refl, sym, subst}
+use Rattle.std.proofs.Common.{◌≡◌, ℕ, Bool, true, false, if◌then◌else◌, IsTrue, List, Contains, Option, Some, None, refl, sym, subst}
 use Rattle.std.proofs.Common.{◌∙◌}
 use Rattle.std.specs.List.{filter_map}
 use Rattle.net_model.proofs.Members.{Contains-filter_map, Contains-in_filter_map}
 use Rattle.std.proofs.lemmas.Option.{same_Some}
 use Rattle.net_addr.specs.Addresses.{Block}
-use Rattle.net_addr.specs.LongestMatches.{AreMatches, IsMatch}
+use Rattle.net_addr.specs.LongestMatches.{IsMatch}
 use Rattle.net_addr.specs.declared.matches.Match.{Match}
 use Rattle.net_addr.proofs.LongestMatchLaws.{HasNoMatch-same, IsLongestMatch-same}
 use Rattle.net_model.specs.Configuration.{Configuration}
 use Rattle.net_model.specs.DestLists.{subnet_if_up}
 use Rattle.net_model.specs.Network.{Network, HasConfiguration, Connected}
-use Rattle.rib_mix.specs.Cells.{AreSubnets, length_of}
-use Rattle.rib_mix.specs.Rows.{IsConnectedLength}
+use Rattle.rib_mix.specs.Rows.{AreSubnets}
+use Rattle.rib_mix.specs.Sites.{IsConnectedLength, length_of}
 
 -- the length of the longest match among the connected prefixes
 pub connected_length : (net : Network) (u a : ℕ) (subnets : List Block) (found : Option Match) → AreSubnets net u subnets
@@ -46,10 +46,3 @@ are_subnets net u config has p = (
       (subst (λ (x : Configuration). Contains x.interfaces connected.interface) same connected.up.among)
       (up_subnet connected.interface.up connected.interface.subnet p connected.up.up connected.subnet),
 )
-
--- what was read at a place of the matches
-pub match_read : (prefixes : List Block) (addresses : List ℕ) (matches slice : List (Option Match)) (k : ℕ)
-    → AreMatches prefixes addresses matches → slice ≡ matches → k < length addresses
-    → IsMatch prefixes (get_or addresses k 0) (get_or slice k None)
-match_read prefixes addresses matches slice k are is within =
-    subst (λ (xs : List (Option Match)). IsMatch prefixes (get_or addresses k 0) (get_or xs k None)) (sym is) (are.each k within)

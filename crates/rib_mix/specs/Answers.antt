@@ -1,10 +1,9 @@
 -- What a router does with the packets of an address, as an answer.
-use Rattle.std.specs.Prelude.{◌≡◌, ℕ, ◌⊎◌, Contains}
-use Rattle.net_model.specs.Network.{Network}
+use Rattle.std.specs.Prelude.{◌≡◌, ℕ, ◌<◌, ◌⊎◌, ◌↔◌, length, Contains}
 use Rattle.route_core.specs.declared.entry.Entry.{Entry}
 use Rattle.route_core.specs.declared.entry.Entry.TheVariants as entry
 use Rattle.igp_theory.specs.Forwarding.{Usable, connected, of_old, of_new, Uses}
-use Rattle.igp_theory.specs.Routes.{Tables}
+use Rattle.igp_theory.specs.Migrations.{Migration}
 use Rattle.igp_theory.specs.declared.phase.Phase.{Phase}
 use Rattle.igp_theory.specs.declared.phase.Phase.TheVariants.{Old, New}
 use Rattle.prefix_atoms.specs.Classes.{Classes, IsInClass}
@@ -25,29 +24,29 @@ Says next (of_old e) = ShowsEntry next e
 Says next (of_new e) = ShowsEntry next e
 
 -- an entry is used, and the answer is what it says
-pub record SaysUsed (net : Network) (old new : Tables) (u : ℕ) (phase : Phase) (a : ℕ) (next : Next) : Type 0 where
+pub record SaysUsed (move : Migration) (u : ℕ) (phase : Phase) (a : ℕ) (next : Next) : Type 0 where
   pub used : Usable
-  pub uses : Uses net old new u phase a used
+  pub uses : Uses move u phase a used
   pub says : Says next used
 
 -- the answer is that no entry is used, or an entry is used
-abbrev pub IsThere : Network → Tables → Tables → ℕ → Phase → ℕ → Next → Type 0
-IsThere net old new u phase a next = (next ≡ Absent) ⊎ SaysUsed net old new u phase a next
+abbrev pub IsThere : Migration → ℕ → Phase → ℕ → Next → Type 0
+IsThere move u phase a next = (next ≡ Absent) ⊎ SaysUsed move u phase a next
 
 -- what router u does in a phase with the packets of an address: what its one used entry says, where it
 -- has one, and otherwise nothing
-pub record IsNext (net : Network) (old new : Tables) (u : ℕ) (phase : Phase) (a : ℕ) (next : Next) : Type 0 where
-  pub there : IsThere net old new u phase a next
-  pub only : (used : Usable) → Uses net old new u phase a used → Says next used
+pub record IsNext (move : Migration) (u : ℕ) (phase : Phase) (a : ℕ) (next : Next) : Type 0 where
+  pub there : IsThere move u phase a next
+  pub only : (used : Usable) → Uses move u phase a used → Says next used
 
 -- what it does with the packets of each address of a class
-abbrev pub IsNextOf : Network → Tables → Tables → Classes → ℕ → ℕ → Phase → Next → Type 0
-IsNextOf net old new classes u class phase next = (a : ℕ) → IsInClass classes class a → IsNext net old new u phase a next
+abbrev pub IsNextOf : Migration → Classes → ℕ → ℕ → Phase → Next → Type 0
+IsNextOf move classes u class phase next = (a : ℕ) → IsInClass classes class a → IsNext move u phase a next
 
 -- it does so in Old, or it does so in New
-abbrev pub IsNextAtAnEnd : Network → Tables → Tables → Classes → ℕ → ℕ → Next → Type 0
-IsNextAtAnEnd net old new classes u class next =
-    IsNextOf net old new classes u class Old next ⊎ IsNextOf net old new classes u class New next
+abbrev pub IsNextAtAnEnd : Migration → Classes → ℕ → ℕ → Next → Type 0
+IsNextAtAnEnd move classes u class next =
+    IsNextOf move classes u class Old next ⊎ IsNextOf move classes u class New next
 
 -- the answer forwards to h
 abbrev pub NextLeadsTo : Next → ℕ → Type 0
@@ -55,3 +54,12 @@ NextLeadsTo (Via hops) h = Contains hops.now h
 NextLeadsTo Discard h = ⊥
 NextLeadsTo Connected h = ⊥
 NextLeadsTo Absent h = ⊥
+
+-- router u does the same with the packets of two classes, in each phase
+abbrev pub IsAlikeAt : Migration → Classes → ℕ → ℕ → ℕ → Type 0
+IsAlikeAt move classes u class other =
+    (phase : Phase) (next : Next) → IsNextOf move classes u class phase next ↔ IsNextOf move classes u other phase next
+
+-- and so does each router
+abbrev pub AreAlikeClasses : Migration → Classes → ℕ → ℕ → Type 0
+AreAlikeClasses move classes class other = (u : ℕ) → u < length move.net → IsAlikeAt move classes u class other

@@ -1,103 +1,108 @@
 -- What is kept for each router and class: what is used in each phase.
-use Rattle.std.specs.Prelude.{◌≡◌, ◌↔◌, ℕ, List, Contains, Option, Some, None, IfSome, slice_get, slice_index_or}
-use Rattle.net_addr.specs.Addresses.{Block}
-use Rattle.net_addr.specs.declared.matches.Match.{Match}
-use Rattle.net_model.specs.Network.{Network, Connected}
+use Rattle.std.specs.Prelude.{◌≡◌, ◌↔◌, ℕ, ◌<◌, if◌then◌else◌, List, length, Option, Some, None, slice_get}
+use Rattle.net_model.specs.declared.bounds.TheConstants.{ISIS_DISTANCE}
 use Rattle.route_core.specs.declared.entry.Entry.{Entry}
+use Rattle.igp_theory.specs.Forwarding.{Usable, connected, of_old, of_new}
 use Rattle.igp_theory.specs.declared.phase.Phase.{Phase}
 use Rattle.igp_theory.specs.declared.phase.Phase.TheVariants as phase
 use Rattle.rib_mix.specs.Answers.{ShowsEntry}
-use Rattle.rib_mix.specs.Candidates.{connected_of, old_if_counts, new_if_counts, IsBestOfThree}
+use Rattle.rib_mix.specs.steps.Candidates.{connected_of, entry_of, old_of, IsBetter, SecondLeads}
+use Rattle.rib_mix.specs.Sites.{Site, UsesAt}
 use Rattle.rib_mix.specs.declared.candidate.Candidate.{Candidate}
-use Rattle.rib_mix.specs.declared.candidate.Way.{Way}
-use Rattle.rib_mix.specs.declared.candidate.Way.TheVariants as way
 use Rattle.rib_mix.specs.declared.cell.Cell.{Cell}
 use Rattle.rib_mix.specs.declared.cell.Choice.{Choice}
 use Rattle.rib_mix.specs.declared.cell.Choice.TheVariants as choice
-use Rattle.rib_mix.specs.declared.cell.Used.{Used}
-use Rattle.rib_mix.specs.declared.cell.Used.TheVariants as used
+use Rattle.rib_mix.specs.declared.used.Used.{Used}
+use Rattle.rib_mix.specs.declared.used.Used.TheVariants as used
 use Rattle.rib_mix.specs.declared.found.Found.{Found}
 use Rattle.rib_mix.specs.declared.next.Next.{Next}
 use Rattle.rib_mix.specs.declared.next.Next.TheVariants as next
 
--- what is chosen in a phase
-abbrev pub chosen_in : Cell → Phase → Choice
-chosen_in cell phase.Old = cell.old
-chosen_in cell phase.Middle = cell.middle
-chosen_in cell phase.New = cell.new
+-- what is used at an end where this is chosen, with the number of an entry of the end's table
+abbrev pub chosen_use : (ℕ → Used) → Choice → ℕ → Used
+chosen_use table choice.Nothing number = used.Nothing
+chosen_use table choice.Connected number = used.Connected
+chosen_use table choice.Entry number = table number
 
--- what is used where this is chosen
-abbrev pub use_chosen : Cell → Choice → Used
-use_chosen cell choice.Nothing = used.Nothing
-use_chosen cell choice.Connected = used.Connected
-use_chosen cell choice.Old = used.Old cell.old_place
-use_chosen cell choice.New = used.New cell.new_place
+-- what is used in Old, and in New
+abbrev pub old_use : Cell → Used
+old_use cell = chosen_use used.Old cell.old cell.old_entry
+
+abbrev pub new_use : Cell → Used
+new_use cell = chosen_use used.New cell.new cell.new_entry
 
 -- what is used in a phase
 abbrev pub use_in : Cell → Phase → Used
-use_in cell phase = use_chosen cell (chosen_in cell phase)
+use_in cell phase.Old = old_use cell
+use_in cell phase.Middle = if cell.middle_is_new then new_use cell else old_use cell
+use_in cell phase.New = new_use cell
 
--- what is used where a way leads
-abbrev pub use_of_way : Way → Used
-use_of_way way.Connected = used.Connected
-use_of_way (way.Old place) = used.Old place
-use_of_way (way.New place) = used.New place
+-- what is chosen where this is the best candidate: by the entry that it has, and in all
+abbrev pub choice_of_entry : Option ℕ → Choice
+choice_of_entry None = choice.Connected
+choice_of_entry (Some number) = choice.Entry
 
--- what is used where this is the best candidate
-abbrev pub use_of : Option Candidate → Used
-use_of None = used.Nothing
-use_of (Some c) = use_of_way c.way
-
--- what is chosen where a way leads
-abbrev pub choice_of_way : Way → Choice
-choice_of_way way.Connected = choice.Connected
-choice_of_way (way.Old place) = choice.Old
-choice_of_way (way.New place) = choice.New
-
--- what is chosen where this is the best candidate
 abbrev pub choice_of : Option Candidate → Choice
 choice_of None = choice.Nothing
-choice_of (Some c) = choice_of_way c.way
+choice_of (Some c) = choice_of_entry c.entry
 
--- a match, where there is one, is at this place
-abbrev pub HasPlace : Option Match → ℕ → Type 0
-HasPlace found place = IfSome found (λ one. place ≡ one.place)
+-- the number of its entry, 0 where it has none
+abbrev pub number_or : Option ℕ → ℕ
+number_or None = 0
+number_or (Some number) = number
 
--- what a router with this OSPF distance uses in a phase, of what is found: what the best candidate says
-pub record IsUse (phase : Phase) (ospf : ℕ) (found : Found) (use_is : Used) : Type 0 where
-  pub best : Option Candidate
-  pub is_best : IsBestOfThree (connected_of found.connected) (old_if_counts phase ospf found.old) (new_if_counts phase found.new) best
-  pub says : use_is ≡ use_of best
+abbrev pub entry_number_of : Option Candidate → ℕ
+entry_number_of None = 0
+entry_number_of (Some c) = number_or c.entry
 
--- in each phase
-abbrev pub IsCellOf : Found → ℕ → Cell → Type 0
-IsCellOf found ospf cell = (phase : Phase) → IsUse phase ospf found (use_in cell phase)
+-- what is used where this is the best candidate
+abbrev pub use_of_entry : (ℕ → Used) → Option ℕ → Used
+use_of_entry table None = used.Connected
+use_of_entry table (Some number) = table number
 
--- the length of a match
-abbrev pub length_of : Option Match → Option ℕ
-length_of None = None
-length_of (Some m) = Some m.len
+abbrev pub use_of : (ℕ → Used) → Option Candidate → Used
+use_of table None = used.Nothing
+use_of table (Some c) = use_of_entry table c.entry
 
--- what is found at a place of some matches: the length of one, and two others
-pub record AreFoundAt (own olds news : List (Option Match)) (k : ℕ) (found : Found) : Type 0 where
-  pub connected : found.connected ≡ length_of (slice_index_or own k None)
-  pub old : found.old ≡ slice_index_or olds k None
-  pub new : found.new ≡ slice_index_or news k None
+-- what a router with this OSPF distance uses in each phase, of what is found: at each end what the best candidate says, and in
+-- Middle what the better of the two says
+pub record IsCellOf (found : Found) (ospf : ℕ) (cell : Cell) : Type 0 where
+  pub best_old : Option Candidate
+  pub best_new : Option Candidate
+  pub is_old : IsBetter (connected_of found.connected) (old_of ospf found.old) best_old
+  pub is_new : IsBetter (connected_of found.connected) (entry_of ISIS_DISTANCE found.new) best_new
+  pub old_choice : cell.old ≡ choice_of best_old
+  pub old_number : cell.old_entry ≡ entry_number_of best_old
+  pub new_choice : cell.new ≡ choice_of best_new
+  pub new_number : cell.new_entry ≡ entry_number_of best_new
+  pub middle : SecondLeads cell.middle_is_new best_old best_new
 
--- the prefixes that are connected at router u
-abbrev pub AreSubnets : Network → ℕ → List Block → Type 0
-AreSubnets net u subnets = (p : Block) → Contains subnets p ↔ Connected net u p
+-- what is used is within the entries that the tables keep
+abbrev pub IsKeptUse : List Entry → List Entry → Used → Type 0
+IsKeptUse olds news used.Nothing = Unit {0}
+IsKeptUse olds news used.Connected = Unit {0}
+IsKeptUse olds news (used.Old number) = number < length olds
+IsKeptUse olds news (used.New number) = number < length news
 
--- the place of what is used stands in its table
-abbrev pub IsUsePlaced : List (Block × Entry) → List (Block × Entry) → Used → Type 0
-IsUsePlaced old new used.Nothing = Unit {0}
-IsUsePlaced old new used.Connected = Unit {0}
-IsUsePlaced old new (used.Old place) = (p : Block) × (e : Entry) × (slice_get old place ≡ Some (p, e))
-IsUsePlaced old new (used.New place) = (p : Block) × (e : Entry) × (slice_get new place ≡ Some (p, e))
+-- what is used is this
+abbrev pub IsUsable : List Entry → List Entry → Used → Usable → Type 0
+IsUsable olds news used.Nothing x = ⊥
+IsUsable olds news used.Connected x = x ≡ connected
+IsUsable olds news (used.Old number) x = (e : Entry) × (slice_get olds number ≡ Some e) × (x ≡ of_old e)
+IsUsable olds news (used.New number) x = (e : Entry) × (slice_get news number ≡ Some e) × (x ≡ of_new e)
 
 -- the answer is what is used
-abbrev pub ShowsUse : List (Block × Entry) → List (Block × Entry) → Used → Next → Type 0
-ShowsUse old new used.Nothing answer = answer ≡ next.Absent
-ShowsUse old new used.Connected answer = answer ≡ next.Connected
-ShowsUse old new (used.Old place) answer = (p : Block) (e : Entry) → slice_get old place ≡ Some (p, e) → ShowsEntry answer e
-ShowsUse old new (used.New place) answer = (p : Block) (e : Entry) → slice_get new place ≡ Some (p, e) → ShowsEntry answer e
+abbrev pub ShowsUse : List Entry → List Entry → Used → Next → Type 0
+ShowsUse olds news used.Nothing answer = answer ≡ next.Absent
+ShowsUse olds news used.Connected answer = answer ≡ next.Connected
+ShowsUse olds news (used.Old number) answer = (e : Entry) → slice_get olds number ≡ Some e → ShowsEntry answer e
+ShowsUse olds news (used.New number) answer = (e : Entry) → slice_get news number ≡ Some e → ShowsEntry answer e
+
+-- what is used in a phase is this alone
+pub record IsUse (s : Site) (phase : Phase) (way : Used) : Type 0 where
+  pub within : IsKeptUse s.tables.old.entries.now s.tables.new.entries.now way
+  pub exact : (x : Usable) → UsesAt s phase x ↔ IsUsable s.tables.old.entries.now s.tables.new.entries.now way x
+
+-- what is used in each phase
+abbrev pub IsCell : Site → Cell → Type 0
+IsCell s cell = (phase : Phase) → IsUse s phase (use_in cell phase)

@@ -4,7 +4,8 @@ pub use Rattle.igp_theory.specs.Loops
 pub use Rattle.prefix_atoms.specs.Classes
 pub mod Mixture
 pub mod Answers
-pub mod Candidates
-pub mod Cells
-pub mod Rows
 pub mod Laws
+pub mod Rows
+pub mod Cells
+pub mod Sites
+pub mod steps

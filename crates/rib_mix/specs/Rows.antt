@@ -1,79 +1,70 @@
--- What was found for each router and class, the longest connected prefix and the longest entries of both tables, and what
--- is used of it in each phase.
-use Rattle.std.specs.Prelude.{◌≡◌, ℕ, ◌<◌, List, length, slice_get, slice_index, Option, Some, None, All}
-use Rattle.net_addr.specs.Addresses.{Block, ContainsAddress, IsBlock}
-use Rattle.net_addr.specs.LongestMatches.{IsMatch}
-use Rattle.net_model.specs.Lookups.{LongestConnected}
-use Rattle.net_model.specs.Configuration.{Configuration}
-use Rattle.net_model.specs.Network.{Network, Connected, HasConfiguration}
-use Rattle.net_model.specs.Refusals.{IsNetwork}
-use Rattle.route_core.specs.Tables.{HasDistinctPrefixes, table_prefixes}
+-- Cells side by side: those of a router for each address, and those of all routers for one address.
+use Rattle.std.specs.Prelude.{◌≡◌, ℕ, ◌↔◌, List, length, slice_get, slice_index, Some, Contains}
+use Rattle.net_addr.specs.Addresses.{Block}
+use Rattle.net_model.specs.Network.{Network, Connected}
 use Rattle.route_core.specs.declared.entry.Entry.{Entry}
+use Rattle.igp_theory.specs.Migrations.{migration}
 use Rattle.prefix_atoms.specs.Classes.{Classes, AreClasses, SourceEntry}
-use Rattle.rib_mix.specs.Cells.{AreSubnets, IsCellOf}
+use Rattle.rib_mix.specs.Cells.{IsCell}
+use Rattle.rib_mix.specs.Sites.{AreTablesOf}
+use Rattle.rib_mix.specs.declared.both_tables.BothTables.{BothTables}
 use Rattle.rib_mix.specs.declared.cell.Cell.{Cell}
-use Rattle.rib_mix.specs.declared.found.Found.{Found}
 
--- the longest connected prefix that contains the address has this length
-pub record ConnectedLength (net : Network) (u a len : ℕ) : Type 0 where
-  pub prefix : Block
-  pub longest : LongestConnected net u a prefix
-  pub len_is : prefix.len ≡ len
+-- a network, and both tables of each of its routers in their parts
+pub record Ground : Type 0 where
+  pub net : Network
+  pub tables : List BothTables
 
--- the length of the longest connected prefix, none where no connected prefix contains the address
-abbrev pub IsConnectedLength : Network → ℕ → ℕ → Option ℕ → Type 0
-IsConnectedLength net u a None = (p : Block) → Connected net u p → ContainsAddress p a → ⊥
-IsConnectedLength net u a (Some len) = ConnectedLength net u a len
-
--- what is found for a router and an address
-pub record AreFoundMatches (net : Network) (old new : List (Block × Entry)) (u a : ℕ) (found : Found) : Type 0 where
-  pub connected : IsConnectedLength net u a found.connected
-  pub old_match : IsMatch (table_prefixes old) a found.old
-  pub new_match : IsMatch (table_prefixes new) a found.new
-
--- a router has this OSPF distance
-pub record HasOspfDistance (net : Network) (u ospf : ℕ) : Type 0 where
-  pub config : Configuration
-  pub has : HasConfiguration net u config
-  pub distance_is : config.distances.ospf ≡ ospf
-
--- what a router uses for an address, of what is found
-pub record IsCell (net : Network) (old new : List (Block × Entry)) (u a : ℕ) (cell : Cell) : Type 0 where
-  pub ospf : ℕ
-  pub distance : HasOspfDistance net u ospf
-  pub found : Found
-  pub found_is : AreFoundMatches net old new u a found
-  pub uses : IsCellOf found ospf cell
-
--- what a router uses for each of some addresses
-pub record IsRouterRow (net : Network) (old new : List (Block × Entry)) (u : ℕ) (addresses : List ℕ) (row : List Cell) : Type 0 where
+-- what router u, with these tables, uses for each of some addresses
+pub record IsRow (net : Network) (u : ℕ) (both : BothTables) (addresses : List ℕ) (row : List Cell) : Type 0 where
   pub count : length row ≡ length addresses
-  pub each : (k : ℕ) (cell : Cell) → slice_get row k ≡ Some cell → IsCell net old new u (slice_index addresses k) cell
-
--- what every table keeps: its prefixes are blocks of addresses, no two of them the same
-pub record IsLawfulTable (entries : List (Block × Entry)) : Type 0 where
-  pub blocks : All (λ entry. IsBlock entry.0) entries
-  pub distinct : HasDistinctPrefixes entries
+  pub each : (k : ℕ) (cell : Cell) → slice_get row k ≡ Some cell →
+      IsCell (record { net = net; u = u; tables = both; a = slice_index addresses k }) cell
 
 -- what each router uses for each of some addresses
-pub record AreRows (net : Network) (old new : ℕ → List (Block × Entry)) (addresses : List ℕ) (rows : List (List Cell)) : Type 0 where
-  pub count : length rows ≡ length net
-  pub each : (u : ℕ) (row : List Cell) → slice_get rows u ≡ Some row → IsRouterRow net (old u) (new u) u addresses row
-  pub old_lawful : (u : ℕ) → u < length net → IsLawfulTable (old u)
-  pub new_lawful : (u : ℕ) → u < length net → IsLawfulTable (new u)
+pub record AreRows (g : Ground) (addresses : List ℕ) (rows : List (List Cell)) : Type 0 where
+  pub count : length rows ≡ length g.net
+  pub each : (u : ℕ) (row : List Cell) → slice_get rows u ≡ Some row → (both : BothTables) → slice_get g.tables u ≡ Some both →
+      IsRow g.net u both addresses row
+
+-- what all routers use for an address
+pub record IsColumn (g : Ground) (a : ℕ) (column : List Cell) : Type 0 where
+  pub count : length column ≡ length g.net
+  pub each : (u : ℕ) (cell : Cell) → slice_get column u ≡ Some cell → (both : BothTables) → slice_get g.tables u ≡ Some both →
+      IsCell (record { net = g.net; u = u; tables = both; a = a }) cell
+
+-- the cells of all rows at place k
+pub record IsColumnOf (rows : List (List Cell)) (k : ℕ) (column : List Cell) : Type 0 where
+  pub count : length column ≡ length rows
+  pub each : (u : ℕ) (cell : Cell) → slice_get column u ≡ Some cell → (row : List Cell) → slice_get rows u ≡ Some row → slice_get row k ≡ Some cell
+
+-- the columns of rows at each of so many places
+pub record AreColumnsOf (rows : List (List Cell)) (places : ℕ) (columns : List (List Cell)) : Type 0 where
+  pub count : length columns ≡ places
+  pub each : (k : ℕ) (column : List Cell) → slice_get columns k ≡ Some column → IsColumnOf rows k column
+
+-- the prefixes that are connected at router u
+abbrev pub AreSubnets : Network → ℕ → List Block → Type 0
+AreSubnets net u subnets = (p : Block) → Contains subnets p ↔ Connected net u p
 
 -- the prefixes that are connected at each router
 pub record AreAllSubnets (net : Network) (subnets : List (List Block)) : Type 0 where
   pub count : length subnets ≡ length net
   pub each : (u : ℕ) (ps : List Block) → slice_get subnets u ≡ Some ps → AreSubnets net u ps
 
--- what mixed forwarding is made of: a network, the tables of its routers, their classes, the connected prefixes, and what is
--- used for the classes
-pub record IsMixed (net : Network) (old_routers new_routers : ℕ) (old new : ℕ → List (Block × Entry)) (classes : Classes)
-    (subnets : List (List Block)) (rows : List (List Cell)) : Type 0 where
-  pub network : IsNetwork net
-  pub old_count : old_routers ≡ length net
-  pub new_count : new_routers ≡ length net
-  pub classes_are : AreClasses net (SourceEntry (length net) old) (SourceEntry (length net) new) classes
-  pub subnets_are : AreAllSubnets net subnets
-  pub rows_are : AreRows net old new classes.samples rows
+-- what mixed forwarding keeps
+pub record MixedParts : Type 0 where
+  pub ground : Ground
+  pub classes : Classes
+  pub subnets : List (List Block)
+  pub columns : List (List Cell)
+
+-- what mixed forwarding keeps of a network and the tables of its routers: their classes, the connected prefixes, and what is used
+-- for the classes
+pub record IsMixed (old new : ℕ → List (Block × Entry)) (kept : MixedParts) : Type 0 where
+  pub classes_are : AreClasses (migration kept.ground.net (SourceEntry (length kept.ground.net) old) (SourceEntry (length kept.ground.net) new)) kept.classes
+  pub subnets_are : AreAllSubnets kept.ground.net kept.subnets
+  pub tables_are : AreTablesOf old new (length kept.ground.net) kept.ground.tables
+  pub count : length kept.columns ≡ length kept.classes.samples
+  pub columns_are : (k : ℕ) (column : List Cell) → slice_get kept.columns k ≡ Some column →
+      IsColumn kept.ground (slice_index kept.classes.samples k) column

@@ -1,20 +1,8 @@
 ghost use Rattle.std.specs.Prelude.{◌≡◌};
-ghost use Rattle.igp_theory.specs.declared.phase.Phase.TheVariants.{Old};
-ghost use Rattle.rib_mix.specs.Candidates.{connected_of, old_if_counts, new_of, IsBetter};
+ghost use Rattle.rib_mix.specs.steps.Candidates.{IsBetter, SecondLeads, connected_of, entry_of, old_of};
 
-use net_addr::Match;
-use net_model::{ISIS_DISTANCE, MOST_DISTANCE};
-
-/// Where an entry stands.
-#[derive(Clone, Copy, Debug)]
-pub enum Way {
-    /// It is a connected prefix.
-    Connected,
-    /// It stands at this place of the old table.
-    Old(usize),
-    /// It stands at this place of the new table.
-    New(usize),
-}
+use crate::found::Longest;
+use net_model::MOST_DISTANCE;
 
 /// An entry that counts for an address.
 #[derive(Clone, Copy, Debug)]
@@ -23,8 +11,8 @@ pub struct Candidate {
     pub len: u8,
     /// Its administrative distance.
     pub distance: u8,
-    /// Where it stands.
-    pub way: Way,
+    /// Its number among the entries that its table keeps, none of a connected prefix.
+    pub entry: Option<u32>,
 }
 
 /// The longest connected prefix as a candidate.
@@ -36,54 +24,56 @@ pub fn connected_candidate(found: Option<u8>) -> Option<Candidate>
         Some(len) => Some(Candidate {
             len,
             distance: 0,
-            way: Way::Connected,
+            entry: None,
         }),
     }
 }
 
-/// The longest entry of the old table at this distance as a candidate, where that counts while the table is in use.
-pub fn old_candidate(found: Option<Match>, ospf: u8) -> Option<Candidate>
-    ensures { result ≡ old_if_counts Old ospf found }
-{
-    match found {
-        Some(best) if ospf != MOST_DISTANCE => Some(Candidate {
-            len: best.len,
-            distance: ospf,
-            way: Way::Old(best.place),
-        }),
-        _ => None,
-    }
-}
-
-/// The longest entry of the new table as a candidate.
-pub fn new_candidate(found: Option<Match>) -> Option<Candidate>
-    ensures { result ≡ new_of found }
+/// The longest entry of a table at this distance as a candidate.
+pub fn entry_candidate(found: Option<Longest>, distance: u8) -> Option<Candidate>
+    ensures { result ≡ entry_of distance found }
 {
     match found {
         None => None,
-        Some(best) => Some(Candidate {
-            len: best.len,
-            distance: ISIS_DISTANCE,
-            way: Way::New(best.place),
+        Some(longest) => Some(Candidate {
+            len: longest.len,
+            distance,
+            entry: Some(longest.number),
         }),
     }
 }
 
-/// The longer of two candidates, and of equally long ones the one of lower distance.
-pub fn better(one: Option<Candidate>, two: Option<Candidate>) -> Option<Candidate>
-    ensures { IsBetter one two result }
+/// The same of the old table, which doesn't count at the greatest distance.
+pub fn old_candidate(found: Option<Longest>, ospf: u8) -> Option<Candidate>
+    ensures { result ≡ old_of ospf found }
 {
-    match (one, two) {
-        (None, _) => two,
-        (_, None) => one,
+    if ospf == MOST_DISTANCE {
+        None
+    } else {
+        entry_candidate(found, ospf)
+    }
+}
+
+/// The better of two candidates, the first one where neither is.
+pub fn better(first: Option<Candidate>, second: Option<Candidate>) -> Option<Candidate>
+    ensures { IsBetter first second result }
+{
+    if is_better(first, second) {
+        second
+    } else {
+        first
+    }
+}
+
+/// Whether the second candidate is longer than the first one, or as long and of lower distance.
+pub fn is_better(first: Option<Candidate>, second: Option<Candidate>) -> bool
+    ensures { SecondLeads result first second }
+{
+    match (first, second) {
+        (_, None) => false,
+        (None, Some(_)) => true,
         (Some(first), Some(second)) => {
-            if second.len > first.len
-                || second.len == first.len && second.distance < first.distance
-            {
-                two
-            } else {
-                one
-            }
+            second.len > first.len || second.len == first.len && second.distance < first.distance
         }
     }
 }

@@ -1,53 +1,39 @@
-ghost use Rattle.std.specs.Prelude.{◌≡◌, IfOk};
-ghost use Rattle.rib_mix.specs.Cells.{HasPlace, IsCellOf, choice_of, choice_of_way, chosen_in, use_in};
+ghost use Rattle.std.specs.Prelude.{◌≡◌};
+ghost use Rattle.igp_theory.specs.declared.phase.Phase.TheVariants.{Middle};
+ghost use Rattle.rib_mix.specs.Cells.{IsCellOf, choice_of, new_use, entry_number_of, old_use, use_in};
 
-use crate::candidate::{Candidate, Way, better, connected_candidate, new_candidate, old_candidate};
+use crate::candidate::{
+    Candidate, better, connected_candidate, entry_candidate, is_better, old_candidate,
+};
 use crate::found::Found;
+use crate::used::Used;
 use igp_theory::Phase;
-use net_addr::Match;
-use route_core::OutOfMemory;
-use std::alloc::AllocError;
+use net_model::ISIS_DISTANCE;
 
-/// What a router uses for an address.
-#[derive(Clone, Copy, Debug)]
-pub enum Used {
-    /// No entry.
-    Nothing,
-    /// A connected prefix.
-    Connected,
-    /// The entry at this place of the old table.
-    Old(u32),
-    /// The entry at this place of the new table.
-    New(u32),
-}
-
-/// Which of what is found for an address a router uses.
-#[derive(Clone, Copy, Debug)]
+/// What a router chooses for an address in Old or in New, where one table counts.
+#[derive(Clone, Copy, Debug, PartialEq, Eq)]
 pub enum Choice {
     /// Nothing.
     Nothing,
     /// The connected prefix.
     Connected,
-    /// The entry of the old table.
-    Old,
-    /// The entry of the new table.
-    New,
+    /// The entry of the table.
+    Entry,
 }
 
-/// What a router uses for an address in each phase: which of what is found, and where that stands. It has 12 bytes,
-/// since there is one for each router and class.
-#[derive(Clone, Copy, Debug)]
+/// What a router uses for an address in each phase. It has 12 bytes, since there is one for each router and class.
+#[derive(Clone, Copy, Debug, PartialEq, Eq)]
 pub struct Cell {
-    /// The place of the longest entry in the old table, any number where there is none.
-    pub old_place: u32,
-    /// The place of the longest entry in the new table, any number where there is none.
-    pub new_place: u32,
-    /// What is used in Old.
+    /// The number of the entry that is used in Old, 0 where none is.
+    pub old_entry: u32,
+    /// The number of the entry that is used in New, 0 where none is.
+    pub new_entry: u32,
+    /// What is chosen in Old.
     pub old: Choice,
-    /// What is used in Middle.
-    pub middle: Choice,
-    /// What is used in New.
+    /// What is chosen in New.
     pub new: Choice,
+    /// Whether in Middle that is used which is in New, and not what is in Old.
+    pub middle_is_new: bool,
 }
 
 impl Cell {
@@ -55,44 +41,61 @@ impl Cell {
     pub fn used(self, phase: Phase) -> Used
         ensures { result ≡ use_in self phase }
     {
-        match self.chosen(phase) {
-            Choice::Nothing => Used::Nothing,
-            Choice::Connected => Used::Connected,
-            Choice::Old => Used::Old(self.old_place),
-            Choice::New => Used::New(self.new_place),
+        match phase {
+            Phase::Old => self.used_in_old(),
+            Phase::Middle => self.used_in_middle(),
+            Phase::New => self.used_in_new(),
         }
     }
 
-    /// Which of what is found it uses in a phase.
-    fn chosen(self, phase: Phase) -> Choice
-        ensures { result ≡ chosen_in self phase }
+    /// What it uses in Old.
+    fn used_in_old(self) -> Used
+        ensures { result ≡ old_use self }
     {
-        match phase {
-            Phase::Old => self.old,
-            Phase::Middle => self.middle,
-            Phase::New => self.new,
+        match self.old {
+            Choice::Nothing => Used::Nothing,
+            Choice::Connected => Used::Connected,
+            Choice::Entry => Used::Old(self.old_entry),
+        }
+    }
+
+    /// What it uses in Middle.
+    fn used_in_middle(self) -> Used
+        ensures { result ≡ use_in self Middle }
+    {
+        if self.middle_is_new {
+            self.used_in_new()
+        } else {
+            self.used_in_old()
+        }
+    }
+
+    /// What it uses in New.
+    fn used_in_new(self) -> Used
+        ensures { result ≡ new_use self }
+    {
+        match self.new {
+            Choice::Nothing => Used::Nothing,
+            Choice::Connected => Used::Connected,
+            Choice::Entry => Used::New(self.new_entry),
         }
     }
 }
 
-/// What a router with this OSPF distance uses in each phase, of what is found for an address. A table with 2^32 entries
-/// or more counts as want of memory.
-pub fn cell_of(found: Found, ospf: u8) -> Result<Cell, OutOfMemory>
-    ensures { IfOk result (IsCellOf found ospf) }
+/// What a router with this OSPF distance uses in each phase, of what is found for an address.
+pub fn cell_of(found: Found, ospf: u8) -> Cell
+    ensures { IsCellOf found ospf result }
 {
     let connected = connected_candidate(found.connected);
-    let old = old_candidate(found.old, ospf);
-    let new = new_candidate(found.new);
-    let best_old = better(connected, old);
-    let best_middle = better(best_old, new);
-    let best_new = better(connected, new);
-    Ok(Cell {
-        old_place: short_place(found.old)?,
-        new_place: short_place(found.new)?,
+    let best_old = better(connected, old_candidate(found.old, ospf));
+    let best_new = better(connected, entry_candidate(found.new, ISIS_DISTANCE));
+    Cell {
+        old_entry: number_of(best_old),
+        new_entry: number_of(best_new),
         old: choice_of(best_old),
-        middle: choice_of(best_middle),
         new: choice_of(best_new),
-    })
+        middle_is_new: is_better(best_old, best_new),
+    }
 }
 
 /// What is chosen where this is the best candidate.
@@ -101,37 +104,22 @@ fn choice_of(best: Option<Candidate>) -> Choice
 {
     match best {
         None => Choice::Nothing,
-        Some(best) => choice_of_way(best.way),
+        Some(Candidate { entry: None, .. }) => Choice::Connected,
+        Some(Candidate { entry: Some(_), .. }) => Choice::Entry,
     }
 }
 
-/// What is chosen where a way leads.
-fn choice_of_way(way: Way) -> Choice
-    ensures { result ≡ choice_of_way way }
+/// The number of the best candidate's entry, 0 where it has none.
+fn number_of(best: Option<Candidate>) -> u32
+    ensures { result ≡ entry_number_of best }
 {
-    match way {
-        Way::Connected => Choice::Connected,
-        Way::Old(_) => Choice::Old,
-        Way::New(_) => Choice::New,
+    match best {
+        Some(
+            Candidate {
+                entry: Some(number),
+                ..
+            },
+        ) => number,
+        _ => 0,
     }
-}
-
-/// The place of a match as a number of 32 bits.
-fn short_place(found: Option<Match>) -> Result<u32, OutOfMemory>
-    ensures { IfOk result (HasPlace found) }
-{
-    match found {
-        None => Ok(0),
-        Some(found) => short(found.place),
-    }
-}
-
-/// A place as a number of 32 bits.
-fn short(place: usize) -> Result<u32, OutOfMemory>
-    ensures { IfOk result (λ number. number ≡ place) }
-{
-    if place > u32::MAX as usize {
-        return Err(AllocError);
-    }
-    Ok(place as u32)
 }

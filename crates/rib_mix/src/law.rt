@@ -1,8 +1,8 @@
 ghost use Rattle.rib_mix.specs.Laws.{StepsAreHops};
 
-use igp_theory::TablePair;
+use igp_theory::AnyMigration;
 
 /// The law that a router which has to pass packets on steps exactly to the hops of its answer.
-pub fn steps_are_hops<T: TablePair>()
-    ensures { StepsAreHops T.old T.new }
+pub fn steps_are_hops<T: AnyMigration>()
+    ensures { StepsAreHops T.migration }
 {}

@@ -6,11 +6,13 @@
 //! | File | What it holds |
 //! |---|---|
 //! | `mixed`, `next` | mixed forwarding over a network and two sources of tables, and what a router does |
-//! | `row`, `found`, `subnets` | of each router: the longest matches of the classes' least addresses, and its connected prefixes |
-//! | `candidate`, `cell` | the best of what counts in a phase, and what is used in each phase |
+//! | `both_tables`, `subnets` | of each router: its tables in their parts, and its connected prefixes |
+//! | `found`, `candidate`, `used` | the longest entries for an address, the best of what counts in a phase, and what is used |
+//! | `cell`, `cells`, `row`, `columns` | what is used in each phase: of one router for all classes, and of all routers for each class |
 //! | `law` | that what a router does is what the definitions call its steps |
 //!
-//! `Mixed::build` takes time of routers times classes and of the entries of all tables; `hops` looks one cell up.
+//! `Mixed::build` takes time of routers times classes and of the entries of all tables; `hops` looks one cell up. The cells of
+//! a class stand side by side.
 #![tactic(auto)]
 
 // mixed forwarding
@@ -18,11 +20,15 @@ mod mixed;
 mod next;
 
 // what is found and used
+mod both_tables;
 mod candidate;
 mod cell;
+mod cells;
+mod columns;
 mod found;
 mod row;
 mod subnets;
+mod used;
 
 // laws
 mod law;

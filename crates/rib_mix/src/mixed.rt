@@ -1,22 +1,27 @@
 ghost use Rattle.std.specs.Prelude.{◌≡◌, ◌<◌, ◌↔◌, IfOk, IsTrue, length};
+ghost use Rattle.std.specs.Bool.{OnTrue};
 ghost use Rattle.std.specs.List.Sorted.{IsStrictlyIncreasing};
 ghost use Rattle.net_model.specs.Network.{Connected};
-ghost use Rattle.net_model.specs.Refusals.{IsNetwork};
+ghost use Rattle.igp_theory.specs.Migrations.{migration};
 ghost use Rattle.prefix_atoms.specs.Classes.{AreClasses, SourceEntry};
-ghost use Rattle.route_core.specs.Tables.{HasEntry};
-ghost use Rattle.rib_mix.specs.Answers.{IsNextAtAnEnd, IsNextOf, ShowsEntry};
-ghost use Rattle.rib_mix.specs.Cells.{IsUsePlaced, ShowsUse};
+ghost use Rattle.rib_mix.specs.Answers.{AreAlikeClasses, IsAlikeAt, IsNextAtAnEnd, IsNextOf, ShowsEntry};
+ghost use Rattle.rib_mix.specs.Mixture.{migration_of};
+ghost use Rattle.rib_mix.specs.Cells.{IsKeptUse, ShowsUse};
 ghost use Rattle.rib_mix.specs.Rows.{AreAllSubnets, AreRows};
+ghost use Rattle.rib_mix.specs.Sites.{AreTablesInParts};
 
-use crate::cell::Used;
+use crate::both_tables::{BothTables, tables_of};
+use crate::cells::{Cells, is_same};
+use crate::columns::columns_of;
 use crate::next::Next;
-use crate::row::{Row, row_of};
+use crate::row::row_of;
 use crate::subnets::Subnets;
+use crate::used::Used;
 use igp_theory::Phase;
 use net_addr::Prefix;
 use net_model::Net;
 use prefix_atoms::Atoms;
-use route_core::{Entry, OutOfMemory, RouteSource, Table};
+use route_core::{Entry, OutOfMemory, RouteSource};
 use std::alloc::Global;
 use std::marker::Model;
 
@@ -30,7 +35,10 @@ pub struct Mixed<'a, O: RouteSource, N: RouteSource> {
     atoms: Atoms,
     /// For each router the prefixes that are connected at it.
     subnets: Vec<Subnets>,
-    rows: Vec<Row>,
+    /// Of each router both tables.
+    tables: Vec<BothTables<'a>>,
+    /// For each class what all routers use.
+    columns: Vec<Cells>,
 }
 
 impl<'a, O: RouteSource, N: RouteSource> Model for Mixed<'a, O, N> {
@@ -41,8 +49,12 @@ impl<'a, O: RouteSource, N: RouteSource> Model for Mixed<'a, O, N> {
 
     ghost view = { λ x. record { net = x.net.now; old = x.old.now; new = x.new.now; classes = x.atoms } };
 
-    ghost invariant = { λ x. IsMixed x.net.now (O.routers x.old.now) (N.routers x.new.now) (O.table x.old.now) (N.table x.new.now) x.atoms
-        x.subnets.items x.rows.items };
+    ghost invariant = { λ x. IsMixed (O.table x.old.now) (N.table x.new.now) (record {
+      ground = record { net = x.net.now; tables = x.tables.items };
+      classes = x.atoms;
+      subnets = x.subnets.items;
+      columns = x.columns.items;
+    }) };
 }
 
 impl<'a, O: RouteSource, N: RouteSource> Mixed<'a, O, N> {
@@ -61,22 +73,26 @@ impl<'a, O: RouteSource, N: RouteSource> Mixed<'a, O, N> {
     {
         let atoms = Atoms::build(alloc, net, old, new)?;
         let subnets = all_subnets(alloc, net)?;
-        let rows = rows_of(alloc, net, subnets.as_slice(), old, new, atoms.samples())?;
+        let tables = tables_of(alloc, old, new)?;
+        let samples = atoms.samples();
+        let rows = rows_of(alloc, net, subnets.as_slice(), tables.as_slice(), samples)?;
+        let columns = columns_of(alloc, rows.as_slice(), samples.len())?;
         Ok(Mixed {
             net,
             old,
             new,
             atoms,
             subnets,
-            rows,
+            tables,
+            columns,
         })
     }
 
     /// The classes of addresses.
     pub fn atoms(&self) -> &Atoms
         ensures atoms { result.now ≡ self.now.classes }
-        ensures classes { AreClasses self.now.net (SourceEntry (length self.now.net) (O.table self.now.old))
-            (SourceEntry (length self.now.net) (N.table self.now.new)) self.now.classes }
+        ensures classes { AreClasses (migration self.now.net (SourceEntry (length self.now.net) (O.table self.now.old))
+            (SourceEntry (length self.now.net) (N.table self.now.new))) self.now.classes }
     {
         &self.atoms
     }
@@ -101,14 +117,40 @@ impl<'a, O: RouteSource, N: RouteSource> Mixed<'a, O, N> {
     pub fn hops(&self, router: u32, atom: u32, phase: Phase) -> Next<'_>
         requires router { router < length self.now.net }
         requires atom { atom < length self.now.classes.samples }
-        ensures next { IsNextOf self.now.net (HasEntry (O.table self.now.old)) (HasEntry (N.table self.now.new)) self.now.classes router atom phase result }
+        ensures next { IsNextOf (migration_of O.table N.table self.now) self.now.classes router atom phase result }
         ensures middle { phase ≡ Phase.Middle
-            → IsNextAtAnEnd self.now.net (HasEntry (O.table self.now.old)) (HasEntry (N.table self.now.new)) self.now.classes router atom result }
+            → IsNextAtAnEnd (migration_of O.table N.table self.now) self.now.classes router atom result }
     {
-        let cell = self.rows[router as usize].at(atom as usize);
-        let old = self.old.table(router);
-        let new = self.new.table(router);
+        let cell = self.columns[atom as usize].at(router as usize);
+        let tables = &self.tables[router as usize];
+        let old = tables.old.entries;
+        let new = tables.new.entries;
         next_of(old, new, cell.used(phase))
+    }
+
+    /// Whether what a router does is known to be the same, in every phase, for the packets of two classes.
+    pub fn is_alike_at(&self, router: u32, atom: u32, other: u32) -> bool
+        requires router { router < length self.now.net }
+        requires atom { atom < length self.now.classes.samples }
+        requires other { other < length self.now.classes.samples }
+        ensures { OnTrue result
+            (IsAlikeAt (migration_of O.table N.table self.now) self.now.classes router atom other) }
+    {
+        let one = self.columns[atom as usize].at(router as usize);
+        let two = self.columns[other as usize].at(router as usize);
+        is_same(one, two)
+    }
+
+    /// Whether that is known of all routers.
+    pub fn are_alike(&self, atom: u32, other: u32) -> bool
+        requires atom { atom < length self.now.classes.samples }
+        requires other { other < length self.now.classes.samples }
+        ensures { OnTrue result
+            (AreAlikeClasses (migration_of O.table N.table self.now) self.now.classes atom other) }
+    {
+        let one = &self.columns[atom as usize];
+        let two = &self.columns[other as usize];
+        one.are_same(two)
     }
 }
 
@@ -125,47 +167,38 @@ fn all_subnets(alloc: Global, net: &Net) -> Result<Vec<Subnets>, OutOfMemory>
 }
 
 /// What each router of a network uses for each of some ascending addresses.
-fn rows_of<O: RouteSource, N: RouteSource>(
+fn rows_of(
     alloc: Global,
     net: &Net,
     subnets: &[Subnets],
-    old: &O,
-    new: &N,
+    tables: &[BothTables<'_>],
     addresses: &[u32],
-) -> Result<Vec<Row>, OutOfMemory>
-    requires old_routers { O.routers old.now ≡ length net.now }
-    requires new_routers { N.routers new.now ≡ length net.now }
+) -> Result<Vec<Cells>, OutOfMemory>
+    requires tables { AreTablesInParts (length net.now) tables.now }
     requires ascending { IsStrictlyIncreasing addresses.now }
     requires subnets { AreAllSubnets net.now subnets.now }
-    ensures rows { IfOk result (λ rows. AreRows net.now (O.table old.now) (N.table new.now) addresses.now rows.items) }
-    ensures network { IsNetwork net.now }
+    ensures { IfOk result (λ rows. AreRows (record { net = net.now; tables = tables.now }) addresses.now rows.items) }
 {
-    let mut rows = Vec::new(alloc);
+    let mut rows = Vec::with_capacity(alloc, net.routers() as usize)?;
     for router in 0..net.routers() {
-        let row = row_of(
-            alloc,
-            net,
-            router,
-            &subnets[router as usize],
-            old.table(router),
-            new.table(router),
-            addresses,
-        )?;
+        let subnets = &subnets[router as usize];
+        let both = tables[router as usize];
+        let row = row_of(alloc, net, router, subnets, both, addresses)?;
         rows.push(row)?;
     }
     Ok(rows)
 }
 
 /// What a router does that uses this.
-fn next_of<'a>(old: &'a Table, new: &'a Table, used: Used) -> Next<'a>
-    requires { IsUsePlaced old.now new.now used }
+fn next_of<'a>(old: &'a [Entry], new: &'a [Entry], used: Used) -> Next<'a>
+    requires { IsKeptUse old.now new.now used }
     ensures { ShowsUse old.now new.now used result }
 {
     match used {
         Used::Nothing => Next::Absent,
         Used::Connected => Next::Connected,
-        Used::Old(place) => shown(old.entry(place as usize)),
-        Used::New(place) => shown(new.entry(place as usize)),
+        Used::Old(number) => shown(&old[number as usize]),
+        Used::New(number) => shown(&new[number as usize]),
     }
 }
 

@@ -1,42 +1,20 @@
-ghost use Rattle.std.specs.Prelude.{◌≡◌, ◌<◌, IfOk, OnOk, Some, length, slice_get};
+ghost use Rattle.std.specs.Prelude.{◌≡◌, ◌<◌, IfOk, IfSome, OnOk, length};
 ghost use Rattle.std.specs.List.Sorted.{IsStrictlyIncreasing};
-ghost use Rattle.rib_mix.specs.Cells.{AreFoundAt, AreSubnets, length_of};
-ghost use Rattle.rib_mix.specs.Rows.{HasOspfDistance, IsLawfulTable, IsRouterRow};
+ghost use Rattle.net_model.specs.Refusals.{IsNetwork};
+ghost use Rattle.route_core.specs.Rows.{AreTableRows};
+ghost use Rattle.rib_mix.specs.Rows.{AreSubnets, IsRow};
+ghost use Rattle.rib_mix.specs.Sites.{HasOspfDistance, IsLongestOf, length_of};
 
-use crate::cell::{Cell, cell_of};
-use crate::found::Found;
+use crate::both_tables::BothTables;
+use crate::cell::cell_of;
+use crate::cells::Cells;
+use crate::found::{Found, Longest};
 use crate::subnets::Subnets;
 use net_addr::Match;
 use net_model::Net;
-use prefix_atoms::{longest_in_table, longest_of_each};
-use route_core::{OutOfMemory, Table};
+use prefix_atoms::{longest_in_rows, longest_of_each};
+use route_core::{OutOfMemory, Row};
 use std::alloc::Global;
-use std::marker::Model;
-
-/// What a router uses for each of some addresses.
-#[derive(Drop)]
-pub struct Row {
-    all: Vec<Cell>,
-}
-
-impl Model for Row {
-    ghost use Rattle.std.specs.Prelude.{List};
-    ghost use Rattle.rib_mix.specs.declared.cell.Cell.{Cell};
-
-    ghost Value = { List Cell };
-
-    ghost view = { λ x. x.all.items };
-}
-
-impl Row {
-    /// What is used for the address at a place.
-    pub fn at(&self, place: usize) -> Cell
-        requires { place < length self.now }
-        ensures { slice_get self.now place ≡ Some result }
-    {
-        self.all[place]
-    }
-}
 
 /// What a router uses for each of some ascending addresses.
 pub fn row_of(
@@ -44,53 +22,37 @@ pub fn row_of(
     net: &Net,
     router: u32,
     subnets: &Subnets,
-    old: &Table,
-    new: &Table,
+    tables: BothTables<'_>,
     addresses: &[u32],
-) -> Result<Row, OutOfMemory>
+) -> Result<Cells, OutOfMemory>
     requires router { router < length net.now }
     requires subnets { AreSubnets net.now router subnets.now }
+    requires old { AreTableRows tables.old.entries.now tables.old.rows.now }
+    requires new { AreTableRows tables.new.entries.now tables.new.rows.now }
     requires ascending { IsStrictlyIncreasing addresses.now }
-    ensures row { IfOk result (λ row. IsRouterRow net.now old.now new.now router addresses.now row) }
-    ensures old_lawful { OnOk result (IsLawfulTable old.now) }
-    ensures new_lawful { OnOk result (IsLawfulTable new.now) }
+    ensures { IfOk result (IsRow net.now router tables.entry addresses.now) }
 {
     let own = longest_of_each(alloc, subnets.as_slice(), addresses)?;
-    let olds = longest_in_table(alloc, old, addresses)?;
-    let news = longest_in_table(alloc, new, addresses)?;
+    let olds = longest_in_rows(alloc, tables.old.rows, addresses)?;
+    let news = longest_in_rows(alloc, tables.new.rows, addresses)?;
     let ospf = ospf_distance(net, router);
     let mut row = Vec::with_capacity(alloc, addresses.len())?;
     for k in 0..addresses.len() {
-        let found = found_at(own.as_slice(), olds.as_slice(), news.as_slice(), k);
-        let cell = cell_of(found, ospf)?;
-        row.push(cell)?;
+        let found = Found {
+            connected: length_of(own[k]),
+            old: longest_of(tables.old.rows, olds[k]),
+            new: longest_of(tables.new.rows, news[k]),
+        };
+        row.push(cell_of(found, ospf))?;
     }
-    Ok(Row { all: row })
-}
-
-/// What is found at a place of some matches.
-fn found_at(
-    own: &[Option<Match>],
-    olds: &[Option<Match>],
-    news: &[Option<Match>],
-    place: usize,
-) -> Found
-    requires own { place < length own.now }
-    requires olds { place < length olds.now }
-    requires news { place < length news.now }
-    ensures { AreFoundAt own.now olds.now news.now place result }
-{
-    Found {
-        connected: length_of(own[place]),
-        old: olds[place],
-        new: news[place],
-    }
+    Ok(Cells::from_vec(row))
 }
 
 /// The OSPF distance of a router.
 fn ospf_distance(net: &Net, router: u32) -> u8
     requires { router < length net.now }
-    ensures { HasOspfDistance net.now router result }
+    ensures distance { HasOspfDistance net.now router result }
+    ensures network { IsNetwork net.now }
 {
     net.config(router).distances.ospf
 }
@@ -103,4 +65,16 @@ fn length_of(found: Option<Match>) -> Option<u8>
         Some(found) => Some(found.len),
         None => None,
     }
+}
+
+/// The entry of the row at the place of a match.
+fn longest_of(rows: &[Row], found: Option<Match>) -> Option<Longest>
+    requires { IfSome found (λ one. one.place < length rows.now) }
+    ensures { IsLongestOf rows.now found result }
+{
+    let found = found?;
+    Some(Longest {
+        number: rows[found.place].number,
+        len: found.len,
+    })
 }

@@ -1,5 +1,5 @@
 ghost use Rattle.std.specs.Prelude.{◌≡◌, ◌<◌, ◌↔◌, Contains, IfOk, IsTrue, length};
-ghost use Rattle.rib_mix.specs.Cells.{AreSubnets};
+ghost use Rattle.rib_mix.specs.Rows.{AreSubnets};
 
 use net_addr::Prefix;
 use net_model::Net;

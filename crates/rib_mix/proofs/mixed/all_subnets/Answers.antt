@@ -1,6 +1,6 @@
 use Rattle.std.proofs.Common.{ℕ, List, arith}
 use Rattle.net_addr.specs.Addresses.{Block}
-use Rattle.rib_mix.specs.Cells.{AreSubnets}
+use Rattle.rib_mix.specs.Rows.{AreSubnets}
 use Rattle.rib_mix.proofs.RowSteps.{count_more, each_more}
 use Rattle.rib_mix.proofs.mixed.all_subnets.Goals as goal
 

@@ -1,6 +1,6 @@
 use Rattle.std.proofs.Common.{◌≡◌, ℕ, List, length, slice_get, Some}
 use Rattle.net_addr.specs.Addresses.{Block}
-use Rattle.rib_mix.specs.Cells.{AreSubnets}
+use Rattle.rib_mix.specs.Rows.{AreSubnets}
 use Rattle.rib_mix.proofs.mixed.all_subnets.Given as goal
 
 abbrev pub invariant-loop-router : goal.invariant-loop-router

@@ -1,6 +1,7 @@
 use Rattle.std.proofs.Common.{◌≡◌, ◌∙◌}
 use Rattle.std.proofs.lemmas.Result.{IfOk-weaker}
 use Rattle.net_model.specs.DestLists.{all_dests}
+use Rattle.igp_theory.specs.Migrations.{migration}
 use Rattle.prefix_atoms.specs.Classes.{Classes, AreClasses, SourceEntry}
 use Rattle.prefix_atoms.specs.Lists.{source_prefixes, all_originated, AreClassesOf}
 use Rattle.prefix_atoms.proofs.Occurrences.{classes_collected, gathered}
@@ -11,9 +12,9 @@ returns g c =
     let originated : c.as_slice.result.now ≡ all_originated c.args.net.now = c.as_slice.ensures.value ∙ c.in_ok-originated.ensures in
     IfOk-weaker c.classes_of.result
     (λ (classes : Classes). AreClassesOf c.keep_distinct_prefixes-2.new.prefixes.items c.as_slice.result.now classes)
-    (λ (classes : Classes). AreClasses c.args.net.now
+    (λ (classes : Classes). AreClasses (migration c.args.net.now
     (SourceEntry (g.O.RouteSource.routers c.args.old.now) (g.O.RouteSource.table c.args.old.now))
-    (SourceEntry (g.N.RouteSource.routers c.args.new.now) (g.N.RouteSource.table c.args.new.now)) classes)
+    (SourceEntry (g.N.RouteSource.routers c.args.new.now) (g.N.RouteSource.table c.args.new.now))) classes)
     (λ classes are.
     classes_collected c.args.net.now (g.O.RouteSource.routers c.args.old.now) (g.N.RouteSource.routers c.args.new.now)
     (g.O.RouteSource.table c.args.old.now) (g.N.RouteSource.table c.args.new.now)

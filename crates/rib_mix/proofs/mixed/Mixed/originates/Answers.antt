@@ -1,9 +1,9 @@
 use Rattle.std.proofs.Common.{◌≡◌, ◌<◌, ◌↔◌, IsTrue, Some, length, slice_get, arith, refl, subst}
 use Rattle.std.proofs.lemmas.Option.{slice_get_read}
 use Rattle.net_model.specs.Network.{Connected}
-use Rattle.rib_mix.specs.Cells.{AreSubnets}
+use Rattle.rib_mix.specs.Rows.{AreSubnets}
 use Rattle.rib_mix.specs.Mixture.{Mixture}
-use Rattle.rib_mix.proofs.FoundFacts.{router_along}
+use Rattle.rib_mix.proofs.MixedLaws.{router_along}
 use Rattle.rib_mix.proofs.mixed.Mixed.originates.Goals as goal
 
 pub returns : goal.returns

@@ -3,7 +3,7 @@ use Rattle.std.specs.List.{filter_map}
 use Rattle.net_addr.specs.Addresses.{Block}
 use Rattle.net_model.specs.Configuration.{Configuration}
 use Rattle.net_model.specs.DestLists.{subnet_if_up}
-use Rattle.rib_mix.specs.Cells.{AreSubnets}
+use Rattle.rib_mix.specs.Rows.{AreSubnets}
 use Rattle.rib_mix.proofs.SubnetFacts.{are_subnets}
 use Rattle.rib_mix.proofs.subnets.Subnets.of_router.Goals as goal
 

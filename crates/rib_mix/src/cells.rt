@@ -1,0 +1,66 @@
+ghost use Rattle.std.specs.Prelude.{◌≡◌, ◌<◌, length, slice_get, Some};
+ghost use Rattle.std.specs.Bool.{OnTrue};
+
+use crate::cell::Cell;
+use std::marker::Model;
+
+/// Cells side by side: those of a router for each class, or those of all routers for one class.
+#[derive(Drop)]
+pub struct Cells {
+    all: Vec<Cell>,
+}
+
+impl Model for Cells {
+    ghost use Rattle.std.specs.Prelude.{List};
+    ghost use Rattle.rib_mix.specs.declared.cell.Cell.{Cell};
+
+    ghost Value = { List Cell };
+
+    ghost view = { λ x. x.all.items };
+}
+
+impl Cells {
+    /// The cells of a vector, in its order.
+    pub fn from_vec(all: Vec<Cell>) -> Cells
+        ensures { result ≡ all.items }
+    {
+        Cells { all }
+    }
+
+    /// The cell at a place.
+    pub fn at(&self, place: usize) -> Cell
+        requires { place < length self.now }
+        ensures { slice_get self.now place ≡ Some result }
+    {
+        self.all[place]
+    }
+
+    /// How many cells there are.
+    pub fn len(&self) -> usize
+        ensures { result ≡ length self.now }
+    {
+        self.all.len()
+    }
+
+    /// Whether cells are the same, place by place.
+    pub fn are_same(&self, other: &Cells) -> bool
+        ensures { OnTrue result (self.now ≡ other.now) }
+    {
+        if self.len() != other.len() {
+            return false;
+        }
+        for place in 0..self.len() {
+            if !is_same(self.at(place), other.at(place)) {
+                return false;
+            }
+        }
+        true
+    }
+}
+
+/// Whether two cells are the same.
+pub fn is_same(one: Cell, other: Cell) -> bool
+    ensures { OnTrue result (one ≡ other) }
+{
+    one == other
+}
