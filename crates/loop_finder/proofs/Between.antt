@@ -1,6 +1,5 @@
 -- The states between two: their steps are those of both.
 use Rattle.std.proofs.Common.{◌≡◌, ℕ, List, ◌∷◌, length, Option, None, Some, IfNone, inl, inr, refl, sym, subst}
-use Rattle.route_core.specs.Tables.{HasEntry}
 use Rattle.igp_theory.specs.Forwarding.{MustForward, Steps, HasStep}
 use Rattle.igp_theory.specs.States.{State, StepsIn}
 use Rattle.igp_theory.specs.declared.phase.Phase.{Phase}
@@ -9,7 +8,7 @@ use Rattle.igp_theory.proofs.ForwardingLaws.{every_phase_steps}
 use Rattle.igp_theory.proofs.LoopLaws.{old_or_new_step}
 use Rattle.igp_theory.proofs.SameTables.{follows_over}
 use Rattle.order_core.specs.declared.turn.Turn.{Turn}
-use Rattle.rib_mix.specs.Mixture.{Mixture}
+use Rattle.rib_mix.specs.Mixture.{Mixture, migration_of}
 use Rattle.loop_finder.specs.Faults.{state_in}
 use Rattle.loop_finder.specs.ClassSteps.{Listing, ClassState, sample_of, ClassStep, MovesIn, Moves}
 use Rattle.loop_finder.specs.Verdicts.{IsClassVerdict, SoundAt, IsBetween, IsClearAt}
@@ -18,7 +17,7 @@ use Rattle.loop_finder.specs.declared.fault.Fault.{Fault}
 -- where a router moves it has a step
 pub has_step : {O N : Type 0} (old : Listing O) (new : Listing N) (c : ClassState O N) (u : ℕ) (phase : Phase) → MovesIn old new c u phase →
     MustForward c.mixture.net (sample_of c.mixture c.atom) u
-    → HasStep c.mixture.net (HasEntry (old c.mixture.old)) (HasEntry (new c.mixture.new)) u phase (sample_of c.mixture c.atom)
+    → HasStep (migration_of old new c.mixture) u phase (sample_of c.mixture c.atom)
 has_step old new c u phase moves must = record { hop = (moves must).0; steps = (moves must).1 }
 
 -- a state is between itself and itself
@@ -27,7 +26,7 @@ between_itself n phases u within = inl refl
 
 pub step_between : {O N : Type 0} (old : Listing O) (new : Listing N) (c : ClassState O N) (state : State) (u h : ℕ) →
     IsBetween (length c.mixture.net) c.first c.last state
-    → StepsIn c.mixture.net (HasEntry (old c.mixture.old)) (HasEntry (new c.mixture.new)) state (sample_of c.mixture c.atom) u h → ClassStep old new c u h
+    → StepsIn (migration_of old new c.mixture) state (sample_of c.mixture c.atom) u h → ClassStep old new c u h
 step_between old new c state u h between steps = elim (between u steps.must.router) [
   | inl same ↦ inl (in_phase (state_in c.first u) same steps)
   | inr both ↦ elim (old_or_new_step (state u) steps) [
@@ -36,16 +35,16 @@ step_between old new c state u h between steps = elim (between u steps.must.rout
   ]
 ]
   where
-    in_phase : {p : Phase} (q : Phase) → p ≡ q → Steps c.mixture.net (HasEntry (old c.mixture.old)) (HasEntry (new c.mixture.new)) u p
+    in_phase : {p : Phase} (q : Phase) → p ≡ q → Steps (migration_of old new c.mixture) u p
         (sample_of c.mixture c.atom) h
-        → Steps c.mixture.net (HasEntry (old c.mixture.old)) (HasEntry (new c.mixture.new)) u q (sample_of c.mixture c.atom) h
+        → Steps (migration_of old new c.mixture) u q (sample_of c.mixture c.atom) h
     in_phase q same one =
-        subst (λ (x : Phase). Steps c.mixture.net (HasEntry (old c.mixture.old)) (HasEntry (new c.mixture.new)) u x (sample_of c.mixture c.atom) h) same one
+        subst (λ (x : Phase). Steps (migration_of old new c.mixture) u x (sample_of c.mixture c.atom) h) same one
 
 -- a router that moves in both moves in each state between them
 pub moves_between : {O N : Type 0} (old : Listing O) (new : Listing N) (c : ClassState O N) (state : State) (u : ℕ) →
     IsBetween (length c.mixture.net) c.first c.last state → Moves old new c u
-    → MustForward c.mixture.net (sample_of c.mixture c.atom) u → HasStep c.mixture.net (HasEntry (old c.mixture.old)) (HasEntry (new c.mixture.new)) u
+    → MustForward c.mixture.net (sample_of c.mixture c.atom) u → HasStep (migration_of old new c.mixture) u
     (state u) (sample_of c.mixture c.atom)
 moves_between old new c state u between moves must = elim (between u must.router) [
   | inl same ↦ in_phase (state u) (sym same) (has_step old new c u (state_in c.first u) moves.0 must)
@@ -53,11 +52,11 @@ moves_between old new c state u between moves must = elim (between u must.router
       (in_phase New both.1 (has_step old new c u (state_in c.last u) moves.1 must)) (state u)
 ]
   where
-    in_phase : {p : Phase} (q : Phase) → p ≡ q → HasStep c.mixture.net (HasEntry (old c.mixture.old)) (HasEntry (new c.mixture.new)) u p
+    in_phase : {p : Phase} (q : Phase) → p ≡ q → HasStep (migration_of old new c.mixture) u p
         (sample_of c.mixture c.atom)
-        → HasStep c.mixture.net (HasEntry (old c.mixture.old)) (HasEntry (new c.mixture.new)) u q (sample_of c.mixture c.atom)
+        → HasStep (migration_of old new c.mixture) u q (sample_of c.mixture c.atom)
     in_phase q same has =
-        subst (λ (x : Phase). HasStep c.mixture.net (HasEntry (old c.mixture.old)) (HasEntry (new c.mixture.new)) u x (sample_of c.mixture c.atom)) same has
+        subst (λ (x : Phase). HasStep (migration_of old new c.mixture) u x (sample_of c.mixture c.atom)) same has
 
 -- where nothing is told of a class, every state between the two is sound for it
 pub clear_told : {O N : Type 0} (old : Listing O) (new : Listing N) (m : Mixture O N) (first last : List Phase) (atom : ℕ) (turns : List Turn) →

@@ -2,6 +2,7 @@
 use Rattle.std.proofs.Common.{◌≡◌, ℕ, zero, suc, ◌+◌, ◌<◌, ◌≤◌, Bool, true, cond, leb, List, [], ◌∷◌, length, get_or, set, inl, inr, refl, arith, sym, ap, ◌∙◌}
 use Rattle.std.proofs.Common.{subst, below_more}
 use Rattle.std.specs.Bool.{OnTrue}
+use Rattle.std.specs.List.{All}
 use Rattle.std.proofs.lemmas.Bool.{cases_lt}
 use Rattle.std.proofs.lemmas.Bool.Decides.{eqb_tells, leb_tells}
 use Rattle.std.proofs.lemmas.List.{get_or_default, get_or-replicate, get_or-set_other, get_or-set_same}
@@ -51,21 +52,34 @@ bare_wave part ranks w u h bare (inr other) = bare New h other.1
 
 -- a part is calm before a wave where it's calm before one, and no router that has hops stirs in the waves from that on
 pub calm_until : (part : ClassPart) (ranks steppers : List ℕ) (w v : ℕ) → part.moves ≡ true → length part.rows ≡ length ranks
-    → AreSteppers part.rows steppers → IsCalmBefore part ranks w → ((k : ℕ) → k < length steppers → IsUnstirred part ranks w v (get_or steppers k 0))
-    → IsCalmBefore part ranks v
+    → AreSteppers part.rows steppers → IsCalmBefore part ranks w
+    → All (λ u. w ≤ rank_of ranks u → rank_of ranks u < v → IsUnstirred part ranks (rank_of ranks u) u) steppers → IsCalmBefore part ranks v
 calm_until part ranks steppers w v moves many are is each = record {
   moves = λ some. moves;
   calm = λ x less u within same. elim (cases_lt x w) [
     | inl before ↦ is.calm x before u within same
     | inr after ↦ elim (are.whole u (omega (arith, within, many))) [
       | inl among ↦
-          let at : get_or steppers among.0 0 ≡ u = get_or_default steppers among.0 0 u among.1 ∙ among.2 in
-          let never : IsUnstirred part ranks w v u = subst (λ (y : ℕ). IsUnstirred part ranks w v y) at (each among.0 among.1) in
-          subst (λ (y : ℕ). NeverReturnsTo (WaveStep part ranks y) u) same (never (omega (arith, same, after)) (omega (arith, same, less)))
+          let at : get_or steppers among.0 u ≡ u = among.2 in
+          let stirs : w ≤ rank_of ranks u → rank_of ranks u < v → IsUnstirred part ranks (rank_of ranks u) u =
+          subst (λ (y : ℕ). w ≤ rank_of ranks y → rank_of ranks y < v → IsUnstirred part ranks (rank_of ranks y) y) at (each among.0 u among.1) in
+          subst (λ (y : ℕ). NeverReturnsTo (WaveStep part ranks y) u) same (stirs (omega (arith, same, after)) (omega (arith, same, less)) refl)
       | inr bare ↦ λ h hops follows. bare_wave part ranks x u h bare follows.0
     ]
   ];
 }
+
+-- so it is before the next wave that has such a router, where none of them stirs in the one before
+pub calm_further : (part : ClassPart) (ranks steppers : List ℕ) (w v : ℕ) → part.moves ≡ true → length part.rows ≡ length ranks
+    → AreSteppers part.rows steppers → IsCalmBefore part ranks w → All (IsUnstirred part ranks w) steppers
+    → All (λ u. w + 1 ≤ rank_of ranks u → v ≤ rank_of ranks u) steppers → IsCalmBefore part ranks v
+calm_further part ranks steppers w v moves many are is unstirred next =
+    calm_until part ranks steppers w v moves many are is (λ k d within from less.
+    let here : rank_of ranks (get_or steppers k d) ≡ w = elim (cases_lt w (rank_of ranks (get_or steppers k d))) [
+      | inl later ↦ absurd (omega (arith, less, next k d within (omega (arith, later))))
+      | inr reached ↦ omega (arith, from, reached)
+    ] in
+    subst (λ (x : ℕ). IsUnstirred part ranks x (get_or steppers k d)) (sym here) (unstirred k d within))
 
 other_rank : (ranks : List ℕ) (u rank v : ℕ) → (¬ (v ≡ u)) → rank_of (set ranks u rank) v ≡ rank_of ranks v
 other_rank ranks u rank v apart = get_or-set_other ranks u v rank 0 apart

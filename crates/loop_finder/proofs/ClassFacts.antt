@@ -3,27 +3,24 @@ use Rattle.std.proofs.Common.{◌≡◌, ℕ, ◌<◌, ◌^◌, ◌↔◌, Bool,
 use Rattle.std.specs.Bool.{OnTrue, OnFalse}
 use Rattle.std.proofs.lemmas.Bool.{false≢true}
 use Rattle.std.proofs.lemmas.List.Elements.{Contains-get_or}
-use Rattle.route_core.specs.Tables.{HasEntry}
 use Rattle.igp_theory.specs.Forwarding.{MustForward}
 use Rattle.igp_theory.specs.declared.phase.Phase.{Phase}
 use Rattle.prefix_atoms.specs.Classes.{IsInClass}
-use Rattle.rib_mix.specs.Answers.{IsNext, NextLeadsTo}
-use Rattle.rib_mix.specs.declared.next.Next.{Next}
+use Rattle.rib_mix.specs.Answers.{NextLeadsTo}
 use Rattle.rib_mix.proofs.NextLaws.{steps_to_hops}
-use Rattle.rib_mix.specs.Mixture.{Mixture}
+use Rattle.rib_mix.specs.Mixture.{Mixture, migration_of}
 use Rattle.loop_finder.specs.Parts.{StepsOf}
+use Rattle.loop_finder.specs.steps.Making.{IsHopsOf}
 use Rattle.loop_finder.specs.ClassSteps.{Listing, ClassState, sample_of, StepsBy, IsStuckIn, MovesIn}
 
--- the hops of the answer for a router that has to pass packets on
-pub hops_from_next : {O N : Type 0} (old : Listing O) (new : Listing N) (m : Mixture O N) (atom u : ℕ) (phase : Phase) (next : Next)
-    (hops : List ℕ) → atom < length m.classes.samples → sample_of m atom < 2 ^ 32
-    → ((a : ℕ) → IsInClass m.classes atom a → IsNext m.net (HasEntry (old m.old)) (HasEntry (new m.new)) u phase a next)
-    → MustForward m.net (sample_of m atom) u → ((h : ℕ) → Contains hops h ↔ NextLeadsTo next h)
+-- the hops of what a router does that has to pass packets on
+pub steps_to_those : {O N : Type 0} (old : Listing O) (new : Listing N) (m : Mixture O N) (atom u : ℕ) (phase : Phase) (hops : List ℕ)
+    → atom < length m.classes.samples → sample_of m atom < 2 ^ 32 → IsHopsOf old new m atom u phase hops → MustForward m.net (sample_of m atom) u
     → (h : ℕ) → Contains hops h ↔ StepsOf old new m atom u phase h
-hops_from_next old new m atom u phase next hops inside address answers must same h =
-    let law : StepsOf old new m atom u phase h ↔ NextLeadsTo next h =
-    steps_to_hops m.net (HasEntry (old m.old)) (HasEntry (new m.new)) u phase (sample_of m atom) next h (answers (sample_of m atom) member) must in
-    (λ among. law.1 ((same h).0 among), λ steps. (same h).1 (law.0 steps))
+steps_to_those old new m atom u phase hops inside address are must h =
+    let law : StepsOf old new m atom u phase h ↔ NextLeadsTo are.next h =
+    steps_to_hops (migration_of old new m) u phase (sample_of m atom) are.next h (are.is (sample_of m atom) member) must in
+    (λ among. law.1 ((are.leads h).0 among), λ steps. (are.leads h).1 (law.0 steps))
   where
     member : IsInClass m.classes atom (sample_of m atom)
     member = record { class = inside; address = address; alike = λ p contains. (λ h. h, λ h. h) }

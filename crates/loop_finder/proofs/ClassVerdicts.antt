@@ -8,7 +8,7 @@ use Rattle.net_model.specs.Configuration.{Configuration, IsConfiguration, IsInte
 use Rattle.net_model.specs.Network.{Network, Connected}
 use Rattle.net_model.specs.Refusals.{IsNetwork}
 use Rattle.igp_theory.specs.Forwarding.{IsOriginated, IsTarget}
-use Rattle.igp_theory.specs.Routes.{Tables}
+use Rattle.igp_theory.specs.Migrations.{Migration}
 use Rattle.igp_theory.specs.declared.phase.Phase.{Phase}
 use Rattle.prefix_atoms.specs.Classes.{Classes, AreClasses, IsInClass, HasTarget}
 use Rattle.order_core.specs.Marks.{IsMarked}
@@ -63,7 +63,7 @@ told_without {O} {N} old new m first last atom turns none = record {
     nowhere u h (inr steps) = none steps.must.target steps.must.is_target
 
 -- the least address of a class is in it
-pub sample_in : {net : Network} {old new : Tables} (c : Classes) (atom : ℕ) → AreClasses net old new c → atom < length c.samples →
+pub sample_in : {move : Migration} (c : Classes) (atom : ℕ) → AreClasses move c → atom < length c.samples →
     IsInClass c atom (get_or c.samples atom 0)
 sample_in c atom are within = record {
   class = within;
@@ -72,8 +72,8 @@ sample_in c atom are within = record {
 }
 
 -- what is read as the target of a class is the target of its least address
-pub target_at : {net : Network} {old new : Tables} (c d : Classes) (atom : ℕ) (t : Option Block) → AreClasses net old new c → atom < length c.samples → d ≡ c →
+pub target_at : {move : Migration} (c d : Classes) (atom : ℕ) (t : Option Block) → AreClasses move c → atom < length c.samples → d ≡ c →
     slice_get d.targets atom ≡ Some t
-    → HasTarget net (get_or c.samples atom 0) t
+    → HasTarget move.net (get_or c.samples atom 0) t
 target_at c d atom t are within same at =
     are.target atom (get_or c.samples atom 0) t (sample_in c atom are within) (subst (λ (x : Classes). slice_get x.targets atom ≡ Some t) same at)

@@ -1,46 +1,60 @@
--- Routers that are compared with their hops, one after another.
-use Rattle.std.proofs.Common.{◌≡◌, ℕ, ◌+◌, ◌<◌, ◌≤◌, Bool, true, false, List, length, set, arith, refl, ◌∙◌, below_more}
-use Rattle.std.specs.Bool.{OnFalse}
-use Rattle.std.proofs.lemmas.List.{get_or-set_same, get_or-set_other}
+-- Marks by layers.
+use Rattle.std.proofs.Common.{◌≡◌, ℕ, ◌+◌, ◌<◌, ◌≤◌, ◌^◌, Bool, List, [], ◌∷◌, All, Contains, inl, inr, arith, sym, subst, below_more}
+use Rattle.std.proofs.lemmas.Bool.{cases_lt}
+use Rattle.std.proofs.lemmas.List.Elements.{All-contains}
+use Rattle.igp_theory.specs.States.{Follows}
 use Rattle.order_core.specs.Marks.{IsMarked}
-use Rattle.loop_finder.specs.Returns.{MarksReturns, layer_in}
-use Rattle.loop_finder.proofs.Returning.{marks_from_layers}
+use Rattle.loop_finder.specs.Returns.{HasLayer, IsLevelled, MarksAgain, layer_in}
+use Rattle.loop_finder.proofs.LowestSteps.{marked_cases}
 
--- from the first i routers no step leads higher, and from those without mark every step leads lower
-pub record AreLevelled (step : ℕ → ℕ → Type 0) (layers : List ℕ) (marks : List Bool) (i : ℕ) : Type 0 where
-  pub no_higher : (u h : ℕ) → u < i → step u h → layer_in layers h ≤ layer_in layers u
-  pub lower : (u h : ℕ) → u < i → (¬ IsMarked marks u) → step u h → layer_in layers h < layer_in layers u
+-- from the first i routers no step leads higher, and those without layer keep their marks
+pub record AreLevelled (step : ℕ → ℕ → Type 0) (layers : List ℕ) (start marks : List Bool) (i : ℕ) : Type 0 where
+  pub level : (u : ℕ) → u < i → IsLevelled step layers marks u
+  pub stay : (u : ℕ) → (¬ HasLayer layers u) → IsMarked start u → IsMarked marks u
 
-pub AreLevelled-none : (step : ℕ → ℕ → Type 0) (layers : List ℕ) (marks : List Bool) → AreLevelled step layers marks 0
-AreLevelled-none step layers marks = record {
-  no_higher = λ u h below. absurd (omega (arith, below));
-  lower = λ u h below. absurd (omega (arith, below));
+-- one router more
+pub AreLevelled-more : (step : ℕ → ℕ → Type 0) (layers : List ℕ) (start old new : List Bool) (i : ℕ) → AreLevelled step layers start old i
+    → IsLevelled step layers new i → ((u : ℕ) → (u ≡ i → ¬ HasLayer layers u) → IsMarked old u → IsMarked new u)
+    → AreLevelled step layers start new (i + 1)
+AreLevelled-more step layers start old new i levelled here kept = record {
+  level = below_more (IsLevelled step layers new) i (λ u below. record {
+    no_higher = (levelled.level u below).no_higher;
+    lower = λ has bare. (levelled.level u below).lower has (λ marked. bare (kept u (λ same. absurd (omega (arith, same, below))) marked));
+  }) here;
+  stay = λ u none marked. kept u (λ same. none) (levelled.stay u none marked);
 }
 
--- a layer that isn't over another
-not_over : (b : Bool) (above layer : ℕ) → OnFalse b (above ≤ layer) → (¬ (b ≡ true)) → above ≤ layer
-not_over true above layer over bare = absurd (bare refl)
-not_over false above layer over bare = over
+-- once all routers are compared, a walk that returns to a router without mark passes none that has a layer
+pub marks_again : (step : ℕ → ℕ → Type 0) (layers changed : List ℕ) (start marks : List Bool) (i : ℕ) → AreLevelled step layers start marks i
+    → ((u h : ℕ) → step u h → u < i) → All (HasLayer layers) changed → MarksAgain step changed start marks
+marks_again step layers changed start marks i levelled inside have u h hops follows = elim (cases_lt (layer_in layers u + 1) (2 ^ 32)) [
+  | inl has ↦ elim (marked_cases marks u) [
+    | inl marked ↦ inl marked
+    | inr bare ↦
+        let first : layer_in layers h < layer_in layers u = (levelled.level u (inside u h follows.0)).lower has bare h follows.0 in
+        let rest : layer_in layers u ≤ layer_in layers h = falls h hops u (omega (arith, first, has)) follows.1 in
+        absurd (omega (arith, first, rest))
+  ]
+  | inr past ↦
+      let none : ¬ HasLayer layers u = λ has. omega (arith, has, past) in
+      inr (levelled.stay u none, (avoids u (h ∷ hops) u none follows).1)
+]
+  where
+    no_higher : (x y : ℕ) → HasLayer layers x → step x y → layer_in layers y ≤ layer_in layers x
+    no_higher x y has steps = (levelled.level x (inside x y steps)).no_higher has y steps
 
-pub AreLevelled-more : (step : ℕ → ℕ → Type 0) (layers : List ℕ) (marks : List Bool) (i above : ℕ) (b : Bool) →
-    AreLevelled step layers marks i → i < length marks
-    → ((h : ℕ) → step i h → layer_in layers h < above) → above ≤ layer_in layers i + 1 → OnFalse b (above ≤ layer_in layers i) →
-    AreLevelled step layers (set marks i b) (i + 1)
-AreLevelled-more step layers marks i above b levelled within hops most over = record {
-  no_higher = λ u h below steps. (below_more (λ (v : ℕ). step v h → layer_in layers h ≤ layer_in layers v) i (λ v less. levelled.no_higher v h less)
-      (λ step_here. let under : layer_in layers h < above = hops h step_here in omega (arith, under, most))) u below steps;
-  lower = λ u h below bare steps. (below_more (λ (v : ℕ). (¬ IsMarked (set marks i b) v) → step v h → layer_in layers h < layer_in layers v) i
-      (λ v less unmarked step_there. levelled.lower v h less (λ marked.
-      unmarked (get_or-set_other marks i v b false (λ same. absurd (omega (arith, same, less))) ∙ marked)) step_there)
-      (λ unmarked step_here.
-      let under : layer_in layers h < above = hops h step_here in
-      let least : above ≤ layer_in layers i = not_over b above (layer_in layers i) over (λ is. unmarked (get_or-set_same marks i b false within ∙ is)) in
-      omega (arith, under, least))) u below bare steps;
-}
+    falls : (x : ℕ) (rest : List ℕ) (v : ℕ) → HasLayer layers x → Follows step x rest v → layer_in layers v ≤ layer_in layers x
+    falls x [] v has same = subst (λ (y : ℕ). layer_in layers y ≤ layer_in layers x) same (omega arith)
+    falls x (y ∷ rest) v has walk =
+        let first : layer_in layers y ≤ layer_in layers x = no_higher x y has walk.0 in
+        let last : layer_in layers v ≤ layer_in layers y = falls y rest v (omega (arith, first, has)) walk.1 in
+        omega (arith, first, last)
 
--- once all routers are compared, each router that is returned to is marked
-pub returns_marked : (step : ℕ → ℕ → Type 0) (layers : List ℕ) (marks : List Bool) (i : ℕ) → AreLevelled step layers marks i → ((u h : ℕ) → step u h → u < i) →
-    MarksReturns step marks
-returns_marked step layers marks i levelled inside =
-    marks_from_layers step layers marks (λ u h steps. levelled.no_higher u h (inside u h steps) steps) (λ u h bare steps.
-    levelled.lower u h (inside u h steps) bare steps)
+    avoids : (x : ℕ) (rest : List ℕ) (v : ℕ) → (¬ HasLayer layers v) → Follows step x rest v
+        → (¬ HasLayer layers x) × Follows (λ a b. step a b × ¬ Contains changed a) x rest v
+    avoids x [] v none same = (subst (λ (y : ℕ). ¬ HasLayer layers y) (sym same) none, same)
+    avoids x (y ∷ rest) v none walk =
+        let on = avoids y rest v none walk.1 in
+        let here : ¬ HasLayer layers x = λ has. let first : layer_in layers y ≤ layer_in layers x = no_higher x y has walk.0 in
+        on.0 (omega (arith, first, has)) in
+        (here, ((walk.0, λ among. here (All-contains (HasLayer layers) changed x have among)), on.1))

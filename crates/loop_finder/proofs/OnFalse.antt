@@ -18,14 +18,6 @@ pub on_not : (P : Type 0) (b : Bool) → OnFalse b P → OnTrue (not b) P
 on_not P true p = tt
 on_not P false p = p
 
-pub at_false : {P : Type 0} (b : Bool) → b ≡ false → OnFalse b P → P
-at_false true is p = cc
-at_false false is p = p
-
-pub at_true : {P : Type 0} (b : Bool) → b ≡ true → OnTrue b P → P
-at_true true is p = p
-at_true false is p = cc
-
 pub on_true_three : {P Q R S : Type 0} (b : Bool) → OnTrue b P → OnTrue b Q → OnTrue b R → (P → Q → R → S) → OnTrue b S
 on_true_three true p q r over = over p q r
 on_true_three false p q r over = tt

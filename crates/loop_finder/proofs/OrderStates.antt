@@ -1,11 +1,11 @@
 -- The changes of an order, one after another.
-use Rattle.std.proofs.Common.{◌≡◌, ℕ, zero, suc, ◌+◌, ◌-◌, ◌*◌, ◌/◌, ◌<◌, ◌≤◌, ◌==◌, if◌then◌else◌, List, [], ◌∷◌, ◌++◌, length, get_or, take, Option, Some}
+use Rattle.std.proofs.Common.{◌≡◌, ℕ, zero, suc, ◌+◌, ◌-◌, ◌*◌, ◌/◌, ◌<◌, ◌≤◌, ◌==◌, if◌then◌else◌, List, [], ◌∷◌, ◌++◌, length, get_or, take, Contains, Option, Some}
 use Rattle.std.proofs.Common.{None, IfNone, IfSome, MatchOption, Bool, true, false, arith, refl, sym, ap, ◌∙◌, subst, inl, inr}
 use Rattle.std.proofs.lemmas.Bool.Decides.{eqb_tells}
 use Rattle.std.proofs.lemmas.List.{take_more, take_all}
+use Rattle.std.proofs.lemmas.List.Elements.{Contains-get_or}
 use Rattle.igp_theory.specs.States.{State, changes_of, changes_on, phase_after, state_of}
 use Rattle.igp_theory.specs.declared.phase.Phase.{Phase}
-use Rattle.igp_theory.specs.declared.phase.Phase.TheVariants.{Old}
 use Rattle.loop_finder.specs.Faults.{state_in}
 use Rattle.order_core.specs.declared.turn.Turn.{Turn}
 use Rattle.rib_mix.specs.Mixture.{Mixture}
@@ -50,9 +50,9 @@ phase_after-more zero = refl
 phase_after-more (suc zero) = refl
 phase_after-more (suc (suc c)) = let e : suc (suc c) + 1 ≡ suc (suc (suc c)) = omega arith in ap phase_after e
 
--- at first no change is made
-pub state_first : (order : List ℕ) (u : ℕ) → state_of order 0 u ≡ Old
-state_first order u = refl
+-- the router that changes is one of the order's
+pub changed_inside : (order : List ℕ) (n k r : ℕ) → ((u : ℕ) → Contains order u → u < n) → k < length order → r ≡ get_or order k 0 → r < n
+changed_inside order n k r all within read = all r (subst (λ (u : ℕ). Contains order u) (sym read) (Contains-get_or order k 0 within))
 
 -- a change more
 state_more : (order : List ℕ) (k u : ℕ) → k < 2 * length order →

@@ -1,19 +1,17 @@
 -- What parts tell of all classes.
-use Rattle.std.proofs.Common.{◌≡◌, ℕ, ◌<◌, ◌≤◌, ◌⊎◌, Bool, true, List, [], ◌∷◌, length, Contains, None, inl, inr, arith, refl, sym, subst}
+use Rattle.std.proofs.Common.{◌≡◌, ℕ, ◌<◌, ◌≤◌, ◌⊎◌, Bool, true, List, [], ◌∷◌, length, Contains, None, inl, inr, refl, sym, subst}
 use Rattle.std.specs.Bool.{OnTrue}
 use Rattle.std.proofs.lemmas.Bool.{cases_lt}
 use Rattle.std.proofs.lemmas.List.{get_or_past}
-use Rattle.route_core.specs.Tables.{HasEntry}
 use Rattle.igp_theory.specs.Forwarding.{MustForward}
 use Rattle.igp_theory.specs.States.{State, Follows}
 use Rattle.igp_theory.specs.declared.phase.Phase.{Phase}
-use Rattle.igp_theory.specs.declared.phase.Phase.TheVariants.{Old, Middle, New}
 use Rattle.igp_theory.proofs.ForwardingLaws.{every_phase_steps}
 use Rattle.igp_theory.proofs.LoopLaws.{old_or_new_step}
 use Rattle.igp_theory.proofs.SameTables.{follows_over}
 use Rattle.order_core.specs.Marks.{IsMarked}
 use Rattle.prefix_atoms.specs.Classes.{HasTarget}
-use Rattle.rib_mix.specs.Mixture.{Mixture}
+use Rattle.rib_mix.specs.Mixture.{Mixture, migration_of}
 use Rattle.loop_finder.specs.Faults.{state_in}
 use Rattle.loop_finder.specs.Parts.{PhaseHops, ClassPart, hops_of, no_hops, part_hops, StepsOf, StepsEver, HasStepOf, AllMove, IsPart, PartStep}
 use Rattle.loop_finder.specs.Parts.{NeverUnsound, SoundWith, DifferAt}
@@ -22,6 +20,7 @@ use Rattle.loop_finder.specs.ClassSteps.{Listing, ClassState, sample_of}
 use Rattle.loop_finder.specs.Verdicts.{SoundAt, IsBetween, IsClearAt}
 use Rattle.loop_finder.specs.steps.Walks.{ReturnsNever}
 use Rattle.loop_finder.proofs.Between.{step_between}
+use Rattle.loop_finder.proofs.PartRows.{none_among}
 use Rattle.loop_finder.proofs.Returning.{returning, stays_sound}
 
 -- the steps of a state, for a class
@@ -34,18 +33,13 @@ all_move : {O N : Type 0} (old : Listing O) (new : Listing N) (m : Mixture O N) 
     → HasStepOf old new m atom u (state u)
 all_move old new m atom state move u must = every_phase_steps (move u must).0 (move u must).1 (state u)
 
--- the steps of a state are steps of both networks
-state_ever : {O N : Type 0} (old : Listing O) (new : Listing N) (m : Mixture O N) (atom : ℕ) (state : State) (u h : ℕ) → StateStep old new m atom state u h →
-    StepsEver old new m atom u h
-state_ever old new m atom state u h steps = old_or_new_step (state u) steps
-
 -- where no walk over the steps of both networks returns, every state is sound for the class
 pub never_unsound : {O N : Type 0} (old : Listing O) (new : Listing N) (m : Mixture O N) (atom : ℕ) (marks : List Bool) → AllMove old new m atom →
     MarksReturns (StepsEver old new m atom) marks
     → ((u : ℕ) → ¬ IsMarked marks u) → NeverUnsound old new m atom
 never_unsound old new m atom marks move returns bare state = record {
   forwards = λ u must. all_move old new m atom state move u must;
-  returns_never = λ u h hops follows. bare u (returns u h hops (follows_over (λ x y steps. state_ever old new m atom state x y steps) u (h ∷ hops) u follows));
+  returns_never = λ u h hops follows. bare u (returns u h hops (follows_over (λ x y steps. old_or_new_step (state x) steps) u (h ∷ hops) u follows));
 }
 
 -- a walk of a state that returns is one over the part's steps
@@ -54,7 +48,7 @@ in_part : {O N : Type 0} (old : Listing O) (new : Listing N) (m : Mixture O N) (
     → Follows (StateStep old new m part.atom state) u (h ∷ hops) u → Follows (λ (x y : ℕ). Contains (part_hops part x (state x)) y) u (h ∷ hops) u
 in_part old new m part state u h hops is follows =
     returning (StateStep old new m part.atom state) (StepsEver old new m part.atom) (λ (x y : ℕ). Contains (part_hops part x (state x)) y)
-    (λ x y steps. state_ever old new m part.atom state x y steps) (λ x y rest steps back. is.returns x y rest (state x) steps back) u u []
+    (λ x y steps. old_or_new_step (state x) steps) (λ x y rest steps back. is.returns x y rest (state x) steps back) u u []
     (h ∷ hops) refl follows
 
 -- where two parts have the same hops, a state that is sound for the class of one is sound for that of the other
@@ -109,7 +103,7 @@ pub part_stays_sound : {O N : Type 0} (old : Listing O) (new : Listing N) (m : M
     → part.moves ≡ true → NeverReturnsTo (PartStep part first last) u → DifferAt (length m.net) u before after → IsBetween (length m.net) first last after
     → SoundAt old new m before (sample_of m part.atom) → SoundAt old new m after (sample_of m part.atom)
 part_stays_sound old new m part first last u before after is moves never differ between sound =
-    stays_sound m.net (HasEntry (old m.old)) (HasEntry (new m.new)) (sample_of m part.atom) u before after differ
+    stays_sound (migration_of old new m) (sample_of m part.atom) u before after differ
     (λ h hops follows. never h hops (in_part_between old new m part first last after u h hops is between follows))
     (all_move old new m part.atom after (subst (λ (b : Bool). OnTrue b (AllMove old new m part.atom)) moves is.moves)) sound
 
@@ -120,13 +114,8 @@ part_inside part first last u h steps = elim (cases_lt u (length part.rows)) [
   | inr past ↦ absurd (elim steps [ inl one ↦ gone past (state_in first u) one | inr other ↦ gone past (state_in last u) other ])
 ]
   where
-    empty : (phase : Phase) → Contains (hops_of no_hops phase) h → ⊥
-    empty Old among = omega (arith, among.1)
-    empty Middle among = omega (arith, among.1)
-    empty New among = omega (arith, among.1)
-
     gone : length part.rows ≤ u → (phase : Phase) → Contains (part_hops part u phase) h → ⊥
-    gone past phase among = empty phase (subst (λ (row : PhaseHops). Contains (hops_of row phase) h) (get_or_past part.rows u no_hops past) among)
+    gone past phase among = none_among phase h (subst (λ (row : PhaseHops). Contains (hops_of row phase) h) (get_or_past part.rows u no_hops past) among)
 
 -- without a target nothing is passed on, so every state is sound
 pub never_without : {O N : Type 0} (old : Listing O) (new : Listing N) (m : Mixture O N) (atom : ℕ) → HasTarget m.net (sample_of m atom) None →

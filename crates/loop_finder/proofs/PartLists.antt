@@ -1,5 +1,5 @@
 -- What a list of parts tells of all classes.
-use Rattle.std.proofs.Common.{◌≡◌, ℕ, ◌+◌, ◌<◌, Bool, true, List, [], ◌∷◌, ◌++◌, length, get_or, Contains, inl, inr, arith, refl, sym, ap, ◌∙◌, subst, below_more}
+use Rattle.std.proofs.Common.{◌≡◌, ℕ, ◌+◌, ◌<◌, Bool, true, List, [], ◌∷◌, ◌++◌, length, get_or, Contains, inl, inr, arith, refl, ap, ◌∙◌, subst, below_more}
 use Rattle.std.specs.List.{AllPairs}
 use Rattle.std.proofs.lemmas.Bool.{cases_lt}
 use Rattle.std.proofs.lemmas.List.{get_or_default}
@@ -26,27 +26,23 @@ from_covered old new m parts n k state below sound (has_part is) =
 from_covered old new m parts n k state below sound (never_unsound never) = never state
 from_covered old new m parts n k state below sound (as_earlier part among before with) = with state (sound part among (omega (arith, before, below)))
 
--- the parts before a place are those of lesser classes
-place_before : (parts : List ClassPart) (p : ℕ) (d part : ClassPart) → AllPairs (λ (one other : ClassPart). one.atom < other.atom) parts → p < length parts →
-    (among : Contains parts part)
-    → part.atom < (get_or parts p d).atom → among.0 < p
-place_before parts p d part ascending within among less = elim (cases_lt among.0 p) [
+-- where a number rises along a list, an element of which it is less than of that at a place stands before the place
+pub stands_before : {X : Type 0} (of : X → ℕ) (xs : List X) (p : ℕ) (d x : X) → AllPairs (λ (one other : X). of one < of other) xs → p < length xs
+    → (among : Contains xs x) → of x < of (get_or xs p d) → among.0 < p
+stands_before of xs p d x rises within among less = elim (cases_lt among.0 p) [
   | inl before ↦ before
-  | inr after ↦ elim (cases_lt p among.0) [
-    | inl past ↦
-        let more : (get_or parts p part).atom < (get_or parts among.0 part).atom = ascending p among.0 part past among.1 in
-        let here : get_or parts p part ≡ get_or parts p d = get_or_default parts p part d within in
-        let there : get_or parts among.0 part ≡ part = among.2 in
-        let more_here : (get_or parts p d).atom < (get_or parts among.0 part).atom =
-        subst (λ (x : ClassPart). x.atom < (get_or parts among.0 part).atom) here more in
-        let more_there : (get_or parts p d).atom < part.atom = subst (λ (x : ClassPart). (get_or parts p d).atom < x.atom) there more_here in
-        absurd (omega (arith, more_there, less))
-    | inr equal ↦
-        let place : among.0 ≡ p = omega (arith, after, equal) in
-        let same : part ≡ get_or parts p d = sym among.2 ∙ ap (λ (q : ℕ). get_or parts q part) place ∙ get_or_default parts p part d within in
-        let none : (get_or parts p d).atom < (get_or parts p d).atom = subst (λ (x : ClassPart). x.atom < (get_or parts p d).atom) same less in
-        absurd (omega (arith, none))
-  ]
+  | inr after ↦
+      let here : of (get_or xs p x) ≡ of (get_or xs p d) = ap of (get_or_default xs p x d within) in
+      let there : of (get_or xs among.0 x) ≡ of x = ap of among.2 in
+      elim (cases_lt p among.0) [
+        | inl past ↦
+            let more : of (get_or xs p x) < of (get_or xs among.0 x) = rises p among.0 x past among.1 in
+            absurd (omega (arith, more, here, there, less))
+        | inr equal ↦
+            let place : among.0 ≡ p = omega (arith, after, equal) in
+            let same : of (get_or xs among.0 x) ≡ of (get_or xs p x) = ap (λ (q : ℕ). of (get_or xs q x)) place in
+            absurd (omega (arith, same, here, there, less))
+      ]
 ]
 
 -- so a state that is sound for the parts before a place is sound for the classes before that of the place
@@ -58,7 +54,7 @@ sound_before old new m parts n p d state are within sound k below =
     let last : (get_or parts p d).atom < n = are.below p d within in
     from_covered old new m parts (get_or parts p d).atom k state below
     (λ part among less.
-    let before : among.0 < p = place_before parts p d part are.ascending within among less in
+    let before : among.0 < p = stands_before (λ (x : ClassPart). x.atom) parts p d part are.ascending within among less in
     let is : get_or parts among.0 d ≡ part = get_or_default parts among.0 d part among.1 ∙ among.2 in
     subst (λ (x : ClassPart). SoundAt old new m state (sample_of m x.atom)) is (sound among.0 before))
     (are.covered k (omega (arith, below, last)))

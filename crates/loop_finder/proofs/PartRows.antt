@@ -1,64 +1,139 @@
 -- How the part of a class is made of its rows.
-use Rattle.std.proofs.Common.{◌≡◌, ℕ, ◌+◌, ◌<◌, ◌↔◌, ◌⊎◌, Bool, List, [], ◌∷◌, ◌++◌, length, get_or, Contains, inl, inr, arith, sym, subst, below_more}
+use Rattle.std.proofs.Common.{◌≡◌, ℕ, ◌+◌, ◌<◌, ◌↔◌, ◌⊎◌, Bool, List, [], ◌∷◌, ◌++◌, length, map, replicate, get_or, Contains, Option, Some, None, IfSome, inl, inr}
+use Rattle.std.proofs.Common.{arith, ap, ◌∙◌, sym, subst, below_more}
 use Rattle.std.specs.Bool.{OnTrue}
 use Rattle.std.proofs.lemmas.Bool.{cases_lt}
-use Rattle.std.proofs.lemmas.List.{get_or_past, length_push}
+use Rattle.std.proofs.lemmas.List.{get_or_past, get_or-replicate, length_push, length-map, length-replicate}
 use Rattle.std.proofs.lemmas.List.Elements.{All-push, Contains-append_left, Contains-get_or, Contains-push}
-use Rattle.std.proofs.Math.ListN.{get_or-append}
+use Rattle.std.proofs.Math.ListN.{get_or-append, get_or-map}
 use Rattle.std.proofs.Math.Seq.{get_or-append_seam}
 use Rattle.net_addr.specs.Addresses.{Block}
+use Rattle.net_model.proofs.Members.{Contains-none}
 use Rattle.net_model.specs.Network.{Connected}
 use Rattle.net_model.specs.Refusals.{IsNetwork}
-use Rattle.igp_theory.specs.Forwarding.{IsTarget, MustForward}
+use Rattle.igp_theory.specs.Forwarding.{IsTarget}
 use Rattle.igp_theory.specs.States.{Follows}
 use Rattle.igp_theory.specs.declared.phase.Phase.{Phase}
 use Rattle.igp_theory.specs.declared.phase.Phase.TheVariants.{Old, Middle, New}
 use Rattle.igp_theory.proofs.LoopLaws.{old_or_new_step}
 use Rattle.igp_theory.proofs.SameTables.{follows_over}
 use Rattle.order_core.specs.Marks.{IsMarked}
-use Rattle.rib_mix.specs.Mixture.{Mixture}
-use Rattle.loop_finder.specs.steps.Ends.{AreFirstHops, EndStep, MovesAtEnds, hops_at}
-use Rattle.loop_finder.specs.steps.Making.{IsRead, AreSameEnds, ends_of}
+use Rattle.rib_mix.specs.Answers.{IsAlikeAt}
+use Rattle.rib_mix.specs.Mixture.{Mixture, migration_of}
+use Rattle.loop_finder.specs.steps.Ends.{AreNoHops, EndStep, MovesAtEnds, hops_at}
+use Rattle.loop_finder.specs.steps.Making.{IsHopsOf, IsMaking, IsRead, IsReadAt, IsSameAt, ends_of}
 use Rattle.loop_finder.specs.steps.PartRows.{AreKept, IsRowOf, AreFirstRows}
 use Rattle.loop_finder.specs.Parts.{PhaseHops, hops_of, no_hops, StepsOf, StepsEver, HasStepOf, AllMove, IsPart, AreAllBut, AddsUnless}
-use Rattle.loop_finder.specs.Returns.{MarksReturns}
+use Rattle.loop_finder.specs.Returns.{MarksAgain, MarksReturns}
 use Rattle.loop_finder.specs.ClassSteps.{Listing, sample_of}
 use Rattle.loop_finder.specs.declared.end_lists.EndLists.{EndLists}
+use Rattle.loop_finder.specs.declared.parts.Making.{Making}
+use Rattle.loop_finder.proofs.ClassFacts.{steps_to_those}
 use Rattle.loop_finder.proofs.ClassVerdicts.{one_target}
 use Rattle.loop_finder.proofs.Returning.{follows_on}
 
 -- Both ends
 
-pub AreFirstHops-none : {O N : Type 0} (old : Listing O) (new : Listing N) (m : Mixture O N) (atom : ℕ) (phase : Phase)
-    (lists : List (List ℕ)) → lists ≡ [] → AreFirstHops old new m atom phase 0 lists
-AreFirstHops-none old new m atom phase lists none = record {
-  many = subst (λ (xs : List (List ℕ)). length xs ≡ 0) (sym none) (omega arith);
-  each = λ u below. absurd (omega (arith, below));
+-- of routers without hops none has any
+pub none_in : {A : Type 0} (f : A → List ℕ) (a : A) (n : ℕ) → f a ≡ [] → AreNoHops n (map f (replicate n a))
+none_in f a n bare = record {
+  many = length-map (replicate n a) f ∙ length-replicate n a;
+  none = λ u h among. Contains-none h (subst (λ (hops : List ℕ). Contains hops h) (at u) among);
+}
+  where
+    same : (u : ℕ) → get_or (replicate n a) u a ≡ a
+    same u = elim (cases_lt u n) [
+      | inl below ↦ get_or-replicate n u a a below
+      | inr past ↦ get_or_past (replicate n a) u a (omega (arith, past, length-replicate n a))
+    ]
+
+    at : (u : ℕ) → hops_at (map f (replicate n a)) u ≡ []
+    at u = subst (λ (hops : List ℕ). get_or (map f (replicate n a)) u hops ≡ hops) bare (get_or-map f (replicate n a) u a ∙ ap f (same u))
+
+-- what was read of a router is so where the same was read
+pub read_same : {O N : Type 0} (old : Listing O) (new : Listing N) (m : Mixture O N) (atom : ℕ) (one other : EndLists) (u : ℕ)
+    → IsReadAt old new m atom one u → IsSameAt one other u → IsReadAt old new m atom other u
+read_same old new m atom one other u read same = record {
+  olds = subst (IsHopsOf old new m atom u Old) same.olds read.olds;
+  news = subst (IsHopsOf old new m atom u New) same.news read.news;
 }
 
--- the hops of one router more
-pub AreFirstHops-more : {O N : Type 0} (old : Listing O) (new : Listing N) (m : Mixture O N) (atom : ℕ) (phase : Phase) (n : ℕ)
-    (lists longer : List (List ℕ)) (hops : List ℕ) → longer ≡ lists ++ hops ∷ [] → AreFirstHops old new m atom phase n lists
-    → (MustForward m.net (sample_of m atom) n → (h : ℕ) → Contains hops h ↔ StepsOf old new m atom n phase h)
-    → AreFirstHops old new m atom phase (n + 1) longer
-AreFirstHops-more old new m atom phase n lists longer hops is are one =
-    subst (λ (xs : List (List ℕ)). AreFirstHops old new m atom phase (n + 1) xs) (sym is) (record {
-      many = omega (arith, length_push lists hops, are.many);
-      each = below_more (λ (u : ℕ). Is u (get_or (lists ++ hops ∷ []) u [])) n
-          (λ u below. subst (Is u) (sym (get_or-append lists (hops ∷ []) [] u (omega (arith, below, are.many)))) (are.each u below))
-          (subst (λ (k : ℕ). Is n (get_or (lists ++ hops ∷ []) k [])) are.many
-          (subst (Is n) (sym (get_or-append_seam lists hops [] [])) one));
-    })
-  where
-    Is : ℕ → List ℕ → Type 0
-    Is u xs = MustForward m.net (sample_of m atom) u → (h : ℕ) → Contains xs h ↔ StepsOf old new m atom u phase h
+-- and for a class for whose packets the router does the same
+pub read_alike : {O N : Type 0} (old : Listing O) (new : Listing N) (m : Mixture O N) (atom other : ℕ) (lists : EndLists) (u : ℕ)
+    → IsReadAt old new m atom lists u → IsAlikeAt (migration_of old new m) m.classes u atom other
+    → IsReadAt old new m other lists u
+read_alike old new m atom other lists u read alike = record {
+  olds = record { next = read.olds.next; is = (alike Old read.olds.next).0 read.olds.is; leads = read.olds.leads };
+  news = record { next = read.news.next; is = (alike New read.news.next).0 read.news.is; leads = read.news.leads };
+}
 
--- what was read of a class is so where the same was read
-pub read_again : {O N : Type 0} (old : Listing O) (new : Listing N) (m : Mixture O N) (atom : ℕ) (one other : EndLists)
-    → IsRead old new m atom one → AreSameEnds one other → IsRead old new m atom other
-read_again old new m atom one other read same = record {
-  olds_are = subst (λ (xs : List (List ℕ)). AreFirstHops old new m atom Old (length m.net) xs) same.olds read.olds_are;
-  news_are = subst (λ (xs : List (List ℕ)). AreFirstHops old new m atom New (length m.net) xs) same.news read.news_are;
+-- what was read of the class that is known
+pub known_class : {O N : Type 0} (old : Listing O) (new : Listing N) (m : Mixture O N) (known : Option ℕ) (lists : EndLists)
+    → IfSome known (λ other. IsRead old new m other lists) → IfSome known (λ other. other < length m.classes.samples)
+known_class old new m None lists is = tt
+known_class old new m (Some other) lists is = is.class
+
+pub known_at : {O N : Type 0} (old : Listing O) (new : Listing N) (m : Mixture O N) (known : Option ℕ) (one other : EndLists) (u : ℕ)
+    → IfSome known (λ k. IsRead old new m k one) → u < length m.net → IsSameAt one other u → IfSome known (λ k. IsReadAt old new m k other u)
+known_at old new m None one other u is within same = tt
+known_at old new m (Some k) one other u is within same = read_same old new m k one other u (is.each u within) same
+
+-- the same was read of a router twice
+pub same_twice : (one other third : EndLists) (u : ℕ) → IsSameAt one other u → IsSameAt other third u → IsSameAt one third u
+same_twice one other third u first second = record { olds = first.olds ∙ second.olds; news = first.news ∙ second.news }
+
+-- only a router that is there has hops
+inside : (lists : List (List ℕ)) (u h : ℕ) → Contains (hops_at lists u) h → u < length lists
+inside lists u h among = elim (cases_lt u (length lists)) [
+  | inl below ↦ below
+  | inr past ↦ absurd (Contains-none h (subst (λ (hops : List ℕ). Contains hops h) (get_or_past lists u [] past) among))
+]
+
+-- where a walk passes none of the routers that changed, it was one before
+pub returns_again : (one other : EndLists) (n : ℕ) (changed : List ℕ) (before marks : List Bool) → length other.olds ≡ n → length other.news ≡ n
+    → AreAllBut (IsSameAt one other) n changed → MarksReturns (EndStep (ends_of one n)) before
+    → MarksAgain (EndStep (ends_of other n)) changed before marks → MarksReturns (EndStep (ends_of other n)) marks
+returns_again one other n changed before marks olds news same returns again u h hops follows = elim (again u h hops follows) [
+  | inl marked ↦ marked
+  | inr stays ↦ stays.0 (returns u h hops (follows_over (λ x y steps. over x y steps.0 steps.1) u (h ∷ hops) u stays.1))
+]
+  where
+    was : (x y : ℕ) → IsSameAt one other x → EndStep (ends_of other n) x y → EndStep (ends_of one n) x y
+    was x y is (inl among) = inl (subst (λ (xs : List ℕ). Contains xs y) (sym is.olds) among)
+    was x y is (inr among) = inr (subst (λ (xs : List ℕ). Contains xs y) (sym is.news) among)
+
+    there : (x y : ℕ) → EndStep (ends_of other n) x y → x < n
+    there x y (inl among) = omega (arith, inside other.olds x y among, olds)
+    there x y (inr among) = omega (arith, inside other.news x y among, news)
+
+    over : (x y : ℕ) → EndStep (ends_of other n) x y → (¬ Contains changed x) → EndStep (ends_of one n) x y
+    over x y steps apart = elim (same.whole x (there x y steps)) [
+      | inl among ↦ absurd (apart among)
+      | inr is ↦ was x y is steps
+    ]
+
+-- where none changed, the same routers are returned to
+pub returns_still : (one other : EndLists) (n : ℕ) (changed : List ℕ) (marks : List Bool) → length changed ≡ 0 → length other.olds ≡ n
+    → length other.news ≡ n → AreAllBut (IsSameAt one other) n changed → MarksReturns (EndStep (ends_of one n)) marks
+    → MarksReturns (EndStep (ends_of other n)) marks
+returns_still one other n changed marks none olds news same returns =
+    returns_again one other n changed marks marks olds news same returns (λ u h hops follows. inr (
+      (λ marked. marked),
+      follows_over (λ x y steps. (steps, λ among. omega (arith, among.1, none))) u (h ∷ hops) u follows,
+    ))
+
+-- and the same lack a step
+pub stuck_still : (one other : EndLists) (n : ℕ) (changed stuck : List ℕ) → length changed ≡ 0 → AreAllBut (IsSameAt one other) n changed
+    → AreAllBut (MovesAtEnds (ends_of one n)) n stuck → AreAllBut (MovesAtEnds (ends_of other n)) n stuck
+stuck_still one other n changed stuck none same are = record {
+  below = are.below;
+  whole = λ u below. elim (are.whole u below) [
+    | inl among ↦ inl among
+    | inr moves ↦ elim (same.whole u below) [
+      | inl among ↦ absurd (omega (arith, among.1, none))
+      | inr is ↦ inr (subst (λ (hops : List ℕ). 0 < length hops) is.olds moves.0, subst (λ (hops : List ℕ). 0 < length hops) is.news moves.1)
+    ]
+  ];
 }
 
 -- where each router that lacks a step in one end is one of the target's, all others move
@@ -69,27 +144,32 @@ pub all_move_from : {O N : Type 0} (old : Listing O) (new : Listing N) (m : Mixt
 all_move_from {O} {N} old new m atom p lists stuck network target read are here u must = elim (are.whole u must.router) [
   | inl among ↦ absurd (must.away (subst (λ (q : Block). Connected m.net u q)
       (one_target m.net (sample_of m atom) p must.target network target must.is_target) (here u among)))
-  | inr both ↦ (step Old lists.olds read.olds_are both.0, step New lists.news read.news_are both.1)
+  | inr both ↦ (
+    step Old (hops_at lists.olds u) (read.each u must.router).olds both.0,
+    step New (hops_at lists.news u) (read.each u must.router).news both.1,
+  )
 ]
   where
-    step : (phase : Phase) (hops : List (List ℕ)) → AreFirstHops old new m atom phase (length m.net) hops → 0 < length (hops_at hops u)
-        → HasStepOf old new m atom u phase
-    step phase hops all some = record {
-      hop = get_or (hops_at hops u) 0 0;
-      steps = (all.each u must.router must (get_or (hops_at hops u) 0 0)).0 (Contains-get_or (hops_at hops u) 0 0 some);
+    step : (phase : Phase) (hops : List ℕ) → IsHopsOf old new m atom u phase hops → 0 < length hops → HasStepOf old new m atom u phase
+    step phase hops are some = record {
+      hop = get_or hops 0 0;
+      steps = (steps_to_those old new m atom u phase hops read.class read.address are must (get_or hops 0 0)).0 (Contains-get_or hops 0 0 some);
     }
 
 -- a step of both networks is one of what was read
 over_read : {O N : Type 0} (old : Listing O) (new : Listing N) (m : Mixture O N) (atom : ℕ) (lists : EndLists) (x y : ℕ)
     → IsRead old new m atom lists → StepsEver old new m atom x y → EndStep (ends_of lists (length m.net)) x y
-over_read old new m atom lists x y read (inl one) = inl ((read.olds_are.each x one.must.router one.must y).1 one)
-over_read old new m atom lists x y read (inr other) = inr ((read.news_are.each x other.must.router other.must y).1 other)
+over_read old new m atom lists x y read (inl one) =
+    inl ((steps_to_those old new m atom x Old (hops_at lists.olds x) read.class read.address (read.each x one.must.router).olds one.must y).1 one)
+over_read old new m atom lists x y read (inr other) =
+    inr ((steps_to_those old new m atom x New (hops_at lists.news x) read.class read.address (read.each x other.must.router).news other.must y).1 other)
 
--- the routers that are returned to in both ends
-pub returns_ever : {O N : Type 0} (old : Listing O) (new : Listing N) (m : Mixture O N) (atom : ℕ) (lists : EndLists) (marks : List Bool)
-    → IsRead old new m atom lists → MarksReturns (EndStep (ends_of lists (length m.net))) marks → MarksReturns (StepsEver old new m atom) marks
-returns_ever old new m atom lists marks read returns u h hops follows =
-    returns u h hops (follows_over (λ x y steps. over_read old new m atom lists x y read steps) u (h ∷ hops) u follows)
+-- the routers that are returned to, by what is known of the class that was read
+pub returns_known : {O N : Type 0} (old : Listing O) (new : Listing N) (m : Mixture O N) (atom : ℕ) (making : Making) (marks : List Bool)
+    → IsMaking (length m.net) making → IsRead old new m atom making.lists → marks ≡ making.marks.items
+    → MarksReturns (StepsEver old new m atom) marks
+returns_known old new m atom making marks is read same u h hops follows = subst (λ (xs : List Bool). IsMarked xs u) (sym same)
+    (is.returns u h hops (follows_over (λ x y steps. over_read old new m atom making.lists x y read steps) u (h ∷ hops) u follows))
 
 -- Rows
 
@@ -116,10 +196,10 @@ row_made old new m atom marks u olds middles news kept_olds kept_middles kept_ne
     all New h one here there = are_new.all h ((is_new h).1 one) there
 
 -- nothing is among no hops
-none_among : (phase : Phase) (h : ℕ) → Contains (hops_of no_hops phase) h → ⊥
-none_among Old h among = omega (arith, among.1)
-none_among Middle h among = omega (arith, among.1)
-none_among New h among = omega (arith, among.1)
+pub none_among : (phase : Phase) (h : ℕ) → Contains (hops_of no_hops phase) h → ⊥
+none_among Old h = Contains-none h
+none_among Middle h = Contains-none h
+none_among New h = Contains-none h
 
 -- a router without mark may have none
 pub row_unmarked : {O N : Type 0} (old : Listing O) (new : Listing N) (m : Mixture O N) (atom : ℕ) (marks : List Bool) (u : ℕ)
@@ -129,25 +209,24 @@ row_unmarked old new m atom marks u row none bare = record {
   all = λ phase h steps here there. absurd (bare here);
 }
 
-pub AreFirstRows-none : {O N : Type 0} (old : Listing O) (new : Listing N) (m : Mixture O N) (atom : ℕ) (marks : List Bool)
-    (rows : List PhaseHops) → length rows ≡ 0 → AreFirstRows old new m atom marks 0 rows
-AreFirstRows-none old new m atom marks rows none = record { many = none; each = λ u below. absurd (omega (arith, below)) }
+-- what holds of n elements and of one more
+pub each_more : {X : Type 0} (Is : ℕ → X → Type 0) (xs longer : List X) (x d : X) (n : ℕ) → longer ≡ xs ++ x ∷ [] → length xs ≡ n
+    → ((u : ℕ) → u < n → Is u (get_or xs u d)) → Is n x → (length longer ≡ n + 1) × ((u : ℕ) → u < n + 1 → Is u (get_or longer u d))
+each_more {X} Is xs longer x d n is many each one =
+    subst (λ (ys : List X). (length ys ≡ n + 1) × ((u : ℕ) → u < n + 1 → Is u (get_or ys u d))) (sym is) (
+      omega (arith, length_push xs x, many),
+      below_more (λ (u : ℕ). Is u (get_or (xs ++ x ∷ []) u d)) n
+          (λ u below. subst (Is u) (sym (get_or-append xs (x ∷ []) d u (omega (arith, below, many)))) (each u below))
+          (subst (λ (k : ℕ). Is n (get_or (xs ++ x ∷ []) k d)) many (subst (Is n) (sym (get_or-append_seam xs x [] d)) one)),
+    )
 
 -- one row more
 pub AreFirstRows-more : {O N : Type 0} (old : Listing O) (new : Listing N) (m : Mixture O N) (atom : ℕ) (marks : List Bool) (n : ℕ)
     (rows longer : List PhaseHops) (row : PhaseHops) → longer ≡ rows ++ row ∷ [] → AreFirstRows old new m atom marks n rows
     → IsRowOf old new m atom marks n row → AreFirstRows old new m atom marks (n + 1) longer
 AreFirstRows-more old new m atom marks n rows longer row is are one =
-    subst (λ (xs : List PhaseHops). AreFirstRows old new m atom marks (n + 1) xs) (sym is) (record {
-      many = omega (arith, length_push rows row, are.many);
-      each = below_more (λ (u : ℕ). Is u (get_or (rows ++ row ∷ []) u no_hops)) n
-          (λ u below. subst (Is u) (sym (get_or-append rows (row ∷ []) no_hops u (omega (arith, below, are.many)))) (are.each u below))
-          (subst (λ (k : ℕ). Is n (get_or (rows ++ row ∷ []) k no_hops)) are.many
-          (subst (Is n) (sym (get_or-append_seam rows row [] no_hops)) one));
-    })
-  where
-    Is : ℕ → PhaseHops → Type 0
-    Is u x = IsRowOf old new m atom marks u x
+    let more = each_more (IsRowOf old new m atom marks) rows longer row no_hops n is are.many are.each one in
+    record { many = more.0; each = more.1 }
 
 -- The part
 
@@ -171,14 +250,11 @@ part_made {O} {N} old new m atom marks moves rows within many marked move are = 
           (get_or_past rows u no_hops (omega (arith, past, are.many))) among))
     ]
 
-    ever : (u h : ℕ) (phase : Phase) → StepsOf old new m atom u phase h → StepsEver old new m atom u h
-    ever u h phase steps_on = old_or_new_step phase steps_on
-
     back : (u h : ℕ) (hops : List ℕ) (phase : Phase) → StepsOf old new m atom u phase h → Follows (StepsEver old new m atom) h hops u
         → Contains (hops_of (get_or rows u no_hops) phase) h
     back u h hops phase steps_on follows =
-        let here : IsMarked marks u = marked u h hops (ever u h phase steps_on, follows) in
-        let next = follows_on (StepsEver old new m atom) u h hops (ever u h phase steps_on) follows in
+        let here : IsMarked marks u = marked u h hops (old_or_new_step phase steps_on, follows) in
+        let next = follows_on (StepsEver old new m atom) u h hops (old_or_new_step phase steps_on) follows in
         let there : IsMarked marks h = marked h next.first next.rest next.follows in
         (are.each u (omega (arith, many, steps_on.must.router))).all phase h steps_on here there
 
@@ -202,3 +278,16 @@ AreAllBut-more Is n old new are (inr none) = subst (λ (xs : List ℕ). AreAllBu
   below = λ k d inside. let less : get_or old k d < n = are.below k d inside in omega (arith, less);
   whole = below_more (λ (u : ℕ). Contains old u ⊎ Is u) n are.whole (inr none.1);
 })
+
+-- one router more was read
+pub changed_more : (one other third : EndLists) (n : ℕ) (old new : List ℕ) → AreAllBut (IsSameAt one other) n old
+    → ((u : ℕ) → (¬ (u ≡ n)) → IsSameAt other third u) → IsSameAt one other n → AddsUnless (IsSameAt other third n) n old new
+    → AreAllBut (IsSameAt one third) (n + 1) new
+changed_more one other third n old new are others before added =
+    AreAllBut-more (IsSameAt one third) n old new (record {
+      below = are.below;
+      whole = λ u below. elim (are.whole u below) [
+        | inl among ↦ inl among
+        | inr same ↦ inr (same_twice one other third u same (others u (λ is. absurd (omega (arith, is, below)))))
+      ];
+    }) (elim added [ inl more ↦ inl more | inr none ↦ inr (none.0, same_twice one other third n before none.1) ])

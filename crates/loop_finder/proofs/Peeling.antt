@@ -65,14 +65,6 @@ pub record IsPeel (step : ℕ → ℕ → Type 0) (start marks : List Bool) (pee
   pub no_more : marked_count marks ≤ marked_count start
   pub fewer : peeled ≡ true → marked_count marks < marked_count start
 
-pub IsPeel-first : (step : ℕ → ℕ → Type 0) (marks : List Bool) → AreBounded step marks → IsPeel step marks marks false 0
-IsPeel-first step marks bounded = record {
-  bounded = bounded;
-  closed = λ e u below. absurd (omega (arith, below));
-  no_more = omega arith;
-  fewer = λ e. absurd (false≢true e);
-}
-
 pub IsPeel-same : (step : ℕ → ℕ → Type 0) (start marks : List Bool) (peeled : Bool) (i : ℕ) → IsPeel step start marks peeled i →
     (IsMarked marks i → HasMarkedHop step marks i)
     → IsPeel step start marks peeled (i + 1)

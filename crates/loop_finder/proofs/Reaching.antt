@@ -3,8 +3,7 @@ use Rattle.std.proofs.Common.{◌≡◌, ℕ, suc, ◌+◌, ◌<◌, ◌≤◌, 
 use Rattle.std.proofs.Common.{sym, ap, ◌∙◌, subst}
 use Rattle.std.specs.List.{All}
 use Rattle.std.proofs.lemmas.Bool.Decides.{eqb_tells}
-use Rattle.std.proofs.lemmas.List.{get_or-set_other, length-set, length_push, length-append, append-nil, append_assoc, get_or_default}
-use Rattle.std.proofs.Math.ListN.{get_or-append}
+use Rattle.std.proofs.lemmas.List.{get_or-set_other, length-set, length_push, append-nil, append_assoc, get_or_default}
 use Rattle.std.proofs.lemmas.List.Elements.{All-nil, All-push, Contains-append_left, Contains-push}
 use Rattle.std.proofs.lemmas.List.Sums.{sum_by-set, count_by-le-length}
 use Rattle.igp_theory.specs.States.{Follows}
@@ -68,15 +67,6 @@ ReachesMore-then marks marks' marks'' reached reached' reached'' one two = recor
   added = one.added ++ two.added;
   listed = two.listed ∙ ap (λ (xs : List ℕ). xs ++ two.added) one.listed ∙ append_assoc reached one.added two.added;
 }
-
--- the routers at the first places stay there
-pub place_stays : (marks marks' : List Bool) (reached reached' : List ℕ) (k : ℕ) → ReachesMore marks reached marks' reached' → k < length reached →
-    get_or reached' k 0 ≡ get_or reached k 0
-place_stays marks marks' reached reached' k more within = ap (λ (xs : List ℕ). get_or xs k 0) more.listed ∙ get_or-append reached more.added 0 k within
-
--- the places don't get fewer
-pub places_stay : (marks marks' : List Bool) (reached reached' : List ℕ) → ReachesMore marks reached marks' reached' → length reached ≤ length reached'
-places_stay marks marks' reached reached' more = omega (arith, ap length more.listed, length-append reached more.added)
 
 -- where a list of steps ends at a router of so many, it begins at one
 begins_inside : (step : ℕ → ℕ → Type 0) (n goal : ℕ) → goal < n → ((u h : ℕ) → step u h → u < n) → (u : ℕ) (hops : List ℕ) → Follows step u hops goal → u < n

@@ -1,39 +1,13 @@
 -- Lists of steps that return, and the routers that they pass.
-use Rattle.std.proofs.Common.{◌≡◌, ℕ, ◌<◌, ◌≤◌, Bool, List, [], ◌∷◌, ◌++◌, length, ◌⊎◌, inl, inr, arith, refl, sym, subst}
+use Rattle.std.proofs.Common.{◌≡◌, ℕ, ◌<◌, List, [], ◌∷◌, ◌++◌, length, ◌⊎◌, inl, inr, refl, sym, subst}
 use Rattle.std.proofs.lemmas.Bool.Decides.{eqb_tells}
-use Rattle.net_model.specs.Network.{Network}
 use Rattle.igp_theory.specs.Forwarding.{MustForward, Steps, HasStep}
-use Rattle.igp_theory.specs.Routes.{Tables}
+use Rattle.igp_theory.specs.Migrations.{Migration}
 use Rattle.igp_theory.specs.States.{State, StepsIn, Follows, IsSoundAt}
 use Rattle.igp_theory.specs.declared.phase.Phase.{Phase}
 use Rattle.igp_theory.proofs.SameTables.{follows_over}
-use Rattle.order_core.specs.Marks.{IsMarked}
-use Rattle.loop_finder.specs.Returns.{NeverReturnsTo, MarksReturns, layer_in}
+use Rattle.loop_finder.specs.Returns.{NeverReturnsTo}
 use Rattle.loop_finder.proofs.LiveLaws.{follows_append}
-use Rattle.loop_finder.proofs.LowestSteps.{marked_cases}
-
--- Layers
-
--- along a list of steps of which none leads higher the last router is no higher than the first
-falls : (step : ℕ → ℕ → Type 0) (layers : List ℕ) → ((u h : ℕ) → step u h → layer_in layers h ≤ layer_in layers u) →
-    (u : ℕ) (hops : List ℕ) (v : ℕ) → Follows step u hops v
-    → layer_in layers v ≤ layer_in layers u
-falls step layers no_higher u [] v same = subst (λ (x : ℕ). layer_in layers x ≤ layer_in layers u) same (omega arith)
-falls step layers no_higher u (h ∷ hops) v follows =
-    let first : layer_in layers h ≤ layer_in layers u = no_higher u h follows.0 in
-    let rest : layer_in layers v ≤ layer_in layers h = falls step layers no_higher h hops v follows.1 in
-    omega (arith, first, rest)
-
--- so a router from which every step leads lower isn't returned to
-pub marks_from_layers : (step : ℕ → ℕ → Type 0) (layers : List ℕ) (marks : List Bool) → ((u h : ℕ) → step u h → layer_in layers h ≤ layer_in layers u)
-    → ((u h : ℕ) → (¬ IsMarked marks u) → step u h → layer_in layers h < layer_in layers u) → MarksReturns step marks
-marks_from_layers step layers marks no_higher lower u h hops follows = elim (marked_cases marks u) [
-  | inl marked ↦ marked
-  | inr bare ↦
-      let first : layer_in layers h < layer_in layers u = lower u h bare follows.0 in
-      let rest : layer_in layers u ≤ layer_in layers h = falls step layers no_higher h hops u follows.1 in
-      absurd (omega (arith, first, rest))
-]
 
 -- Steps that can be returned from
 
@@ -84,17 +58,17 @@ passes_or_not step other u over v (h ∷ hops) w follows = elim (eqb_tells v u) 
 
 -- a state stays sound for an address where one router changes, each router has a step afterwards, and no list of steps
 -- returns to the router that changed
-pub stays_sound : (net : Network) (old new : Tables) (a u : ℕ) (before after : State) → ((v : ℕ) → v < length net → (¬ (v ≡ u)) → after v ≡ before v)
-    → NeverReturnsTo (StepsIn net old new after a) u → ((v : ℕ) → MustForward net a v → HasStep net old new v (after v) a) → IsSoundAt net old new before a →
-    IsSoundAt net old new after a
-stays_sound net old new a u before after differ never moves sound = record {
+pub stays_sound : (move : Migration) (a u : ℕ) (before after : State) → ((v : ℕ) → v < length move.net → (¬ (v ≡ u)) → after v ≡ before v)
+    → NeverReturnsTo (StepsIn move after a) u → ((v : ℕ) → MustForward move.net a v → HasStep move v (after v) a) → IsSoundAt move before a →
+    IsSoundAt move after a
+stays_sound move a u before after differ never moves sound = record {
   forwards = moves;
-  returns_never = λ v h hops follows. elim (passes_or_not (StepsIn net old new after a) (StepsIn net old new before a) u as_before v (h ∷ hops) v follows) [
-    | inl passes ↦ never passes.next (passes.back ++ passes.front) (follows_append (StepsIn net old new after a) u (passes.next ∷ passes.back) v passes.front u
+  returns_never = λ v h hops follows. elim (passes_or_not (StepsIn move after a) (StepsIn move before a) u as_before v (h ∷ hops) v follows) [
+    | inl passes ↦ never passes.next (passes.back ++ passes.front) (follows_append (StepsIn move after a) u (passes.next ∷ passes.back) v passes.front u
         passes.out passes.into)
     | inr rest ↦ sound.returns_never v h hops rest
   ];
 }
   where
-    as_before : (x h : ℕ) → (¬ (x ≡ u)) → StepsIn net old new after a x h → StepsIn net old new before a x h
-    as_before x h apart steps = subst (λ (phase : Phase). Steps net old new x phase a h) (differ x steps.must.router apart) steps
+    as_before : (x h : ℕ) → (¬ (x ≡ u)) → StepsIn move after a x h → StepsIn move before a x h
+    as_before x h apart steps = subst (λ (phase : Phase). Steps move x phase a h) (differ x steps.must.router apart) steps

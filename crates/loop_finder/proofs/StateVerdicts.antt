@@ -6,16 +6,16 @@ use Rattle.std.proofs.lemmas.List.Kept.{AllPairs-from_increasing}
 use Rattle.net_addr.specs.Addresses.{Block}
 use Rattle.net_addr.specs.Boundaries.{SameBlocksContain}
 use Rattle.net_model.specs.Network.{Network}
-use Rattle.route_core.specs.Tables.{HasEntry}
 use Rattle.route_core.specs.declared.entry.Entry.{Entry}
 use Rattle.igp_theory.specs.Laws.{HaveSameTables}
+use Rattle.igp_theory.specs.Migrations.{migration, listed_migration}
 use Rattle.igp_theory.specs.States.{State}
 use Rattle.igp_theory.proofs.SameTables.{sound_at_over, same_tables_sym}
 use Rattle.prefix_atoms.specs.Classes.{AreSamples, Classes, IsInClass, SourceEntry}
 use Rattle.prefix_atoms.specs.Laws.{ActAlike}
 use Rattle.prefix_atoms.proofs.ClassLaws.{one_class_acts_alike}
 use Rattle.order_core.proofs.DistinctLists.{length-le_from_distinct}
-use Rattle.rib_mix.specs.Mixture.{Mixture}
+use Rattle.rib_mix.specs.Mixture.{Mixture, migration_of}
 use Rattle.loop_finder.specs.ClassSteps.{Listing, sample_of}
 use Rattle.loop_finder.specs.Verdicts.{ClassesOf, SoundAt, SoundBelow, Sound}
 use Rattle.loop_finder.proofs.ClassVerdicts.{sample_in}
@@ -33,7 +33,7 @@ classes_few prefixes samples are =
     length-le_from_distinct samples (2 ^ 32) apart are.addresses
 
 -- at the routers of the network a source has the entries of its tables
-same_entries : (net : Network) (old new : ℕ → List (Block × Entry)) → HaveSameTables net (HasEntry old) (HasEntry new) (SourceEntry (length net) old)
+same_entries : (net : Network) (old new : ℕ → List (Block × Entry)) → HaveSameTables (listed_migration net old new) (SourceEntry (length net) old)
     (SourceEntry (length net) new)
 same_entries net old new = record {
   same_old = λ u p e within. (λ has. (within, has), λ has. has.1);
@@ -45,10 +45,10 @@ sound_alike : {O N : Type 0} (old : Listing O) (new : Listing N) (m : Mixture O 
     IsInClass m.classes k a → IsInClass m.classes k b
     → SoundAt old new m state a → SoundAt old new m state b
 sound_alike old new m state k a b are in_a in_b sound =
-    let same : HaveSameTables m.net (HasEntry (old m.old)) (HasEntry (new m.new)) (SourceEntry (length m.net) (old m.old))
+    let same : HaveSameTables (migration_of old new m) (SourceEntry (length m.net) (old m.old))
     (SourceEntry (length m.net) (new m.new)) = same_entries m.net (old m.old) (new m.new) in
-    let alike : ActAlike m.net (SourceEntry (length m.net) (old m.old)) (SourceEntry (length m.net) (new m.new)) a b =
-    one_class_acts_alike m.net (SourceEntry (length m.net) (old m.old)) (SourceEntry (length m.net) (new m.new)) m.classes k a b are in_a in_b in
+    let alike : ActAlike (migration m.net (SourceEntry (length m.net) (old m.old)) (SourceEntry (length m.net) (new m.new))) a b =
+    one_class_acts_alike (migration m.net (SourceEntry (length m.net) (old m.old)) (SourceEntry (length m.net) (new m.new))) m.classes k a b are in_a in_b in
     sound_at_over (same_tables_sym same) ((alike.sound state).0 (sound_at_over same sound))
 
 -- an address is in a class whose least address isn't above it

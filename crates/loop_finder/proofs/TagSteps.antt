@@ -1,5 +1,5 @@
 -- The turns of a ring, one after another.
-use Rattle.std.proofs.Common.{◌≡◌, ℕ, suc, ◌+◌, ◌<◌, ◌≤◌, ◌⊎◌, inl, inr, List, [], ◌∷◌, ◌++◌, length, get_or, take, arith, refl, sym, ap, ◌∙◌, subst}
+use Rattle.std.proofs.Common.{◌≡◌, ℕ, suc, ◌+◌, ◌<◌, ◌≤◌, ◌⊎◌, inl, inr, List, [], ◌∷◌, ◌++◌, length, get_or, take, arith, sym, ap, ◌∙◌, subst}
 use Rattle.std.proofs.lemmas.List.{take_more, take_all, map_push, length-map, length-take-le, get_or_default, get_or_past}
 use Rattle.igp_theory.specs.Loops.{EachToNext, AroundRing}
 use Rattle.igp_theory.specs.declared.phase.Phase.TheVariants.{Old, New}
@@ -55,9 +55,6 @@ here_in routers place = get_or routers place (get_or routers 0 0)
 pub record IsPartRing {O N : Type 0} (old : Listing O) (new : Listing N) (c : ClassState O N) (routers : List ℕ) (turns : List Turn) (place : ℕ) : Type 0 where
   pub routers_are : routers_of turns ≡ take place routers
   pub tags : EachToNext (TagsNext old new c) (numbered (here_in routers place)) turns
-
-pub IsPartRing-first : {O N : Type 0} (old : Listing O) (new : Listing N) (c : ClassState O N) (routers : List ℕ) → IsPartRing old new c routers [] 0
-IsPartRing-first old new c routers = record { routers_are = refl; tags = tt }
 
 -- what is next to the last turn is told by its number
 next_by_number : {O N : Type 0} (old : Listing O) (new : Listing N) (c : ClassState O N) (f k : Turn) (xs : List Turn) → f.router ≡ k.router

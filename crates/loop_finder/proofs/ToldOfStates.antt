@@ -1,12 +1,11 @@
 -- What is told of a state twice holds of the state.
 use Rattle.std.proofs.Common.{ℕ, ◌^◌, ◌<◌, Bool, List, length, Option, Some, None, IfSome, IfNone, inl, inr, arith, sym, subst}
-use Rattle.route_core.specs.Tables.{HasEntry}
 use Rattle.igp_theory.specs.Loops.{missing_step, loop_arises}
 use Rattle.igp_theory.specs.States.{StepsIn}
 use Rattle.igp_theory.specs.declared.phase.Phase.{Phase}
 use Rattle.igp_theory.proofs.SameTables.{SameHops, found_ring_over}
 use Rattle.order_core.specs.declared.turn.Turn.{Turn}
-use Rattle.rib_mix.specs.Mixture.{Mixture}
+use Rattle.rib_mix.specs.Mixture.{Mixture, migration_of}
 use Rattle.loop_finder.specs.Faults.{state_in}
 use Rattle.loop_finder.specs.ClassSteps.{Listing, ClassState, sample_of, ClassStep, IsStuckIn}
 use Rattle.loop_finder.specs.Verdicts.{Verdict, IsClassVerdict, Told, ClassesOf, SoundAt, SoundBelow, Sound, Faulty}
@@ -22,7 +21,7 @@ twice m phases forwards atom = record { mixture = m; first = phases; last = phas
 
 -- the steps of a state, twice, are its steps
 same_steps : {O N : Type 0} (old : Listing O) (new : Listing N) (m : Mixture O N) (phases : List Phase) (forwards : List Bool) (atom : ℕ)
-    → SameHops (ClassStep old new (twice m phases forwards atom)) (StepsIn m.net (HasEntry (old m.old)) (HasEntry (new m.new))
+    → SameHops (ClassStep old new (twice m phases forwards atom)) (StepsIn (migration_of old new m)
     (state_in phases) (sample_of m atom))
 same_steps old new m phases forwards atom u h = (λ steps. elim steps [ inl one ↦ one | inr other ↦ other ], λ steps. inl steps)
 

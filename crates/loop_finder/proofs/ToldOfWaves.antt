@@ -3,7 +3,6 @@ use Rattle.std.proofs.Common.{◌≡◌, ℕ, ◌+◌, ◌^◌, ◌<◌, List, l
 use Rattle.std.proofs.lemmas.Bool.{cases_order}
 use Rattle.order_core.specs.Rankings.{rank_of}
 use Rattle.order_core.specs.declared.turn.Turn.{Turn}
-use Rattle.route_core.specs.Tables.{HasEntry}
 use Rattle.igp_theory.specs.Forwarding.{MustForward}
 use Rattle.igp_theory.specs.States.{State}
 use Rattle.igp_theory.specs.WaveFaults.{StepsInSome, LacksStep, HasStepsInAll, IsLeastUnsound, missing_in_one, loop_over_all}
@@ -12,7 +11,7 @@ use Rattle.igp_theory.specs.declared.phase.Phase.{Phase}
 use Rattle.igp_theory.proofs.FoundRings.{found_ring_returns}
 use Rattle.igp_theory.proofs.LoopWaves.{return_is_unsound}
 use Rattle.igp_theory.proofs.SameTables.{SameHops, found_ring_over}
-use Rattle.rib_mix.specs.Mixture.{Mixture}
+use Rattle.rib_mix.specs.Mixture.{Mixture, migration_of}
 use Rattle.loop_finder.specs.Faults.{state_in}
 use Rattle.loop_finder.specs.ClassSteps.{Listing, ClassState, sample_of, ClassStep, IsStuck, Moves}
 use Rattle.loop_finder.specs.Verdicts.{Verdict, Told, ClassesOf, SoundAt, SoundWave, FaultyWave, IsBetween}
@@ -57,7 +56,7 @@ wave_between {ranks = ranks} {w = w} state ends of_wave u within = elim (cases_o
 -- the steps of all states of the wave are those of both
 wave_steps : {O N : Type 0} (old : Listing O) (new : Listing N) (c : ClassState O N) (ranks : List ℕ) (w : ℕ) →
     AreEnds (length c.mixture.net) ranks w c.first c.last
-    → SameHops (ClassStep old new c) (StepsInSome c.mixture.net (HasEntry (old c.mixture.old)) (HasEntry (new c.mixture.new))
+    → SameHops (ClassStep old new c) (StepsInSome (migration_of old new c.mixture)
     (IsStateOfWave (length c.mixture.net) ranks w) (sample_of c.mixture c.atom))
 wave_steps old new c ranks w ends u h = (
   λ steps. elim steps [
@@ -71,14 +70,14 @@ wave_steps old new c ranks w ends u h = (
 steps_in_all : {O N : Type 0} (old : Listing O) (new : Listing N) (c : ClassState O N) (ranks : List ℕ) (w : ℕ) (u : ℕ) →
     AreEnds (length c.mixture.net) ranks w c.first c.last → Moves old new c u
     → MustForward c.mixture.net (sample_of c.mixture c.atom) u
-    → HasStepsInAll c.mixture.net (HasEntry (old c.mixture.old)) (HasEntry (new c.mixture.new)) (IsStateOfWave (length c.mixture.net) ranks w)
+    → HasStepsInAll (migration_of old new c.mixture) (IsStateOfWave (length c.mixture.net) ranks w)
     (sample_of c.mixture c.atom) u
 steps_in_all old new c ranks w u ends moves must state of_wave = moves_between old new c state u (wave_between state ends of_wave) moves must
 
 -- a router that is stuck in one of both lacks a step in a state of the wave
 lacks_from : {O N : Type 0} (old : Listing O) (new : Listing N) (c : ClassState O N) (ranks : List ℕ) (w : ℕ) (u : ℕ) →
     AreEnds (length c.mixture.net) ranks w c.first c.last → IsStuck old new c u
-    → LacksStep c.mixture.net (HasEntry (old c.mixture.old)) (HasEntry (new c.mixture.new)) (IsStateOfWave (length c.mixture.net) ranks w)
+    → LacksStep (migration_of old new c.mixture) (IsStateOfWave (length c.mixture.net) ranks w)
     (sample_of c.mixture c.atom) u
 lacks_from old new c ranks w u ends (inl one) = record {
   must = one.must;
@@ -95,7 +94,7 @@ lacks_from old new c ranks w u ends (inr other) = record {
 
 -- at a class for which all lower addresses are sound the fault of the wave is told
 abbrev LeastIn : {O N : Type 0} → Listing O → Listing N → ClassState O N → List ℕ → ℕ → Type 0
-LeastIn old new c ranks w = IsLeastUnsound c.mixture.net (HasEntry (old c.mixture.old)) (HasEntry (new c.mixture.new))
+LeastIn old new c ranks w = IsLeastUnsound (migration_of old new c.mixture)
     (IsStateOfWave (length c.mixture.net) ranks w) (sample_of c.mixture c.atom)
 
 abbrev SoundLower : {O N : Type 0} → Listing O → Listing N → ClassState O N → List ℕ → ℕ → Type 0
@@ -111,7 +110,7 @@ fault_from old new c ranks w turns (Loop a) ends address below verdict =
     let returns = found_ring_returns found in
     let least : LeastIn old new c ranks w = record {
       address = address;
-      unsound = return_is_unsound c.mixture.net (HasEntry (old c.mixture.old)) (HasEntry (new c.mixture.new)) ranks w (sample_of c.mixture c.atom) found.again
+      unsound = return_is_unsound (migration_of old new c.mixture) ranks w (sample_of c.mixture c.atom) found.again
           returns.hop returns.hops returns.follows;
       below = below;
     } in

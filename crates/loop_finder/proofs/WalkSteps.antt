@@ -25,18 +25,6 @@ pub record IsOnWay (step : ℕ → ℕ → Type 0) (marks : List Bool) (start : 
   pub marked : All (IsMarked marks) path
   pub last_marked : IsMarked marks last
 
-pub IsOnWay-first : (step : ℕ → ℕ → Type 0) (marks : List Bool) (start : ℕ) → IsMarked marks start → IsOnWay step marks start (start ∷ []) start
-IsOnWay-first step marks start marked = record {
-  visited = [];
-  begins = refl;
-  front = [];
-  ends = refl;
-  goes = tt;
-  distinct = λ i j d before within. absurd (omega (arith, before, within));
-  marked = All-push (IsMarked marks) [] start (λ k d within. absurd (omega (arith, within))) marked;
-  last_marked = marked;
-}
-
 -- what stands on the way is short of the count of routers
 pub on_way_short : (marks : List Bool) (path : List ℕ) (next : ℕ) → AllPairs (λ u v. u ≢ v) path → All (IsMarked marks) path → IsMarked marks next
     → ((k : ℕ) → k < length path → get_or path k 0 ≢ next) → length path < length marks

@@ -1,18 +1,15 @@
 -- The places at which a change of a router is looked at, and what it leaves sound.
 use Rattle.std.proofs.Common.{◌≡◌, ℕ, ◌+◌, ◌<◌, ◌≤◌, Bool, true, List, [], ◌∷◌, ◌++◌, length, get_or, Contains, Option, Some, None, IfNone, IfSome, inl, inr}
-use Rattle.std.proofs.Common.{arith, sym, ◌∙◌, ap, subst, below_more}
-use Rattle.std.proofs.lemmas.Bool.{cases_lt}
-use Rattle.std.proofs.lemmas.List.{get_or_default, length_push}
-use Rattle.std.proofs.lemmas.List.Elements.{All-push, Contains-append_left, Contains-push}
+use Rattle.std.proofs.Common.{arith, sym, ◌∙◌, ap, subst}
+use Rattle.std.specs.List.{AllPairs}
+use Rattle.std.proofs.lemmas.List.{get_or_default}
 use Rattle.std.proofs.lemmas.List.Quantifiers.{all_pairs_push}
-use Rattle.std.proofs.Math.ListN.{get_or-append}
-use Rattle.std.proofs.Math.Seq.{get_or-append_seam}
 use Rattle.igp_theory.specs.States.{State}
 use Rattle.igp_theory.specs.declared.phase.Phase.{Phase}
 use Rattle.order_core.specs.declared.turn.Turn.{Turn}
 use Rattle.rib_mix.specs.Mixture.{Mixture}
 use Rattle.loop_finder.specs.Faults.{state_in}
-use Rattle.loop_finder.specs.Parts.{PhaseHops, ClassPart, hops_of, no_hops, PartStep, IsPart, AreParts, DifferAt}
+use Rattle.loop_finder.specs.Parts.{PhaseHops, ClassPart, AreAllBut, hops_of, no_hops, PartStep, IsPart, AreParts, DifferAt}
 use Rattle.loop_finder.specs.Returns.{NeverReturnsTo}
 use Rattle.loop_finder.specs.ClassSteps.{Listing, sample_of}
 use Rattle.loop_finder.specs.Verdicts.{SoundAt, Sound, IsClassVerdict, Faulty}
@@ -21,7 +18,8 @@ use Rattle.loop_finder.specs.declared.fault.Fault.{Fault}
 use Rattle.loop_finder.proofs.Between.{between_itself, clear_told}
 use Rattle.loop_finder.proofs.ClassVerdicts.{sample_in}
 use Rattle.loop_finder.proofs.PartLaws.{part_stays_sound}
-use Rattle.loop_finder.proofs.PartLists.{sound_before, sound_whole}
+use Rattle.loop_finder.proofs.PartLists.{sound_before, sound_whole, stands_before}
+use Rattle.loop_finder.proofs.PartRows.{AreAllBut-more, each_more}
 use Rattle.loop_finder.proofs.StateVerdicts.{sound_from_classes}
 use Rattle.loop_finder.proofs.ToldOfStates.{faulty_at}
 
@@ -45,27 +43,24 @@ AreFirstPlaces-none parts u places none = subst (λ (xs : List ℕ). AreFirstPla
 -- the next place
 pub AreFirstPlaces-more : (parts : List ClassPart) (u n : ℕ) (part : ClassPart) (old new : List ℕ) → n < length parts → part ≡ get_or parts n part
     → AreFirstPlaces parts u n old → AddsPlace part u n old new → AreFirstPlaces parts u (n + 1) new
-AreFirstPlaces-more parts u n part old new within at are (inl added) = subst (λ (xs : List ℕ). AreFirstPlaces parts u (n + 1) xs) (sym added) (record {
-  ascending = all_pairs_push (λ (p q : ℕ). p < q) old n are.ascending are.below;
-  below = All-push (λ (p : ℕ). p < n + 1) old n (λ k d inside. let less : get_or old k d < n = are.below k d inside in omega (arith, less)) (omega arith);
-  whole = λ p d below. elim (cases_lt p n) [
-    | inl before ↦ elim (are.whole p d before) [ inl among ↦ inl (Contains-append_left old (n ∷ []) p among) | inr idle ↦ inr idle ]
-    | inr after ↦
-        let is : n ≡ p = omega (arith, after, below) in
-        inl (subst (λ (x : ℕ). Contains (old ++ n ∷ []) x) is (Contains-push old n))
+AreFirstPlaces-more parts u n part old new within at are added = record {
+  ascending = elim added [
+    | inl more ↦ subst Ascends (sym more) (all_pairs_push (λ (p q : ℕ). p < q) old n are.ascending are.below)
+    | inr none ↦ subst Ascends (sym none.0) are.ascending
   ];
-})
-AreFirstPlaces-more parts u n part old new within at are (inr none) = subst (λ (xs : List ℕ). AreFirstPlaces parts u (n + 1) xs) (sym none.0) (record {
-  ascending = are.ascending;
-  below = λ k d inside. let less : get_or old k d < n = are.below k d inside in omega (arith, less);
-  whole = λ p d below. elim (cases_lt p n) [
-    | inl before ↦ are.whole p d before
-    | inr after ↦
-        let is : n ≡ p = omega (arith, after, below) in
-        inr (subst (λ (x : ℕ). IsIdle (get_or parts x d) u) is
-        (subst (λ (x : ClassPart). IsIdle x u) (at ∙ get_or_default parts n part d within) none.1))
-  ];
-})
+  below = (but part).below;
+  whole = λ p d below. (but d).whole p below;
+}
+  where
+    Ascends : List ℕ → Type 0
+    Ascends xs = AllPairs (λ (p q : ℕ). p < q) xs
+
+    but : (d : ClassPart) → AreAllBut (λ (p : ℕ). IsIdle (get_or parts p d) u) (n + 1) new
+    but d = AreAllBut-more (λ (p : ℕ). IsIdle (get_or parts p d) u) n old new
+        (record { below = are.below; whole = λ p less. are.whole p d less }) (elim added [
+          | inl more ↦ inl more
+          | inr none ↦ inr (none.0, subst (λ (x : ClassPart). IsIdle x u) (at ∙ get_or_default parts n part d within) none.1)
+        ])
 
 pub IsWatch-none : (parts : List ClassPart) (watch : List (List ℕ)) → length watch ≡ 0 → IsWatch parts 0 watch
 IsWatch-none parts watch none = record { many = none; each = λ u below. absurd (omega (arith, below)) }
@@ -73,14 +68,9 @@ IsWatch-none parts watch none = record { many = none; each = λ u below. absurd 
 -- the next router
 pub IsWatch-more : (parts : List ClassPart) (n : ℕ) (watch longer : List (List ℕ)) (places : List ℕ) → longer ≡ watch ++ places ∷ [] → IsWatch parts n watch
     → ArePlacesOf parts n places → IsWatch parts (n + 1) longer
-IsWatch-more parts n watch longer places is are one = subst (λ (xs : List (List ℕ)). IsWatch parts (n + 1) xs) (sym is) (record {
-  many = omega (arith, length_push watch places, are.many);
-  each = below_more (λ (u : ℕ). ArePlacesOf parts u (get_or (watch ++ places ∷ []) u [])) n
-      (λ u below. subst (λ (x : List ℕ). ArePlacesOf parts u x) (sym (get_or-append watch (places ∷ []) [] u (omega (arith, below, are.many))))
-      (are.each u below))
-      (subst (λ (k : ℕ). ArePlacesOf parts n (get_or (watch ++ places ∷ []) k [])) are.many
-      (subst (λ (x : List ℕ). ArePlacesOf parts n x) (sym (get_or-append_seam watch places [] [])) one));
-})
+IsWatch-more parts n watch longer places is are one =
+    let more = each_more (λ (u : ℕ) (xs : List ℕ). ArePlacesOf parts u xs) watch longer places [] n is are.many are.each one in
+    record { many = more.0; each = more.1 }
 
 -- Changes
 
@@ -143,36 +133,19 @@ stays_sound_at_all old new m parts places phases u i are placed whole stays befo
     (λ q within. sound_there old new m parts places phases u i q none before are placed stays within (λ among. let there : among.0 < length places = among.1 in
     omega (arith, there, whole)) differ sound) k below)
 
--- a place below another stands before it
-stands_before : (places : List ℕ) (u i q : ℕ) (parts : List ClassPart) → ArePlacesOf parts u places → i < length places → q < get_or places i 0 →
-    (among : Contains places q) → among.0 < i
-stands_before places u i q parts placed within less among = elim (cases_lt among.0 i) [
-  | inl before ↦ before
-  | inr after ↦
-      let place : get_or places among.0 0 ≡ q = get_or_default places among.0 0 q among.1 ∙ among.2 in
-      elim (cases_lt i among.0) [
-        | inl past ↦
-            let more : get_or places i 0 < get_or places among.0 0 = placed.ascending i among.0 0 past among.1 in
-            absurd (omega (arith, more, place, less))
-        | inr equal ↦
-            let same : among.0 ≡ i = omega (arith, after, equal) in
-            let is : get_or places i 0 ≡ q = subst (λ (k : ℕ). get_or places k 0 ≡ q) same place in
-            absurd (omega (arith, is, less))
-      ]
-]
-
 -- where a fault is told of the part at the next place
 pub turns_faulty_at : {O N : Type 0} (old : Listing O) (new : Listing N) (m : Mixture O N) (parts : List ClassPart) (places : List ℕ) (phases : List Phase)
     (u i : ℕ) (part : ClassPart) (fault : Fault) (turns : List Turn)
     → AreParts old new m parts (length m.classes.samples) → ArePlacesOf parts u places → i < length places → part ≡ get_or parts (get_or places i 0) part
-    → StayFirst old new m parts places phases u i → IsClassVerdict old new m phases phases part.atom (Some fault) turns → TurnsFaulty old new m phases u fault turns
+    → StayFirst old new m parts places phases u i → IsClassVerdict old new m phases phases part.atom (Some fault) turns
+    → TurnsFaulty old new m phases u fault turns
 turns_faulty_at old new m parts places phases u i part fault turns are placed within at stays told before differ sound =
     let there : get_or places i 0 < length parts = placed.below i 0 within in
     let is : IsPart old new m part = subst (λ (x : ClassPart). IsPart old new m x) (sym at) (are.each (get_or places i 0) part there) in
     faulty_at old new m phases part.atom turns fault are.classes is.class
     (λ k below. sound_before old new m parts (length m.classes.samples) (get_or places i 0) part (state_in phases) are there
     (λ q less. sound_there old new m parts places phases u i q part before are placed stays (omega (arith, less, there))
-    (stands_before places u i q parts placed within less) differ sound) k
+    (λ among. stands_before (λ (p : ℕ). p) places i 0 q placed.ascending within among less) differ sound) k
     (subst (λ (a : ℕ). k < a) (ap (λ (x : ClassPart). x.atom) at) below)) told
 
 -- after a change of a sound state

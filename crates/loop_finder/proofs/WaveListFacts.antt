@@ -1,11 +1,10 @@
 -- A wave list is looked at wave by wave.
 use Rattle.std.proofs.Common.{ℕ, ◌≤◌, ◌↔◌, List, length, Contains, Option, Some, None, IfSome, IfNone, IsNone, inl, inr, refl, sym, arith}
 use Rattle.std.proofs.lemmas.Bool.{false≢true, cases_lt}
-use Rattle.net_model.specs.Network.{Network}
 use Rattle.order_core.specs.Rankings.{IsRanking}
 use Rattle.order_core.specs.declared.turn.Turn.{Turn}
 use Rattle.order_core.proofs.WaveLists.{rank_below_count, count_le_length}
-use Rattle.igp_theory.specs.Routes.{Tables}
+use Rattle.igp_theory.specs.Migrations.{Migration}
 use Rattle.igp_theory.specs.States.{State, IsSound}
 use Rattle.igp_theory.specs.WaveLaws.{IsStateOfSomeWave}
 use Rattle.igp_theory.specs.Waves.{AreSeamlessWaves}
@@ -36,12 +35,12 @@ sound_to_all old new m ranks w ranking whole sound state some =
     some.of_wave
 
 -- no fault is told exactly of a seamless wave list
-pub none_seamless : (net : Network) (old new : Tables) (ranks : List ℕ) (result : Option (ℕ × Fault)) (turns : List Turn) → IsRanking (length net) ranks
-    → IfNone result ((state : State) → IsStateOfSomeWave (length net) ranks state → IsSound net old new state)
-    → IfSome result (λ found. IsNumberedWavesFault net old new ranks found.0 (told_fault found.1 turns)) → IsNone result ↔ AreSeamlessWaves net old new ranks
-none_seamless net old new ranks None turns ranking sound fault = (λ none. seamless_by_waves net old new ranks ranking sound, λ seamless. refl)
-none_seamless net old new ranks (Some found) turns ranking sound fault = (
+pub none_seamless : (move : Migration) (ranks : List ℕ) (result : Option (ℕ × Fault)) (turns : List Turn) → IsRanking (length move.net) ranks
+    → IfNone result ((state : State) → IsStateOfSomeWave (length move.net) ranks state → IsSound move state)
+    → IfSome result (λ found. IsNumberedWavesFault move ranks found.0 (told_fault found.1 turns)) → IsNone result ↔ AreSeamlessWaves move ranks
+none_seamless move ranks None turns ranking sound fault = (λ none. seamless_by_waves move ranks ranking sound, λ seamless. refl)
+none_seamless move ranks (Some found) turns ranking sound fault = (
   λ none. absurd (false≢true (sym none)),
   λ seamless.
-      absurd (waves_fault_unsound net old new ranks fault.wave (told_fault found.1 turns) fault.is_fault seamless),
+      absurd (waves_fault_unsound move ranks fault.wave (told_fault found.1 turns) fault.is_fault seamless),
 )

@@ -11,18 +11,18 @@ abbrev pub WaveStep : ClassPart → List ℕ → ℕ → ℕ → ℕ → Type 0
 WaveStep part ranks w u h =
     ((w ≤ rank_of ranks u) × Contains (part_hops part u Old) h) ⊎ ((rank_of ranks u ≤ w) × Contains (part_hops part u New) h)
 
+-- where router u is of wave w, no walk over the steps of the wave returns to it
+abbrev pub IsUnstirred : ClassPart → List ℕ → ℕ → ℕ → Type 0
+IsUnstirred part ranks w u = rank_of ranks u ≡ w → NeverReturnsTo (WaveStep part ranks w) u
+
 -- no walk over the steps of wave w returns to a router of it
 abbrev pub IsCalmIn : ClassPart → List ℕ → ℕ → Type 0
-IsCalmIn part ranks w = (u : ℕ) → u < length ranks → rank_of ranks u ≡ w → NeverReturnsTo (WaveStep part ranks w) u
+IsCalmIn part ranks w = (u : ℕ) → u < length ranks → IsUnstirred part ranks w u
 
 -- a part is calm in each wave before w; where there is such a wave, all routers are known to move
 pub record IsCalmBefore (part : ClassPart) (ranks : List ℕ) (w : ℕ) : Type 0 where
   pub moves : 0 < w → part.moves ≡ true
   pub calm : (v : ℕ) → v < w → IsCalmIn part ranks v
-
--- where the wave of router u is from wave w on and before wave v, no walk over the steps of its wave returns to it
-abbrev pub IsUnstirred : ClassPart → List ℕ → ℕ → ℕ → ℕ → Type 0
-IsUnstirred part ranks w v u = w ≤ rank_of ranks u → rank_of ranks u < v → NeverReturnsTo (WaveStep part ranks (rank_of ranks u)) u
 
 -- for each part such a wave
 pub record AreCalm (parts : List ClassPart) (ranks calm : List ℕ) : Type 0 where

@@ -2,14 +2,13 @@
 use Rattle.std.specs.Prelude.{◌≡◌, ℕ, ◌<◌, ◌↔◌, ◌^◌, ◌⊎◌, Bool, List, length, slice_index, Option, Some, None}
 use Rattle.net_addr.specs.Addresses.{Block}
 use Rattle.net_model.specs.Network.{Network}
-use Rattle.route_core.specs.Tables.{HasEntry}
 use Rattle.route_core.specs.declared.entry.Entry.{Entry}
 use Rattle.igp_theory.specs.Forwarding.{MustForward, Steps}
 use Rattle.igp_theory.specs.Loops.{IsTag}
 use Rattle.igp_theory.specs.declared.phase.Phase.{Phase}
 use Rattle.order_core.specs.Marks.{IsMarked}
 use Rattle.order_core.specs.declared.turn.Turn.{Turn}
-use Rattle.rib_mix.specs.Mixture.{Mixture}
+use Rattle.rib_mix.specs.Mixture.{Mixture, migration_of}
 use Rattle.loop_finder.specs.Faults.{state_in}
 
 -- the entries of a source's tables
@@ -44,7 +43,7 @@ pub record IsClassState {O N : Type 0} (c : ClassState O N) : Type 0 where
 
 -- a router steps to another in a phase, for the addresses of the class
 abbrev pub StepsBy : {O N : Type 0} → Listing O → Listing N → ClassState O N → ℕ → Phase → ℕ → Type 0
-StepsBy old new c u phase h = Steps c.mixture.net (HasEntry (old c.mixture.old)) (HasEntry (new c.mixture.new)) u phase (sample_of c.mixture c.atom) h
+StepsBy old new c u phase h = Steps (migration_of old new c.mixture) u phase (sample_of c.mixture c.atom) h
 
 -- a router steps to another in one of the states
 abbrev pub ClassStep : {O N : Type 0} → Listing O → Listing N → ClassState O N → ℕ → ℕ → Type 0
@@ -52,7 +51,7 @@ ClassStep old new c u h = StepsBy old new c u (state_in c.first u) h ⊎ StepsBy
 
 -- a router of a ring has the tag by which it steps to the next one
 abbrev pub IsTagged : {O N : Type 0} → Listing O → Listing N → ClassState O N → Turn → ℕ → Type 0
-IsTagged old new c turn next = IsTag c.mixture.net (HasEntry (old c.mixture.old)) (HasEntry (new c.mixture.new)) (sample_of c.mixture c.atom) turn next
+IsTagged old new c turn next = IsTag (migration_of old new c.mixture) (sample_of c.mixture c.atom) turn next
 
 -- a router has to pass packets on, and has no step in a phase
 pub record IsStuckIn {O N : Type 0} (old : Listing O) (new : Listing N) (c : ClassState O N) (u : ℕ) (phase : Phase) : Type 0 where

@@ -1,12 +1,11 @@
 -- The parts of classes that loops can take, and how they tell of all classes.
 use Rattle.std.specs.Prelude.{◌≡◌, ℕ, ◌<◌, ◌⊎◌, Bool, List, [], ◌∷◌, ◌++◌, length, slice_index_or, All, AllPairs, Contains}
 use Rattle.std.specs.Bool.{OnTrue}
-use Rattle.route_core.specs.Tables.{HasEntry}
 use Rattle.igp_theory.specs.Forwarding.{MustForward, Steps, HasStep}
 use Rattle.igp_theory.specs.States.{State, Follows}
 use Rattle.igp_theory.specs.declared.phase.Phase.{Phase}
 use Rattle.igp_theory.specs.declared.phase.Phase.TheVariants.{Old, Middle, New}
-use Rattle.rib_mix.specs.Mixture.{Mixture}
+use Rattle.rib_mix.specs.Mixture.{Mixture, migration_of}
 use Rattle.loop_finder.specs.Faults.{state_in}
 use Rattle.loop_finder.specs.ClassSteps.{Listing, sample_of}
 use Rattle.loop_finder.specs.Verdicts.{ClassesOf, SoundAt}
@@ -56,11 +55,11 @@ AreSteppers rows routers = AreAllBut (IsBareIn rows) (length rows) routers
 
 -- a router steps to another in a phase, for the addresses of a class
 abbrev pub StepsOf : {O N : Type 0} → Listing O → Listing N → Mixture O N → ℕ → ℕ → Phase → ℕ → Type 0
-StepsOf old new m atom u phase h = Steps m.net (HasEntry (old m.old)) (HasEntry (new m.new)) u phase (sample_of m atom) h
+StepsOf old new m atom u phase h = Steps (migration_of old new m) u phase (sample_of m atom) h
 
 -- a router has a step in a phase
 abbrev pub HasStepOf : {O N : Type 0} → Listing O → Listing N → Mixture O N → ℕ → ℕ → Phase → Type 0
-HasStepOf old new m atom u phase = HasStep m.net (HasEntry (old m.old)) (HasEntry (new m.new)) u phase (sample_of m atom)
+HasStepOf old new m atom u phase = HasStep (migration_of old new m) u phase (sample_of m atom)
 
 -- the steps of both networks: a router steps to another in Old or in New
 abbrev pub StepsEver : {O N : Type 0} → Listing O → Listing N → Mixture O N → ℕ → ℕ → ℕ → Type 0

@@ -1,7 +1,7 @@
 -- What is told of a class, of a state and of an order, over what is mixed.
 use Rattle.std.specs.Prelude.{◌≡◌, ℕ, ◌<◌, ◌⊎◌, Bool, List, length, Option, Some, None}
-use Rattle.route_core.specs.Tables.{HasEntry}
 use Rattle.igp_theory.specs.Loops.{AroundRing, IsFoundRing, IsFault, IsFirstFault}
+use Rattle.igp_theory.specs.Migrations.{migration}
 use Rattle.igp_theory.specs.States.{State, IsSoundAt, IsSound}
 use Rattle.igp_theory.specs.WaveFaults.{IsFaultOver}
 use Rattle.igp_theory.specs.WaveLaws.{IsStateOfSomeWave}
@@ -11,7 +11,7 @@ use Rattle.igp_theory.specs.declared.phase.Phase.TheVariants.{Old, New}
 use Rattle.prefix_atoms.specs.Classes.{AreClasses, SourceEntry}
 use Rattle.order_core.specs.Turns.{routers_of}
 use Rattle.order_core.specs.declared.turn.Turn.{Turn}
-use Rattle.rib_mix.specs.Mixture.{Mixture}
+use Rattle.rib_mix.specs.Mixture.{Mixture, migration_of}
 use Rattle.loop_finder.specs.Faults.{state_in, told_fault}
 use Rattle.loop_finder.specs.ClassSteps.{Listing, ClassState, sample_of, ClassStep, IsTagged, Moves, FirstStuck}
 use Rattle.loop_finder.specs.steps.Walks.{ReturnsNever}
@@ -40,17 +40,17 @@ pub record IsClassVerdict {O N : Type 0} (old : Listing O) (new : Listing N) (m 
 
 -- the classes of what is mixed
 abbrev pub ClassesOf : {O N : Type 0} → Listing O → Listing N → Mixture O N → Type 0
-ClassesOf old new m = AreClasses m.net (SourceEntry (length m.net) (old m.old)) (SourceEntry (length m.net) (new m.new)) m.classes
+ClassesOf old new m = AreClasses (migration m.net (SourceEntry (length m.net) (old m.old)) (SourceEntry (length m.net) (new m.new))) m.classes
 
 -- a state is sound for an address, for all lower ones, for all
 abbrev pub SoundAt : {O N : Type 0} → Listing O → Listing N → Mixture O N → State → ℕ → Type 0
-SoundAt old new m state a = IsSoundAt m.net (HasEntry (old m.old)) (HasEntry (new m.new)) state a
+SoundAt old new m state a = IsSoundAt (migration_of old new m) state a
 
 abbrev pub SoundBelow : {O N : Type 0} → Listing O → Listing N → Mixture O N → State → ℕ → Type 0
 SoundBelow old new m state a = (b : ℕ) → b < a → SoundAt old new m state b
 
 abbrev pub Sound : {O N : Type 0} → Listing O → Listing N → Mixture O N → State → Type 0
-Sound old new m state = IsSound m.net (HasEntry (old m.old)) (HasEntry (new m.new)) state
+Sound old new m state = IsSound (migration_of old new m) state
 
 -- a state of n routers is between two others: each router has its phase in the first, or it is Old in the first and
 -- New in the last, and has any phase
@@ -80,11 +80,11 @@ Told old new m first last (Some fault) turns = IsFirstTold old new m first last 
 
 -- the fault of a state, as an answer with the turns beside it
 abbrev pub Faulty : {O N : Type 0} → Listing O → Listing N → Mixture O N → State → Fault → List Turn → Type 0
-Faulty old new m state fault turns = IsFault m.net (HasEntry (old m.old)) (HasEntry (new m.new)) state (told_fault fault turns)
+Faulty old new m state fault turns = IsFault (migration_of old new m) state (told_fault fault turns)
 
 -- the first fault of an order, as an answer with the turns beside it
 abbrev pub FirstFaulty : {O N : Type 0} → Listing O → Listing N → Mixture O N → List ℕ → ℕ → Fault → List Turn → Type 0
-FirstFaulty old new m order k fault turns = IsFirstFault m.net (HasEntry (old m.old)) (HasEntry (new m.new)) order k (told_fault fault turns)
+FirstFaulty old new m order k fault turns = IsFirstFault (migration_of old new m) order k (told_fault fault turns)
 
 -- every state of a wave is sound
 abbrev pub SoundWave : {O N : Type 0} → Listing O → Listing N → Mixture O N → List ℕ → ℕ → Type 0
@@ -101,9 +101,9 @@ SoundWaves old new m ranks = (state : State) → IsStateOfSomeWave (length m.net
 -- the fault of the states of a wave, as an answer with the turns beside it
 abbrev pub FaultyWave : {O N : Type 0} → Listing O → Listing N → Mixture O N → List ℕ → ℕ → Fault → List Turn → Type 0
 FaultyWave old new m ranks w fault turns =
-    IsFaultOver m.net (HasEntry (old m.old)) (HasEntry (new m.new)) (IsStateOfWave (length m.net) ranks w) (told_fault fault turns)
+    IsFaultOver (migration_of old new m) (IsStateOfWave (length m.net) ranks w) (told_fault fault turns)
 
 -- the fault of a wave list, as an answer with the number of the wave and the turns beside it
 abbrev pub FaultyWaves : {O N : Type 0} → Listing O → Listing N → Mixture O N → List ℕ → ℕ → Fault → List Turn → Type 0
 FaultyWaves old new m ranks number fault turns =
-    IsNumberedWavesFault m.net (HasEntry (old m.old)) (HasEntry (new m.new)) ranks number (told_fault fault turns)
+    IsNumberedWavesFault (migration_of old new m) ranks number (told_fault fault turns)

@@ -206,45 +206,83 @@ fn calm_from(part: &Part, routers: u32, ranks: &[u32], known: u32, room: &mut Ro
     ensures room { HasRoom routers room.new }
     ensures ring { room.new.ring.items ≡ room.old.ring.items }
 {
-    if !part.moves() {
+    if !part.moves() || routers <= known {
         return known;
     }
-    let mut first = routers;
     let steppers = part.steppers();
-    for router in steppers {
-        first = earlier_stirred(part, routers, ranks, known, *router, first, room);
+    let mut wave = next_wave(steppers, routers, ranks, known);
+    while wave < routers {
+        if stirs_in(part, steppers, routers, ranks, wave, room) {
+            return wave;
+        }
+        wave = next_wave(steppers, routers, ranks, wave + 1);
     }
-    first
+    wave
 }
 
-/// The wave of a router where it's an earlier one than a wave, isn't known to be calm, and a walk over the part's steps in
-/// it returns to the router; else that wave.
-fn earlier_stirred(
+/// The first wave from one on that has one of some routers; the count of all routers where there is none.
+fn next_wave(steppers: &[u32], routers: u32, ranks: &[u32], from: u32) -> u32
+    requires ranks { length ranks.now ≡ routers }
+    requires steppers { All (λ u. u < routers) steppers.now }
+    ensures within { result ≤ routers }
+    ensures no_sooner { from ≤ routers → from ≤ result }
+    ensures first { All (λ u. from ≤ rank_of ranks.now u → result ≤ rank_of ranks.now u) steppers.now }
+{
+    let mut next = routers;
+    for router in steppers {
+        next = earlier_of(ranks[*router as usize], from, next);
+    }
+    next
+}
+
+/// A rank where it's from a wave on and before another, else that other.
+fn earlier_of(rank: u32, from: u32, next: u32) -> u32
+    ensures within { result ≤ next }
+    ensures no_sooner { from ≤ next → from ≤ result }
+    ensures first { from ≤ rank → result ≤ rank }
+{
+    if rank < from { next } else { next.min(rank) }
+}
+
+/// Whether a walk over the steps of a part in a wave returns to one of some routers that is of the wave.
+fn stirs_in(
     part: &Part,
+    steppers: &[u32],
     routers: u32,
     ranks: &[u32],
-    known: u32,
-    router: u32,
     wave: u32,
     room: &mut Room,
-) -> u32
+) -> bool
+    requires rows { length part.now.rows ≡ routers }
+    requires ranks { length ranks.now ≡ routers }
+    requires steppers { All (λ u. u < routers) steppers.now }
+    requires room { HasRoom routers room.old }
+    ensures calm { OnFalse result (All (IsUnstirred part.now ranks.now wave) steppers.now) }
+    ensures room { HasRoom routers room.new }
+    ensures ring { room.new.ring.items ≡ room.old.ring.items }
+{
+    for router in steppers {
+        if stirs(part, routers, ranks, wave, *router, room) {
+            return true;
+        }
+    }
+    false
+}
+
+/// Whether a router is of a wave, and a walk over the steps of a part in the wave returns to it.
+fn stirs(part: &Part, routers: u32, ranks: &[u32], wave: u32, router: u32, room: &mut Room) -> bool
     requires rows { length part.now.rows ≡ routers }
     requires ranks { length ranks.now ≡ routers }
     requires router { router < routers }
     requires room { HasRoom routers room.old }
-    ensures most { result ≤ wave }
-    ensures never { IsUnstirred part.now ranks.now known result router }
+    ensures never { OnFalse result (IsUnstirred part.now ranks.now wave router) }
     ensures room { HasRoom routers room.new }
     ensures ring { room.new.ring.items ≡ room.old.ring.items }
 {
-    let rank = ranks[router as usize];
-    if rank < known || wave <= rank {
-        return wave;
+    if ranks[router as usize] != wave {
+        return false;
     }
-    if returns_in(part, routers, ranks, router, rank, room) {
-        return rank;
-    }
-    wave
+    returns_in(part, routers, ranks, router, wave, room)
 }
 
 /// Whether a walk over the steps of a part in a wave returns to a router.

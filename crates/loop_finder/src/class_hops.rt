@@ -1,5 +1,5 @@
 ghost use Rattle.std.specs.Prelude.{◌≡◌, ◌<◌, ◌↔◌, ◌^◌, ℕ, Contains, length};
-ghost use Rattle.igp_theory.specs.Forwarding.{MustForward};
+ghost use Rattle.loop_finder.specs.steps.Making.{IsHopsOf};
 ghost use Rattle.loop_finder.specs.steps.Targets.{IsTargetIn};
 ghost use Rattle.rib_mix.specs.Answers.{NextLeadsTo};
 ghost use Rattle.loop_finder.specs.Parts.{StepsOf};
@@ -59,10 +59,8 @@ pub fn next_hops<'m, O: RouteSource, N: RouteSource>(
     router: u32,
 ) -> &'m [u32]
     requires atom { atom < length mixed.now.classes.samples }
-    requires address { sample_of mixed.now atom < 2 ^ 32 }
     requires router { router < length mixed.now.net }
-    ensures { MustForward mixed.now.net (sample_of mixed.now atom) router
-        → (h : ℕ) → Contains result.now h ↔ StepsOf O.table N.table mixed.now atom router phase h }
+    ensures { IsHopsOf O.table N.table mixed.now atom router phase result.now }
 {
     hops_of(mixed.hops(router, atom, phase))
 }

@@ -1,10 +1,10 @@
 ghost use Rattle.std.specs.Prelude.{◌≡◌, ◌↔◌, ◌*◌, ◌≤◌, [], length, IfOk, IfSome, IsNone};
-ghost use Rattle.route_core.specs.Tables.{HasEntry};
 ghost use Rattle.igp_theory.specs.Loops.{IsFault, IsFirstFault};
 ghost use Rattle.order_core.specs.Orders.{IsOrder};
 ghost use Rattle.order_core.specs.Rankings.{IsRanking};
 ghost use Rattle.igp_theory.specs.States.{IsSeamless, IsSound};
 ghost use Rattle.igp_theory.specs.Waves.{AreSeamlessWaves};
+ghost use Rattle.rib_mix.specs.Mixture.{migration_of};
 ghost use Rattle.loop_finder.specs.Faults.{KeepsRing, state_in, told, told_fault};
 ghost use Rattle.loop_finder.specs.WaveLists.{IsNumberedWavesFault};
 
@@ -109,9 +109,9 @@ impl<'a, O: RouteSource, N: RouteSource> Finder<'a, O, N> {
     pub fn state_fault(&mut self, phases: &[Phase]) -> Option<Fault>
         requires { length phases.now ≡ length self.old.mixture.net }
         ensures sound { IsNone result
-            ↔ IsSound self.old.mixture.net (HasEntry (O.table self.old.mixture.old)) (HasEntry (N.table self.old.mixture.new)) (state_in phases.now) }
+            ↔ IsSound (migration_of O.table N.table self.old.mixture) (state_in phases.now) }
         ensures fault { IfSome result (λ fault.
-            IsFault self.old.mixture.net (HasEntry (O.table self.old.mixture.old)) (HasEntry (N.table self.old.mixture.new)) (state_in phases.now)
+            IsFault (migration_of O.table N.table self.old.mixture) (state_in phases.now)
             (told_fault fault self.new.ring)) }
         ensures ring { KeepsRing result self.old.ring self.new.ring }
         ensures mixture { self.new.mixture ≡ self.old.mixture }
@@ -124,10 +124,10 @@ impl<'a, O: RouteSource, N: RouteSource> Finder<'a, O, N> {
     pub fn order_fault(&mut self, order: &[u32]) -> Option<(u32, Fault)>
         requires { IsOrder (length self.old.mixture.net) order.now }
         ensures seamless { IsNone result
-            ↔ IsSeamless self.old.mixture.net (HasEntry (O.table self.old.mixture.old)) (HasEntry (N.table self.old.mixture.new)) order.now }
+            ↔ IsSeamless (migration_of O.table N.table self.old.mixture) order.now }
         ensures within { IfSome result (λ found. found.0 ≤ 2 * length order.now) }
         ensures fault { IfSome result (λ found.
-            IsFirstFault self.old.mixture.net (HasEntry (O.table self.old.mixture.old)) (HasEntry (N.table self.old.mixture.new)) order.now found.0
+            IsFirstFault (migration_of O.table N.table self.old.mixture) order.now found.0
             (told_fault found.1 self.new.ring)) }
         ensures ring { KeepsRing (told result) self.old.ring self.new.ring }
         ensures mixture { self.new.mixture ≡ self.old.mixture }
@@ -153,9 +153,9 @@ impl<'a, O: RouteSource, N: RouteSource> Finder<'a, O, N> {
     pub fn waves_fault(&mut self, ranks: &[u32]) -> Option<(u32, Fault)>
         requires { IsRanking (length self.old.mixture.net) ranks.now }
         ensures seamless { IsNone result
-            ↔ AreSeamlessWaves self.old.mixture.net (HasEntry (O.table self.old.mixture.old)) (HasEntry (N.table self.old.mixture.new)) ranks.now }
+            ↔ AreSeamlessWaves (migration_of O.table N.table self.old.mixture) ranks.now }
         ensures fault { IfSome result (λ found.
-            IsNumberedWavesFault self.old.mixture.net (HasEntry (O.table self.old.mixture.old)) (HasEntry (N.table self.old.mixture.new)) ranks.now found.0
+            IsNumberedWavesFault (migration_of O.table N.table self.old.mixture) ranks.now found.0
             (told_fault found.1 self.new.ring)) }
         ensures ring { KeepsRing (told result) self.old.ring self.new.ring }
         ensures mixture { self.new.mixture ≡ self.old.mixture }

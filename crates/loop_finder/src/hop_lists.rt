@@ -1,6 +1,6 @@
-ghost use Rattle.std.specs.Prelude.{◌≡◌, ◌++◌, ◌∷◌, [], IfOk, OnOk, length};
+ghost use Rattle.std.specs.Prelude.{◌≡◌, ◌<◌, IfOk, length, slice_set};
 ghost use Rattle.std.specs.Bool.{OnTrue};
-ghost use Rattle.loop_finder.specs.steps.Ends.{hops_at};
+ghost use Rattle.loop_finder.specs.steps.Ends.{AreNoHops, hops_at};
 
 use rib_mix::OutOfMemory;
 use std::alloc::Global;
@@ -21,27 +21,21 @@ impl<'m> Model for HopLists<'m> {
 }
 
 impl<'m> HopLists<'m> {
-    /// The hops of no router, and room for those of so many.
+    /// No hops of so many routers.
     pub fn new(alloc: Global, routers: u32) -> Result<HopLists<'m>, OutOfMemory>
-        ensures { IfOk result (λ lists. lists ≡ []) }
+        ensures { IfOk result (AreNoHops routers) }
     {
-        let all = Vec::with_capacity(alloc, routers as usize)?;
+        let none: &'m [u32] = &[];
+        let all = vec![in alloc; none; routers as usize]?;
         Ok(HopLists { all })
     }
 
-    /// The hops of no router.
-    pub fn clear(&mut self)
-        ensures { self.new ≡ [] }
+    /// Puts hops in the place of a router's.
+    pub fn set(&mut self, router: usize, hops: &'m [u32])
+        requires { router < length self.old }
+        ensures { self.new ≡ slice_set self.old router hops.now }
     {
-        self.all.clear();
-    }
-
-    /// Adds the hops of the next router.
-    pub fn push(&mut self, hops: &'m [u32]) -> Result<(), OutOfMemory>
-        ensures { OnOk result (self.new ≡ self.old ++ hops.now ∷ []) }
-    {
-        self.all.push(hops)?;
-        Ok(())
+        self.all[router] = hops;
     }
 
     /// The hops of a router, none of one that isn't there.
@@ -54,32 +48,10 @@ impl<'m> HopLists<'m> {
         }
     }
 
-    /// How many routers there are.
-    pub fn len(&self) -> usize
-        ensures { result ≡ length self.now }
+    /// Whether these are the hops of a router.
+    pub fn has(&self, router: usize, hops: &[u32]) -> bool
+        ensures { OnTrue result (hops_at self.now router ≡ hops.now) }
     {
-        self.all.len()
+        self.at(router) == hops
     }
-
-    /// Whether two lists are the same.
-    pub fn is_same(&self, other: &HopLists<'m>) -> bool
-        ensures { OnTrue result (self.now ≡ other.now) }
-    {
-        if self.len() != other.len() {
-            return false;
-        }
-        for router in 0..self.len() {
-            if !are_same(self.at(router), other.at(router)) {
-                return false;
-            }
-        }
-        true
-    }
-}
-
-/// Whether two lists of routers are the same.
-fn are_same(one: &[u32], other: &[u32]) -> bool
-    ensures { OnTrue result (one.now ≡ other.now) }
-{
-    one == other
 }

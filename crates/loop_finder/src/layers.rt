@@ -1,4 +1,5 @@
 use crate::graph::StepGraph;
+use crate::live::is_marked;
 use rib_mix::OutOfMemory;
 use std::alloc::Global;
 
@@ -22,6 +23,9 @@ pub struct Layers {
     /// The layer that is given next.
     next: u32,
 }
+
+/// What stands for the layer of a router that has none.
+pub const NO_LAYER: u32 = u32::MAX;
 
 /// What the search knows of a router.
 #[derive(Clone, Copy)]
@@ -92,30 +96,45 @@ impl Layers {
         self.numbers.as_slice()
     }
 
-    /// Chooses the layers for some steps. Takes time of the steps and the routers, and no memory.
-    pub fn choose<G: StepGraph>(&mut self, graph: &G) {
+    /// Chooses the layers of some routers, of those marked, and of all to which steps lead from them; the others have none.
+    /// Takes time of their steps and of all routers, and no memory.
+    pub fn choose<G: StepGraph>(&mut self, graph: &G, roots: &[u32], marks: &[bool]) {
         self.begin();
+        for root in roots {
+            self.search_once(graph, *root);
+        }
+        self.search_marked(graph, marks);
+    }
+
+    /// Searches all that can be reached from marked routers and isn't reached yet.
+    fn search_marked<G: StepGraph>(&mut self, graph: &G, marks: &[bool]) {
         for router in 0..graph.size() {
-            if number_of(self.visits.as_slice(), router) == 0 {
-                self.search_from(graph, router);
+            if is_marked(marks, router) {
+                self.search_once(graph, router);
             }
+        }
+    }
+
+    /// Searches all that can be reached from a router, where it isn't reached yet.
+    fn search_once<G: StepGraph>(&mut self, graph: &G, router: u32) {
+        if number_of(self.visits.as_slice(), router) == 0 {
+            self.search_from(graph, router);
         }
     }
 
     /// No router is reached.
     fn begin(&mut self) {
-        for visit in self.visits.iter_mut() {
-            *visit = UNREACHED;
-        }
+        self.visits.fill(UNREACHED);
+        self.numbers.fill(NO_LAYER);
         self.reached = 0;
         self.next = 0;
     }
 
-    /// Searches all that can be reached from a router and isn't reached yet.
+    /// Searches all that can be reached from a router and isn't reached yet: each router is reached once, and left once.
     fn search_from<G: StepGraph>(&mut self, graph: &G, root: u32) {
         self.reach(root, root);
         let mut router = root;
-        for _ in 0..u64::MAX {
+        for _ in 0..2 * u64::from(graph.size()) {
             match self.next_router(graph, router) {
                 Some(next) => router = next,
                 None => return,

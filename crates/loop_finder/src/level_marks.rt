@@ -1,36 +1,69 @@
-ghost use Rattle.std.specs.Prelude.{◌≡◌, ◌<◌, ◌≤◌, ℕ, Contains, length};
+ghost use Rattle.std.specs.Prelude.{◌≡◌, ◌<◌, ◌≤◌, ℕ, All, Contains, length};
 ghost use Rattle.std.specs.Bool.{OnFalse, OnTrue};
-ghost use Rattle.loop_finder.specs.Returns.{IsLayerAbove, MarksReturns, layer_in};
+ghost use Rattle.order_core.specs.Marks.{IsMarked};
+ghost use Rattle.loop_finder.specs.Returns.{HasLayer, IsLayerAbove, IsLevelled, MarksAgain, layer_in};
 
 use crate::graph::StepGraph;
-use crate::layers::Layers;
+use crate::layers::{Layers, NO_LAYER};
 use crate::live::mark_all;
 
-/// Marks the routers to which a walk over some steps may return: those of strongly connected parts, by their layers. All
-/// routers are marked where some step leads to a higher layer.
-pub fn mark_returns<G: StepGraph>(graph: &G, layers: &mut Layers, marks: &mut [bool])
+/// Marks the routers to which a walk over some steps may return, where it's known which were marked before the steps of some
+/// routers changed: those of strongly connected parts, by the layers of the routers to which steps lead from these and from the marked
+/// ones. The others keep their marks. All routers are marked where some step leads to a higher layer.
+pub fn mark_returns<G: StepGraph>(
+    graph: &G,
+    changed: &[u32],
+    layers: &mut Layers,
+    marks: &mut [bool],
+)
     requires { length marks.old ≡ G.size graph.now }
-    ensures { MarksReturns (G.step graph.now) marks.new }
+    ensures { MarksAgain (G.step graph.now) changed.now marks.old marks.new }
 {
-    layers.choose(graph);
-    if !mark_level(graph, layers.numbers(), marks) {
+    layers.choose(graph, changed, marks);
+    if !mark_level(graph, changed, layers.numbers(), marks) {
         mark_all(marks);
     }
 }
 
-/// Marks the routers that a step leads from and that stays in the layer; false where some step leads higher.
-fn mark_level<G: StepGraph>(graph: &G, layers: &[u32], marks: &mut [bool]) -> bool
+/// Marks the routers that a step leads from and that stays in the layer; false where some step leads higher, or a router that
+/// changed has no layer.
+fn mark_level<G: StepGraph>(graph: &G, changed: &[u32], layers: &[u32], marks: &mut [bool]) -> bool
     requires { length marks.old ≡ G.size graph.now }
-    ensures returns { OnTrue result (MarksReturns (G.step graph.now) marks.new) }
+    ensures returns { OnTrue result (MarksAgain (G.step graph.now) changed.now marks.old marks.new) }
     ensures inside { (u h : ℕ) → G.step graph.now u h → u < G.size graph.now }
 {
     for router in 0..graph.size() {
-        let layer = u64::from(layer_in(layers, router));
-        let above = above_hops(graph, layers, router);
-        if above > layer + 1 {
+        if !mark_router(graph, layers, router, marks) {
             return false;
         }
-        marks[router as usize] = is_over(above, layer);
+    }
+    have_layers(layers, changed)
+}
+
+/// Marks a router that has a layer where a step leads from it and stays in the layer; false where some step leads higher.
+fn mark_router<G: StepGraph>(graph: &G, layers: &[u32], router: u32, marks: &mut [bool]) -> bool
+    requires router { router < G.size graph.now }
+    requires many { length marks.old ≡ G.size graph.now }
+    ensures level { OnTrue result (IsLevelled (G.step graph.now) layers.now marks.new router) }
+    ensures kept { (u : ℕ) → (u ≡ router → ¬ HasLayer layers.now u) → IsMarked marks.old u → IsMarked marks.new u }
+{
+    let layer = layer_in(layers, router);
+    if layer == NO_LAYER {
+        return true;
+    }
+    let above = above_hops(graph, layers, router);
+    marks[router as usize] = is_over(above, u64::from(layer));
+    above <= u64::from(layer) + 1
+}
+
+/// Whether some routers have layers.
+fn have_layers(layers: &[u32], routers: &[u32]) -> bool
+    ensures { OnTrue result (All (HasLayer layers.now) routers.now) }
+{
+    for router in routers {
+        if layer_in(layers, *router) == NO_LAYER {
+            return false;
+        }
     }
     true
 }

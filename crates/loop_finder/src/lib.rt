@@ -8,14 +8,15 @@
 //! | File | What it holds |
 //! |---|---|
 //! | `finder`, `fault`, `room` | the finder, what it finds, and its room to work in |
-//! | `end_lists`, `end_steps`, `hop_lists`, `class_hops`, `graph` | the hops of a class in the old and the new network, read once |
+//! | `end_lists`, `end_steps`, `hop_lists`, `class_hops`, `graph` | the hops of a class in both networks, and where they changed |
 //! | `layers`, `level_marks`, `parts`, `part` | where a walk may return, by one search for strongly connected parts, and the parts |
 //! | `watch`, `known` | which parts a change of a router concerns, and what is known of the latest order |
 //! | `order_fault`, `change`, `follow`, `returns` | orders: after a change only walks through the router changed |
 //! | `waves_fault`, `calm` | wave lists: before which wave each part is calm |
 //! | `class_fault`, `classes_fault`, `class_steps`, `live`, `ring`, `tags` | the exact fault: a router without a step, or a ring with its tags |
 //!
-//! `new` takes time of classes times their steps; an order that of its changes and the walks from changed routers within
+//! `new` takes time of classes times routers, and of the steps to which steps lead from routers that don't do the same as for
+//! the class before; an order that of its changes and the walks from changed routers within
 //! parts; a wave list that of the waves from the first changed rank on. No call takes memory after `new`.
 #![tactic(auto)]
 

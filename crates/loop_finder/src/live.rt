@@ -1,8 +1,8 @@
-ghost use Rattle.std.specs.Prelude.{◌≡◌, ◌<◌, ◌≤◌, ◌^◌, ◌↔◌, ℕ, false, length, slice_set, IsTrue};
+ghost use Rattle.std.specs.Prelude.{◌≡◌, ◌∷◌, [], ◌<◌, ◌≤◌, ◌^◌, ◌↔◌, ℕ, false, length, slice_set, IsTrue};
 ghost use Rattle.std.specs.Bool.{OnFalse, OnTrue};
 ghost use Rattle.order_core.specs.Marks.{IsMarked, marked_count};
 ghost use Rattle.net_model.specs.Links.{lower_of};
-ghost use Rattle.loop_finder.specs.steps.Live.{AreBounded, ArePeeled, FirstMarked, HasMarkedHop, IsLowerMarked, LowestMarked};
+ghost use Rattle.loop_finder.specs.steps.Live.{AreBounded, ArePeeled, FirstMarked, HasMarkedHop, LowestMarked};
 ghost use Rattle.loop_finder.specs.steps.Walks.{LowestMarkedHop};
 
 use crate::graph::StepGraph;
@@ -119,22 +119,19 @@ fn lowest_marked(routers: &[u32], marks: &[bool]) -> Option<u32>
 {
     let mut lowest = None;
     for router in routers {
-        lowest = lower(marks, lowest, *router);
+        lowest = lower_of(lowest, marked_one(marks, *router));
     }
     lowest
 }
 
-/// The lower of a router that may be known and of another where that is marked.
-fn lower(marks: &[bool], known: Option<u32>, router: u32) -> Option<u32>
-    ensures { IsLowerMarked marks.now known router result }
+/// A router where it's marked.
+fn marked_one(marks: &[bool], router: u32) -> Option<u32>
+    ensures { LowestMarked (router ∷ []) marks.now result }
 {
-    if !is_marked(marks, router) {
-        return known;
+    if is_marked(marks, router) {
+        return Some(router);
     }
-    match known {
-        Some(other) => Some(other.min(router)),
-        None => Some(router),
-    }
+    None
 }
 
 /// Whether a router is marked.

@@ -1,12 +1,12 @@
-ghost use Rattle.std.specs.Prelude.{◌≡◌, ◌+◌, ◌<◌, ◌^◌, ℕ, All, IfOk, OnOk, length};
+ghost use Rattle.std.specs.Prelude.{◌≡◌, ◌+◌, ◌<◌, ◌^◌, ℕ, All, None, Some, IfOk, OnOk, length};
 ghost use Rattle.std.specs.Bool.{OnTrue};
 ghost use Rattle.loop_finder.specs.steps.Targets.{IsTargetIn};
 ghost use Rattle.order_core.specs.Marks.{IsMarked};
 ghost use Rattle.loop_finder.specs.steps.Ends.{EndStep, MovesAtEnds};
-ghost use Rattle.loop_finder.specs.steps.Making.{AreSameEnds, IsMaking, IsRead, ends_of};
+ghost use Rattle.loop_finder.specs.steps.Making.{IsKnownClass, IsMaking, IsRead, ends_of};
 ghost use Rattle.loop_finder.specs.steps.PartRows.{HasEarlierRows};
 ghost use Rattle.loop_finder.specs.Parts.{AllMove, AreAllBut, AreParts, IsCovered, IsPart};
-ghost use Rattle.loop_finder.specs.Returns.{MarksReturns};
+ghost use Rattle.loop_finder.specs.Returns.{MarksAgain};
 ghost use Rattle.loop_finder.specs.ClassSteps.{sample_of};
 
 use crate::class_fault::class_target;
@@ -19,20 +19,21 @@ use net_addr::Prefix;
 use rib_mix::{Mixed, OutOfMemory};
 use route_core::RouteSource;
 use std::alloc::Global;
-use std::mem;
 
-/// What parts are made with: what is read of classes, and what is known of one of them.
+/// What parts are made with: what was read of the latest class, and what is known of it.
 #[derive(Drop)]
 pub struct Making<'m> {
-    /// What is read of the class that is looked at.
-    pub latest: EndLists<'m>,
-    /// What was read of the class that is known.
-    pub known: EndLists<'m>,
-    /// For each router whether a walk over the known class's steps may return to it.
+    /// The class, none before the first.
+    pub known: Option<u32>,
+    /// What was read of it.
+    pub lists: EndLists<'m>,
+    /// The routers of which not the same was read as of the class before.
+    pub changed: Vec<u32>,
+    /// For each router whether a walk over the class's steps may return to it.
     pub marks: Vec<bool>,
     /// A number made of the marks.
     pub digest: u64,
-    /// The routers that lack a step of the known class in one of both networks.
+    /// The routers that lack a step of the class in one of both networks.
     pub stuck: Vec<u32>,
     /// The layers of the routers.
     pub layers: Layers,
@@ -41,67 +42,89 @@ pub struct Making<'m> {
 impl<'m> Making<'m> {
     /// What the parts of so many routers are made with.
     fn new(alloc: Global, routers: u32) -> Result<Making<'m>, OutOfMemory>
-        ensures { IfOk result (IsMaking routers) }
+        ensures making { IfOk result (IsMaking routers) }
+        ensures known { IfOk result (λ making. making.known ≡ None) }
     {
+        let lists = EndLists::new(alloc, routers)?;
+        let mut stuck = Vec::with_capacity(alloc, routers as usize)?;
+        find_stuck(&lists, routers, &mut stuck)?;
         Ok(Making {
-            latest: EndLists::new(alloc, routers)?,
-            known: EndLists::new(alloc, routers)?,
+            known: None,
+            lists,
+            changed: Vec::with_capacity(alloc, routers as usize)?,
             marks: vec![in alloc; false; routers as usize]?,
             digest: 0,
-            stuck: Vec::with_capacity(alloc, routers as usize)?,
+            stuck,
             layers: Layers::new(alloc, routers)?,
         })
     }
 
-    /// Makes the class that was read the known one. What is known stays where the same was read of the known one.
-    fn learn(&mut self, routers: u32) -> Result<(), OutOfMemory>
-        requires making { IsMaking routers self.old }
-        requires olds { length self.old.latest.olds ≡ routers }
-        requires news { length self.old.latest.news ≡ routers }
-        ensures making { OnOk result (IsMaking routers self.new) }
-        ensures known { OnOk result (AreSameEnds self.old.latest self.new.known) }
+    /// Reads a class. What is known stays where the same was read of the class before.
+    fn read<O: RouteSource, N: RouteSource>(
+        &mut self,
+        mixed: &'m Mixed<'_, O, N>,
+        routers: u32,
+        atom: u32,
+    ) -> Result<(), OutOfMemory>
+        requires making { IsMaking (length mixed.now.net) self.old }
+        requires routers { routers ≡ length mixed.now.net }
+        requires atom { atom < length mixed.now.classes.samples }
+        requires address { sample_of mixed.now atom < 2 ^ 32 }
+        requires known { IsKnownClass O.table N.table mixed.now self.old }
+        ensures making { OnOk result (IsMaking (length mixed.now.net) self.new) }
+        ensures known { OnOk result (self.new.known ≡ Some atom) }
+        ensures read { OnOk result (IsRead O.table N.table mixed.now atom self.new.lists) }
     {
-        if self.latest.is_same(&self.known) {
+        read_class(mixed, atom, self.known, &mut self.lists, &mut self.changed)?;
+        self.known = Some(atom);
+        let changed = self.changed.as_slice();
+        if changed.is_empty() {
             return Ok(());
         }
-        mem::swap(&mut self.latest, &mut self.known);
-        look_at(
-            &self.known,
+        mark_changed(
+            &self.lists,
             routers,
+            changed,
             &mut self.layers,
             &mut self.marks,
-            &mut self.stuck,
-        )?;
+        );
+        find_stuck(&self.lists, routers, &mut self.stuck)?;
         self.digest = digest_of(self.marks.as_slice());
         Ok(())
     }
 }
 
-/// Marks the routers to which a walk over the steps that were read may return, and finds those that lack a step.
-fn look_at(
+/// Marks the routers to which a walk over the steps that were read may return, where others were marked before some changed.
+fn mark_changed(
     lists: &EndLists<'_>,
     routers: u32,
+    changed: &[u32],
     layers: &mut Layers,
     marks: &mut [bool],
-    stuck: &mut Vec<u32>,
-) -> Result<(), OutOfMemory>
+)
     requires olds { length lists.now.olds ≡ routers }
     requires news { length lists.now.news ≡ routers }
     requires marks { length marks.old ≡ routers }
-    ensures returns { OnOk result (MarksReturns (EndStep (ends_of lists.now routers)) marks.new) }
-    ensures stuck { OnOk result (AreAllBut (MovesAtEnds (ends_of lists.now routers)) routers stuck.new.items) }
+    ensures { MarksAgain (EndStep (ends_of lists.now routers)) changed.now marks.old marks.new }
 {
     let ends = EndSteps::new(&lists.olds, &lists.news, routers);
-    mark_returns(&ends, layers, marks);
-    ends.find_stuck(stuck)?;
-    Ok(())
+    mark_returns(&ends, changed, layers, marks);
+}
+
+/// Finds the routers that lack a step in one of both networks, by what was read.
+fn find_stuck(lists: &EndLists<'_>, routers: u32, stuck: &mut Vec<u32>) -> Result<(), OutOfMemory>
+    requires olds { length lists.now.olds ≡ routers }
+    requires news { length lists.now.news ≡ routers }
+    ensures { OnOk result (AreAllBut (MovesAtEnds (ends_of lists.now routers)) routers stuck.new.items) }
+{
+    EndSteps::new(&lists.olds, &lists.news, routers).find_stuck(stuck)
 }
 
 /// The parts of the classes for which some state may be unsound, ascending. Of classes with the same hops only the
 /// first has one.
 ///
-/// Takes time of the classes and all their steps, and of the classes and the parts. Of classes one after another of which
-/// the same is read, only the first one's steps are searched.
+/// Takes time of the classes and the routers, and of the classes and the parts. Only those steps of a class are searched to
+/// which steps lead from routers that don't do the same as for the class before.
 pub fn parts_of<O: RouteSource, N: RouteSource>(
     alloc: Global,
     mixed: &Mixed<'_, O, N>,
@@ -126,19 +149,20 @@ fn add_part<'m, O: RouteSource, N: RouteSource>(
 ) -> Result<(), OutOfMemory>
     requires atom { atom < length mixed.now.classes.samples }
     requires making { IsMaking (length mixed.now.net) making.old }
+    requires known { IsKnownClass O.table N.table mixed.now making.old }
     requires parts { AreParts O.table N.table mixed.now parts.old.items atom }
     ensures making { OnOk result (IsMaking (length mixed.now.net) making.new) }
+    ensures known { OnOk result (IsKnownClass O.table N.table mixed.now making.new) }
     ensures parts { OnOk result (AreParts O.table N.table mixed.now parts.new.items (atom + 1)) }
 {
     let Some(target) = class_target(mixed, atom) else {
         return Ok(());
     };
-    read_class(mixed, atom, &mut making.latest)?;
-    making.learn(mixed.net().routers())?;
+    making.read(mixed, mixed.net().routers(), atom)?;
     add_known(alloc, mixed, atom, target, making, parts)
 }
 
-/// Adds the part of the class that is known, where some state may be unsound for it and no earlier one has the same hops.
+/// Adds the part of the class that was read, where some state may be unsound for it and no earlier one has the same hops.
 fn add_known<O: RouteSource, N: RouteSource>(
     alloc: Global,
     mixed: &Mixed<'_, O, N>,
@@ -151,7 +175,7 @@ fn add_known<O: RouteSource, N: RouteSource>(
     requires address { sample_of mixed.now atom < 2 ^ 32 }
     requires target { IsTargetIn mixed.now.net (sample_of mixed.now atom) target }
     requires making { IsMaking (length mixed.now.net) making.now }
-    requires read { IsRead O.table N.table mixed.now atom making.now.known }
+    requires read { IsRead O.table N.table mixed.now atom making.now.lists }
     requires parts { AreParts O.table N.table mixed.now parts.old.items atom }
     ensures { OnOk result (AreParts O.table N.table mixed.now parts.new.items (atom + 1)) }
 {
@@ -165,7 +189,7 @@ fn add_known<O: RouteSource, N: RouteSource>(
     Ok(())
 }
 
-/// Whether every router that has to pass the known class's packets on has a step in both networks.
+/// Whether every router that has to pass the class's packets on has a step in both networks.
 fn all_move<O: RouteSource, N: RouteSource>(
     mixed: &Mixed<'_, O, N>,
     atom: u32,
@@ -174,7 +198,7 @@ fn all_move<O: RouteSource, N: RouteSource>(
 ) -> bool
     requires target { IsTargetIn mixed.now.net (sample_of mixed.now atom) target }
     requires making { IsMaking (length mixed.now.net) making.now }
-    requires read { IsRead O.table N.table mixed.now atom making.now.known }
+    requires read { IsRead O.table N.table mixed.now atom making.now.lists }
     ensures { OnTrue result (AllMove O.table N.table mixed.now atom) }
 {
     let stuck = making.stuck.as_slice();
@@ -186,7 +210,7 @@ fn all_move<O: RouteSource, N: RouteSource>(
     true
 }
 
-/// Whether every state is sound for the class that is known, or every state that is so for the class of one of some parts:
+/// Whether every state is sound for the class that was read, or every state that is so for the class of one of some parts:
 /// where a walk returns to no router, or the part has its hops.
 fn is_covered<O: RouteSource, N: RouteSource>(
     mixed: &Mixed<'_, O, N>,
@@ -199,7 +223,7 @@ fn is_covered<O: RouteSource, N: RouteSource>(
     requires address { sample_of mixed.now atom < 2 ^ 32 }
     requires target { IsTargetIn mixed.now.net (sample_of mixed.now atom) target }
     requires making { IsMaking (length mixed.now.net) making.now }
-    requires read { IsRead O.table N.table mixed.now atom making.now.known }
+    requires read { IsRead O.table N.table mixed.now atom making.now.lists }
     requires all { AllMove O.table N.table mixed.now atom }
     requires parts { AreParts O.table N.table mixed.now parts.now atom }
     ensures { OnTrue result (IsCovered O.table N.table mixed.now parts.now atom) }

@@ -1,5 +1,5 @@
 -- Which routers of a step relation are live: marks that are taken from those that can't step on.
-use Rattle.std.specs.Prelude.{◌≡◌, ℕ, ◌+◌, ◌≤◌, Bool, List, length, Contains, Option, Some, None, min}
+use Rattle.std.specs.Prelude.{ℕ, ◌+◌, ◌≤◌, Bool, List, length, Contains, Option, Some, None}
 use Rattle.igp_theory.specs.States.{Follows}
 use Rattle.order_core.specs.Marks.{IsMarked, marked_count}
 
@@ -34,9 +34,3 @@ LowestMarked routers marks (Some h) = IsLowestMarked routers marks h
 abbrev pub FirstMarked : List Bool → Option ℕ → Type 0
 FirstMarked marks None = (q : ℕ) → ¬ IsMarked marks q
 FirstMarked marks (Some h) = IsMarked marks h × ((q : ℕ) → IsMarked marks q → h ≤ q)
-
--- the lower of a router that may be known and of another where that is marked
-pub record IsLowerMarked (marks : List Bool) (known : Option ℕ) (router : ℕ) (lower : Option ℕ) : Type 0 where
-  pub unmarked : ¬ IsMarked marks router → lower ≡ known
-  pub only : known ≡ None → IsMarked marks router → lower ≡ Some router
-  pub least : (w : ℕ) → known ≡ Some w → IsMarked marks router → lower ≡ Some (min w router)

@@ -1,11 +1,14 @@
 -- What is read of classes, and what parts are made with.
-use Rattle.std.specs.Prelude.{◌≡◌, ℕ, [], length, vec_len}
+use Rattle.std.specs.Prelude.{◌≡◌, ℕ, ◌<◌, ◌^◌, ◌↔◌, List, length, vec_len, Contains, Option, Some, IfSome}
+use Rattle.igp_theory.specs.declared.phase.Phase.{Phase}
 use Rattle.igp_theory.specs.declared.phase.Phase.TheVariants.{Old, New}
-use Rattle.rib_mix.specs.Mixture.{Mixture}
-use Rattle.loop_finder.specs.steps.Ends.{EndHops, EndStep, MovesAtEnds, AreHopsIn}
+use Rattle.rib_mix.specs.Answers.{IsAlikeAt, IsNextOf, NextLeadsTo}
+use Rattle.rib_mix.specs.declared.next.Next.{Next}
+use Rattle.rib_mix.specs.Mixture.{Mixture, migration_of}
+use Rattle.loop_finder.specs.steps.Ends.{EndHops, EndStep, MovesAtEnds, AreNoHops, hops_at}
 use Rattle.loop_finder.specs.Parts.{AreAllBut}
 use Rattle.loop_finder.specs.Returns.{MarksReturns}
-use Rattle.loop_finder.specs.ClassSteps.{Listing}
+use Rattle.loop_finder.specs.ClassSteps.{Listing, sample_of}
 use Rattle.loop_finder.specs.declared.end_lists.EndLists.{EndLists}
 use Rattle.loop_finder.specs.declared.parts.Making.{Making}
 
@@ -13,24 +16,50 @@ use Rattle.loop_finder.specs.declared.parts.Making.{Making}
 abbrev pub ends_of : EndLists → ℕ → EndHops
 ends_of lists n = record { olds = lists.olds; news = lists.news; routers = n }
 
--- nothing is read yet
-pub record AreNoEnds (lists : EndLists) : Type 0 where
-  pub olds : lists.olds ≡ []
-  pub news : lists.news ≡ []
+-- nothing is read yet of n routers
+pub record AreNoEnds (n : ℕ) (lists : EndLists) : Type 0 where
+  pub olds : AreNoHops n lists.olds
+  pub news : AreNoHops n lists.news
 
--- what was read of two classes is the same
-pub record AreSameEnds (one other : EndLists) : Type 0 where
-  pub olds : one.olds ≡ other.olds
-  pub news : one.news ≡ other.news
+-- the same was read of router u
+pub record IsSameAt (one other : EndLists) (u : ℕ) : Type 0 where
+  pub olds : hops_at one.olds u ≡ hops_at other.olds u
+  pub news : hops_at one.news u ≡ hops_at other.news u
+
+-- these are the hops of what router u does in a phase with the packets of a class
+pub record IsHopsOf {O N : Type 0} (old : Listing O) (new : Listing N) (m : Mixture O N) (atom u : ℕ) (phase : Phase) (hops : List ℕ) : Type 0 where
+  pub next : Next
+  pub is : IsNextOf (migration_of old new m) m.classes u atom phase next
+  pub leads : (h : ℕ) → Contains hops h ↔ NextLeadsTo next h
+
+-- this was read of router u for a class
+pub record IsReadAt {O N : Type 0} (old : Listing O) (new : Listing N) (m : Mixture O N) (atom : ℕ) (lists : EndLists) (u : ℕ) : Type 0 where
+  pub olds : IsHopsOf old new m atom u Old (hops_at lists.olds u)
+  pub news : IsHopsOf old new m atom u New (hops_at lists.news u)
 
 -- this was read of a class
 pub record IsRead {O N : Type 0} (old : Listing O) (new : Listing N) (m : Mixture O N) (atom : ℕ) (lists : EndLists) : Type 0 where
-  pub olds_are : AreHopsIn old new m atom Old lists.olds
-  pub news_are : AreHopsIn old new m atom New lists.news
+  pub class : atom < length m.classes.samples
+  pub address : sample_of m atom < 2 ^ 32
+  pub olds_many : length lists.olds ≡ length m.net
+  pub news_many : length lists.news ≡ length m.net
+  pub each : (u : ℕ) → u < length m.net → IsReadAt old new m atom lists u
 
--- there is room for n routers; once a class is known, the routers to which a walk over the steps of both networks may
--- return are marked, and those that lack a step in one are listed
+-- this was read of the class that is known
+abbrev pub IsKnownClass : {O N : Type 0} → Listing O → Listing N → Mixture O N → Making → Type 0
+IsKnownClass old new m making = IfSome making.known (λ atom. IsRead old new m atom making.lists)
+
+-- a class is known, and router u does the same for another
+pub record IsKnownAt {O N : Type 0} (old : Listing O) (new : Listing N) (m : Mixture O N) (known : Option ℕ) (u atom : ℕ) : Type 0 where
+  pub other : ℕ
+  pub is : known ≡ Some other
+  pub alike : IsAlikeAt (migration_of old new m) m.classes u other atom
+
+-- what was read is of n routers, those to which a walk over the steps of both networks may return are marked, and those
+-- that lack a step in one are listed
 pub record IsMaking (n : ℕ) (making : Making) : Type 0 where
+  pub olds_many : length making.lists.olds ≡ n
+  pub news_many : length making.lists.news ≡ n
   pub marks_many : vec_len making.marks ≡ n
-  pub returns : MarksReturns (EndStep (ends_of making.known n)) making.marks.items
-  pub stuck : length making.known.olds ≡ n → AreAllBut (MovesAtEnds (ends_of making.known n)) n making.stuck.items
+  pub returns : MarksReturns (EndStep (ends_of making.lists n)) making.marks.items
+  pub stuck : AreAllBut (MovesAtEnds (ends_of making.lists n)) n making.stuck.items

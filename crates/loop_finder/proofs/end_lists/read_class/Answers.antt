@@ -1,17 +1,39 @@
-use Rattle.igp_theory.specs.declared.phase.Phase.TheVariants.{Old, New}
-use Rattle.loop_finder.proofs.PartRows.{AreFirstHops-none, AreFirstHops-more}
+use Rattle.std.proofs.Common.{◌≡◌, length, arith, refl, ap, ◌∙◌, below_more}
+use Rattle.net_model.specs.Network.{Network}
+use Rattle.loop_finder.specs.steps.Making.{IsReadAt, IsSameAt}
+use Rattle.loop_finder.proofs.PartRows.{AreAllBut-none, changed_more, known_at, known_class, read_same, same_twice}
 use Rattle.loop_finder.proofs.end_lists.read_class.Goals as goal
 
 pub loop-router-init : goal.loop-router-init
 loop-router-init g c = record {
-  olds = AreFirstHops-none g.O.RouteSource.table g.N.RouteSource.table c.args.mixed.now c.args.atom Old c.clear.new.self c.clear.ensures;
-  news = AreFirstHops-none g.O.RouteSource.table g.N.RouteSource.table c.args.mixed.now c.args.atom New c.clear-2.new.self c.clear-2.ensures;
+  olds_many = c.requires.olds;
+  news_many = c.requires.news;
+  read = λ u below. absurd (omega (arith, below));
+  rest = λ u past. record { olds = refl; news = refl };
+  changed = AreAllBut-none (IsSameAt c.args.lists.now c.args.lists.now) c.clear.new.self.items c.clear.ensures.items;
 }
+
+pub read_router-requires-clause-class : goal.read_router-requires-clause-class
+read_router-requires-clause-class g c = known_class g.O.RouteSource.table g.N.RouteSource.table c.args.mixed.now c.args.known c.args.lists.now c.requires.known
+
+pub read_router-requires-clause-known : goal.read_router-requires-clause-known
+read_router-requires-clause-known g c =
+    let many : c.routers-router-end.result ≡ length c.args.mixed.now.net =
+    c.routers-router-end.ensures.count ∙ ap (λ (n : Network). length n) c.net.ensures in
+    known_at g.O.RouteSource.table g.N.RouteSource.table c.args.mixed.now c.args.known c.args.lists.now c.loop-router.lists c.loop-router.router
+    c.requires.known (omega (arith, many, c.loop-router-test.true)) (c.loop-router.invariant.rest c.loop-router.router (omega arith))
 
 pub loop-router-preserved : goal.loop-router-preserved
 loop-router-preserved g c = record {
-  olds = AreFirstHops-more g.O.RouteSource.table g.N.RouteSource.table c.args.mixed.now c.args.atom Old c.loop-router.router
-      c.loop-router.lists.olds c.push.new.self c.next_hops-olds.result.now c.in_ok-push.ensures c.loop-router.invariant.olds c.next_hops-olds.ensures;
-  news = AreFirstHops-more g.O.RouteSource.table g.N.RouteSource.table c.args.mixed.now c.args.atom New c.loop-router.router
-      c.loop-router.lists.news c.push-in-loop-router.new.self c.next_hops-news.result.now c.in_ok-push-2.ensures c.loop-router.invariant.news c.next_hops-news.ensures;
+  olds_many = c.in_ok-read_router.ensures.olds_many ∙ c.loop-router.invariant.olds_many;
+  news_many = c.in_ok-read_router.ensures.news_many ∙ c.loop-router.invariant.news_many;
+  read = below_more (IsReadAt g.O.RouteSource.table g.N.RouteSource.table c.args.mixed.now c.args.atom c.read_router.new.lists) c.loop-router.router
+      (λ u below. read_same g.O.RouteSource.table g.N.RouteSource.table c.args.mixed.now c.args.atom c.loop-router.lists c.read_router.new.lists u
+      (c.loop-router.invariant.read u below) (c.in_ok-read_router.ensures.others u (λ same. absurd (omega (arith, same, below)))))
+      c.in_ok-read_router.ensures.read;
+  rest = λ u past. same_twice c.args.lists.now c.loop-router.lists c.read_router.new.lists u (c.loop-router.invariant.rest u (omega (arith, past)))
+      (c.in_ok-read_router.ensures.others u (λ same. absurd (omega (arith, same, past))));
+  changed = changed_more c.args.lists.now c.loop-router.lists c.read_router.new.lists c.loop-router.router c.loop-router.changed.items
+      c.read_router.new.changed.items c.loop-router.invariant.changed c.in_ok-read_router.ensures.others
+      (c.loop-router.invariant.rest c.loop-router.router (omega arith)) c.in_ok-read_router.ensures.changed;
 }

@@ -1,21 +1,19 @@
-use Rattle.std.proofs.Common.{◌≡◌, ℕ, ◌<◌, ◌≤◌, arith, subst}
-use Rattle.std.specs.Bool.{OnFalse}
-use Rattle.loop_finder.specs.Returns.{layer_in}
-use Rattle.loop_finder.proofs.Levels.{AreLevelled-none, AreLevelled-more, returns_marked}
+use Rattle.std.proofs.Common.{◌<◌, arith}
+use Rattle.loop_finder.proofs.Levels.{AreLevelled-more, marks_again}
+use Rattle.loop_finder.proofs.OnFalse.{on_true}
 use Rattle.loop_finder.proofs.level_marks.mark_level.Goals as goal
 
 pub loop-router-init : goal.loop-router-init
-loop-router-init g c = AreLevelled-none (g.G.StepGraph.step c.args.graph.now) c.args.layers.now c.args.marks.now
+loop-router-init g c = record { level = λ u below. absurd (omega (arith, below)); stay = λ u none marked. marked }
 
 pub loop-router-preserved : goal.loop-router-preserved
 loop-router-preserved g c =
-    let layer : c.from-layer.result ≡ layer_in c.args.layers.now c.loop-router.router = omega (arith, c.from-layer.ensures, c.layer_in.ensures) in
-    AreLevelled-more (g.G.StepGraph.step c.args.graph.now) c.args.layers.now c.loop-router.marks c.loop-router.router c.above_hops-above.result
-    c.is_over.result c.loop-router.invariant (omega arith)
-    c.above_hops-above.ensures (omega (arith, layer)) (subst (λ (n : ℕ). OnFalse c.is_over.result (c.above_hops-above.result ≤ n)) layer c.is_over.ensures)
+    AreLevelled-more (g.G.StepGraph.step c.args.graph.now) c.args.layers.now c.args.marks.now c.loop-router.marks c.mark_router.new.marks
+    c.loop-router.router c.loop-router.invariant c.if-not-mark_router.ensures.level c.if-not-mark_router.ensures.kept
 
 pub returns-clause-returns : goal.returns-clause-returns
 returns-clause-returns g c =
-    returns_marked (g.G.StepGraph.step c.args.graph.now) c.args.layers.now c.loop-router.marks c.loop-router.router c.loop-router.invariant
-    (λ u h steps. let below : u < g.G.StepGraph.size c.args.graph.now = c.size-router-end.ensures.inside u h steps in
-    omega (arith, below, c.loop-router-test.false, c.size-router-end.ensures.count))
+    on_true c.have_layers.result c.have_layers.ensures (λ have.
+    marks_again (g.G.StepGraph.step c.args.graph.now) c.args.layers.now c.args.changed.now c.args.marks.now c.loop-router.marks c.loop-router.router
+    c.loop-router.invariant (λ u h steps. let below : u < g.G.StepGraph.size c.args.graph.now = c.size-router-end.ensures.inside u h steps in
+    omega (arith, below, c.loop-router-test.false, c.size-router-end.ensures.count)) have)

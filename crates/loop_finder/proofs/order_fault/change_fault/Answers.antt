@@ -1,23 +1,19 @@
-use Rattle.std.proofs.Common.{◌≡◌, ℕ, ◌+◌, ◌/◌, ◌<◌, List, [], length, get_or, Contains, arith, sym, ◌∙◌, subst}
+use Rattle.std.proofs.Common.{ℕ, ◌+◌, ◌/◌, ◌<◌, List, [], length, arith, sym, ◌∙◌, subst}
 use Rattle.std.proofs.lemmas.List.{get_or_default, get_or_read}
-use Rattle.std.proofs.lemmas.List.Elements.{Contains-get_or}
 use Rattle.igp_theory.specs.States.{State, state_of}
 use Rattle.loop_finder.specs.Faults.{state_in}
 use Rattle.loop_finder.specs.Orders.{IsStateOf}
 use Rattle.loop_finder.specs.Verdicts.{Sound}
 use Rattle.loop_finder.specs.Watches.{ArePlacesOf}
-use Rattle.loop_finder.proofs.OrderStates.{same_state, state_advanced, state_stays}
+use Rattle.loop_finder.proofs.OrderStates.{changed_inside, same_state, state_advanced, state_stays}
 use Rattle.loop_finder.proofs.WatchLaws.{sound_after, faulty_after}
 use Rattle.loop_finder.proofs.order_fault.change_fault.Goals as goal
 
 pub advance-requires : goal.advance-requires
 advance-requires g c =
-    let within : c.args.k / 2 < length c.args.order.now = c.in-Some.ensures.lookup.3.0 in
-    let read : c.in-Some.router.now ≡ get_or c.args.order.now (c.args.k / 2) 0 =
-    get_or_read c.args.order.now (c.args.k / 2) c.in-Some.router.now within c.in-Some.ensures.lookup.1 0 in
     let below : c.in-Some.router.now < length c.args.mixed.now.net =
-    c.requires.routers c.in-Some.router.now (subst (λ (u : ℕ). Contains c.args.order.now u) (sym read)
-    (Contains-get_or c.args.order.now (c.args.k / 2) 0 within)) in
+    changed_inside c.args.order.now (length c.args.mixed.now.net) (c.args.k / 2) c.in-Some.router.now c.requires.routers c.in-Some.ensures.lookup.3.0
+    (get_or_read c.args.order.now (c.args.k / 2) c.in-Some.router.now c.in-Some.ensures.lookup.3.0 c.in-Some.ensures.lookup.1 0) in
     omega (arith, below, c.requires.many)
 
 pub returns-in_default-clause-state : goal.returns-in_default-clause-state
@@ -31,12 +27,9 @@ returns-clause-state g c =
 
 pub turned_fault-requires-clause-places : goal.turned_fault-requires-clause-places
 turned_fault-requires-clause-places g c =
-    let place : c.args.k / 2 < length c.args.order.now = c.in-Some.ensures.lookup.3.0 in
-    let read : c.in-Some.router.now ≡ get_or c.args.order.now (c.args.k / 2) 0 =
-    get_or_read c.args.order.now (c.args.k / 2) c.in-Some.router.now place c.in-Some.ensures.lookup.1 0 in
     let inside : c.in-Some.router.now < length c.args.mixed.now.net =
-    c.requires.routers c.in-Some.router.now (subst (λ (u : ℕ). Contains c.args.order.now u) (sym read)
-    (Contains-get_or c.args.order.now (c.args.k / 2) 0 place)) in
+    changed_inside c.args.order.now (length c.args.mixed.now.net) (c.args.k / 2) c.in-Some.router.now c.requires.routers c.in-Some.ensures.lookup.3.0
+    (get_or_read c.args.order.now (c.args.k / 2) c.in-Some.router.now c.in-Some.ensures.lookup.3.0 c.in-Some.ensures.lookup.1 0) in
     let within : c.in-Some.router.now < length c.args.watch.now = omega (arith, c.requires.watch.many, inside) in
     subst (λ (xs : List ℕ). ArePlacesOf c.args.parts.now c.in-Some.router.now xs)
     (sym (c.as_slice-places.ensures ∙ c.index-watch-router.is ∙ get_or_default c.args.watch.now c.in-Some.router.now c.index-watch-router.result [] within))
@@ -44,11 +37,8 @@ turned_fault-requires-clause-places g c =
 
 pub turned_fault-requires-clause-router : goal.turned_fault-requires-clause-router
 turned_fault-requires-clause-router g c =
-    let within : c.args.k / 2 < length c.args.order.now = c.in-Some.ensures.lookup.3.0 in
-    let read : c.in-Some.router.now ≡ get_or c.args.order.now (c.args.k / 2) 0 =
-    get_or_read c.args.order.now (c.args.k / 2) c.in-Some.router.now within c.in-Some.ensures.lookup.1 0 in
-    c.requires.routers c.in-Some.router.now (subst (λ (u : ℕ). Contains c.args.order.now u) (sym read)
-    (Contains-get_or c.args.order.now (c.args.k / 2) 0 within))
+    changed_inside c.args.order.now (length c.args.mixed.now.net) (c.args.k / 2) c.in-Some.router.now c.requires.routers c.in-Some.ensures.lookup.3.0
+    (get_or_read c.args.order.now (c.args.k / 2) c.in-Some.router.now c.in-Some.ensures.lookup.3.0 c.in-Some.ensures.lookup.1 0)
 
 pub returns-clause-sound : goal.returns-clause-sound
 returns-clause-sound g c =

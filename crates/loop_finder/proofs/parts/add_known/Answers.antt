@@ -1,10 +1,7 @@
-use Rattle.std.proofs.Common.{◌+◌, Bool, List, length, sym, subst}
-use Rattle.loop_finder.specs.steps.Ends.{EndStep}
-use Rattle.loop_finder.specs.steps.Making.{ends_of}
+use Rattle.std.proofs.Common.{◌+◌, List, sym, subst}
 use Rattle.loop_finder.specs.Parts.{ClassPart, AreParts, IsCovered}
-use Rattle.loop_finder.specs.Returns.{MarksReturns}
 use Rattle.loop_finder.proofs.PartLists.{AreParts-more, AreParts-push}
-use Rattle.loop_finder.proofs.PartRows.{returns_ever}
+use Rattle.loop_finder.proofs.PartRows.{returns_known}
 use Rattle.loop_finder.proofs.parts.add_known.Goals as goal
 
 pub returns-then-is_covered : goal.returns-then-is_covered
@@ -15,10 +12,8 @@ returns-then-is_covered g c =
 
 pub build-requires-clause-returns : goal.build-requires-clause-returns
 build-requires-clause-returns g c =
-    returns_ever g.O.RouteSource.table g.N.RouteSource.table c.args.mixed.now c.args.atom c.args.making.now.known c.as_slice-marks.result.now
-    c.requires.read
-    (subst (λ (marks : List Bool). MarksReturns (EndStep (ends_of c.args.making.now.known (length c.args.mixed.now.net))) marks)
-    (sym c.as_slice-marks.ensures.value) c.requires.making.returns)
+    returns_known g.O.RouteSource.table g.N.RouteSource.table c.args.mixed.now c.args.atom c.args.making.now c.as_slice-marks.result.now
+    c.requires.making c.requires.read c.as_slice-marks.ensures.value
 
 pub returns : goal.returns
 returns g c =

@@ -1,28 +1,21 @@
-use Rattle.std.proofs.Common.{Bool, List, length, arith, sym, subst}
-use Rattle.loop_finder.specs.steps.Ends.{EndStep}
-use Rattle.loop_finder.specs.steps.Making.{ends_of}
+use Rattle.std.proofs.Common.{arith}
 use Rattle.loop_finder.specs.Parts.{never_unsound}
-use Rattle.loop_finder.specs.Returns.{MarksReturns}
 use Rattle.loop_finder.proofs.OnFalse.{on_true}
 use Rattle.loop_finder.proofs.PartLaws.{never_unsound as clear_never}
 use Rattle.loop_finder.proofs.PartLists.{earlier_covers}
-use Rattle.loop_finder.proofs.PartRows.{returns_ever}
+use Rattle.loop_finder.proofs.PartRows.{returns_known}
 use Rattle.loop_finder.proofs.parts.is_covered.Goals as goal
 
 pub returns-then-none_marked : goal.returns-then-none_marked
 returns-then-none_marked g c =
     never_unsound (clear_never g.O.RouteSource.table g.N.RouteSource.table c.args.mixed.now c.args.atom c.as_slice-marks.result.now c.requires.all
-    (returns_ever g.O.RouteSource.table g.N.RouteSource.table c.args.mixed.now c.args.atom c.args.making.now.known c.as_slice-marks.result.now
-    c.requires.read
-    (subst (λ (marks : List Bool). MarksReturns (EndStep (ends_of c.args.making.now.known (length c.args.mixed.now.net))) marks)
-    (sym c.as_slice-marks.ensures.value) c.requires.making.returns)) c.if-none_marked.ensures)
+    (returns_known g.O.RouteSource.table g.N.RouteSource.table c.args.mixed.now c.args.atom c.args.making.now c.as_slice-marks.result.now
+    c.requires.making c.requires.read c.as_slice-marks.ensures.value) c.if-none_marked.ensures)
 
 pub returns : goal.returns
 returns g c =
     on_true c.has_earlier.result c.has_earlier.ensures
     (earlier_covers g.O.RouteSource.table g.N.RouteSource.table c.args.mixed.now c.args.parts.now c.args.atom c.as_slice-marks.result.now
     c.requires.parts c.requires.atom (omega (arith, c.requires.making.marks_many))
-    (returns_ever g.O.RouteSource.table g.N.RouteSource.table c.args.mixed.now c.args.atom c.args.making.now.known c.as_slice-marks.result.now
-    c.requires.read
-    (subst (λ (marks : List Bool). MarksReturns (EndStep (ends_of c.args.making.now.known (length c.args.mixed.now.net))) marks)
-    (sym c.as_slice-marks.ensures.value) c.requires.making.returns)) c.requires.all)
+    (returns_known g.O.RouteSource.table g.N.RouteSource.table c.args.mixed.now c.args.atom c.args.making.now c.as_slice-marks.result.now
+    c.requires.making c.requires.read c.as_slice-marks.ensures.value) c.requires.all)

@@ -11,7 +11,8 @@ pub loop-atom-init : goal.loop-atom-init
 loop-atom-init g c =
     let routers : c.routers.result ≡ length c.args.mixed.now.net = c.routers.ensures.count ∙ ap (λ (n : Network). length n) c.net.ensures in
     record {
-      making = subst (λ (n : ℕ). IsMaking n c.in_ok-making.making) routers c.in_ok-making.ensures;
+      making = subst (λ (n : ℕ). IsMaking n c.in_ok-making.making) routers c.in_ok-making.ensures.making;
+      known = rw (c.in_ok-making.ensures.known) tt;
       parts = subst (λ (xs : List ClassPart). AreParts g.O.RouteSource.table g.N.RouteSource.table c.args.mixed.now xs 0) (sym c.new-parts.ensures.items)
           (AreParts-none g.O.RouteSource.table g.N.RouteSource.table c.args.mixed.now c.atoms.ensures.classes);
     }

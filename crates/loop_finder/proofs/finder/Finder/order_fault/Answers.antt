@@ -1,8 +1,8 @@
 use Rattle.std.proofs.Common.{ℕ, ◌↔◌, List, IsNone, length, subst, sym, ap, ◌∙◌, arith}
-use Rattle.route_core.specs.Tables.{HasEntry}
 use Rattle.order_core.specs.Orders.{IsOrder}
 use Rattle.order_core.proofs.Orders.{order_length}
 use Rattle.igp_theory.specs.States.{State, IsSeamless, state_of}
+use Rattle.rib_mix.specs.Mixture.{migration_of}
 use Rattle.loop_finder.specs.Faults.{Finding}
 use Rattle.loop_finder.specs.Orders.{AreFirstStates}
 use Rattle.loop_finder.specs.Verdicts.{Sound}
@@ -13,10 +13,9 @@ use Rattle.loop_finder.proofs.finder.Finder.order_fault.Goals as goal
 pub returns-clause-seamless : goal.returns-clause-seamless
 returns-clause-seamless g c =
     subst (λ (x : Finding g.row.O.Denot g.row.N.Denot). IsNone c.order_fault-found.result
-    ↔ IsSeamless x.mixture.net (HasEntry (g.O.RouteSource.table x.mixture.old)) (HasEntry (g.N.RouteSource.table x.mixture.new)) c.args.order.now)
+    ↔ IsSeamless (migration_of g.O.RouteSource.table g.N.RouteSource.table x.mixture) c.args.order.now)
     c.self.view_is
-    (none_seamless c.self.inside.mixed.now.net (HasEntry (g.O.RouteSource.table c.self.inside.mixed.now.old))
-    (HasEntry (g.N.RouteSource.table c.self.inside.mixed.now.new))
+    (none_seamless (migration_of g.O.RouteSource.table g.N.RouteSource.table c.self.inside.mixed.now)
     c.args.order.now c.order_fault-found.result c.order_fault-found.new.room.ring.items
     (subst (λ (x : Finding g.row.O.Denot g.row.N.Denot). IsOrder (length x.mixture.net) c.args.order.now) (sym c.self.view_is) c.requires)
     c.order_fault-found.ensures.sound c.order_fault-found.ensures.within c.order_fault-found.ensures.fault)

@@ -1,6 +1,6 @@
 use Rattle.std.proofs.Common.{◌↔◌, IsNone, subst}
-use Rattle.route_core.specs.Tables.{HasEntry}
 use Rattle.igp_theory.specs.States.{IsSound}
+use Rattle.rib_mix.specs.Mixture.{migration_of}
 use Rattle.loop_finder.specs.Faults.{Finding, state_in}
 use Rattle.loop_finder.proofs.FaultLaws.{none_sound}
 use Rattle.loop_finder.proofs.finder.Finder.state_fault.Goals as goal
@@ -8,8 +8,7 @@ use Rattle.loop_finder.proofs.finder.Finder.state_fault.Goals as goal
 pub returns-clause-sound : goal.returns-clause-sound
 returns-clause-sound g c =
     subst (λ (x : Finding g.row.O.Denot g.row.N.Denot). IsNone c.state_fault.result
-    ↔ IsSound x.mixture.net (HasEntry (g.O.RouteSource.table x.mixture.old)) (HasEntry (g.N.RouteSource.table x.mixture.new)) (state_in c.args.phases.now))
+    ↔ IsSound (migration_of g.O.RouteSource.table g.N.RouteSource.table x.mixture) (state_in c.args.phases.now))
     c.self.view_is
-    (none_sound c.self.inside.mixed.now.net (HasEntry (g.O.RouteSource.table c.self.inside.mixed.now.old))
-    (HasEntry (g.N.RouteSource.table c.self.inside.mixed.now.new))
+    (none_sound (migration_of g.O.RouteSource.table g.N.RouteSource.table c.self.inside.mixed.now)
     (state_in c.args.phases.now) c.state_fault.result c.state_fault.new.room.ring.items c.state_fault.ensures.sound c.state_fault.ensures.fault)
