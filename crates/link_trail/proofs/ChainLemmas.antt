@@ -5,7 +5,7 @@ use Rattle.std.proofs.lemmas.List.{get_or-set_same, get_or-set_other, length-set
 use Rattle.link_trail.specs.declared.chain.Node.{Node}
 use Rattle.link_trail.specs.declared.chain.Ends.{Ends}
 use Rattle.link_trail.specs.Lists.{first_node, first_or}
-use Rattle.link_trail.specs.Chains.{free_node, node_at, ends_at, no_ends, last_or, last_node, IsNoneOf, IsDistinct, AreChained}
+use Rattle.link_trail.specs.Chains.{stretch_between, free_node, node_at, ends_at, no_ends, last_or, last_node, IsNoneOf, IsDistinct, AreChained}
 use Rattle.link_trail.specs.steps.Splices.{with_first, with_last, with_next, with_previous}
 
 -- the ends of joined lists
@@ -85,20 +85,20 @@ none-first z w (x ∷ xs) h e = λ k. h.0 (let q : z ≡ x = cc in q)
 
 -- the nodes of a chain stand in its list
 pub last-list : (nodes : List Node) (list : ℕ) (previous : Option ℕ) (xs : List ℕ) (next : Option ℕ) →
-    AreChained nodes list previous xs next → (z : ℕ) → last_node xs ≡ Some z → (node_at nodes z).list ≡ Some list
+    AreChained nodes (stretch_between list previous next) xs → (z : ℕ) → last_node xs ≡ Some z → (node_at nodes z).list ≡ Some list
 last-list nodes list previous [] next h z e = absurd (let k : Some z ≡ None = sym e in cc)
 last-list nodes list previous (x ∷ []) next h z e =
     subst (λ w. (node_at nodes w).list ≡ Some list) (let k : x ≡ z = cc in k) (ap (λ (n : Node). n.list) h.0)
 last-list nodes list previous (x ∷ y ∷ xs) next h z e = last-list nodes list (Some x) (y ∷ xs) next h.1 z e
 
 pub first-list : (nodes : List Node) (list : ℕ) (previous : Option ℕ) (xs : List ℕ) (next : Option ℕ) →
-    AreChained nodes list previous xs next → (z : ℕ) → first_node xs ≡ Some z → (node_at nodes z).list ≡ Some list
+    AreChained nodes (stretch_between list previous next) xs → (z : ℕ) → first_node xs ≡ Some z → (node_at nodes z).list ≡ Some list
 first-list nodes list previous [] next h z e = absurd (let k : Some z ≡ None = sym e in cc)
 first-list nodes list previous (x ∷ xs) next h z e =
     subst (λ w. (node_at nodes w).list ≡ Some list) (let k : x ≡ z = cc in k) (ap (λ (n : Node). n.list) h.0)
 
 pub other-list : (nodes : List Node) (list : ℕ) (previous : Option ℕ) (xs : List ℕ) (next : Option ℕ) →
-    AreChained nodes list previous xs next → (z : ℕ) → (node_at nodes z).list ≢ Some list → IsNoneOf z xs
+    AreChained nodes (stretch_between list previous next) xs → (z : ℕ) → (node_at nodes z).list ≢ Some list → IsNoneOf z xs
 other-list nodes list previous [] next h z ne = tt
 other-list nodes list previous (x ∷ xs) next h z ne = (
   λ e. ne (ap (λ w. (node_at nodes w).list) e ∙ ap (λ (n : Node). n.list) h.0),
@@ -132,26 +132,26 @@ length-previous nodes (Some p) w = length-set nodes p _
 
 -- a chain stays where the write is to none of its nodes
 pub chained-set : (nodes : List Node) (list : ℕ) (previous : Option ℕ) (xs : List ℕ) (next : Option ℕ) (z : ℕ) (v : Node) →
-    IsNoneOf z xs → AreChained nodes list previous xs next → AreChained (set nodes z v) list previous xs next
+    IsNoneOf z xs → AreChained nodes (stretch_between list previous next) xs → AreChained (set nodes z v) (stretch_between list previous next) xs
 chained-set nodes list previous [] next z v n h = tt
 chained-set nodes list previous (x ∷ xs) next z v n h =
     (get_or-set_other nodes z x v free_node (λ e. n.0 (sym e)) ∙ h.0, chained-set nodes list (Some x) xs next z v n.1 h.1)
 
 pub chained-next : (nodes : List Node) (list : ℕ) (previous : Option ℕ) (xs : List ℕ) (next : Option ℕ) (o w : Option ℕ) →
-    ((z : ℕ) → o ≡ Some z → IsNoneOf z xs) → AreChained nodes list previous xs next →
-    AreChained (with_next nodes o w) list previous xs next
+    ((z : ℕ) → o ≡ Some z → IsNoneOf z xs) → AreChained nodes (stretch_between list previous next) xs →
+    AreChained (with_next nodes o w) (stretch_between list previous next) xs
 chained-next nodes list previous xs next None w n h = h
 chained-next nodes list previous xs next (Some z) w n h = chained-set nodes list previous xs next z _ (n z refl) h
 
 pub chained-previous : (nodes : List Node) (list : ℕ) (previous : Option ℕ) (xs : List ℕ) (next : Option ℕ) (o w : Option ℕ) →
-    ((z : ℕ) → o ≡ Some z → IsNoneOf z xs) → AreChained nodes list previous xs next →
-    AreChained (with_previous nodes o w) list previous xs next
+    ((z : ℕ) → o ≡ Some z → IsNoneOf z xs) → AreChained nodes (stretch_between list previous next) xs →
+    AreChained (with_previous nodes o w) (stretch_between list previous next) xs
 chained-previous nodes list previous xs next None w n h = h
 chained-previous nodes list previous xs next (Some z) w n h = chained-set nodes list previous xs next z _ (n z refl) h
 
 -- parts of a chain
 pub chained-left : (nodes : List Node) (list : ℕ) (previous : Option ℕ) (before after : List ℕ) (next : Option ℕ) →
-    AreChained nodes list previous (before ++ after) next → AreChained nodes list previous before (first_or after next)
+    AreChained nodes (stretch_between list previous next) (before ++ after) → AreChained nodes (stretch_between list previous (first_or after next)) before
 chained-left nodes list previous [] after next h = tt
 chained-left nodes list previous (x ∷ before) after next h = (
   subst (λ (o : Option ℕ). node_at nodes x ≡ record { list = Some list; previous = previous; next = o }) (first-append before after next) h.0,
@@ -159,13 +159,14 @@ chained-left nodes list previous (x ∷ before) after next h = (
 )
 
 pub chained-right : (nodes : List Node) (list : ℕ) (previous : Option ℕ) (before after : List ℕ) (next : Option ℕ) →
-    AreChained nodes list previous (before ++ after) next → AreChained nodes list (last_or previous before) after next
+    AreChained nodes (stretch_between list previous next) (before ++ after) → AreChained nodes (stretch_between list (last_or previous before) next) after
 chained-right nodes list previous [] after next h = h
 chained-right nodes list previous (x ∷ before) after next h = chained-right nodes list (Some x) before after next h.1
 
 pub chained-join : (nodes : List Node) (list : ℕ) (previous : Option ℕ) (before after : List ℕ) (next : Option ℕ) →
-    AreChained nodes list previous before (first_or after next) → AreChained nodes list (last_or previous before) after next →
-    AreChained nodes list previous (before ++ after) next
+    AreChained nodes (stretch_between list previous (first_or after next)) before →
+    AreChained nodes (stretch_between list (last_or previous before) next) after →
+    AreChained nodes (stretch_between list previous next) (before ++ after)
 chained-join nodes list previous [] after next h k = k
 chained-join nodes list previous (x ∷ before) after next h k = (
   subst (λ (o : Option ℕ). node_at nodes x ≡ record { list = Some list; previous = previous; next = o }) (sym (first-append before after next)) h.0,
@@ -174,8 +175,8 @@ chained-join nodes list previous (x ∷ before) after next h k = (
 
 -- a chain that goes on elsewhere after its last node, and one that comes from elsewhere before its first
 pub chained-onward : (nodes : List Node) (list : ℕ) (previous : Option ℕ) (xs : List ℕ) (next onward : Option ℕ) →
-    IsDistinct xs → AreChained nodes list previous xs next →
-    AreChained (with_next nodes (last_node xs) onward) list previous xs onward
+    IsDistinct xs → AreChained nodes (stretch_between list previous next) xs →
+    AreChained (with_next nodes (last_node xs) onward) (stretch_between list previous onward) xs
 chained-onward nodes list previous [] next onward d h = tt
 chained-onward nodes list previous (x ∷ []) next onward d h = (
   get_or-set_same nodes x _ free_node (linked-in_range nodes list x (ap (λ (n : Node). n.list) h.0))
@@ -188,8 +189,8 @@ chained-onward nodes list previous (x ∷ y ∷ xs) next onward d h = (
 )
 
 pub chained-origin : (nodes : List Node) (list : ℕ) (previous origin : Option ℕ) (xs : List ℕ) (next : Option ℕ) →
-    IsDistinct xs → AreChained nodes list previous xs next →
-    AreChained (with_previous nodes (first_node xs) origin) list origin xs next
+    IsDistinct xs → AreChained nodes (stretch_between list previous next) xs →
+    AreChained (with_previous nodes (first_node xs) origin) (stretch_between list origin next) xs
 chained-origin nodes list previous origin [] next d h = tt
 chained-origin nodes list previous origin (x ∷ xs) next d h = (
   get_or-set_same nodes x _ free_node (linked-in_range nodes list x (ap (λ (n : Node). n.list) h.0))

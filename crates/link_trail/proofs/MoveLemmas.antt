@@ -3,7 +3,7 @@ use Rattle.std.proofs.Common.{◌≡◌, ℕ, suc, ◌≤◌, List, [], ◌∷�
 use Rattle.link_trail.specs.declared.chain.Node.{Node}
 use Rattle.link_trail.specs.declared.moves.Move.{Move}
 use Rattle.link_trail.specs.declared.moves.Move.TheVariants.{Linked, Unlinked}
-use Rattle.link_trail.specs.Chains.{node_at, last_node, AreChained}
+use Rattle.link_trail.specs.Chains.{stretch_between, node_at, last_node, AreChained}
 use Rattle.link_trail.specs.Moves.{moved, lists_after, lists_before, IsTakenBackBy, AllFit}
 
 -- one move more
@@ -40,15 +40,7 @@ fit-last nodes lists (m ∷ moves) move h = fit-last nodes (moved lists m) moves
 pub fits-wider : (nodes wider : ℕ) (lists : List (List ℕ)) (move : Move) → nodes ≤ wider → IsTakenBackBy nodes lists move →
     IsTakenBackBy wider lists move
 fits-wider nodes wider lists (Linked list node) le h = h
-fits-wider nodes wider lists (Unlinked list node previous) le h = record {
-  before = h.before;
-  after = h.after;
-  list_in_range = h.list_in_range;
-  node_in_range = omega (arith, h.node_in_range);
-  stood = h.stood;
-  follows = h.follows;
-  alone = h.alone;
-}
+fits-wider nodes wider lists (Unlinked list node previous) le h = (omega (arith, h.0), h.1)
 
 pub fit-wider : (nodes wider : ℕ) (lists : List (List ℕ)) (moves : List Move) → nodes ≤ wider → AllFit nodes lists moves →
     AllFit wider lists moves
@@ -57,7 +49,7 @@ fit-wider nodes wider lists (m ∷ moves) le h = (fits-wider nodes wider lists m
 
 -- what goes on after the last node of a chain
 pub last-next : (nodes : List Node) (list : ℕ) (previous : Option ℕ) (xs : List ℕ) (next : Option ℕ) →
-    AreChained nodes list previous xs next → (z : ℕ) → last_node xs ≡ Some z → (node_at nodes z).next ≡ next
+    AreChained nodes (stretch_between list previous next) xs → (z : ℕ) → last_node xs ≡ Some z → (node_at nodes z).next ≡ next
 last-next nodes list previous [] next h z e = absurd (let k : Some z ≡ None = sym e in cc)
 last-next nodes list previous (x ∷ []) next h z e =
     subst (λ w. (node_at nodes w).next ≡ next) (let k : x ≡ z = cc in k) (ap (λ (n : Node). n.next) h.0)

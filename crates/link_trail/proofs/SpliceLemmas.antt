@@ -7,7 +7,8 @@ use Rattle.link_trail.proofs.ListLemmas.{free-before, free-none}
 use Rattle.link_trail.specs.declared.chain.Node.{Node}
 use Rattle.link_trail.specs.declared.chain.Ends.{Ends}
 use Rattle.link_trail.specs.Lists.{first_node, first_or, IsFree, list_at}
-use Rattle.link_trail.specs.Chains.{free_node, node_at, ends_at, last_or, last_node, IsNoneOf, IsDistinct, AreChained, ShowsList, ShowsLists}
+use Rattle.link_trail.specs.Chains.{stretch_between, free_node, node_at, ends_at, last_or, last_node, IsNoneOf, IsDistinct, AreChained}
+use Rattle.link_trail.specs.Chains.{ShowsList, ShowsLists}
 use Rattle.link_trail.specs.steps.Splices.{with_previous, with_first, with_last, with_next}
 use Rattle.link_trail.proofs.ChainLemmas.{first-append, last-append, none-append, none-put, none-out, distinct-left, distinct-right, distinct-put}
 use Rattle.link_trail.proofs.ChainLemmas.{distinct-out, last-apart, first-apart, none-last, none-first, last-list, first-list, other-list, linked-in_range}
@@ -37,8 +38,8 @@ spliced-other nodes previous onward next origin node v z nz np nn =
 module _ (nodes : List Node) (list node : ℕ) (before after : List ℕ) (onward origin : Option ℕ) (v : Node) where
   -- the nodes before the place go on to `onward`
   pub spliced-front : (next : Option ℕ) → IsDistinct (before ++ after) → IsNoneOf node before →
-      AreChained nodes list None before next →
-      AreChained (spliced nodes (last_node before) onward (first_node after) origin node v) list None before onward
+      AreChained nodes (stretch_between list None next) before →
+      AreChained (spliced nodes (last_node before) onward (first_node after) origin node v) (stretch_between list None onward) before
   spliced-front next d none h =
       chained-set (with_previous (with_next nodes (last_node before) onward) (first_node after) origin) list None before onward node v none
       (chained-previous (with_next nodes (last_node before) onward) list None before onward (first_node after) origin
@@ -47,8 +48,8 @@ module _ (nodes : List Node) (list node : ℕ) (before after : List ℕ) (onward
 
   -- the nodes after the place come from `origin`
   pub spliced-back : (previous : Option ℕ) → IsDistinct (before ++ after) → IsNoneOf node after →
-      AreChained nodes list previous after None →
-      AreChained (spliced nodes (last_node before) onward (first_node after) origin node v) list origin after None
+      AreChained nodes (stretch_between list previous None) after →
+      AreChained (spliced nodes (last_node before) onward (first_node after) origin node v) (stretch_between list origin None) after
   spliced-back previous d none h =
       chained-set (with_previous (with_next nodes (last_node before) onward) (first_node after) origin) list origin after None node v none
       (chained-origin (with_next nodes (last_node before) onward) list previous origin after None (distinct-right before after d)
@@ -57,8 +58,8 @@ module _ (nodes : List Node) (list node : ℕ) (before after : List ℕ) (onward
   -- a chain that has none of the nodes that are written
   pub spliced-elsewhere : (other : ℕ) (xs : List ℕ) → IsNoneOf node xs →
       ((p : ℕ) → last_node before ≡ Some p → IsNoneOf p xs) → ((n : ℕ) → first_node after ≡ Some n → IsNoneOf n xs) →
-      AreChained nodes other None xs None →
-      AreChained (spliced nodes (last_node before) onward (first_node after) origin node v) other None xs None
+      AreChained nodes (stretch_between other None None) xs →
+      AreChained (spliced nodes (last_node before) onward (first_node after) origin node v) (stretch_between other None None) xs
   spliced-elsewhere other xs none np nn h =
       chained-set (with_previous (with_next nodes (last_node before) onward) (first_node after) origin) other None xs None node v none
       (chained-previous (with_next nodes (last_node before) onward) other None xs None (first_node after) origin nn
@@ -93,7 +94,7 @@ length-ends_written ends list before after onward origin =
 
 -- a node of one list is none of another
 pub elsewhere : (nodes : List Node) (list other : ℕ) (xs : List ℕ) (z : ℕ) → other ≢ list →
-    AreChained nodes other None xs None → (node_at nodes z).list ≡ Some list → IsNoneOf z xs
+    AreChained nodes (stretch_between other None None) xs → (node_at nodes z).list ≡ Some list → IsNoneOf z xs
 elsewhere nodes list other xs z ne h e =
     other-list nodes other None xs None h z (λ e'. ne (let q : other ≡ list = cc in q))
 
@@ -101,7 +102,7 @@ elsewhere nodes list other xs z ne h e =
 pub ShowsLists-changed : (nodes nodes' : List Node) (ends ends' : List Ends) (lists : List (List ℕ)) (list : ℕ) (xs : List ℕ) →
     ShowsLists nodes ends lists → list < length lists → length ends' ≡ length ends →
     ShowsList nodes' list (ends_at ends' list) xs →
-    ((other : ℕ) → other ≢ list → other < length lists → AreChained nodes' other None (list_at lists other) None) →
+    ((other : ℕ) → other ≢ list → other < length lists → AreChained nodes' (stretch_between other None None) (list_at lists other)) →
     ((other : ℕ) → other ≢ list → ends_at ends' other ≡ ends_at ends other) →
     ((z : ℕ) → IsFree (set lists list xs) z → node_at nodes' z ≡ free_node) →
     ShowsLists nodes' ends' (set lists list xs)
@@ -129,8 +130,8 @@ pub ShowsLists-node : (nodes : List Node) (ends : List Ends) (lists : List (List
     ShowsLists nodes ends lists → list_at lists list ≡ before ++ node ∷ after → list < length lists →
     node_at nodes node ≡ record { list = Some list; previous = last_node before; next = first_node after }
 ShowsLists-node nodes ends lists list node before after shows is l =
-    let s : AreChained nodes list None (before ++ node ∷ after) None =
-    subst (λ ys. AreChained nodes list None ys None) is (shows.each list l).chained in
+    let s : AreChained nodes (stretch_between list None None) (before ++ node ∷ after) =
+    subst (λ ys. AreChained nodes (stretch_between list None None) ys) is (shows.each list l).chained in
     (chained-right nodes list None before (node ∷ after) None s).0
 
 -- a node between two neighbours

@@ -1,5 +1,5 @@
 -- What holds of the fields of `Links` stays when a move is made or taken back.
-use Rattle.std.proofs.Common.{◌≡◌, ℕ, zero, suc, ◌-◌, ◌^◌, ◌<◌, ◌≤◌, Bool, true, false, cond, replicate, List, [], ◌∷◌}
+use Rattle.std.proofs.Common.{◌≡◌, ℕ, zero, suc, ◌-◌, ◌<◌, ◌≤◌, Bool, true, false, cond, replicate, List, [], ◌∷◌}
 use Rattle.std.proofs.Common.{◌++◌, length, Option, Some, None, get_or, set, take, drop, refl, sym, ap, ◌∙◌, subst, arith, length-append, append-nil}
 use Rattle.std.proofs.Common.{append_assoc, take_all}
 use Rattle.std.proofs.Math.Seq.{take-append_seam}
@@ -11,9 +11,9 @@ use Rattle.link_trail.specs.declared.chain.Ends.{Ends}
 use Rattle.link_trail.specs.declared.moves.Move.{Move}
 use Rattle.link_trail.specs.declared.moves.Move.TheVariants.{Linked, Unlinked}
 use Rattle.link_trail.specs.Lists.{first_node, first_or, IsApart, IsFree, IsLinked, linked, list_at, unlinked}
-use Rattle.link_trail.specs.Chains.{free_node, node_at, ends_at, last_node, AreChained, IsDistinct, ShowsLists}
-use Rattle.link_trail.specs.steps.Splices.{next_after, PutsBetween, TakesOut}
-use Rattle.link_trail.specs.Moves.{lists_after, no_lists, StoodAfter, AreWholeLinks}
+use Rattle.link_trail.specs.Chains.{stretch_between, free_node, node_at, ends_at, last_node, AreChained, IsDistinct, ShowsLists}
+use Rattle.link_trail.specs.steps.Splices.{kept, next_after, PutsBetween, TakesOut}
+use Rattle.link_trail.specs.Moves.{lists_after, no_lists, StoodAfter, AreLinks}
 use Rattle.link_trail.specs.steps.Undoing.{IsLatest, TakesBack}
 use Rattle.link_trail.proofs.ChainLemmas.{distinct-out, last-list, first-list, linked-in_range, chained-left, chained-right, last-some}
 use Rattle.link_trail.proofs.SpliceLemmas.{elsewhere, ShowsLists-node}
@@ -37,7 +37,7 @@ pub previous-in_range : (nodes : List Node) (ends : List Ends) (lists : List (Li
     ShowsLists nodes ends lists → list_at lists list ≡ before ++ after → list < length lists →
     (p : ℕ) → last_node before ≡ Some p → p < length nodes
 previous-in_range nodes ends lists list before after shows is l p e =
-    let s = subst (λ ys. AreChained nodes list None ys None) is (shows.each list l).chained in
+    let s = subst (λ ys. AreChained nodes (stretch_between list None None) ys) is (shows.each list l).chained in
     linked-in_range nodes list p
     (last-list nodes list None before (first_or after None) (chained-left nodes list None before after None s) p e)
 
@@ -45,7 +45,7 @@ pub next-in_range : (nodes : List Node) (ends : List Ends) (lists : List (List �
     ShowsLists nodes ends lists → list_at lists list ≡ before ++ after → list < length lists →
     (n : ℕ) → first_node after ≡ Some n → n < length nodes
 next-in_range nodes ends lists list before after shows is l n e =
-    let s = subst (λ ys. AreChained nodes list None ys None) is (shows.each list l).chained in
+    let s = subst (λ ys. AreChained nodes (stretch_between list None None) ys) is (shows.each list l).chained in
     linked-in_range nodes list n
     (first-list nodes list (last_node before) after None (chained-right nodes list None before after None s) n e)
 
@@ -55,7 +55,7 @@ pub next_after-is : (nodes : List Node) (ends : List Ends) (lists : List (List �
     next_after nodes ends list (last_node before) ≡ first_node after
 next_after-is nodes ends lists list [] after shows is l = (shows.each list l).first ∙ ap first_node is
 next_after-is nodes ends lists list (x ∷ before) after shows is l =
-    let s = subst (λ ys. AreChained nodes list None ys None) is (shows.each list l).chained in
+    let s = subst (λ ys. AreChained nodes (stretch_between list None None) ys) is (shows.each list l).chained in
     let z = last-some x before in
     subst (λ o. next_after nodes ends list o ≡ first_node after) (sym z.1)
     (last-next nodes list None (x ∷ before) (first_node after)
@@ -115,13 +115,12 @@ ShowsLists-apart nodes ends lists shows = record {
 }
 
 -- a node is linked
-pub whole-linked : (nodes nodes' : List Node) (ends ends' : List Ends) (moves : List Move) (room capacity capacity' list node : ℕ) →
-    AreWholeLinks nodes ends moves room capacity → list < length ends →
+pub links-linked : (nodes nodes' : List Node) (ends ends' : List Ends) (moves : List Move) (list node : ℕ) →
+    AreLinks nodes ends moves → list < length ends →
     IsFree (lists_after (no_lists (length ends)) moves) node →
-    PutsBetween nodes ends nodes' ends' list node (ends_at ends list).last None →
-    length nodes' ≡ length nodes → length ends' ≡ length ends → length moves < room → capacity ≤ capacity' →
-    AreWholeLinks nodes' ends' (moves ++ Linked list node ∷ []) room capacity'
-whole-linked nodes nodes' ends ends' moves room capacity capacity' list node whole l free puts ln le spare reserved =
+    PutsBetween (kept nodes ends) (kept nodes' ends') (stretch_between list (ends_at ends list).last None) node →
+    length nodes' ≡ length nodes → length ends' ≡ length ends → AreLinks nodes' ends' (moves ++ Linked list node ∷ [])
+links-linked nodes nodes' ends ends' moves list node whole l free puts ln le =
     let start = no_lists (length ends) in
     let lists = lists_after start moves in
     let ll : list < length lists = omega (arith, whole.shown.count) in
@@ -131,21 +130,16 @@ whole-linked nodes nodes' ends ends' moves room capacity capacity' list node who
     record {
       shown = rw (le, after-more start moves (Linked list node)) shown;
       fit = rw (le, ln) (fit-more (length nodes) start moves (Linked list node) whole.fit ll);
-      within = omega (arith, length-append moves (Linked list node ∷ []));
-      reserved = omega (arith, whole.reserved);
-      bound = whole.bound;
     }
 
 -- a node is unlinked
-pub whole-unlinked : (nodes nodes' : List Node) (ends ends' : List Ends) (moves : List Move) (room capacity capacity' list node : ℕ)
-    (previous : Option ℕ) →
-    AreWholeLinks nodes ends moves room capacity →
+pub links-unlinked : (nodes nodes' : List Node) (ends ends' : List Ends) (moves : List Move) (list node : ℕ) (previous : Option ℕ) →
+    AreLinks nodes ends moves →
     IsLinked (lists_after (no_lists (length ends)) moves) node →
     (node_at nodes node).list ≡ Some list → (node_at nodes node).previous ≡ previous →
-    TakesOut nodes ends nodes' ends' list node →
-    length nodes' ≡ length nodes → length ends' ≡ length ends → length moves < room → capacity ≤ capacity' →
-    AreWholeLinks nodes' ends' (moves ++ Unlinked list node previous ∷ []) room capacity'
-whole-unlinked nodes nodes' ends ends' moves room capacity capacity' list node previous whole linked own own' takes ln le spare reserved =
+    TakesOut (kept nodes ends) (kept nodes' ends') list node →
+    length nodes' ≡ length nodes → length ends' ≡ length ends → AreLinks nodes' ends' (moves ++ Unlinked list node previous ∷ [])
+links-unlinked nodes nodes' ends ends' moves list node previous whole linked own own' takes ln le =
     let start = no_lists (length ends) in
     let lists = lists_after start moves in
     let s = stands nodes ends lists node whole.shown linked in
@@ -155,26 +149,22 @@ whole-unlinked nodes nodes' ends ends' moves room capacity capacity' list node p
     subst (λ k. unlinked lists node ≡ set lists k (s.before ++ s.after)) same s.alone in
     let shown : ShowsLists nodes' ends' (unlinked lists node) =
     subst (λ ls. ShowsLists nodes' ends' ls) (sym alone) (takes.shows lists s.before s.after whole.shown stood) in
-    let fits : StoodAfter (length nodes) lists list node previous = record {
+    let fits : StoodAfter lists list node previous = record {
       before = s.before;
       after = s.after;
       list_in_range = omega (arith, s.list_in_range);
-      node_in_range = s.node_in_range;
       stood = stood;
       follows = sym (ap (λ (n : Node). n.previous) s.is) ∙ own';
       alone = alone;
     } in
     record {
       shown = rw (le, after-more start moves (Unlinked list node previous)) shown;
-      fit = rw (le, ln) (fit-more (length nodes) start moves (Unlinked list node previous) whole.fit fits);
-      within = omega (arith, length-append moves (Unlinked list node previous ∷ []));
-      reserved = omega (arith, whole.reserved);
-      bound = whole.bound;
+      fit = rw (le, ln) (fit-more (length nodes) start moves (Unlinked list node previous) whole.fit (s.node_in_range, fits));
     }
 
 -- taking back a link
 pub take_back-linked : (nodes nodes' : List Node) (ends ends' : List Ends) (list node : ℕ) →
-    TakesOut nodes ends nodes' ends' list node → TakesBack nodes ends nodes' ends' (Linked list node)
+    TakesOut (kept nodes ends) (kept nodes' ends') list node → TakesBack (kept nodes ends) (kept nodes' ends') (Linked list node)
 take_back-linked nodes nodes' ends ends' list node takes = record {
   shows = λ lists l shown.
       let last : List ℕ = list_at lists list ++ node ∷ [] in
@@ -186,10 +176,11 @@ take_back-linked nodes nodes' ends ends' list node takes = record {
 
 -- taking back an unlink
 pub take_back-unlinked : (nodes nodes' : List Node) (ends ends' : List Ends) (list node : ℕ) (previous next : Option ℕ) →
-    next ≡ next_after nodes ends list previous → PutsBetween nodes ends nodes' ends' list node previous next →
-    TakesBack nodes ends nodes' ends' (Unlinked list node previous)
+    next ≡ next_after nodes ends list previous → PutsBetween (kept nodes ends) (kept nodes' ends') (stretch_between list previous next) node →
+    TakesBack (kept nodes ends) (kept nodes' ends') (Unlinked list node previous)
 take_back-unlinked nodes nodes' ends ends' list node previous next en puts = record {
-  shows = λ lists f shown.
+  shows = λ lists fits shown.
+      let f = fits.1 in
       let rest : List ℕ = f.before ++ f.after in
       let shown' : ShowsLists nodes ends (set lists list rest) = subst (λ ls. ShowsLists nodes ends ls) f.alone shown in
       let free : IsFree (set lists list rest) node = subst (λ ls. IsFree ls node) f.alone (unlinked-free lists node) in
@@ -205,10 +196,10 @@ take_back-unlinked nodes nodes' ends ends' list node previous next en puts = rec
 }
 
 -- the latest move is taken back
-pub latest : (nodes : List Node) (ends : List Ends) (all moves : List Move) (move : Move) (room capacity : ℕ) →
-    all ≡ moves ++ move ∷ [] → AreWholeLinks nodes ends all room capacity → IsLatest nodes ends move
-latest nodes ends all moves move room capacity e w =
-    let whole : AreWholeLinks nodes ends (moves ++ move ∷ []) room capacity = subst (λ ms. AreWholeLinks nodes ends ms room capacity) e w in
+pub latest : (nodes : List Node) (ends : List Ends) (all moves : List Move) (move : Move) →
+    all ≡ moves ++ move ∷ [] → AreLinks nodes ends all → IsLatest nodes ends move
+latest nodes ends all moves move e w =
+    let whole : AreLinks nodes ends (moves ++ move ∷ []) = subst (λ ms. AreLinks nodes ends ms) e w in
     let start = no_lists (length ends) in
     record {
       lists = lists_after start moves;
@@ -216,19 +207,16 @@ latest nodes ends all moves move room capacity e w =
       shown = subst (λ ls. ShowsLists nodes ends ls) (after-more start moves move) whole.shown;
     }
 
-pub whole-back : (nodes nodes' : List Node) (ends ends' : List Ends) (all moves : List Move) (move : Move) (room capacity capacity' : ℕ) →
-    all ≡ moves ++ move ∷ [] → AreWholeLinks nodes ends all room capacity → TakesBack nodes ends nodes' ends' move →
-    length nodes' ≡ length nodes → length ends' ≡ length ends → capacity ≤ capacity' → AreWholeLinks nodes' ends' moves room capacity'
-whole-back nodes nodes' ends ends' all moves move room capacity capacity' e w back ln le lc =
-    let whole : AreWholeLinks nodes ends (moves ++ move ∷ []) room capacity = subst (λ ms. AreWholeLinks nodes ends ms room capacity) e w in
+pub links-back : (nodes nodes' : List Node) (ends ends' : List Ends) (all moves : List Move) (move : Move) →
+    all ≡ moves ++ move ∷ [] → AreLinks nodes ends all → TakesBack (kept nodes ends) (kept nodes' ends') move →
+    length nodes' ≡ length nodes → length ends' ≡ length ends → AreLinks nodes' ends' moves
+links-back nodes nodes' ends ends' all moves move e w back ln le =
+    let whole : AreLinks nodes ends (moves ++ move ∷ []) = subst (λ ms. AreLinks nodes ends ms) e w in
     let start = no_lists (length ends) in
     record {
       shown = rw le (back.shows (lists_after start moves) (fit-last (length nodes) start moves move whole.fit)
           (subst (λ ls. ShowsLists nodes ends ls) (after-more start moves move) whole.shown));
       fit = rw (le, ln) (fit-front (length nodes) start moves move whole.fit);
-      within = omega (arith, whole.within, length-append moves (move ∷ []));
-      reserved = omega (arith, whole.reserved);
-      bound = whole.bound;
     }
 
 -- what a node's taking out asks for
@@ -278,13 +266,13 @@ pub gap-latest : (nodes : List Node) (ends : List Ends) (move : Move) (list node
     move ≡ Unlinked list node previous → IsLatest nodes ends move → IsGap nodes ends list previous × (node < length nodes)
 gap-latest nodes ends move list node previous e h =
     let is : IsLatest nodes ends (Unlinked list node previous) = subst (λ m. IsLatest nodes ends m) e h in
-    let f = is.fits in
+    let f = is.fits.1 in
     let rest : List ℕ = f.before ++ f.after in (
       subst (λ o. IsGap nodes ends list o) f.follows
           (gap-at nodes ends (set is.lists list rest) list f.before f.after (subst (λ ls. ShowsLists nodes ends ls) f.alone is.shown)
           (omega (arith, f.list_in_range, length-set is.lists list rest))
           (get_or-set_same is.lists list rest [] f.list_in_range)),
-      f.node_in_range,
+      is.fits.0,
     )
 
 -- the last node of a list is a node
@@ -315,13 +303,13 @@ wider-at (n ∷ nodes) k zero = refl
 wider-at (n ∷ nodes) k (suc z) = wider-at nodes k z
 
 chained-same : (nodes nodes' : List Node) → ((z : ℕ) → node_at nodes' z ≡ node_at nodes z) → (list : ℕ) (previous : Option ℕ)
-    (xs : List ℕ) (next : Option ℕ) → AreChained nodes list previous xs next → AreChained nodes' list previous xs next
+    (xs : List ℕ) (next : Option ℕ) → AreChained nodes (stretch_between list previous next) xs → AreChained nodes' (stretch_between list previous next) xs
 chained-same nodes nodes' same list previous [] next h = tt
 chained-same nodes nodes' same list previous (x ∷ xs) next h = (same x ∙ h.0, chained-same nodes nodes' same list (Some x) xs next h.1)
 
-pub whole-wider : (nodes : List Node) (ends : List Ends) (moves : List Move) (room capacity k : ℕ) →
-    AreWholeLinks nodes ends moves room capacity → AreWholeLinks (nodes ++ replicate k free_node) ends moves room capacity
-whole-wider nodes ends moves room capacity k whole =
+pub links-wider : (nodes : List Node) (ends : List Ends) (moves : List Move) (k : ℕ) →
+    AreLinks nodes ends moves → AreLinks (nodes ++ replicate k free_node) ends moves
+links-wider nodes ends moves k whole =
     let wider : List Node = nodes ++ replicate k free_node in
     let shown = whole.shown in
     record {
@@ -337,24 +325,13 @@ whole-wider nodes ends moves room capacity k whole =
       };
       fit = fit-wider (length nodes) (length wider) (no_lists (length ends)) moves
           (omega (arith, length-append nodes (replicate k free_node))) whole.fit;
-      within = whole.within;
-      reserved = whole.reserved;
-      bound = whole.bound;
     }
 
-pub whole-resized : (nodes nodes' : List Node) (ends : List Ends) (moves : List Move) (room capacity n m : ℕ) (b : Bool) →
+pub links-resized : (nodes nodes' : List Node) (ends : List Ends) (moves : List Move) (n m : ℕ) (b : Bool) →
     nodes' ≡ cond b (take n nodes ++ replicate (n - m) free_node) nodes → length nodes ≤ n →
-    AreWholeLinks nodes ends moves room capacity → AreWholeLinks nodes' ends moves room capacity
-whole-resized nodes nodes' ends moves room capacity n m true e l whole =
-    subst (λ ns. AreWholeLinks ns ends moves room capacity) (ap (λ ns. ns ++ replicate (n - m) free_node) (sym (take_all n nodes l)) ∙ sym e)
-    (whole-wider nodes ends moves room capacity (n - m) whole)
-whole-resized nodes nodes' ends moves room capacity n m false e l whole =
-    subst (λ ns. AreWholeLinks ns ends moves room capacity) (sym e) whole
-
--- room for more moves
-pub whole-roomier : (nodes : List Node) (ends : List Ends) (moves moves' : List Move) (room room' capacity capacity' : ℕ) →
-    AreWholeLinks nodes ends moves room capacity → moves' ≡ moves → length moves ≤ room' → room' ≤ capacity' → room' < 2 ^ 31 →
-    AreWholeLinks nodes ends moves' room' capacity'
-whole-roomier nodes ends moves moves' room room' capacity capacity' whole e within reserved bound =
-    subst (λ ms. AreWholeLinks nodes ends ms room' capacity') (sym e)
-    (record { shown = whole.shown; fit = whole.fit; within = within; reserved = reserved; bound = bound })
+    AreLinks nodes ends moves → AreLinks nodes' ends moves
+links-resized nodes nodes' ends moves n m true e l whole =
+    subst (λ ns. AreLinks ns ends moves) (ap (λ ns. ns ++ replicate (n - m) free_node) (sym (take_all n nodes l)) ∙ sym e)
+    (links-wider nodes ends moves (n - m) whole)
+links-resized nodes nodes' ends moves n m false e l whole =
+    subst (λ ns. AreLinks ns ends moves) (sym e) whole

@@ -39,16 +39,26 @@ abbrev pub IsDistinct : List ℕ → Type 0
 IsDistinct [] = Unit {0}
 IsDistinct (node ∷ nodes) = IsNoneOf node nodes × IsDistinct nodes
 
--- these nodes stand in the list one after another, the first after `previous`, the last before `next`
-abbrev pub AreChained : List Node → ℕ → Option ℕ → List ℕ → Option ℕ → Type 0
-AreChained nodes list previous [] next = Unit {0}
-AreChained nodes list previous (x ∷ xs) next =
-    (node_at nodes x ≡ record { list = Some list; previous = previous; next = first_or xs next })
-    × AreChained nodes list (Some x) xs next
+-- a stretch of a list: the nodes before and after it, none where the list begins or ends with it
+pub record Stretch : Type 0 where
+  pub list : ℕ
+  pub previous : Option ℕ
+  pub next : Option ℕ
+
+-- the stretch of a list between two neighbours
+abbrev pub stretch_between : ℕ → Option ℕ → Option ℕ → Stretch
+stretch_between list previous next = record { list = list; previous = previous; next = next }
+
+-- these nodes make up the stretch, one after another
+abbrev pub AreChained : List Node → Stretch → List ℕ → Type 0
+AreChained nodes stretch [] = Unit {0}
+AreChained nodes stretch (x ∷ xs) =
+    (node_at nodes x ≡ record { list = Some stretch.list; previous = stretch.previous; next = first_or xs stretch.next })
+    × AreChained nodes (stretch_between stretch.list (Some x) stretch.next) xs
 
 -- the nodes of a list, from its first to its last, are these
 pub record ShowsList (nodes : List Node) (list : ℕ) (ends : Ends) (xs : List ℕ) : Type 0 where
-  pub chained : AreChained nodes list None xs None
+  pub chained : AreChained nodes (stretch_between list None None) xs
   pub distinct : IsDistinct xs
   pub first : ends.first ≡ first_node xs
   pub last : ends.last ≡ last_node xs

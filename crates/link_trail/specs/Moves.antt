@@ -1,9 +1,11 @@
 -- Moves: what each does to the lists, and the lists before and after many.
 use Rattle.std.specs.Prelude.{◌≡◌, ℕ, ◌<◌, ◌≤◌, ◌^◌, List, [], ◌∷◌, ◌++◌, length, Option, slice_set, replicate}
+use Rattle.std.specs.Vec.{vec_capacity}
 use Rattle.link_trail.specs.declared.chain.Node.{Node}
 use Rattle.link_trail.specs.declared.chain.Ends.{Ends}
 use Rattle.link_trail.specs.declared.moves.Move.{Move}
 use Rattle.link_trail.specs.declared.moves.Move.TheVariants.{Linked, Unlinked}
+use Rattle.link_trail.specs.declared.links.Links.TheInside.{Inside}
 use Rattle.link_trail.specs.Lists.{linked, list_at, unlinked}
 use Rattle.link_trail.specs.Chains.{ShowsLists, last_node}
 
@@ -27,11 +29,10 @@ abbrev pub no_lists : ℕ → List (List ℕ)
 no_lists count = replicate count []
 
 -- the node stood in this list alone, once, after `previous`
-pub record StoodAfter (nodes : ℕ) (lists : List (List ℕ)) (list node : ℕ) (previous : Option ℕ) : Type 0 where
+pub record StoodAfter (lists : List (List ℕ)) (list node : ℕ) (previous : Option ℕ) : Type 0 where
   pub before : List ℕ
   pub after : List ℕ
   pub list_in_range : list < length lists
-  pub node_in_range : node < nodes
   pub stood : list_at lists list ≡ before ++ node ∷ after
   pub follows : last_node before ≡ previous
   pub alone : unlinked lists node ≡ slice_set lists list (before ++ after)
@@ -39,18 +40,21 @@ pub record StoodAfter (nodes : ℕ) (lists : List (List ℕ)) (list node : ℕ) 
 -- the move tells what takes it back from the lists that it leads to
 abbrev pub IsTakenBackBy : ℕ → List (List ℕ) → Move → Type 0
 IsTakenBackBy nodes lists (Linked list node) = list < length lists
-IsTakenBackBy nodes lists (Unlinked list node previous) = StoodAfter nodes lists list node previous
+IsTakenBackBy nodes lists (Unlinked list node previous) = (node < nodes) × StoodAfter lists list node previous
 
 -- each of these moves tells what takes it back
 abbrev pub AllFit : ℕ → List (List ℕ) → List Move → Type 0
 AllFit nodes lists [] = Unit {0}
 AllFit nodes lists (move ∷ moves) = IsTakenBackBy nodes lists move × AllFit nodes (moved lists move) moves
 
--- what holds of the fields of every `Links`: nodes and ends show the lists that the moves made, each
--- move can be taken back, and there is memory for the moves that have room
-pub record AreWholeLinks (nodes : List Node) (ends : List Ends) (moves : List Move) (room capacity : ℕ) : Type 0 where
+-- nodes and ends show the lists that the moves made, and each move can be taken back
+pub record AreLinks (nodes : List Node) (ends : List Ends) (moves : List Move) : Type 0 where
   pub shown : ShowsLists nodes ends (lists_after (no_lists (length ends)) moves)
   pub fit : AllFit (length nodes) (no_lists (length ends)) moves
-  pub within : length moves ≤ room
-  pub reserved : room ≤ capacity
-  pub bound : room < 2 ^ 31
+
+-- what holds of the fields of every `Links`: they show the lists, and there is memory for the moves that have room
+pub record AreWholeLinks (a : Inside) : Type 0 where
+  pub links : AreLinks a.nodes.items a.ends.items a.moves.items
+  pub within : length a.moves.items ≤ a.room
+  pub reserved : a.room ≤ vec_capacity a.moves
+  pub bound : a.room < 2 ^ 31

@@ -1,7 +1,7 @@
 ghost use Rattle.std.specs.Prelude.{◌≡◌, ◌<◌, length};
 ghost use Rattle.std.specs.Option.{ForSome};
-ghost use Rattle.link_trail.specs.Chains.{node_at};
-ghost use Rattle.link_trail.specs.steps.Splices.{PutsBetween, TakesOut, next_after, with_first, with_last, with_next, with_previous};
+ghost use Rattle.link_trail.specs.Chains.{stretch_between, node_at};
+ghost use Rattle.link_trail.specs.steps.Splices.{PutsBetween, TakesOut, kept, next_after, with_first, with_last, with_next, with_previous};
 
 /// Where a node stands: its list, and its neighbours there.
 #[derive(Clone, Copy, Debug)]
@@ -65,7 +65,7 @@ pub(crate) fn splice_in(
     requires node { node < length nodes.old }
     requires previous { ForSome previous (λ p. p < length nodes.old) }
     requires next { ForSome next (λ n. n < length nodes.old) }
-    ensures { PutsBetween nodes.old ends.old nodes.new ends.new list node previous next }
+    ensures { PutsBetween (kept nodes.old ends.old) (kept nodes.new ends.new) (stretch_between list previous next) node }
 {
     set_next(nodes, ends, list, previous, Some(node));
     set_previous(nodes, ends, list, next, Some(node));
@@ -82,7 +82,7 @@ pub(crate) fn splice_out(nodes: &mut [Node], ends: &mut [Ends], list: u32, node:
     requires node { node < length nodes.old }
     requires previous { ForSome (node_at nodes.old node).previous (λ p. p < length nodes.old) }
     requires next { ForSome (node_at nodes.old node).next (λ n. n < length nodes.old) }
-    ensures { TakesOut nodes.old ends.old nodes.new ends.new list node }
+    ensures { TakesOut (kept nodes.old ends.old) (kept nodes.new ends.new) list node }
 {
     let Node { previous, next, .. } = nodes[node as usize];
     set_next(nodes, ends, list, previous, next);

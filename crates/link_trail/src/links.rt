@@ -21,7 +21,6 @@ pub struct Links {
 
 impl Model for Links {
     ghost use Rattle.std.specs.Prelude.{◌-◌, length};
-    ghost use Rattle.std.specs.Vec.{vec_capacity};
     ghost use Rattle.link_trail.specs.Lists.{LinkedLists};
 
     ghost Value = { LinkedLists };
@@ -35,7 +34,7 @@ impl Model for Links {
       spare = x.room - length x.moves.items;
     } };
 
-    ghost invariant = { λ x. AreWholeLinks x.nodes.items x.ends.items x.moves.items x.room (vec_capacity x.moves) };
+    ghost invariant = { AreWholeLinks };
 }
 
 impl Links {

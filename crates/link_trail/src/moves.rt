@@ -1,3 +1,4 @@
+ghost use Rattle.link_trail.specs.steps.Splices.{kept};
 ghost use Rattle.link_trail.specs.steps.Undoing.{IsLatest, TakesBack};
 
 use crate::chain::{Ends, Node, following, splice_in, splice_out};
@@ -21,7 +22,7 @@ pub(crate) enum Move {
 /// Puts nodes and ends back to the lists before the latest move.
 pub(crate) fn take_back(nodes: &mut [Node], ends: &mut [Ends], latest: Move)
     requires { IsLatest nodes.old ends.old latest }
-    ensures { TakesBack nodes.old ends.old nodes.new ends.new latest }
+    ensures { TakesBack (kept nodes.old ends.old) (kept nodes.new ends.new) latest }
 {
     match latest {
         Move::Linked { list, node } => splice_out(nodes, ends, list, node),

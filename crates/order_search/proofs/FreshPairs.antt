@@ -158,36 +158,22 @@ record Codes (n : ℕ) (pairs : List Pair) (k m : ℕ) : Type 0 where
   distinct : AllPairs (λ a b. a ≢ b) codes
   known : All (IsCode n (take k pairs)) codes
 
--- neither way round does a fresh pair have a number of those before it
+-- a pair that isn't implied, nor the other way round, has no number of those before it
 new_code : (n : ℕ) (pairs : List Pair) (u v code : ℕ) → u < n → v < n → u ≢ v → ¬ Leads pairs u v → ¬ Leads pairs v u →
-    IsCode n pairs code →
-    (u * n + v ≢ code) × (v * n + u ≢ code)
-new_code n pairs u v code u_in v_in differ new apart old = (
-  λ same. let e = code_tells n u v old.x old.y v_in old.y_in (same ∙ old.is) in
-      elim old.tie [
-        | inl alike ↦ differ (e.0 ∙ alike ∙ sym e.1)
-        | inr pair ↦ elim pair [
-          | inl there ↦ new
-              (subst (λ (a : ℕ). Leads pairs a v) (sym e.0)
-              (subst (λ (b : ℕ). Leads pairs old.x b) (sym e.1) (Leads-step pairs old.x old.y old.y there (Reaches-itself pairs old.y))))
-          | inr back ↦ apart
-              (subst (λ (a : ℕ). Leads pairs a u) (sym e.1)
-              (subst (λ (b : ℕ). Leads pairs old.y b) (sym e.0) (Leads-step pairs old.y old.x old.x back (Reaches-itself pairs old.x))))
-        ]
-      ],
-  λ same. let e = code_tells n v u old.x old.y u_in old.y_in (same ∙ old.is) in
-      elim old.tie [
-        | inl alike ↦ differ (e.1 ∙ sym alike ∙ sym e.0)
-        | inr pair ↦ elim pair [
-          | inl there ↦ apart
-              (subst (λ (a : ℕ). Leads pairs a u) (sym e.0)
-              (subst (λ (b : ℕ). Leads pairs old.x b) (sym e.1) (Leads-step pairs old.x old.y old.y there (Reaches-itself pairs old.y))))
-          | inr back ↦ new
-              (subst (λ (a : ℕ). Leads pairs a v) (sym e.1)
-              (subst (λ (b : ℕ). Leads pairs old.y b) (sym e.0) (Leads-step pairs old.y old.x old.x back (Reaches-itself pairs old.x))))
-        ]
-      ],
-)
+    IsCode n pairs code → u * n + v ≢ code
+new_code n pairs u v code u_in v_in differ new apart old same =
+    let e = code_tells n u v old.x old.y v_in old.y_in (same ∙ old.is) in
+    elim old.tie [
+      | inl alike ↦ differ (e.0 ∙ alike ∙ sym e.1)
+      | inr pair ↦ elim pair [
+        | inl there ↦ new
+            (subst (λ (a : ℕ). Leads pairs a v) (sym e.0)
+            (subst (λ (b : ℕ). Leads pairs old.x b) (sym e.1) (Leads-step pairs old.x old.y old.y there (Reaches-itself pairs old.y))))
+        | inr back ↦ apart
+            (subst (λ (a : ℕ). Leads pairs a u) (sym e.1)
+            (subst (λ (b : ℕ). Leads pairs old.y b) (sym e.0) (Leads-step pairs old.y old.x old.x back (Reaches-itself pairs old.x))))
+      ]
+    ]
 
 codes_of : (n : ℕ) (base pairs : List Pair) → AreFresh n base pairs → (m k : ℕ) → length base + m ≡ k → k ≤ length pairs → Codes n pairs k m
 codes_of n base pairs fresh zero k at le =
@@ -224,12 +210,12 @@ codes_of n base pairs fresh (suc m) (suc k) at le =
       distinct = AllPairs-cons (λ (a b : ℕ). a ≢ b) (p.0 * n + p.1) ((p.1 * n + p.0) ∷ before.codes)
           (first_differs n (take k pairs) p before.codes in' differ
           (λ i d i_in.
-          (new_code n (take k pairs) p.0 p.1 (get_or before.codes i d) in'.0 in'.1 differ new apart
-          (All-get_or (IsCode n (take k pairs)) before.codes i d i_in before.known)).0))
+          new_code n (take k pairs) p.0 p.1 (get_or before.codes i d) in'.0 in'.1 differ new apart
+          (All-get_or (IsCode n (take k pairs)) before.codes i d i_in before.known)))
           (AllPairs-cons (λ (a b : ℕ). a ≢ b) (p.1 * n + p.0) before.codes
           (λ i d i_in.
-          (new_code n (take k pairs) p.0 p.1 (get_or before.codes i d) in'.0 in'.1 differ new apart
-          (All-get_or (IsCode n (take k pairs)) before.codes i d i_in before.known)).1)
+          new_code n (take k pairs) p.1 p.0 (get_or before.codes i d) in'.1 in'.0 (λ same. differ (sym same)) apart new
+          (All-get_or (IsCode n (take k pairs)) before.codes i d i_in before.known))
           before.distinct);
       known = All-cons (IsCode n (take (suc k) pairs)) (p.0 * n + p.1) ((p.1 * n + p.0) ∷ before.codes)
           (record { x = p.0; y = p.1; x_in = in'.0; y_in = in'.1; is = refl; tie = inr (inl here) })

@@ -9,7 +9,7 @@ use Rattle.order_core.specs.declared.turn.Turn.{Turn}
 use Rattle.precedence_set.specs.Layers.{IsChain}
 use Rattle.precedence_set.specs.LeastCycle.{IsLowestBack, GoesBack, IsLeastCycle}
 use Rattle.precedence_set.proofs.LayerFacts.{layers_unique, chain_unique}
-use Rattle.order_search.specs.Trees.{Place, NodeFact, Fill, places_below, IsCycle, IsVisited, IsClosedTree, branch_count}
+use Rattle.order_search.specs.Trees.{Place, Fill, places_below, IsCycle, IsVisited, IsClosedTree, branch_count}
 use Rattle.order_search.specs.Meanings.{Meaning}
 use Rattle.order_search.specs.Places.{IsLayered, IsClosedByLast, StandsAt}
 use Rattle.order_search.specs.Answers.{IsFoundNode, AreFoundWaves, IsRefutation, IsSpent, IsFound}
@@ -82,17 +82,25 @@ node_once m picks place (Leaf cycle) Unvisited is too visited also = absurd also
 
 -- Two fills of the same places
 
+-- nodes, and the places that they leave open
+record Filled : Type 0 where
+  pub nodes : List Node
+  pub left : List Place
+
+abbrev filled : List Node → List Place → Filled
+filled nodes left = record { nodes = nodes; left = left }
+
 -- the second nodes are the first ones and some more, which fill what those leave open
-record GoesOn (P : NodeFact) (nodes others : List Node) (left last : List Place) : Type 0 where
+record GoesOn (m : Meaning) (one other : Filled) : Type 0 where
   pub more : List Node
-  pub grown : others ≡ nodes ++ more
-  pub fills : Fill P left more last
+  pub grown : other.nodes ≡ one.nodes ++ more
+  pub fills : Fill (IsFoundNode m) one.left more other.left
   pub visited : All IsVisited more
 
 -- of two lists of visited nodes that fill the same places one goes on from the other
 meet : (m : Meaning) → PicksOne m.good m.picked → (places left last : List Place) (nodes others : List Node) →
     Fill (IsFoundNode m) places nodes left → Fill (IsFoundNode m) places others last → All IsVisited nodes → All IsVisited others →
-    GoesOn (IsFoundNode m) nodes others left last ⊎ GoesOn (IsFoundNode m) others nodes last left
+    GoesOn m (filled nodes left) (filled others last) ⊎ GoesOn m (filled others last) (filled nodes left)
 meet m picks places left last [] others fill too visited also = inl (record {
   more = others;
   grown = refl;
@@ -130,14 +138,14 @@ meet m picks (place ∷ places) left last (node ∷ nodes) (other ∷ others) fi
       })
     ]
 
--- what follows at an open place that has a layered list: nothing, or a branch, and then the list isn't good
-data WhatFollows (m : Meaning) (open_places last : List Place) (ranks : List ℕ) (more : List Node) : Type 0 where
-  nothing : open_places ≡ last → more ≡ [] → WhatFollows m open_places last ranks more
-  branch : 1 ≤ branch_count more → ¬ m.good ranks → WhatFollows m open_places last ranks more
+-- what follows at an open place that has a layered list: nothing, as at an end, or a branch, and then the list isn't good
+data WhatFollows (m : Meaning) (ranks : List ℕ) (more : List Node) (AtEnd : Type 0) : Type 0 where
+  nothing : AtEnd → more ≡ [] → WhatFollows m ranks more AtEnd
+  branch : 1 ≤ branch_count more → ¬ m.good ranks → WhatFollows m ranks more AtEnd
 
 what_follows : (m : Meaning) → PicksOne m.good m.picked → (place : Place) (places last : List Place) (ranks : List ℕ) (more : List Node) →
     IsLayered m.size place ranks → Fill (IsFoundNode m) (place ∷ places) more last → All IsVisited more →
-    WhatFollows m (place ∷ places) last ranks more
+    WhatFollows m ranks more (place ∷ places ≡ last)
 what_follows m picks place places last ranks [] layered fills visited = nothing fills refl
 what_follows m picks place places last ranks (Branch a t ∷ more) layered fills visited =
     let earned = fills.0.earned in
@@ -167,7 +175,7 @@ more_branches nodes more others grown some =
     omega (arith, ap (λ (xs : List Node). branch_count xs) grown, branch_count-append nodes more, some)
 
 stops_on : (m : Meaning) → PicksOne m.good m.picked → (s t : Stop m) →
-    GoesOn (IsFoundNode m) s.before t.before (s.place ∷ s.later) (t.place ∷ t.later) → Stops m s t
+    GoesOn m (filled s.before (s.place ∷ s.later)) (filled t.before (t.place ∷ t.later)) → Stops m s t
 stops_on m picks s t on =
     elim (what_follows m picks s.place s.later (t.place ∷ t.later) s.ranks on.more s.stands.layered on.fills on.visited) [
       | nothing places none ↦

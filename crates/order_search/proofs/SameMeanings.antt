@@ -90,11 +90,10 @@ module _ (m n : Meaning) (same : SameMeaning m n) where
   }
 
 -- what a step gives over the second oracle, in the words of the first
-module _ (m n : Meaning) (same : SameMeaning m n) (budget branches : ℕ) (s : Stand) (next : Option Ending) (steps : StepsTo n budget branches s next) where
+module _ (m n : Meaning) (same : SameMeaning m n) (budget : ℕ) (s : Stand) (next : Option Ending) (steps : StepsTo n budget s next) where
   pub EndsBy-step : (ending : Ending) → next ≡ Some ending → EndsBy m budget s ending
-  EndsBy-step ending is = EndsBy-same n m (SameMeaning-back m n same) budget s ending (subst (λ (x : Option Ending). StepsTo n budget branches s x) is steps)
+  EndsBy-step ending is = EndsBy-same n m (SameMeaning-back m n same) budget s ending (subst (λ (x : Option Ending). StepsTo n budget s x) is steps)
 
-  pub IsSearching-step : next ≡ None → IsSearching m budget s × (s.branches ≡ branches + 1)
+  pub IsSearching-step : next ≡ None → IsSearching m budget s
   IsSearching-step is =
-      let on = subst (λ (x : Option Ending). StepsTo n budget branches s x) is steps in
-      (IsSearching-same n m (SameMeaning-back m n same) budget s on.0, on.1)
+      IsSearching-same n m (SameMeaning-back m n same) budget s (subst (λ (x : Option Ending). StepsTo n budget s x) is steps)

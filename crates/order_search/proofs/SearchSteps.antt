@@ -1,10 +1,12 @@
 -- The steps of the search: at a place, after a branch, at the next place, and what is found at the end.
-use Rattle.std.proofs.Common.{◌≡◌, ◌≢◌, ℕ, zero, suc, ◌+◌, ◌-◌, ◌*◌, ◌/◌, ◌<◌, ◌≤◌, inl, List, [], ◌∷◌, ◌++◌}
-use Rattle.std.proofs.Common.{length, vec_len, take, map, replicate, arith, subst, sym, refl, ap, ◌∙◌}
+use Rattle.std.proofs.Common.{◌≡◌, ◌≢◌, ℕ, zero, suc, ◌+◌, ◌-◌, ◌*◌, ◌/◌, ◌≤◌, inl, List, [], ◌∷◌, ◌++◌}
+use Rattle.std.proofs.Common.{length, vec_len, Some, take, map, replicate, arith, subst, sym, refl, ap, ◌∙◌}
 use Rattle.std.specs.List.{All}
 use Rattle.std.specs.Vec.{with_items}
-use Rattle.std.proofs.lemmas.List.{with_items_is, take_all, length-append, length_push, length-take-le, get_or_append_left, get_or_push}
-use Rattle.std.proofs.lemmas.List.Elements.{All-nil, All-cons, All-head, All-tail, All-append, All-push, Contains-append_left}
+use Rattle.std.proofs.lemmas.List.{with_items_is, take_all, length_push, length-take-le}
+use Rattle.std.proofs.lemmas.List.Elements.{All-nil, All-cons, All-head, All-tail, All-append, All-pop, All-push, All-take}
+use Rattle.std.proofs.lemmas.List.Elements.{Contains-append_left}
+use Rattle.std.proofs.Math.Seq.{take-append_seam}
 use Rattle.order_core.specs.Pairs.{Pair, Leads}
 use Rattle.order_core.specs.Turns.{child_pairs}
 use Rattle.order_core.specs.declared.turn.Turn.{Turn}
@@ -57,14 +59,10 @@ IsSearching-begin m budget s is routers room begun bare none first = record {
 
 -- what holds of all nodes holds of the first ones, and of the last one
 All-front : (P : Node → Type 0) (nodes more : List Node) → All P (nodes ++ more) → All P nodes
-All-front P nodes more all = λ k d in'.
-    let long : k < length (nodes ++ more) = omega (arith, in', length-append nodes more) in
-    subst (λ (x : Node). P x) (get_or_append_left nodes more d k in') (all k d long)
+All-front P nodes more all = subst (λ (xs : List Node). All P xs) (take-append_seam nodes more) (All-take P (length nodes) (nodes ++ more) all)
 
 All-last : (P : Node → Type 0) (nodes : List Node) (node : Node) → All P (nodes ++ node ∷ []) → P node
-All-last P nodes node all =
-    let long : length nodes < length (nodes ++ node ∷ []) = omega (arith, length_push nodes node) in
-    subst (λ (x : Node). P x) (get_or_push nodes node node (length nodes) refl) (all (length nodes) node long)
+All-last P nodes node all = (All-pop P (nodes ++ node ∷ []) nodes (Some node) refl all).1
 
 -- a chain of a place's layers is the chain of its layered list
 chain_of : (n : ℕ) (pairs : List Pair) (ranks chain : List ℕ) → IsLayered n pairs ranks → IsLayeredChain n pairs chain → IsChain pairs ranks chain
@@ -236,19 +234,14 @@ branch_is_made m budget s ranks address turns told_turns (asked, written) breaks
     }
 
 -- leaves are visited nodes, and no branches
-leaves_visited : (a b : List Place) (leaves : List Node) → Fill IsLeaf a leaves b → All IsVisited leaves
-leaves_visited a b [] fill = All-nil IsVisited
-leaves_visited [] b (node ∷ leaves) fill = absurd fill
-leaves_visited (p ∷ a) b (Branch address turns ∷ leaves) fill = absurd fill.0
-leaves_visited (p ∷ a) b (Leaf cycle ∷ leaves) fill = All-cons IsVisited (Leaf cycle) leaves tt (leaves_visited a b leaves fill.1)
-leaves_visited (p ∷ a) b (Unvisited ∷ leaves) fill = absurd fill.0
-
-leaves_count : (a b : List Place) (leaves : List Node) → Fill IsLeaf a leaves b → branch_count leaves ≡ 0
-leaves_count a b [] fill = refl
-leaves_count [] b (node ∷ leaves) fill = absurd fill
-leaves_count (p ∷ a) b (Branch address turns ∷ leaves) fill = absurd fill.0
-leaves_count (p ∷ a) b (Leaf cycle ∷ leaves) fill = omega (arith, leaves_count a b leaves fill.1)
-leaves_count (p ∷ a) b (Unvisited ∷ leaves) fill = absurd fill.0
+leaves_are : (a b : List Place) (leaves : List Node) → Fill IsLeaf a leaves b → All IsVisited leaves × (branch_count leaves ≡ 0)
+leaves_are a b [] fill = (All-nil IsVisited, refl)
+leaves_are [] b (node ∷ leaves) fill = absurd fill
+leaves_are (p ∷ a) b (Branch address turns ∷ leaves) fill = absurd fill.0
+leaves_are (p ∷ a) b (Leaf cycle ∷ leaves) fill =
+    let later = leaves_are a b leaves fill.1 in
+    (All-cons IsVisited (Leaf cycle) leaves tt later.0, omega (arith, later.1))
+leaves_are (p ∷ a) b (Unvisited ∷ leaves) fill = absurd fill.0
 
 -- a leaf is a node that the search makes
 IsFoundNode-leaf : (m : Meaning) (place : Place) (node : Node) → IsLeaf place node → IsFoundNode m place node
@@ -278,9 +271,9 @@ grown_from m budget b nodes after branched grown =
           (Fill-append (IsFoundNode m) (m.base ∷ []) before after b.tree grown.leaves branched.fills
           (Fill-weaker IsLeaf (IsFoundNode m) (IsFoundNode-leaf m) before after grown.leaves grown.fills)),
       subst (λ (xs : List Node). All IsVisited xs) (sym grown.grown)
-          (All-append IsVisited b.tree grown.leaves branched.visited (leaves_visited before after grown.leaves grown.fills)),
+          (All-append IsVisited b.tree grown.leaves branched.visited (leaves_are before after grown.leaves grown.fills).0),
       ap branch_count grown.grown ∙ branch_count-append b.tree grown.leaves
-          ∙ omega (arith, leaves_count before after grown.leaves grown.fills, branched.counted),
+          ∙ omega (arith, (leaves_are before after grown.leaves grown.fills).1, branched.counted),
     )
 
 -- the next child that closes no cycle becomes the place
@@ -330,7 +323,8 @@ IsFound-end m budget s Stops found ends is =
 IsFound-end m budget s Closed found ends is = subst (λ (f : Found). IsFound m budget f) (sym is) ends
 
 -- what an end needs holds where the search ends
-pub EndsOrGoesOn-ends : (m : Meaning) (budget : ℕ) (s : Stand) (ending : Ending) → 1 ≤ m.size → m.size ≤ 1000 → EndsBy m budget s ending → EndsOrGoesOn s ending
+pub EndsOrGoesOn-ends : (m : Meaning) (budget : ℕ) (s : Stand) (ending : Ending) → 1 ≤ m.size → m.size ≤ 1000 → EndsBy m budget s ending →
+    EndsOrGoesOn s ending
 EndsOrGoesOn-ends m budget s Good some few ends =
     let routers = ends.0.searching.routers in (
       omega (arith, some, routers),

@@ -2,7 +2,6 @@
 -- that isn't visited.
 use Rattle.std.specs.Prelude.{◌≡◌, ℕ, suc, List, ◌∷◌, [], ◌++◌, length, replicate, All}
 use Rattle.order_core.specs.Pairs.{AreBelow, HasNoCycle}
-use Rattle.order_core.specs.declared.turn.Turn.{Turn}
 use Rattle.precedence_set.specs.Layers.{AreLayers}
 use Rattle.precedence_set.specs.LeastCycle.{IsLeastCycle}
 use Rattle.order_search.specs.Trees.{Place, NodeFact, Fill, IsVisited, branch_count}
@@ -16,15 +15,15 @@ pub record IsLayered (n : ℕ) (pairs : Place) (ranks : List ℕ) : Type 0 where
   pub acyclic : HasNoCycle pairs
   pub layers : AreLayers n pairs ranks
 
--- the address and turns are picked for the layered list of the place
-pub record IsPickedAt (picked : Picked) (n : ℕ) (pairs : Place) (address : ℕ) (turns : List Turn) : Type 0 where
+-- something is picked for the layered list of the place
+pub record IsPickedAt (IsPicked : List ℕ → Type 0) (n : ℕ) (pairs : Place) : Type 0 where
   pub ranks : List ℕ
   pub layered : IsLayered n pairs ranks
-  pub pick : picked ranks address turns
+  pub pick : IsPicked ranks
 
 -- a branch is earned where its address and turns are picked for the layered list of its place
 abbrev pub IsEarned : Picked → ℕ → Place → Node → Type 0
-IsEarned picked n pairs (Branch address turns) = IsPickedAt picked n pairs address turns
+IsEarned picked n pairs (Branch address turns) = IsPickedAt (λ (ranks : List ℕ). picked ranks address turns) n pairs
 IsEarned picked n pairs (Leaf cycle) = Unit {0}
 IsEarned picked n pairs Unvisited = Unit {0}
 

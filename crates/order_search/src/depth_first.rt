@@ -1,5 +1,5 @@
 ghost use Rattle.std.specs.Prelude.{◌≡◌, ℕ, List, ◌+◌, ◌<◌, ◌≤◌, ◌∷◌, [], ◌++◌, ◌↔◌, IfOk, OnOk, length, map};
-ghost use Rattle.std.specs.Prelude.{Contains};
+ghost use Rattle.std.specs.Prelude.{Contains, IfNone};
 ghost use Rattle.std.specs.Bool.{OnTrue, OnFalse};
 ghost use Rattle.order_core.specs.Pairs.{Pair};
 ghost use Rattle.order_core.specs.Turns.{child_pairs, new_routers};
@@ -72,7 +72,8 @@ fn take_step<Q: Oracle>(
       picked = Q.picked oracle.old;
       size = Q.size oracle.old;
       base = Q.base oracle.old;
-    }) budget stand.old.branches stand.new) }
+    }) budget stand.new) }
+    ensures branches { IfOk result (λ ending. IfNone ending (stand.new.branches ≡ stand.old.branches + 1)) }
     ensures same { SameMeaning (record {
       good = Q.good oracle.old;
       real = Q.real oracle.old;

@@ -43,7 +43,7 @@ fn found_waves(
     requires some { 0 < held.routers }
     requires few { held.routers ≤ 1000 }
     requires layered { IsLayered held.routers held.pairs ranks.items }
-    ensures { IfOk result (AreWavesOf held.routers held.pairs ranks.items (tree ++ Node.Unvisited ∷ [])) }
+    ensures { IfOk result (AreWavesOf held ranks.items (tree ++ Node.Unvisited ∷ [])) }
 {
     let waves = Waves::from_ranks(alloc, &ranks)?;
     tree.push(Node::Unvisited)?;

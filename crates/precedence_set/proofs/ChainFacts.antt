@@ -11,27 +11,28 @@ use Rattle.order_core.specs.Pairs.{Pair, AreBelow}
 use Rattle.order_core.specs.Rankings.{rank_of, wave_count}
 use Rattle.order_core.proofs.WaveLists.{rank_below_count, rank_stands, count_le_length}
 use Rattle.precedence_set.specs.steps.Walking.{pair_at}
+use Rattle.precedence_set.specs.steps.Chaining.{Parents, Trace, parents_in, trace}
 use Rattle.precedence_set.specs.Layers.{AreLayers, IsChain, IsInLayer, IsBeforeInLayer}
 use Rattle.precedence_set.proofs.LayerFacts.{pair_below, layers_rank}
 
 -- Parents
 
 -- the lowest predecessors in the layer before, among the first i pairs; `none` where there is none yet
-pub record AreParents (pairs : List Pair) (layers parents : List ℕ) (none i : ℕ) : Type 0 where
-  pub lowest : (j : ℕ) → j < i → rank_of layers (pair_at pairs j).0 + 1 ≡ rank_of layers (pair_at pairs j).1 →
-      get_or parents (pair_at pairs j).1 0 ≤ (pair_at pairs j).0
-  pub found : (v : ℕ) → v < length layers → (get_or parents v 0 ≡ none) ⊎
-      (Contains pairs (get_or parents v 0, v) × (rank_of layers (get_or parents v 0) + 1 ≡ rank_of layers v))
+pub record AreParents (pairs : List Pair) (p : Parents) (i : ℕ) : Type 0 where
+  pub lowest : (j : ℕ) → j < i → rank_of p.layers (pair_at pairs j).0 + 1 ≡ rank_of p.layers (pair_at pairs j).1 →
+      get_or p.parents (pair_at pairs j).1 0 ≤ (pair_at pairs j).0
+  pub found : (v : ℕ) → v < length p.layers → (get_or p.parents v 0 ≡ p.none) ⊎
+      (Contains pairs (get_or p.parents v 0, v) × (rank_of p.layers (get_or p.parents v 0) + 1 ≡ rank_of p.layers v))
 
 pub AreParents-begin : (pairs : List Pair) (layers parents : List ℕ) (none : ℕ) → length parents ≡ length layers →
-    ((v : ℕ) → v < length parents → get_or parents v 0 ≡ none) → AreParents pairs layers parents none 0
+    ((v : ℕ) → v < length parents → get_or parents v 0 ≡ none) → AreParents pairs (parents_in layers parents none) 0
 AreParents-begin pairs layers parents none long bare = record {
   lowest = λ j lt. absurd (omega (arith, lt));
   found = λ v lt. inl (bare v (omega (arith, lt, long)));
 }
 
-pub AreParents-passed : (pairs : List Pair) (layers parents : List ℕ) (none i : ℕ) → AreParents pairs layers parents none i →
-    rank_of layers (pair_at pairs i).0 + 1 ≢ rank_of layers (pair_at pairs i).1 → AreParents pairs layers parents none (i + 1)
+pub AreParents-passed : (pairs : List Pair) (layers parents : List ℕ) (none i : ℕ) → AreParents pairs (parents_in layers parents none) i →
+    rank_of layers (pair_at pairs i).0 + 1 ≢ rank_of layers (pair_at pairs i).1 → AreParents pairs (parents_in layers parents none) (i + 1)
 AreParents-passed pairs layers parents none i are apart = record {
   lowest = λ j lt next. elim (cases_lt j i) [
     | inl before ↦ are.lowest j before next
@@ -42,9 +43,11 @@ AreParents-passed pairs layers parents none i are apart = record {
   found = are.found;
 }
 
-pub AreParents-more : (pairs : List Pair) (layers parents : List ℕ) (none i low : ℕ) → AreParents pairs layers parents none i → i < length pairs →
+pub AreParents-more : (pairs : List Pair) (layers parents : List ℕ) (none i low : ℕ) → AreParents pairs (parents_in layers parents none) i →
+    i < length pairs →
     (pair_at pairs i).1 < length parents → rank_of layers (pair_at pairs i).0 + 1 ≡ rank_of layers (pair_at pairs i).1 →
-    low ≡ min (get_or parents (pair_at pairs i).1 0) (pair_at pairs i).0 → AreParents pairs layers (set parents (pair_at pairs i).1 low) none (i + 1)
+    low ≡ min (get_or parents (pair_at pairs i).1 0) (pair_at pairs i).0 →
+    AreParents pairs (parents_in layers (set parents (pair_at pairs i).1 low) none) (i + 1)
 AreParents-more pairs layers parents none i low are i_in v_in next is =
     let here : get_or (set parents (pair_at pairs i).1 low) (pair_at pairs i).1 0 ≡ low = get_or-set_same parents (pair_at pairs i).1 low 0 v_in in
     let other : (w : ℕ) → w ≢ (pair_at pairs i).1 → get_or (set parents (pair_at pairs i).1 low) w 0 ≡ get_or parents w 0 =
@@ -100,7 +103,7 @@ AreParents-more pairs layers parents none i low are i_in v_in next is =
     }
 
 -- in the end no predecessor in the layer before is lower
-pub parents_lowest : (pairs : List Pair) (layers parents : List ℕ) (none i : ℕ) → AreParents pairs layers parents none i → length pairs ≤ i →
+pub parents_lowest : (pairs : List Pair) (layers parents : List ℕ) (none i : ℕ) → AreParents pairs (parents_in layers parents none) i → length pairs ≤ i →
     (u v : ℕ) → Contains pairs (u, v) → rank_of layers u + 1 ≡ rank_of layers v → get_or parents v 0 ≤ u
 parents_lowest pairs layers parents none i are whole u v has next =
     let e : pair_at pairs has.0 ≡ (u, v) = get_or_default pairs has.0 (0, 0) (u, v) has.1 ∙ has.2 in
@@ -133,12 +136,12 @@ parent_is n pairs layers parents none v k below are many lowest found v_in there
 -- The chain
 
 -- the chain from place k on
-pub record IsTraced (n : ℕ) (pairs : List Pair) (layers out : List ℕ) (count k : ℕ) : Type 0 where
-  pub before : k < count
-  pub last : (j : ℕ) → suc j ≡ count → IsLowest (IsInLayer layers j) (get_or out j 0)
-  pub back : (j : ℕ) → k ≤ j → suc j < count → IsLowest (IsBeforeInLayer pairs layers j (get_or out (suc j) 0)) (get_or out j 0)
-  pub below : (j : ℕ) → k ≤ j → j < count → get_or out j 0 < n
-  pub there : (j : ℕ) → k ≤ j → j < count → rank_of layers (get_or out j 0) ≡ j
+pub record IsTraced (n : ℕ) (pairs : List Pair) (t : Trace) (k : ℕ) : Type 0 where
+  pub before : k < t.count
+  pub last : (j : ℕ) → suc j ≡ t.count → IsLowest (IsInLayer t.layers j) (get_or t.out j 0)
+  pub back : (j : ℕ) → k ≤ j → suc j < t.count → IsLowest (IsBeforeInLayer pairs t.layers j (get_or t.out (suc j) 0)) (get_or t.out j 0)
+  pub below : (j : ℕ) → k ≤ j → j < t.count → get_or t.out j 0 < n
+  pub there : (j : ℕ) → k ≤ j → j < t.count → rank_of t.layers (get_or t.out j 0) ≡ j
 
 -- some router is in the last layer
 pub some_in_last : (n : ℕ) (pairs : List Pair) (layers : List ℕ) (k : ℕ) → AreBelow n pairs → AreLayers n pairs layers →
@@ -148,7 +151,7 @@ some_in_last n pairs layers k below are e =
     (has.0, record { within = has.1; there = get_or_default layers has.0 0 k has.1 ∙ has.2 })
 
 pub IsTraced-begin : (n : ℕ) (pairs : List Pair) (layers out : List ℕ) (k u : ℕ) → length layers ≡ n → IsLowest (IsInLayer layers k) u →
-    k < length out → IsTraced n pairs layers (set out k u) (suc k) k
+    k < length out → IsTraced n pairs (trace layers (set out k u) (suc k)) k
 IsTraced-begin n pairs layers out k u long lowest k_in =
     let here : get_or (set out k u) k 0 ≡ u = get_or-set_same out k u 0 k_in in
     record {
@@ -168,8 +171,8 @@ IsTraced-begin n pairs layers out k u long lowest k_in =
     }
 
 pub IsTraced-back : (n : ℕ) (pairs : List Pair) (layers out : List ℕ) (count k u : ℕ) → AreBelow n pairs →
-    IsTraced n pairs layers out count (suc k) → k < length out → IsLowest (IsBeforeInLayer pairs layers k (get_or out (suc k) 0)) u →
-    IsTraced n pairs layers (set out k u) count k
+    IsTraced n pairs (trace layers out count) (suc k) → k < length out → IsLowest (IsBeforeInLayer pairs layers k (get_or out (suc k) 0)) u →
+    IsTraced n pairs (trace layers (set out k u) count) k
 IsTraced-back n pairs layers out count k u pairs_below t k_in lowest =
     let here : get_or (set out k u) k 0 ≡ u = get_or-set_same out k u 0 k_in in
     let later : (j : ℕ) → k < j → get_or (set out k u) j 0 ≡ get_or out j 0 = λ j (lt : k < j). let apart : j ≢ k = omega (arith, lt) in
@@ -204,7 +207,7 @@ IsTraced-back n pairs layers out count k u pairs_below t k_in lowest =
     }
 
 -- the whole chain
-pub IsChain-traced : (n : ℕ) (pairs : List Pair) (layers out : List ℕ) (count : ℕ) → IsTraced n pairs layers out count 0 →
+pub IsChain-traced : (n : ℕ) (pairs : List Pair) (layers out : List ℕ) (count : ℕ) → IsTraced n pairs (trace layers out count) 0 →
     count ≡ wave_count layers → count ≤ length out → IsChain pairs layers (take count out)
 IsChain-traced n pairs layers out count t counted le =
     let long : length (take count out) ≡ count = length-take-le count out le in
@@ -247,14 +250,14 @@ pub IsTraced-down : (n : ℕ) (pairs : List Pair) (layers out parents : List ℕ
     n ≤ none → ((u w : ℕ) → Contains pairs (u, w) → rank_of layers u + 1 ≡ rank_of layers w → get_or parents w 0 ≤ u) →
     ((w : ℕ) → w < length layers → (get_or parents w 0 ≡ none) ⊎
     (Contains pairs (get_or parents w 0, w) × (rank_of layers (get_or parents w 0) + 1 ≡ rank_of layers w)))
-    → count ≤ length out → 0 < k → IsTraced n pairs layers out count k →
-    IsTraced n pairs layers (set out (k - 1) (get_or parents (get_or out (k - 1 + 1) 0) 0)) count (k - 1)
+    → count ≤ length out → 0 < k → IsTraced n pairs (trace layers out count) k →
+    IsTraced n pairs (trace layers (set out (k - 1) (get_or parents (get_or out (k - 1 + 1) 0) 0)) count) (k - 1)
 IsTraced-down n pairs layers out parents none count zero below are many lowest found le some t = absurd (omega (arith, some))
 IsTraced-down n pairs layers out parents none count (suc k) below are many lowest found le some t =
     let down : k ≡ suc k - 1 = omega arith in
     let up : suc k ≡ k + 1 = omega arith in
     let parent = parent_is n pairs layers parents none (get_or out (suc k) 0) k below are many lowest found (t.below (suc k) (omega arith) t.before)
     (t.there (suc k) (omega arith) t.before) in
-    subst (λ (j : ℕ). IsTraced n pairs layers (set out j (get_or parents (get_or out (j + 1) 0) 0)) count j) down
-    (subst (λ (j : ℕ). IsTraced n pairs layers (set out k (get_or parents (get_or out j 0) 0)) count k) up
+    subst (λ (j : ℕ). IsTraced n pairs (trace layers (set out j (get_or parents (get_or out (j + 1) 0) 0)) count) j) down
+    (subst (λ (j : ℕ). IsTraced n pairs (trace layers (set out k (get_or parents (get_or out j 0) 0)) count) k) up
     (IsTraced-back n pairs layers out count k (get_or parents (get_or out (suc k) 0) 0) below t (omega (arith, t.before, le)) parent))

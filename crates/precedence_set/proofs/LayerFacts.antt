@@ -1,13 +1,13 @@
 -- Layers: a ranking that keeps the pairs, the lowest of all, and the only one; and chains.
 use Rattle.std.proofs.Common.{◌≡◌, ℕ, zero, suc, ◌+◌, ◌<◌, ◌≤◌, inl, inr, List, [], ◌∷◌, length, get_or, arith, subst, sym, refl}
-use Rattle.std.proofs.Common.{ap, ◌∙◌}
+use Rattle.std.proofs.Common.{◌∙◌}
 use Rattle.std.specs.List.{Contains}
 use Rattle.std.proofs.lemmas.Bool.{cases_lt}
-use Rattle.std.proofs.lemmas.List.{get_or_default}
+use Rattle.std.proofs.lemmas.List.{ext_get_or, get_or_default}
 use Rattle.std.proofs.lemmas.List.Elements.{All-contains, Contains-get_or}
 use Rattle.order_core.specs.Pairs.{Pair, AreBelow}
 use Rattle.order_core.specs.Rankings.{IsRanking, KeepsPairs, rank_of, wave_count}
-use Rattle.precedence_set.specs.Layers.{AreLayers, IsChain}
+use Rattle.precedence_set.specs.Layers.{AreLayers, IsBeforeInLayer, IsChain}
 use Rattle.precedence_set.specs.steps.Walking.{pair_at}
 
 -- the routers of a pair are below n
@@ -70,19 +70,11 @@ pub layers_fewest : (n : ℕ) (pairs : List Pair) (layers ranks : List ℕ) → 
 layers_fewest n pairs layers ranks below are long keeps =
     wave_count_le layers ranks (are.whole ∙ sym long) (λ i lt. layers_earliest n pairs layers ranks below are keeps i (omega (arith, lt, are.whole)))
 
--- lists of numbers are one where each place is
-pub same_list : (xs ys : List ℕ) → length xs ≡ length ys → ((i : ℕ) → i < length xs → get_or xs i 0 ≡ get_or ys i 0) → xs ≡ ys
-same_list [] [] e at = refl
-same_list [] (y ∷ ys) e at = absurd (omega (arith, e))
-same_list (x ∷ xs) [] e at = absurd (omega (arith, e))
-same_list (x ∷ xs) (y ∷ ys) e at =
-    ap (λ (z : ℕ). z ∷ xs) (at 0 (omega arith)) ∙ ap (λ (zs : List ℕ). y ∷ zs)
-    (same_list xs ys (omega (arith, e)) (λ i lt. at (suc i) (omega (arith, lt))))
-
+-- so there is one list of layers
 pub layers_unique : (n : ℕ) (pairs : List Pair) (layers others : List ℕ) → AreBelow n pairs → AreLayers n pairs layers →
     AreLayers n pairs others → layers ≡ others
 layers_unique n pairs layers others below are too =
-    same_list layers others (are.whole ∙ sym too.whole) (λ i lt.
+    ext_get_or 0 layers others (are.whole ∙ sym too.whole) (λ i lt.
     let i_in : i < n = omega (arith, lt, are.whole) in
     omega (
       arith,
@@ -93,7 +85,7 @@ layers_unique n pairs layers others below are too =
 -- layers have one chain: its last router is known, and each by the one after it
 pub chain_unique : (pairs : List Pair) (layers chain other : List ℕ) → IsChain pairs layers chain → IsChain pairs layers other → chain ≡ other
 chain_unique pairs layers chain other is too =
-    same_list chain other (is.one_each ∙ sym too.one_each) (λ i lt. down (length chain) i (omega (arith, lt)) lt)
+    ext_get_or 0 chain other (is.one_each ∙ sym too.one_each) (λ i lt. down (length chain) i (omega (arith, lt)) lt)
   where
     long : length chain ≡ length other
     long = is.one_each ∙ sym too.one_each
@@ -107,15 +99,8 @@ chain_unique pairs layers chain other is too =
           let b = too.back i (omega (arith, more, long)) in
           omega (
             arith,
-            a.least (get_or other i 0) (record {
-              before = subst (λ (x : ℕ). Contains pairs (get_or other i 0, x)) (sym next) b.holds.before;
-              there = b.holds.there;
-            }),
-            b.least (get_or chain i 0) (record {
-              before =
-                  subst (λ (x : ℕ). Contains pairs (get_or chain i 0, x)) next a.holds.before;
-              there = a.holds.there;
-            }),
+            a.least (get_or other i 0) (subst (λ (x : ℕ). IsBeforeInLayer pairs layers i x (get_or other i 0)) (sym next) b.holds),
+            b.least (get_or chain i 0) (subst (λ (x : ℕ). IsBeforeInLayer pairs layers i x (get_or chain i 0)) next a.holds),
           )
       | inr end ↦
           let a = is.last i (omega (arith, end, lt)) in

@@ -13,7 +13,7 @@ use Rattle.order_core.specs.Pairs.{Pair, IsPath, AreBelow, HasNoCycle}
 use Rattle.order_core.proofs.DistinctLists.{AllPairs-cons, length-le_from_distinct, Contains-from_distinct, place_from_Contains}
 use Rattle.order_core.proofs.Paths.{length-path}
 use Rattle.precedence_set.specs.steps.Walking.{pair_at, IsFirstFrom}
-use Rattle.precedence_set.specs.steps.Sorting.{StandsBelow, AreLeftCounts, IsGone, IsGoneBy, IsListing, IsTopological}
+use Rattle.precedence_set.specs.steps.Sorting.{StandsBelow, AreLeftCounts, IsGone, IsGoneBy, IsListing, IsTopological, Queue, Stop, passing, queue, stop}
 use Rattle.precedence_set.proofs.LayerFacts.{pair_below}
 use Rattle.precedence_set.proofs.SortFacts.{AreLeftCounts-same, AreLeftCounts-gone, left_none, left_some}
 
@@ -62,7 +62,7 @@ front_below n order count le below = All-from_get_or (λ u. u < n) (take count o
     subst (λ (x : ℕ). x < n) (sym (get_or-take count order i 0 i_lt)) (below i i_lt))
 
 -- there is room for one more router
-pub room_for : (n : ℕ) (pairs : List Pair) (counts order : List ℕ) (count v : ℕ) → IsListing n pairs counts order count → count ≤ length order →
+pub room_for : (n : ℕ) (pairs : List Pair) (counts order : List ℕ) (count v : ℕ) → IsListing n pairs (queue counts order count) → count ≤ length order →
     v < n → 0 < get_or counts v 0 → count < n
 room_for n pairs counts order count v listing le v_in some =
     let long = length-take-le count order le in
@@ -79,16 +79,16 @@ room_for n pairs counts order count v listing le v_in some =
 -- One router more
 
 -- one more pair into v is gone, and more are left
-pub IsListing-more : (n : ℕ) (pairs : List Pair) (counts new order order' : List ℕ) (count count' v : ℕ) → IsListing n pairs counts order count →
+pub IsListing-more : (n : ℕ) (pairs : List Pair) (counts new order order' : List ℕ) (count count' v : ℕ) → IsListing n pairs (queue counts order count) →
     v < length counts → 1 < get_or counts v 0 → new ≡ set counts v (get_or counts v 0 - 1) → order' ≡ order → count' ≡ count →
-    IsListing n pairs new order' count'
+    IsListing n pairs (queue new order' count')
 IsListing-more n pairs counts new order order' count count' v listing v_in some is same_order same_count =
     let value : get_or new v 0 ≡ get_or counts v 0 - 1 =
     ap (λ (xs : List ℕ). get_or xs v 0) is ∙ get_or-set_same counts v (get_or counts v 0 - 1) 0 v_in in
     let other : (w : ℕ) → w ≢ v → get_or new w 0 ≡ get_or counts w 0 = λ w (apart : w ≢ v). ap (λ (xs : List ℕ). get_or xs w 0) is
     ∙ get_or-set_other counts v w (get_or counts v 0 - 1) 0 apart in
-    subst (λ (xs : List ℕ). IsListing n pairs new xs count') (sym same_order)
-    (subst (λ (c : ℕ). IsListing n pairs new order c) (sym same_count) (record {
+    subst (λ (xs : List ℕ). IsListing n pairs (queue new xs count')) (sym same_order)
+    (subst (λ (c : ℕ). IsListing n pairs (queue new order c)) (sym same_count) (record {
       below = listing.below;
       distinct = listing.distinct;
       none_left = λ j lt.
@@ -102,10 +102,10 @@ IsListing-more n pairs counts new order order' count count' v listing v_in some 
     }))
 
 -- the last pair into v is gone, and v is listed
-pub IsListing-last : (n : ℕ) (pairs : List Pair) (counts new order order' : List ℕ) (count count' v : ℕ) → IsListing n pairs counts order count →
+pub IsListing-last : (n : ℕ) (pairs : List Pair) (counts new order order' : List ℕ) (count count' v : ℕ) → IsListing n pairs (queue counts order count) →
     v < n → v < length counts → count < length order → get_or counts v 0 ≡ 1 → new ≡ set counts v (get_or counts v 0 - 1) →
     order' ≡ set order count v → count' ≡ count + 1 → ((u : ℕ) → Contains pairs (u, v) → StandsBelow order count u) →
-    IsListing n pairs new order' count'
+    IsListing n pairs (queue new order' count')
 IsListing-last n pairs counts new order order' count count' v listing v_n v_in room one is new_order new_count gone =
     let value : get_or new v 0 ≡ get_or counts v 0 - 1 =
     ap (λ (xs : List ℕ). get_or xs v 0) is ∙ get_or-set_same counts v (get_or counts v 0 - 1) 0 v_in in
@@ -115,8 +115,8 @@ IsListing-last n pairs counts new order order' count count' v listing v_n v_in r
     let front : IsFront count (set order count v) order = IsFront-set order count v in
     let apart : (j : ℕ) → j < count → get_or order j 0 ≢ v =
     λ j (lt : j < count) (e : get_or order j 0 ≡ v). omega (arith, one, ap (λ (x : ℕ). get_or counts x 0) e, listing.none_left j lt) in
-    subst (λ (xs : List ℕ). IsListing n pairs new xs count') (sym new_order)
-    (subst (λ (c : ℕ). IsListing n pairs new (set order count v) c) (sym new_count) (record {
+    subst (λ (xs : List ℕ). IsListing n pairs (queue new xs count')) (sym new_order)
+    (subst (λ (c : ℕ). IsListing n pairs (queue new (set order count v) c)) (sym new_count) (record {
       below = below_more (λ j. get_or (set order count v) j 0 < n) count (λ j lt. subst (λ (x : ℕ). x < n) (sym (front j lt)) (listing.below j lt))
           (subst (λ (x : ℕ). x < n) (sym here) v_n);
       distinct = λ i j lt j_lt same. elim (cases_lt j count) [
@@ -143,17 +143,17 @@ IsListing-last n pairs counts new order order' count count' v listing v_n v_in r
 
 -- The walk over the pairs from the router at place k
 
--- what the walk keeps, where it has come to the pair `at`
-pub record IsFreeing (n : ℕ) (pairs : List Pair) (counts order : List ℕ) (k count : ℕ) (at : Option ℕ) : Type 0 where
+-- what the walk keeps
+pub record IsFreeing (n : ℕ) (pairs : List Pair) (q : Queue) (s : Stop) : Type 0 where
   pub start : ℕ
-  pub first : IsFirstFrom pairs (get_or order k 0) start at
-  pub before : k < count
-  pub within : count ≤ length order
-  pub listing : IsListing n pairs counts order count
-  pub counted : AreLeftCounts pairs (IsGoneBy pairs order k start) counts
+  pub first : IsFirstFrom pairs (get_or q.order s.place 0) start s.at
+  pub before : s.place < q.count
+  pub within : q.count ≤ length q.order
+  pub listing : IsListing n pairs q
+  pub counted : AreLeftCounts pairs (IsGoneBy pairs (passing q.order s.place start)) q.counts
 
 -- at first no pair of that router is gone
-pub IsGoneBy-begin : (pairs : List Pair) (order : List ℕ) (k i : ℕ) → IsGone pairs order k i ↔ IsGoneBy pairs order k 0 i
+pub IsGoneBy-begin : (pairs : List Pair) (order : List ℕ) (k i : ℕ) → IsGone pairs order k i ↔ IsGoneBy pairs (passing order k 0) i
 IsGoneBy-begin pairs order k i = (
   λ gone. inl gone,
   λ by. elim by [
@@ -164,7 +164,7 @@ IsGoneBy-begin pairs order k i = (
 
 -- in the end all are
 pub IsGoneBy-end : (pairs : List Pair) (order : List ℕ) (k start i : ℕ) → IsFirstFrom pairs (get_or order k 0) start None → i < length pairs →
-    IsGoneBy pairs order k start i ↔ IsGone pairs order (k + 1) i
+    IsGoneBy pairs (passing order k start) i ↔ IsGone pairs order (k + 1) i
 IsGoneBy-end pairs order k start i first i_in = (
   λ by. elim by [
     | inl gone ↦ (gone.0, omega (arith, gone.1), gone.2)
@@ -182,8 +182,8 @@ IsGoneBy-end pairs order k start i first i_in = (
   ],
 )
 
-IsGoneBy-front : (pairs : List Pair) (a b : List ℕ) (k count start i : ℕ) → IsFront count a b → k < count → IsGoneBy pairs b k start i ↔
-    IsGoneBy pairs a k start i
+IsGoneBy-front : (pairs : List Pair) (a b : List ℕ) (k count start i : ℕ) → IsFront count a b → k < count → IsGoneBy pairs (passing b k start) i ↔
+    IsGoneBy pairs (passing a k start) i
 IsGoneBy-front pairs a b k count start i front lt = (
   λ by. elim by [
     | inl gone ↦ inl (stands_still a b count k (pair_at pairs i).0 front (omega (arith, lt)) gone)
@@ -196,16 +196,16 @@ IsGoneBy-front pairs a b k count start i front lt = (
 )
 
 -- the pair that the walk has come to isn't gone
-pub fresh_pair : (n : ℕ) (pairs : List Pair) (counts order : List ℕ) (k count i : ℕ) (f : IsFreeing n pairs counts order k count (Some i)) →
-    ¬ IsGoneBy pairs order k f.start i
+pub fresh_pair : (n : ℕ) (pairs : List Pair) (counts order : List ℕ) (k count i : ℕ) (f : IsFreeing n pairs (queue counts order count) (stop k (Some i))) →
+    ¬ IsGoneBy pairs (passing order k f.start) i
 fresh_pair n pairs counts order k count i f by = elim by [
   | inl gone ↦ f.listing.distinct gone.0 k gone.1 f.before (gone.2 ∙ f.first.2)
   | inr here ↦ omega (arith, here.1, f.first.0)
 ]
 
 -- and with it just the pairs up to it are
-gone_step : (n : ℕ) (pairs : List Pair) (counts order : List ℕ) (k count i : ℕ) (f : IsFreeing n pairs counts order k count (Some i)) (j : ℕ) →
-    IsGoneBy pairs order k (suc i) j ↔ (IsGoneBy pairs order k f.start j ⊎ (j ≡ i))
+gone_step : (n : ℕ) (pairs : List Pair) (counts order : List ℕ) (k count i : ℕ) (f : IsFreeing n pairs (queue counts order count) (stop k (Some i))) (j : ℕ) →
+    IsGoneBy pairs (passing order k (suc i)) j ↔ (IsGoneBy pairs (passing order k f.start) j ⊎ (j ≡ i))
 gone_step n pairs counts order k count i f j = (
   λ by. elim by [
     | inl gone ↦ inl (inl gone)
@@ -227,7 +227,7 @@ gone_step n pairs counts order k count i f j = (
 )
 
 -- the routers that stand before v, where no pair into it is left
-stand_before : (pairs : List Pair) (counts order : List ℕ) (k count start v : ℕ) → AreLeftCounts pairs (IsGoneBy pairs order k start) counts →
+stand_before : (pairs : List Pair) (counts order : List ℕ) (k count start v : ℕ) → AreLeftCounts pairs (IsGoneBy pairs (passing order k start)) counts →
     k < count → v < length counts → get_or counts v 0 ≡ 0 → (u : ℕ) → Contains pairs (u, v) → StandsBelow order count u
 stand_before pairs counts order k count start v counted lt v_in none u has =
     let e : pair_at pairs has.0 ≡ (u, v) = get_or_default pairs has.0 (0, 0) (u, v) has.1 ∙ has.2 in
@@ -239,16 +239,16 @@ stand_before pairs counts order k count start v counted lt v_in none u has =
 
 -- one step of the walk
 pub IsFreeing-step : (n : ℕ) (pairs : List Pair) (counts new order order' : List ℕ) (k count count' i v : ℕ) (next : Option ℕ) →
-    IsFreeing n pairs counts order k count (Some i) → length counts ≡ n → length order ≡ n → v < n → (pair_at pairs i).1 ≡ v →
+    IsFreeing n pairs (queue counts order count) (stop k (Some i)) → length counts ≡ n → length order ≡ n → v < n → (pair_at pairs i).1 ≡ v →
     IsFirstFrom pairs (get_or order k 0) (suc i) next
     → 0 < get_or counts v 0 → new ≡ set counts v (get_or counts v 0 - 1) → (get_or counts v 0 ≡ 1 → count' ≡ count + 1) →
     (get_or counts v 0 ≡ 1 → order' ≡ set order count v) → (1 < get_or counts v 0 → count' ≡ count) →
     (1 < get_or counts v 0 → order' ≡ order)
-    → IsFreeing n pairs new order' k count' next
+    → IsFreeing n pairs (queue new order' count') (stop k next)
 IsFreeing-step n pairs counts new order order' k count count' i v next f long wide v_n to first some is one_count one_order same_count same_order =
     let v_in : v < length counts = omega (arith, v_n, long) in
-    let counted : AreLeftCounts pairs (IsGoneBy pairs order k (suc i)) new =
-    AreLeftCounts-gone pairs (IsGoneBy pairs order k f.start) (IsGoneBy pairs order k (suc i)) counts new i v f.counted f.first.1
+    let counted : AreLeftCounts pairs (IsGoneBy pairs (passing order k (suc i))) new =
+    AreLeftCounts-gone pairs (IsGoneBy pairs (passing order k f.start)) (IsGoneBy pairs (passing order k (suc i))) counts new i v f.counted f.first.1
     (fresh_pair n pairs counts order k count i f) to v_in is (λ j j_in. gone_step n pairs counts order k count i f j) in
     elim (cases_lt 1 (get_or counts v 0)) [
       | inl more ↦
@@ -259,7 +259,7 @@ IsFreeing-step n pairs counts new order order' k count count' i v next f long wi
             before = omega (arith, f.before, same_count more);
             within = omega (arith, f.within, same_count more, ap (λ (xs : List ℕ). length xs) e);
             listing = IsListing-more n pairs counts new order order' count count' v f.listing v_in more is e (same_count more);
-            counted = subst (λ (xs : List ℕ). AreLeftCounts pairs (IsGoneBy pairs xs k (suc i)) new) (sym e) counted;
+            counted = subst (λ (xs : List ℕ). AreLeftCounts pairs (IsGoneBy pairs (passing xs k (suc i))) new) (sym e) counted;
           }
       | inr few ↦
           let one : get_or counts v 0 ≡ 1 = omega (arith, some, few) in
@@ -276,41 +276,39 @@ IsFreeing-step n pairs counts new order order' k count count' i v next f long wi
             within = omega (arith, room, one_count one, ap (λ (xs : List ℕ). length xs) e, length-set {A = ℕ});
             listing = IsListing-last n pairs counts new order order' count count' v f.listing v_n v_in room one is e (one_count one)
                 (stand_before pairs new order k count (suc i) v counted f.before new_in value);
-            counted = AreLeftCounts-same pairs (IsGoneBy pairs order k (suc i)) (IsGoneBy pairs order' k (suc i)) new (λ j j_in.
+            counted = AreLeftCounts-same pairs (IsGoneBy pairs (passing order k (suc i))) (IsGoneBy pairs (passing order' k (suc i))) new (λ j j_in.
                 IsGoneBy-front pairs order' order k count (suc i) j front f.before) counted;
           }
     ]
 
 -- where the walk has no more pair
-pub IsFreeing-end : (n : ℕ) (pairs : List Pair) (counts order : List ℕ) (k count : ℕ) (at : Option ℕ) → IsFreeing n pairs counts order k count at →
-    ((i : ℕ) → at ≡ Some i → ⊥) → AreLeftCounts pairs (IsGone pairs order (k + 1)) counts
+pub IsFreeing-end : (n : ℕ) (pairs : List Pair) (counts order : List ℕ) (k count : ℕ) (at : Option ℕ) →
+    IsFreeing n pairs (queue counts order count) (stop k at) → ((i : ℕ) → at ≡ Some i → ⊥) → AreLeftCounts pairs (IsGone pairs order (k + 1)) counts
 IsFreeing-end n pairs counts order k count None f none =
-    AreLeftCounts-same pairs (IsGoneBy pairs order k f.start) (IsGone pairs order (k + 1)) counts (λ i i_in.
+    AreLeftCounts-same pairs (IsGoneBy pairs (passing order k f.start)) (IsGone pairs order (k + 1)) counts (λ i i_in.
     IsGoneBy-end pairs order k f.start i f.first i_in) f.counted
 IsFreeing-end n pairs counts order k count (Some i) f none = absurd (none i refl)
 
 -- All routers
 
--- a walk of m pairs to r, from a router outside the first places
-record Back (n : ℕ) (pairs : List Pair) (order : List ℕ) (k r m : ℕ) : Type 0 where
+-- a walk of m pairs to r, from a router of which something holds
+record Back (pairs : List Pair) (Is : ℕ → Type 0) (r m : ℕ) : Type 0 where
   start : ℕ
   path : List ℕ
   long : length path ≡ m
-  within : start < n
-  outside : ¬ StandsBelow order k start
+  begins : Is start
   onward : IsPath pairs start path r
 
 walk_back : (n : ℕ) (pairs : List Pair) (counts order : List ℕ) (k : ℕ) → AreBelow n pairs → length counts ≡ n →
-    IsListing n pairs counts order k → AreLeftCounts pairs (IsGone pairs order k) counts → (r : ℕ) → r < n → ¬ StandsBelow order k r →
-    (m : ℕ) → Back n pairs order k r m
+    IsListing n pairs (queue counts order k) → AreLeftCounts pairs (IsGone pairs order k) counts → (r : ℕ) → r < n → ¬ StandsBelow order k r →
+    (m : ℕ) → Back pairs (λ u. (u < n) × (¬ StandsBelow order k u)) r m
 walk_back n pairs counts order k below long listing counted r r_in outside zero =
-    record { start = r; path = []; long = refl; within = r_in; outside = outside; onward = refl }
+    record { start = r; path = []; long = refl; begins = (r_in, outside); onward = refl }
 walk_back n pairs counts order k below long listing counted r r_in outside (suc m) =
     let b = walk_back n pairs counts order k below long listing counted r r_in outside m in
     elim (cases_lt 0 (get_or counts b.start 0)) [
       | inl some ↦
-          let left = left_some pairs counted.gone b.start (length pairs) (omega (arith, some, counted.each b.start (omega (arith, b.within, long)))) in
-          let from = (pair_at pairs left.0).0 in
+          let left = left_some pairs counted.gone b.start (length pairs) (omega (arith, some, counted.each b.start (omega (arith, b.begins.0, long)))) in
           let e : pair_at pairs left.0 ≡ ((pair_at pairs left.0).0, b.start) = ap (λ (x : ℕ). ((pair_at pairs left.0).0, x)) left.2 in
           let has : Contains pairs ((pair_at pairs left.0).0, b.start) =
           subst (λ (p : Pair). Contains pairs p) e (Contains-get_or pairs left.0 (0, 0) left.1) in
@@ -318,16 +316,18 @@ walk_back n pairs counts order k below long listing counted r r_in outside (suc 
             start = (pair_at pairs left.0).0;
             path = b.start ∷ b.path;
             long = ap (λ (x : ℕ). suc x) b.long;
-            within = (pair_below n pairs below (pair_at pairs left.0).0 b.start has).0;
-            outside = λ stands. false≢true (sym left.3 ∙ (counted.tells left.0 left.1).1 stands);
+            begins = (
+              (pair_below n pairs below (pair_at pairs left.0).0 b.start has).0,
+              λ stands. false≢true (sym left.3 ∙ (counted.tells left.0 left.1).1 stands),
+            );
             onward = (has, b.onward);
           }
-      | inr none ↦ absurd (b.outside (listing.listed b.start b.within (omega (arith, none))))
+      | inr none ↦ absurd (b.begins.1 (listing.listed b.start b.begins.0 (omega (arith, none))))
     ]
 
 -- where only the routers before k are listed, those are all
 pub all_listed : (n : ℕ) (pairs : List Pair) (counts order : List ℕ) (k : ℕ) → AreBelow n pairs → HasNoCycle pairs → length counts ≡ n →
-    k ≤ length order → IsListing n pairs counts order k → AreLeftCounts pairs (IsGone pairs order k) counts → n ≤ k
+    k ≤ length order → IsListing n pairs (queue counts order k) → AreLeftCounts pairs (IsGone pairs order k) counts → n ≤ k
 all_listed n pairs counts order k below acyclic long le listing counted =
     let all = le-length_from_below (take k order) n (λ q q_in. list_any-from_Contains nat_eq_equiv q (take k order) (has q q_in)) in
     omega (arith, all, length-take-le k order le)
@@ -341,17 +341,16 @@ all_listed n pairs counts order k below acyclic long le listing counted =
       )
       | inr outside ↦
           let far = walk_back n pairs counts order k below long listing counted q q_in outside n in
-          absurd (omega (arith, far.long, length-path n pairs below acyclic far.start q far.path far.within far.onward))
+          absurd (omega (arith, far.long, length-path n pairs below acyclic far.start q far.path far.begins.0 far.onward))
     ]
 
 -- a listing of all routers
-pub IsTopological-whole : (n : ℕ) (pairs : List Pair) (counts order : List ℕ) (count : ℕ) → IsListing n pairs counts order count → count ≡ n →
+pub IsTopological-whole : (n : ℕ) (pairs : List Pair) (counts order : List ℕ) (count : ℕ) → IsListing n pairs (queue counts order count) → count ≡ n →
     length order ≡ n → IsTopological n pairs order
 IsTopological-whole n pairs counts order count listing whole long = record {
   whole = long;
   below = λ j lt. listing.below j (omega (arith, lt, whole));
   all = λ u u_in.
-      let e : take count order ≡ take count order = refl in
       let length_is : length (take count order) ≡ n = length-take-le count order (omega (arith, whole, long)) ∙ whole in
       let has = Contains-from_distinct (take count order) n (front_list n order count (omega (arith, whole, long)) listing.distinct)
       (front_below n order count (omega (arith, whole, long)) listing.below) length_is u u_in in
@@ -374,14 +373,13 @@ pub record AreFree (counts order : List ℕ) (count r : ℕ) : Type 0 where
 
 -- in the end they are a listing
 pub IsListing-free : (n : ℕ) (pairs : List Pair) (counts order other : List ℕ) (count : ℕ) → AreFree counts order count n → length counts ≡ n →
-    AreLeftCounts pairs (IsGone pairs other 0) counts → IsListing n pairs counts order count
+    AreLeftCounts pairs (IsGone pairs other 0) counts → IsListing n pairs (queue counts order count)
 IsListing-free n pairs counts order other count free long counted = record {
   below = free.below;
   distinct = free.distinct;
   none_left = free.none_left;
   listed = free.listed;
   after = λ j lt u has.
-      let v = get_or order j 0 in
       let v_in : get_or order j 0 < length counts = omega (arith, free.below j lt, long) in
       let e : pair_at pairs has.0 ≡ (u, get_or order j 0) = get_or_default pairs has.0 (0, 0) (u, get_or order j 0) has.1 ∙ has.2 in
       let gone = left_none pairs counted.gone (get_or order j 0) (length pairs) (sym (counted.each (get_or order j 0) v_in) ∙ free.none_left j lt) has.0

@@ -1,43 +1,38 @@
 -- Routers raised above their predecessors, one router of the order after another.
 use Rattle.std.proofs.Common.{◌≡◌, ◌≢◌, ℕ, suc, ◌+◌, ◌<◌, ◌≤◌, ◌⊎◌, inl, inr, List, length, get_or, set, max, Option, Some}
-use Rattle.std.proofs.Common.{None, arith, subst, sym, refl, ap, ◌∙◌}
+use Rattle.std.proofs.Common.{arith, subst, sym, refl, ap, ◌∙◌}
 use Rattle.std.specs.List.{Contains}
 use Rattle.std.proofs.lemmas.Bool.{cases_lt}
 use Rattle.std.proofs.lemmas.Bool.Decides.{eqb_tells}
-use Rattle.std.proofs.lemmas.List.{get_or-set_same, get_or-set_other, get_or_default}
-use Rattle.std.proofs.lemmas.List.Elements.{Contains-get_or}
+use Rattle.std.proofs.lemmas.List.{get_or-set_same, get_or-set_other}
 use Rattle.order_core.specs.Pairs.{Pair, AreBelow}
 use Rattle.order_core.specs.Rankings.{rank_of}
-use Rattle.precedence_set.specs.steps.Walking.{pair_at, IsFirstFrom}
+use Rattle.precedence_set.specs.steps.Walking.{Walk, pair_at, walk, IsFirstFrom}
 use Rattle.precedence_set.specs.Layers.{AreLayers}
 use Rattle.precedence_set.specs.steps.Sorting.{IsTopological}
 use Rattle.precedence_set.proofs.LayerFacts.{pair_below}
+use Rattle.precedence_set.proofs.SuccessorFacts.{HasPassed, HasPassed-begin, HasPassed-step, HasPassed-here}
 
 -- The walk over the pairs from u
 
--- what the walk keeps, where it has come to the pair `at`
-pub record IsRaising (pairs : List Pair) (old layers : List ℕ) (u above : ℕ) (at : Option ℕ) : Type 0 where
-  pub start : ℕ
-  pub first : IsFirstFrom pairs u start at
+-- what the walk keeps
+pub record IsRaising (w : Walk) (old layers : List ℕ) (above : ℕ) : Type 0 where
+  pub walked : HasPassed w (λ v. above ≤ rank_of layers v)
   pub no_lower : (v : ℕ) → rank_of old v ≤ rank_of layers v
-  pub raised : (j : ℕ) → j < start → j < length pairs → (pair_at pairs j).0 ≡ u → above ≤ rank_of layers (pair_at pairs j).1
-  pub from : (v : ℕ) → (rank_of layers v ≡ rank_of old v) ⊎ (Contains pairs (u, v) × (rank_of layers v ≡ above))
+  pub from : (v : ℕ) → (rank_of layers v ≡ rank_of old v) ⊎ (Contains w.pairs (w.from, v) × (rank_of layers v ≡ above))
 
 pub IsRaising-begin : (pairs : List Pair) (layers : List ℕ) (u above : ℕ) (at : Option ℕ) → IsFirstFrom pairs u 0 at →
-    IsRaising pairs layers layers u above at
+    IsRaising (walk pairs u at) layers layers above
 IsRaising-begin pairs layers u above at first = record {
-  start = 0;
-  first = first;
+  walked = HasPassed-begin pairs u at (λ v. above ≤ rank_of layers v) first;
   no_lower = λ v. omega arith;
-  raised = λ j lt. absurd (omega (arith, lt));
   from = λ v. inl refl;
 }
 
 pub IsRaising-step : (pairs : List Pair) (old layers : List ℕ) (u above i : ℕ) (next : Option ℕ) (top : ℕ) →
-    IsRaising pairs old layers u above (Some i) → (pair_at pairs i).1 < length layers → IsFirstFrom pairs u (suc i) next →
-    top ≡ max (rank_of layers (pair_at pairs i).1) above → IsRaising pairs old (set layers (pair_at pairs i).1 top) u above next
+    IsRaising (walk pairs u (Some i)) old layers above → (pair_at pairs i).1 < length layers → IsFirstFrom pairs u (suc i) next →
+    top ≡ max (rank_of layers (pair_at pairs i).1) above → IsRaising (walk pairs u next) old (set layers (pair_at pairs i).1 top) above
 IsRaising-step pairs old layers u above i next top r v_in first is =
-    let v = (pair_at pairs i).1 in
     let here : rank_of (set layers (pair_at pairs i).1 top) (pair_at pairs i).1 ≡ top = get_or-set_same layers (pair_at pairs i).1 top 0 v_in in
     let other : (w : ℕ) → w ≢ (pair_at pairs i).1 → rank_of (set layers (pair_at pairs i).1 top) w ≡ rank_of layers w =
     λ w (apart : w ≢ (pair_at pairs i).1). get_or-set_other layers (pair_at pairs i).1 w top 0 apart in
@@ -52,18 +47,9 @@ IsRaising-step pairs old layers u above i next top r v_in first is =
       | inr apart ↦ omega (arith, other w apart.1)
     ] in
     record {
-      start = suc i;
-      first = first;
+      walked = HasPassed-step pairs u i next (λ w. above ≤ rank_of layers w) (λ w. above ≤ rank_of (set layers (pair_at pairs i).1 top) w) r.walked first
+          (λ w le. omega (arith, le, grown w)) (omega (arith, here, is));
       no_lower = λ w. omega (arith, r.no_lower w, grown w);
-      raised = λ j lt j_in of. elim (cases_lt j r.start) [
-        | inl before ↦ omega (arith, r.raised j before j_in of, grown (pair_at pairs j).1)
-        | inr ge ↦ elim (cases_lt j i) [
-          | inl between ↦ absurd (r.first.3 j ge between of)
-          | inr end ↦
-              let same : j ≡ i = omega (arith, end, lt) in
-              omega (arith, here, is, ap (λ (x : ℕ). rank_of (set layers (pair_at pairs i).1 top) (pair_at pairs x).1) same)
-        ]
-      ];
       from = λ w. elim (eqb_tells w (pair_at pairs i).1) [
         | inl same ↦
             let at : rank_of (set layers (pair_at pairs i).1 top) w ≡ top =
@@ -71,8 +57,7 @@ IsRaising-step pairs old layers u above i next top r v_in first is =
             let was : rank_of layers w ≡ rank_of layers (pair_at pairs i).1 = ap (λ (x : ℕ). rank_of layers x) same.1 in
             elim (cases_lt (rank_of layers (pair_at pairs i).1) above) [
               | inl lower ↦
-                  let pair : pair_at pairs i ≡ (u, w) = ap (λ (a : ℕ). (a, (pair_at pairs i).1)) r.first.2 ∙ ap (λ (b : ℕ). (u, b)) (sym same.1) in
-                  inr (subst (λ (p : Pair). Contains pairs p) pair (Contains-get_or pairs i (0, 0) r.first.1), omega (arith, at, is, lower))
+                  inr (HasPassed-here pairs u i w (λ x. above ≤ rank_of layers x) r.walked same.1, omega (arith, at, is, lower))
               | inr higher ↦
                   let kept : rank_of (set layers (pair_at pairs i).1 top) w ≡ rank_of layers w = omega (arith, at, is, higher, was) in
                   elim (r.from w) [
@@ -86,18 +71,6 @@ IsRaising-step pairs old layers u above i next top r v_in first is =
         ]
       ];
     }
-
--- where the walk has no more pair
-pub IsRaising-end : (pairs : List Pair) (old layers : List ℕ) (u above : ℕ) (at : Option ℕ) → IsRaising pairs old layers u above at →
-    ((i : ℕ) → at ≡ Some i → ⊥) → (v : ℕ) → Contains pairs (u, v) → above ≤ rank_of layers v
-IsRaising-end pairs old layers u above (Some i) r none v has = absurd (none i refl)
-IsRaising-end pairs old layers u above None r none v has =
-    let e : pair_at pairs has.0 ≡ (u, v) = get_or_default pairs has.0 (0, 0) (u, v) has.1 ∙ has.2 in
-    let of : (pair_at pairs has.0).0 ≡ u = ap (λ (p : Pair). p.0) e in
-    elim (cases_lt has.0 r.start) [
-      | inl before ↦ subst (λ (x : ℕ). above ≤ rank_of layers x) (ap (λ (p : Pair). p.1) e) (r.raised has.0 before has.1 of)
-      | inr ge ↦ absurd (r.first has.0 ge has.1 of)
-    ]
 
 -- The routers of the order
 

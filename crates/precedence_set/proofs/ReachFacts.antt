@@ -1,16 +1,16 @@
 -- What v reaches, marked and listed: one router more, the routers after one, and all.
 use Rattle.std.proofs.Common.{◌≡◌, ◌≢◌, ℕ, suc, ◌+◌, ◌<◌, ◌≤◌, ◌⊎◌, inl, inr, Bool, true, false, List, [], ◌∷◌}
-use Rattle.std.proofs.Common.{length, get_or, set, Option, Some, None, arith, subst, sym, refl, ap, ◌∙◌}
+use Rattle.std.proofs.Common.{length, get_or, set, Option, Some, arith, subst, sym, refl, ap, ◌∙◌}
 use Rattle.std.specs.List.{Contains}
 use Rattle.std.proofs.lemmas.Bool.{cases_lt, cases_eq}
-use Rattle.std.proofs.lemmas.List.{get_or-set_same, get_or-set_other, get_or_default}
-use Rattle.std.proofs.lemmas.List.Elements.{Contains-get_or}
+use Rattle.std.proofs.lemmas.List.{get_or-set_same, get_or-set_other}
 use Rattle.order_core.specs.Pairs.{Pair, IsPath, Reaches}
 use Rattle.order_core.specs.Marks.{IsMarked}
 use Rattle.order_core.proofs.Marked.{marked_count-none, marked_count-more}
 use Rattle.order_core.proofs.Paths.{Reaches-itself, Reaches-step, Reaches-trans}
-use Rattle.precedence_set.specs.steps.Marks.{AreListed}
-use Rattle.precedence_set.specs.steps.Walking.{pair_at, IsFirstFrom}
+use Rattle.precedence_set.specs.steps.Marks.{AreListed, MarkedList, marked_list}
+use Rattle.precedence_set.specs.steps.Walking.{Walk, pair_at, walk, IsFirstFrom}
+use Rattle.precedence_set.proofs.SuccessorFacts.{HasPassed, HasPassed-begin, HasPassed-step, HasPassed-here}
 
 -- One router more
 
@@ -57,89 +57,57 @@ AreListed-more marks list count w w_in room fresh are = record {
 
 -- The walk over the pairs from x
 
--- what the walk keeps, where it has come to the pair `at`
-pub record IsReachingOn (pairs : List Pair) (x : ℕ) (marks₀ marks : List Bool) (list₀ list : List ℕ) (count₀ count : ℕ)
-    (at : Option ℕ) : Type 0 where
-  pub start : ℕ
-  pub first : IsFirstFrom pairs x start at
-  pub listed : AreListed marks list count
-  pub kept : (r : ℕ) → IsMarked marks₀ r → IsMarked marks r
-  pub from : (r : ℕ) → IsMarked marks r → IsMarked marks₀ r ⊎ Contains pairs (x, r)
-  pub passed : (j : ℕ) → j < start → j < length pairs → (pair_at pairs j).0 ≡ x → IsMarked marks (pair_at pairs j).1
-  pub same : (j : ℕ) → j < count₀ → get_or list j 0 ≡ get_or list₀ j 0
-  pub no_fewer : count₀ ≤ count
+-- what the walk keeps
+pub record IsReachingOn (w : Walk) (old new : MarkedList) : Type 0 where
+  pub walked : HasPassed w (λ r. IsMarked new.marks r)
+  pub listed : AreListed new.marks new.list new.count
+  pub kept : (r : ℕ) → IsMarked old.marks r → IsMarked new.marks r
+  pub from : (r : ℕ) → IsMarked new.marks r → IsMarked old.marks r ⊎ Contains w.pairs (w.from, r)
+  pub same : (j : ℕ) → j < old.count → get_or new.list j 0 ≡ get_or old.list j 0
+  pub no_fewer : old.count ≤ new.count
 
 pub IsReachingOn-begin : (pairs : List Pair) (x : ℕ) (marks : List Bool) (list : List ℕ) (count : ℕ) (at : Option ℕ) → IsFirstFrom pairs x 0 at →
-    AreListed marks list count → IsReachingOn pairs x marks marks list list count count at
+    AreListed marks list count → IsReachingOn (walk pairs x at) (marked_list marks list count) (marked_list marks list count)
 IsReachingOn-begin pairs x marks list count at first listed = record {
-  start = 0;
-  first = first;
+  walked = HasPassed-begin pairs x at (λ r. IsMarked marks r) first;
   listed = listed;
   kept = λ r marked. marked;
   from = λ r marked. inl marked;
-  passed = λ j lt. absurd (omega (arith, lt));
   same = λ j lt. refl;
   no_fewer = omega arith;
 }
 
 pub IsReachingOn-step : (pairs : List Pair) (x : ℕ) (marks₀ marks marks' : List Bool) (list₀ list list' : List ℕ) (count₀ count count' i : ℕ)
     (next : Option ℕ) →
-    IsReachingOn pairs x marks₀ marks list₀ list count₀ count (Some i) → IsFirstFrom pairs x (suc i) next → AreListed marks' list' count' →
+    IsReachingOn (walk pairs x (Some i)) (marked_list marks₀ list₀ count₀) (marked_list marks list count) →
+    IsFirstFrom pairs x (suc i) next → AreListed marks' list' count' →
     ((r : ℕ) → IsMarked marks r → IsMarked marks' r) → ((r : ℕ) → IsMarked marks' r → IsMarked marks r ⊎ (r ≡ (pair_at pairs i).1)) →
     IsMarked marks' (pair_at pairs i).1 → ((j : ℕ) → j < count → get_or list' j 0 ≡ get_or list j 0) → count ≤ count' →
-    IsReachingOn pairs x marks₀ marks' list₀ list' count₀ count' next
+    IsReachingOn (walk pairs x next) (marked_list marks₀ list₀ count₀) (marked_list marks' list' count')
 IsReachingOn-step pairs x marks₀ marks marks' list₀ list list' count₀ count count' i next on first listed kept from marked same no_fewer = record {
-  start = suc i;
-  first = first;
+  walked = HasPassed-step pairs x i next (λ r. IsMarked marks r) (λ r. IsMarked marks' r) on.walked first kept marked;
   listed = listed;
   kept = λ r old. kept r (on.kept r old);
-  from = λ r new. elim (from r new) [
-    | inl old ↦ on.from r old
-    | inr is ↦
-        let pair : pair_at pairs i ≡ (x, r) = ap (λ (a : ℕ). (a, (pair_at pairs i).1)) on.first.2 ∙ ap (λ (b : ℕ). (x, b)) (sym is) in
-        inr (subst (λ (p : Pair). Contains pairs p) pair (Contains-get_or pairs i (0, 0) on.first.1))
-  ];
-  passed = λ j lt j_in of. elim (cases_lt j on.start) [
-    | inl before ↦ kept (pair_at pairs j).1 (on.passed j before j_in of)
-    | inr ge ↦ elim (cases_lt j i) [
-      | inl between ↦ absurd (on.first.3 j ge between of)
-      | inr end ↦
-          let here : j ≡ i = omega (arith, end, lt) in
-          subst (λ (k : ℕ). IsMarked marks' (pair_at pairs k).1) (sym here) marked
-    ]
-  ];
+  from = λ r new. elim (from r new) [ inl old ↦ on.from r old | inr is ↦ inr (HasPassed-here pairs x i r (λ q. IsMarked marks q) on.walked is) ];
   same = λ j lt. same j (omega (arith, lt, on.no_fewer)) ∙ on.same j lt;
   no_fewer = omega (arith, on.no_fewer, no_fewer);
 }
 
--- at its end all that is assumed after x is marked
-pub IsReachingOn-end : (pairs : List Pair) (x : ℕ) (marks₀ marks : List Bool) (list₀ list : List ℕ) (count₀ count : ℕ) (at : Option ℕ) →
-    IsReachingOn pairs x marks₀ marks list₀ list count₀ count at → ((i : ℕ) → at ≡ Some i → ⊥) → (w : ℕ) →
-    Contains pairs (x, w) → IsMarked marks w
-IsReachingOn-end pairs x marks₀ marks list₀ list count₀ count (Some i) on none w has = absurd (none i refl)
-IsReachingOn-end pairs x marks₀ marks list₀ list count₀ count None on none w has =
-    let e : pair_at pairs has.0 ≡ (x, w) = get_or_default pairs has.0 (0, 0) (x, w) has.1 ∙ has.2 in
-    let of : (pair_at pairs has.0).0 ≡ x = ap (λ (p : Pair). p.0) e in
-    elim (cases_lt has.0 on.start) [
-      | inl before ↦ subst (λ (y : ℕ). IsMarked marks y) (ap (λ (p : Pair). p.1) e) (on.passed has.0 before has.1 of)
-      | inr ge ↦ absurd (on.first has.0 ge has.1 of)
-    ]
-
 -- The walk over all that is reached
 
 -- what is marked is reached from v, and so is marked what is assumed after the first k listed routers but u
-pub record IsReaching (pairs : List Pair) (u v : ℕ) (marks : List Bool) (list : List ℕ) (k count : ℕ) : Type 0 where
-  pub listed : AreListed marks list count
-  pub sound : (r : ℕ) → IsMarked marks r → Reaches pairs v r
-  pub begun : IsMarked marks v
-  pub closed : (j : ℕ) → j < k → get_or list j 0 ≢ u → (w : ℕ) → Contains pairs (get_or list j 0, w) → IsMarked marks w
-  pub within : k ≤ count
+pub record IsReaching (pairs : List Pair) (uv : Pair) (r : MarkedList) (k : ℕ) : Type 0 where
+  pub listed : AreListed r.marks r.list r.count
+  pub sound : (q : ℕ) → IsMarked r.marks q → Reaches pairs uv.1 q
+  pub begun : IsMarked r.marks uv.1
+  pub closed : (j : ℕ) → j < k → get_or r.list j 0 ≢ uv.0 → (w : ℕ) → Contains pairs (get_or r.list j 0, w) → IsMarked r.marks w
+  pub within : k ≤ r.count
 
 pub IsReaching-step : (pairs : List Pair) (u v : ℕ) (marks marks' : List Bool) (list list' : List ℕ) (k count count' : ℕ) → k < count →
-    IsReaching pairs u v marks list k count → AreListed marks' list' count' → ((r : ℕ) → IsMarked marks r → IsMarked marks' r) →
+    IsReaching pairs (u, v) (marked_list marks list count) k → AreListed marks' list' count' → ((r : ℕ) → IsMarked marks r → IsMarked marks' r) →
     ((r : ℕ) → IsMarked marks' r → IsMarked marks r ⊎ Contains pairs (get_or list k 0, r)) →
     (get_or list k 0 ≢ u → (w : ℕ) → Contains pairs (get_or list k 0, w) → IsMarked marks' w) →
-    ((j : ℕ) → j < count → get_or list' j 0 ≡ get_or list j 0) → count ≤ count' → IsReaching pairs u v marks' list' (k + 1) count'
+    ((j : ℕ) → j < count → get_or list' j 0 ≡ get_or list j 0) → count ≤ count' → IsReaching pairs (u, v) (marked_list marks' list' count') (k + 1)
 IsReaching-step pairs u v marks marks' list list' k count count' k_in on listed kept from after same no_fewer = record {
   listed = listed;
   sound = λ r marked. elim (from r marked) [
@@ -162,7 +130,7 @@ IsReaching-step pairs u v marks marks' list list' k count count' k_in on listed 
 
 -- once all are walked over, u is marked where v reaches it
 pub IsReaching-end : (pairs : List Pair) (u v : ℕ) (marks : List Bool) (list : List ℕ) (k count : ℕ) → count ≤ k →
-    IsReaching pairs u v marks list k count →
+    IsReaching pairs (u, v) (marked_list marks list count) k →
     Reaches pairs v u → IsMarked marks u
 IsReaching-end pairs u v marks list k count whole on reaches = along v reaches.path reaches.onward on.begun
   where

@@ -11,7 +11,7 @@ use Rattle.link_trail.specs.Lists.{IsNextNode, first_node, list_at}
 use Rattle.order_core.specs.Pairs.{Pair}
 use Rattle.order_core.specs.Marks.{IsMarked}
 use Rattle.precedence_set.specs.Successors.{numbers_from, AreSuccessors}
-use Rattle.precedence_set.specs.steps.Walking.{pair_at, IsFirstFrom, IsKnownUpTo}
+use Rattle.precedence_set.specs.steps.Walking.{Walk, pair_at, walk, IsFirstFrom, IsKnownUpTo}
 
 pub numbers_from-append : (u s : ℕ) (xs ys : List Pair) → numbers_from u s (xs ++ ys) ≡ numbers_from u s xs ++ numbers_from u (s + length xs) ys
 numbers_from-append u s [] ys = let e : s + 0 ≡ s = omega arith in ap (λ (k : ℕ). numbers_from u k ys) (sym e)
@@ -94,59 +94,74 @@ IsFirstFrom-next n pairs lists x i r successors x_in i_in from next =
     subst (λ (o : Option ℕ). IsFirstFrom pairs x (suc i) o) (sym e)
     (first_from pairs x (suc i) (drop (suc i) pairs) (λ j lt. sym (get_or-drop (suc i) pairs j (0, 0))) (omega (arith, length-drop (suc i) pairs, i_in)))
 
--- what a walk over the pairs from x has found, as far as it has come
-pub record IsWalked (pairs : List Pair) (marks : List Bool) (x : ℕ) (at lowest : Option ℕ) : Type 0 where
+-- P holds of each router where a pair leads that the walk has passed
+pub record HasPassed (w : Walk) (P : ℕ → Type 0) : Type 0 where
   pub start : ℕ
-  pub first : IsFirstFrom pairs x start at
-  pub found : (w : ℕ) → lowest ≡ Some w → Contains pairs (x, w) × IsMarked marks w
-  pub seen : (j : ℕ) → j < start → j < length pairs → (pair_at pairs j).0 ≡ x → IsMarked marks (pair_at pairs j).1 →
-      IsKnownUpTo lowest (pair_at pairs j).1
+  pub first : IsFirstFrom w.pairs w.from start w.at
+  pub passed : (j : ℕ) → j < start → j < length w.pairs → (pair_at w.pairs j).0 ≡ w.from → P (pair_at w.pairs j).1
 
-pub IsWalked-begin : (pairs : List Pair) (marks : List Bool) (x : ℕ) (at : Option ℕ) → IsFirstFrom pairs x 0 at → IsWalked pairs marks x at None
-IsWalked-begin pairs marks x at first = record {
-  start = 0;
-  first = first;
-  found = λ w e. cc;
-  seen = λ j lt. absurd (omega (arith, lt));
-}
+pub HasPassed-begin : (pairs : List Pair) (x : ℕ) (at : Option ℕ) (P : ℕ → Type 0) → IsFirstFrom pairs x 0 at → HasPassed (walk pairs x at) P
+HasPassed-begin pairs x at P first = record { start = 0; first = first; passed = λ j lt. absurd (omega (arith, lt)) }
 
-pub IsWalked-step : (pairs : List Pair) (marks : List Bool) (x i : ℕ) (lowest next result : Option ℕ) → IsWalked pairs marks x (Some i) lowest →
-    IsFirstFrom pairs x (suc i) next → ((w : ℕ) → result ≡ Some w → (lowest ≡ Some w) ⊎
-    ((w ≡ (pair_at pairs i).1) × IsMarked marks (pair_at pairs i).1)) → ((q : ℕ) → IsKnownUpTo lowest q → IsKnownUpTo result q) →
-    (IsMarked marks (pair_at pairs i).1 → IsKnownUpTo result (pair_at pairs i).1) → IsWalked pairs marks x next result
-IsWalked-step pairs marks x i lowest next result walked first found no_higher at_most = record {
+pub HasPassed-step : (pairs : List Pair) (x i : ℕ) (next : Option ℕ) (P Q : ℕ → Type 0) → HasPassed (walk pairs x (Some i)) P →
+    IsFirstFrom pairs x (suc i) next → ((v : ℕ) → P v → Q v) → Q (pair_at pairs i).1 → HasPassed (walk pairs x next) Q
+HasPassed-step pairs x i next P Q has first kept here = record {
   start = suc i;
   first = first;
-  found = λ w e. elim (found w e) [
-    | inl old ↦ walked.found w old
-    | inr new ↦
-        let pair : pair_at pairs i ≡ (x, w) = ap (λ (a : ℕ). (a, (pair_at pairs i).1)) walked.first.2 ∙ ap (λ (b : ℕ). (x, b)) (sym new.0) in (
-          subst (λ (p : Pair). Contains pairs p) pair (Contains-get_or pairs i (0, 0) walked.first.1),
-          subst (λ (b : ℕ). IsMarked marks b) (sym new.0) new.1,
-        )
-  ];
-  seen = λ j lt j_in from marked. elim (cases_lt j walked.start) [
-    | inl before ↦ no_higher (pair_at pairs j).1 (walked.seen j before j_in from marked)
+  passed = λ j lt j_in from. elim (cases_lt j has.start) [
+    | inl before ↦ kept (pair_at pairs j).1 (has.passed j before j_in from)
     | inr ge ↦ elim (cases_lt j i) [
-      | inl between ↦ absurd (walked.first.3 j ge between from)
-      | inr here ↦ let same : j ≡ i = omega (arith, lt, here) in
-          subst (λ (k : ℕ). IsKnownUpTo result (pair_at pairs k).1) (sym same)
-          (at_most (subst (λ (k : ℕ). IsMarked marks (pair_at pairs k).1) same marked))
+      | inl between ↦ absurd (has.first.3 j ge between from)
+      | inr end ↦ let same : j ≡ i = omega (arith, lt, end) in subst (λ (k : ℕ). Q (pair_at pairs k).1) (sym same) here
     ]
   ];
 }
 
--- at the end of the walk every pair from x is seen
-pub IsWalked-end : (pairs : List Pair) (marks : List Bool) (x : ℕ) (lowest : Option ℕ) → IsWalked pairs marks x None lowest → (q : ℕ) →
-    Contains pairs (x, q) → IsMarked marks q → IsKnownUpTo lowest q
-IsWalked-end pairs marks x lowest walked q has marked =
-    let e : pair_at pairs has.0 ≡ (x, q) = get_or_default pairs has.0 (0, 0) (x, q) has.1 ∙ has.2 in
-    let from : (pair_at pairs has.0).0 ≡ x = ap (λ (p : Pair). p.0) e in
-    elim (cases_lt has.0 walked.start) [
-      | inl before ↦ subst (λ (v : ℕ). IsKnownUpTo lowest v) (ap (λ (p : Pair). p.1) e)
-          (walked.seen has.0 before has.1 from (subst (λ (v : ℕ). IsMarked marks v) (sym (ap (λ (p : Pair). p.1) e)) marked))
-      | inr ge ↦ absurd (walked.first has.0 ge has.1 from)
+-- the pair that it has come to is one from the router
+pub HasPassed-here : (pairs : List Pair) (x i v : ℕ) (P : ℕ → Type 0) → HasPassed (walk pairs x (Some i)) P → v ≡ (pair_at pairs i).1 →
+    Contains pairs (x, v)
+HasPassed-here pairs x i v P has is =
+    let pair : pair_at pairs i ≡ (x, v) = ap (λ (a : ℕ). (a, (pair_at pairs i).1)) has.first.2 ∙ ap (λ (b : ℕ). (x, b)) (sym is) in
+    subst (λ (p : Pair). Contains pairs p) pair (Contains-get_or pairs i (0, 0) has.first.1)
+
+-- at its end P holds of all routers that are assumed after x
+pub HasPassed-end : (pairs : List Pair) (x : ℕ) (at : Option ℕ) (P : ℕ → Type 0) → HasPassed (walk pairs x at) P → ((i : ℕ) → at ≡ Some i → ⊥) →
+    (v : ℕ) → Contains pairs (x, v) → P v
+HasPassed-end pairs x (Some i) P has none v is = absurd (none i refl)
+HasPassed-end pairs x None P has none v is =
+    let e : pair_at pairs is.0 ≡ (x, v) = get_or_default pairs is.0 (0, 0) (x, v) is.1 ∙ is.2 in
+    let from : (pair_at pairs is.0).0 ≡ x = ap (λ (p : Pair). p.0) e in
+    elim (cases_lt is.0 has.start) [
+      | inl before ↦ subst (λ (y : ℕ). P y) (ap (λ (p : Pair). p.1) e) (has.passed is.0 before is.1 from)
+      | inr ge ↦ absurd (has.first is.0 ge is.1 from)
     ]
+
+-- what a walk has found, as far as it has come
+pub record IsWalked (w : Walk) (marks : List Bool) (lowest : Option ℕ) : Type 0 where
+  pub walked : HasPassed w (λ v. IsMarked marks v → IsKnownUpTo lowest v)
+  pub found : (v : ℕ) → lowest ≡ Some v → Contains w.pairs (w.from, v) × IsMarked marks v
+
+pub IsWalked-begin : (pairs : List Pair) (marks : List Bool) (x : ℕ) (at : Option ℕ) → IsFirstFrom pairs x 0 at → IsWalked (walk pairs x at) marks None
+IsWalked-begin pairs marks x at first = record {
+  walked = HasPassed-begin pairs x at (λ v. IsMarked marks v → IsKnownUpTo None v) first;
+  found = λ v e. cc;
+}
+
+pub IsWalked-step : (pairs : List Pair) (marks : List Bool) (x i : ℕ) (lowest next result : Option ℕ) → IsWalked (walk pairs x (Some i)) marks lowest →
+    IsFirstFrom pairs x (suc i) next → ((w : ℕ) → result ≡ Some w → (lowest ≡ Some w) ⊎
+    ((w ≡ (pair_at pairs i).1) × IsMarked marks (pair_at pairs i).1)) → ((q : ℕ) → IsKnownUpTo lowest q → IsKnownUpTo result q) →
+    (IsMarked marks (pair_at pairs i).1 → IsKnownUpTo result (pair_at pairs i).1) → IsWalked (walk pairs x next) marks result
+IsWalked-step pairs marks x i lowest next result is first found no_higher at_most = record {
+  walked = HasPassed-step pairs x i next (λ v. IsMarked marks v → IsKnownUpTo lowest v) (λ v. IsMarked marks v → IsKnownUpTo result v) is.walked first
+      (λ v known marked. no_higher v (known marked)) at_most;
+  found = λ v e. elim (found v e) [
+    | inl old ↦ is.found v old
+    | inr new ↦ (
+      HasPassed-here pairs x i v (λ v. IsMarked marks v → IsKnownUpTo lowest v) is.walked new.0,
+      subst (λ (b : ℕ). IsMarked marks b) (sym new.0) new.1,
+    )
+  ];
+}
 
 -- how many pairs are left to walk over
 abbrev pub left_after : List Pair → Option ℕ → ℕ
@@ -158,28 +173,22 @@ pub left_after-smaller : (pairs : List Pair) (x i : ℕ) (next : Option ℕ) →
 left_after-smaller pairs x i None i_in first = omega (arith, i_in)
 left_after-smaller pairs x i (Some j) i_in first = omega (arith, i_in, first.0, first.1)
 
--- where the walk has no more pair
-pub IsWalked-last : (pairs : List Pair) (marks : List Bool) (x : ℕ) (at lowest : Option ℕ) → IsWalked pairs marks x at lowest →
-    ((i : ℕ) → at ≡ Some i → ⊥) → IsWalked pairs marks x None lowest
-IsWalked-last pairs marks x None lowest walked none = walked
-IsWalked-last pairs marks x (Some i) lowest walked none = absurd (none i refl)
+-- what the walk has found is a marked router after x
+pub lowest-after : (w : Walk) (marks : List Bool) (lowest : Option ℕ) → IsWalked w marks lowest → IfSome lowest (λ v. Contains w.pairs (w.from, v))
+lowest-after w marks None is = tt
+lowest-after w marks (Some v) is = (is.found v refl).0
 
-pub lowest-after : (pairs : List Pair) (marks : List Bool) (x : ℕ) (lowest : Option ℕ) → IsWalked pairs marks x None lowest →
-    IfSome lowest (λ w. Contains pairs (x, w))
-lowest-after pairs marks x None walked = tt
-lowest-after pairs marks x (Some w) walked = (walked.found w refl).0
+pub lowest-marked : (w : Walk) (marks : List Bool) (lowest : Option ℕ) → IsWalked w marks lowest → IfSome lowest (λ v. IsMarked marks v)
+lowest-marked w marks None is = tt
+lowest-marked w marks (Some v) is = (is.found v refl).1
 
-pub lowest-marked : (pairs : List Pair) (marks : List Bool) (x : ℕ) (lowest : Option ℕ) → IsWalked pairs marks x None lowest →
-    IfSome lowest (λ w. IsMarked marks w)
-lowest-marked pairs marks x None walked = tt
-lowest-marked pairs marks x (Some w) walked = (walked.found w refl).1
+-- in the end it is the lowest one, and there is none where nothing was found
+pub lowest-lowest : (pairs : List Pair) (marks : List Bool) (x : ℕ) (at lowest : Option ℕ) → IsWalked (walk pairs x at) marks lowest →
+    ((i : ℕ) → at ≡ Some i → ⊥) → IfSome lowest (λ w. (q : ℕ) → Contains pairs (x, q) → IsMarked marks q → w ≤ q)
+lowest-lowest pairs marks x at None is none = tt
+lowest-lowest pairs marks x at (Some w) is none = HasPassed-end pairs x at (λ v. IsMarked marks v → w ≤ v) is.walked none
 
-pub lowest-lowest : (pairs : List Pair) (marks : List Bool) (x : ℕ) (lowest : Option ℕ) → IsWalked pairs marks x None lowest →
-    IfSome lowest (λ w. (q : ℕ) → Contains pairs (x, q) → IsMarked marks q → w ≤ q)
-lowest-lowest pairs marks x None walked = tt
-lowest-lowest pairs marks x (Some w) walked = IsWalked-end pairs marks x (Some w) walked
-
-pub lowest-none : (pairs : List Pair) (marks : List Bool) (x : ℕ) (lowest : Option ℕ) → IsWalked pairs marks x None lowest →
-    IfNone lowest ((q : ℕ) → Contains pairs (x, q) → ¬ IsMarked marks q)
-lowest-none pairs marks x None walked = IsWalked-end pairs marks x None walked
-lowest-none pairs marks x (Some w) walked = tt
+pub lowest-none : (pairs : List Pair) (marks : List Bool) (x : ℕ) (at lowest : Option ℕ) → IsWalked (walk pairs x at) marks lowest →
+    ((i : ℕ) → at ≡ Some i → ⊥) → IfNone lowest ((q : ℕ) → Contains pairs (x, q) → ¬ IsMarked marks q)
+lowest-none pairs marks x at None is none = HasPassed-end pairs x at (λ v. ¬ IsMarked marks v) is.walked none
+lowest-none pairs marks x at (Some w) is none = tt

@@ -11,6 +11,7 @@ use Rattle.order_core.specs.Marks.{IsMarked, marked_count}
 use Rattle.order_core.proofs.DistinctLists.{AllPairs-cons, length-le_from_distinct}
 use Rattle.order_core.proofs.Marked.{marked_count-taken}
 use Rattle.order_core.proofs.Paths.{Reaches-itself, Reaches-step, Reaches-trans, Leads-step}
+use Rattle.precedence_set.specs.steps.Marks.{MarkedList, marked_list}
 use Rattle.precedence_set.specs.LeastCycle.{GoesBack, IsLeastCycle}
 
 -- w is assumed after x, and no marked router of a lower number is
@@ -20,17 +21,17 @@ pub record IsLowestAhead (pairs : List Pair) (marks : List Bool) (x w : ℕ) : T
 
 -- the walk stands on a path of distinct routers that begins with u and v, and from v on each of them is the lowest
 -- marked one after the router before it; what reaches u is marked, and v isn't where only u is left of the path
-pub record IsWalking (n : ℕ) (pairs : List Pair) (u v : ℕ) (marks : List Bool) (path : List ℕ) (count : ℕ) : Type 0 where
-  pub first : get_or path 0 0 ≡ u
-  pub second : get_or path 1 0 ≡ v
-  pub some : 1 ≤ count
-  pub within : count ≤ length path
-  pub below : (k : ℕ) → k < count → get_or path k 0 < n
-  pub distinct : (i j : ℕ) → i < j → j < count → get_or path i 0 ≢ get_or path j 0
-  pub standing : (k : ℕ) → 1 ≤ k → k < count → IsMarked marks (get_or path k 0)
-  pub steps : (k : ℕ) → 1 ≤ k → k + 1 < count → IsLowestAhead pairs marks (get_or path k 0) (get_or path (k + 1) 0)
-  pub complete : (r : ℕ) → Reaches pairs r u → IsMarked marks r
-  pub done : count ≡ 1 → ¬ IsMarked marks v
+pub record IsWalking (n : ℕ) (pairs : List Pair) (uv : Pair) (p : MarkedList) : Type 0 where
+  pub first : get_or p.list 0 0 ≡ uv.0
+  pub second : get_or p.list 1 0 ≡ uv.1
+  pub some : 1 ≤ p.count
+  pub within : p.count ≤ length p.list
+  pub below : (k : ℕ) → k < p.count → get_or p.list k 0 < n
+  pub distinct : (i j : ℕ) → i < j → j < p.count → get_or p.list i 0 ≢ get_or p.list j 0
+  pub standing : (k : ℕ) → 1 ≤ k → k < p.count → IsMarked p.marks (get_or p.list k 0)
+  pub steps : (k : ℕ) → 1 ≤ k → k + 1 < p.count → IsLowestAhead pairs p.marks (get_or p.list k 0) (get_or p.list (k + 1) 0)
+  pub complete : (r : ℕ) → Reaches pairs r uv.0 → IsMarked p.marks r
+  pub done : p.count ≡ 1 → ¬ IsMarked p.marks uv.1
 
 -- what reaches a router below n is below n
 pub Reaches-below : (n : ℕ) (pairs : List Pair) → AreBelow n pairs → (r u : ℕ) → u < n → Reaches pairs r u → r < n
@@ -42,7 +43,7 @@ Reaches-below n pairs below r u u_in reaches = by_path reaches.path reaches.onwa
 
 -- it begins with u and v, where v and what reaches u are marked
 pub IsWalking-begin : (n : ℕ) (pairs : List Pair) (u v : ℕ) (marks : List Bool) (path : List ℕ) → 2 ≤ length path → u < n → v < n → u ≢ v →
-    IsMarked marks v → ((r : ℕ) → Reaches pairs r u → IsMarked marks r) → IsWalking n pairs u v marks (set (set path 0 u) 1 v) 2
+    IsMarked marks v → ((r : ℕ) → Reaches pairs r u → IsMarked marks r) → IsWalking n pairs (u, v) (marked_list marks (set (set path 0 u) 1 v) 2)
 IsWalking-begin n pairs u v marks [] long u_in v_in differ begun complete = absurd (omega (arith, long))
 IsWalking-begin n pairs u v marks (x ∷ []) long u_in v_in differ begun complete = absurd (omega (arith, long))
 IsWalking-begin n pairs u v marks (x ∷ y ∷ path) long u_in v_in differ begun complete = record {
@@ -76,8 +77,8 @@ IsWalking-begin n pairs u v marks (x ∷ y ∷ path) long u_in v_in differ begun
     marked (suc (suc k)) some lt = absurd (omega (arith, lt))
 
 -- from v on each router of the path reaches the later ones
-reaches_later : (n : ℕ) (pairs : List Pair) (u v : ℕ) (marks : List Bool) (path : List ℕ) (count : ℕ) → IsWalking n pairs u v marks path count →
-    (k m : ℕ) → 1 ≤ k → k + m < count → Reaches pairs (get_or path k 0) (get_or path (k + m) 0)
+reaches_later : (n : ℕ) (pairs : List Pair) (u v : ℕ) (marks : List Bool) (path : List ℕ) (count : ℕ) →
+    IsWalking n pairs (u, v) (marked_list marks path count) → (k m : ℕ) → 1 ≤ k → k + m < count → Reaches pairs (get_or path k 0) (get_or path (k + m) 0)
 reaches_later n pairs u v marks path count walking k zero some lt =
     let same : k + 0 ≡ k = omega arith in
     subst (λ (j : ℕ). Reaches pairs (get_or path k 0) (get_or path j 0)) (sym same) (Reaches-itself pairs (get_or path k 0))
@@ -92,7 +93,7 @@ reaches_later n pairs u v marks path count walking k (suc m) some lt =
 
 -- a router after the last one, other than u, isn't on the path
 is_new : (n : ℕ) (pairs : List Pair) (u v : ℕ) (marks : List Bool) (path : List ℕ) (count w : ℕ) → HasNoCycle pairs →
-    IsWalking n pairs u v marks path count → Contains pairs (get_or path (count - 1) 0, w) → w ≢ u → (i : ℕ) → i < count → get_or path i 0 ≢ w
+    IsWalking n pairs (u, v) (marked_list marks path count) → Contains pairs (get_or path (count - 1) 0, w) → w ≢ u → (i : ℕ) → i < count → get_or path i 0 ≢ w
 is_new n pairs u v marks path count w acyclic walking follows differ zero lt same = differ (sym same ∙ walking.first)
 is_new n pairs u v marks path count w acyclic walking follows differ (suc i) lt same =
     let last : ℕ = get_or path (count - 1) 0 in
@@ -105,7 +106,7 @@ is_new n pairs u v marks path count w acyclic walking follows differ (suc i) lt 
 
 -- so there is room for it
 pub room_for_next : (n : ℕ) (pairs : List Pair) → AreBelow n pairs → HasNoCycle pairs →
-    (u v : ℕ) (marks : List Bool) (path : List ℕ) (count w : ℕ) → length path ≡ n → IsWalking n pairs u v marks path count →
+    (u v : ℕ) (marks : List Bool) (path : List ℕ) (count w : ℕ) → length path ≡ n → IsWalking n pairs (u, v) (marked_list marks path count) →
     Contains pairs (get_or path (count - 1) 0, w) → w ≢ u → count < length path
 room_for_next n pairs below acyclic u v marks path count w whole walking follows differ = elim (cases_lt count (length path)) [
   | inl lt ↦ lt
@@ -124,8 +125,9 @@ room_for_next n pairs below acyclic u v marks path count w whole walking follows
 
 -- the path is longer by the lowest marked router after the last one
 pub IsWalking-longer : (n : ℕ) (pairs : List Pair) → AreBelow n pairs → HasNoCycle pairs →
-    (u v : ℕ) (marks : List Bool) (path : List ℕ) (count w : ℕ) → 2 ≤ count → count < length path → IsWalking n pairs u v marks path count →
-    IsLowestAhead pairs marks (get_or path (count - 1) 0) w → IsMarked marks w → w ≢ u → IsWalking n pairs u v marks (set path count w) (count + 1)
+    (u v : ℕ) (marks : List Bool) (path : List ℕ) (count w : ℕ) → 2 ≤ count → count < length path → IsWalking n pairs (u, v) (marked_list marks path count) →
+    IsLowestAhead pairs marks (get_or path (count - 1) 0) w → IsMarked marks w → w ≢ u →
+    IsWalking n pairs (u, v) (marked_list marks (set path count w) (count + 1))
 IsWalking-longer n pairs below acyclic u v marks path count w two room walking ahead marked differ =
     let new = is_new n pairs u v marks path count w acyclic walking ahead.follows differ in
     let w_in : w < n = (All-contains (λ (p : Pair). (p.0 < n) × (p.1 < n)) pairs (get_or path (count - 1) 0, w) below ahead.follows).1 in
@@ -189,9 +191,9 @@ marked_before marks x r x_in marked = elim (cases_eq r x) [
 
 -- the path is shorter by the last router, which leads to no marked one and has no mark now
 pub IsWalking-shorter : (n : ℕ) (pairs : List Pair) (u v : ℕ) (marks : List Bool) (path : List ℕ) (count less : ℕ) → 2 ≤ count →
-    less + 1 ≡ count → get_or path (count - 1) 0 < length marks → IsWalking n pairs u v marks path count →
+    less + 1 ≡ count → get_or path (count - 1) 0 < length marks → IsWalking n pairs (u, v) (marked_list marks path count) →
     ((q : ℕ) → Contains pairs (get_or path (count - 1) 0, q) → ¬ IsMarked marks q) →
-    IsWalking n pairs u v (set marks (get_or path (count - 1) 0) false) path less
+    IsWalking n pairs (u, v) (marked_list (set marks (get_or path (count - 1) 0) false) path less)
 IsWalking-shorter n pairs u v marks path count less two shorter last_in walking none = record {
   first = walking.first;
   second = walking.second;
@@ -251,7 +253,7 @@ goes_back pairs marks u complete x (w ∷ rest) differ steps end =
 
 -- where u is the lowest marked router after the last one, the path is the cycle
 pub IsWalking-end : (n : ℕ) (pairs : List Pair) (u v : ℕ) (marks : List Bool) (path : List ℕ) (count : ℕ) → 2 ≤ count →
-    IsWalking n pairs u v marks path count → IsLowestAhead pairs marks (get_or path (count - 1) 0) u →
+    IsWalking n pairs (u, v) (marked_list marks path count) → IsLowestAhead pairs marks (get_or path (count - 1) 0) u →
     IsLeastCycle pairs u v (take count path) × Reaches pairs v u
 IsWalking-end n pairs u v marks path zero two walking end = absurd (omega (arith, two))
 IsWalking-end n pairs u v marks path (suc zero) two walking end = absurd (omega (arith, two))
@@ -304,20 +306,20 @@ IsLowestAhead-found pairs marks x u (Some w) e follows lowest =
 -- there is room for a router that is found
 pub room_for_found : (n : ℕ) (pairs : List Pair) → AreBelow n pairs → HasNoCycle pairs →
     (u v : ℕ) (marks : List Bool) (path : List ℕ) (count : ℕ) →
-    length path ≡ n → IsWalking n pairs u v marks path count → (next : Option ℕ) → next ≢ Some u →
+    length path ≡ n → IsWalking n pairs (u, v) (marked_list marks path count) → (next : Option ℕ) → next ≢ Some u →
     IfSome next (λ w. Contains pairs (get_or path (count - 1) 0, w)) → OnSome next (count < length path)
 room_for_found n pairs below acyclic u v marks path count whole walking None differ follows = tt
 room_for_found n pairs below acyclic u v marks path count whole walking (Some w) differ follows =
     room_for_next n pairs below acyclic u v marks path count w whole walking follows (λ same. differ (ap (λ (x : ℕ). Some x) same))
 
 -- what one step of the walk makes of the path and the marks
-pub record IsStep (marks : List Bool) (path : List ℕ) (count : ℕ) (next : Option ℕ) (marks' : List Bool) (path' : List ℕ) (count' : ℕ) : Type 0 where
-  pub longer : OnSome next (count' ≡ count + 1)
-  pub added : IfSome next (λ w. path' ≡ set path count w)
-  pub kept : OnSome next (marks' ≡ marks)
-  pub shorter : IfNone next (count' + 1 ≡ count)
-  pub same : IfNone next (path' ≡ path)
-  pub taken : IfNone next (marks' ≡ set marks (get_or path (count - 1) 0) false)
+pub record IsStep (old : MarkedList) (next : Option ℕ) (new : MarkedList) : Type 0 where
+  pub longer : OnSome next (new.count ≡ old.count + 1)
+  pub added : IfSome next (λ w. new.list ≡ set old.list old.count w)
+  pub kept : OnSome next (new.marks ≡ old.marks)
+  pub shorter : IfNone next (new.count + 1 ≡ old.count)
+  pub same : IfNone next (new.list ≡ old.list)
+  pub taken : IfNone next (new.marks ≡ set old.marks (get_or old.list (old.count - 1) 0) false)
 
 -- what is found by the walk after the last router
 pub record IsNextOf (pairs : List Pair) (marks : List Bool) (x : ℕ) (next : Option ℕ) : Type 0 where
@@ -330,26 +332,26 @@ pub record IsNextOf (pairs : List Pair) (marks : List Bool) (x : ℕ) (next : Op
 pub IsWalking-step : (n : ℕ) (pairs : List Pair) → AreBelow n pairs → HasNoCycle pairs →
     (u v : ℕ) (marks : List Bool) (path : List ℕ) (count : ℕ) →
     (next : Option ℕ) (marks' : List Bool) (path' : List ℕ) (count' : ℕ) → 2 ≤ count → length path ≡ n → length marks ≡ n →
-    IsWalking n pairs u v marks path count → next ≢ Some u → IsNextOf pairs marks (get_or path (count - 1) 0) next →
-    IsStep marks path count next marks' path' count' → IsWalking n pairs u v marks' path' count'
+    IsWalking n pairs (u, v) (marked_list marks path count) → next ≢ Some u → IsNextOf pairs marks (get_or path (count - 1) 0) next →
+    IsStep (marked_list marks path count) next (marked_list marks' path' count') → IsWalking n pairs (u, v) (marked_list marks' path' count')
 IsWalking-step n pairs below acyclic u v marks path count None marks' path' count' two whole many walking differ is_next step =
     let last_in : get_or path (count - 1) 0 < length marks = omega (arith, walking.below (count - 1) (omega (arith, two)), many) in
     let on = IsWalking-shorter n pairs u v marks path count count' two step.shorter last_in walking is_next.none in
-    subst (λ (xs : List ℕ). IsWalking n pairs u v marks' xs count') (sym step.same)
-    (subst (λ (ms : List Bool). IsWalking n pairs u v ms path count') (sym step.taken) on)
+    subst (λ (xs : List ℕ). IsWalking n pairs (u, v) (marked_list marks' xs count')) (sym step.same)
+    (subst (λ (ms : List Bool). IsWalking n pairs (u, v) (marked_list ms path count')) (sym step.taken) on)
 IsWalking-step n pairs below acyclic u v marks path count (Some w) marks' path' count' two whole many walking differ is_next step =
     let apart : w ≢ u = λ same. differ (ap (λ (x : ℕ). Some x) same) in
     let room = room_for_next n pairs below acyclic u v marks path count w whole walking is_next.after apart in
     let ahead : IsLowestAhead pairs marks (get_or path (count - 1) 0) w = record { follows = is_next.after; lowest = is_next.lowest } in
     let on = IsWalking-longer n pairs below acyclic u v marks path count w two room walking ahead is_next.marked apart in
-    subst (λ (c : ℕ). IsWalking n pairs u v marks' path' c) (sym step.longer)
-    (subst (λ (xs : List ℕ). IsWalking n pairs u v marks' xs (count + 1)) (sym step.added)
-    (subst (λ (ms : List Bool). IsWalking n pairs u v ms (set path count w) (count + 1)) (sym step.kept) on))
+    subst (λ (c : ℕ). IsWalking n pairs (u, v) (marked_list marks' path' c)) (sym step.longer)
+    (subst (λ (xs : List ℕ). IsWalking n pairs (u, v) (marked_list marks' xs (count + 1))) (sym step.added)
+    (subst (λ (ms : List Bool). IsWalking n pairs (u, v) (marked_list ms (set path count w) (count + 1))) (sym step.kept) on))
 
 -- and comes nearer to its end
 pub step_is_nearer : (n : ℕ) (pairs : List Pair) (u v : ℕ) (marks : List Bool) (path : List ℕ) (count : ℕ) →
-    (next : Option ℕ) (marks' : List Bool) (path' : List ℕ) (count' : ℕ) → 2 ≤ count → IsWalking n pairs u v marks path count →
-    OnSome next (count < length path) → IsStep marks path count next marks' path' count' →
+    (next : Option ℕ) (marks' : List Bool) (path' : List ℕ) (count' : ℕ) → 2 ≤ count → IsWalking n pairs (u, v) (marked_list marks path count) →
+    OnSome next (count < length path) → IsStep (marked_list marks path count) next (marked_list marks' path' count') →
     2 * marked_count marks' + (length path' - count') < 2 * marked_count marks + (length path - count)
 step_is_nearer n pairs u v marks path count None marks' path' count' two walking room step =
     let last : ℕ = get_or path (count - 1) 0 in

@@ -1,3 +1,4 @@
 pub mod Sorting
 pub mod Marks
 pub mod Walking
+pub mod Chaining

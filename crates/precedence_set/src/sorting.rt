@@ -1,7 +1,7 @@
 ghost use Rattle.std.specs.Prelude.{◌≡◌, ℕ, ◌+◌, ◌-◌, ◌^◌, ◌<◌, ◌≤◌, length, slice_index, slice_set};
 ghost use Rattle.order_core.specs.Pairs.{AreBelow, HasNoCycle};
 ghost use Rattle.precedence_set.specs.Successors.{AreSuccessors};
-ghost use Rattle.precedence_set.specs.steps.Sorting.{AreLeftCounts, IsGone, IsListing, IsTopological};
+ghost use Rattle.precedence_set.specs.steps.Sorting.{AreLeftCounts, IsGone, IsListing, IsTopological, queue};
 
 use link_trail::Links;
 
@@ -56,7 +56,7 @@ fn list_free(pairs: &[(u32, u32)], counts: &[u32], order: &mut [u32]) -> usize
     requires small { length order.old < 2 ^ 31 }
     requires counts_length { length counts.now ≡ length order.old }
     requires counted { AreLeftCounts pairs.now (IsGone pairs.now counts.now 0) counts.now }
-    ensures listing { IsListing (length order.new) pairs.now counts.now order.new result }
+    ensures listing { IsListing (length order.new) pairs.now (queue counts.now order.new result) }
     ensures within { result ≤ length order.new }
 {
     let mut count = 0;
@@ -85,9 +85,9 @@ fn list_after(
     requires counts_length { length counts.old ≡ length order.old }
     requires listed { k < count }
     requires within { count ≤ length order.old }
-    requires listing { IsListing (length order.old) pairs.now counts.old order.old count }
+    requires listing { IsListing (length order.old) pairs.now (queue counts.old order.old count) }
     requires counted { AreLeftCounts pairs.now (IsGone pairs.now order.old k) counts.old }
-    ensures listing { IsListing (length order.new) pairs.now counts.new order.new result }
+    ensures listing { IsListing (length order.new) pairs.now (queue counts.new order.new result) }
     ensures within { result ≤ length order.new }
     ensures placed { k < result }
     ensures counted { AreLeftCounts pairs.now (IsGone pairs.now order.new (k + 1)) counts.new }

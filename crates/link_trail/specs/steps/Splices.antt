@@ -3,7 +3,7 @@ use Rattle.std.specs.Prelude.{◌≡◌, ℕ, List, ◌∷◌, ◌++◌, Option,
 use Rattle.link_trail.specs.declared.chain.Node.{Node}
 use Rattle.link_trail.specs.declared.chain.Ends.{Ends}
 use Rattle.link_trail.specs.Lists.{IsFree, first_node, list_at}
-use Rattle.link_trail.specs.Chains.{node_at, ends_at, last_node, ShowsLists}
+use Rattle.link_trail.specs.Chains.{node_at, ends_at, last_node, ShowsLists, Stretch}
 
 -- the node that follows `previous`, or the list's first
 abbrev pub next_after : List Node → List Ends → ℕ → Option ℕ → Option ℕ
@@ -34,17 +34,24 @@ with_last ends list None previous =
     slice_set ends list (record { first = (ends_at ends list).first; last = previous })
 with_last ends list (Some n) previous = ends
 
--- nodes and ends show the node between these neighbours, where they showed the neighbours alone
-pub record PutsBetween (nodes : List Node) (ends : List Ends) (nodes' : List Node) (ends' : List Ends)
-    (list node : ℕ) (previous next : Option ℕ) : Type 0 where
-  pub shows : (lists : List (List ℕ)) (before after : List ℕ) → ShowsLists nodes ends lists →
-      IsFree lists node → list_at lists list ≡ before ++ after →
-      last_node before ≡ previous → first_node after ≡ next →
-      ShowsLists nodes' ends' (slice_set lists list (before ++ node ∷ after))
+-- what is kept of lists: the neighbours of each node, and the ends of each list
+pub record KeptLists : Type 0 where
+  pub nodes : List Node
+  pub ends : List Ends
+
+-- these nodes and ends
+abbrev pub kept : List Node → List Ends → KeptLists
+kept nodes ends = record { nodes = nodes; ends = ends }
+
+-- nodes and ends show the node in this stretch, where they showed none in it
+pub record PutsBetween (old new : KeptLists) (stretch : Stretch) (node : ℕ) : Type 0 where
+  pub shows : (lists : List (List ℕ)) (before after : List ℕ) → ShowsLists old.nodes old.ends lists →
+      IsFree lists node → list_at lists stretch.list ≡ before ++ after →
+      last_node before ≡ stretch.previous → first_node after ≡ stretch.next →
+      ShowsLists new.nodes new.ends (slice_set lists stretch.list (before ++ node ∷ after))
 
 -- nodes and ends show the list without the node
-pub record TakesOut (nodes : List Node) (ends : List Ends) (nodes' : List Node) (ends' : List Ends)
-    (list node : ℕ) : Type 0 where
-  pub shows : (lists : List (List ℕ)) (before after : List ℕ) → ShowsLists nodes ends lists →
+pub record TakesOut (old new : KeptLists) (list node : ℕ) : Type 0 where
+  pub shows : (lists : List (List ℕ)) (before after : List ℕ) → ShowsLists old.nodes old.ends lists →
       list_at lists list ≡ before ++ node ∷ after →
-      ShowsLists nodes' ends' (slice_set lists list (before ++ after))
+      ShowsLists new.nodes new.ends (slice_set lists list (before ++ after))

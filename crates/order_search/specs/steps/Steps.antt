@@ -1,13 +1,12 @@
 -- Where the search stands, what its steps give, and how it ends.
 use Rattle.std.specs.Prelude.{◌≡◌, ℕ, ◌+◌, ◌<◌, ◌≤◌, ◌↔◌, List, [], ◌∷◌, ◌++◌, length, replicate, vec_len, All, Option, Some, None}
-use Rattle.order_core.specs.Pairs.{Pair}
 use Rattle.order_core.specs.declared.turn.Turn.{Turn}
 use Rattle.precedence_set.specs.Layers.{IsLayeredChain}
 use Rattle.order_search.specs.Answers.{IsFoundNode, IsRefutation}
 use Rattle.order_search.specs.Meanings.{Meaning}
 use Rattle.order_search.specs.Places.{IsLayered}
 use Rattle.order_search.specs.Trees.{Fill, IsVisited, HasOneChild, branch_count}
-use Rattle.order_search.specs.steps.Waiting.{places_of, IsUnder}
+use Rattle.order_search.specs.steps.Waiting.{Standing, places_of, IsUnder}
 use Rattle.order_search.specs.declared.ending.Ending.{Ending}
 use Rattle.order_search.specs.declared.ending.Ending.TheVariants.{Good, Spent as Stops, Closed}
 use Rattle.order_search.specs.declared.found.Found.{Found}
@@ -47,16 +46,16 @@ EndsBy m budget s Good = IsAsked m budget s × m.good s.ranks.items
 EndsBy m budget s Stops = IsAsked m budget s × (¬ m.good s.ranks.items) × (s.branches ≡ budget)
 EndsBy m budget s Closed = IsRefutation m budget s.tree
 
--- a step makes one branch and comes to the next place, or ends the search
-abbrev pub StepsTo : Meaning → ℕ → ℕ → Stand → Option Ending → Type 0
-StepsTo m budget branches s None = IsSearching m budget s × (s.branches ≡ branches + 1)
-StepsTo m budget branches s (Some ending) = EndsBy m budget s ending
+-- a step comes to the next place, or ends the search
+abbrev pub StepsTo : Meaning → ℕ → Stand → Option Ending → Type 0
+StepsTo m budget s None = IsSearching m budget s
+StepsTo m budget s (Some ending) = EndsBy m budget s ending
 
--- what was found are waves of these ranks, with these pairs and their chain, and this trail
-pub record AreWavesOf (n : ℕ) (pairs : List Pair) (ranks : List ℕ) (trail : List Node) (found : Found) : Type 0 where
+-- what was found are waves of these ranks, with the assumed pairs and their chain, and this trail
+pub record AreWavesOf (held : Standing) (ranks : List ℕ) (trail : List Node) (found : Found) : Type 0 where
   pub chain : List ℕ
-  pub chained : IsLayeredChain n pairs chain
-  pub is : found ≡ Waves ranks pairs chain trail
+  pub chained : IsLayeredChain held.routers held.pairs chain
+  pub is : found ≡ Waves ranks held.pairs chain trail
 
 -- what an end needs: where the list is good, it is the layered one
 abbrev pub EndsOrGoesOn : Stand → Ending → Type 0
@@ -65,6 +64,6 @@ EndsOrGoesOn s _ = Unit {0}
 
 -- what is found where the search ends
 abbrev pub IsEndOf : Stand → Ending → Found → Type 0
-IsEndOf s Good found = AreWavesOf s.held.routers s.held.pairs s.ranks.items (s.tree ++ Unvisited ∷ []) found
+IsEndOf s Good found = AreWavesOf s.held s.ranks.items (s.tree ++ Unvisited ∷ []) found
 IsEndOf s Stops found = found ≡ Spent (s.tree ++ replicate (length s.waiting + 1) Unvisited)
 IsEndOf s Closed found = found ≡ Refuted s.tree

@@ -47,12 +47,10 @@ returns-then-more-clause-step g c =
     let routers = c.in_ok-more.ensures.routers ∙ asked.0.searching.routers in
     let stands = c.in_ok-more.ensures.stands (g.Q.Oracle.base c.args.oracle.now)
     (subst (λ (n : ℕ). IsUnder n (g.Q.Oracle.base c.args.oracle.now) c.visit.new.held.pairs
-    (children_below c.visit.new.held.pairs c.turns-turns.result.now c.args.stand.now.waiting)) (sym asked.0.searching.routers) branched.under) in (
-      place_is_next _ c.args.budget _ _ branched (OnTrue_at c.if-more.true c.in_ok-more.ensures.found)
-          (subst (λ (n : ℕ). IsUnder n (g.Q.Oracle.base c.args.oracle.now) c.go_below.new.held.pairs c.go_below.new.waiting) routers stands)
-          refl routers asked.0.searching.room,
-      refl,
-    )
+    (children_below c.visit.new.held.pairs c.turns-turns.result.now c.args.stand.now.waiting)) (sym asked.0.searching.routers) branched.under) in
+    place_is_next _ c.args.budget _ _ branched (OnTrue_at c.if-more.true c.in_ok-more.ensures.found)
+    (subst (λ (n : ℕ). IsUnder n (g.Q.Oracle.base c.args.oracle.now) c.go_below.new.held.pairs c.go_below.new.waiting) routers stands)
+    refl routers asked.0.searching.room
 
 pub returns-else-more-clause-step : goal.returns-else-more-clause-step
 returns-else-more-clause-step g c =

@@ -1,7 +1,12 @@
 -- Each step goes back to the parent of the router after it.
-use Rattle.std.proofs.Common.{◌≡◌, ◌-◌, ◌<◌, ℕ, zero, suc, length, length-set, arith, subst, refl, set, ◌∙◌}
+use Rattle.std.proofs.Common.{◌≡◌, ◌-◌, ℕ, zero, suc, length, length-set, arith, subst, refl, set, ◌∙◌}
+use Rattle.precedence_set.specs.steps.Chaining.{trace}
 use Rattle.precedence_set.proofs.ChainFacts.{IsTraced, IsTraced-begin, IsTraced-down, IsChain-traced, IsChain-none, some_in_last, count_few, rank_few}
 use Rattle.precedence_set.proofs.chaining.trace_chain.Goals as goal
+
+by_count : (n : ℕ) → ¬ (n ≡ 0) → suc (n - 1) ≡ n
+by_count zero some = absurd (some refl)
+by_count (suc n) some = omega arith
 
 pub find_parents-requires-clause-few : goal.find_parents-requires-clause-few
 find_parents-requires-clause-few c =
@@ -11,39 +16,26 @@ pub first_in_layer-requires-clause-some : goal.first_in_layer-requires-clause-so
 first_in_layer-requires-clause-some c =
     some_in_last (length c.args.layers.now) c.args.pairs.now c.args.layers.now (c.args.count - 1) c.requires.below c.requires.layers
     (by_count c.args.count c.if-count-eq0.false ∙ c.requires.count)
-  where
-    by_count : (n : ℕ) → ¬ (n ≡ 0) → suc (n - 1) ≡ n
-    by_count zero some = absurd (some refl)
-    by_count (suc n) some = omega arith
 
 pub bounds-out-k : goal.bounds-out-k
 bounds-out-k c =
-    let some : 0 < c.args.count = by_count c.args.count c.if-count-eq0.false in
     omega (
       arith,
-      some,
+      by_count c.args.count c.if-count-eq0.false,
       c.requires.count,
       c.requires.out_length,
       count_few (length c.args.layers.now) c.args.pairs.now c.args.layers.now
           c.requires.below c.requires.layers,
     )
-  where
-    by_count : (n : ℕ) → ¬ (n ≡ 0) → 0 < n
-    by_count zero some = absurd (some refl)
-    by_count (suc n) some = omega arith
 
 pub loop-k-init : goal.loop-k-init
 loop-k-init c =
     let e : suc (c.args.count - 1) ≡ c.args.count = by_count c.args.count c.if-count-eq0.false in
     let few = count_few (length c.args.layers.now) c.args.pairs.now c.args.layers.now c.requires.below c.requires.layers in
-    subst (λ (n : ℕ). IsTraced (length c.args.layers.now) c.args.pairs.now c.args.layers.now (set c.args.out.now (c.args.count - 1) c.first_in_layer.result)
-    n (c.args.count - 1)) e
+    let out = set c.args.out.now (c.args.count - 1) c.first_in_layer.result in
+    subst (λ (n : ℕ). IsTraced (length c.args.layers.now) c.args.pairs.now (trace c.args.layers.now out n) (c.args.count - 1)) e
     (IsTraced-begin (length c.args.layers.now) c.args.pairs.now c.args.layers.now c.args.out.now (c.args.count - 1) c.first_in_layer.result refl
     c.first_in_layer.ensures (omega (arith, e, few, c.requires.count, c.requires.out_length)))
-  where
-    by_count : (n : ℕ) → ¬ (n ≡ 0) → suc (n - 1) ≡ n
-    by_count zero some = absurd (some refl)
-    by_count (suc n) some = omega arith
 
 pub bounds-out-k-in-loop-k : goal.bounds-out-k-in-loop-k
 bounds-out-k-in-loop-k c =
@@ -89,7 +81,7 @@ pub returns : goal.returns
 returns c =
     let few = count_few (length c.args.layers.now) c.args.pairs.now c.args.layers.now c.requires.below c.requires.layers in
     let none : c.loop-k.k ≡ 0 = omega (arith, c.loop-k-test.false) in
-    let traced = subst (λ (k : ℕ). IsTraced (length c.args.layers.now) c.args.pairs.now c.args.layers.now c.loop-k.out c.args.count k)
+    let traced = subst (λ (k : ℕ). IsTraced (length c.args.layers.now) c.args.pairs.now (trace c.args.layers.now c.loop-k.out c.args.count) k)
     none c.loop-k.invariant in
     IsChain-traced (length c.args.layers.now) c.args.pairs.now c.args.layers.now c.loop-k.out c.args.count traced c.requires.count
     (omega (arith, few, c.requires.count, c.requires.out_length, c.loop-k.auto.out, length-set {A = ℕ}))

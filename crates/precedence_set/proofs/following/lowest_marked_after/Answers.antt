@@ -1,6 +1,7 @@
 -- Each step of the walk goes to the next pair from the same router.
 use Rattle.std.proofs.Common.{ℕ, ◌<◌, Option, subst, sym}
-use Rattle.precedence_set.proofs.SuccessorFacts.{IsFirstFrom-first, IsFirstFrom-next, IsWalked, IsWalked-begin, IsWalked-step, IsWalked-last, left_after}
+use Rattle.precedence_set.specs.steps.Walking.{walk}
+use Rattle.precedence_set.proofs.SuccessorFacts.{IsFirstFrom-first, IsFirstFrom-next, IsWalked, IsWalked-begin, IsWalked-step, left_after}
 use Rattle.precedence_set.proofs.SuccessorFacts.{left_after-smaller, lowest-after, lowest-marked, lowest-lowest, lowest-none}
 use Rattle.precedence_set.proofs.following.lowest_marked_after.Goals as goal
 
@@ -10,27 +11,28 @@ loop-at-init c = IsWalked-begin c.args.pairs.now c.args.marks.now c.args.x _ (Is
 
 pub loop-at-preserved : goal.loop-at-preserved
 loop-at-preserved c =
-    let walked = subst (λ (o : Option ℕ). IsWalked c.args.pairs.now c.args.marks.now c.args.x o c.loop-at.lowest) c.in-Some.is c.loop-at.invariant in
+    let walked = subst (λ (o : Option ℕ). IsWalked (walk c.args.pairs.now c.args.x o) c.args.marks.now c.loop-at.lowest) c.in-Some.is c.loop-at.invariant in
     IsWalked-step c.args.pairs.now c.args.marks.now c.args.x c.in-Some.number c.loop-at.lowest _ _ walked
-    (IsFirstFrom-next _ c.args.pairs.now _ c.args.x c.in-Some.number _ c.requires.successors c.requires.x_in walked.first.1 walked.first.2 c.next-at.ensures)
+    (IsFirstFrom-next _ c.args.pairs.now _ c.args.x c.in-Some.number _ c.requires.successors c.requires.x_in walked.walked.first.1
+    walked.walked.first.2 c.next-at.ensures)
     c.lowest_with-lowest.ensures.found c.lowest_with-lowest.ensures.no_higher c.lowest_with-lowest.ensures.at_most
 
 pub loop-at-smaller : goal.loop-at-smaller
 loop-at-smaller c =
-    let walked = subst (λ (o : Option ℕ). IsWalked c.args.pairs.now c.args.marks.now c.args.x o c.loop-at.lowest) c.in-Some.is c.loop-at.invariant in
-    let first = IsFirstFrom-next _ c.args.pairs.now _ c.args.x c.in-Some.number _ c.requires.successors c.requires.x_in walked.first.1
-    walked.first.2 c.next-at.ensures in
+    let walked = subst (λ (o : Option ℕ). IsWalked (walk c.args.pairs.now c.args.x o) c.args.marks.now c.loop-at.lowest) c.in-Some.is c.loop-at.invariant in
+    let first = IsFirstFrom-next _ c.args.pairs.now _ c.args.x c.in-Some.number _ c.requires.successors c.requires.x_in walked.walked.first.1
+    walked.walked.first.2 c.next-at.ensures in
     subst (λ (o : Option ℕ). left_after c.args.pairs.now c.next-at.result < left_after c.args.pairs.now o) (sym c.in-Some.is)
-    (left_after-smaller c.args.pairs.now c.args.x c.in-Some.number c.next-at.result walked.first.1 first)
+    (left_after-smaller c.args.pairs.now c.args.x c.in-Some.number c.next-at.result walked.walked.first.1 first)
 
 pub returns-clause-after : goal.returns-clause-after
-returns-clause-after c = lowest-after _ c.args.marks.now _ _ (IsWalked-last _ _ _ _ _ c.loop-at.invariant c.in_default.not-Some)
+returns-clause-after c = lowest-after (walk c.args.pairs.now c.args.x c.loop-at.at) c.args.marks.now _ c.loop-at.invariant
 
 pub returns-clause-marked : goal.returns-clause-marked
-returns-clause-marked c = lowest-marked c.args.pairs.now _ c.args.x _ (IsWalked-last _ _ _ _ _ c.loop-at.invariant c.in_default.not-Some)
+returns-clause-marked c = lowest-marked (walk c.args.pairs.now c.args.x c.loop-at.at) c.args.marks.now _ c.loop-at.invariant
 
 pub returns-clause-lowest : goal.returns-clause-lowest
-returns-clause-lowest c = lowest-lowest _ _ _ _ (IsWalked-last _ _ _ _ _ c.loop-at.invariant c.in_default.not-Some)
+returns-clause-lowest c = lowest-lowest c.args.pairs.now c.args.marks.now c.args.x c.loop-at.at _ c.loop-at.invariant c.in_default.not-Some
 
 pub returns-clause-none : goal.returns-clause-none
-returns-clause-none c = lowest-none _ _ _ _ (IsWalked-last _ _ _ _ _ c.loop-at.invariant c.in_default.not-Some)
+returns-clause-none c = lowest-none c.args.pairs.now c.args.marks.now c.args.x c.loop-at.at _ c.loop-at.invariant c.in_default.not-Some

@@ -1,8 +1,10 @@
 -- Each step of the walk raises the router where the next pair leads.
-use Rattle.std.proofs.Common.{ℕ, ◌+◌, ◌<◌, Option, arith, subst, sym, get_or, length}
+use Rattle.std.proofs.Common.{ℕ, ◌+◌, ◌<◌, ◌≤◌, Option, arith, subst, sym, get_or, length}
+use Rattle.order_core.specs.Rankings.{rank_of}
+use Rattle.precedence_set.specs.steps.Walking.{walk}
 use Rattle.precedence_set.proofs.LayerFacts.{pair_at_below}
-use Rattle.precedence_set.proofs.SuccessorFacts.{IsFirstFrom-first, IsFirstFrom-next, left_after, left_after-smaller}
-use Rattle.precedence_set.proofs.RaiseFacts.{IsRaising, IsRaising-begin, IsRaising-step, IsRaising-end}
+use Rattle.precedence_set.proofs.SuccessorFacts.{HasPassed-end, IsFirstFrom-first, IsFirstFrom-next, left_after, left_after-smaller}
+use Rattle.precedence_set.proofs.RaiseFacts.{IsRaising, IsRaising-begin, IsRaising-step}
 use Rattle.precedence_set.proofs.layering.raise_after.Goals as goal
 
 pub loop-at-init : goal.loop-at-init
@@ -11,20 +13,20 @@ loop-at-init c = IsRaising-begin c.args.pairs.now c.args.layers.now c.args.u _ c
 
 pub loop-at-smaller : goal.loop-at-smaller
 loop-at-smaller c =
-    let r = subst (λ (o : Option ℕ). IsRaising c.args.pairs.now c.args.layers.now c.loop-at.layers c.args.u (get_or c.args.layers.now c.args.u 0 + 1) o)
+    let r = subst (λ (o : Option ℕ). IsRaising (walk c.args.pairs.now c.args.u o) c.args.layers.now c.loop-at.layers (get_or c.args.layers.now c.args.u 0 + 1))
     c.in-Some.is c.loop-at.invariant in
     let first = IsFirstFrom-next (length c.args.layers.now) c.args.pairs.now c.args.successors.now.lists c.args.u c.in-Some.number c.next-at.result
-    c.requires.successors c.requires.u_in r.first.1 r.first.2 c.next-at.ensures in
+    c.requires.successors c.requires.u_in r.walked.first.1 r.walked.first.2 c.next-at.ensures in
     subst (λ (o : Option ℕ). left_after c.args.pairs.now c.next-at.result < left_after c.args.pairs.now o) (sym c.in-Some.is)
-    (left_after-smaller c.args.pairs.now c.args.u c.in-Some.number c.next-at.result r.first.1 first)
+    (left_after-smaller c.args.pairs.now c.args.u c.in-Some.number c.next-at.result r.walked.first.1 first)
 
 pub loop-at-preserved : goal.loop-at-preserved
 loop-at-preserved c =
-    let r = subst (λ (o : Option ℕ). IsRaising c.args.pairs.now c.args.layers.now c.loop-at.layers c.args.u (get_or c.args.layers.now c.args.u 0 + 1) o)
+    let r = subst (λ (o : Option ℕ). IsRaising (walk c.args.pairs.now c.args.u o) c.args.layers.now c.loop-at.layers (get_or c.args.layers.now c.args.u 0 + 1))
     c.in-Some.is c.loop-at.invariant in
     let first = IsFirstFrom-next (length c.args.layers.now) c.args.pairs.now c.args.successors.now.lists c.args.u c.in-Some.number c.next-at.result
-    c.requires.successors c.requires.u_in r.first.1 r.first.2 c.next-at.ensures in
-    let v_in = (pair_at_below (length c.args.layers.now) c.args.pairs.now c.requires.below c.in-Some.number r.first.1).1 in
+    c.requires.successors c.requires.u_in r.walked.first.1 r.walked.first.2 c.next-at.ensures in
+    let v_in = (pair_at_below (length c.args.layers.now) c.args.pairs.now c.requires.below c.in-Some.number r.walked.first.1).1 in
     IsRaising-step c.args.pairs.now c.args.layers.now c.loop-at.layers c.args.u (get_or c.args.layers.now c.args.u 0 + 1) c.in-Some.number c.next-at.result _ r
     (omega (arith, v_in, c.loop-at.auto.layers)) first c.max.ensures
 
@@ -32,7 +34,8 @@ pub returns-clause-no_lower : goal.returns-clause-no_lower
 returns-clause-no_lower c = c.loop-at.invariant.no_lower
 
 pub returns-clause-above : goal.returns-clause-above
-returns-clause-above c = IsRaising-end c.args.pairs.now c.args.layers.now c.loop-at.layers c.args.u _ c.loop-at.at c.loop-at.invariant c.in_default.not-Some
+returns-clause-above c = HasPassed-end c.args.pairs.now c.args.u c.loop-at.at (λ v. get_or c.args.layers.now c.args.u 0 + 1 ≤ rank_of c.loop-at.layers v)
+    c.loop-at.invariant.walked c.in_default.not-Some
 
 pub returns-clause-from : goal.returns-clause-from
 returns-clause-from c = c.loop-at.invariant.from

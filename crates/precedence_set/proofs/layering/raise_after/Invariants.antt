@@ -1,9 +1,10 @@
+use Rattle.precedence_set.specs.steps.Walking.{walk}
 use Rattle.precedence_set.proofs.SuccessorFacts.{left_after}
 use Rattle.precedence_set.proofs.RaiseFacts.{IsRaising}
 use Rattle.precedence_set.proofs.layering.raise_after.Given as goal
 
 abbrev pub invariant-loop-at : goal.invariant-loop-at
-invariant-loop-at l = IsRaising l.pairs l.fn.layers l.layers l.u l.above l.at
+invariant-loop-at l = IsRaising (walk l.pairs l.u l.at) l.fn.layers l.layers l.above
 
 abbrev pub decreases-loop-at : goal.decreases-loop-at
 decreases-loop-at l = left_after l.pairs l.at

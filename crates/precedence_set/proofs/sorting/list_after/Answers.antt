@@ -1,6 +1,6 @@
 -- Each step of the walk frees the router where the next pair leads.
 use Rattle.std.proofs.Common.{ℕ, ◌<◌, ◌≡◌, Option, arith, subst, sym, refl, get_or, length}
-use Rattle.precedence_set.specs.steps.Sorting.{IsGone, IsGoneBy}
+use Rattle.precedence_set.specs.steps.Sorting.{IsGone, IsGoneBy, passing, queue, stop}
 use Rattle.precedence_set.specs.steps.Walking.{pair_at}
 use Rattle.precedence_set.proofs.LayerFacts.{pair_at_below}
 use Rattle.precedence_set.proofs.SuccessorFacts.{IsFirstFrom-first, IsFirstFrom-next, left_after, left_after-smaller}
@@ -16,34 +16,33 @@ loop-at-init c = record {
   before = c.requires.listed;
   within = c.requires.within;
   listing = c.requires.listing;
-  counted = AreLeftCounts-same c.args.pairs.now (IsGone c.args.pairs.now c.args.order.now c.args.k) (IsGoneBy c.args.pairs.now c.args.order.now c.args.k 0)
+  counted = AreLeftCounts-same c.args.pairs.now (IsGone c.args.pairs.now c.args.order.now c.args.k)
+      (IsGoneBy c.args.pairs.now (passing c.args.order.now c.args.k 0))
       c.args.counts.now (λ i lt. IsGoneBy-begin c.args.pairs.now c.args.order.now c.args.k i) c.requires.counted;
 }
 
 pub free_one-count-requires-clause-some : goal.free_one-count-requires-clause-some
 free_one-count-requires-clause-some c =
-    let n = length c.loop-at.order in
-    let pairs = c.args.pairs.now in
-    let f = subst (λ (o : Option ℕ). IsFreeing (length c.loop-at.order) c.args.pairs.now c.loop-at.counts c.loop-at.order c.args.k c.loop-at.count o)
-    c.in-Some.is c.loop-at.invariant in
+    let f = subst (λ (o : Option ℕ). IsFreeing (length c.loop-at.order) c.args.pairs.now (queue c.loop-at.counts c.loop-at.order c.loop-at.count)
+    (stop c.args.k o)) c.in-Some.is c.loop-at.invariant in
     let v_in = (pair_at_below (length c.args.order.now) c.args.pairs.now c.requires.below c.in-Some.number f.first.1).1 in
-    counted_some c.args.pairs.now (IsGoneBy c.args.pairs.now c.loop-at.order c.args.k f.start) c.loop-at.counts c.in-Some.number
+    counted_some c.args.pairs.now (IsGoneBy c.args.pairs.now (passing c.loop-at.order c.args.k f.start)) c.loop-at.counts c.in-Some.number
     (pair_at c.args.pairs.now c.in-Some.number).1 f.counted f.first.1
     (fresh_pair (length c.loop-at.order) c.args.pairs.now c.loop-at.counts c.loop-at.order c.args.k c.loop-at.count c.in-Some.number f) refl
     (omega (arith, v_in, c.requires.counts_length, c.loop-at.auto.counts))
 
 pub free_one-count-requires-clause-room : goal.free_one-count-requires-clause-room
 free_one-count-requires-clause-room c = λ one.
-    let f = subst (λ (o : Option ℕ). IsFreeing (length c.loop-at.order) c.args.pairs.now c.loop-at.counts c.loop-at.order c.args.k c.loop-at.count o)
-    c.in-Some.is c.loop-at.invariant in
+    let f = subst (λ (o : Option ℕ). IsFreeing (length c.loop-at.order) c.args.pairs.now (queue c.loop-at.counts c.loop-at.order c.loop-at.count)
+    (stop c.args.k o)) c.in-Some.is c.loop-at.invariant in
     let v_in = (pair_at_below (length c.args.order.now) c.args.pairs.now c.requires.below c.in-Some.number f.first.1).1 in
     room_for (length c.loop-at.order) c.args.pairs.now c.loop-at.counts c.loop-at.order c.loop-at.count (pair_at c.args.pairs.now c.in-Some.number).1 f.listing
     f.within (omega (arith, v_in, c.loop-at.auto.order)) (omega (arith, one))
 
 pub loop-at-smaller : goal.loop-at-smaller
 loop-at-smaller c =
-    let f = subst (λ (o : Option ℕ). IsFreeing (length c.loop-at.order) c.args.pairs.now c.loop-at.counts c.loop-at.order c.args.k c.loop-at.count o)
-    c.in-Some.is c.loop-at.invariant in
+    let f = subst (λ (o : Option ℕ). IsFreeing (length c.loop-at.order) c.args.pairs.now (queue c.loop-at.counts c.loop-at.order c.loop-at.count)
+    (stop c.args.k o)) c.in-Some.is c.loop-at.invariant in
     let x_in : get_or c.loop-at.order c.args.k 0 < length c.args.order.now = omega (arith, f.listing.below c.args.k f.before, c.loop-at.auto.order) in
     let first = IsFirstFrom-next (length c.args.order.now) c.args.pairs.now c.args.successors.now.lists (get_or c.loop-at.order c.args.k 0) c.in-Some.number
     c.next-at.result c.requires.successors x_in f.first.1 f.first.2 c.next-at.ensures in
@@ -52,19 +51,19 @@ loop-at-smaller c =
 
 pub loop-at-preserved : goal.loop-at-preserved
 loop-at-preserved c =
-    let f = subst (λ (o : Option ℕ). IsFreeing (length c.loop-at.order) c.args.pairs.now c.loop-at.counts c.loop-at.order c.args.k c.loop-at.count o)
-    c.in-Some.is c.loop-at.invariant in
+    let f = subst (λ (o : Option ℕ). IsFreeing (length c.loop-at.order) c.args.pairs.now (queue c.loop-at.counts c.loop-at.order c.loop-at.count)
+    (stop c.args.k o)) c.in-Some.is c.loop-at.invariant in
     let x_in : get_or c.loop-at.order c.args.k 0 < length c.args.order.now = omega (arith, f.listing.below c.args.k f.before, c.loop-at.auto.order) in
     let first = IsFirstFrom-next (length c.args.order.now) c.args.pairs.now c.args.successors.now.lists (get_or c.loop-at.order c.args.k 0) c.in-Some.number
     c.next-at.result c.requires.successors x_in f.first.1 f.first.2 c.next-at.ensures in
     let v_in = (pair_at_below (length c.args.order.now) c.args.pairs.now c.requires.below c.in-Some.number f.first.1).1 in
-    let some = counted_some c.args.pairs.now (IsGoneBy c.args.pairs.now c.loop-at.order c.args.k f.start) c.loop-at.counts c.in-Some.number
+    let some = counted_some c.args.pairs.now (IsGoneBy c.args.pairs.now (passing c.loop-at.order c.args.k f.start)) c.loop-at.counts c.in-Some.number
     (pair_at c.args.pairs.now c.in-Some.number).1 f.counted f.first.1
     (fresh_pair (length c.loop-at.order) c.args.pairs.now c.loop-at.counts c.loop-at.order c.args.k c.loop-at.count c.in-Some.number f) refl
     (omega (arith, v_in, c.requires.counts_length, c.loop-at.auto.counts)) in
     let long : length c.loop-at.order ≡ length c.free_one-count.new.order = omega arith in
-    subst (λ (n : ℕ). IsFreeing n c.args.pairs.now c.free_one-count.new.counts c.free_one-count.new.order c.args.k c.free_one-count.result c.next-at.result)
-    long
+    subst (λ (n : ℕ). IsFreeing n c.args.pairs.now (queue c.free_one-count.new.counts c.free_one-count.new.order c.free_one-count.result)
+    (stop c.args.k c.next-at.result)) long
     (IsFreeing-step (length c.loop-at.order) c.args.pairs.now c.loop-at.counts c.free_one-count.new.counts c.loop-at.order c.free_one-count.new.order c.args.k
     c.loop-at.count c.free_one-count.result c.in-Some.number (pair_at c.args.pairs.now c.in-Some.number).1 c.next-at.result f
     (omega (arith, c.requires.counts_length, c.loop-at.auto.counts, c.loop-at.auto.order)) refl (omega (arith, v_in, c.loop-at.auto.order)) refl first some

@@ -1,10 +1,11 @@
 use Rattle.std.proofs.Common.{length}
+use Rattle.precedence_set.specs.steps.Sorting.{queue, stop}
 use Rattle.precedence_set.proofs.SuccessorFacts.{left_after}
 use Rattle.precedence_set.proofs.ListFacts.{IsFreeing}
 use Rattle.precedence_set.proofs.sorting.list_after.Given as goal
 
 abbrev pub invariant-loop-at : goal.invariant-loop-at
-invariant-loop-at l = IsFreeing (length l.order) l.pairs l.counts l.order l.k l.count l.at
+invariant-loop-at l = IsFreeing (length l.order) l.pairs (queue l.counts l.order l.count) (stop l.k l.at)
 
 abbrev pub decreases-loop-at : goal.decreases-loop-at
 decreases-loop-at l = left_after l.pairs l.at

@@ -1,7 +1,7 @@
 use Rattle.std.proofs.Common.{◌≡◌, ℕ, arith, length, inl, inr, subst}
 use Rattle.std.proofs.lemmas.Bool.{cases_lt}
 use Rattle.order_core.specs.Pairs.{AreBelow}
-use Rattle.precedence_set.specs.steps.Sorting.{IsListing, IsGone}
+use Rattle.precedence_set.specs.steps.Sorting.{IsListing, IsGone, queue}
 use Rattle.precedence_set.proofs.SortFacts.{AreLeftCounts-same}
 use Rattle.precedence_set.proofs.ListFacts.{all_listed, IsTopological-whole, IsGone-none}
 use Rattle.precedence_set.proofs.sorting.sort_all.Goals as goal
@@ -21,7 +21,7 @@ list_after-count-requires-clause-listed c = elim (cases_lt c.loop-k.k c.loop-k.c
   | inr ge ↦
       let same : c.loop-k.count ≡ c.loop-k.k = omega (arith, ge, c.loop-k.invariant.placed) in
       let listing =
-      subst (λ (m : ℕ). IsListing (length c.loop-k.order) c.args.pairs.now c.loop-k.counts c.loop-k.order m) same c.loop-k.invariant.listing in
+      subst (λ (m : ℕ). IsListing (length c.loop-k.order) c.args.pairs.now (queue c.loop-k.counts c.loop-k.order m)) same c.loop-k.invariant.listing in
       let long : length c.args.order.now ≡ length c.loop-k.order = omega arith in
       let below = subst (λ (n : ℕ). AreBelow n c.args.pairs.now) long c.requires.below in
       absurd (omega (

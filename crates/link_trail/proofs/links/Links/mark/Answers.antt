@@ -8,4 +8,4 @@ returns-clause-count c = rw (← c.self.view_is, length-lists_before) (omega ari
 
 pub returns-clause-apart : goal.returns-clause-apart
 returns-clause-apart c =
-    rw (← c.self.view_is) (ShowsLists-apart c.self.inside.nodes.items c.self.inside.ends.items _ c.self.invariant.shown)
+    rw (← c.self.view_is) (ShowsLists-apart c.self.inside.nodes.items c.self.inside.ends.items _ c.self.invariant.links.shown)

@@ -14,6 +14,6 @@ returns c =
     let next = ap (λ (n : Node). n.next) is in
     rw (← c.self.view_is) (record {
       linked = λ list before after l' stood. sym next ∙ ap (λ (n : Node). n.next)
-          (ShowsLists-node c.self.inside.nodes.items c.self.inside.ends.items _ list c.args.node before after c.self.invariant.shown stood l');
-      free = λ free. sym next ∙ ap (λ (n : Node). n.next) (c.self.invariant.shown.free c.args.node free);
+          (ShowsLists-node c.self.inside.nodes.items c.self.inside.ends.items _ list c.args.node before after c.self.invariant.links.shown stood l');
+      free = λ free. sym next ∙ ap (λ (n : Node). n.next) (c.self.invariant.links.shown.free c.args.node free);
     })
