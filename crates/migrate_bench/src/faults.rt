@@ -90,15 +90,30 @@ fn measure_waves<O: RouteSource, N: RouteSource>(
     let start = Instant::now(rt)?;
     let mixed = Mixed::build(alloc, net, old, new)?;
     print_seconds(rt, "mixed forwarding", mixed.atoms().count(), start)?;
+    measure_mixed(rt, &mixed, waves, others.as_slice(), asked)
+}
+
+/// Measures the finder over mixed forwarding, and what it finds of a wave list and of others.
+fn measure_mixed<O: RouteSource, N: RouteSource>(
+    rt: &(impl AllocGlobal + Clock + Eprint + Print),
+    mixed: &Mixed<'_, O, N>,
+    waves: &Waves,
+    others: &[Waves],
+    asked: Asked,
+) -> Result<()>
+    requires waves { length waves.now ≡ length mixed.now.net }
+    requires others { All (λ waves. length waves ≡ length mixed.now.net) others.now }
+{
+    let routers = u64::from(mixed.net().routers());
     let start = Instant::now(rt)?;
-    let mut finder = Finder::new(alloc, &mixed)?;
-    print_seconds(rt, "finder", u64::from(net.routers()), start)?;
+    let mut finder = Finder::new(rt.alloc(), mixed)?;
+    print_seconds(rt, "finder", routers, start)?;
     let start = Instant::now(rt)?;
     let found = find(&mut finder, waves, asked);
-    print_seconds(rt, "first", u64::from(net.routers()), start)?;
+    print_seconds(rt, "first", routers, start)?;
     report(rt, found)?;
     let start = Instant::now(rt)?;
-    let safe = count_safe(&mut finder, others.as_slice(), asked);
+    let safe = count_safe(&mut finder, others, asked);
     print_seconds(rt, "others", u64::from(TIMES), start)?;
     println!(rt; "{safe} of {TIMES} others are safe")?;
     Ok(())

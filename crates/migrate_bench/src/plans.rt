@@ -61,16 +61,27 @@ fn measure_plan<O: RouteSource, N: RouteSource>(
     requires some { 1 ≤ length net.now }
     requires few { length net.now ≤ 1000 }
 {
-    let alloc = rt.alloc();
-    let routers = u64::from(net.routers());
     let start = Instant::now(rt)?;
-    let mixed = Mixed::build(alloc, net, old, new)?;
+    let mixed = Mixed::build(rt.alloc(), net, old, new)?;
     print_seconds(rt, "mixed forwarding", mixed.atoms().count(), start)?;
+    measure_mixed(rt, &mixed)
+}
+
+/// Measures a finder over mixed forwarding, and the plan with a finder of its own.
+fn measure_mixed<O: RouteSource, N: RouteSource>(
+    rt: &(impl AllocGlobal + Clock + Eprint + Print),
+    mixed: &Mixed<'_, O, N>,
+) -> Result<()>
+    requires some { 1 ≤ length mixed.now.net }
+    requires few { length mixed.now.net ≤ 1000 }
+{
+    let alloc = rt.alloc();
+    let routers = u64::from(mixed.net().routers());
     let start = Instant::now(rt)?;
-    let _finder = Finder::new(alloc, &mixed)?;
+    let _finder = Finder::new(alloc, mixed)?;
     print_seconds(rt, "finder alone", routers, start)?;
     let start = Instant::now(rt)?;
-    let planned = plan_waves(alloc, &mixed, BUDGET)?;
+    let planned = plan_waves(alloc, mixed, BUDGET)?;
     print_seconds(rt, "finder, ends and search", routers, start)?;
     report(rt, &planned)
 }

@@ -72,7 +72,8 @@ module _ (content : Contents) (request : Request) where
       one_verdict request (own_texts request ts) (config_texts request ts) s z t w one
       (subst (λ some. IsVerdict request (own_texts request some) (config_texts request some) z w) (sym is) other)
 
-  one_of_files : {p q : List (List ℕ)} {s z : Status} {t w : List ℕ} → All (IsFileTold content) p → OfFiles content request p s t → OfFiles content request q z w
+  one_of_files : {p q : List (List ℕ)} {s z : Status} {t w : List ℕ} → All (IsFileTold content) p → OfFiles content request p s t →
+      OfFiles content request q z w
       → SameAnswer p s t q z w
   one_of_files tell (above _) (above _) = (refl, refl, same_text)
   one_of_files tell (above many) (stopped _ _ _ _ few _ _ _) = absurd (few_or_many many few)

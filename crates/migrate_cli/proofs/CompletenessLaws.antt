@@ -1,9 +1,9 @@
 -- Where nothing of the input is refused, a command answers.
 use Rattle.std.proofs.Common.{◌≡◌, ◌≢◌, ℕ, List, [], ◌∷◌, All, sym, ◌∙◌, subst}
-use Rattle.igp_theory.specs.Routes.{Tables}
 use Rattle.net_model.proofs.RefusalLaws.{IsNetworkOf-unique, MakeNetwork-refused}
 use Rattle.net_model.specs.Network.{Network}
 use Rattle.net_model.specs.Refusals.{MakeNetwork, NamesAscend}
+use Rattle.igp_theory.specs.Migrations.{Migration}
 use Rattle.migrate_words.proofs.OneRequest.{one_request}
 use Rattle.migrate_words.specs.Requests.{Request, check, refute, scripts, replay}
 use Rattle.step_scripts.specs.WaveFiles.{NamesWaves}
@@ -40,12 +40,12 @@ use Rattle.migrate_cli.proofs.TextLaws.{one_reading, none_refused}
 use Rattle.migrate_cli.proofs.VerdictLaws.{no_memory}
 
 -- an order of the routers is safe, or it isn't
-order_decides : {net : Network} {old new : Tables} {order text : List ℕ} {status : Status} → IsOrderVerdict net old new order status text → Decides status
+order_decides : {move : Migration} {order text : List ℕ} {status : Status} → IsOrderVerdict move order status text → Decides status
 order_decides (safe _) = yes
 order_decides (unsafe _ _ _ _) = no
 
 -- and so is a wave list
-waves_decide : {net : Network} {old new : Tables} {ranks text : List ℕ} {status : Status} → IsWavesVerdict net old new ranks status text → Decides status
+waves_decide : {move : Migration} {ranks text : List ℕ} {status : Status} → IsWavesVerdict move ranks status text → Decides status
 waves_decide (safe_waves _) = yes
 waves_decide (unsafe_wave _ _ _ _) = no
 

@@ -1,13 +1,13 @@
 -- What the answers of `plan` mean, in packets.
-use Rattle.std.proofs.Common.{◌≡◌, ℕ, ◌*◌, ◌<◌, List, [], length, Option, Some, None, map, refl, subst}
+use Rattle.std.proofs.Common.{◌≡◌, ℕ, ◌<◌, List, [], length, Some, None, map, refl, subst}
 use Rattle.std.proofs.lemmas.Option.{same_Some}
 use Rattle.igp_theory.specs.Isis.{IsisEntry}
+use Rattle.igp_theory.specs.Migrations.{migration, ospf_to_isis}
 use Rattle.igp_theory.specs.Ospf.{OspfEntry}
 use Rattle.igp_theory.specs.States.{IsSound, State, state_of}
 use Rattle.igp_theory.proofs.Delivery.{delivers_sound, isis_hop_is_router, ospf_hop_is_router, sound_delivers}
 use Rattle.net_model.specs.Network.{Network}
 use Rattle.net_model.specs.Refusals.{IsNetwork}
-use Rattle.net_model.specs.RouterNames.{names_of}
 use Rattle.net_model.specs.declared.refusal.NetRefusal.{NetRefusal}
 use Rattle.net_model.specs.declared.refusal.NetRefusal.TheVariants.{Limit as TooMany, OutOfMemory}
 use Rattle.order_core.specs.Rankings.{flat_of}
@@ -19,7 +19,6 @@ use Rattle.plan_theory.proofs.Meaning.{plan_means}
 use Rattle.plan_theory.specs.declared.planned.Planned.TheVariants.{Searched}
 use Rattle.planned_texts.proofs.ReadBack.{chain_tagged, plan_reads_back}
 use Rattle.refutation_check.specs.Verdicts.{leaf_count}
-use Rattle.step_scripts.specs.WavesTexts.{waves_text}
 use Rattle.store_edge.specs.Sink.{AddsBytes}
 use Rattle.migrate_words.specs.Asked.{Asks}
 use Rattle.migrate_words.specs.Requests.{Request, plan}
@@ -32,7 +31,7 @@ use Rattle.migrate_cli.specs.CheckVerdict.IsCheckVerdict.{of_waves}
 use Rattle.migrate_cli.specs.CheckVerdict.IsWavesVerdict.{safe_waves}
 use Rattle.migrate_cli.specs.CommandFiles.{config_file, config_texts, files_of, own_texts}
 use Rattle.migrate_cli.specs.Configurations.{GiveNetwork}
-use Rattle.migrate_cli.specs.PlanClaim.{DeliversAll, HasWritten, MeansOf, NamesSafeWaves, PlanPromises, ShowsThereIsNone}
+use Rattle.migrate_cli.specs.PlanClaim.{DeliversAll, MeansOf, NamesSafeWaves, PlanPromises, ShowsThereIsNone}
 use Rattle.migrate_cli.specs.PlanVerdict.{IsPlanOver}
 use Rattle.migrate_cli.specs.PlanVerdict.IsPlanOver.{unsound_old, unsound_new, waves, refuted, spent}
 use Rattle.migrate_cli.specs.Reading.{AreRead}
@@ -45,14 +44,14 @@ use Rattle.migrate_cli.specs.declared.status.Status.TheVariants.{Done, Negative,
 
 -- ---- sound states are those that deliver ----
 
-delivers : (net : Network) (state : State) → IsSound net (OspfEntry net) (IsisEntry net) state → DeliversAll net state
+delivers : (net : Network) (state : State) → IsSound (ospf_to_isis net) state → DeliversAll net state
 delivers net state sound a p address target =
-    sound_delivers net (OspfEntry net) (IsisEntry net) state a p
+    sound_delivers (ospf_to_isis net) state a p
     (λ u h q e below entry leads. ospf_hop_is_router net u h q e entry leads)
     (λ u h q e below entry leads. isis_hop_is_router net u h q e entry leads) sound address target
 
-sound_where_delivers : (net : Network) (state : State) → DeliversAll net state → IsSound net (OspfEntry net) (IsisEntry net) state
-sound_where_delivers net state all = delivers_sound net (OspfEntry net) (IsisEntry net) state all
+sound_where_delivers : (net : Network) (state : State) → DeliversAll net state → IsSound (ospf_to_isis net) state
+sound_where_delivers net state all = delivers_sound (ospf_to_isis net) state all
 
 -- ---- what a plan says of the text that is written ----
 
@@ -62,16 +61,16 @@ HoldsOf net Negative text = ShowsThereIsNone net text
 HoldsOf net _ text = Unit {0}
 
 plan_holds : {budget : ℕ} {net : Network} {status : Status} {text : List ℕ} → 0 < length net → IsNetwork net →
-    IsPlanOver net (OspfEntry net) (IsisEntry net) budget status text → HoldsOf net status text
+    IsPlanOver (ospf_to_isis net) budget status text → HoldsOf net status text
 plan_holds some network (unsound_old _ _ _) = tt
 plan_holds some network (unsound_new _ _ _ _) = tt
 plan_holds some network (spent _ _ _) = tt
 plan_holds {budget} {net} some network (waves ranks pairs chain trail ends found) =
     let old = OspfEntry net in
     let new = IsisEntry net in
-    let means : AreSeamlessWithOrder net old new ranks =
-    plan_means net old new budget (Searched (Waves ranks pairs chain trail)) (record { ends = ends; is_found = found }) in
-    let reads = plan_reads_back old new net budget network some (Waves ranks pairs chain trail) found in
+    let means : AreSeamlessWithOrder (migration net old new) ranks =
+    plan_means (migration net old new) budget (Searched (Waves ranks pairs chain trail)) (record { ends = ends; is_found = found }) in
+    let reads = plan_reads_back (migration net old new) budget network some (Waves ranks pairs chain trail) found in
     record {
       ranks = ranks;
       names = reads.names;
@@ -82,13 +81,13 @@ plan_holds {budget} {net} some network (waves ranks pairs chain trail ends found
       checks = λ file. of_waves ranks Done _ reads.names (safe_waves means.waves);
       chain = chain;
       chain_written = refl;
-      chain_tagged = chain_tagged old new net budget ranks pairs chain trail found;
+      chain_tagged = chain_tagged (migration net old new) budget ranks pairs chain trail found;
     }
 plan_holds {budget} {net} some network (refuted tree ends refutes) =
     let old = OspfEntry net in
     let new = IsisEntry net in
-    let means : HasNoneSeamless net old new =
-    plan_means net old new budget (Searched (Refuted tree)) (record { ends = ends; is_found = refutes }) in
+    let means : HasNoneSeamless (migration net old new) =
+    plan_means (migration net old new) budget (Searched (Refuted tree)) (record { ends = ends; is_found = refutes }) in
     record {
       no_waves_deliver = λ ranks ranking deliver.
           means.waves ranks (record { waves = ranking; sound = λ state is. sound_where_delivers net state (deliver state is) });
@@ -99,7 +98,7 @@ plan_holds {budget} {net} some network (refuted tree ends refutes) =
       branches = branch_count tree;
       leaves = leaf_count tree;
       refutes =
-          closed (branch_count tree) (leaf_count tree) network (plan_reads_back old new net budget network some (Refuted tree) refutes).is
+          closed (branch_count tree) (leaf_count tree) network (plan_reads_back (migration net old new) budget network some (Refuted tree) refutes).is
           (record { waves = means.waves; orders = means.orders });
     }
 

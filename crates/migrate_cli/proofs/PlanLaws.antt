@@ -2,10 +2,8 @@
 use Rattle.std.proofs.Common.{◌≡◌, ℕ, List, [], length, refl, sym, ap, ◌∙◌}
 use Rattle.net_model.specs.Network.{Network}
 use Rattle.net_model.specs.RouterNames.{names_of}
-use Rattle.igp_theory.specs.Isis.{IsisEntry}
-use Rattle.igp_theory.specs.Loops.{Fault, IsFault, loop, missing}
-use Rattle.igp_theory.specs.Ospf.{OspfEntry}
-use Rattle.igp_theory.specs.Routes.{Tables}
+use Rattle.igp_theory.specs.Loops.{IsFault, loop, missing}
+use Rattle.igp_theory.specs.Migrations.{Migration, ospf_to_isis}
 use Rattle.igp_theory.specs.States.{State, all_new, all_old}
 use Rattle.igp_theory.proofs.FaultLaws.{faulty_not_sound}
 use Rattle.order_search.specs.declared.found.Found.TheVariants.{Waves, Refuted, Spent}
@@ -25,14 +23,14 @@ use Rattle.migrate_cli.proofs.FaultFacts.{loop_within, missing_within}
 use Rattle.migrate_cli.proofs.SameAnswers.{AreSame, NoFault}
 
 -- an answer is that of a plan
-pub record OfPlanned (net : Network) (old new : Tables) (budget : ℕ) (status : Status) (text : List ℕ) : Type 0 where
+pub record OfPlanned (move : Migration) (budget : ℕ) (status : Status) (text : List ℕ) : Type 0 where
   pub planned : Planned
-  pub is : IsPlanned net old new budget planned
+  pub is : IsPlanned move budget planned
   pub status_is : status ≡ plan_status planned
-  pub text_is : text ≡ plan_text (names_of net) planned
+  pub text_is : text ≡ plan_text (names_of move.net) planned
 
-pub of_planned : {net : Network} {old new : Tables} {budget : ℕ} {status : Status} {text : List ℕ} → IsPlanOver net old new budget status text →
-    OfPlanned net old new budget status text
+pub of_planned : {move : Migration} {budget : ℕ} {status : Status} {text : List ℕ} → IsPlanOver move budget status text →
+    OfPlanned move budget status text
 of_planned (unsound_old (missing a u) _ is) = record { planned = UnsoundOld (Missing a u); is = is; status_is = refl; text_is = refl }
 of_planned (unsound_old (loop a turns) _ is) = record { planned = UnsoundOld (Loop a turns); is = is; status_is = refl; text_is = refl }
 of_planned (unsound_new (missing a u) first _ is) =
@@ -51,24 +49,24 @@ of_planned (spent tree ends is) =
     record { planned = Searched (Spent tree); is = record { ends = ends; is_found = is }; status_is = refl; text_is = refl }
 
 -- and a plan has an answer
-pub plan_of : (net : Network) (old new : Tables) (budget : ℕ) (planned : Planned) → IsPlanned net old new budget planned →
-    IsPlanOver net old new budget (plan_status planned) (plan_text (names_of net) planned)
-plan_of net old new budget (UnsoundOld fault) is = unsound_old (fault_told fault) (faulty_not_sound is) is
-plan_of net old new budget (UnsoundNew fault) is = unsound_new (fault_told fault) is.first (faulty_not_sound is.last) is.last
-plan_of net old new budget (Searched (Waves ranks pairs chain trail)) is = waves ranks pairs chain trail is.ends is.is_found
-plan_of net old new budget (Searched (Refuted tree)) is = refuted tree is.ends is.is_found
-plan_of net old new budget (Searched (Spent tree)) is = spent tree is.ends is.is_found
+pub plan_of : (move : Migration) (budget : ℕ) (planned : Planned) → IsPlanned move budget planned →
+    IsPlanOver move budget (plan_status planned) (plan_text (names_of move.net) planned)
+plan_of move budget (UnsoundOld fault) is = unsound_old (fault_told fault) (faulty_not_sound is) is
+plan_of move budget (UnsoundNew fault) is = unsound_new (fault_told fault) is.first (faulty_not_sound is.last) is.last
+plan_of move budget (Searched (Waves ranks pairs chain trail)) is = waves ranks pairs chain trail is.ends is.is_found
+plan_of move budget (Searched (Refuted tree)) is = refuted tree is.ends is.is_found
+plan_of move budget (Searched (Spent tree)) is = spent tree is.ends is.is_found
 
 -- the routers that it tells of an end are those of the network
-end_within : (net : Network) (old new : Tables) (state : State) (fault : EndFault) → IsFault net old new state (fault_told fault) →
-    EndFaultBelow (length net) fault
-end_within net old new state (Loop a turns) is = loop_within net old new state a turns is
-end_within net old new state (Missing a u) is = missing_within net old new state a u [] is
+end_within : (move : Migration) (state : State) (fault : EndFault) → IsFault move state (fault_told fault) →
+    EndFaultBelow (length move.net) fault
+end_within move state (Loop a turns) is = loop_within move state a turns is
+end_within move state (Missing a u) is = missing_within move state a u [] is
 
-pub has_text : (net : Network) (old new : Tables) (budget : ℕ) (planned : Planned) → IsPlanned net old new budget planned → IsTellable net planned
-has_text net old new budget (UnsoundOld fault) is = end_within net old new all_old fault is
-has_text net old new budget (UnsoundNew fault) is = end_within net old new all_new fault is.last
-has_text net old new budget (Searched found) is = plan_printable old new net budget found is.is_found
+pub has_text : (move : Migration) (budget : ℕ) (planned : Planned) → IsPlanned move budget planned → IsTellable move.net planned
+has_text move budget (UnsoundOld fault) is = end_within move all_old fault is
+has_text move budget (UnsoundNew fault) is = end_within move all_new fault is.last
+has_text move budget (Searched found) is = plan_printable move budget found is.is_found
 
 -- a network has one verdict
 pub one_plan_verdict : (budget : ℕ) (net : Network) {s z : Status} {t w : List ℕ} → IsPlanVerdict budget net s t → IsPlanVerdict budget net z w →
@@ -76,11 +74,11 @@ pub one_plan_verdict : (budget : ℕ) (net : Network) {s z : Status} {t w : List
 one_plan_verdict budget net first second =
     let one = of_planned first.plan in
     let other = of_planned second.plan in
-    let same : one.planned ≡ other.planned = one_plan net (OspfEntry net) (IsisEntry net) budget one.planned other.planned one.is other.is in
+    let same : one.planned ≡ other.planned = one_plan (ospf_to_isis net) budget one.planned other.planned one.is other.is in
     (one.status_is ∙ ap plan_status same ∙ sym other.status_is, one.text_is ∙ ap (plan_text (names_of net)) same ∙ sym other.text_is)
 
 -- which is no fault of reading or of writing
-pub no_fault_over : {net : Network} {old new : Tables} {budget : ℕ} {status : Status} {text : List ℕ} → IsPlanOver net old new budget status text →
+pub no_fault_over : {move : Migration} {budget : ℕ} {status : Status} {text : List ℕ} → IsPlanOver move budget status text →
     NoFault status
 no_fault_over (unsound_old _ _ _) = (λ e. Prim.cc e, λ e. Prim.cc e)
 no_fault_over (unsound_new _ _ _ _) = (λ e. Prim.cc e, λ e. Prim.cc e)

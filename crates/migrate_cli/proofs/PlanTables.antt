@@ -1,8 +1,8 @@
 -- Over tables with the same entries at the routers of the network the same is planned.
-use Rattle.std.proofs.Common.{ℕ, List, []}
-use Rattle.net_model.specs.Network.{Network}
+use Rattle.std.proofs.Common.{ℕ, List}
 use Rattle.igp_theory.specs.Laws.{HaveSameTables}
 use Rattle.igp_theory.specs.LoopLaws.{AreSoundEnds}
+use Rattle.igp_theory.specs.Migrations.{Migration, migration}
 use Rattle.igp_theory.specs.Routes.{Tables}
 use Rattle.igp_theory.proofs.SameTables.{fault_over, loop_over, same_tables_sym, sound_over}
 use Rattle.igp_theory.proofs.WaveFaultLaws.{seamless_waves_over, waves_fault_over}
@@ -22,15 +22,15 @@ use Rattle.plan_theory.specs.WavesMeaning.{IsPickedFault, waves_meaning}
 use Rattle.plan_theory.specs.declared.planned.Planned.{Planned}
 use Rattle.plan_theory.specs.declared.planned.Planned.TheVariants.{UnsoundOld, UnsoundNew, Searched}
 
-module _ (net : Network) (old new old' new' : Tables) (same : HaveSameTables net old new old' new') where
+module _ (move : Migration) (old' new' : Tables) (same : HaveSameTables move old' new') where
   abbrev m : Meaning
-  m = waves_meaning net old new
+  m = waves_meaning move
 
   abbrev m' : Meaning
-  m' = waves_meaning net old' new'
+  m' = waves_meaning (migration move.net old' new')
 
   -- the same loop is told of a wave list
-  picked_over : (ranks : List ℕ) (a : ℕ) (turns : List Turn) → IsPickedFault net old new ranks a turns → IsPickedFault net old' new' ranks a turns
+  picked_over : (ranks : List ℕ) (a : ℕ) (turns : List Turn) → IsPickedFault move ranks a turns → IsPickedFault (migration move.net old' new') ranks a turns
   picked_over ranks a turns picked = record { wave = picked.wave; is_fault = waves_fault_over same picked.is_fault }
 
   tree_node_over : (place : Place) (node : Node) → IsTreeNode m.real place node → IsTreeNode m'.real place node
@@ -104,7 +104,7 @@ module _ (net : Network) (old new old' new' : Tables) (same : HaveSameTables net
         path = is.path;
       }
 
-  ends_over : AreSoundEnds net old new → AreSoundEnds net old' new'
+  ends_over : AreSoundEnds move → AreSoundEnds (migration move.net old' new')
   ends_over ends = record { first = sound_over same ends.first; last = sound_over same ends.last }
 
   found_over : (budget : ℕ) (found : Found) → IsFound m budget found → IsFound m' budget found
@@ -113,7 +113,7 @@ module _ (net : Network) (old new old' new' : Tables) (same : HaveSameTables net
   found_over budget (Spent tree) is = spent_over is
 
   -- so the same is planned
-  pub planned_over : (budget : ℕ) (planned : Planned) → IsPlanned net old new budget planned → IsPlanned net old' new' budget planned
+  pub planned_over : (budget : ℕ) (planned : Planned) → IsPlanned move budget planned → IsPlanned (migration move.net old' new') budget planned
   planned_over budget (UnsoundOld fault) is = fault_over same is
   planned_over budget (UnsoundNew fault) is = record { first = sound_over same is.first; last = fault_over same is.last }
   planned_over budget (Searched found) is = record { ends = ends_over is.ends; is_found = found_over budget found is.is_found }

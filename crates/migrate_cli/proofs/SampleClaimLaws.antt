@@ -1,11 +1,10 @@
 -- What a call of `sample` promises.
-use Rattle.std.proofs.Common.{◌≡◌, ◌≢◌, ◌∙◌, ◌+◌, ◌<◌, ◌++◌, ◌∷◌, [], ℕ, List, ap, append-nil, arith, codes, length, refl, subst}
+use Rattle.std.proofs.Common.{◌≡◌, ◌≢◌, ◌∙◌, ◌+◌, ◌<◌, ◌++◌, ◌∷◌, [], ℕ, List, ap, append-nil, arith, length, refl, subst}
 use Rattle.std.proofs.lemmas.List.{length-append}
 use Rattle.net_model.specs.Network.{Network}
 use Rattle.net_model.specs.Refusals.{IsNetwork}
 use Rattle.net_model.specs.RouterNames.{names_of}
-use Rattle.igp_theory.specs.Isis.{IsisEntry}
-use Rattle.igp_theory.specs.Ospf.{OspfEntry}
+use Rattle.igp_theory.specs.Migrations.{ospf_to_isis}
 use Rattle.sample_network.specs.SampleTexts.{sample_text}
 use Rattle.step_scripts.specs.WavesTexts.{waves_text}
 use Rattle.migrate_words.specs.Asked.{Asks}
@@ -23,7 +22,7 @@ use Rattle.migrate_cli.specs.PlanCompleteness.Plans.{waves as by_waves}
 use Rattle.migrate_cli.specs.PlanVerdict.{IsPlanVerdict}
 use Rattle.migrate_cli.specs.PlanVerdict.IsPlanOver.{waves}
 use Rattle.migrate_cli.specs.Reading.{Contents, File, ReadUpTo, file_names}
-use Rattle.migrate_cli.specs.SampleClaim.{AcceptsSample, EndsSample, HasSampled, IsAsPlanned, IsVerdictOfSample, SamplePromises}
+use Rattle.migrate_cli.specs.SampleClaim.{AcceptsSample, HasSampled, IsAsPlanned, IsVerdictOfSample, SamplePromises}
 use Rattle.migrate_cli.specs.SampleClaim.EndsSample.{whole as whole_verdict, cut as cut_verdict, no_memory as none_written}
 use Rattle.migrate_cli.specs.SampleVerdict.{IsSampleOver}
 use Rattle.migrate_cli.specs.SampleVerdict.IsSampleOver.{summed_up, as_planned}
@@ -90,7 +89,7 @@ record OfPlan (net : Network) (status : Status) (text : List ℕ) : Type 0 where
   same : status ≢ Done → text ≡ planned
 
 of_plan : {routers : ℕ} {net : Network} {status : Status} {text : List ℕ} → 0 < length net → IsNetwork net →
-    IsSampleOver net (OspfEntry net) (IsisEntry net) routers status text → OfPlan net status text
+    IsSampleOver (ospf_to_isis net) routers status text → OfPlan net status text
 of_plan {net = net} some network (summed_up ranks pairs chain trail text ends found sums) = record {
   planned = waves_text (names_of net) ranks chain;
   plans = record { some = some; network = network; plan = waves ranks pairs chain trail ends found };
@@ -135,7 +134,7 @@ sample_promises call before after status answers =
 -- ---- where nothing is refused, it is planned ----
 
 sample_plans : {routers : ℕ} {net : Network} {status : Status} {text : List ℕ} →
-    IsSampleOver net (OspfEntry net) (IsisEntry net) routers status text → Plans net status
+    IsSampleOver (ospf_to_isis net) routers status text → Plans net status
 sample_plans (summed_up _ _ _ _ _ ends _ _) = by_waves ends
 sample_plans (as_planned _ _ _ over) = plans over
 

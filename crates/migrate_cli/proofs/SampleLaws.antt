@@ -4,9 +4,7 @@ use Rattle.std.specs.declared.alloc.AllocError.{AllocError}
 use Rattle.net_model.specs.Network.{Network}
 use Rattle.net_model.specs.Refusals.{IsNetwork}
 use Rattle.net_model.specs.RouterNames.{names_of}
-use Rattle.igp_theory.specs.Isis.{IsisEntry}
-use Rattle.igp_theory.specs.Ospf.{OspfEntry}
-use Rattle.igp_theory.specs.Routes.{Tables}
+use Rattle.igp_theory.specs.Migrations.{Migration, ospf_to_isis}
 use Rattle.order_search.specs.Trees.{branch_count}
 use Rattle.order_search.specs.declared.found.Found.TheVariants.{Waves, Refuted, Spent}
 use Rattle.order_search.specs.declared.tree.Node.{Node}
@@ -29,11 +27,11 @@ use Rattle.migrate_cli.proofs.PlanLaws.{no_fault_over, of_planned, plan_of}
 use Rattle.migrate_cli.proofs.SameAnswers.{AreSame, NoFault}
 
 -- an answer is that of a plan
-record OfPlan (net : Network) (old new : Tables) (routers : ℕ) (status : Status) (text : List ℕ) : Type 0 where
+record OfPlan (move : Migration) (routers : ℕ) (status : Status) (text : List ℕ) : Type 0 where
   planned : Planned
-  is : IsPlanned net old new USUAL_BUDGET planned
+  is : IsPlanned move USUAL_BUDGET planned
   status_is : status ≡ plan_status planned
-  told : TellsOfPlan net routers planned text
+  told : TellsOfPlan move.net routers planned text
 
 -- where no waves are planned it is told what `plan` writes
 told_as_planned : (net : Network) (routers : ℕ) (planned : Planned) (status : Status) (text : List ℕ) → status ≢ Done → status ≡ plan_status planned →
@@ -44,21 +42,21 @@ told_as_planned net routers (Searched (Spent tree)) status text not_done status_
 told_as_planned net routers (UnsoundOld fault) status text not_done status_is text_is = text_is
 told_as_planned net routers (UnsoundNew fault) status text not_done status_is text_is = text_is
 
-of_plan : {net : Network} {old new : Tables} {routers : ℕ} {status : Status} {text : List ℕ} → IsSampleOver net old new routers status text →
-    OfPlan net old new routers status text
+of_plan : {move : Migration} {routers : ℕ} {status : Status} {text : List ℕ} → IsSampleOver move routers status text →
+    OfPlan move routers status text
 of_plan (summed_up ranks pairs chain trail text ends found sums) = record {
   planned = Searched (Waves ranks pairs chain trail);
   is = record { ends = ends; is_found = found };
   status_is = refl;
   told = sums;
 }
-of_plan {net} {routers = routers} (as_planned status text not_done over) =
+of_plan {move} {routers = routers} (as_planned status text not_done over) =
     let of = of_planned over in
     record {
       planned = of.planned;
       is = of.is;
       status_is = of.status_is;
-      told = told_as_planned net routers of.planned status text not_done of.status_is of.text_is;
+      told = told_as_planned move.net routers of.planned status text not_done of.status_is of.text_is;
     }
 
 -- there is one summary
@@ -83,13 +81,13 @@ one_sample_verdict routers net {t = t} {w = w} first second =
     let one = of_plan first.sample in
     let other = of_plan second.sample in
     let same : one.planned ≡ other.planned =
-    one_plan net (OspfEntry net) (IsisEntry net) USUAL_BUDGET one.planned other.planned one.is other.is in (
+    one_plan (ospf_to_isis net) USUAL_BUDGET one.planned other.planned one.is other.is in (
       one.status_is ∙ ap plan_status same ∙ sym other.status_is,
       one_told net routers other.planned t w (subst (λ planned. TellsOfPlan net routers planned t) same one.told) other.told,
     )
 
 -- which is no fault of reading or of writing
-sample_over_no_fault : {net : Network} {old new : Tables} {routers : ℕ} {status : Status} {text : List ℕ} → IsSampleOver net old new routers status text →
+sample_over_no_fault : {move : Migration} {routers : ℕ} {status : Status} {text : List ℕ} → IsSampleOver move routers status text →
     NoFault status
 sample_over_no_fault (summed_up _ _ _ _ _ _ _ _) = (λ e. Prim.cc e, λ e. Prim.cc e)
 sample_over_no_fault (as_planned _ _ _ over) = no_fault_over over
@@ -99,26 +97,26 @@ sample_no_fault verdict = sample_over_no_fault verdict.sample
 
 -- ---- what is planned has an answer ----
 
-pub sample_of : (net : Network) (old new : Tables) (routers : ℕ) (planned : Planned) (text : List ℕ) → IsPlanned net old new USUAL_BUDGET planned →
-    TellsOfPlan net routers planned text → IsSampleOver net old new routers (plan_status planned) text
-sample_of net old new routers (Searched (Waves ranks pairs chain trail)) text is told = summed_up ranks pairs chain trail text is.ends is.is_found told
-sample_of net old new routers (Searched (Refuted tree)) text is told = as_planned Negative text (λ e. Prim.cc e)
-    (subst (IsPlanOver net old new USUAL_BUDGET Negative) (sym told) (plan_of net old new USUAL_BUDGET (Searched (Refuted tree)) is))
-sample_of net old new routers (Searched (Spent tree)) text is told = as_planned SpentBudget text (λ e. Prim.cc e)
-    (subst (IsPlanOver net old new USUAL_BUDGET SpentBudget) (sym told) (plan_of net old new USUAL_BUDGET (Searched (Spent tree)) is))
-sample_of net old new routers (UnsoundOld fault) text is told = as_planned Unsound text (λ e. Prim.cc e)
-    (subst (IsPlanOver net old new USUAL_BUDGET Unsound) (sym told) (plan_of net old new USUAL_BUDGET (UnsoundOld fault) is))
-sample_of net old new routers (UnsoundNew fault) text is told = as_planned Unsound text (λ e. Prim.cc e)
-    (subst (IsPlanOver net old new USUAL_BUDGET Unsound) (sym told) (plan_of net old new USUAL_BUDGET (UnsoundNew fault) is))
+pub sample_of : (move : Migration) (routers : ℕ) (planned : Planned) (text : List ℕ) → IsPlanned move USUAL_BUDGET planned →
+    TellsOfPlan move.net routers planned text → IsSampleOver move routers (plan_status planned) text
+sample_of move routers (Searched (Waves ranks pairs chain trail)) text is told = summed_up ranks pairs chain trail text is.ends is.is_found told
+sample_of move routers (Searched (Refuted tree)) text is told = as_planned Negative text (λ e. Prim.cc e)
+    (subst (IsPlanOver move USUAL_BUDGET Negative) (sym told) (plan_of move USUAL_BUDGET (Searched (Refuted tree)) is))
+sample_of move routers (Searched (Spent tree)) text is told = as_planned SpentBudget text (λ e. Prim.cc e)
+    (subst (IsPlanOver move USUAL_BUDGET SpentBudget) (sym told) (plan_of move USUAL_BUDGET (Searched (Spent tree)) is))
+sample_of move routers (UnsoundOld fault) text is told = as_planned Unsound text (λ e. Prim.cc e)
+    (subst (IsPlanOver move USUAL_BUDGET Unsound) (sym told) (plan_of move USUAL_BUDGET (UnsoundOld fault) is))
+sample_of move routers (UnsoundNew fault) text is told = as_planned Unsound text (λ e. Prim.cc e)
+    (subst (IsPlanOver move USUAL_BUDGET Unsound) (sym told) (plan_of move USUAL_BUDGET (UnsoundNew fault) is))
 
 pub sample_answered : (net : Network) (routers : ℕ) (planned : Planned) (r : Result Answer AllocError) → 0 < length net → IsNetwork net →
-    IsPlanned net (OspfEntry net) (IsisEntry net) USUAL_BUDGET planned → IfOk r (λ (a : Answer). a.status ≡ plan_status planned) →
+    IsPlanned (ospf_to_isis net) USUAL_BUDGET planned → IfOk r (λ (a : Answer). a.status ≡ plan_status planned) →
     IfOk r (λ (a : Answer). TellsOfPlan net routers planned a.text) → IfOk r (λ (a : Answer). IsSampleVerdict routers net a.status a.text)
 sample_answered net routers planned (Ok a) some network is status_is told = record {
   some = some;
   network = network;
   sample =
-      subst (λ s. IsSampleOver net (OspfEntry net) (IsisEntry net) routers s a.text) (sym status_is)
-      (sample_of net (OspfEntry net) (IsisEntry net) routers planned a.text is told);
+      subst (λ s. IsSampleOver (ospf_to_isis net) routers s a.text) (sym status_is)
+      (sample_of (ospf_to_isis net) routers planned a.text is told);
 }
 sample_answered net routers planned (Err e) some network is status_is told = tt

@@ -1,10 +1,8 @@
 -- What `check` answers to an order file and a network that is at its start.
 use Rattle.std.specs.Prelude.{ℕ, ◌+◌, ◌*◌, List, length}
 use Rattle.net_model.specs.Network.{Network}
-use Rattle.igp_theory.specs.Isis.{IsisEntry}
 use Rattle.igp_theory.specs.Loops.{Fault, IsFirstFault}
-use Rattle.igp_theory.specs.Ospf.{OspfEntry}
-use Rattle.igp_theory.specs.Routes.{Tables}
+use Rattle.igp_theory.specs.Migrations.{Migration, ospf_to_isis}
 use Rattle.igp_theory.specs.States.{IsSeamless}
 use Rattle.igp_theory.specs.WaveFaults.{IsWavesFault}
 use Rattle.igp_theory.specs.Waves.{AreSeamlessWaves}
@@ -22,18 +20,18 @@ use Rattle.migrate_cli.specs.declared.status.Status.TheVariants.{Done, Negative,
 -- what is answered of an order, by the tables of the two protocols: it is safe where in every state of it each packet
 -- for an address with a target reaches an originator from every router, along every equal-cost choice; it has two
 -- distance changes for each router
-pub data IsOrderVerdict (net : Network) (old new : Tables) (order : List ℕ) : Status → List ℕ → Type 0 where
-  safe : IsSeamless net old new order → IsOrderVerdict net old new order Done (safe_text (2 * length net))
-  unsafe : (state : ℕ) (fault : Fault) → (IsSeamless net old new order → ⊥) → IsFirstFault net old new order state fault →
-      IsOrderVerdict net old new order Negative (unsafe_text (names_of net) state fault)
+pub data IsOrderVerdict (move : Migration) (order : List ℕ) : Status → List ℕ → Type 0 where
+  safe : IsSeamless move order → IsOrderVerdict move order Done (safe_text (2 * length move.net))
+  unsafe : (state : ℕ) (fault : Fault) → (IsSeamless move order → ⊥) → IsFirstFault move order state fault →
+      IsOrderVerdict move order Negative (unsafe_text (names_of move.net) state fault)
 
 -- what is answered of a wave list, by the tables of the two protocols: it is safe where in every state after every prefix
 -- of every interleaving of the changes within each wave each packet for an address with a target reaches an originator
 -- from every router, along every equal-cost choice; else its first wave with an unsound state is told, from 1
-pub data IsWavesVerdict (net : Network) (old new : Tables) (ranks : List ℕ) : Status → List ℕ → Type 0 where
-  safe_waves : AreSeamlessWaves net old new ranks → IsWavesVerdict net old new ranks Done (waves_safe_text (2 * length net) (wave_count ranks))
-  unsafe_wave : (wave : ℕ) (fault : Fault) → (AreSeamlessWaves net old new ranks → ⊥) → IsWavesFault net old new ranks wave fault →
-      IsWavesVerdict net old new ranks Negative (waves_unsafe_text (names_of net) (wave + 1) fault)
+pub data IsWavesVerdict (move : Migration) (ranks : List ℕ) : Status → List ℕ → Type 0 where
+  safe_waves : AreSeamlessWaves move ranks → IsWavesVerdict move ranks Done (waves_safe_text (2 * length move.net) (wave_count ranks))
+  unsafe_wave : (wave : ℕ) (fault : Fault) → (AreSeamlessWaves move ranks → ⊥) → IsWavesFault move ranks wave fault →
+      IsWavesVerdict move ranks Negative (waves_unsafe_text (names_of move.net) (wave + 1) fault)
 
 -- the order file has a faulty line; or it is of version 1, and its routers are switched one after the other; or it is of
 -- version 2, and they are switched wave by wave
@@ -41,6 +39,6 @@ pub data IsCheckVerdict (file text : List ℕ) (net : Network) : Status → List
   faulty_order : (number : ℕ) (kind : OrderKind) → IsLeastFaultyLine net text number kind →
       IsCheckVerdict file text net Refused (faulty_text file number (order_kind_name kind))
   of_order : (ranks : List ℕ) (status : Status) (answer : List ℕ) → NamesWaves net text One ranks →
-      IsOrderVerdict net (OspfEntry net) (IsisEntry net) (flat_of ranks) status answer → IsCheckVerdict file text net status answer
+      IsOrderVerdict (ospf_to_isis net) (flat_of ranks) status answer → IsCheckVerdict file text net status answer
   of_waves : (ranks : List ℕ) (status : Status) (answer : List ℕ) → NamesWaves net text Two ranks →
-      IsWavesVerdict net (OspfEntry net) (IsisEntry net) ranks status answer → IsCheckVerdict file text net status answer
+      IsWavesVerdict (ospf_to_isis net) ranks status answer → IsCheckVerdict file text net status answer

@@ -1,10 +1,9 @@
 -- Where nothing of the input is refused, a command answers.
 use Rattle.std.specs.Prelude.{◌≡◌, ℕ, List, [], ◌∷◌, All}
-use Rattle.igp_theory.specs.Isis.{IsisEntry}
-use Rattle.igp_theory.specs.Ospf.{OspfEntry}
 use Rattle.net_model.specs.Network.{Network}
 use Rattle.migrate_words.specs.Requests.{Request, check, refute, scripts, replay}
 use Rattle.refutation_check.specs.Verdicts.{IsClosedText}
+use Rattle.igp_theory.specs.Migrations.{ospf_to_isis}
 use Rattle.igp_theory.specs.Waves.{HasNoneSeamless}
 use Rattle.step_scripts.specs.WaveFiles.{NamesWaves}
 use Rattle.step_scripts.specs.declared.version.Version.{Version}
@@ -98,9 +97,9 @@ pub data Writes : Status → Type 0 where
 -- a command that decides on a tree ends with yes where the tree is closed, and then no wave list and no order of the network
 -- is seamless; with no where the text is no closed tree; or for want of memory
 pub data DecidesTree (net : Network) (tree : List ℕ) : Status → Type 0 where
-  closed_tree : (branches leaves : ℕ) → IsClosedText net (OspfEntry net) (IsisEntry net) tree branches leaves →
-      HasNoneSeamless net (OspfEntry net) (IsisEntry net) → DecidesTree net tree Done
-  no_closed_tree : ((branches leaves : ℕ) → ¬ IsClosedText net (OspfEntry net) (IsisEntry net) tree branches leaves) → DecidesTree net tree Negative
+  closed_tree : (branches leaves : ℕ) → IsClosedText (ospf_to_isis net) tree branches leaves →
+      HasNoneSeamless (ospf_to_isis net) → DecidesTree net tree Done
+  no_closed_tree : ((branches leaves : ℕ) → ¬ IsClosedText (ospf_to_isis net) tree branches leaves) → DecidesTree net tree Negative
   no_memory : DecidesTree net tree Memory
 
 -- where nothing of the input of `check` is refused and no fault rises, it decides

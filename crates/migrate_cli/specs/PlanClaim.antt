@@ -5,8 +5,7 @@ use Rattle.net_addr.specs.Addresses.{Block}
 use Rattle.net_model.specs.Network.{Network}
 use Rattle.net_model.specs.RouterNames.{names_of}
 use Rattle.igp_theory.specs.Forwarding.{IsTarget}
-use Rattle.igp_theory.specs.Isis.{IsisEntry}
-use Rattle.igp_theory.specs.Ospf.{OspfEntry}
+use Rattle.igp_theory.specs.Migrations.{ospf_to_isis}
 use Rattle.igp_theory.specs.States.{State, IsSeamless, state_of}
 use Rattle.igp_theory.specs.WaveLaws.{Delivers}
 use Rattle.igp_theory.specs.Waves.{AreSeamlessWaves, IsWavesState}
@@ -33,7 +32,7 @@ use Rattle.migrate_cli.specs.declared.status.Status.TheVariants.{Done, Negative}
 -- a state delivers: each packet, from every router to every address with a target, reaches an originator of that target,
 -- whichever of the equal-cost hops it takes at each router
 abbrev pub DeliversAll : Network → State → Type 0
-DeliversAll net state = (a : ℕ) (p : Block) → a < 2 ^ 32 → IsTarget net a p → Delivers net (OspfEntry net) (IsisEntry net) state a p
+DeliversAll net state = (a : ℕ) (p : Block) → a < 2 ^ 32 → IsTarget net a p → Delivers (ospf_to_isis net) state a p
 
 -- a wave list delivers throughout: in each of its states, those after every prefix of every interleaving of the changes within
 -- each wave, one wave after the other and the two changes of a router in their order
@@ -51,21 +50,21 @@ pub record NamesSafeWaves (net : Network) (text : List ℕ) : Type 0 where
   pub ranks : List ℕ
   pub names : NamesWaves net text Two ranks
   pub deliver : WavesDeliver net ranks
-  pub sound : AreSeamlessWaves net (OspfEntry net) (IsisEntry net) ranks
+  pub sound : AreSeamlessWaves (ospf_to_isis net) ranks
   pub order_delivers : OrderDelivers net (flat_of ranks)
-  pub order_sound : IsSeamless net (OspfEntry net) (IsisEntry net) (flat_of ranks)
+  pub order_sound : IsSeamless (ospf_to_isis net) (flat_of ranks)
   pub checks : (file : List ℕ) → IsCheckVerdict file text net Done (waves_safe_text (2 * length net) (wave_count ranks))
   pub chain : List ℕ
   pub chain_written : text ≡ waves_text (names_of net) ranks chain
-  pub chain_tagged : IsTaggedChain net (OspfEntry net) (IsisEntry net) chain
+  pub chain_tagged : IsTaggedChain (ospf_to_isis net) chain
 
 -- no wave list of the network delivers throughout, and no order does: some state of each isn't sound. The text shows it:
 -- `refute` of it says that it is a closed tree
 pub record ShowsThereIsNone (net : Network) (text : List ℕ) : Type 0 where
   pub no_waves_deliver : (ranks : List ℕ) → IsRanking (length net) ranks → ¬ WavesDeliver net ranks
-  pub no_waves_sound : (ranks : List ℕ) → ¬ AreSeamlessWaves net (OspfEntry net) (IsisEntry net) ranks
+  pub no_waves_sound : (ranks : List ℕ) → ¬ AreSeamlessWaves (ospf_to_isis net) ranks
   pub no_order_delivers : (order : List ℕ) → IsOrder (length net) order → ¬ OrderDelivers net order
-  pub no_order_sound : (order : List ℕ) → ¬ IsSeamless net (OspfEntry net) (IsisEntry net) order
+  pub no_order_sound : (order : List ℕ) → ¬ IsSeamless (ospf_to_isis net) order
   pub branches : ℕ
   pub leaves : ℕ
   pub refutes : IsRefuteVerdict text net Done (closed_text branches leaves)

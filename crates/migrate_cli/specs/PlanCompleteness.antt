@@ -1,8 +1,7 @@
 -- Where nothing of the input of `plan` is refused, it plans.
 use Rattle.std.specs.Prelude.{ℕ, List}
-use Rattle.igp_theory.specs.Isis.{IsisEntry}
 use Rattle.igp_theory.specs.LoopLaws.{AreSoundEnds}
-use Rattle.igp_theory.specs.Ospf.{OspfEntry}
+use Rattle.igp_theory.specs.Migrations.{ospf_to_isis}
 use Rattle.net_model.specs.Network.{Network}
 use Rattle.migrate_words.specs.Requests.{plan}
 use Rattle.migrate_cli.specs.Calls.{Call, Outside}
@@ -20,7 +19,7 @@ pub record AcceptsPlan (call : Call) : Type 0 where
 
 -- both ends of the migration are sound: the state in which every router is Old, and that in which every router is New
 abbrev pub EndsAreSound : Network → Type 0
-EndsAreSound net = AreSoundEnds net (OspfEntry net) (IsisEntry net)
+EndsAreSound net = AreSoundEnds (ospf_to_isis net)
 
 -- between sound ends it ends with waves, with a refutation, or with its budget spent; without them it says so; or there was
 -- no memory

@@ -3,11 +3,9 @@ use Rattle.std.specs.Prelude.{ℕ, ◌<◌, List, length}
 use Rattle.net_model.specs.Network.{Network}
 use Rattle.net_model.specs.Refusals.{IsNetwork}
 use Rattle.net_model.specs.RouterNames.{names_of}
-use Rattle.igp_theory.specs.Isis.{IsisEntry}
 use Rattle.igp_theory.specs.LoopLaws.{AreSoundEnds}
 use Rattle.igp_theory.specs.Loops.{Fault, IsFault}
-use Rattle.igp_theory.specs.Ospf.{OspfEntry}
-use Rattle.igp_theory.specs.Routes.{Tables}
+use Rattle.igp_theory.specs.Migrations.{Migration, ospf_to_isis}
 use Rattle.igp_theory.specs.States.{IsSound, all_new, all_old}
 use Rattle.order_core.specs.Pairs.{Pair}
 use Rattle.order_search.specs.Answers.{AreFoundWaves, IsRefutation, IsSpent}
@@ -24,21 +22,21 @@ use Rattle.migrate_cli.specs.declared.status.Status.TheVariants.{Done, Negative,
 -- told; or that state is sound and the one in which every router is New isn't, and the fault of this one is told. Where both
 -- are sound, a seamless wave list is written, with the chain that shows the number of its waves; or a closed tree, so that
 -- no wave list is seamless; or a tree where the budget of branches was spent
-pub data IsPlanOver (net : Network) (old new : Tables) (budget : ℕ) : Status → List ℕ → Type 0 where
-  unsound_old : (fault : Fault) → ¬ IsSound net old new all_old → IsFault net old new all_old fault →
-      IsPlanOver net old new budget Unsound (unsound_text Old (names_of net) fault)
-  unsound_new : (fault : Fault) → IsSound net old new all_old → ¬ IsSound net old new all_new → IsFault net old new all_new fault →
-      IsPlanOver net old new budget Unsound (unsound_text New (names_of net) fault)
-  waves : (ranks : List ℕ) (pairs : List Pair) (chain : List ℕ) (trail : List Node) → AreSoundEnds net old new →
-      AreFoundWaves (waves_meaning net old new) budget ranks pairs chain trail →
-      IsPlanOver net old new budget Done (waves_text (names_of net) ranks chain)
-  refuted : (tree : List Node) → AreSoundEnds net old new → IsRefutation (waves_meaning net old new) budget tree →
-      IsPlanOver net old new budget Negative (tree_text (names_of net) tree)
-  spent : (tree : List Node) → AreSoundEnds net old new → IsSpent (waves_meaning net old new) budget tree →
-      IsPlanOver net old new budget Spent (tree_text (names_of net) tree)
+pub data IsPlanOver (move : Migration) (budget : ℕ) : Status → List ℕ → Type 0 where
+  unsound_old : (fault : Fault) → ¬ IsSound move all_old → IsFault move all_old fault →
+      IsPlanOver move budget Unsound (unsound_text Old (names_of move.net) fault)
+  unsound_new : (fault : Fault) → IsSound move all_old → ¬ IsSound move all_new → IsFault move all_new fault →
+      IsPlanOver move budget Unsound (unsound_text New (names_of move.net) fault)
+  waves : (ranks : List ℕ) (pairs : List Pair) (chain : List ℕ) (trail : List Node) → AreSoundEnds move →
+      AreFoundWaves (waves_meaning move) budget ranks pairs chain trail →
+      IsPlanOver move budget Done (waves_text (names_of move.net) ranks chain)
+  refuted : (tree : List Node) → AreSoundEnds move → IsRefutation (waves_meaning move) budget tree →
+      IsPlanOver move budget Negative (tree_text (names_of move.net) tree)
+  spent : (tree : List Node) → AreSoundEnds move → IsSpent (waves_meaning move) budget tree →
+      IsPlanOver move budget Spent (tree_text (names_of move.net) tree)
 
 -- by the tables of OSPF and of IS-IS. There is a router at least, and the network keeps what every network keeps
 pub record IsPlanVerdict (budget : ℕ) (net : Network) (status : Status) (text : List ℕ) : Type 0 where
   pub some : 0 < length net
   pub network : IsNetwork net
-  pub plan : IsPlanOver net (OspfEntry net) (IsisEntry net) budget status text
+  pub plan : IsPlanOver (ospf_to_isis net) budget status text

@@ -3,10 +3,8 @@ use Rattle.std.specs.Prelude.{◌≡◌, ◌≢◌, ℕ, ◌<◌, List, length}
 use Rattle.net_model.specs.Network.{Network}
 use Rattle.net_model.specs.Refusals.{IsNetwork}
 use Rattle.net_model.specs.RouterNames.{names_of}
-use Rattle.igp_theory.specs.Isis.{IsisEntry}
 use Rattle.igp_theory.specs.LoopLaws.{AreSoundEnds}
-use Rattle.igp_theory.specs.Ospf.{OspfEntry}
-use Rattle.igp_theory.specs.Routes.{Tables}
+use Rattle.igp_theory.specs.Migrations.{Migration, ospf_to_isis}
 use Rattle.order_core.specs.Pairs.{Pair}
 use Rattle.order_search.specs.Answers.{AreFoundWaves}
 use Rattle.order_search.specs.Trees.{branch_count}
@@ -28,15 +26,15 @@ pub record SumsUp (net : Network) (routers : ℕ) (ranks : List ℕ) (trail : Li
 
 -- what is answered, by the tables of the two protocols: where `plan` with the usual budget writes a wave list, the summary of it;
 -- else what `plan` answers
-pub data IsSampleOver (net : Network) (old new : Tables) (routers : ℕ) : Status → List ℕ → Type 0 where
-  summed_up : (ranks : List ℕ) (pairs : List Pair) (chain : List ℕ) (trail : List Node) (text : List ℕ) → AreSoundEnds net old new →
-      AreFoundWaves (waves_meaning net old new) USUAL_BUDGET ranks pairs chain trail → SumsUp net routers ranks trail text →
-      IsSampleOver net old new routers Done text
-  as_planned : (status : Status) (text : List ℕ) → status ≢ Done → IsPlanOver net old new USUAL_BUDGET status text →
-      IsSampleOver net old new routers status text
+pub data IsSampleOver (move : Migration) (routers : ℕ) : Status → List ℕ → Type 0 where
+  summed_up : (ranks : List ℕ) (pairs : List Pair) (chain : List ℕ) (trail : List Node) (text : List ℕ) → AreSoundEnds move →
+      AreFoundWaves (waves_meaning move) USUAL_BUDGET ranks pairs chain trail → SumsUp move.net routers ranks trail text →
+      IsSampleOver move routers Done text
+  as_planned : (status : Status) (text : List ℕ) → status ≢ Done → IsPlanOver move USUAL_BUDGET status text →
+      IsSampleOver move routers status text
 
 -- by the tables of OSPF and of IS-IS. There is a router at least, and the network keeps what every network keeps
 pub record IsSampleVerdict (routers : ℕ) (net : Network) (status : Status) (text : List ℕ) : Type 0 where
   pub some : 0 < length net
   pub network : IsNetwork net
-  pub sample : IsSampleOver net (OspfEntry net) (IsisEntry net) routers status text
+  pub sample : IsSampleOver (ospf_to_isis net) routers status text

@@ -1,14 +1,13 @@
 ghost use Rattle.std.specs.Prelude.{◌≡◌, ◌<◌, ◌≤◌, ◌*◌, ℕ, IfOk, length};
-ghost use Rattle.igp_theory.specs.Isis.{IsisEntry};
 ghost use Rattle.igp_theory.specs.Loops.{IsFault};
-ghost use Rattle.igp_theory.specs.Ospf.{OspfEntry};
+ghost use Rattle.igp_theory.specs.Migrations.{listed_migration, ospf_to_isis};
 ghost use Rattle.igp_theory.specs.Routes.{Tables};
 ghost use Rattle.order_core.specs.Orders.{IsOrder};
 ghost use Rattle.igp_theory.specs.States.{State};
 ghost use Rattle.loop_finder.specs.Faults.{told_fault};
 ghost use Rattle.migration_report.specs.Texts.{safe_text, unsafe_text, waves_safe_text, waves_unsafe_text};
 ghost use Rattle.net_model.specs.RouterNames.{names_of};
-ghost use Rattle.route_core.specs.Tables.{HasEntry};
+ghost use Rattle.rib_mix.specs.Mixture.{migration_of};
 ghost use Rattle.migrate_cli.specs.steps.Faults.{NamesRouters};
 ghost use Rattle.migrate_cli.specs.CheckVerdict.{IsCheckVerdict, IsOrderVerdict, IsWavesVerdict};
 
@@ -55,7 +54,7 @@ pub fn judge_check(
 /// The answer to an order of the routers of a network, by the routes of OSPF and of IS-IS.
 fn judge_order(alloc: Global, net: &Net, order: &[u32]) -> Result<Answer, OutOfMemory>
     requires { IsOrder (length net.now) order.now }
-    ensures { IfOk result (λ answer. IsOrderVerdict net.now (OspfEntry net.now) (IsisEntry net.now) order.now answer.status answer.text) }
+    ensures { IfOk result (λ answer. IsOrderVerdict (ospf_to_isis net.now) order.now answer.status answer.text) }
 {
     let old = OspfRoutes::build(alloc, net)?;
     let new = IsisRoutes::build(alloc, net)?;
@@ -73,10 +72,24 @@ fn judge_between<O: RouteSource, N: RouteSource>(
     requires old_routers { O.routers old.now ≡ length net.now }
     requires new_routers { N.routers new.now ≡ length net.now }
     requires order { IsOrder (length net.now) order.now }
-    ensures { IfOk result (λ answer. IsOrderVerdict net.now (HasEntry (O.table old.now)) (HasEntry (N.table new.now)) order.now answer.status answer.text) }
+    ensures { IfOk result (λ answer. IsOrderVerdict (listed_migration net.now (O.table old.now) (N.table new.now)) order.now answer.status answer.text) }
 {
     let mixed = Mixed::build(alloc, net, old, new)?;
-    let mut finder = Finder::new(alloc, &mixed)?;
+    judge_mixed(alloc, net, &mixed, order)
+}
+
+/// The answer to an order, by mixed forwarding over the network.
+fn judge_mixed<O: RouteSource, N: RouteSource>(
+    alloc: Global,
+    net: &Net,
+    mixed: &Mixed<'_, O, N>,
+    order: &[u32],
+) -> Result<Answer, OutOfMemory>
+    requires net { mixed.now.net ≡ net.now }
+    requires order { IsOrder (length net.now) order.now }
+    ensures { IfOk result (λ answer. IsOrderVerdict (migration_of O.table N.table mixed.now) order.now answer.status answer.text) }
+{
+    let mut finder = Finder::new(alloc, mixed)?;
     match finder.order_fault(order) {
         None => safe(alloc, net),
         Some((state, fault)) => unsafe_in(alloc, net, state, fault, finder.ring()),
@@ -119,7 +132,7 @@ fn unsafe_in(
 /// The answer to a wave list of the routers of a network, by the routes of OSPF and of IS-IS.
 fn judge_waves(alloc: Global, net: &Net, waves: &Waves) -> Result<Answer, OutOfMemory>
     requires { length waves.now ≡ length net.now }
-    ensures { IfOk result (λ answer. IsWavesVerdict net.now (OspfEntry net.now) (IsisEntry net.now) waves.now answer.status answer.text) }
+    ensures { IfOk result (λ answer. IsWavesVerdict (ospf_to_isis net.now) waves.now answer.status answer.text) }
 {
     let old = OspfRoutes::build(alloc, net)?;
     let new = IsisRoutes::build(alloc, net)?;
@@ -137,10 +150,24 @@ fn judge_waves_between<O: RouteSource, N: RouteSource>(
     requires old_routers { O.routers old.now ≡ length net.now }
     requires new_routers { N.routers new.now ≡ length net.now }
     requires ranks { length waves.now ≡ length net.now }
-    ensures { IfOk result (λ answer. IsWavesVerdict net.now (HasEntry (O.table old.now)) (HasEntry (N.table new.now)) waves.now answer.status answer.text) }
+    ensures { IfOk result (λ answer. IsWavesVerdict (listed_migration net.now (O.table old.now) (N.table new.now)) waves.now answer.status answer.text) }
 {
     let mixed = Mixed::build(alloc, net, old, new)?;
-    let mut finder = Finder::new(alloc, &mixed)?;
+    judge_mixed_waves(alloc, net, &mixed, waves)
+}
+
+/// The answer to a wave list, by mixed forwarding over the network.
+fn judge_mixed_waves<O: RouteSource, N: RouteSource>(
+    alloc: Global,
+    net: &Net,
+    mixed: &Mixed<'_, O, N>,
+    waves: &Waves,
+) -> Result<Answer, OutOfMemory>
+    requires net { mixed.now.net ≡ net.now }
+    requires ranks { length waves.now ≡ length net.now }
+    ensures { IfOk result (λ answer. IsWavesVerdict (migration_of O.table N.table mixed.now) waves.now answer.status answer.text) }
+{
+    let mut finder = Finder::new(alloc, mixed)?;
     match finder.waves_fault(waves.ranks()) {
         None => safe_waves(alloc, net, waves.count()),
         Some((wave, fault)) => unsafe_wave(alloc, net, wave, fault, finder.ring()),

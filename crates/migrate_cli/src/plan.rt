@@ -1,10 +1,9 @@
 ghost use Rattle.std.specs.Prelude.{◌≡◌, ◌<◌, ◌≤◌, IfOk, length};
-ghost use Rattle.igp_theory.specs.Isis.{IsisEntry};
-ghost use Rattle.igp_theory.specs.Ospf.{OspfEntry};
 ghost use Rattle.net_model.specs.Refusals.{IsNetwork};
 ghost use Rattle.net_model.specs.RouterNames.{names_of};
+ghost use Rattle.igp_theory.specs.Migrations.{listed_migration, ospf_to_isis};
 ghost use Rattle.plan_theory.specs.Plans.{IsPlanned, fault_told};
-ghost use Rattle.route_core.specs.Tables.{HasEntry};
+ghost use Rattle.rib_mix.specs.Mixture.{migration_of};
 ghost use Rattle.migration_report.specs.EndTexts.{EndFaultBelow, unsound_text};
 ghost use Rattle.migrate_cli.specs.PlanVerdict.{IsPlanVerdict};
 ghost use Rattle.migrate_cli.specs.steps.PlannedAnswers.{IsTellable, found_status, plan_status, plan_text};
@@ -38,7 +37,7 @@ pub fn plan_network(alloc: Global, budget: u32, net: &Net) -> Result<Planned, Ou
     requires budget { 1 ≤ budget }
     requires some { 0 < length net.now }
     ensures network { IsNetwork net.now }
-    ensures planned { IfOk result (IsPlanned net.now (OspfEntry net.now) (IsisEntry net.now) budget) }
+    ensures planned { IfOk result (IsPlanned (ospf_to_isis net.now) budget) }
 {
     let routers = net.routers();
     prove!(routers > 0);
@@ -57,12 +56,27 @@ fn plan_between<O: RouteSource, N: RouteSource>(
 ) -> Result<Planned, OutOfMemory>
     requires budget { 1 ≤ budget }
     requires some { 0 < length net.now }
+    requires few { length net.now ≤ 1000 }
     requires old_routers { O.routers old.now ≡ length net.now }
     requires new_routers { N.routers new.now ≡ length net.now }
-    ensures { IfOk result (IsPlanned net.now (HasEntry (O.table old.now)) (HasEntry (N.table new.now)) budget) }
+    ensures { IfOk result (IsPlanned (listed_migration net.now (O.table old.now) (N.table new.now)) budget) }
 {
     let mixed = Mixed::build(alloc, net, old, new)?;
-    plan_waves(alloc, &mixed, budget)
+    plan_mixed(alloc, budget, &mixed)
+}
+
+/// What is planned of the network of mixed forwarding.
+fn plan_mixed<O: RouteSource, N: RouteSource>(
+    alloc: Global,
+    budget: u32,
+    mixed: &Mixed<'_, O, N>,
+) -> Result<Planned, OutOfMemory>
+    requires budget { 1 ≤ budget }
+    requires some { 0 < length mixed.now.net }
+    requires few { length mixed.now.net ≤ 1000 }
+    ensures { IfOk result (IsPlanned (migration_of O.table N.table mixed.now) budget) }
+{
+    plan_waves(alloc, mixed, budget)
 }
 
 /// The answer that this is planned.

@@ -1,5 +1,5 @@
 ghost use Rattle.std.specs.Prelude.{◌≡◌, ◌≤◌, IfOk, length};
-ghost use Rattle.route_core.specs.Tables.{HasEntry};
+ghost use Rattle.igp_theory.specs.Migrations.{listed_migration};
 ghost use Rattle.migrate_cli.specs.RefuteVerdict.{IsRefuteVerdict, IsTreeVerdict, verdict_status};
 
 use crate::answer::Answer;
@@ -36,7 +36,7 @@ fn judge_tree<O: RouteSource, N: RouteSource>(
     requires short { length tree.now ≤ FILE_MOST }
     requires old_routers { O.routers old.now ≡ length net.now }
     requires new_routers { N.routers new.now ≡ length net.now }
-    ensures { IfOk result (λ answer. IsTreeVerdict net.now (HasEntry (O.table old.now)) (HasEntry (N.table new.now)) tree.now answer.status answer.text) }
+    ensures { IfOk result (λ answer. IsTreeVerdict (listed_migration net.now (O.table old.now) (N.table new.now)) tree.now answer.status answer.text) }
 {
     let mixed = Mixed::build(alloc, net, old, new)?;
     let verdict = verify(alloc, &mixed, tree.as_slice())?;

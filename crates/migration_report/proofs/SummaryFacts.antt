@@ -1,5 +1,5 @@
 -- The waves of a ranking and their lowest routers.
-use Rattle.std.proofs.Common.{◌<◌, ℕ, List, [], ◌∷◌, length, get_or, arith}
+use Rattle.std.proofs.Common.{◌<◌, ℕ, List, [], ◌∷◌, length, arith}
 use Rattle.std.proofs.lemmas.List.Elements.{Contains-get_or}
 use Rattle.order_core.specs.Rankings.{IsRanking, wave_count, wave_of}
 use Rattle.order_core.proofs.WaveLists.{wave_routers, wave_some}

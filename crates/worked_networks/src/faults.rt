@@ -123,7 +123,14 @@ fn finds(alloc: Global, net: &Net, old: &Ways, new: &Ways) -> Result<bool, OutOf
         return Ok(false);
     }
     let mixed = Mixed::build(alloc, net, old, new)?;
-    let mut finder = Finder::new(alloc, &mixed)?;
+    finds_in(alloc, &mixed)
+}
+
+/// Whether a finder over mixed forwarding of three routers tells that.
+fn finds_in(alloc: Global, mixed: &Mixed<'_, Ways, Ways>) -> Result<bool, OutOfMemory>
+    requires { length mixed.now.net ≡ 3 }
+{
+    let mut finder = Finder::new(alloc, mixed)?;
     Ok(tells(&mut finder))
 }
 

@@ -1,3 +1,5 @@
+ghost use Rattle.std.specs.Prelude.{◌≤◌, length};
+
 use crate::configurations::read;
 use isis_routes::IsisRoutes;
 use net_model::Net;
@@ -6,7 +8,7 @@ use order_search::{Found, Node};
 use ospf_routes::OspfRoutes;
 use plan_theory::Planned;
 use rib_mix::Mixed;
-use std::alloc::Global;
+use std::alloc::{AllocError as OutOfMemory, Global};
 use std::process::Abort;
 use std::test::Fail;
 use test_networks::{RANGE, SQUARE, TRIANGLE, linked_text};
@@ -20,8 +22,21 @@ fn planned(rt: &impl Abort, alloc: Global, text: &[u8], budget: u32) -> Result<P
     let old = OspfRoutes::build(alloc, &net)?;
     let new = IsisRoutes::build(alloc, &net)?;
     let mixed = Mixed::build(alloc, &net, &old, &new)?;
-    let planned = plan_waves(alloc, &mixed, budget)?;
+    let planned = planned_of(alloc, &mixed, budget)?;
     Ok(planned)
+}
+
+/// What is planned of the network of mixed forwarding.
+fn planned_of(
+    alloc: Global,
+    mixed: &Mixed<'_, OspfRoutes, IsisRoutes>,
+    budget: u32,
+) -> Result<Planned, OutOfMemory>
+    requires budget { 1 ≤ budget }
+    requires some { 1 ≤ length mixed.now.net }
+    requires few { length mixed.now.net ≤ 1000 }
+{
+    plan_waves(alloc, mixed, budget)
 }
 
 /// Whether waves were planned, with these ranks and this chain.

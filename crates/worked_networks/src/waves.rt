@@ -76,6 +76,19 @@ fn count_faults<O: RouteSource, N: RouteSource>(
     Ok((lists, faults))
 }
 
+/// The same by a finder over mixed forwarding of the network.
+fn counts_of<O: RouteSource, N: RouteSource>(
+    rt: &impl Abort,
+    alloc: Global,
+    net: &Net,
+    mixed: &Mixed<'_, O, N>,
+) -> Result<(u32, u32), Fail>
+    requires { mixed.now.net ≡ net.now }
+{
+    let mut finder = Finder::new(alloc, mixed)?;
+    count_faults(rt, alloc, net, &mut finder)
+}
+
 /// No wave list of these routers is seamless, whether it has one wave or four.
 #[test]
 fn a_network_without_a_seamless_wave_list(rt: HostRuntime) -> Result<(), Fail> {
@@ -84,8 +97,7 @@ fn a_network_without_a_seamless_wave_list(rt: HostRuntime) -> Result<(), Fail> {
     let old = OspfRoutes::build(rt.alloc(), &net)?;
     let new = IsisRoutes::build(rt.alloc(), &net)?;
     let mixed = Mixed::build(rt.alloc(), &net, &old, &new)?;
-    let mut finder = Finder::new(rt.alloc(), &mixed)?;
-    let counts = count_faults(&rt, rt.alloc(), &net, &mut finder)?;
+    let counts = counts_of(&rt, rt.alloc(), &net, &mixed)?;
     assert_eq!(rt; counts, (75, 75));
     Ok(())
 }

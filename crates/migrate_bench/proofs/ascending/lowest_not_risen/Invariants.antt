@@ -1,4 +1,3 @@
-use Rattle.std.proofs.Common.{ℕ}
 use Rattle.migrate_bench.specs.Ascending.{IsScanned}
 use Rattle.migrate_bench.proofs.ascending.lowest_not_risen.Given as goal
 

@@ -1,10 +1,9 @@
 use Rattle.std.proofs.Common.{ℕ, List, length, sym, subst}
 use Rattle.std.proofs.lemmas.Result.{IfOk-weaker}
-use Rattle.igp_theory.specs.Isis.{IsisEntry}
-use Rattle.igp_theory.specs.Ospf.{OspfEntry}
 use Rattle.order_core.specs.Orders.{IsOrder}
 use Rattle.order_core.specs.Rankings.{flat_of}
 use Rattle.order_core.proofs.WaveLists.{flat_is_order}
+use Rattle.igp_theory.specs.Migrations.{ospf_to_isis}
 use Rattle.step_scripts.specs.FaultyLines.{IsLeastFaultyLine, RefusesWaves}
 use Rattle.step_scripts.specs.WaveFiles.{NamesWaves}
 use Rattle.migration_report.specs.Kinds.{order_kind_name}
@@ -42,10 +41,10 @@ returns-in-One c =
     let ranks = c.in-Ok.read.waves in
     let names = subst (λ version. NamesWaves net text version ranks) c.in-One.is (subst (λ t. NamesWaves net t c.in-Ok.read.version ranks)
     c.as_slice.ensures c.in-Ok.ensures.ok) in
-    IfOk-weaker c.judge_order.result (λ a. IsOrderVerdict net (OspfEntry net) (IsisEntry net) c.flat.result.now a.status a.text)
+    IfOk-weaker c.judge_order.result (λ a. IsOrderVerdict (ospf_to_isis net) c.flat.result.now a.status a.text)
     (λ a. IsCheckVerdict c.args.file.now text net a.status a.text)
     (λ a verdict. of_order ranks a.status a.text names
-    (subst (λ (order : List ℕ). IsOrderVerdict net (OspfEntry net) (IsisEntry net) order a.status a.text) c.flat.ensures verdict))
+    (subst (λ (order : List ℕ). IsOrderVerdict (ospf_to_isis net) order a.status a.text) c.flat.ensures verdict))
     c.judge_order.ensures
 
 pub returns : goal.returns
@@ -55,7 +54,7 @@ returns c =
     let ranks = c.in-Ok.read.waves in
     let names = subst (λ version. NamesWaves net text version ranks) c.in-Two.is (subst (λ t. NamesWaves net t c.in-Ok.read.version ranks)
     c.as_slice.ensures c.in-Ok.ensures.ok) in
-    IfOk-weaker c.judge_waves.result (λ a. IsWavesVerdict net (OspfEntry net) (IsisEntry net) ranks a.status a.text)
+    IfOk-weaker c.judge_waves.result (λ a. IsWavesVerdict (ospf_to_isis net) ranks a.status a.text)
     (λ a. IsCheckVerdict c.args.file.now text net a.status a.text)
     (λ a verdict. of_waves ranks a.status a.text names verdict)
     c.judge_waves.ensures

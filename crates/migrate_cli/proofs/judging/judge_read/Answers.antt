@@ -5,7 +5,7 @@ use Rattle.std.proofs.lemmas.Result.{IfOk-weaker}
 use Rattle.migrate_words.specs.Requests.{request_of}
 use Rattle.migrate_cli.specs.CommandFiles.{config_texts, own_texts, text_names}
 use Rattle.migrate_cli.specs.Verdicts.{IsVerdict}
-use Rattle.migrate_cli.proofs.FileFacts.{AreSplit, split_count, split_texts}
+use Rattle.migrate_cli.proofs.FileFacts.{split_count, split_texts}
 use Rattle.migrate_cli.proofs.judging.judge_read.Goals as goal
 
 pub overflow_sub-texts : goal.overflow_sub-texts

@@ -1,6 +1,5 @@
-use Rattle.igp_theory.specs.Isis.{IsisEntry}
-use Rattle.igp_theory.specs.Ospf.{OspfEntry}
 use Rattle.net_model.specs.RouterNames.{names_of}
+use Rattle.igp_theory.specs.Migrations.{ospf_to_isis}
 use Rattle.migrate_cli.specs.PlanVerdict.{IsPlanVerdict}
 use Rattle.migrate_cli.specs.steps.PlannedAnswers.{plan_status, plan_text}
 use Rattle.migrate_cli.proofs.AnswerFacts.{from_refusal}
@@ -10,7 +9,7 @@ use Rattle.migrate_cli.proofs.plan.judge_plan.Goals as goal
 pub planned_answer-requires : goal.planned_answer-requires
 planned_answer-requires c =
     let net = c.args.net.now in
-    has_text net (OspfEntry net) (IsisEntry net) c.args.budget c.in_ok-planned.planned c.in_ok-planned.ensures.planned
+    has_text (ospf_to_isis net) c.args.budget c.in_ok-planned.planned c.in_ok-planned.ensures.planned
 
 pub returns : goal.returns
 returns c =
@@ -22,5 +21,5 @@ returns c =
     (record {
       some = c.requires.some;
       network = c.in_ok-planned.ensures.network;
-      plan = plan_of net (OspfEntry net) (IsisEntry net) budget planned c.in_ok-planned.ensures.planned;
+      plan = plan_of (ospf_to_isis net) budget planned c.in_ok-planned.ensures.planned;
     })

@@ -1,4 +1,4 @@
-use Rattle.std.proofs.Common.{◌≡◌, ◌+◌, ◌<◌, ◌≤◌, ◌∙◌, [], ◌∷◌, ap, arith, get_or, length, lit≤, take}
+use Rattle.std.proofs.Common.{◌<◌, ◌≤◌, ◌∙◌, [], ◌∷◌, ap, arith, get_or, length, lit≤, take}
 use Rattle.std.proofs.lemmas.List.{take_more}
 use Rattle.order_search.specs.Trees.{branch_count, branches_at}
 use Rattle.order_search.specs.declared.tree.Node.{Node}

@@ -1,9 +1,5 @@
-use Rattle.std.proofs.Common.{◌≡◌, List, Result, Ok, Err, IfOk, subst, sym, ℕ}
-use Rattle.igp_theory.specs.Isis.{IsisEntry}
-use Rattle.igp_theory.specs.Ospf.{OspfEntry}
+use Rattle.igp_theory.specs.Migrations.{ospf_to_isis}
 use Rattle.migrate_words.specs.declared.command.TheConstants.{USUAL_BUDGET}
-use Rattle.migrate_cli.specs.steps.SampleAnswers.{TellsOfPlan}
-use Rattle.migrate_cli.specs.SampleVerdict.{IsSampleVerdict}
 use Rattle.migrate_cli.proofs.PlanLaws.{has_text}
 use Rattle.migrate_cli.proofs.SampleLaws.{sample_answered}
 use Rattle.migrate_cli.proofs.sample.judge_sample.Goals as goal
@@ -11,7 +7,7 @@ use Rattle.migrate_cli.proofs.sample.judge_sample.Goals as goal
 pub sample_answer-requires : goal.sample_answer-requires
 sample_answer-requires c =
     let net = c.args.net.now in
-    has_text net (OspfEntry net) (IsisEntry net) USUAL_BUDGET c.in_ok-planned.planned c.in_ok-planned.ensures.planned
+    has_text (ospf_to_isis net) USUAL_BUDGET c.in_ok-planned.planned c.in_ok-planned.ensures.planned
 
 pub returns : goal.returns
 returns c =

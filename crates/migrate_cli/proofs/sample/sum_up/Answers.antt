@@ -1,6 +1,5 @@
-use Rattle.std.proofs.Common.{◌≡◌, ◌∙◌, ℕ, List, ap}
+use Rattle.std.proofs.Common.{◌∙◌, ℕ, List, ap}
 use Rattle.net_model.specs.RouterNames.{names_of}
-use Rattle.order_search.specs.Trees.{branch_count}
 use Rattle.migration_report.specs.SummaryTexts.{summary_text}
 use Rattle.migrate_cli.proofs.sample.sum_up.Goals as goal
 

@@ -1,5 +1,4 @@
-use Rattle.std.proofs.Common.{◌<◌, arith}
-use Rattle.order_core.specs.Rankings.{wave_count}
+use Rattle.std.proofs.Common.{arith}
 use Rattle.migration_report.proofs.SummaryFacts.{some_waves}
 use Rattle.migration_report.proofs.summary.last_wave.Goals as goal
 

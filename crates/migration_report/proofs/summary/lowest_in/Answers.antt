@@ -1,4 +1,4 @@
-use Rattle.std.proofs.Common.{◌<◌, ◌≡◌, get_or, length, subst, sym}
+use Rattle.std.proofs.Common.{◌<◌, get_or, length, subst, sym}
 use Rattle.order_core.proofs.WaveLists.{wave_some}
 use Rattle.migration_report.proofs.SummaryFacts.{lowest_ranked}
 use Rattle.migration_report.proofs.summary.lowest_in.Goals as goal
