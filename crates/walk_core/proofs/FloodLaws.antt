@@ -1,36 +1,20 @@
 -- Relaxing all arcs of a segment at once.
-use Rattle.std.proofs.Common.{◌≡◌, ℕ, ◌+◌, ◌<◌, ◌≤◌, Bool, true, false, ◌||◌, cond, IsTrue, ◌↔◌, List, [], Option, Some, None, length, set, get_or, refl, sym}
-use Rattle.std.proofs.Common.{ap, subst, ◌∙◌, arith, Contains}
-use Rattle.std.specs.Bool.{OnFalse}
+use Rattle.std.proofs.Common.{◌≡◌, ℕ, ◌+◌, ◌<◌, ◌≤◌, Bool, cond, IsTrue, ◌↔◌, List, [], Option, Some, None, length, set, get_or, refl, sym}
+use Rattle.std.proofs.Common.{ap, subst, ◌∙◌, arith, Contains, MatchOption, inl, inr}
 use Rattle.std.proofs.lemmas.List.{get_or_default}
 use Rattle.std.proofs.lemmas.List.Elements.{Contains-get_or}
-use borrow.Author.Count.{below_more}
 use Rattle.walk_core.specs.declared.segment.Port.{Port}
 use Rattle.walk_core.specs.BestOffers.{total_with}
-use Rattle.walk_core.specs.steps.Cheapest.{HasCost, NoneHasCost}
+use Rattle.walk_core.specs.steps.Cheapest.{HasCost}
 use Rattle.walk_core.specs.Distances.{distance_at, IsDistanceRow}
-use Rattle.walk_core.specs.steps.Flooding.{cost_onto, segment_at, AreAllAtMost, IsLevel}
-use Rattle.walk_core.specs.steps.Relaxing.{AreWalked, HaveRoom, IsAtMost, IsTightFrom, Relaxes, weight_of}
+use Rattle.walk_core.specs.steps.Flooding.{cost_onto, segment_at, AreAllAtMost, IsLastAbove}
+use Rattle.walk_core.specs.steps.Relaxing.{AreWalked, HaveRoom, Fall, IsAtMost, IsTightFrom, weight_of}
+use Rattle.walk_core.specs.declared.outlets.Outlet.{Outlet}
+use Rattle.walk_core.specs.steps.SegmentWalks.{AreOutlets, HasOutlet, IsFarEnd, IsLan, IsOutlet}
 use Rattle.walk_core.specs.Segments.{SendsOn, Sends, SendsAcross, AreSegments}
 use Rattle.walk_core.specs.Walks.{Arcs}
 use Rattle.walk_core.proofs.LoopLaws.{AddsLoops, distances_loops}
 use Rattle.walk_core.proofs.RelaxLaws.{IsRelaxed, relaxed, distances_from_tight}
-
--- what holds of the first places holds of one more, where nothing changed since
-pub holds_more : {D : Type 0} (P : D → ℕ → Type 0) (now after : D) (i : ℕ) (fell more : Bool) →
-    OnFalse fell ((j : ℕ) → j < i → P now j) → OnFalse more (after ≡ now) → OnFalse more (P after i) →
-    OnFalse (more || fell) ((j : ℕ) → j < i + 1 → P after j)
-holds_more P now after i fell true so_far same here = tt
-holds_more P now after i true false so_far same here = tt
-holds_more {D} P now after i false false so_far same here =
-    below_more (λ j. P after j) i (λ j below. subst (λ (d : D). P d j) (sym same) (so_far j below)) here
-
-pub holds_kept : {D : Type 0} (P : D → ℕ → Type 0) (now after : D) (i : ℕ) (fell more : Bool) →
-    OnFalse fell ((j : ℕ) → j < i → P now j) → OnFalse more (after ≡ now) →
-    OnFalse (more || fell) ((j : ℕ) → j < i → P after j)
-holds_kept P now after i fell true so_far same = tt
-holds_kept P now after i true false so_far same = tt
-holds_kept {D} P now after i false false so_far same = λ j below. subst (λ (d : D). P d j) (sym same) (so_far j below)
 
 -- a sum that is there has a first part
 pub total_parts : (d : Option ℕ) (c total : ℕ) → total_with d c ≡ Some total → (n : ℕ) × (d ≡ Some n) × (n + c ≡ total)
@@ -50,17 +34,29 @@ vertex_below segments place i n given in_place is within are =
     subst (λ (l : List Port). Contains l (get_or given i none)) is (Contains-get_or given i none within) in
     (are (segment_at segments place) (segment_among segments place in_place) (get_or given i none) among).vertex
 
+-- nothing falls
+pub falls_none : {arc : Arcs} {ds : List (Option ℕ)} → HaveRoom ds → Fall arc ds ds
+falls_none room = record { room = room; walked = λ root walked. walked; lower = λ v most is. is }
+
+-- more falls
+pub falls_on : {arc : Arcs} {before now after : List (Option ℕ)} → Fall arc before now → Fall arc now after → Fall arc before after
+falls_on one other = record {
+  room = other.room;
+  walked = λ root walked. other.walked root (one.walked root walked);
+  lower = λ v most is. other.lower v most (one.lower v most is);
+}
+
 -- what one step of lowering leaves
-pub record IsLowered (arc : Arcs) (ports : List Port) (now after : List (Option ℕ)) (v found : ℕ) (fell : Bool) : Type 0 where
-  pub relaxes : Relaxes arc now after fell
+pub record IsLowered (arc : Arcs) (ports : List Port) (now after : List (Option ℕ)) (v found : ℕ) : Type 0 where
+  pub falls : Fall arc now after
   pub entry : HasCost (cost_onto after) ports found
-  pub tight : OnFalse fell (IsAtMost (distance_at after v) found)
+  pub tight : IsAtMost (distance_at after v) found
 
 pub lowered : (segments : List (List Port)) (place : ℕ) (now after : List (Option ℕ)) (port : Port) (found : ℕ) (fell : Bool) →
     place < length segments → AreSegments (length now) segments → HaveRoom now →
     HasCost (cost_onto now) (segment_at segments place) found → Contains (segment_at segments place) port →
     (IsTrue fell ↔ (found < weight_of (distance_at now port.vertex))) → after ≡ cond fell (set now port.vertex (Some found)) now →
-    IsLowered (Sends segments) (segment_at segments place) now after port.vertex found fell
+    IsLowered (Sends segments) (segment_at segments place) now after port.vertex found
 lowered segments place now after port found fell within are room entry far falls is =
     let ports : List Port = segment_at segments place in
     let near : Port = entry.thing in
@@ -80,13 +76,13 @@ lowered segments place now after port found fell within are room entry far falls
     (subst (λ (n : ℕ). after ≡ cond fell (set now port.vertex (Some n)) now) (sym sum) is)
     in
     record {
-      relaxes = step.relaxes;
+      falls = record { room = step.relaxes.room; walked = step.relaxes.walked; lower = step.lower };
       entry = record {
         thing = near;
         among = entry.among;
         costs = ap (λ (o : Option ℕ). total_with o near.cost) step.near_is ∙ ap (λ (n : ℕ). Some n) sum;
       };
-      tight = subst (λ (n : ℕ). OnFalse fell (IsAtMost (distance_at after port.vertex) n)) sum step.tight;
+      tight = subst (λ (n : ℕ). IsAtMost (distance_at after port.vertex) n) sum step.tight;
     }
 
 -- all ports are lowered
@@ -99,27 +95,6 @@ all_at_most ds ports i most none past each port among =
 -- what is at most this is at most more
 pub at_most_more : (distance : Option ℕ) (most more : ℕ) → IsAtMost distance most → most ≤ more → IsAtMost distance more
 at_most_more distance most more is less = record { value = is.value; is = is.is; below = omega (arith, is.below) }
-
--- a segment none of whose vertices has a distance is level
-pub level_unreached : (ports : List Port) (ds : List (Option ℕ)) → NoneHasCost (cost_onto ds) ports → IsLevel ports ds
-level_unreached ports ds none = λ near d near_among is port among.
-    absurd (none (d + near.cost) (record {
-      thing = near;
-      among = near_among;
-      costs = ap (λ (o : Option ℕ). total_with o near.cost) is;
-    }))
-
--- where all segments are level no arc undercuts
-pub tight_level : (segments : List (List Port)) (ds : List (Option ℕ)) → ((i : ℕ) → i < length segments → IsLevel (segment_at segments i) ds) →
-    (u : ℕ) → IsTightFrom (Sends segments) u ds
-tight_level segments ds level u v c d over is =
-    let on : SendsOn over.segment u v c = over.over in
-    let at : segment_at segments over.among.0 ≡ over.segment = get_or_default segments over.among.0 [] over.segment over.among.1 ∙ over.among.2 in
-    let here : IsLevel over.segment ds = subst (λ (s : List Port). IsLevel s ds) at (level over.among.0 over.among.1) in
-    let near_is : distance_at ds on.near.vertex ≡ Some d = subst (λ (n : ℕ). distance_at ds n ≡ Some d) (sym on.from) is in
-    let most : IsAtMost (distance_at ds on.far.vertex) (d + on.near.cost) = here on.near d on.near_among near_is on.far on.far_among in
-    subst (λ (n : ℕ). IsAtMost (distance_at ds v) (d + n)) on.costs
-    (subst (λ (n : ℕ). IsAtMost (distance_at ds n) (d + on.near.cost)) on.to most)
 
 -- the arcs of segments, with those from a vertex to itself
 pub sends_loops : (segments : List (List Port)) → AddsLoops (SendsAcross segments) (Sends segments)
@@ -140,20 +115,65 @@ sends_at_place segments u v c arc =
     let at : segment_at segments arc.among.0 ≡ arc.segment = get_or_default segments arc.among.0 [] arc.segment arc.among.1 ∙ arc.among.2 in
     (arc.among.0, arc.among.1, subst (λ (s : List Port). SendsOn s u v c) (sym at) arc.over)
 
--- what holds below one number holds below a lower one
-pub below_all : (fell : Bool) (P : ℕ → Type 0) (n m : ℕ) → m ≤ n → OnFalse fell ((j : ℕ) → j < n → P j) → OnFalse fell ((j : ℕ) → j < m → P j)
-below_all true P n m less each = tt
-below_all false P n m less each = λ j below. each j (omega (arith, below, less))
-
--- distances that are costs of walks and leave every segment level are a row
-pub row_of_level : (segments : List (List Port)) (count root : ℕ) (ds : List (Option ℕ)) → root < count → AreSegments count segments → length ds ≡ count →
-    HaveRoom ds → AreWalked (Sends segments) root ds → ((i : ℕ) → i < length segments → IsLevel (segment_at segments i) ds) →
+-- distances that are costs of walks and that no arc undercuts are a row
+pub row_of_tight : (segments : List (List Port)) (count root : ℕ) (ds : List (Option ℕ)) → root < count → AreSegments count segments → length ds ≡ count →
+    HaveRoom ds → AreWalked (Sends segments) root ds → ((u : ℕ) → u < count → IsTightFrom (Sends segments) u ds) →
     IsDistanceRow (SendsAcross segments) count root ds
-row_of_level segments count root ds below are long room walked level = record {
+row_of_tight segments count root ds below are long room walked tight = record {
   least = distances_loops (SendsAcross segments) (Sends segments) (sends_loops segments) root ds
       (distances_from_tight (Sends segments) count root ds below
-      (λ u v cost in_range over. sends_below segments count u v cost are over)
-      (λ u in_range. tight_level segments ds level u) walked);
+      (λ u v cost in_range over. sends_below segments count u v cost are over) tight walked);
   within = omega (arith, long);
   near = λ v d is. let within = room.room v d is in omega (arith, within, long);
 }
+
+-- the port of an outlet is one from which its segment is entered
+pub entry_of_outlet : (segments : List (List Port)) (u : ℕ) (outlet : Outlet) (ds : List (Option ℕ)) (near : ℕ) → IsOutlet segments u outlet →
+    distance_at ds u ≡ Some near → HasCost (cost_onto ds) (segment_at segments outlet.place) (near + outlet.cost)
+entry_of_outlet segments u outlet ds near is here = record {
+  thing = is.port;
+  among = is.among;
+  costs = ap (λ (n : ℕ). total_with (distance_at ds n) is.port.cost) is.vertex ∙ ap (λ (o : Option ℕ). total_with o is.port.cost) here
+      ∙ ap (λ (n : ℕ). Some (near + n)) is.costs;
+}
+
+-- over a link the other end alone may be further
+pub last_above : (segments : List (List Port)) (u : ℕ) (outlet : Outlet) (ds : List (Option ℕ)) (near found : ℕ) → IsOutlet segments u outlet →
+    distance_at ds u ≡ Some near → near ≤ found →
+    MatchOption outlet.to (IsLan (segment_at segments outlet.place)) (IsLastAbove ds (segment_at segments outlet.place) found)
+last_above segments u outlet ds near found is here less = match_of outlet.to is.leads
+  where
+    ports : List Port
+    ports = segment_at segments outlet.place
+
+    match_of : (to : Option ℕ) → MatchOption to (IsLan ports) (IsFarEnd ports u) → MatchOption to (IsLan ports) (IsLastAbove ds ports found)
+    match_of None lan = lan
+    match_of (Some to) far = let at = far.port in record {
+      port = at.1;
+      among = (at.0, at.2, at.3);
+      vertex = at.4;
+      others = λ p among. elim (far.only p among) [
+        | inl own ↦ inr (record { value = near; is = ap (distance_at ds) own ∙ here; below = less })
+        | inr same ↦ inl same
+      ];
+    }
+
+-- a vertex whose arcs were relaxed, those of one outlet after another
+pub tight_over : (segments : List (List Port)) (u near i : ℕ) (outlets : List Outlet) (none : Outlet) (ds : List (Option ℕ)) → length outlets ≤ i →
+    AreOutlets segments u (length segments) outlets → distance_at ds u ≡ Some near →
+    ((j : ℕ) → j < i → AreAllAtMost ds (segment_at segments (get_or outlets j none).place) (near + (get_or outlets j none).cost)) →
+    IsTightFrom (Sends segments) u ds
+tight_over segments u near i outlets none ds past are here each v c d over is =
+    let at = sends_at_place segments u v c over in
+    let listed : HasOutlet outlets at.0 at.2.near.cost = are.every at.0 at.1 at.2.near at.2.near_among at.2.from in
+    let outlet : Outlet = listed.outlet in
+    let read : get_or outlets listed.among.0 none ≡ outlet = get_or_default outlets listed.among.0 none outlet listed.among.1 ∙ listed.among.2 in
+    let all : AreAllAtMost ds (segment_at segments outlet.place) (near + outlet.cost) =
+    subst (λ (o : Outlet). AreAllAtMost ds (segment_at segments o.place) (near + o.cost)) read (each listed.among.0 (omega (arith, listed.among.1, past))) in
+    let on : AreAllAtMost ds (segment_at segments at.0) (near + outlet.cost) =
+    subst (λ (n : ℕ). AreAllAtMost ds (segment_at segments n) (near + outlet.cost)) listed.leads all in
+    let there : IsAtMost (distance_at ds v) (near + outlet.cost) =
+    subst (λ (n : ℕ). IsAtMost (distance_at ds n) (near + outlet.cost)) at.2.to (on at.2.far at.2.far_among) in
+    let same : Some near ≡ Some d = sym here ∙ is in
+    let equal : near ≡ d = cc in
+    at_most_more (distance_at ds v) (near + outlet.cost) (d + c) there (omega (arith, listed.costs, at.2.costs, equal))

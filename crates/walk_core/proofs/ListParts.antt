@@ -1,7 +1,7 @@
 -- Spans of one list of numbers as lists.
 use Rattle.std.proofs.Common.{◌≡◌, ℕ, ◌-◌, ◌≤◌, List, [], ◌∷◌, ◌++◌, length, length-append, take, drop, refl, sym, ap, ◌∙◌, arith}
 use Rattle.std.proofs.lemmas.List.{drop-append-le, drop_at, take-append-le, take_all, map-append, length-drop}
-use Rattle.std.proofs.lemmas.List.Elements.{All-head, All-tail, All-weaker}
+use Rattle.std.proofs.lemmas.List.Elements.{All-head, All-tail}
 use Rattle.walk_core.specs.steps.NumberLists.{part_of, lists_of, IsWithin, AreSpansWithin}
 use Rattle.walk_core.specs.declared.number_lists.Span.{Span}
 
@@ -33,11 +33,3 @@ lists_more numbers more spans span are starts ends =
     map-append (part_of (numbers ++ more)) spans (span ∷ [])
     ∙ ap (λ (l : List (List ℕ)). l ++ part_of (numbers ++ more) span ∷ []) (lists_stay numbers more spans are)
     ∙ ap (λ (l : List ℕ). lists_of numbers spans ++ l ∷ []) (part_behind numbers more span starts ends)
-
--- spans stay within when numbers come behind
-pub within_more : (numbers more : List ℕ) (spans : List Span) → AreSpansWithin numbers spans → AreSpansWithin (numbers ++ more) spans
-within_more numbers more spans are =
-    All-weaker (IsWithin numbers) (IsWithin (numbers ++ more)) (λ span is. record {
-      ordered = is.ordered;
-      within = omega (arith, length-append numbers more, is.within);
-    }) spans are

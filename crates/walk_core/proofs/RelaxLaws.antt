@@ -83,12 +83,24 @@ pub is_at_most : (distance : Option ℕ) (most : ℕ) → (most < weight_of dist
 is_at_most None most no_less fits = absurd (no_less fits)
 is_at_most (Some d) most no_less fits = record { value = d; is = refl; below = omega arith }
 
+-- what was at most this is so when a distance fell
+pub at_most_after : (ds : List (Option ℕ)) (v x w most : ℕ) → v < length ds → x < weight_of (distance_at ds v) →
+    IsAtMost (distance_at ds w) most → IsAtMost (distance_at (set ds v (Some x)) w) most
+at_most_after ds v x w most in_range falls is =
+    elim (cases_eq w v) [
+      | inl same ↦
+          let was : distance_at ds v ≡ Some is.value = rw (sym same) is.is in
+          let less : x < is.value = rw was at falls in
+          let now : distance_at (set ds v (Some x)) w ≡ Some x = rw same (get_or-set_same ds v (Some x) None in_range) in
+          record { value = x; is = now; below = omega (arith, less, is.below) }
+      | inr other ↦ record { value = is.value; is = get_or-set_other ds v w (Some x) None other ∙ is.is; below = is.below }
+    ]
+
 -- nothing is relaxed
 pub relaxes_none : {arc : Arcs} {ds : List (Option ℕ)} → HaveRoom ds → Relaxes arc ds ds false
 relaxes_none room = record {
   room = room;
   walked = λ root walked. walked;
-  fewer = omega arith;
   falls = tt;
   same = refl;
 }
@@ -166,7 +178,6 @@ pub relaxes_arc : (arc : Arcs) (ds : List (Option ℕ)) (u v c d : ℕ) → Have
 relaxes_arc arc ds u v c d room over small in_range near falls = record {
   room = room_after ds u v c d room small in_range near falls;
   walked = λ root walked. walked_after arc root ds u v c d over in_range near falls walked;
-  fewer = missing_after ds v (d + c) in_range;
   falls = total_weight_falls ds v (d + c) in_range falls;
   same = tt;
 }
@@ -185,32 +196,28 @@ near_after ds u v c d in_range near falls =
 
 -- relaxing goes on
 pub relaxes_on : {arc : Arcs} {before now after : List (Option ℕ)} (fell more : Bool) →
-    Relaxes arc before now fell → Relaxes arc now after more → Relaxes arc before after (more || fell)
+    Relaxes arc before now fell → Relaxes arc now after more → Relaxes arc before after (fell || more)
 relaxes_on true true one other = record {
   room = other.room;
   walked = λ root walked. other.walked root (one.walked root walked);
-  fewer = omega arith;
   falls = omega arith;
   same = tt;
 }
 relaxes_on {arc} {before} {now} {after} false true one other = record {
   room = other.room;
   walked = λ root walked. other.walked root (one.walked root walked);
-  fewer = omega arith;
   falls = let same : now ≡ before = one.same in omega (arith, ap total_weight same);
   same = tt;
 }
 relaxes_on {arc} {before} {now} {after} true false one other = record {
   room = other.room;
   walked = λ root walked. other.walked root (one.walked root walked);
-  fewer = omega arith;
   falls = let same : after ≡ now = other.same in omega (arith, ap total_weight same);
   same = tt;
 }
 relaxes_on false false one other = record {
   room = other.room;
   walked = λ root walked. other.walked root (one.walked root walked);
-  fewer = omega arith;
   falls = tt;
   same = other.same ∙ one.same;
 }
@@ -218,8 +225,9 @@ relaxes_on false false one other = record {
 -- what one step of relaxing leaves: whether the arc undercut its end or not
 pub record IsRelaxed (arc : Arcs) (now after : List (Option ℕ)) (u v c d : ℕ) (fell : Bool) : Type 0 where
   pub relaxes : Relaxes arc now after fell
+  pub lower : (w most : ℕ) → IsAtMost (distance_at now w) most → IsAtMost (distance_at after w) most
   pub near_is : distance_at after u ≡ Some d
-  pub tight : OnFalse fell (IsAtMost (distance_at after v) (d + c))
+  pub tight : IsAtMost (distance_at after v) (d + c)
 
 pub relaxed : (arc : Arcs) (now after : List (Option ℕ)) (u v c d : ℕ) (fell : Bool) → HaveRoom now →
     arc u v c → c < 2 ^ 32 → v < length now → distance_at now u ≡ Some d →
@@ -230,14 +238,16 @@ relaxed arc now after u v c d true room over small in_range near falls is =
     let lower : d + c < weight_of (distance_at now v) = falls.0 refl in
     subst P (sym is) (record {
       relaxes = relaxes_arc arc now u v c d room over small in_range near lower;
+      lower = λ w most is. at_most_after now v (d + c) w most in_range lower is;
       near_is = near_after now u v c d in_range near lower;
-      tight = tt;
+      tight = record { value = d + c; is = get_or-set_same now v (Some (d + c)) None in_range; below = omega arith };
     })
 relaxed arc now after u v c d false room over small in_range near falls is =
     let P : List (Option ℕ) → Type 0 = λ ds. IsRelaxed arc now ds u v c d false in
     let here = room.room u d near in
     subst P (sym is) (record {
       relaxes = relaxes_none room;
+      lower = λ w most is. is;
       near_is = near;
       tight = is_at_most (distance_at now v) (d + c) (λ lower. let none = falls.1 lower in cc none) (omega arith);
     })
@@ -246,9 +256,9 @@ relaxed arc now after u v c d false room over small in_range near falls is =
 pub tight_more : (arc : Arcs) (ends : ℕ → ℕ × ℕ) (now after : List (Option ℕ)) (u d i : ℕ) (fell more : Bool) →
     OnFalse fell ((j : ℕ) → j < i → IsAtMost (distance_at now (ends j).0) (d + (ends j).1)) →
     IsRelaxed arc now after u (ends i).0 (ends i).1 d more →
-    OnFalse (more || fell) ((j : ℕ) → j < i + 1 → IsAtMost (distance_at after (ends j).0) (d + (ends j).1))
-tight_more arc ends now after u d i fell true so_far step = tt
-tight_more arc ends now after u d i true false so_far step = tt
+    OnFalse (fell || more) ((j : ℕ) → j < i + 1 → IsAtMost (distance_at after (ends j).0) (d + (ends j).1))
+tight_more arc ends now after u d i true more so_far step = tt
+tight_more arc ends now after u d i false true so_far step = tt
 tight_more arc ends now after u d i false false so_far step =
     below_more (λ j. IsAtMost (distance_at after (ends j).0) (d + (ends j).1)) i
     (λ j below. let same : after ≡ now = step.relaxes.same in rw same (so_far j below))
@@ -258,9 +268,9 @@ tight_more arc ends now after u d i false false so_far step =
 pub tights_more : (arc : Arcs) (now after : List (Option ℕ)) (u : ℕ) (fell more : Bool) →
     OnFalse fell ((v : ℕ) → v < u → IsTightFrom arc v now) → Relaxes arc now after more →
     OnFalse more (IsTightFrom arc u after) →
-    OnFalse (more || fell) ((v : ℕ) → v < u + 1 → IsTightFrom arc v after)
-tights_more arc now after u fell true so_far relaxes tight = tt
-tights_more arc now after u true false so_far relaxes tight = tt
+    OnFalse (fell || more) ((v : ℕ) → v < u + 1 → IsTightFrom arc v after)
+tights_more arc now after u true more so_far relaxes tight = tt
+tights_more arc now after u false true so_far relaxes tight = tt
 tights_more arc now after u false false so_far relaxes tight =
     below_more (λ v. IsTightFrom arc v after) u
     (λ v below. let same : after ≡ now = relaxes.same in
@@ -271,9 +281,9 @@ tights_more arc now after u false false so_far relaxes tight =
 -- where nothing fell since, the vertices so far are tight yet
 pub tights_kept : (arc : Arcs) (now after : List (Option ℕ)) (u : ℕ) (fell more : Bool) →
     OnFalse fell ((v : ℕ) → v < u → IsTightFrom arc v now) → Relaxes arc now after more →
-    OnFalse (more || fell) ((v : ℕ) → v < u → IsTightFrom arc v after)
-tights_kept arc now after u fell true so_far relaxes = tt
-tights_kept arc now after u true false so_far relaxes = tt
+    OnFalse (fell || more) ((v : ℕ) → v < u → IsTightFrom arc v after)
+tights_kept arc now after u true more so_far relaxes = tt
+tights_kept arc now after u false true so_far relaxes = tt
 tights_kept arc now after u false false so_far relaxes = λ v below.
     let same : after ≡ now = relaxes.same in
     let P : List (Option ℕ) → Type 0 = λ ds. IsTightFrom arc v ds in

@@ -1,188 +1,141 @@
--- Segments that are stale, since the distance of one of their vertices fell; the others are level.
-use Rattle.std.proofs.Common.{◌≡◌, ◌≢◌, ℕ, ◌+◌, ◌<◌, ◌≤◌, zero, suc, Bool, true, false, cond, List, [], ◌∷◌}
-use Rattle.std.proofs.Common.{◌++◌, Option, Some, None, length, length-set, get_or, set}
-use Rattle.std.proofs.Common.{get_or-set_same, get_or-set_other, replicate, take, All, Contains, refl, sym, subst, ap, ◌∙◌, arith, inl, inr}
-use Rattle.std.specs.Bool.{OnTrue, OnFalse}
+-- Vertices that are stale, since their distance fell after their arcs were relaxed.
+use Rattle.std.proofs.Common.{◌≡◌, ◌≢◌, ℕ, ◌+◌, ◌<◌, ◌≤◌, zero, suc, Bool, true, false, cond, IsTrue, ◌↔◌, List, [], ◌∷◌, Option, Some, None, length}
+use Rattle.std.proofs.Common.{length-set, get_or, set, get_or-set_same, get_or-set_other, replicate, refl, sym, subst, ◌∙◌, arith, inl, inr}
 use Rattle.std.proofs.lemmas.Bool.{cases_eq}
-use Rattle.std.proofs.lemmas.List.Elements.{Contains-get_or, Contains-push_cases}
-use borrow.Author.Count.{below_more}
-use Rattle.walk_core.specs.declared.outlets.Outlet.{Outlet}
+use Rattle.std.proofs.lemmas.List.{length-replicate}
 use Rattle.walk_core.specs.declared.segment.Port.{Port}
-use Rattle.walk_core.specs.BestOffers.{total_with}
 use Rattle.walk_core.specs.Distances.{distance_at}
-use Rattle.walk_core.specs.steps.Cheapest.{HasCost, IsCheapest}
-use Rattle.walk_core.specs.steps.Flooding.{cost_onto, segment_at, AreSettled, IsLevel, MarksStale}
-use Rattle.walk_core.specs.steps.Relaxing.{IsAtMost}
-use Rattle.walk_core.specs.steps.SegmentWalks.{AreOutlets, HasOutlet}
+use Rattle.walk_core.specs.steps.Flooding.{segment_at, AreAllAtMost, AreEntered, AreSettled, Lowers, Marked, stale_count}
+use Rattle.walk_core.specs.steps.Relaxing.{IsAtMost, IsTightFrom, weight_of}
 use Rattle.walk_core.specs.Segments.{Sends}
-use Rattle.walk_core.proofs.FloodLaws.{IsLowered, all_at_most, at_most_more}
-use Rattle.walk_core.proofs.RelaxLaws.{distance_after, only_at_root}
+use Rattle.walk_core.proofs.RelaxLaws.{total_weight_falls, only_at_root}
 
--- a mark stands where it is set
-marked_there : (marks : List Bool) (p : ℕ) → get_or (set marks p true) p true ≡ true
-marked_there [] p = refl
-marked_there (b ∷ marks) zero = refl
-marked_there (b ∷ marks) (suc p) = marked_there marks p
+-- a mark more
+one_mark_more : (stale : List Bool) (v : ℕ) → stale_count (set stale v true) ≤ 1 + stale_count stale
+one_mark_more [] v = omega arith
+one_mark_more (true ∷ stale) zero = omega arith
+one_mark_more (false ∷ stale) zero = omega arith
+one_mark_more (true ∷ stale) (suc v) = omega (arith, one_mark_more stale v)
+one_mark_more (false ∷ stale) (suc v) = one_mark_more stale v
 
--- and those that stood stay
-marked_before : (marks : List Bool) (p i : ℕ) → get_or marks i true ≡ true → get_or (set marks p true) i true ≡ true
-marked_before [] p i is = is
-marked_before (b ∷ marks) zero zero is = refl
-marked_before (b ∷ marks) zero (suc i) is = is
-marked_before (b ∷ marks) (suc p) zero is = is
-marked_before (b ∷ marks) (suc p) (suc i) is = marked_before marks p i is
+-- a mark less
+pub one_mark_less : (stale : List Bool) (v : ℕ) → get_or stale v false ≡ true → stale_count (set stale v false) + 1 ≡ stale_count stale
+one_mark_less [] v is = absurd (let k : false ≡ true = is in cc)
+one_mark_less (true ∷ stale) zero is = omega arith
+one_mark_less (false ∷ stale) zero is = absurd (let k : false ≡ true = is in cc)
+one_mark_less (true ∷ stale) (suc v) is = omega (arith, one_mark_less stale v is)
+one_mark_less (false ∷ stale) (suc v) is = one_mark_less stale v is
 
--- what isn't marked then wasn't
-unmarked_before : (marks : List Bool) (p i : ℕ) → get_or (set marks p true) i true ≡ false → get_or marks i true ≡ false
-unmarked_before [] p i is = is
-unmarked_before (b ∷ marks) zero zero is = absurd (let k : true ≡ false = is in cc)
-unmarked_before (b ∷ marks) zero (suc i) is = is
-unmarked_before (b ∷ marks) (suc p) zero is = is
-unmarked_before (b ∷ marks) (suc p) (suc i) is = unmarked_before marks p i is
+-- marks stay when another comes
+mark_kept : (stale : List Bool) (v w : ℕ) → get_or stale w false ≡ true → get_or (set stale v true) w false ≡ true
+mark_kept [] v w is = is
+mark_kept (b ∷ stale) zero zero is = refl
+mark_kept (b ∷ stale) zero (suc w) is = is
+mark_kept (b ∷ stale) (suc v) zero is = is
+mark_kept (b ∷ stale) (suc v) (suc w) is = mark_kept stale v w is
 
-pub no_marks : (outlets : List Outlet) (marks : List Bool) → MarksStale (take 0 outlets) marks marks
-no_marks outlets marks = record { each = λ o among. absurd (omega (arith, among.1)); others = λ i is. is }
+-- what doesn't lower any distance
+pub lowers_none : (found : ℕ) (here : Marked) → Lowers found here here
+lowers_none found here = record { near = λ v d is below. is; marks = λ v unmarked. (unmarked, refl); kept = λ v is. is; left = omega arith }
 
--- the mark of one more outlet
-pub one_mark_more : (front : List Outlet) (outlet : Outlet) (old now : List Bool) → MarksStale front old now →
-    MarksStale (front ++ outlet ∷ []) old (set now outlet.place true)
-one_mark_more front outlet old now is = record {
-  each = λ o among. elim (Contains-push_cases front outlet o among) [
-    | inl earlier ↦ marked_before now outlet.place o.place (is.each o earlier)
-    | inr same ↦ subst (λ (x : Outlet). get_or (set now outlet.place true) x.place true ≡ true) same (marked_there now outlet.place)
-  ];
-  others = λ i unmarked. is.others i (unmarked_before now outlet.place i unmarked);
+-- lowering goes on, to no less
+pub lowers_on : (near found : ℕ) (before now after : Marked) → near ≤ found → Lowers near before now → Lowers found now after → Lowers near before after
+lowers_on near found before now after less one other = record {
+  near = λ v d is below. other.near v d (one.near v d is below) (omega (arith, below, less));
+  marks = λ v unmarked.
+      let later = other.marks v unmarked in
+      let earlier = one.marks v later.0 in (earlier.0, later.1 ∙ earlier.1);
+  kept = λ v is. other.kept v (one.kept v is);
+  left = omega (arith, one.left, other.left);
 }
 
--- each outlet leads to a segment that may be marked
-pub outlets_within : (segments : List (List Port)) (v n : ℕ) (outlets : List Outlet) → AreOutlets segments v (length segments) outlets → n ≡ length segments →
-    All (λ (o : Outlet). o.place < n) outlets
-outlets_within segments v n outlets are long k d within =
-    let is = are.each (get_or outlets k d) (Contains-get_or outlets k d within) in
-    omega (arith, is.within, long)
-
--- at first the segments of the root alone have a vertex with a distance
-pub settled_at_first : (segments : List (List Port)) (count root : ℕ) (outlets : List Outlet) (old stale : List Bool) → root < count →
-    AreOutlets segments root (length segments) outlets → MarksStale outlets old stale → length stale ≡ length segments →
-    AreSettled segments (set (replicate count None) root (Some 0)) stale
-settled_at_first segments count root outlets old stale below are marked long = record {
-  long = long;
-  level = λ i within unmarked near d near_among is port among.
-      let at_root : near.vertex ≡ root = (only_at_root count root near.vertex d below is).0 in
-      let listed : HasOutlet outlets i near.cost = are.every i within near near_among at_root in
-      let yes : get_or stale i true ≡ true =
-      subst (λ (n : ℕ). get_or stale n true ≡ true) listed.leads (marked.each listed.outlet listed.among) in
-      absurd (cc (yes, unmarked));
-}
-
--- a level segment needs no mark
-pub settled_place : (segments : List (List Port)) (place : ℕ) (distances : List (Option ℕ)) (stale : List Bool) → AreSettled segments distances stale →
-    IsLevel (segment_at segments place) distances → AreSettled segments distances (set stale place false)
-settled_place segments place distances stale settled here = record {
-  long = length-set stale place false ∙ settled.long;
-  level = λ i within unmarked. elim (cases_eq i place) [
-    | inl same ↦ subst (λ (n : ℕ). IsLevel (segment_at segments n) distances) (sym same) here
-    | inr other ↦ settled.level i within (sym (get_or-set_other stale place i false true other) ∙ unmarked)
-  ];
-}
-
--- what is known while the first i vertices of a segment were lowered to the least cost of coming onto it
-pub record IsLowering (segments : List (List Port)) (place found i : ℕ) (distances : List (Option ℕ)) (stale : List Bool) : Type 0 where
-  pub entry : HasCost (cost_onto distances) (segment_at segments place) found
-  pub floor : (port : Port) (d : ℕ) → Contains (segment_at segments place) port → distance_at distances port.vertex ≡ Some d → found ≤ d + port.cost
-  pub lowered : (j : ℕ) → j < i → IsAtMost (distance_at distances (get_or (segment_at segments place) j (record { vertex = 0; cost = 0 })).vertex) found
-  pub settled : AreSettled segments distances stale
-
-pub lowering_none : (segments : List (List Port)) (place found : ℕ) (distances : List (Option ℕ)) (stale : List Bool) →
-    IsCheapest (cost_onto distances) (segment_at segments place) found → AreSettled segments distances stale →
-    IsLowering segments place found 0 distances stale
-lowering_none segments place found distances stale cheapest settled = record {
-  entry = cheapest.attained;
-  floor = λ port d among is. cheapest.least (d + port.cost) (record {
-    thing = port;
-    among = among;
-    costs = ap (λ (o : Option ℕ). total_with o port.cost) is;
-  });
-  lowered = λ j below. absurd (omega (arith, below));
-  settled = settled;
-}
-
--- what is at most this is so when another distance fell to it
-at_most_after : (now : List (Option ℕ)) (v w found : ℕ) → v < length now → IsAtMost (distance_at now w) found →
-    IsAtMost (distance_at (set now v (Some found)) w) found
-at_most_after now v w found in_range is =
-    elim (cases_eq w v) [
-      | inl same ↦ subst (λ (n : ℕ). IsAtMost (distance_at (set now v (Some found)) n) found) (sym same)
-          (record { value = found; is = get_or-set_same now v (Some found) None in_range; below = omega arith })
-      | inr other ↦ record { value = is.value; is = get_or-set_other now v w (Some found) None other ∙ is.is; below = is.below }
-    ]
-
--- a segment without a port of the vertex whose distance fell is as level as it was
-level_elsewhere : (ports : List Port) (now : List (Option ℕ)) (v found : ℕ) → ((port : Port) → Contains ports port → port.vertex ≢ v) → IsLevel ports now →
-    IsLevel ports (set now v (Some found))
-level_elsewhere ports now v found apart level near d near_among is port among =
-    let was : distance_at now near.vertex ≡ Some d = sym (get_or-set_other now v near.vertex (Some found) None (apart near near_among)) ∙ is in
-    let most : IsAtMost (distance_at now port.vertex) (d + near.cost) = level near d near_among was port among in
-    record { value = most.value; is = get_or-set_other now v port.vertex (Some found) None (apart port among) ∙ most.is; below = most.below }
-
--- a distance fell, and the segments of its vertex are marked
-settled_after : (segments : List (List Port)) (now : List (Option ℕ)) (old new : List Bool) (outlets : List Outlet) (v found : ℕ) →
-    AreSettled segments now old → AreOutlets segments v (length segments) outlets → MarksStale outlets old new → length new ≡ length old →
-    AreSettled segments (set now v (Some found)) new
-settled_after segments now old new outlets v found settled are marked long = record {
-  long = long ∙ settled.long;
-  level = λ i within unmarked. level_elsewhere (segment_at segments i) now v found
-      (λ port among same.
-      let listed : HasOutlet outlets i port.cost = are.every i within port among same in
-      let yes : get_or new i true ≡ true = subst (λ (n : ℕ). get_or new n true ≡ true) listed.leads (marked.each listed.outlet listed.among) in
-      cc (yes, unmarked))
-      (settled.level i within (marked.others i unmarked));
-}
-
--- one more vertex
-pub lowering_more : (segments : List (List Port)) (place found i : ℕ) (now after : List (Option ℕ)) (old new : List Bool) (outlets : List Outlet) (port : Port)
-    (fell : Bool) → IsLowering segments place found i now old →
-    IsLowered (Sends segments) (segment_at segments place) now after port.vertex found fell →
-    get_or (segment_at segments place) i (record { vertex = 0; cost = 0 }) ≡ port → port.vertex < length now →
-    AreOutlets segments port.vertex (length segments) outlets → after ≡ cond fell (set now port.vertex (Some found)) now →
-    OnTrue fell (MarksStale outlets old new) → OnFalse fell (new ≡ old) → length new ≡ length old → IsLowering segments place found (i + 1) after new
-lowering_more segments place found i now after old new outlets port true is step at in_range are after_is marked kept long =
-    let ports : List Port = segment_at segments place in
-    let v : ℕ = port.vertex in
-    let none : Port = record { vertex = 0; cost = 0 } in
-    let fallen : List (Option ℕ) = set now v (Some found) in
-    let entry : HasCost (cost_onto fallen) ports found = subst (λ (ds : List (Option ℕ)). HasCost (cost_onto ds) ports found) after_is step.entry in
-    let here : IsAtMost (distance_at fallen v) found =
-    record { value = found; is = get_or-set_same now v (Some found) None in_range; below = omega arith } in
-    subst (λ (ds : List (Option ℕ)). IsLowering segments place found (i + 1) ds new) (sym after_is) (record {
-      entry = entry;
-      floor = λ p d among fell_to. elim (distance_after now v found p.vertex d in_range fell_to) [
-        | inl lower ↦ let low : d ≡ found = lower.1 in omega (arith, low)
-        | inr other ↦ is.floor p d among other.1
-      ];
-      lowered = below_more (λ j. IsAtMost (distance_at fallen (get_or ports j none).vertex) found) i
-          (λ j below. at_most_after now v (get_or ports j none).vertex found in_range (is.lowered j below))
-          (subst (λ (p : Port). IsAtMost (distance_at fallen p.vertex) found) (sym at) here);
-      settled = settled_after segments now old new outlets v found is.settled are marked long;
-    })
-lowering_more segments place found i now after old new outlets port false is step at in_range are after_is marked kept long =
-    let ports : List Port = segment_at segments place in
-    let none : Port = record { vertex = 0; cost = 0 } in
-    let here : IsAtMost (distance_at now port.vertex) found =
-    subst (λ (ds : List (Option ℕ)). IsAtMost (distance_at ds port.vertex) found) after_is step.tight in
-    subst (λ (ds : List (Option ℕ)). IsLowering segments place found (i + 1) ds new) (sym after_is)
-    (subst (λ (marks : List Bool). IsLowering segments place found (i + 1) now marks) (sym kept) (record {
-      entry = is.entry;
-      floor = is.floor;
-      lowered = below_more (λ j. IsAtMost (distance_at now (get_or ports j none).vertex) found) i is.lowered
-          (subst (λ (p : Port). IsAtMost (distance_at now p.vertex) found) (sym at) here);
-      settled = is.settled;
+-- one vertex is lowered, and marked
+pub lowers_one : (found v : ℕ) (ds after : List (Option ℕ)) (stale new : List Bool) (fell : Bool) → v < length ds → v < length stale →
+    (IsTrue fell ↔ (found < weight_of (distance_at ds v))) → after ≡ cond fell (set ds v (Some found)) ds → new ≡ cond fell (set stale v true) stale →
+    Lowers found (record { distances = ds; stale = stale }) (record { distances = after; stale = new })
+lowers_one found v ds after stale new false in_range marked falls after_is new_is =
+    subst (λ (l : List (Option ℕ)). Lowers found (record { distances = ds; stale = stale }) (record { distances = l; stale = new })) (sym after_is)
+    (subst (λ (l : List Bool). Lowers found (record { distances = ds; stale = stale }) (record { distances = ds; stale = l })) (sym new_is)
+    (lowers_none found (record { distances = ds; stale = stale })))
+lowers_one found v ds after stale new true in_range marked falls after_is new_is =
+    let lower : found < weight_of (distance_at ds v) = falls.0 refl in
+    subst (λ (l : List (Option ℕ)). Lowers found (record { distances = ds; stale = stale }) (record { distances = l; stale = new })) (sym after_is)
+    (subst (λ (l : List Bool). Lowers found (record { distances = ds; stale = stale }) (record { distances = set ds v (Some found); stale = l })) (sym new_is)
+    (record {
+      near = λ w d is below.
+          let apart : w ≢ v = λ same.
+          let at_v : distance_at ds v ≡ Some d = rw same at is in
+          let less : found < d = rw at_v at lower in
+          omega (arith, less, below)
+          in
+          get_or-set_other ds v w (Some found) None apart ∙ is;
+      marks = λ w unmarked.
+          let apart : w ≢ v = λ same.
+          let no : get_or (set stale v true) v true ≡ false = rw same at unmarked in
+          let yes : get_or (set stale v true) v true ≡ true = get_or-set_same stale v true true marked in
+          let k : true ≡ false = sym yes ∙ no in
+          cc
+          in
+          (sym (get_or-set_other stale v w true true apart) ∙ unmarked, get_or-set_other ds v w (Some found) None apart);
+      kept = λ w is. mark_kept stale v w is;
+      left = omega (arith, one_mark_more stale v, total_weight_falls ds v found in_range lower);
     }))
 
--- a segment all of whose vertices were lowered is level
-pub level_at_end : (segments : List (List Port)) (place found i : ℕ) (distances : List (Option ℕ)) (stale : List Bool) →
-    length (segment_at segments place) ≤ i → IsLowering segments place found i distances stale → IsLevel (segment_at segments place) distances
-level_at_end segments place found i distances stale past is near d near_among at port among =
-    at_most_more (distance_at distances port.vertex) found (d + near.cost)
-    (all_at_most distances (segment_at segments place) i found (record { vertex = 0; cost = 0 }) past is.lowered port among)
-    (is.floor near d near_among at)
+-- a vertex that isn't marked is as settled as it was
+pub settled_on : (segments : List (List Port)) (found : ℕ) (before after : Marked) → AreSettled segments before.distances before.stale →
+    Lowers found before after → ((v most : ℕ) → IsAtMost (distance_at before.distances v) most → IsAtMost (distance_at after.distances v) most) →
+    length after.stale ≡ length after.distances → AreSettled segments after.distances after.stale
+settled_on segments found before after settled lowers lower long = record {
+  long = long;
+  tight = λ u unmarked v c d over is.
+      let was = lowers.marks u unmarked in
+      lower v (d + c) (settled.tight u was.0 v c d over (sym was.1 ∙ is));
+}
+
+-- distances that fell are no more than what segments were entered at
+pub entered_on : (segments : List (List Port)) (before after entries : List (Option ℕ)) → AreEntered segments before entries →
+    ((v most : ℕ) → IsAtMost (distance_at before v) most → IsAtMost (distance_at after v) most) → AreEntered segments after entries
+entered_on segments before after entries entered lower = record {
+  long = entered.long;
+  each = λ i most is port among. lower port.vertex most (entered.each i most is port among);
+}
+
+-- a segment is entered
+pub entered_at : (segments : List (List Port)) (place found : ℕ) (before after entries : List (Option ℕ)) → place < length segments →
+    AreEntered segments before entries → ((v most : ℕ) → IsAtMost (distance_at before v) most → IsAtMost (distance_at after v) most) →
+    AreAllAtMost after (segment_at segments place) found → AreEntered segments after (set entries place (Some found))
+entered_at segments place found before after entries within entered lower all = record {
+  long = length-set entries place (Some found) ∙ entered.long;
+  each = λ i most is. elim (cases_eq i place) [
+    | inl same ↦
+        let now : distance_at (set entries place (Some found)) i ≡ Some found =
+        rw same (get_or-set_same entries place (Some found) None (omega (arith, within, entered.long))) in
+        let k : Some found ≡ Some most = sym now ∙ is in
+        let most_is : found ≡ most = cc in
+        subst (λ (n : ℕ). AreAllAtMost after (segment_at segments i) n) most_is (rw same all)
+    | inr other ↦ (entered_on segments before after entries entered lower).each i most (sym (get_or-set_other entries place i (Some found) None other) ∙ is)
+  ];
+}
+
+-- a vertex whose arcs were relaxed needs no mark
+pub settled_there : (segments : List (List Port)) (u : ℕ) (distances : List (Option ℕ)) (stale : List Bool) → AreSettled segments distances stale →
+    IsTightFrom (Sends segments) u distances → AreSettled segments distances (set stale u false)
+settled_there segments u distances stale settled here = record {
+  long = length-set stale u false ∙ settled.long;
+  tight = λ v unmarked. elim (cases_eq v u) [
+    | inl same ↦ subst (λ (n : ℕ). IsTightFrom (Sends segments) n distances) (sym same) here
+    | inr other ↦ settled.tight v (sym (get_or-set_other stale u v false true other) ∙ unmarked)
+  ];
+}
+
+-- at first the root alone has a distance, and is marked
+pub settled_at_first : (segments : List (List Port)) (count root : ℕ) (stale : List Bool) → root < count → length stale ≡ count →
+    AreSettled segments (set (replicate count None) root (Some 0)) (set stale root true)
+settled_at_first segments count root stale below long = record {
+  long = simp (length-set, length-replicate) long;
+  tight = λ u unmarked v c d over is.
+      let same : u ≡ root = (only_at_root count root u d below is).0 in
+      let no : get_or (set stale root true) root true ≡ false = rw same at unmarked in
+      let yes : get_or (set stale root true) root true ≡ true = get_or-set_same stale root true true (omega (arith, below, long)) in
+      absurd (let k : true ≡ false = sym yes ∙ no in cc);
+}

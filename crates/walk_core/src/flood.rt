@@ -1,19 +1,17 @@
-ghost use Rattle.std.specs.Prelude.{◌≡◌, ◌<◌, ◌↔◌, ◌^◌, ◌≤◌, ℕ, [], length, All, IsTrue, Some, slice_index_or, slice_set, if◌then◌else◌, IfOk, OnOk};
+ghost use Rattle.std.specs.Prelude.{◌≡◌, ◌<◌, ◌≤◌, ◌↔◌, ℕ, true, false, length, slice_index_or, IsTrue, Some, MatchOption, slice_set, if◌then◌else◌, IfOk};
 ghost use Rattle.std.specs.Bool.{OnFalse, OnTrue};
-ghost use Rattle.walk_core.specs.BestOffers.{least_cost_of};
-ghost use Rattle.walk_core.specs.steps.Cheapest.{IsCheapest, IsCheapestCost};
+ghost use Rattle.walk_core.specs.steps.Cheapest.{HasCost};
 ghost use Rattle.walk_core.specs.Distances.{IsDistanceRow, distance_at};
-ghost use Rattle.walk_core.specs.steps.Flooding.{cost_onto, segment_at, AreSettled, IsLevel, MarksStale};
-ghost use Rattle.walk_core.specs.steps.Relaxing.{AreWalked, HaveRoom, Relaxes, weight_of};
-ghost use Rattle.walk_core.specs.steps.SegmentWalks.{AreAllOutlets};
+ghost use Rattle.walk_core.specs.steps.Flooding.{cost_onto, segment_at, what_is_left, AreAllAtMost, AreEntered, AreSettled, IsLastAbove, IsNextStale, Lowers};
+ghost use Rattle.walk_core.specs.steps.Relaxing.{AreWalked, Fall, HaveRoom, IsAtMost, IsTightFrom, weight_of};
+ghost use Rattle.walk_core.specs.steps.SegmentWalks.{AreAllOutlets, AreOutlets, IsLan};
 ghost use Rattle.walk_core.specs.Segments.{AreSegments, Sends, SendsAcross};
 
 use crate::OutOfMemory;
-use crate::offers::least_of;
 use crate::outlets::{Outlet, Outlets};
-use crate::relax::{distance_at, relax};
+use crate::relax::relax;
 use crate::rows::Distances;
-use crate::segment::{Port, Segment, ports_at};
+use crate::segment::{Segment, ports_at};
 use std::alloc::Global;
 
 /// The distances from a root over segments that join so many vertices, by their ports.
@@ -31,183 +29,254 @@ pub fn distances_over(
 {
     let mut distances = vec![in alloc; None; count as usize]?;
     distances[root as usize] = Some(0);
-    let mut stale = vec![in alloc; false; segments.len()]?;
-    mark_stale(outlets[root as usize].as_slice(), &mut stale);
-    settle(segments, outlets, &mut stale, &mut distances);
+    let mut stale = vec![in alloc; false; count as usize]?;
+    stale[root as usize] = true;
+    let mut entries = vec![in alloc; None; segments.len()]?;
+    settle(segments, outlets, &mut entries, &mut stale, &mut distances);
     Ok(Distances::from_vec(distances))
 }
 
-/// Lets distances fall to the costs of walks until every segment is level.
+/// Lets distances fall to the costs of walks until no vertex is stale. The next one lies ahead, as long as one does, so
+/// that distances spread along a row of vertices whichever way they are numbered.
 fn settle(
     segments: &[Segment],
     outlets: &[Outlets],
+    entries: &mut [Option<u64>],
     stale: &mut [bool],
     distances: &mut [Option<u64>],
 )
-    requires segments { AreSegments (length distances.old) segments.now }
-    requires outlets { AreAllOutlets segments.now (length distances.old) outlets.now }
+    requires segments { AreSegments (length outlets.now) segments.now }
+    requires outlets { AreAllOutlets segments.now (length outlets.now) outlets.now }
+    requires long { length distances.old ≡ length outlets.now }
     requires room { HaveRoom distances.old }
     requires settled { AreSettled segments.now distances.old stale.old }
+    requires entered { AreEntered segments.now distances.old entries.old }
     ensures room { HaveRoom distances.new }
     ensures walked { (root : ℕ) → AreWalked (Sends segments.now) root distances.old →
         AreWalked (Sends segments.now) root distances.new }
-    ensures level { (i : ℕ) → i < length segments.now → IsLevel (segment_at segments.now i) distances.new }
+    ensures tight { (u : ℕ) → u < length outlets.now → IsTightFrom (Sends segments.now) u distances.new }
 {
-    while flood_all(segments, outlets, stale, distances) {}
+    let mut up = true;
+    let mut u = next_stale(stale, 0, up);
+    while u < stale.len() {
+        spread_stale(segments, outlets, u, entries, stale, distances);
+        let next = next_stale(stale, u, up);
+        up = u < next;
+        u = next;
+    }
 }
 
-/// Floods every stale segment, by ascending and by descending places: whether some distance fell. So distances spread
-/// along a row of segments in one call, whichever way they are numbered.
-fn flood_all(
+/// The next stale vertex from this one on, ahead if one is there, else behind, and the number of all where none is stale.
+fn next_stale(stale: &[bool], u: usize, up: bool) -> usize
+    requires { u ≤ length stale.now }
+    ensures { IsNextStale stale.now result }
+{
+    if up {
+        let above = stale_from(stale, u);
+        if above < stale.len() {
+            return above;
+        }
+        return stale_below(stale, u);
+    }
+    let below = stale_below(stale, u);
+    if below < stale.len() {
+        return below;
+    }
+    stale_from(stale, u)
+}
+
+/// The first stale vertex from this one on, and the number of all where none is.
+fn stale_from(stale: &[bool], from: usize) -> usize
+    requires { from ≤ length stale.now }
+    ensures found { result < length stale.now → slice_index_or stale.now result false ≡ true }
+    ensures none { length stale.now ≤ result → (v : ℕ) → from ≤ v → v < length stale.now → slice_index_or stale.now v true ≡ false }
+{
+    for u in from..stale.len() {
+        if stale[u] {
+            return u;
+        }
+    }
+    stale.len()
+}
+
+/// The last stale vertex before this one, and the number of all where none is.
+fn stale_below(stale: &[bool], below: usize) -> usize
+    requires { below ≤ length stale.now }
+    ensures found { result < length stale.now → slice_index_or stale.now result false ≡ true }
+    ensures none { length stale.now ≤ result → (v : ℕ) → v < below → slice_index_or stale.now v true ≡ false }
+{
+    for passed in 0..below {
+        let u = below - 1 - passed;
+        if stale[u] {
+            return u;
+        }
+    }
+    stale.len()
+}
+
+/// Relaxes the arcs from a stale vertex, which then isn't stale.
+fn spread_stale(
     segments: &[Segment],
     outlets: &[Outlets],
+    u: usize,
+    entries: &mut [Option<u64>],
     stale: &mut [bool],
     distances: &mut [Option<u64>],
-) -> bool
-    requires segments { AreSegments (length distances.old) segments.now }
-    requires outlets { AreAllOutlets segments.now (length distances.old) outlets.now }
+)
+    requires vertex { u < length outlets.now }
+    requires stale { slice_index_or stale.old u false ≡ true }
+    requires segments { AreSegments (length outlets.now) segments.now }
+    requires outlets { AreAllOutlets segments.now (length outlets.now) outlets.now }
+    requires long { length distances.old ≡ length outlets.now }
     requires room { HaveRoom distances.old }
     requires settled { AreSettled segments.now distances.old stale.old }
-    ensures relaxes { Relaxes (Sends segments.now) distances.old distances.new result }
+    requires entered { AreEntered segments.now distances.old entries.old }
+    ensures room { HaveRoom distances.new }
+    ensures walked { (root : ℕ) → AreWalked (Sends segments.now) root distances.old →
+        AreWalked (Sends segments.now) root distances.new }
     ensures settled { AreSettled segments.now distances.new stale.new }
-    ensures level { OnFalse result ((i : ℕ) → i < length segments.now →
-        IsLevel (segment_at segments.now i) distances.new) }
+    ensures entered { AreEntered segments.now distances.new entries.new }
+    ensures less { what_is_left distances.new stale.new < what_is_left distances.old stale.old }
 {
-    let mut fell = false;
-    for i in 0..segments.len() {
-        fell = flood_stale(segments, outlets, segments.len() - 1 - i, stale, distances) || fell;
-        fell = flood_stale(segments, outlets, i, stale, distances) || fell;
-    }
-    fell
+    let ports = outlets[u].as_slice();
+    spread_from(segments, ports, u, entries, stale, distances);
+    stale[u] = false;
 }
 
-/// Floods a segment, if it is stale: whether some distance fell.
-fn flood_stale(
+/// Relaxes the arcs from a vertex with these ports, and marks the vertices whose distances fell.
+fn spread_from(
     segments: &[Segment],
-    outlets: &[Outlets],
-    place: usize,
+    outlets: &[Outlet],
+    u: usize,
+    entries: &mut [Option<u64>],
     stale: &mut [bool],
     distances: &mut [Option<u64>],
-) -> bool
+)
+    requires vertex { u < length distances.old }
+    requires segments { AreSegments (length distances.old) segments.now }
+    requires outlets { AreOutlets segments.now u (length segments.now) outlets.now }
+    requires room { HaveRoom distances.old }
+    requires settled { AreSettled segments.now distances.old stale.old }
+    requires entered { AreEntered segments.now distances.old entries.old }
+    ensures falls { Fall (Sends segments.now) distances.old distances.new }
+    ensures settled { AreSettled segments.now distances.new stale.new }
+    ensures entered { AreEntered segments.now distances.new entries.new }
+    ensures tight { IsTightFrom (Sends segments.now) u distances.new }
+    ensures marked { slice_index_or stale.old u false ≡ true → slice_index_or stale.new u false ≡ true }
+    ensures left { what_is_left distances.new stale.new ≤ what_is_left distances.old stale.old }
+{
+    let Some(near) = distances[u] else {
+        return;
+    };
+    for outlet in outlets {
+        let found = near + u64::from(outlet.cost);
+        cross(segments, *outlet, found, entries, stale, distances);
+    }
+}
+
+/// Lets the vertices behind an outlet fall to `found`, what it costs to come there.
+fn cross(
+    segments: &[Segment],
+    outlet: Outlet,
+    found: u64,
+    entries: &mut [Option<u64>],
+    stale: &mut [bool],
+    distances: &mut [Option<u64>],
+)
+    requires place { outlet.place < length segments.now }
+    requires segments { AreSegments (length distances.old) segments.now }
+    requires room { HaveRoom distances.old }
+    requires marks { length stale.old ≡ length distances.old }
+    requires entered { AreEntered segments.now distances.old entries.old }
+    requires entry { HasCost (cost_onto distances.old) (segment_at segments.now outlet.place) found }
+    requires others { MatchOption outlet.to (IsLan (segment_at segments.now outlet.place))
+        (IsLastAbove distances.old (segment_at segments.now outlet.place) found) }
+    ensures falls { Fall (Sends segments.now) distances.old distances.new }
+    ensures lowers { Lowers found (record { distances = distances.old; stale = stale.old }) (record { distances = distances.new; stale = stale.new }) }
+    ensures entered { AreEntered segments.now distances.new entries.new }
+    ensures all { AreAllAtMost distances.new (segment_at segments.now outlet.place) found }
+{
+    match outlet.to {
+        Some(to) => {
+            lower_vertex(to, found, stale, distances);
+        }
+        None => enter(segments, outlet.place, found, entries, stale, distances),
+    }
+}
+
+/// Lets the vertices of a segment fall to `found`, unless it was entered at as little before.
+fn enter(
+    segments: &[Segment],
+    place: usize,
+    found: u64,
+    entries: &mut [Option<u64>],
+    stale: &mut [bool],
+    distances: &mut [Option<u64>],
+)
     requires place { place < length segments.now }
     requires segments { AreSegments (length distances.old) segments.now }
-    requires outlets { AreAllOutlets segments.now (length distances.old) outlets.now }
     requires room { HaveRoom distances.old }
-    requires settled { AreSettled segments.now distances.old stale.old }
-    ensures relaxes { Relaxes (Sends segments.now) distances.old distances.new result }
-    ensures settled { AreSettled segments.now distances.new stale.new }
-    ensures level { OnFalse result (IsLevel (segment_at segments.now place) distances.new) }
+    requires marks { length stale.old ≡ length distances.old }
+    requires entered { AreEntered segments.now distances.old entries.old }
+    requires entry { HasCost (cost_onto distances.old) (segment_at segments.now place) found }
+    ensures falls { Fall (Sends segments.now) distances.old distances.new }
+    ensures lowers { Lowers found (record { distances = distances.old; stale = stale.old }) (record { distances = distances.new; stale = stale.new }) }
+    ensures entered { AreEntered segments.now distances.new entries.new }
+    ensures all { AreAllAtMost distances.new (segment_at segments.now place) found }
 {
-    if !stale[place] {
-        return false;
+    if is_at_most(entries[place], found) {
+        return;
     }
-    let fell = flood(segments, outlets, place, stale, distances);
-    stale[place] = false;
-    fell
+    entries[place] = Some(found);
+    lower(segments, place, found, stale, distances)
 }
 
-/// Relaxes all arcs of a segment, and marks those of the vertices whose distances fell: whether some did.
-fn flood(
-    segments: &[Segment],
-    outlets: &[Outlets],
-    place: usize,
-    stale: &mut [bool],
-    distances: &mut [Option<u64>],
-) -> bool
-    requires place { place < length segments.now }
-    requires segments { AreSegments (length distances.old) segments.now }
-    requires outlets { AreAllOutlets segments.now (length distances.old) outlets.now }
-    requires room { HaveRoom distances.old }
-    requires settled { AreSettled segments.now distances.old stale.old }
-    ensures relaxes { Relaxes (Sends segments.now) distances.old distances.new result }
-    ensures settled { AreSettled segments.now distances.new stale.new }
-    ensures level { IsLevel (segment_at segments.now place) distances.new }
+/// Whether something is known to cost at most this.
+fn is_at_most(known: Option<u64>, most: u64) -> bool
+    ensures { OnTrue result (IsAtMost known most) }
 {
-    match cost_of_coming(ports_at(segments, place), distances) {
-        Some(found) => lower(segments, outlets, place, found, stale, distances),
+    match known {
+        Some(known) => known <= most,
         None => false,
     }
 }
 
-/// The least cost of coming onto a segment by one of its ports, if one has a distance.
-fn cost_of_coming(ports: &[Port], distances: &[Option<u64>]) -> Option<u64>
-    requires { HaveRoom distances.now }
-    ensures { IsCheapestCost (cost_onto distances.now) ports.now result }
-{
-    let mut best = None;
-    for port in ports {
-        best = least_of(best, cost_onto(*port, distances));
-    }
-    best
-}
-
-/// What it costs to come onto a segment by a port, if its vertex has a distance.
-fn cost_onto(port: Port, distances: &[Option<u64>]) -> Option<u64>
-    requires { HaveRoom distances.now }
-    ensures { result ≡ cost_onto distances.now port }
-{
-    let near = distance_at(distances, port.vertex)?;
-    Some(near + u64::from(port.cost))
-}
-
-/// Notes for each vertex of a segment that some walk there costs `found`, the least cost of coming onto the segment,
-/// and marks the segments of those whose distances fell: whether some did.
+/// Lets the vertices of a segment fall to `found`, what it costs to come onto the segment from one of them, and marks
+/// those that did.
 fn lower(
     segments: &[Segment],
-    outlets: &[Outlets],
     place: usize,
     found: u64,
     stale: &mut [bool],
     distances: &mut [Option<u64>],
-) -> bool
+)
     requires place { place < length segments.now }
     requires segments { AreSegments (length distances.old) segments.now }
-    requires outlets { AreAllOutlets segments.now (length distances.old) outlets.now }
     requires room { HaveRoom distances.old }
-    requires settled { AreSettled segments.now distances.old stale.old }
-    requires found { IsCheapest (cost_onto distances.old) (segment_at segments.now place) found }
-    ensures relaxes { Relaxes (Sends segments.now) distances.old distances.new result }
-    ensures settled { AreSettled segments.now distances.new stale.new }
-    ensures level { IsLevel (segment_at segments.now place) distances.new }
+    requires marks { length stale.old ≡ length distances.old }
+    requires entry { HasCost (cost_onto distances.old) (segment_at segments.now place) found }
+    ensures falls { Fall (Sends segments.now) distances.old distances.new }
+    ensures lowers { Lowers found (record { distances = distances.old; stale = stale.old }) (record { distances = distances.new; stale = stale.new }) }
+    ensures all { AreAllAtMost distances.new (segment_at segments.now place) found }
 {
-    let mut fell = false;
     for port in ports_at(segments, place) {
-        fell = lower_vertex(outlets, port.vertex, found, stale, distances) || fell;
+        lower_vertex(port.vertex, found, stale, distances);
     }
-    fell
 }
 
-/// Notes that some walk to a vertex costs `found`, and marks its segments where none that was known cost as little:
-/// whether none did.
-fn lower_vertex(
-    outlets: &[Outlets],
-    vertex: u32,
-    found: u64,
-    stale: &mut [bool],
-    distances: &mut [Option<u64>],
-) -> bool
+/// Notes that some walk to a vertex costs `found`, and marks it where none that was known cost as little: whether none
+/// did.
+fn lower_vertex(vertex: u32, found: u64, stale: &mut [bool], distances: &mut [Option<u64>]) -> bool
     requires vertex { vertex < length distances.old }
-    requires outlets { vertex < length outlets.now }
-    requires places { All (λ o. o.place < length stale.old) (slice_index_or outlets.now vertex []) }
+    requires marks { vertex < length stale.old }
     ensures falls { IsTrue result ↔ (found < weight_of (distance_at distances.old vertex)) }
     ensures after { distances.new ≡
         (if result then slice_set distances.old vertex (Some found) else distances.old) }
-    ensures marks { OnTrue result (MarksStale (slice_index_or outlets.now vertex []) stale.old stale.new) }
-    ensures kept { OnFalse result (stale.new ≡ stale.old) }
+    ensures stale { stale.new ≡ (if result then slice_set stale.old vertex true else stale.old) }
 {
     if relax(distances, vertex, found) {
-        mark_stale(outlets[vertex as usize].as_slice(), stale);
+        stale[vertex as usize] = true;
         return true;
     }
     false
-}
-
-/// Marks the segments of these ports as stale.
-fn mark_stale(outlets: &[Outlet], stale: &mut [bool])
-    requires { All (λ o. o.place < length stale.old) outlets.now }
-    ensures { MarksStale outlets.now stale.old stale.new }
-{
-    for outlet in outlets {
-        stale[outlet.place] = true;
-    }
 }

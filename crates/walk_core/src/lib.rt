@@ -11,16 +11,15 @@
 //! | `graph`, `segment` | the two kinds of graphs |
 //! | `walks`, `offers`, `number_lists` | what is known of the walks from a root, and the best of offers |
 //! | `relax`, `rows`, `hops` | over arcs: distances by relaxing, and first hops by the distances from where arcs lead |
-//! | `flood`, `outlets`, `over_segments` | over segments: distances, one segment at a time in place of its arcs |
+//! | `flood`, `outlets`, `over_segments` | over segments: distances, from stale vertices, and onto a LAN at once |
 //! | `beyond`, `ways` | first hops over segments: by the distances from the ends of a link, by those from a whole LAN |
 //! | `union` | numbers below a bound, and in order |
 //!
-//! A segment of n ports is relaxed in time n, and not in that of its n(n - 1) arcs: from its least entry, the least
-//! distance of a vertex and the cost of its port, no other one of them gains. It is relaxed again only once it is
-//! stale, when the distance of one of its vertices fell. So all roots of n vertices with p ports take time n p where
-//! distances spread along the segments in order, and n p once for the vertices of each LAN that are nearest to each
-//! vertex; the first hops of a root are then read, not searched. A root without a port takes no time of its own. A
-//! caller that is proved: `ZoneWalks::build` of `zone_graph`.
+//! A vertex relaxes its arcs again only once it is stale, when its distance fell. A LAN of n ports is entered in time
+//! n, and again only at a lower cost, so that its n(n - 1) arcs aren't relaxed one by one. So all roots of n vertices
+//! with p ports take time n p where distances spread along the vertices in order, and n p once for the vertices of each
+//! LAN that are nearest to each vertex; the first hops of a root are then read, not searched. A root without a port
+//! takes no time of its own. A caller that is proved: `ZoneWalks::build` of `zone_graph`.
 #![tactic(auto)]
 
 // graphs

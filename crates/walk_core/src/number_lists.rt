@@ -1,6 +1,7 @@
 ghost use Rattle.std.specs.Prelude.{◌≡◌};
 
 use crate::OutOfMemory;
+use crate::union::add_behind;
 use std::alloc::Global;
 use std::marker::Model;
 
@@ -57,7 +58,7 @@ impl NumberLists {
         ensures { OnOk result (self.new ≡ self.old ++ list.now ∷ []) }
     {
         let start = self.numbers.len();
-        self.numbers.extend_from_slice(list)?;
+        add_behind(&mut self.numbers, list)?;
         let end = self.numbers.len();
         self.spans.push(Span { start, end })?;
         Ok(())

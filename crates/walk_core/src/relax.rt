@@ -43,8 +43,8 @@ fn relax_all<G: CostGraph>(graph: &G, distances: &mut [Option<u64>]) -> bool
 {
     let mut fell = false;
     for u in 0..graph.vertices() {
-        fell = relax_from(graph, graph.vertices() - 1 - u, distances) || fell;
-        fell = relax_from(graph, u, distances) || fell;
+        fell |= relax_from(graph, graph.vertices() - 1 - u, distances);
+        fell |= relax_from(graph, u, distances);
     }
     fell
 }
@@ -63,7 +63,7 @@ fn relax_from<G: CostGraph>(graph: &G, u: u32, distances: &mut [Option<u64>]) ->
     let mut fell = false;
     for i in 0..graph.arcs(u) {
         let (v, cost) = graph.arc(u, i);
-        fell = relax(distances, v, near + u64::from(cost)) || fell;
+        fell |= relax(distances, v, near + u64::from(cost));
     }
     fell
 }

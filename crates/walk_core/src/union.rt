@@ -1,4 +1,4 @@
-ghost use Rattle.std.specs.Prelude.{◌≡◌, ◌<◌, ◌≤◌, ◌+◌, ◌⊎◌, ◌↔◌, ℕ, OnOk, OnErr, Contains, length};
+ghost use Rattle.std.specs.Prelude.{◌≡◌, ◌<◌, ◌≤◌, ◌+◌, ◌++◌, ◌⊎◌, ◌↔◌, ℕ, OnOk, OnErr, Contains, length};
 ghost use Rattle.std.specs.Vec.{vec_len, vec_capacity};
 ghost use Rattle.std.specs.List.Sorted.{IsStrictlyIncreasing};
 
@@ -29,6 +29,7 @@ fn add_below(numbers: &mut Vec<u32>, list: &[u32], count: u32)
 }
 
 /// Puts numbers into ascending order, each once.
+#[inline(always)]
 pub fn put_in_order(numbers: &mut Vec<u32>)
     ensures ascending { IsStrictlyIncreasing numbers.new.items }
     ensures kept { (n : ℕ) → Contains numbers.new.items n ↔ Contains numbers.old.items n }
@@ -38,4 +39,17 @@ pub fn put_in_order(numbers: &mut Vec<u32>)
     }
     numbers.sort_unstable();
     numbers.dedup();
+}
+
+/// Adds a list of numbers behind others; most have one or none.
+#[inline(always)]
+pub fn add_behind(numbers: &mut Vec<u32>, list: &[u32]) -> Result<(), OutOfMemory>
+    ensures added { OnOk result (numbers.new.items ≡ numbers.old.items ++ list.now) }
+    ensures kept { OnErr result (numbers.new.items ≡ numbers.old.items) }
+{
+    match list {
+        [] => Ok(()),
+        [number] => Ok(numbers.push(*number)?),
+        _ => numbers.extend_from_slice(list),
+    }
 }

@@ -7,7 +7,7 @@ use crate::number_lists::NumberLists;
 use crate::outlets::{Outlet, is_lone};
 use crate::rows::{Distances, distance_between};
 use crate::segment::Segment;
-use crate::union::put_in_order;
+use crate::union::{add_behind, put_in_order};
 use crate::walks::LeastWalks;
 use std::alloc::Global;
 use std::marker::Model;
@@ -32,7 +32,7 @@ impl<'a> Model for Ways<'a> {
 }
 
 impl<'a> Ways<'a> {
-    ghost use Rattle.std.specs.Prelude.{◌≡◌, ◌<◌, ◌↔◌, ℕ, None, length, IfOk, OnOk, Contains};
+    ghost use Rattle.std.specs.Prelude.{◌≡◌, ◌<◌, ◌↔◌, ℕ, [], None, length, slice_index_or, IfOk, OnOk, Contains};
     ghost use Rattle.std.specs.List.Sorted.{IsStrictlyIncreasing};
     ghost use Rattle.walk_core.specs.Distances.{distance_between};
     ghost use Rattle.walk_core.specs.Reach.{AreAscending};
@@ -69,10 +69,17 @@ impl<'a> Ways<'a> {
         self.count
     }
 
+    /// The distances from u.
+    fn row(&self, u: u32) -> &Distances
+        requires { u < self.now.count }
+        ensures { result.now ≡ slice_index_or self.now.rows u [] }
+    {
+        &self.rows[u as usize]
+    }
+
     /// How far v is from u.
     fn distance(&self, u: u32, v: u32) -> Option<u64>
-        ensures value { result ≡ distance_between self.now.rows u v }
-        ensures mesh { IsMesh self.now }
+        ensures { result ≡ distance_between self.now.rows u v }
     {
         distance_between(self.rows, u, v)
     }
@@ -104,30 +111,34 @@ impl<'a> Ways<'a> {
             return Ok(NumberLists::none(alloc));
         }
         let mut hops = NumberLists::with_room(alloc, count as usize)?;
+        let own = self.row(root);
         let mut found = Vec::new(alloc);
         for v in 0..count {
-            self.find_hops(&mut found, outlets, root, v)?;
+            self.find_hops(&mut found, outlets, own, root, v)?;
             hops.push(found.as_slice())?;
         }
         Ok(hops)
     }
 
-    /// Finds the first hops from the root towards v, in ascending order.
+    /// Finds the first hops from the root, which has these ports and distances, towards v, in ascending order.
     fn find_hops(
         &self,
         found: &mut Vec<u32>,
         outlets: &[Outlet],
+        own: &Distances,
         root: u32,
         v: u32,
     ) -> Result<(), OutOfMemory>
+        requires mesh { IsMesh self.now }
         requires root { root < self.now.count }
         requires vertex { v < self.now.count }
         requires outlets { AreOutlets self.now.segments root (length self.now.segments) outlets.now }
+        requires own { own.now ≡ slice_index_or self.now.rows root [] }
         ensures exact { OnOk result ((h : ℕ) → Contains found.new.items h ↔ FirstHop (SendsAcross self.now.segments) root v h) }
         ensures ascending { OnOk result (IsStrictlyIncreasing found.new.items) }
     {
         found.clear();
-        let Some(distance) = self.distance(root, v) else {
+        let Some(distance) = own.at(v) else {
             return Ok(());
         };
         for outlet in outlets {
@@ -181,7 +192,7 @@ impl<'a> Ways<'a> {
     {
         let walks = self.walks(place);
         if is_at(walks.distance(rest.vertex), rest.distance) {
-            found.extend_from_slice(walks.hops_to(rest.vertex))?;
+            add_behind(found, walks.hops_to(rest.vertex))?;
         }
         Ok(())
     }

@@ -49,10 +49,15 @@ abbrev pub total_weight : List (Option ℕ) → ℕ
 total_weight [] = 0
 total_weight (d ∷ rest) = weight_of d + total_weight rest
 
+-- distances fall to the costs of walks, and none rises
+pub record Fall (arc : Arcs) (before after : List (Option ℕ)) : Type 0 where
+  pub room : HaveRoom after
+  pub walked : (root : ℕ) → AreWalked arc root before → AreWalked arc root after
+  pub lower : (v most : ℕ) → IsAtMost (distance_at before v) most → IsAtMost (distance_at after v) most
+
 -- relaxing arcs leads from these distances to those, and tells whether some distance fell
 pub record Relaxes (arc : Arcs) (before after : List (Option ℕ)) (fell : Bool) : Type 0 where
   pub room : HaveRoom after
   pub walked : (root : ℕ) → AreWalked arc root before → AreWalked arc root after
-  pub fewer : missing after ≤ missing before
   pub falls : OnTrue fell (total_weight after < total_weight before)
   pub same : OnFalse fell (after ≡ before)

@@ -1,35 +1,31 @@
-use Rattle.std.proofs.Common.{◌≡◌, ℕ, ◌<◌, ◌||◌, Bool, List, [], Option, Contains, length, get_or, sym, ap, subst, ◌∙◌, arith}
+use Rattle.std.proofs.Common.{◌≡◌, ℕ, Bool, List, Option, Contains, length, get_or, sym, ap, subst, arith}
 use Rattle.std.proofs.lemmas.List.Elements.{Contains-get_or}
+use borrow.Author.Count.{below_more}
+use Rattle.walk_core.specs.Distances.{distance_at}
 use Rattle.walk_core.specs.steps.Flooding.{segment_at}
-use Rattle.walk_core.specs.steps.SegmentWalks.{AreOutlets}
+use Rattle.walk_core.specs.steps.Relaxing.{IsAtMost}
 use Rattle.walk_core.specs.Segments.{AreSegments, Sends}
 use Rattle.walk_core.specs.declared.segment.Port.{Port}
-use Rattle.walk_core.proofs.FloodLaws.{IsLowered, lowered, vertex_below}
-use Rattle.walk_core.proofs.RelaxLaws.{relaxes_none, relaxes_on}
-use Rattle.walk_core.proofs.StaleLaws.{level_at_end, lowering_more, lowering_none, outlets_within}
+use Rattle.walk_core.proofs.FloodLaws.{IsLowered, all_at_most, falls_none, falls_on, lowered, vertex_below}
+use Rattle.walk_core.proofs.StaleLaws.{lowers_none, lowers_on, lowers_one}
 use Rattle.walk_core.proofs.flood.lower.Goals as goal
-use Rattle.walk_core.proofs.flood.lower.Goals.{then-lower_vertex, else-lower_vertex}
 
 pub lower_vertex-requires : goal.lower_vertex-requires
 lower_vertex-requires c =
-    let given : List Port = c.ports_at-port-items.result.now in
-    let segments : List (List Port) = c.args.segments.now in
-    let i : ℕ = c.loop-port.port-index in
-    let v : ℕ = (get_or given i (record { vertex = 0; cost = 0 })).vertex in
-    let ports : given ≡ segment_at segments c.args.place = c.ports_at-port-items.ensures in
-    let below : v < length c.args.distances.now =
-    vertex_below segments c.args.place i (length c.args.distances.now) given c.requires.place ports c.loop-port-test.true c.requires.segments in
-    let listed : AreOutlets segments v (length segments) (get_or c.args.outlets.now v []) = c.requires.outlets.each v below in
+    let below = vertex_below c.args.segments.now c.args.place c.loop-port.port-index (length c.args.distances.now) c.ports_at-port-items.result.now
+    c.requires.place
+    c.ports_at-port-items.ensures c.loop-port-test.true c.requires.segments in
     record {
       vertex = omega (arith, below, c.loop-port.auto.distances);
-      outlets = omega (arith, below, c.requires.outlets.long);
-      places = outlets_within segments v (length c.loop-port.stale) (get_or c.args.outlets.now v []) listed c.loop-port.invariant.lowering.settled.long;
+      marks = omega (arith, below, c.loop-port.auto.stale, c.requires.marks);
     }
 
 pub loop-port-init : goal.loop-port-init
 loop-port-init c = record {
-  relaxes = relaxes_none c.requires.room;
-  lowering = lowering_none c.args.segments.now c.args.place c.args.found c.args.distances.now c.args.stale.now c.requires.found c.requires.settled;
+  falls = falls_none c.requires.room;
+  lowers = lowers_none c.args.found (record { distances = c.args.distances.now; stale = c.args.stale.now });
+  entry = c.requires.entry;
+  lowered = λ j below. absurd (omega (arith, below));
 }
 
 pub loop-port-preserved : goal.loop-port-preserved
@@ -48,34 +44,25 @@ loop-port-preserved c =
     let port : Port = get_or given i none in
     let among : Contains segment port = subst (λ (l : List Port). Contains l port) ports (Contains-get_or given i none c.loop-port-test.true) in
     let are : AreSegments (length now) segments = subst (λ (n : ℕ). AreSegments n segments) (sym c.loop-port.auto.distances) c.requires.segments in
-    let below : port.vertex < length c.args.distances.now =
-    vertex_below segments c.args.place i (length c.args.distances.now) given c.requires.place ports c.loop-port-test.true c.requires.segments in
-    let step : IsLowered (Sends segments) segment now after port.vertex found fell =
-    lowered segments c.args.place now after port found fell c.requires.place are before.relaxes.room before.lowering.entry among
+    let below = vertex_below segments c.args.place i (length c.args.distances.now) given c.requires.place ports c.loop-port-test.true c.requires.segments in
+    let step : IsLowered (Sends segments) segment now after port.vertex found =
+    lowered segments c.args.place now after port found fell c.requires.place are before.falls.room before.entry among
     c.lower_vertex.ensures.falls c.lower_vertex.ensures.after
     in
-    let either : c.if-lower_vertex.fell ≡ (fell || c.loop-port.fell) =
-    elim c.if-lower_vertex.branch [
-      | then-lower_vertex w ↦ rw w.if-lower_vertex.true (w.fell-is ∙ w.if-lower_vertex.true)
-      | else-lower_vertex w ↦ rw w.if-lower_vertex.false w.fell-is
-    ]
-    in
-    rw either (record {
-      relaxes = relaxes_on c.loop-port.fell fell before.relaxes step.relaxes;
-      lowering = lowering_more segments c.args.place found i now after c.loop-port.stale c.lower_vertex.new.stale
-          (get_or c.args.outlets.now port.vertex []) port fell before.lowering step (ap (λ (l : List Port). get_or l i none) (sym ports))
-          (omega (arith, below, c.loop-port.auto.distances))
-          (c.requires.outlets.each port.vertex below) c.lower_vertex.ensures.after c.lower_vertex.ensures.marks c.lower_vertex.ensures.kept
-          c.lower_vertex.auto.stale;
-    })
+    let here : IsAtMost (distance_at after (get_or segment i none).vertex) found =
+    subst (λ (l : List Port). IsAtMost (distance_at after (get_or l i none).vertex) found) ports step.tight in
+    record {
+      falls = falls_on before.falls step.falls;
+      lowers = lowers_on found found _ _ _ (omega arith) before.lowers (lowers_one found port.vertex now after c.loop-port.stale c.lower_vertex.new.stale fell
+          (omega (arith, below, c.loop-port.auto.distances)) (omega (arith, below, c.loop-port.auto.stale, c.requires.marks))
+          c.lower_vertex.ensures.falls c.lower_vertex.ensures.after c.lower_vertex.ensures.stale);
+      entry = step.entry;
+      lowered = below_more (λ j. IsAtMost (distance_at after (get_or segment j none).vertex) found) i
+          (λ j less. step.falls.lower (get_or segment j none).vertex found (before.lowered j less)) here;
+    }
 
-pub returns-clause-settled : goal.returns-clause-settled
-returns-clause-settled c = c.loop-port.invariant.lowering.settled
-
-pub returns-clause-level : goal.returns-clause-level
-returns-clause-level c =
-    let given : List Port = c.ports_at-port-items.result.now in
-    let segments : List (List Port) = c.args.segments.now in
-    let ports : given ≡ segment_at segments c.args.place = c.ports_at-port-items.ensures in
-    level_at_end segments c.args.place c.args.found c.loop-port.port-index c.loop-port.distances c.loop-port.stale
-    (omega (arith, c.loop-port-test.false, ap (λ (l : List Port). length l) ports)) c.loop-port.invariant.lowering
+pub returns-clause-all : goal.returns-clause-all
+returns-clause-all c =
+    let ports = c.ports_at-port-items.ensures in
+    all_at_most c.loop-port.distances (segment_at c.args.segments.now c.args.place) c.loop-port.port-index c.args.found (record { vertex = 0; cost = 0 })
+    (omega (arith, c.loop-port-test.false, ap (λ (l : List Port). length l) ports)) c.loop-port.invariant.lowered

@@ -1,11 +1,7 @@
-use Rattle.std.proofs.Common.{ℕ, sym, subst}
-use Rattle.walk_core.specs.Segments.{AreSegments}
-use Rattle.walk_core.specs.steps.SegmentWalks.{AreAllOutlets}
+use Rattle.std.proofs.Common.{arith}
 use Rattle.walk_core.proofs.flood.settle.Goals as goal
 
-pub flood_all-requires-clause-segments : goal.flood_all-requires-clause-segments
-flood_all-requires-clause-segments c = subst (λ (n : ℕ). AreSegments n c.args.segments.now) (sym c.loop.auto.distances) c.requires.segments
-
-pub flood_all-requires-clause-outlets : goal.flood_all-requires-clause-outlets
-flood_all-requires-clause-outlets c =
-    subst (λ (n : ℕ). AreAllOutlets c.args.segments.now n c.args.outlets.now) (sym c.loop.auto.distances) c.requires.outlets
+pub returns-clause-tight : goal.returns-clause-tight
+returns-clause-tight c u below =
+    let now = c.loop-u.invariant in
+    now.settled.tight u (now.next.none c.loop-u-test.false u (omega (arith, below, c.requires.long, c.loop-u.auto.distances, now.settled.long)))

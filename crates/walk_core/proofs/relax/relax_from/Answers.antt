@@ -1,9 +1,8 @@
-use Rattle.std.proofs.Common.{◌≡◌, ◌+◌, ◌<◌, ℕ, ◌||◌, Some, length, sym, ◌∙◌, subst, arith, IsTrue, ◌↔◌, cond, set}
+use Rattle.std.proofs.Common.{◌≡◌, ◌+◌, ◌<◌, ℕ, Some, length, sym, subst, arith, IsTrue, ◌↔◌, cond, set}
 use Rattle.walk_core.specs.Distances.{distance_at}
 use Rattle.walk_core.specs.steps.Relaxing.{weight_of}
 use Rattle.walk_core.proofs.RelaxLaws.{IsRelaxed, relaxed, relaxes_on, tight_more}
 use Rattle.walk_core.proofs.relax.relax_from.Goals as goal
-use Rattle.walk_core.proofs.relax.relax_from.Goals.{then-relax, else-relax}
 
 pub loop-i-preserved : goal.loop-i-preserved
 loop-i-preserved g c =
@@ -12,7 +11,7 @@ loop-i-preserved g c =
     let ends = g.G.CostGraph.arc_at c.args.graph.now c.args.u in
     let before = c.loop-i.invariant in
     let now = c.loop-i.distances in
-    let after = c.relax.new.distances in
+    let after = c.relax-fell.new.distances in
     let e : c.arc-v.result ≡ ends c.loop-i.i = c.arc-v.ensures in
     let cost : c.from.result ≡ c.arc-v.result.1 = c.from.ensures in
     let index : c.loop-i.i < g.G.CostGraph.arc_count c.args.graph.now c.args.u = omega (arith, c.arcs-i-end.ensures) in
@@ -26,22 +25,19 @@ loop-i-preserved g c =
       laws.end_is_vertex c.args.graph.now c.args.u c.arc-v.result.0 c.arc-v.result.1 c.requires.vertex
           over,
     ) in
-    let falls : IsTrue c.relax.result ↔ (c.in-Some.near + c.arc-v.result.1 < weight_of (distance_at now c.arc-v.result.0)) =
-    rw cost at c.relax.ensures.falls
+    let falls : IsTrue c.relax-fell.result ↔ (c.in-Some.near + c.arc-v.result.1 < weight_of (distance_at now c.arc-v.result.0)) =
+    rw cost at c.relax-fell.ensures.falls
     in
-    let is : after ≡ cond c.relax.result (set now c.arc-v.result.0 (Some (c.in-Some.near + c.arc-v.result.1))) now =
-    rw cost at c.relax.ensures.after
+    let is : after ≡ cond c.relax-fell.result (set now c.arc-v.result.0 (Some (c.in-Some.near + c.arc-v.result.1))) now =
+    rw cost at c.relax-fell.ensures.after
     in
-    let step : IsRelaxed arc now after c.args.u (ends c.loop-i.i).0 (ends c.loop-i.i).1 c.in-Some.near c.relax.result =
-    let P : ℕ × ℕ → Type 0 = λ p. IsRelaxed arc now after c.args.u p.0 p.1 c.in-Some.near c.relax.result in
-    subst P e (relaxed arc now after c.args.u c.arc-v.result.0 c.arc-v.result.1 c.in-Some.near c.relax.result
+    let step : IsRelaxed arc now after c.args.u (ends c.loop-i.i).0 (ends c.loop-i.i).1 c.in-Some.near c.relax-fell.result =
+    let P : ℕ × ℕ → Type 0 = λ p. IsRelaxed arc now after c.args.u p.0 p.1 c.in-Some.near c.relax-fell.result in
+    subst P e (relaxed arc now after c.args.u c.arc-v.result.0 c.arc-v.result.1 c.in-Some.near c.relax-fell.result
     before.relaxes.room over (omega arith) end before.near_is falls is)
     in
-    let fell : c.if-relax.fell ≡ (c.relax.result || c.loop-i.fell) =
-    elim c.if-relax.branch [ then-relax w ↦ rw w.if-relax.true (w.fell-is ∙ w.if-relax.true) | else-relax w ↦ rw w.if-relax.false w.fell-is ]
-    in
-    rw fell (record {
-      relaxes = relaxes_on c.loop-i.fell c.relax.result before.relaxes step.relaxes;
+    record {
+      relaxes = relaxes_on c.loop-i.fell c.relax-fell.result before.relaxes step.relaxes;
       near_is = step.near_is;
-      tight = tight_more arc ends now after c.args.u c.in-Some.near c.loop-i.i c.loop-i.fell c.relax.result before.tight step;
-    })
+      tight = tight_more arc ends now after c.args.u c.in-Some.near c.loop-i.i c.loop-i.fell c.relax-fell.result before.tight step;
+    }

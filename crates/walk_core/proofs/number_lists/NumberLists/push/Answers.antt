@@ -10,9 +10,9 @@ returns c =
     let spans : List Span = c.self.inside.spans.items in
     let list : List ℕ = c.args.list.now in
     let span : Span = record { start = c.len-start.result; end = c.len-end.result } in
-    let grown : c.extend_from_slice.new.self.items ≡ numbers ++ list = c.in_ok-extend_from_slice.ensures.items in
+    let grown : c.add_behind.new.numbers.items ≡ numbers ++ list = c.in_ok-add_behind.ensures.added in
     let starts : c.len-start.result ≡ length numbers = omega (arith, c.len-start.ensures, c.self.inside.numbers.ok.0) in
-    let ends : c.len-end.result ≡ length (numbers ++ list) = omega (arith, c.len-end.ensures, c.extend_from_slice.new.self.ok.0, ap length grown) in
+    let ends : c.len-end.result ≡ length (numbers ++ list) = omega (arith, c.len-end.ensures, c.add_behind.new.numbers.ok.0, ap length grown) in
     ap (λ (ns : List ℕ). lists_of ns c.push.new.self.items) grown
     ∙ ap (lists_of (numbers ++ list)) c.in_ok-push.ensures.items
     ∙ lists_more numbers list spans span c.self.invariant starts ends

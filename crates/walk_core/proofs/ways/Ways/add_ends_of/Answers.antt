@@ -7,8 +7,8 @@ use Rattle.walk_core.proofs.AddingLaws.{adds_list, adds_nothing, adds_same}
 use Rattle.walk_core.proofs.SegmentSteps.{no_end_apart}
 use Rattle.walk_core.proofs.ways.Ways.add_ends_of.Goals as goal
 
-pub returns-in_ok-extend_from_slice : goal.returns-in_ok-extend_from_slice
-returns-in_ok-extend_from_slice c =
+pub returns-in_ok-add_behind : goal.returns-in_ok-add_behind
+returns-in_ok-add_behind c =
     let mesh : Mesh = c.args.self.now in
     let reach : Reach = c.walks-walks.result.now in
     let v : ℕ = c.args.rest.vertex in
@@ -16,8 +16,8 @@ returns-in_ok-extend_from_slice c =
     let from = c.walks-walks.ensures c.requires.lan in
     let near : distance_of reach v ≡ Some c.args.rest.distance = sym c.distance.ensures ∙ c.is_at.ensures.0 c.if-is_at.true in
     let P : ℕ → Type 0 = IsEndAt mesh.rows (segment_at mesh.segments c.args.place) c.args.rest in
-    let grown : c.extend_from_slice.new.self.items ≡ old ++ listed_hops_of reach v =
-    c.in_ok-extend_from_slice.ensures.items ∙ ap (λ (l : List ℕ). old ++ l) c.hops_to.ensures.hops in
+    let grown : c.add_behind.new.numbers.items ≡ old ++ listed_hops_of reach v =
+    c.in_ok-add_behind.ensures.added ∙ ap (λ (l : List ℕ). old ++ l) c.hops_to.ensures.hops in
     subst (λ (l : List ℕ). AddsNumbers P old l) (sym grown)
     (adds_same (λ h. HasHop reach v h) P old (old ++ listed_hops_of reach v)
     (λ h has. (from.hops v c.args.rest.distance h c.requires.vertex near).0 has)

@@ -1,8 +1,9 @@
-use Rattle.std.proofs.Common.{[], ◌∷◌, ℕ, List, Contains, None, get_or, refl, sym, subst, ◌∙◌, arith}
+use Rattle.std.proofs.Common.{[], ◌∷◌, ℕ, List, Contains, None, Option, ap, get_or, refl, sym, subst, ◌∙◌, arith}
 use Rattle.std.proofs.lemmas.List.{get_or_default}
 use Rattle.std.proofs.lemmas.List.Elements.{Contains-get_or}
 use Rattle.walk_core.specs.declared.beyond.Aim.{Aim}
 use Rattle.walk_core.specs.declared.outlets.Outlet.{Outlet}
+use Rattle.walk_core.specs.Distances.{distance_at}
 use Rattle.walk_core.specs.Walks.{walk_cost}
 use Rattle.walk_core.specs.steps.Adding.{AddsNumbers}
 use Rattle.walk_core.specs.steps.SegmentWalks.{GoesOut, GoesOver, Mesh}
@@ -24,10 +25,10 @@ add_hops-requires c =
     let outlet : Outlet = get_or c.args.outlets.now c.loop-outlet.outlet-index none in
     let among : Contains c.args.outlets.now outlet = Contains-get_or c.args.outlets.now c.loop-outlet.outlet-index none c.loop-outlet-test.true in
     let wanted : IsWanted c.args.self.now c.args.root c.args.outlets.now aim = record {
-      mesh_is = c.distance.ensures.mesh;
+      mesh_is = c.requires.mesh;
       root_is = c.requires.root;
       outlets_are = c.requires.outlets;
-      away = sym c.distance.ensures.value ∙ c.in-Some.is;
+      away = ap (λ (l : List (Option ℕ)). distance_at l c.args.v) (sym c.requires.own) ∙ sym c.at.ensures ∙ c.in-Some.is;
     } in
     record {
       place = (c.requires.outlets.each outlet among).within;
@@ -53,10 +54,10 @@ returns-clause-exact c h =
     let outlets : List Outlet = c.args.outlets.now in
     let found : List ℕ = c.loop-outlet.found.items in
     let wanted : IsWanted mesh c.args.root outlets aim = record {
-      mesh_is = c.distance.ensures.mesh;
+      mesh_is = c.requires.mesh;
       root_is = c.requires.root;
       outlets_are = c.requires.outlets;
-      away = sym c.distance.ensures.value ∙ c.in-Some.is;
+      away = ap (λ (l : List (Option ℕ)). distance_at l c.args.v) (sym c.requires.own) ∙ sym c.at.ensures ∙ c.in-Some.is;
     } in
     let adds : AddsNumbers (GoesOut mesh outlets aim) [] found =
     leads_all (GoesOver mesh aim) outlets c.loop-outlet.outlet-index [] found c.loop-outlet-test.false c.loop-outlet.invariant in
@@ -70,7 +71,7 @@ returns-in_default-clause-exact c h = (
   λ has. let no : Contains [] h = subst (λ (l : List ℕ). Contains l h) c.clear.ensures.items has in absurd (omega (arith, no.1)),
   λ hop.
       let cost : ℕ = walk_cost (hop.leg ∷ hop.legs) in
-      let some = ((c.distance.ensures.mesh.rows.each c.args.root c.requires.root).least.least c.args.v cost).1 (first_hop_has_least_cost hop) in
-      let none = sym c.distance.ensures.value ∙ c.in_default.is in
+      let some = ((c.requires.mesh.rows.each c.args.root c.requires.root).least.least c.args.v cost).1 (first_hop_has_least_cost hop) in
+      let none = ap (λ (l : List (Option ℕ)). distance_at l c.args.v) (sym c.requires.own) ∙ sym c.at.ensures ∙ c.in_default.is in
       absurd (cc (some, none)),
 )
