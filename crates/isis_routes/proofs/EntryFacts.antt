@@ -1,5 +1,10 @@
 -- The entries of a router, by its routes.
-use Rattle.std.proofs.Common.{ℕ, inl, inr, List}
+use Rattle.std.proofs.Common.{◌≡◌, ℕ, inl, inr, List, length, Option, Some, MatchOption}
+use Rattle.std.proofs.lemmas.Option.{MatchOption-at_some}
+use Rattle.walk_core.specs.Reach.{Reach}
+use Rattle.route_tables.specs.Routings.{ForwardsBy, IsRouteFor}
+use Rattle.route_tables.specs.declared.route.Route.{Route}
+use Rattle.route_tables.proofs.BestRoutes.{route_by_hops}
 use Rattle.net_addr.specs.Addresses.{Block}
 use Rattle.net_model.specs.Network.{Network, Connected}
 use Rattle.route_core.specs.declared.entry.Entry.{Entry}
@@ -75,3 +80,11 @@ entry_is_candidate net u p e (level_two _ _ is _) = two_is_candidate net p u is.
 entry_is_candidate net u p e (down _ _ _ is _) =
     two_is_candidate net p is.costs.best.at is.costs.best.attained.asks is.costs.best.attained.offered.offered.costs
 entry_is_candidate net u p e (default_route _ _ _ _ all _ _ _) = inl all
+
+-- a route that is found is that of the entry
+pub entry_found : (reach : ℕ → Reach) (net : Network) (u : ℕ) (p : Block) (none : Type 0) (some : List ℕ → Type 0) (found : Option Route) (route : Route) →
+    found ≡ Some route → MatchOption found none (IsRouteFor reach 2 (length net) (ForwardsBy some)) →
+    ((hops : List ℕ) → some hops → IsisEntry net u p (Via hops)) → IsRouteFor reach 2 (length net) (IsisEntry net u p) route
+entry_found reach net u p none some found route is are by =
+    route_by_hops reach 2 (length net) some (IsisEntry net u p) route by
+    (MatchOption-at_some none (IsRouteFor reach 2 (length net) (ForwardsBy some)) route is are)

@@ -137,6 +137,7 @@ impl<'a> Domain<'a> {
     }
 
     /// The route of a router in a level to the best of some offers, and `None` where none is reached.
+    #[inline(always)]
     pub fn best_route(
         &self,
         alloc: Global,

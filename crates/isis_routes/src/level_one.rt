@@ -47,7 +47,7 @@ impl LevelOne {
     pub fn is_connected(&self, router: u32) -> bool
         ensures { IsTrue result ↔ Contains self.now.homes.items router }
     {
-        self.homes.contains(&router)
+        self.homes.iter().any(|home| *home == router)
     }
 
     /// The router at which the prefix is connected, where it is one alone.

@@ -1,5 +1,5 @@
 -- The best of some offers, offer by offer, and a vertex that alone makes the best ones.
-use Rattle.std.proofs.Common.{◌≡◌, ℕ, ◌+◌, ◌<◌, ◌≤◌, ◌⊎◌, inl, inr, List, [], ◌∷◌, ◌++◌, Option, Some, None, IsTrue, length, get_or, take, refl, sym, ap, subst, ◌∙◌, arith}
+use Rattle.std.proofs.Common.{◌≡◌, ℕ, ◌+◌, ◌<◌, ◌≤◌, ◌⊎◌, inl, inr, List, [], ◌∷◌, ◌++◌, Option, Some, None, length, get_or, take, refl, sym, ap, subst, ◌∙◌, arith}
 use Rattle.std.specs.List.{Contains}
 use Rattle.std.proofs.lemmas.Option.{none-some, same_Some}
 use Rattle.std.proofs.lemmas.List.{take_more}
@@ -10,13 +10,13 @@ use Rattle.walk_core.specs.declared.offers.Offer.{Offer}
 use Rattle.route_tables.specs.BestRoutes.{AreBestHops}
 use Rattle.route_tables.specs.Routings.{AreHopsTo, IsReached}
 use Rattle.route_tables.specs.declared.best.BestAt.{BestAt}
-use Rattle.route_tables.specs.steps.BestSoFar.{IsBestAt, IsBestSoFar, IsBetterOf, lower, kept, both}
+use Rattle.route_tables.specs.steps.BestSoFar.{IsBestAt, IsBestSoFar, IsBetterOf, LeadAlike, lower, kept, both}
 
 -- an offer of the first ones is one of more
-total_kept : (reach : Reach) (front : List Offer) (o : Offer) (c : ℕ) → HasTotal reach front c → HasTotal reach (front ++ o ∷ []) c
+abbrev total_kept : (reach : Reach) (front : List Offer) (o : Offer) (c : ℕ) → HasTotal reach front c → HasTotal reach (front ++ o ∷ []) c
 total_kept reach front o c has = record { offer = has.offer; among = Contains-append_left front (o ∷ []) has.offer has.among; total = has.total }
 
-total_here : (reach : Reach) (front : List Offer) (o : Offer) (c : ℕ) → total_towards reach o ≡ Some c → HasTotal reach (front ++ o ∷ []) c
+abbrev total_here : (reach : Reach) (front : List Offer) (o : Offer) (c : ℕ) → total_towards reach o ≡ Some c → HasTotal reach (front ++ o ∷ []) c
 total_here reach front o c is = record { offer = o; among = Contains-push front o; total = is }
 
 -- an offer of one more is one of the first ones, or that one
@@ -53,6 +53,7 @@ unreached_more reach front o (Some b) none is = record {
       | inr now ↦ absurd (unreached reach o o c none refl now)
     ];
   };
+  made = is.made;
   alone = λ yes x among total. elim (Contains-push_cases front o x among) [
     | inl earlier ↦ is.alone yes x earlier total
     | inr same ↦ absurd (unreached reach o x b.cost none same total)
@@ -70,6 +71,7 @@ first_more reach front o next is at none = record {
       | inr now ↦ let same = one_total reach o next.cost c is now in omega arith
     ];
   };
+  made = at;
   alone = λ yes x among total. elim (Contains-push_cases front o x among) [
     | inl earlier ↦ absurd (none next.cost (record { offer = x; among = earlier; total = total }))
     | inr same ↦ ap (λ (y : Offer). y.at) (sym same) ∙ at
@@ -93,6 +95,7 @@ better_more reach front o known next better is at best (lower less same) =
         attained = total_here reach front o next.cost is;
         least = least_of_both reach front o known.cost next.cost next.cost is best.best_total (omega arith) (omega arith);
       };
+      made = at;
       alone = λ yes x among total. elim (Contains-push_cases front o x among) [
         | inl earlier ↦ let least = best.best_total.least next.cost (record { offer = x; among = earlier; total = total }) in absurd (omega arith)
         | inr here ↦ ap (λ (y : Offer). y.at) (sym here) ∙ at
@@ -104,6 +107,7 @@ better_more reach front o known next better is at best (kept less same) =
         attained = total_kept reach front o known.cost best.best_total.attained;
         least = least_of_both reach front o known.cost next.cost known.cost is best.best_total (omega arith) (omega arith);
       };
+      made = best.made;
       alone = λ yes x among total. elim (Contains-push_cases front o x among) [
         | inl earlier ↦ best.alone yes x earlier total
         | inr here ↦
@@ -113,9 +117,11 @@ better_more reach front o known next better is at best (kept less same) =
     })
 better_more reach front o known next better is at best (both same cost place alone) = record {
   best_total = record {
-    attained = subst (HasTotal reach (front ++ o ∷ [])) (sym cost) (total_kept reach front o known.cost best.best_total.attained);
+    attained = let has = total_kept reach front o known.cost best.best_total.attained in
+        record { offer = has.offer; among = has.among; total = has.total ∙ ap Some (sym cost) };
     least = least_of_both reach front o known.cost next.cost better.cost is best.best_total (omega arith) (omega arith);
   };
+  made = best.made ∙ sym place;
   alone = λ yes x among total. elim (Contains-push_cases front o x among) [
     | inl earlier ↦ best.alone (alone yes).0 x earlier (total ∙ ap Some cost) ∙ sym place
     | inr here ↦ ap (λ (y : Offer). y.at) (sym here) ∙ at ∙ sym (alone yes).1 ∙ sym place
@@ -132,26 +138,24 @@ best_step reach offers i d best next total within is better so_far =
     subst (λ (l : List Offer). IsBestSoFar reach l next) (sym (take_more offers i d within))
     (better reach (take i offers) (get_or offers i d) refl (sym is) so_far)
 
--- A vertex that alone makes the best offers
+-- The vertex of the best offer
 
 reached_by : (d : Option ℕ) (asks cost : ℕ) → total_with d asks ≡ Some cost → (distance : ℕ) × (d ≡ Some distance)
 reached_by None asks cost is = absurd (none-some cost is)
 reached_by (Some d) asks cost is = (d, refl)
 
 -- it is reached
-pub alone_is_reached : (reach : Reach) (offers : List Offer) (best : BestAt) → IsBestAt reach offers best → IsTrue best.alone → IsReached reach best.at
-alone_is_reached reach offers best is alone =
+pub best_is_reached : (reach : Reach) (offers : List Offer) (best : BestAt) → IsBestAt reach offers best → IsReached reach best.at
+best_is_reached reach offers best is =
     let has = is.best_total.attained in
-    let made : has.offer.at ≡ best.at = is.alone alone has.offer has.among has.total in
     let far = reached_by (distance_of reach has.offer.at) has.offer.asks best.cost has.total in
-    record { distance = far.0; reached = subst (λ (v : ℕ). distance_of reach v ≡ Some far.0) made far.1 }
+    record { distance = far.0; reached = subst (λ (v : ℕ). distance_of reach v ≡ Some far.0) is.made far.1 }
 
--- the first hops towards it are those towards the best offers
-pub alone_hops : (reach : Reach) (offers : List Offer) (best : BestAt) (n : ℕ) → IsBestAt reach offers best → IsTrue best.alone →
+-- where all best offers have the first hops towards it, these are those towards the best offers
+pub alike_hops : (reach : Reach) (offers : List Offer) (best : BestAt) (n : ℕ) → IsBestAt reach offers best → LeadAlike reach offers best →
     (hops : List ℕ) → AreHopsTo reach best.at n hops → AreBestHops reach offers n hops
-alone_hops reach offers best n is alone hops to =
+alike_hops reach offers best n is same hops to =
     let has = is.best_total.attained in
-    let made : has.offer.at ≡ best.at = is.alone alone has.offer has.among has.total in
     record {
       cost = best.cost;
       best = is.best_total;
@@ -160,11 +164,16 @@ alone_hops reach offers best n is alone hops to =
         exact = λ h. (
           λ inside. let there = (to.exact h).0 inside in (
             there.0,
-            record { offer = has.offer; among = has.among; total = has.total; hop = subst (λ (v : ℕ). HasHop reach v h) (sym made) there.1 },
+            record {
+              offer = has.offer;
+              among = has.among;
+              total = has.total;
+              hop = subst (λ (l : List ℕ). Contains l h) (sym (same has.offer has.among has.total)) there.1;
+            },
           ),
           λ over. (to.exact h).1 (
             over.0,
-            subst (λ (v : ℕ). HasHop reach v h) (is.alone alone over.1.offer over.1.among over.1.total) over.1.hop,
+            subst (λ (l : List ℕ). Contains l h) (same over.1.offer over.1.among over.1.total) over.1.hop,
           ),
         );
       };

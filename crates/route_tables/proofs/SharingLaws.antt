@@ -1,19 +1,18 @@
 -- Tables in the making: of which rows towards one router share an entry, and so do those of alike prefixes.
-use Rattle.std.proofs.Common.{◌≡◌, ℕ, ◌<◌, ◌↔◌, ⊎_elim, List, [], ◌∷◌, ◌++◌, length, Some, None, Option, get_or, set, inl, inr, refl, sym, ap, subst, ◌∙◌, arith, MatchOption, IfSome, Result, Ok, Err, IfOk, OnOk, length-append}
+use Rattle.std.proofs.Common.{◌≡◌, ℕ, ◌<◌, ◌↔◌, ⊎_elim, List, [], ◌∷◌, ◌++◌, length, Some, None, Option, get_or, set, inl, inr, refl, sym, subst, ◌∙◌, arith, MatchOption, Result, Ok, Err, IfOk, OnOk, length-append}
 use Rattle.std.proofs.lemmas.Bool.{cases_eq, cases_lt}
 use Rattle.std.proofs.lemmas.List.{append-nil, get_or_append_left, get_or_push, length_push, get_or-set_same, get_or-set_other, set_past}
 use Rattle.std.proofs.lemmas.Option.{none-some, same_Some}
 use Rattle.net_addr.specs.Addresses.{Block}
 use Rattle.std.specs.List.{Contains}
 use Rattle.std.proofs.lemmas.List.Elements.{Contains-push_cases}
-use Rattle.walk_core.specs.Reach.{Reach, HasHop, listed_hops_of}
-use Rattle.route_core.proofs.HopLaws.{AreHops-unique}
+use Rattle.walk_core.specs.Reach.{Reach, listed_hops_of}
 use Rattle.route_core.specs.declared.entry.Entry.{Entry}
 use Rattle.route_core.specs.declared.entry.Entry.TheVariants.{Via, Discard}
 use Rattle.route_core.specs.Rows.{Keeps}
 use Rattle.route_tables.specs.Prefixes.{prefix_at}
 use Rattle.route_tables.specs.Routings.{AreHopsTo, IsEntryTo, Makes, IsRouteFor}
-use Rattle.route_tables.specs.steps.Sharing.{AreKnown, AreNoted, AreNumbers, AreShared, AreSingle, HasNumber, IsNumberOf, KeepsMore, KeepsNotes}
+use Rattle.route_tables.specs.steps.Sharing.{AreNoted, AreNumbers, AreShared, HasNumber, IsNumberOf, KeepsMore}
 use Rattle.route_tables.specs.declared.route.Route.{Route}
 use Rattle.route_tables.specs.declared.sharing.Known.{Known}
 use Rattle.route_tables.specs.declared.sharing.SharedRows.{SharedRows}
@@ -35,11 +34,12 @@ if_any_kept wanted entries more None none = none
 if_any_kept wanted entries more (Some number) has = number_kept wanted entries more number has
 
 -- the entry that came last has the number of those before
-pub last_number : (wanted : Entry → Type 0) (entries : List Entry) (entry : Entry) (number : ℕ) → number ≡ length entries → wanted entry →
-    HasNumber wanted (entries ++ entry ∷ []) number
-last_number wanted entries entry number same is =
+pub last_number : (wanted : Entry → Type 0) (entries others : List Entry) (entry : Entry) (number : ℕ) → others ≡ entries ++ entry ∷ [] →
+    number ≡ length entries → wanted entry → HasNumber wanted others number
+last_number wanted entries others entry number come same is =
     let long = length_push entries entry in
-    record { below = omega arith; is = subst wanted (sym (get_or_push entries entry Discard number (sym same))) is }
+    subst (λ (l : List Entry). HasNumber wanted l number) (sym come)
+    (record { below = omega arith; is = subst wanted (sym (get_or_push entries entry Discard number (sym same))) is })
 
 -- the entry of an alike prefix is one's own
 pub number_alike : (one other : Entry → Type 0) (entries : List Entry) (number : Option ℕ) → ((e : Entry) → one e ↔ other e) →
@@ -109,13 +109,6 @@ noted_more {K} wanted number_of entries all at noted are is v known there = elim
   | inr other ↦ are v known (sym (get_or-set_other all at v (Some noted) None other) ∙ there)
 ]
 
--- the same lists under other names
-pub noted_as : {K : Type 0} (wanted : ℕ → K → Entry → Type 0) (number_of : K → ℕ) (entries others : List Entry) (all given : List (Option K)) →
-    others ≡ entries → given ≡ all → AreNoted wanted number_of entries all → AreNoted wanted number_of others given
-noted_as {K} wanted number_of entries others all given same is are =
-    subst (λ (l : List Entry). AreNoted wanted number_of l given) (sym same)
-    (subst (λ (l : List (Option K)). AreNoted wanted number_of entries l) (sym is) are)
-
 -- what is wanted towards a vertex, and over a hop alone
 abbrev pub towards : (ℕ → Reach) → ℕ → ℕ → Known → Entry → Type 0
 towards reach n at known = IsEntryTo (reach known.zone) at n
@@ -125,43 +118,36 @@ over_one hop _ entry = entry ≡ Via (hop ∷ [])
 
 -- Entries that come
 
--- what is known stays known
-pub known_kept : (reach : ℕ → Reach) (n : ℕ) (old new : SharedRows) → new.known.items ≡ old.known.items → KeepsMore old new → AreShared reach n old →
-    AreKnown reach n new.builder.entries new.known.items
-known_kept reach n old new known kept are =
-    noted_as (towards reach n) (λ (k : Known). k.number) (old.builder.entries ++ kept.more) new.builder.entries old.known.items new.known.items
-    kept.entries known
-    (noted_kept (towards reach n) (λ (k : Known). k.number) old.builder.entries kept.more old.known.items are.known)
+-- what is noted stays noted
+pub shared_kept : (reach : ℕ → Reach) (n : ℕ) (old new : SharedRows) (more : List Entry) → new.builder.entries ≡ old.builder.entries ++ more →
+    new.known.items ≡ old.known.items → new.single.items ≡ old.single.items → AreShared reach n old → AreShared reach n new
+shared_kept reach n old new more entries known single are = record {
+  known = same (towards reach n) (λ (k : Known). k.number) old.known.items new.known.items known are.known;
+  single = same over_one (λ (k : ℕ). k) old.single.items new.single.items single are.single;
+}
+  where
+    same : {K : Type 0} (wanted : ℕ → K → Entry → Type 0) (number_of : K → ℕ) (all given : List (Option K)) → given ≡ all →
+        AreNoted wanted number_of old.builder.entries all → AreNoted wanted number_of new.builder.entries given
+    same {K} wanted number_of all given is noted =
+        subst (λ (l : List Entry). AreNoted wanted number_of l given) (sym entries)
+        (subst (λ (l : List (Option K)). AreNoted wanted number_of (old.builder.entries ++ more) l) (sym is)
+        (noted_kept wanted number_of old.builder.entries more all noted))
 
--- and so do the entries over one hop alone
-pub single_kept : (old new : SharedRows) → KeepsNotes old new → KeepsMore old new → AreSingle old.builder.entries old.single.items →
-    AreSingle new.builder.entries new.single.items
-single_kept old new notes kept are =
-    noted_as over_one (λ (k : ℕ). k) (old.builder.entries ++ kept.more) new.builder.entries old.single.items new.single.items kept.entries notes.single
-    (noted_kept over_one (λ (k : ℕ). k) old.builder.entries kept.more old.single.items are)
+pub shared_where_kept : {E : Type 0} (reach : ℕ → Reach) (n : ℕ) (old new : SharedRows) (entry : Entry) (r : Result ℕ E) →
+    new.known.items ≡ old.known.items → new.single.items ≡ old.single.items → IfOk r (Keeps old.builder new.builder entry) → AreShared reach n old →
+    OnOk r (AreShared reach n new)
+shared_where_kept reach n old new entry (Ok number) known single keeps are = shared_kept reach n old new (entry ∷ []) keeps.entries known single are
+shared_where_kept reach n old new entry (Err e) known single keeps are = keeps
 
-pub shared_where_kept : {E : Type 0} (reach : ℕ → Reach) (n : ℕ) (old new : SharedRows) (r : Result ℕ E) → OnOk r (KeepsNotes old new) →
-    OnOk r (KeepsMore old new) → AreShared reach n old → OnOk r (AreShared reach n new)
-shared_where_kept reach n old new (Ok number) notes kept are =
-    record { known = known_kept reach n old new notes.known kept are; single = single_kept old new notes kept are.single }
-shared_where_kept reach n old new (Err e) notes kept are = notes
-
--- what is noted stays where an entry is kept
-pub notes_where_kept : {E : Type 0} (old new : SharedRows) (entry : Entry) (r : Result ℕ E) → new.known.items ≡ old.known.items →
-    new.single.items ≡ old.single.items → IfOk r (Keeps old.builder new.builder entry) → OnOk r (KeepsNotes old new)
-notes_where_kept old new entry (Ok number) known single keeps = record { known = known; single = single }
-notes_where_kept old new entry (Err e) known single keeps = keeps
-
--- and so do the rows
-pub rows_where_kept : {E : Type 0} (old new : SharedRows) (entry : Entry) (r : Result ℕ E) → new.numbers.items ≡ old.numbers.items →
-    IfOk r (Keeps old.builder new.builder entry) → OnOk r (KeepsMore old new)
-rows_where_kept old new entry (Ok number) same keeps =
-    record { more = entry ∷ []; entries = keeps.entries; rows = keeps.rows; numbers = same }
-rows_where_kept old new entry (Err e) same keeps = keeps
+-- the rows stay
+pub rows_where_kept : {E : Type 0} (old new : SharedRows) (entry : Entry) (r : Result ℕ E) → IfOk r (Keeps old.builder new.builder entry) →
+    OnOk r (KeepsMore old new)
+rows_where_kept old new entry (Ok number) keeps = record { more = entry ∷ []; entries = keeps.entries; rows = keeps.rows }
+rows_where_kept old new entry (Err e) keeps = keeps
 
 -- where nothing is kept, nothing changes
 pub nothing_kept : (old : SharedRows) → KeepsMore old old
-nothing_kept old = record { more = []; entries = sym (append-nil old.builder.entries); rows = refl; numbers = refl }
+nothing_kept old = record { more = []; entries = sym (append-nil old.builder.entries); rows = refl }
 
 -- One hop alone
 
@@ -183,29 +169,3 @@ one_hop reach at n hop hops are one below = record {
       | inl none ↦ absurd (omega (arith, none.1))
       | inr same ↦ subst (λ (x : ℕ). x < n) same below
     ]
-
--- the entry over it is the one towards the router
-pub single_is : (reach : Reach) (at n : ℕ) (entries : List Entry) (all : List (Option ℕ)) (hop : Option ℕ) (number : ℕ) →
-    IfSome hop (λ h. AreHopsTo reach at n (h ∷ [])) → AreSingle entries all → MatchOption hop ⊥ (λ h. get_or all h None ≡ Some number) →
-    HasNumber (IsEntryTo reach at n) entries number
-single_is reach at n entries all None number to are is = absurd is
-single_is reach at n entries all (Some hop) number to are is =
-    let has = are hop number is in
-    record { below = has.below; is = record { hops = hop ∷ []; is = has.is; are = to } }
-
--- and the other way round
-over_hop : (reach : Reach) (at n hop : ℕ) (hops : List ℕ) → AreHopsTo reach at n (hop ∷ []) → AreHopsTo reach at n hops → hops ≡ hop ∷ []
-over_hop reach at n hop hops to are =
-    let is_hop : ℕ → Type 0 = λ h. (h < n) × HasHop reach at h in
-    AreHops-unique is_hop hops (hop ∷ []) (record { ascending = are.ascending; exact = are.exact })
-    (record { ascending = to.ascending; exact = to.exact })
-
--- the entry towards a router is noted where it is over one hop alone
-pub single_more : (reach : Reach) (at n : ℕ) (entries : List Entry) (hops : List ℕ) (all given : List (Option ℕ)) (hop : Option ℕ) (number : ℕ) →
-    IfSome hop (λ h. AreHopsTo reach at n (h ∷ [])) → AreHopsTo reach at n hops → HasNumber (λ (e : Entry). e ≡ Via hops) entries number →
-    AreSingle entries all → MatchOption hop (given ≡ all) (λ h. given ≡ set all h (Some number)) → AreSingle entries given
-single_more reach at n entries hops all given None number to towards has are same = noted_as over_one (λ (k : ℕ). k) entries entries all given refl same are
-single_more reach at n entries hops all given (Some hop) number to towards has are same =
-    noted_as over_one (λ (k : ℕ). k) entries entries (set all hop (Some number)) given refl same
-    (noted_more over_one (λ (k : ℕ). k) entries all hop number are
-    (record { below = has.below; is = has.is ∙ ap Via (over_hop reach at n hop hops to towards) }))

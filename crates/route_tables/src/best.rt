@@ -1,9 +1,9 @@
-ghost use Rattle.std.specs.Prelude.{◌≡◌, ◌∷◌, ◌++◌, [], List, IfOk, MatchOption};
+ghost use Rattle.std.specs.Prelude.{◌≡◌, ◌↔◌, ◌∷◌, ◌++◌, [], All, List, IfOk, IsTrue, MatchOption};
 ghost use Rattle.walk_core.specs.BestOffers.{AreInRange, FitsTotal, NoneTotals, total_towards};
-ghost use Rattle.walk_core.specs.Reach.{Reach};
+ghost use Rattle.walk_core.specs.Reach.{Reach, listed_hops_of};
 ghost use Rattle.walk_core.specs.declared.offers.Offer.{Offer as OfferValue};
 ghost use Rattle.route_tables.specs.BestRoutes.{AreBestHops, IsBestRoute};
-ghost use Rattle.route_tables.specs.steps.BestSoFar.{IsBestAt, IsBestSoFar, IsBetterOf};
+ghost use Rattle.route_tables.specs.steps.BestSoFar.{IsBestAt, IsBestSoFar, IsBetterOf, LeadAlike};
 
 use crate::OutOfMemory;
 use crate::route::{Route, Target};
@@ -12,8 +12,9 @@ use std::alloc::Global;
 use walk_core::{LeastWalks, Offer};
 
 /// The route to the best of some offers, over the least walks of a zone, and `None` where no offer is reached. The hops
-/// are routers below `count`; where one vertex alone makes all best offers, they are the first hops towards it. It takes
-/// time of the offers, and memory only where several vertices make best offers.
+/// are routers below `count`; where one vertex has the first hops of all best offers, they are those towards it. It takes
+/// time of the offers, and memory only where best offers have different first hops.
+#[inline(always)]
 pub fn best_route(
     alloc: Global,
     walks: &LeastWalks,
@@ -27,7 +28,7 @@ pub fn best_route(
     let Some(best) = best_of(walks, offers) else {
         return Ok(None);
     };
-    if best.alone {
+    if lead_alike(walks, offers, best) {
         return Ok(Some(Route::Towards(Target { zone, at: best.at })));
     }
     let hops = walks.hops_towards(alloc, offers, best.cost, count)?;
@@ -62,8 +63,25 @@ struct BestAt {
     alone: bool,
 }
 
-/// The best of some offers.
+/// The best of some offers. Up to two, as most prefixes have, take no loop and no call.
+#[inline(always)]
 fn best_of(walks: &LeastWalks, offers: &[Offer]) -> Option<BestAt>
+    requires { AreInRange walks.now offers.now }
+    ensures { IsBestSoFar walks.now offers.now result }
+{
+    if let [offer] = offers {
+        return better(None, total(walks, *offer), offer.at);
+    }
+    if let [one, other] = offers {
+        let first = better(None, total(walks, *one), one.at);
+        return better(first, total(walks, *other), other.at);
+    }
+    best_of_many(walks, offers)
+}
+
+/// The best of many offers.
+#[inline(never)]
+fn best_of_many(walks: &LeastWalks, offers: &[Offer]) -> Option<BestAt>
     requires { AreInRange walks.now offers.now }
     ensures { IsBestSoFar walks.now offers.now result }
 {
@@ -117,4 +135,21 @@ fn better_of(known: BestAt, next: BestAt) -> BestAt
         at: known.at,
         alone: known.alone && known.at == next.at,
     }
+}
+
+/// Whether the first hops towards all best offers are those towards the vertex of the best one.
+fn lead_alike(walks: &LeastWalks, offers: &[Offer], best: BestAt) -> bool
+    requires { IsBestAt walks.now offers.now best }
+    ensures { IsTrue result → LeadAlike walks.now offers.now best }
+{
+    best.alone || lead_as(walks, offers, best.at)
+}
+
+/// Whether the first hops towards all offers are those towards a vertex.
+#[inline(never)]
+fn lead_as(walks: &LeastWalks, offers: &[Offer], at: u32) -> bool
+    ensures { IsTrue result ↔ All (λ o. listed_hops_of walks.now o.at ≡ listed_hops_of walks.now at) offers.now }
+{
+    let hops = walks.hops_to(at);
+    offers.iter().all(|offer| walks.hops_to(offer.at) == hops)
 }

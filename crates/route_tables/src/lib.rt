@@ -3,11 +3,10 @@
 //! - `protocol.rt`: what a protocol says of a network: candidates, zones with their least walks, the route of each router
 //!   for each candidate, which candidates have the same routes, neighbors.
 //! - `route.rt`, `best.rt`: a route before it is an entry, and the route to the best of some offers, in one pass over them;
-//!   where one router makes all best offers, the route says that router and takes no memory.
+//!   where one router has the first hops of all best offers, the route says that router and takes no memory.
 //! - `alike.rt`: whether offers differ by a constant alone, by which prefixes have the same routes.
-//! - `sharing.rt`, `table.rt`: the table of a router, of which all routes towards one router share an entry, made once,
-//!   and so do those towards routers that one hop alone leads to; no route is asked for a prefix with the same routes
-//!   as an earlier one.
+//! - `sharing.rt`, `table.rt`: the table of a router, of which all routes over one hop alone share an entry, made once, and
+//!   so do those towards one router; no route is asked for a prefix with the same routes as an earlier one.
 //! - `candidates.rt`, `distinct.rt`, `lists.rt`: prefixes, in order and each once, and lists that grow.
 //! - `routes.rt`, `joined.rt`: tables as a source of tables, with the segments that join neighbors.
 #![tactic(auto)]

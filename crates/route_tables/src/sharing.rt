@@ -1,7 +1,8 @@
 ghost use Rattle.std.specs.Prelude.{◌≡◌, ◌<◌, ◌∷◌, ℕ, [], None, Some, length, slice_index_or, slice_set, IfOk, IfSome, OnOk, MatchOption};
+ghost use Rattle.walk_core.specs.Reach.{Reach};
 ghost use Rattle.route_tables.specs.Prefixes.{prefix_at};
 ghost use Rattle.route_tables.specs.Routings.{AreHopsTo, HasZoneTarget, IsEntryTo, IsReached, IsZoneTarget, Makes};
-ghost use Rattle.route_tables.specs.steps.Sharing.{AddsNumber, AreNumbers, AreShared, AreSingle, HasNumber, IsNumberOf, KeepsMore, KeepsNotes};
+ghost use Rattle.route_tables.specs.steps.Sharing.{AddsNumber, AreNumbers, AreShared, AreSingle, HasNumber, IsNumberOf, KeepsMore};
 ghost use Rattle.route_core.specs.declared.entry.Entry.TheVariants.{Via};
 
 use crate::OutOfMemory;
@@ -19,14 +20,13 @@ pub(crate) struct Known {
     number: u32,
 }
 
-/// A table in the making, with its entries towards routers, for each router the latest one, those over one hop alone,
-/// for each hop, and the number of the entry for each prefix so far.
+/// A table in the making, with its entries over one hop alone, for each hop, and those towards routers that several hops
+/// lead to, for each router the latest one.
 #[derive(Debug, Drop)]
 pub(crate) struct SharedRows {
     pub(crate) builder: TableBuilder,
     known: Vec<Option<Known>>,
     single: Vec<Option<u32>>,
-    numbers: Vec<Option<u32>>,
 }
 
 impl SharedRows {
@@ -39,22 +39,19 @@ impl SharedRows {
         ensures rows { IfOk result (λ shared. shared.builder.rows ≡ []) }
         ensures known { IfOk result (λ shared. (at : ℕ) → slice_index_or shared.known.items at None ≡ None) }
         ensures single { IfOk result (λ shared. (hop : ℕ) → slice_index_or shared.single.items hop None ≡ None) }
-        ensures numbers { IfOk result (λ shared. shared.numbers.items ≡ []) }
     {
         Ok(SharedRows {
             builder: TableBuilder::with_capacity(alloc, rows)?,
             known: vec![in alloc; None; routers as usize]?,
             single: vec![in alloc; None; routers as usize]?,
-            numbers: Vec::with_capacity(alloc, rows)?,
         })
     }
 
-    /// Adds the number of the entry for the next prefix, and its row where it has an entry.
+    /// Adds the row of a prefix, where it has an entry.
     pub(crate) fn add(&mut self, dest: Prefix, number: Option<u32>) -> Result<(), OutOfMemory>
         requires { IfSome number (λ k. k < length self.old.builder.entries) }
         ensures { OnOk result (AddsNumber dest number self.old self.new) }
     {
-        self.numbers.push(number)?;
         match number {
             Some(number) => self.builder.add(dest, number),
             None => Ok(()),
@@ -69,19 +66,20 @@ pub(crate) fn number_at<P: Protocol>(
     protocol: &P,
     router: u32,
     shared: &mut SharedRows,
+    numbers: &[Option<u32>],
     place: usize,
 ) -> Result<Option<u32>, OutOfMemory>
     requires router { router < P.routers protocol.now }
     requires place { place < length (P.candidates protocol.now) }
-    requires count { length shared.old.numbers.items ≡ place }
+    requires count { length numbers.now ≡ place }
     requires known { AreShared (P.reach protocol.now router) (P.routers protocol.now) shared.old }
-    requires numbers { AreNumbers (P.entry protocol.now router) (P.candidates protocol.now) shared.old.builder.entries shared.old.numbers.items }
+    requires numbers { AreNumbers (P.entry protocol.now router) (P.candidates protocol.now) shared.old.builder.entries numbers.now }
     ensures known { OnOk result (AreShared (P.reach protocol.now router) (P.routers protocol.now) shared.new) }
     ensures kept { OnOk result (KeepsMore shared.old shared.new) }
     ensures number { IfOk result (IsNumberOf (P.entry protocol.now router (prefix_at (P.candidates protocol.now) place)) shared.new.builder.entries) }
 {
     if let Some(earlier) = protocol.alike(place) {
-        return Ok(shared.numbers[earlier]);
+        return Ok(numbers[earlier]);
     }
     match protocol.route(alloc, place, router)? {
         Some(route) => Ok(Some(number_of(alloc, protocol, router, shared, route)?)),
@@ -113,7 +111,7 @@ fn number_of<P: Protocol>(
 
 /// The number of the entry over these hops: that of one that is kept, else that of a new one.
 fn number_through(shared: &mut SharedRows, hops: Hops) -> Result<u32, OutOfMemory>
-    ensures noted { OnOk result (KeepsNotes shared.old shared.new) }
+    ensures known { (reach : ℕ → Reach) (n : ℕ) → AreShared reach n shared.old → OnOk result (AreShared reach n shared.new) }
     ensures kept { OnOk result (KeepsMore shared.old shared.new) }
     ensures number { IfOk result (HasNumber (λ entry. entry ≡ Via hops) shared.new.builder.entries) }
 {
@@ -123,9 +121,48 @@ fn number_through(shared: &mut SharedRows, hops: Hops) -> Result<u32, OutOfMemor
     }
 }
 
-/// The number of the entry towards a target: the latest one towards its router, where that is of its zone, else one
-/// with its hops.
+/// The number of the entry towards a target.
 fn number_towards<P: Protocol>(
+    alloc: Global,
+    protocol: &P,
+    router: u32,
+    shared: &mut SharedRows,
+    target: Target,
+) -> Result<u32, OutOfMemory>
+    requires router { router < P.routers protocol.now }
+    requires target { IsZoneTarget (P.reach protocol.now router) (P.zones protocol.now) target }
+    requires known { AreShared (P.reach protocol.now router) (P.routers protocol.now) shared.old }
+    ensures known { OnOk result (AreShared (P.reach protocol.now router) (P.routers protocol.now) shared.new) }
+    ensures kept { OnOk result (KeepsMore shared.old shared.new) }
+    ensures number { IfOk result (HasNumber (IsEntryTo (P.reach protocol.now router target.zone) target.at (P.routers protocol.now)) shared.new.builder.entries) }
+{
+    let walks = protocol.walks(router, target.zone);
+    match only_hop(walks, target.at, protocol.routers()) {
+        Some(hop) => number_over_one(alloc, shared, hop),
+        None => number_over_many(alloc, protocol, router, shared, target),
+    }
+}
+
+/// The number of the entry over a hop alone: that which is noted, else that of a new one.
+fn number_over_one(alloc: Global, shared: &mut SharedRows, hop: u32) -> Result<u32, OutOfMemory>
+    requires single { AreSingle shared.old.builder.entries shared.old.single.items }
+    ensures known { (reach : ℕ → Reach) (n : ℕ) → AreShared reach n shared.old → OnOk result (AreShared reach n shared.new) }
+    ensures kept { OnOk result (KeepsMore shared.old shared.new) }
+    ensures number { IfOk result (HasNumber (λ entry. entry ≡ Via (hop ∷ [])) shared.new.builder.entries) }
+{
+    if let Some(number) = single_number(shared.single.as_slice(), hop) {
+        return Ok(number);
+    }
+    let hops = Hops::from_vec(vec![in alloc; hop]?);
+    let number = shared.builder.keep(Entry::Via(hops))?;
+    note_single(&mut shared.single, hop, number);
+    Ok(number)
+}
+
+/// The number of the entry towards a target that several hops lead to: the latest one towards its router, where that is
+/// of its zone, else one with its hops.
+#[inline(never)]
+fn number_over_many<P: Protocol>(
     alloc: Global,
     protocol: &P,
     router: u32,
@@ -143,34 +180,9 @@ fn number_towards<P: Protocol>(
         return Ok(number);
     }
     let walks = protocol.walks(router, target.zone);
-    let number = number_over(alloc, shared, walks, target.at, protocol.routers())?;
-    remember(&mut shared.known, target, number);
-    Ok(number)
-}
-
-/// The number of the entry with the first hops below `count` towards a router: where that is one hop, the entry over it
-/// that there is, else a new one.
-fn number_over(
-    alloc: Global,
-    shared: &mut SharedRows,
-    walks: &LeastWalks,
-    at: u32,
-    count: u32,
-) -> Result<u32, OutOfMemory>
-    requires reached { IsReached walks.now at }
-    requires single { AreSingle shared.old.builder.entries shared.old.single.items }
-    ensures single { OnOk result (AreSingle shared.new.builder.entries shared.new.single.items) }
-    ensures known { OnOk result (shared.new.known.items ≡ shared.old.known.items) }
-    ensures kept { OnOk result (KeepsMore shared.old shared.new) }
-    ensures number { IfOk result (HasNumber (IsEntryTo walks.now at count) shared.new.builder.entries) }
-{
-    let hop = only_hop(walks, at, count);
-    if let Some(number) = single_number(shared.single.as_slice(), hop) {
-        return Ok(number);
-    }
-    let hops = hops_towards(alloc, walks, at, count)?;
+    let hops = hops_towards(alloc, walks, target.at, protocol.routers())?;
     let number = number_through(shared, hops)?;
-    note_single(&mut shared.single, hop, number);
+    remember(&mut shared.known, target, number);
     Ok(number)
 }
 
@@ -178,28 +190,28 @@ fn number_over(
 fn only_hop(walks: &LeastWalks, at: u32, count: u32) -> Option<u32>
     ensures { IfSome result (λ hop. AreHopsTo walks.now at count (hop ∷ [])) }
 {
-    match walks.hops_to(at) {
-        [hop] if *hop < count => Some(*hop),
-        _ => None,
+    let hops = walks.hops_to(at);
+    if hops.len() == 1 && hops[0] < count {
+        Some(hops[0])
+    } else {
+        None
     }
 }
 
 /// The number of the entry over a hop alone, where that is known.
-fn single_number(single: &[Option<u32>], hop: Option<u32>) -> Option<u32>
-    ensures { IfSome result (λ number. MatchOption hop ⊥ (λ h. slice_index_or single.now h None ≡ Some number)) }
+fn single_number(single: &[Option<u32>], hop: u32) -> Option<u32>
+    ensures { IfSome result (λ number. slice_index_or single.now hop None ≡ Some number) }
 {
-    single.get(hop? as usize).copied().flatten()
+    single.get(hop as usize).copied().flatten()
 }
 
-/// Notes the number of the entry over a hop alone, where there is one.
-fn note_single(single: &mut Vec<Option<u32>>, hop: Option<u32>, number: u32)
-    ensures { MatchOption hop (single.new.items ≡ single.old.items) (λ h. single.new.items ≡ slice_set single.old.items h (Some number)) }
+/// Notes the number of the entry over a hop alone.
+fn note_single(single: &mut Vec<Option<u32>>, hop: u32, number: u32)
+    ensures { single.new.items ≡ slice_set single.old.items hop (Some number) }
 {
-    if let Some(hop) = hop {
-        let place = hop as usize;
-        if place < single.len() {
-            single[place] = Some(number);
-        }
+    let place = hop as usize;
+    if place < single.len() {
+        single[place] = Some(number);
     }
 }
 

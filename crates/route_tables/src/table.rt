@@ -20,14 +20,24 @@ pub fn all_tables<P: Protocol>(alloc: Global, protocol: &P) -> Result<Vec<Table>
 }
 
 /// The table of a router, in time of the routes that no earlier prefix has, and of the rows.
+#[inline(never)]
 fn table_of<P: Protocol>(alloc: Global, protocol: &P, router: u32) -> Result<Table, OutOfMemory>
     requires router { router < P.routers protocol.now }
     requires lawful { IsLawful (P.routers protocol.now) (P.entry protocol.now) (P.neighbor protocol.now) }
     ensures { IfOk result (IsTableOf (P.entry protocol.now router)) }
 {
     let mut shared = SharedRows::with_capacity(alloc, protocol.candidates(), protocol.routers())?;
+    let mut numbers = Vec::with_capacity(alloc, protocol.candidates())?;
     for place in 0..protocol.candidates() {
-        let number = number_at(alloc, protocol, router, &mut shared, place)?;
+        let number = number_at(
+            alloc,
+            protocol,
+            router,
+            &mut shared,
+            numbers.as_slice(),
+            place,
+        )?;
+        numbers.push_reserved(number);
         shared.add(protocol.candidate(place), number)?;
     }
     Ok(shared.builder.finish())

@@ -31,6 +31,7 @@ AreKnown reach n entries all = AreNoted (λ at known. IsEntryTo (reach known.zon
 abbrev pub AreSingle : List Entry → List (Option ℕ) → Type 0
 AreSingle entries all = AreNoted (λ hop _ entry. entry ≡ Via (hop ∷ [])) (λ number. number) entries all
 
+-- what is noted, towards vertices and over hops
 pub record AreShared (reach : ℕ → Reach) (n : ℕ) (shared : SharedRows) : Type 0 where
   pub known : AreKnown reach n shared.builder.entries shared.known.items
   pub single : AreSingle shared.builder.entries shared.single.items
@@ -45,18 +46,11 @@ pub record KeepsMore (old new : SharedRows) : Type 0 where
   pub more : List Entry
   pub entries : new.builder.entries ≡ old.builder.entries ++ more
   pub rows : new.builder.rows ≡ old.builder.rows
-  pub numbers : new.numbers.items ≡ old.numbers.items
 
--- what is noted stays
-pub record KeepsNotes (old new : SharedRows) : Type 0 where
-  pub known : new.known.items ≡ old.known.items
-  pub single : new.single.items ≡ old.single.items
-
--- the number of the next prefix has come, with the prefix's row where there is one
+-- the prefix's row has come, where it has a number
 pub record AddsNumber (dest : Block) (number : Option ℕ) (old new : SharedRows) : Type 0 where
   pub entries : new.builder.entries ≡ old.builder.entries
   pub known : new.known.items ≡ old.known.items
   pub single : new.single.items ≡ old.single.items
-  pub numbers : new.numbers.items ≡ old.numbers.items ++ number ∷ []
   pub rows : MatchOption number (new.builder.rows ≡ old.builder.rows)
       (λ k. new.builder.rows ≡ old.builder.rows ++ (dest, slice_index_or old.builder.entries k Discard) ∷ [])

@@ -15,8 +15,8 @@ use Rattle.isis_routes.proofs.entry.level_two_route.Goals as goal
 pub best_route-requires-clause-small : goal.best_route-requires-clause-small
 best_route-requires-clause-small c =
     let d = c.args.destination.now in
-    announced_small c.args.domain.now.net d.one.dest c.args.domain.now.walks.one d.two.items c.as_slice.result.now c.if-not-runs_level_two.ensures.known.network
-    c.if-not-runs_level_two.ensures.known.walks.one c.requires.announced.two c.as_slice.ensures.value
+    announced_small c.args.domain.now.net d.one.dest c.args.domain.now.walks.one d.two.items c.as_slice.result.now
+    c.if-not-runs_level_two.ensures.known.network c.if-not-runs_level_two.ensures.known.walks.one c.requires.announced.two c.as_slice.ensures.value
 
 pub returns : goal.returns
 returns c =
