@@ -5,7 +5,7 @@ use Rattle.std.proofs.lemmas.List.{get_or_append_left, get_or_default, get_or_pu
 use Rattle.std.specs.List.{Contains, Any}
 use Rattle.std.proofs.lemmas.Bool.{eqb-true, eqb-false, cases_eq, cases_lt, false≢true}
 use Rattle.std.proofs.lemmas.Option.{none-some, same_Some}
-use Rattle.std.proofs.lemmas.List.Elements.{All-push, All-contains, Contains-append_left, Contains-push, Contains-push_cases}
+use Rattle.std.proofs.lemmas.List.Elements.{All-push, Contains-append_left, Contains-push, Contains-push_cases}
 use Rattle.net_model.proofs.Adjacency.{UpInterface-among}
 use Rattle.net_model.proofs.NetworkFacts.{InArea-within}
 use Rattle.net_model.specs.Configuration.{Configuration}
@@ -16,13 +16,13 @@ use Rattle.net_model.specs.declared.zone.Zone.TheVariants.{Area}
 use Rattle.walk_core.specs.Reach.{Reach}
 use Rattle.zone_graph.specs.Walks.{AreZoneWalks}
 use Rattle.igp_theory.specs.Ospf.{ListensTo, backbone, one_area}
-use Rattle.igp_theory.proofs.TableLaws.{listens_to_one_area}
-use Rattle.ospf_routes.specs.steps.Areas.{RunsOther, HasArea, HasWalks, AreNumbered, AreAreas, AreListeners, IsListener, IsReach}
-use Rattle.ospf_routes.specs.steps.Members.{AreMembersBelow}
+use Rattle.ospf_routes.specs.steps.Areas.{RunsOther, HasArea, IsAreaAt, AreNumbered, AreAreas, AreListeners, IsListener, IsListenerAt, IsReach}
+use Rattle.ospf_routes.specs.steps.Members.{AreMembersBelow, IsMember}
 use Rattle.ospf_routes.specs.Lists.{Adds}
 use Rattle.ospf_routes.specs.declared.areas.AreaWalks.{AreaWalks}
 use Rattle.route_tables.proofs.ListFacts.{any_of, any_in}
 use Rattle.std.specs.List.{slice_get}
+use Rattle.std.specs.Option.{IfNone, IfSome}
 
 -- a router is in an area where one of its interfaces runs it
 pub inside_is : (net : Network) (u n : ℕ) (config : Configuration) (given : List Interface) → HasConfiguration net u config → given ≡ config.interfaces →
@@ -44,14 +44,6 @@ inside_is net u n config given router are = (
 
 has_area_left : (areas : List AreaWalks) (a : AreaWalks) (n : ℕ) → HasArea areas n → HasArea (areas ++ a ∷ []) n
 has_area_left areas a n has = record { area = has.area; among = Contains-append_left areas (a ∷ []) has.area has.among; number = has.number }
-
-pub numbered_none : (net : Network) → AreNumbered net [] []
-numbered_none net = record {
-  walks = λ k d within. absurd (omega arith);
-  members = λ k d within. absurd (omega arith);
-  every = λ n has. absurd
-      (omega (arith, has.1));
-}
 
 pub numbered_more : (net : Network) (numbers : List ℕ) (areas : List AreaWalks) (a : AreaWalks) → AreNumbered net numbers areas →
     AreZoneWalks net (Area a.number) a.walks → AreMembersBelow net a.number (length net) a.members →
@@ -104,13 +96,6 @@ pub numbers_all : (net : Network) (m : ℕ) (numbers : List ℕ) → length net 
 numbers_all net m numbers count have u n inside =
     let within : u < length net = InArea-within net u n inside in have.every u n (omega arith) inside
 
--- an area that is there isn't added again
-pub area_there : (old : List ℕ) (m : ℕ) → Contains old m → Adds old old (λ n. Some m ≡ Some n)
-area_there old m has = λ n. (
-  λ h. inl h,
-  λ either. ⊎_elim (λ h. h) (λ same. subst (λ (k : ℕ). Contains old k) (same_Some m n same) has) either,
-)
-
 -- Border routers
 
 pub border_by_other : (net : Network) (u n : ℕ) (config : Configuration) (given : List Interface) → HasConfiguration net u config →
@@ -145,72 +130,70 @@ no_area_no_border net u config given router are none = (
 
 -- Listening
 
-pub border_listens : (net : Network) (u n : ℕ) → IsBorderRouter net u → (Some 0 ≡ Some n) ↔ ListensTo net u n
-border_listens net u n border = (
-  λ same. subst (ListensTo net u) (same_Some 0 n same) (backbone border),
-  λ listens. ap Some (listens_to_one_area (backbone border) listens),
-)
-
 pub inner_listens : (net : Network) (u : ℕ) (config : Configuration) (given : List Interface) (found : Option ℕ) → HasConfiguration net u config →
     given ≡ config.interfaces → (IsBorderRouter net u → ⊥) →
-    MatchOption found ((n : ℕ) → Any (RunsArea n) given → ⊥) (λ n. Any (RunsArea n) given) → (n : ℕ) → (found ≡ Some n) ↔ ListensTo net u n
-inner_listens net u config given None router are inner none n = (
-  λ no. absurd (none-some n no),
-  λ listens. absurd (listens_nowhere n listens),
-)
+    MatchOption found ((n : ℕ) → Any (RunsArea n) given → ⊥) (λ n. Any (RunsArea n) given) → IsListener net u found
+inner_listens net u config given None router are inner none = nowhere
   where
-    listens_nowhere : (m : ℕ) → ListensTo net u m → ⊥
-    listens_nowhere _ (backbone border) = inner border
-    listens_nowhere m (one_area _ inside) = none m ((inside_is net u m config given router are).1 inside)
-inner_listens net u config given (Some m) router are inner here n =
-    let listens_here : ListensTo net u m = one_area inner ((inside_is net u m config given router are).0 here) in (
-      λ same. subst (ListensTo net u) (same_Some m n same) listens_here,
-      λ listens. ap Some (listens_to_one_area listens_here listens),
-    )
+    nowhere : (m : ℕ) → ListensTo net u m → ⊥
+    nowhere _ (backbone border) = inner border
+    nowhere m (one_area _ inside) = none m ((inside_is net u m config given router are).1 inside)
+inner_listens net u config given (Some m) router are inner here = one_area inner ((inside_is net u m config given router are).0 here)
+
+-- The places of areas
+
+-- the area that a router listens to is there
+pub listened_area : (net : Network) (areas : List AreaWalks) (n u : ℕ) → AreAreas net areas → ListensTo net u n → HasArea areas n
+listened_area net areas _ u are (backbone border) = are.backbone
+listened_area net areas n u are (one_area _ inside) = are.every u n inside
+
+pub listened_place_is : (net : Network) (areas : List AreaWalks) (u n : ℕ) (found : Option ℕ) → AreAreas net areas → ListensTo net u n →
+    IfNone found (HasArea areas n → ⊥) → IfSome found (IsAreaAt areas n) → IsListenerAt net areas u found
+listened_place_is net areas u n None are listens none some = absurd (none (listened_area net areas n u are listens))
+listened_place_is net areas u n (Some zone) are listens none at = record { area = n; listens = listens; at = at }
+
+-- the area at a place, as it is read
+number_at : (areas : List AreaWalks) (n zone : ℕ) (d : AreaWalks) → IsAreaAt areas n zone → (get_or areas zone d).number ≡ n
+number_at areas n zone d at = ap (λ (x : AreaWalks). x.number) (get_or_default areas zone d at.area at.within ∙ sym at.here) ∙ at.number
+
+-- as many walks as routers
+pub reach_within : (net : Network) (areas : List AreaWalks) (u zone : ℕ) (d : AreaWalks) → AreAreas net areas → zone < length areas → u < length net →
+    u < length (get_or areas zone d).walks
+reach_within net areas u zone d are within below = let walks = are.walks zone d within in omega (arith, walks.routers)
+
+pub reach_is : (net : Network) (areas : List AreaWalks) (n u zone : ℕ) (d : AreaWalks) (reach : Reach) → AreAreas net areas → IsAreaAt areas n zone →
+    slice_get (get_or areas zone d).walks u ≡ Some reach → IsReach net n u reach
+reach_is net areas n u zone d reach are at here =
+    let walks : AreZoneWalks net (Area n) (get_or areas zone d).walks =
+    subst (λ (m : ℕ). AreZoneWalks net (Area m) (get_or areas zone d).walks) (number_at areas n zone d at) (are.walks zone d at.within) in
+    record { least = walks.least u reach here; near = walks.near u reach here }
+
+pub member_at : (net : Network) (areas : List AreaWalks) (n u zone : ℕ) (d : AreaWalks) → AreAreas net areas → IsAreaAt areas n zone → u < length net →
+    IsMember (get_or areas zone d).members u ↔ InArea net u n
+member_at net areas n u zone d are at below =
+    subst (λ (m : ℕ). IsMember (get_or areas zone d).members u ↔ InArea net u m) (number_at areas n zone d at)
+    ((are.members zone d at.within).exact u below)
 
 -- Router by router
 
-pub listeners_none : (net : Network) → AreListeners net 0 []
-listeners_none net = record { count = refl; each = λ u below. absurd (omega arith) }
-
-pub listeners_more : (net : Network) (n : ℕ) (all : List (Option ℕ)) (next : Option ℕ) → AreListeners net n all → IsListener net n next →
-    AreListeners net (n + 1) (all ++ next ∷ [])
-listeners_more net n all next are is = record {
+pub listeners_more : (net : Network) (areas : List AreaWalks) (n : ℕ) (all : List (Option ℕ)) (next : Option ℕ) → AreListeners net areas n all →
+    IsListenerAt net areas n next → AreListeners net areas (n + 1) (all ++ next ∷ [])
+listeners_more net areas n all next are is = record {
   count = let long = length-append all (next ∷ []) in omega (arith, are.count);
   each = λ u below. elim (cases_lt u n) [
-    | inl less ↦ subst (IsListener net u) (sym (get_or_append_left all (next ∷ []) None u (omega (arith, are.count)))) (are.each u less)
+    | inl less ↦ subst (IsListenerAt net areas u) (sym (get_or_append_left all (next ∷ []) None u (omega (arith, are.count)))) (are.each u less)
     | inr past ↦
         let same : n ≡ u = omega arith in
-        subst (λ (k : ℕ). IsListener net k (get_or (all ++ next ∷ []) k None)) same
-        (subst (IsListener net n) (sym (get_or_push all next None n are.count)) is)
+        subst (λ (k : ℕ). IsListenerAt net areas k (get_or (all ++ next ∷ []) k None)) same
+        (subst (IsListenerAt net areas n) (sym (get_or_push all next None n are.count)) is)
   ];
 }
 
 -- the listener of a router, as it is read
-pub listener_of : (net : Network) (all : List (Option ℕ)) (u : ℕ) (here : Option ℕ) → AreListeners net (length net) all → u < length net →
-    here ≡ get_or all u here → IsListener net u here
-listener_of net all u here are within is =
-    subst (IsListener net u) (sym (is ∙ get_or_default all u here None (omega (arith, are.count)))) (are.each u within)
-
--- The least walks of an area
-
-pub reach_is : (net : Network) (areas : List AreaWalks) (n u : ℕ) (walks : List Reach) (reach : Reach) → AreAreas net areas → HasWalks areas n walks →
-    slice_get walks u ≡ Some reach → IsReach net n u reach
-reach_is net areas n u walks reach are has here =
-    let all : AreZoneWalks net (Area has.area.number) has.area.walks = All-contains (λ (a : AreaWalks). AreZoneWalks net (Area a.number) a.walks)
-    areas has.area are.walks has.among in
-    let of_n : AreZoneWalks net (Area n) walks =
-    subst (λ (m : ℕ). AreZoneWalks net (Area m) walks) has.number (subst (λ (w : List Reach). AreZoneWalks net (Area has.area.number) w) has.walks_are all) in
-    record { least = of_n.least u reach here; near = of_n.near u reach here }
-
--- as many walks as routers
-pub reach_within : (net : Network) (areas : List AreaWalks) (n u : ℕ) (walks : List Reach) → AreAreas net areas → HasWalks areas n walks → u < length net →
-    u < length walks
-reach_within net areas n u walks are has within =
-    let all : AreZoneWalks net (Area has.area.number) has.area.walks = All-contains (λ (a : AreaWalks). AreZoneWalks net (Area a.number) a.walks)
-    areas has.area are.walks has.among in
-    let same : length has.area.walks ≡ length walks = ap length has.walks_are in
-    omega (arith, all.routers, same)
+pub listener_of : (net : Network) (areas : List AreaWalks) (all : List (Option ℕ)) (u : ℕ) (here : Option ℕ) → AreListeners net areas (length net) all →
+    u < length net → here ≡ get_or all u here → IsListenerAt net areas u here
+listener_of net areas all u here are within is =
+    subst (IsListenerAt net areas u) (sym (is ∙ get_or_default all u here None (omega (arith, are.count)))) (are.each u within)
 
 -- Other areas
 

@@ -6,14 +6,16 @@ use Rattle.net_addr.specs.Addresses.{Block}
 use Rattle.net_model.specs.Network.{Network}
 use Rattle.route_tables.specs.Prefixes.{AreDistinctPrefixes}
 use Rattle.ospf_routes.specs.steps.Candidates.{IsOspfCandidate}
-use Rattle.ospf_routes.specs.steps.Destinations.{IsDestination, AreOspfDestinations, ospf_prefixes}
+use Rattle.ospf_routes.specs.steps.Destinations.{IsDestinationIn, AreOspfDestinations, ospf_prefixes}
+use Rattle.ospf_routes.specs.declared.areas.AreaWalks.{AreaWalks}
 use Rattle.ospf_routes.specs.declared.intra_area.Destination.{Destination}
 use Rattle.ospf_routes.specs.declared.announcements.Summaries.{Summaries}
 
 -- destinations of distinct candidates
-pub are_destinations : (net : Network) (all : List Destination) (dests : List Block) → ospf_prefixes all ≡ dests → All (IsDestination net) all →
-    AreDistinctPrefixes dests → ((p : Block) → IsOspfCandidate net p → Contains dests p) → AreOspfDestinations net all
-are_destinations net all dests same each distinct every = record {
+pub are_destinations : (net : Network) (areas : List AreaWalks) (all : List Destination) (dests : List Block) → ospf_prefixes all ≡ dests →
+    All (IsDestinationIn net areas) all → AreDistinctPrefixes dests → ((p : Block) → IsOspfCandidate net p → Contains dests p) →
+    AreOspfDestinations net areas all
+are_destinations net areas all dests same each distinct every = record {
   each = each;
   distinct = subst AreDistinctPrefixes (sym same) distinct;
   every = λ p is. subst (λ (l : List Block). Contains l p) (sym same) (every p is);
@@ -30,19 +32,18 @@ one_more_summary ds k all s d within here so_far is =
     ∙ sym (ap ospf_prefixes (take_more ds k d within ∙ ap (λ (x : Destination). take k ds ++ x ∷ []) (sym here))
     ∙ map-append (λ (x : Destination). x.dest) (take k ds) (d ∷ []))
 
--- as many as destinations
-pub as_many : (ds : List Destination) (all : List Summaries) → map (λ (x : Summaries). x.dest) all ≡ ospf_prefixes ds → length all ≡ length ds
-as_many ds all same =
-    sym (length-map all (λ (x : Summaries). x.dest)) ∙ ap length same ∙ length-map ds (λ (x : Destination). x.dest)
+-- Two lists with the same keys
 
--- at one place there stands one prefix
-pub same_dest : (ds : List Destination) (all : List Summaries) (k : ℕ) (d : Destination) (s : Summaries) →
-    map (λ (x : Summaries). x.dest) all ≡ ospf_prefixes ds → k < length ds → d ≡ get_or ds k d → s ≡ get_or all k s → s.dest ≡ d.dest
-same_dest ds all k d s same within is_d is_s =
-    let p : Block = d.dest in
-    let many : length all ≡ length ds = as_many ds all same in
-    let one : get_or (map (λ (x : Summaries). x.dest) all) k p ≡ s.dest = get_or-map (λ (x : Summaries). x.dest) all k s p (omega arith)
-    ∙ ap (λ (x : Summaries). x.dest) (sym is_s) in
-    let other : get_or (ospf_prefixes ds) k p ≡ d.dest = get_or-map (λ (x : Destination). x.dest) ds k d p within ∙ ap (λ (x : Destination). x.dest)
-    (sym is_d) in
-    sym one ∙ ap (λ (l : List Block). get_or l k p) same ∙ other
+pub as_many : {X Y K : Type 0} (key : X → K) (other : Y → K) (xs : List X) (ys : List Y) → map key xs ≡ map other ys → length xs ≡ length ys
+as_many key other xs ys same = sym (length-map xs key) ∙ ap length same ∙ length-map ys other
+
+-- at one place there stands one key
+pub same_key : {X Y K : Type 0} (key : X → K) (other : Y → K) (xs : List X) (ys : List Y) (k : ℕ) (x : X) (y : Y) → map key xs ≡ map other ys →
+    k < length ys → x ≡ get_or xs k x → y ≡ get_or ys k y → key x ≡ other y
+same_key key other xs ys k x y same within is_x is_y =
+    let many : length xs ≡ length ys = as_many key other xs ys same in
+    ap key is_x
+    ∙ sym (get_or-map key xs k x (other y) (omega arith))
+    ∙ ap (λ l. get_or l k (other y)) same
+    ∙ get_or-map other ys k y (other y) within
+    ∙ ap other (sym is_y)

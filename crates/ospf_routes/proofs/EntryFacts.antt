@@ -1,14 +1,17 @@
 -- The entries of a router, by its routes.
-use Rattle.std.proofs.Common.{ℕ, List, refl}
+use Rattle.std.proofs.Common.{ℕ, Option, None, Some, MatchOption, length}
 use Rattle.net_addr.specs.Addresses.{Block}
 use Rattle.net_model.specs.Network.{Network, Connected}
 use Rattle.route_core.specs.declared.entry.Entry.{Entry}
-use Rattle.route_core.specs.declared.entry.Entry.TheVariants.{Via, Discard}
 use Rattle.igp_theory.specs.Ospf.{IsIntraArea, IsActiveRange, SummarizesSubnet, SummarizesRange, BackboneSummary, BorderCost, AreaSummary, Summary}
 use Rattle.igp_theory.specs.Ospf.{into_backbone, into_area, InterAreaCost, OspfEntry, intra_area, discard, inter_area}
+use Rattle.walk_core.specs.Reach.{Reach}
+use Rattle.route_tables.specs.Routings.{ForwardsBy, IsRouteFor}
+use Rattle.route_tables.specs.declared.route.Route.{Route}
+use Rattle.route_tables.proofs.BestRoutes.{route_by_hops}
 use Rattle.route_tables.proofs.ListFacts.{any_of}
 use Rattle.ospf_routes.specs.steps.Candidates.{IsOspfCandidate, IsRangeOf, all, range}
-use Rattle.ospf_routes.specs.steps.Routing.{IsIntraRoute, IsListenedRoute, ListenedCost}
+use Rattle.ospf_routes.specs.steps.Routing.{IsListenedRoute, ListenedCost}
 use Rattle.ospf_routes.proofs.RangeFacts.{intra_is_candidate, range_cost_active}
 
 -- a connected prefix has no entry
@@ -16,13 +19,6 @@ pub connected_has_none : (net : Network) (u : ℕ) (p : Block) → Connected net
 connected_has_none net u p is e (intra_area away _ _) = away is
 connected_has_none net u p is e (discard away _ _ _) = away is
 connected_has_none net u p is e (inter_area away _ _ _) = away is
-
-pub entry_by_intra : (net : Network) (u : ℕ) (p : Block) (hops : List ℕ) → (Connected net u p → ⊥) → IsIntraRoute net p u hops → OspfEntry net u p (Via hops)
-entry_by_intra net u p hops away route = intra_area away route.is route.hops_are
-
-pub entry_by_discard : (net : Network) (u : ℕ) (p : Block) → (Connected net u p → ⊥) → (IsIntraArea net p u → ⊥) → IsActiveRange net p u →
-    OspfEntry net u p Discard
-entry_by_discard net u p away no_intra is = discard away no_intra is refl
 
 inter_cost_of : (net : Network) (u : ℕ) (p : Block) (cost : ℕ) → (IsIntraArea net p u → ⊥) → (IsActiveRange net p u → ⊥) → ListenedCost net p u cost →
     InterAreaCost net p u cost
@@ -34,18 +30,23 @@ inter_cost_of net u p cost no_intra no_range costs = record {
   best = costs.best;
 }
 
-pub entry_by_inter : (net : Network) (u : ℕ) (p : Block) (hops : List ℕ) → (Connected net u p → ⊥) → (IsIntraArea net p u → ⊥) →
-    (IsActiveRange net p u → ⊥) → IsListenedRoute net p u hops → OspfEntry net u p (Via hops)
-entry_by_inter net u p hops away no_intra no_range route = inter_area away route.cost (inter_cost_of net u p route.cost no_intra no_range route.costs)
-    route.hops_are
-
 -- without a route there is no entry
-pub no_route_no_entry : (net : Network) (u : ℕ) (p : Block) → (IsIntraArea net p u → ⊥) → (IsActiveRange net p u → ⊥) →
+no_route_no_entry : (net : Network) (u : ℕ) (p : Block) → (IsIntraArea net p u → ⊥) → (IsActiveRange net p u → ⊥) →
     ((cost : ℕ) → ListenedCost net p u cost → ⊥) → (e : Entry) → OspfEntry net u p e → ⊥
 no_route_no_entry net u p no_intra no_range none e (intra_area _ is _) = no_intra is
 no_route_no_entry net u p no_intra no_range none e (discard _ _ is _) = no_range is
 no_route_no_entry net u p no_intra no_range none e (inter_area _ cost costs _) = none cost
     (record { area = costs.area; listens = costs.listens; best = costs.best })
+
+-- where there is neither an intra-area route nor a discard, the inter-area route makes the entry
+pub inter_entries : (net : Network) (u : ℕ) (p : Block) (reach : ℕ → Reach) (zones : ℕ) (found : Option Route) → (Connected net u p → ⊥) →
+    (IsIntraArea net p u → ⊥) → (IsActiveRange net p u → ⊥) →
+    MatchOption found ((cost : ℕ) → ListenedCost net p u cost → ⊥) (IsRouteFor reach zones (length net) (ForwardsBy (IsListenedRoute net p u))) →
+    MatchOption found ((e : Entry) → OspfEntry net u p e → ⊥) (IsRouteFor reach zones (length net) (OspfEntry net u p))
+inter_entries net u p reach zones None away no_intra no_range none = no_route_no_entry net u p no_intra no_range none
+inter_entries net u p reach zones (Some route) away no_intra no_range is =
+    route_by_hops reach zones (length net) (IsListenedRoute net p u) (OspfEntry net u p) route
+    (λ hops by. inter_area away by.cost (inter_cost_of net u p by.cost no_intra no_range by.costs) by.hops_are) is
 
 -- Every prefix with an entry is a candidate
 

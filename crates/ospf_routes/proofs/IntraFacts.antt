@@ -1,30 +1,30 @@
 -- What the interfaces of each area offer of a prefix, and its intra-area costs.
-use Rattle.std.proofs.Common.{◌≡◌, ℕ, ◌↔◌, ◌⊎◌, ⊎_elim, get_or, List, [], ◌∷◌, ◌++◌, Option, Some, None, MatchOption, refl, sym, ap, subst, ◌∙◌}
-use Rattle.std.proofs.Common.{arith}
+use Rattle.std.proofs.Common.{◌≡◌, ℕ, ◌↔◌, ⊎_elim, get_or, List, [], ◌∷◌, Option, Some, MatchOption, refl, sym, ap, subst, ◌∙◌}
+use Rattle.std.proofs.Common.{arith, ◌+◌, ◌<◌, ◌^◌, length, take}
 use Rattle.std.specs.List.{Contains, Any, All}
-use Rattle.std.proofs.lemmas.Option.{none-some}
 use Rattle.std.proofs.lemmas.List.Elements.{All-weaker, All-contains, Contains-get_or, Contains-push_cases}
 use Rattle.net_addr.specs.Addresses.{Block}
 use Rattle.net_model.proofs.NetworkFacts.{Adjacent-in_area}
 use Rattle.net_model.specs.Network.{Network, Adjacent, Connected, InArea}
+use Rattle.net_model.specs.Refusals.{IsNetwork}
 use Rattle.net_model.specs.declared.zone.Zone.TheVariants.{Area}
 use Rattle.walk_core.specs.Offers.{BestCost}
 use Rattle.walk_core.specs.Reach.{Reach}
 use Rattle.walk_core.specs.Walks.{Leg, Walks}
-use Rattle.walk_core.specs.BestOffers.{NoneTotals, IsBestTotal}
+use Rattle.walk_core.specs.BestOffers.{AreInRange, NoneTotals, IsBestTotal}
 use Rattle.walk_core.specs.declared.offers.Offer.{Offer}
 use Rattle.igp_theory.specs.Ospf.{OffersSubnet, IntraAreaCost, IsIntraArea}
-use Rattle.ospf_routes.specs.steps.Areas.{AreAreas, HasArea, IsReach}
+use Rattle.ospf_routes.specs.steps.Areas.{AreAreas, HasArea, IsAreaAt, IsReach}
 use Rattle.ospf_routes.specs.declared.areas.AreaWalks.{AreaWalks}
-use Rattle.ospf_routes.specs.steps.Destinations.{AddsPart, HasAreaPart, IsDestination, IsPartOf}
+use Rattle.ospf_routes.specs.steps.Destinations.{AddsPart, HasAreaPart, IsDestination, IsDestinationIn, IsPartIn, IsPartOf}
 use Rattle.ospf_routes.specs.Lists.{Exactly}
 use Rattle.ospf_routes.specs.steps.Offered.{AreOffers, InsideOf}
 use Rattle.ospf_routes.specs.declared.intra_area.AreaOffers.{AreaOffers}
 use Rattle.ospf_routes.specs.declared.intra_area.Destination.{Destination}
 use Rattle.ospf_routes.specs.declared.area_route.AreaRoute.{AreaRoute}
-use Rattle.ospf_routes.proofs.CostBounds.{lists_from}
+use Rattle.ospf_routes.proofs.CostBounds.{in_range, lists_from, subnet_is_small}
 use Rattle.route_tables.proofs.BestRoutes.{best_cost_is}
-use Rattle.route_tables.proofs.ListFacts.{any_of, any_in, exactly_same}
+use Rattle.route_tables.proofs.ListFacts.{any_of, any_in, exactly_same, one_more}
 
 -- The offers of an area
 
@@ -56,62 +56,50 @@ part_offers net p routes given part are same is =
 pub destination_is : (net : Network) (areas : List AreaWalks) (routes given : List AreaRoute) (d : Destination) → AreAreas net areas →
     Exactly (λ (u : ℕ). Connected net u d.dest) d.homes.items →
     Exactly (λ (r : AreaRoute). OffersSubnet net r.area d.dest r.at r.asks) routes → given ≡ routes →
-    All (IsPartOf given) d.parts.items → ((n : ℕ) (o : Offer) → HasArea areas n → Any (λ (r : AreaRoute). InsideOf n r o) given → HasAreaPart d.parts.items n) →
-    IsDestination net d
+    All (IsPartIn areas given) d.parts.items →
+    ((n : ℕ) (o : Offer) → HasArea areas n → Any (λ (r : AreaRoute). InsideOf n r o) given → HasAreaPart d.parts.items n) → IsDestinationIn net areas d
 destination_is net areas routes given d are homes exact same parts every = record {
-  homes = homes;
-  exact = All-weaker (IsPartOf given) (λ (part : AreaOffers). AreOffers (OffersSubnet net part.area d.dest) part.offers.items)
-      (λ part is. part_offers net d.dest routes given part exact same is) d.parts.items parts;
-  every = λ n w cost offers.
-      let r : AreaRoute = record { area = n; at = w; asks = cost } in
-      let among : Contains given r = subst (λ (l : List AreaRoute). Contains l r) (sym same) ((exact r).1 offers) in
-      let o : Offer = record { at = w; asks = cost } in
-      every n o (are.every w n (record { interface = offers.interface; up = offers.up; area = offers.area }))
-      (any_of (λ (x : AreaRoute). InsideOf n x o) given r among (record { area = refl; at = refl; asks = refl }));
-}
-
--- the parts so far, of the areas that have what is wanted
-pub record PartsSoFar (wanted : ℕ → Offer → Type 0) (front : List AreaWalks) (parts : List AreaOffers) : Type 0 where
-  pub exact : All (λ (part : AreaOffers). Exactly (wanted part.area) part.offers.items) parts
-  pub every : (n : ℕ) (o : Offer) → HasArea front n → wanted n o → HasAreaPart parts n
-
-pub parts_none : (wanted : ℕ → Offer → Type 0) → PartsSoFar wanted [] []
-parts_none wanted = record { exact = λ k d within. absurd (omega arith); every = λ n o has is. absurd (omega (arith, has.among.1)) }
-
-pub parts_more : (wanted : ℕ → Offer → Type 0) (front : List AreaWalks) (a : AreaWalks) (old new : List AreaOffers) (part : AreaOffers) →
-    PartsSoFar wanted front old → part.area ≡ a.number →
-    Exactly (wanted part.area) part.offers.items → AddsPart old new part → PartsSoFar wanted (front ++ a ∷ []) new
-parts_more wanted front a old new part before area is adds = record {
-  exact = λ k d within. one (get_or new k d) (adds.each (get_or new k d) (Contains-get_or new k d within));
-  every = λ n o has here. ⊎_elim
-      (λ among. kept n (before.every n o (record { area = has.area; among = among; number = has.number }) here))
-      (λ same. new_part n o (area ∙ ap (λ (x : AreaWalks). x.number) same ∙ has.number) here)
-      (Contains-push_cases front a has.area has.among);
+  is = record { homes = homes; exact = offers; every = offered };
+  placed = All-weaker (IsPartIn areas given) (λ (part : AreaOffers). IsAreaAt areas part.area part.zone) (λ part is. is.at) d.parts.items parts;
 }
   where
-    one : (other : AreaOffers) → Contains old other ⊎ (part ≡ other) → Exactly (wanted other.area) other.offers.items
-    one other either = ⊎_elim
-        (λ among. All-contains (λ (x : AreaOffers). Exactly (wanted x.area) x.offers.items) old other before.exact among)
-        (λ same. subst (λ (x : AreaOffers). Exactly (wanted x.area) x.offers.items) same is)
-        either
+    offers : All (λ (part : AreaOffers). AreOffers (OffersSubnet net part.area d.dest) part.offers.items) d.parts.items
+    offers = All-weaker (IsPartIn areas given) (λ (part : AreaOffers). AreOffers (OffersSubnet net part.area d.dest) part.offers.items)
+        (λ part is. part_offers net d.dest routes given part exact same is.offers) d.parts.items parts
 
-    kept : (n : ℕ) → HasAreaPart old n → HasAreaPart new n
-    kept n has = record { part = has.part; among = adds.kept has.part has.among; area = has.area }
+    offered : (n w cost : ℕ) → OffersSubnet net n d.dest w cost → HasAreaPart d.parts.items n
+    offered n w cost offers =
+        let r : AreaRoute = record { area = n; at = w; asks = cost } in
+        let among : Contains given r = subst (λ (l : List AreaRoute). Contains l r) (sym same) ((exact r).1 offers) in
+        let o : Offer = record { at = w; asks = cost } in
+        every n o (are.every w n (record { interface = offers.interface; up = offers.up; area = offers.area }))
+        (any_of (λ (x : AreaRoute). InsideOf n x o) given r among (record { area = refl; at = refl; asks = refl }))
 
-    new_part : (n : ℕ) (o : Offer) → part.area ≡ n → wanted n o → HasAreaPart new n
-    new_part n o number here =
-        let offered : Contains part.offers.items o = (is o).1 (subst (λ (m : ℕ). wanted m o) (sym number) here) in
-        record { part = part; among = adds.added o offered; area = number }
+-- the parts of the areas before place k
+pub record PartsSoFar (routes : List AreaRoute) (areas : List AreaWalks) (k : ℕ) (parts : List AreaOffers) : Type 0 where
+  pub each : All (IsPartIn areas routes) parts
+  pub every : (n : ℕ) (o : Offer) → HasArea (take k areas) n → Any (λ (r : AreaRoute). InsideOf n r o) routes → HasAreaPart parts n
+
+pub parts_more : (routes : List AreaRoute) (areas : List AreaWalks) (k : ℕ) (a : AreaWalks) (old new : List AreaOffers) (part : AreaOffers) →
+    PartsSoFar routes areas k old → k < length areas → a ≡ get_or areas k a → part.area ≡ a.number → IsPartIn areas routes part → AddsPart old new part →
+    PartsSoFar routes areas (k + 1) new
+parts_more routes areas k a old new part before within here area is adds = record {
+  each = λ j d below. ⊎_elim
+      (λ among. All-contains (IsPartIn areas routes) old (get_or new j d) before.each among)
+      (λ same. subst (IsPartIn areas routes) same is)
+      (adds.each (get_or new j d) (Contains-get_or new j d below));
+  every = λ n o has given. ⊎_elim
+      (λ among.
+      let earlier = before.every n o (record { area = has.area; among = among; number = has.number }) given in
+      record { part = earlier.part; among = adds.kept earlier.part earlier.among; area = earlier.area })
+      (λ same.
+      let number : part.area ≡ n = area ∙ ap (λ (x : AreaWalks). x.number) same ∙ has.number in
+      let offered = (is.offers o).1 (subst (λ (m : ℕ). Any (λ (r : AreaRoute). InsideOf m r o) routes) (sym number) given) in
+      record { part = part; among = adds.added o offered; area = number })
+      (Contains-push_cases (take k areas) a has.area (subst (λ (l : List AreaWalks). Contains l has.area) (sym (one_more areas k a within here)) has.among));
+}
 
 -- Intra-area costs
-
-pub no_intra_cost : (net : Network) (n : ℕ) (p : Block) (u : ℕ) → ((cost : ℕ) → IntraAreaCost net n p u cost → ⊥) → (cost : ℕ) →
-    (◌≡◌ {A = Option ℕ} None (Some cost)) ↔ IntraAreaCost net n p u cost
-no_intra_cost net n p u none cost = (λ is. absurd (none-some cost is), λ costs. absurd (none cost costs))
-
-pub no_intra_part : (net : Network) (d : Destination) (n u : ℕ) → IsDestination net d → (HasAreaPart d.parts.items n → ⊥) → (cost : ℕ) →
-    IntraAreaCost net n d.dest u cost → ⊥
-no_intra_part net d n u is none cost costs = none (is.every n costs.best.at costs.best.attained.asks costs.best.attained.offered)
 
 pub no_intra_anywhere : (net : Network) (d : Destination) (given : List AreaOffers) (u : ℕ) → IsDestination net d → given ≡ d.parts.items →
     All (λ (part : AreaOffers). (c : ℕ) → IntraAreaCost net part.area d.dest u c → ⊥) given → IsIntraArea net d.dest u → ⊥
@@ -124,14 +112,25 @@ no_intra_anywhere net d given u is same none intra =
 
 pub no_intra_given : (net : Network) (d : Destination) (given : List AreaOffers) (n u : ℕ) → IsDestination net d → given ≡ d.parts.items →
     (HasAreaPart given n → ⊥) → (cost : ℕ) → IntraAreaCost net n d.dest u cost → ⊥
-no_intra_given net d given n u is same none = no_intra_part net d n u is (subst (λ (l : List AreaOffers). HasAreaPart l n → ⊥) same none)
+no_intra_given net d given n u is same none cost costs =
+    let best = costs.best in
+    none (subst (λ (l : List AreaOffers). HasAreaPart l n) (sym same) (is.every n best.at best.attained.asks best.attained.offered))
 
-pub part_is : (net : Network) (d : Destination) (given : List AreaOffers) (part : AreaOffers) (n : ℕ) → IsDestination net d → given ≡ d.parts.items →
-    Contains given part → part.area ≡ n → AreOffers (OffersSubnet net n d.dest) part.offers.items
-part_is net d given part n is same among area =
-    subst (λ (m : ℕ). AreOffers (OffersSubnet net m d.dest) part.offers.items) area
-    (All-contains (λ (x : AreaOffers). AreOffers (OffersSubnet net x.area d.dest) x.offers.items) d.parts.items part is.exact
-    (subst (λ (l : List AreaOffers). Contains l part) same among))
+pub part_is : (net : Network) (d : Destination) (part : AreaOffers) → IsDestination net d → Contains d.parts.items part →
+    AreOffers (OffersSubnet net part.area d.dest) part.offers.items
+part_is net d part is among =
+    All-contains (λ (x : AreaOffers). AreOffers (OffersSubnet net x.area d.dest) x.offers.items) d.parts.items part is.exact among
+
+pub part_place : (net : Network) (areas : List AreaWalks) (d : Destination) (part : AreaOffers) → IsDestinationIn net areas d → Contains d.parts.items part →
+    IsAreaAt areas part.area part.zone
+part_place net areas d part is among = All-contains (λ (x : AreaOffers). IsAreaAt areas x.area x.zone) d.parts.items part is.placed among
+
+-- what a part offers is in range over the walks in its area
+pub part_in_range : (net : Network) (areas : List AreaWalks) (d : Destination) (part : AreaOffers) (u : ℕ) (reach : Reach) → IsNetwork net →
+    IsDestinationIn net areas d → Contains d.parts.items part → IsReach net part.area u reach → AreInRange reach part.offers.items
+part_in_range net areas d part u reach network is among reach_is =
+    in_range reach (OffersSubnet net part.area d.dest) part.offers.items part.offers.items reach_is.near (part_is net d part is.is among) refl
+    (λ at asks offers. let small : asks < 2 ^ 24 = subnet_is_small net part.area d.dest at asks network offers in omega arith)
 
 -- a router that reaches an offer of an area is in the area
 pub reaches_inside : (net : Network) (n : ℕ) (p : Block) (u cost : ℕ) → BestCost (Adjacent net (Area n)) (OffersSubnet net n p) u cost → InArea net u n

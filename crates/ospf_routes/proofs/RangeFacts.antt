@@ -1,5 +1,5 @@
 -- Components and active ranges.
-use Rattle.std.proofs.Common.{◌≡◌, ℕ, ◌+◌, ◌<◌, ◌↔◌, inl, inr, ⊎_elim, List, [], ◌∷◌, ◌++◌, length, get_or, Option, Some, None, MatchOption, Bool, true}
+use Rattle.std.proofs.Common.{◌≡◌, ℕ, ◌+◌, ◌<◌, ◌↔◌, inl, inr, ⊎_elim, List, [], ◌∷◌, ◌++◌, length, get_or, Option, Some, None, MatchOption, true}
 use Rattle.std.proofs.Common.{false, refl, sym, ap, subst, ◌∙◌, arith, length-append}
 use Rattle.std.specs.List.{Contains, Any, All}
 use Rattle.std.proofs.lemmas.Bool.{cases_lt, false≢true}
@@ -11,7 +11,7 @@ use Rattle.net_addr.specs.Addresses.{Block, Covers}
 use Rattle.net_model.proofs.Adjacency.{HasConfiguration-unique}
 use Rattle.net_model.proofs.Members.{Contains-map}
 use Rattle.net_model.specs.Configuration.{Configuration}
-use Rattle.net_model.specs.Network.{Network, HasConfiguration, IsBorderRouter}
+use Rattle.net_model.specs.Network.{Network, HasConfiguration}
 use Rattle.net_model.specs.declared.area.Range.{Range}
 use Rattle.igp_theory.specs.Ospf.{IntraAreaCost, HasRange, IsComponent, IsActive, IsActiveRange, IsCompatible, RangeCost, stated, least, greatest}
 use Rattle.ospf_routes.specs.steps.Candidates.{IsOspfCandidate, subnet}
@@ -30,11 +30,6 @@ pub range_among : (net : Network) (b : ℕ) (config : Configuration) (given : Li
 range_among net b config given r router are has =
     subst (λ (l : List Range). Contains l r) (sym are)
     (subst (λ (c : Configuration). Contains c.ranges r) (HasConfiguration-unique net b has.config config has.router router) has.among)
-
-pub range_at : (net : Network) (b : ℕ) (config : Configuration) (given : List Range) (r : Range) → IsBorderRouter net b → HasConfiguration net b config →
-    given ≡ config.ranges → Contains given r → HasRange net b r
-range_at net b config given r border router are among =
-    record { border = border; config = config; router = router; among = subst (λ (l : List Range). Contains l r) are among }
 
 pub component_is : (net : Network) (b : ℕ) (config : Configuration) (given : List Range) (r : Range) (p : Block) (cost : ℕ) → HasRange net b r →
     HasConfiguration net b config → given ≡ config.ranges →
@@ -118,10 +113,6 @@ range_cost_unique net b r c d (greatest _ _ p one upper) (greatest _ _ q other a
 range_cost_unique net b r c d (least _ old _ _ _) (greatest _ new _ _ _) = absurd (compatible_one net b old new)
 range_cost_unique net b r c d (greatest _ new _ _ _) (least _ old _ _ _) = absurd (compatible_one net b old new)
 
-compatible_says : (net : Network) (b : ℕ) (config : Configuration) (says : Bool) → HasConfiguration net b config → config.rfc1583 ≡ says →
-    IsCompatible net b says
-compatible_says net b config says router is = record { config = config; router = router; says = is }
-
 -- what is picked from the costs of the components is the range's cost
 pub range_cost_is : (net : Network) (b : ℕ) (config : Configuration) (r : Range) (costs given : List ℕ) (cost : ℕ) → HasConfiguration net b config →
     Exactly (HasComponentCost net b r) costs → given ≡ costs →
@@ -138,11 +129,11 @@ range_cost_is net b config r costs given cost router are same picked = go picked
         stated is (record { dest = has.dest; cost = c; component = has.component })
     go (IsPicked.least unsaid old is) =
         let has : HasComponentCost net b r cost = (listed cost).0 is.among in
-        least unsaid (compatible_says net b config true router old) has.dest has.component
+        least unsaid (record { config = config; router = router; says = old }) has.dest has.component
         (λ q other component. is.least other ((listed other).1 (record { dest = q; component = component })))
     go (IsPicked.greatest unsaid new is) =
         let has : HasComponentCost net b r cost = (listed cost).0 is.among in
-        greatest unsaid (compatible_says net b config false router new) has.dest has.component
+        greatest unsaid (record { config = config; router = router; says = new }) has.dest has.component
         (λ q other component. is.greatest other ((listed other).1 (record { dest = q; component = component })))
 
 -- without components the range isn't active
@@ -181,9 +172,6 @@ actives_more net b front r old new (Some x) before is adds = record {
       (Contains-push_cases front r s has);
 }
 
-active_same : (a x : ActiveRange) → x.range ≡ a.range → x.cost ≡ a.cost → x ≡ a
-active_same a x e f = λ i. record { range = e i; cost = f i }
-
 pub actives_all : (net : Network) (b : ℕ) (config : Configuration) (given : List Range) (actives : List ActiveRange) → HasConfiguration net b config →
     given ≡ config.ranges → ActivesSoFar net b given actives → AreActiveRanges net b actives
 actives_all net b config given actives router are so_far = record {
@@ -195,7 +183,8 @@ actives_all net b config given actives router are so_far = record {
         let here : RangeCost net b h.active.range h.active.cost = so_far.exact h.active h.among in
         let same : h.active.cost ≡ a.cost = range_cost_unique net b a.range h.active.cost a.cost
         (subst (λ (r : Range). RangeCost net b r h.active.cost) h.range here) costs in
-        subst (λ (x : ActiveRange). Contains actives x) (active_same a h.active h.range same) h.among,
+        let one : h.active ≡ a = λ i. record { range = h.range i; cost = same i } in
+        subst (λ (x : ActiveRange). Contains actives x) one h.among,
   );
   every = every;
 }

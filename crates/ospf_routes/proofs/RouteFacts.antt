@@ -1,26 +1,27 @@
 -- The routes of a router within and between areas.
-use Rattle.std.proofs.Common.{◌≡◌, ℕ, ◌+◌, ◌<◌, ◌≤◌, ◌↔◌, ◌⊎◌, inl, inr, ⊎_elim, List, [], ◌∷◌, ◌++◌, length, take, get_or, Option, Some, None, MatchOption}
+use Rattle.std.proofs.Common.{◌≡◌, ℕ, ◌+◌, ◌<◌, ◌≤◌, ◌↔◌, ◌⊎◌, inl, inr, ⊎_elim, List, [], ◌∷◌, ◌++◌, length, map, take, get_or, Option, Some, None, MatchOption}
 use Rattle.std.proofs.Common.{refl, sym, ap, subst, ◌∙◌, arith}
 use Rattle.std.specs.List.{Contains, Any}
 use Rattle.std.specs.List.Sorted.{IsStrictlyIncreasing}
 use Rattle.std.proofs.lemmas.Option.{none-some, same_Some}
 use Rattle.std.proofs.lemmas.List.{take_all}
 use Rattle.std.proofs.lemmas.List.Quantifiers.{Any-push}
-use Rattle.std.proofs.lemmas.List.Elements.{All-contains, Contains-get_or, Contains-push_cases}
+use Rattle.std.proofs.lemmas.List.Elements.{Contains-get_or, Contains-push_cases}
 use Rattle.net_addr.specs.Addresses.{Block}
+use Rattle.net_model.proofs.Members.{Contains-in_map, Contains-map}
 use Rattle.net_model.proofs.NetworkFacts.{Adjacent-to_within}
 use Rattle.net_model.specs.Network.{Network, Adjacent, InArea}
 use Rattle.net_model.specs.declared.zone.Zone.TheVariants.{Area}
 use Rattle.walk_core.specs.Walks.{Arcs}
-use Rattle.walk_core.specs.Offers.{Offers, OfferCosts, BestCost, BestHop}
+use Rattle.walk_core.specs.Offers.{Offers, BestCost, BestHop}
 use Rattle.walk_core.specs.Reach.{Reach}
 use Rattle.walk_core.specs.BestOffers.{NoneTotals}
 use Rattle.walk_core.specs.declared.offers.Offer.{Offer}
 use Rattle.walk_core.proofs.OfferLaws.{best_total_is_best_cost, none_totals_no_best}
 use Rattle.walk_core.proofs.WalkLaws.{best_hop_is_arc}
-use Rattle.igp_theory.specs.Ospf.{OffersSubnet, IntraAreaCost, IntraAreaHop, IsActiveRange, IsIntraArea, ListensTo, backbone, one_area, OfOthers, Summary, InterAreaHop}
+use Rattle.igp_theory.specs.Ospf.{OffersSubnet, IntraAreaCost, IntraAreaHop, IsActiveRange, IsIntraArea, ListensTo, OfOthers, Summary, InterAreaHop}
 use Rattle.igp_theory.proofs.TableLaws.{listens_to_one_area}
-use Rattle.ospf_routes.specs.steps.Areas.{AreAreas, HasArea, IsReach}
+use Rattle.ospf_routes.specs.steps.Areas.{HasArea, IsAreaAt, IsReach}
 use Rattle.ospf_routes.specs.steps.Offered.{AreOffers}
 use Rattle.ospf_routes.specs.Lists.{Adds}
 use Rattle.route_tables.proofs.BestRoutes.{best_hops_are, hops_same}
@@ -28,14 +29,15 @@ use Rattle.route_tables.specs.BestRoutes.{AreBestHops}
 use Rattle.ospf_routes.specs.steps.Routing.{AreUnited, AreSomeUnited, IsAreaRoute, AreAreaRoutes, IsIntraRoute, ListenedCost, IsListenedRoute}
 use Rattle.ospf_routes.specs.steps.Destinations.{HasAreaPart, IsDestination}
 use Rattle.ospf_routes.specs.declared.intra_area.Destination.{Destination}
-use Rattle.ospf_routes.specs.steps.Summarized.{AreSummaries, IsHeard, IsSummaryOf}
+use Rattle.ospf_routes.specs.steps.Summarized.{AreOfAreas, AreSummaries, IsHeard, IsSummaryOf}
 use Rattle.ospf_routes.specs.declared.areas.AreaWalks.{AreaWalks}
 use Rattle.ospf_routes.specs.declared.intra_area.AreaOffers.{AreaOffers}
 use Rattle.ospf_routes.specs.declared.announcements.Summaries.{Summaries}
 use Rattle.ospf_routes.proofs.CostBounds.{lists_from}
 use Rattle.ospf_routes.proofs.IntraFacts.{reaches_inside}
-use Rattle.ospf_routes.proofs.SummaryFacts.{listened_cost, listened_hop, reached_inside}
-use Rattle.route_tables.proofs.ListFacts.{any_of, any_in, any_left, any_cases, one_more}
+use Rattle.ospf_routes.proofs.SummaryFacts.{listened_cost, listened_hop}
+use Rattle.route_tables.proofs.ListFacts.{all_at, any_of, any_in, any_left, any_cases, one_more}
+use Rattle.ospf_routes.proofs.DestinationFacts.{as_many, same_key}
 
 -- Within an area
 
@@ -64,9 +66,6 @@ area_route_is net n p u reach offers given reach_is are same count is (Some hops
 pub record AreaListsSoFar (net : Network) (p : Block) (u : ℕ) (front : List AreaOffers) (lists : List (List ℕ)) : Type 0 where
   pub each : (hops : List ℕ) → Contains lists hops → (n : ℕ) × IsAreaRoute net n p u hops
   pub every : (n cost : ℕ) → HasAreaPart front n → IntraAreaCost net n p u cost → (hops : List ℕ) × Contains lists hops × IsAreaRoute net n p u hops
-
-pub area_lists_none : (net : Network) (p : Block) (u : ℕ) → AreaListsSoFar net p u [] []
-area_lists_none net p u = record { each = λ hops has. absurd (omega (arith, has.1)); every = λ n cost has costs. absurd (omega (arith, has.among.1)) }
 
 part_cases : (front : List AreaOffers) (a : AreaOffers) (n : ℕ) → HasAreaPart (front ++ a ∷ []) n → HasAreaPart front n ⊎ (a.area ≡ n)
 part_cases front a n has = ⊎_elim
@@ -228,38 +227,27 @@ listened_route_is net n p u reach offers given no_intra no_range listens is are 
 
 -- The announcements into an area
 
-pub summary_part_is : (net : Network) (areas : List AreaWalks) (s : Summaries) (given : List AreaOffers) (part : AreaOffers) (n : ℕ) →
-    AreSummaries net areas s → given ≡ s.parts.items → Contains given part → part.area ≡ n → AreOffers (IsHeard net s.dest n) part.offers.items
-summary_part_is net areas s given part n are same among area =
-    subst (λ (m : ℕ). AreOffers (IsHeard net s.dest m) part.offers.items) area
-    (All-contains (IsSummaryOf net s.dest) s.parts.items part are.exact (subst (λ (l : List AreaOffers). Contains l part) same among))
+-- the part at the place of an area
+pub part_within : (areas : List AreaWalks) (parts : List AreaOffers) (n zone : ℕ) → AreOfAreas areas parts → IsAreaAt areas n zone → zone < length parts
+part_within areas parts n zone placed at =
+    let many : length parts ≡ length areas = as_many (λ (x : AreaOffers). x.area) (λ (x : AreaWalks). x.number) parts areas placed in
+    omega (arith, at.within)
 
--- the area that a router listens to is there
-pub listened_area : (net : Network) (areas : List AreaWalks) (n u : ℕ) → AreAreas net areas → ListensTo net u n → HasArea areas n
-listened_area net areas _ u are (backbone border) = are.backbone
-listened_area net areas n u are (one_area _ inside) = are.every u n inside
+-- is of that area
+part_number : (areas : List AreaWalks) (parts : List AreaOffers) (n zone : ℕ) (part : AreaOffers) → AreOfAreas areas parts → IsAreaAt areas n zone →
+    part ≡ get_or parts zone part → part.area ≡ n
+part_number areas parts n zone part placed at is =
+    same_key (λ (x : AreaOffers). x.area) (λ (x : AreaWalks). x.number) parts areas zone part at.area placed at.within is at.here ∙ at.number
 
--- what another router announces and is reached is heard
-heard_of : (net : Network) (p : Block) (n u at c : ℕ) → (costs : OfferCosts (Adjacent net (Area n)) (OfOthers (Summary net p n) u) u at c) →
-    IsHeard net p n at costs.asks
-heard_of net p n u at c costs = record {
-  inside = reached_inside net n u at costs.walk costs.reached costs.offered.other;
-  summary = costs.offered.offered;
-}
+pub announced_part : (areas : List AreaWalks) (parts : List AreaOffers) (n : ℕ) → AreOfAreas areas parts → HasArea areas n → HasAreaPart parts n
+announced_part areas parts n placed has =
+    let number : AreaWalks → ℕ = λ a. a.number in
+    let named : Contains (map number areas) n = subst (Contains (map number areas)) has.number (Contains-in_map number areas has.area has.among) in
+    let part = Contains-map (λ (x : AreaOffers). x.area) parts n (subst (λ (l : List ℕ). Contains l n) (sym placed) named) in
+    record { part = part.item; among = part.among; area = part.gives }
 
-pub summary_part_there : (net : Network) (areas : List AreaWalks) (s : Summaries) (given : List AreaOffers) (n u : ℕ) → AreAreas net areas →
-    AreSummaries net areas s → given ≡ s.parts.items → ListensTo net u n →
-    (HasAreaPart given n → ⊥) → (cost : ℕ) → ListenedCost net s.dest u cost → ⊥
-summary_part_there net areas s given n u are summaries same listens none cost costs =
-    let best : BestCost (Adjacent net (Area n)) (OfOthers (Summary net s.dest n) u) u cost =
-    subst (λ (m : ℕ). BestCost (Adjacent net (Area m)) (OfOthers (Summary net s.dest m) u) u cost) (listens_to_one_area costs.listens listens) costs.best in
-    none (subst (λ (l : List AreaOffers). HasAreaPart l n) (sym same)
-    (summaries.every n best.at best.attained.asks (listened_area net areas n u are listens) (heard_of net s.dest n u best.at cost best.attained)))
-
--- without announcements nothing is listened to
-pub no_summaries : (net : Network) (areas : List AreaWalks) (s : Summaries) (u : ℕ) → AreAreas net areas → AreSummaries net areas s →
-    length s.parts.items ≡ 0 → (cost : ℕ) → ListenedCost net s.dest u cost → ⊥
-no_summaries net areas s u are summaries empty cost costs =
-    let has = summaries.every costs.area costs.best.at costs.best.attained.asks (listened_area net areas costs.area u are costs.listens)
-    (heard_of net s.dest costs.area u costs.best.at cost costs.best.attained) in
-    omega (arith, empty, has.among.1)
+pub summary_part_is : (net : Network) (areas : List AreaWalks) (s : Summaries) (part : AreaOffers) (n zone : ℕ) → AreSummaries net areas s →
+    part ≡ get_or s.parts.items zone part → IsAreaAt areas n zone → AreOffers (IsHeard net s.dest n) part.offers.items
+summary_part_is net areas s part n zone are is at =
+    subst (λ (m : ℕ). AreOffers (IsHeard net s.dest m) part.offers.items) (part_number areas s.parts.items n zone part are.placed at is)
+    (all_at (IsSummaryOf net s.dest) s.parts.items zone part are.exact (part_within areas s.parts.items n zone are.placed at) is)

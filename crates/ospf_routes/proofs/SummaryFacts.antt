@@ -6,7 +6,7 @@ use Rattle.std.proofs.lemmas.Option.{none-some, same_Some}
 use Rattle.std.proofs.lemmas.List.Elements.{Contains-get_or}
 use Rattle.net_addr.specs.Addresses.{Block, default_prefix}
 use Rattle.net_model.proofs.Adjacency.{HasConfiguration-unique}
-use Rattle.net_model.proofs.NetworkFacts.{Adjacent-in_area, InArea-within}
+use Rattle.net_model.proofs.NetworkFacts.{Adjacent-in_area}
 use Rattle.net_model.specs.Configuration.{Configuration}
 use Rattle.net_model.specs.Network.{Network, HasConfiguration, InArea, IsBorderRouter, Adjacent}
 use Rattle.net_model.specs.declared.area.Stub.{Stub}
@@ -25,23 +25,25 @@ use Rattle.ospf_routes.specs.Lists.{Exactly, Adds}
 use Rattle.ospf_routes.specs.steps.Offered.{AreOffers, OutsideOf}
 use Rattle.ospf_routes.specs.steps.Ranges.{IsComponentOfSome, AreActiveRanges}
 use Rattle.ospf_routes.specs.steps.Summarized.{IsSubnetSummary, SummarizedSubnet, IsRangeRoute, SummarizedRange, SummarizedFrom, AreSummarized, OutsideSummary}
-use Rattle.ospf_routes.specs.steps.Summarized.{Announces, IsBorderOffer, IsAllowed, IsHeard, IsAlone, IsDefault, RouterDefault, HasDefault}
+use Rattle.ospf_routes.specs.steps.Summarized.{Announces, IsBackboneRoute, IsBorderRoute, IsHeard, IsOutgoing, IsAlone, IsDefault, RouterDefault, HasDefault}
 use Rattle.ospf_routes.specs.declared.intra_area.AreaOffers.{AreaOffers}
 use Rattle.ospf_routes.specs.declared.intra_area.Destination.{Destination}
 use Rattle.ospf_routes.specs.declared.ranges.ActiveRange.{ActiveRange}
 use Rattle.ospf_routes.specs.declared.area_route.AreaRoute.{AreaRoute}
-use Rattle.route_tables.proofs.ListFacts.{AnyBelow, any_of, any_in, exactly_same, exactly_added, adds_nothing, adds_same, adds_both}
+use Rattle.route_tables.proofs.ListFacts.{AnyBelow, iff_then, any_of, any_in, exactly_same, exactly_added, adds_same, adds_both}
 use Rattle.route_tables.proofs.BestRoutes.{best_cost_is}
+use Rattle.ospf_routes.proofs.BorderLists.{border_is_router}
 use Rattle.ospf_routes.proofs.CostBounds.{lists_from}
 use Rattle.ospf_routes.proofs.RangeFacts.{range_cost_active}
 
 -- What one router summarizes
 
-pub subnet_summary_some : (net : Network) (p : Block) (n b asks : ℕ) → IntraAreaCost net n p b asks → (r : AreaRoute) →
+pub subnet_summary_some : (net : Network) (p : Block) (n b asks : ℕ) → IntraAreaCost net n p b asks → (IsComponentOfSome net b p → ⊥) → (r : AreaRoute) →
     (Some (record { area = n; at = b; asks = asks }) ≡ Some r) ↔ IsSubnetSummary net p n b r
-subnet_summary_some net p n b asks costs r =
+subnet_summary_some net p n b asks costs alone r =
     let one : AreaRoute = record { area = n; at = b; asks = asks } in (
-      λ same. subst (λ (x : AreaRoute). IsSubnetSummary net p n b x) (same_Some one r same) (record { area = refl; at = refl; costs = costs }),
+      λ same. subst (λ (x : AreaRoute). IsSubnetSummary net p n b x) (same_Some one r same)
+          (record { area = refl; at = refl; costs = costs; alone = alone }),
       λ is. ap Some (same_route is),
     )
   where
@@ -50,31 +52,29 @@ subnet_summary_some net p n b asks costs r =
         let e : asks ≡ r.asks = best_cost_unique costs.best is.costs.best in
         λ i. record { area = (sym is.area) i; at = (sym is.at) i; asks = e i }
 
-pub subnet_summary_none : (net : Network) (p : Block) (n b : ℕ) → ((cost : ℕ) → (◌≡◌ {A = Option ℕ} None (Some cost)) ↔ IntraAreaCost net n p b cost) →
-    (r : AreaRoute) → (◌≡◌ {A = Option AreaRoute} None (Some r)) ↔ IsSubnetSummary net p n b r
-subnet_summary_none net p n b none r = (λ no. absurd (none-some r no), λ is. absurd (none-some r.asks ((none r.asks).1 is.costs)))
-
-pub subnets_nothing : (net : Network) (p : Block) (b : ℕ) (old : List AreaRoute) → IsComponentOfSome net b p → Adds old old (SummarizedSubnet net p b)
-subnets_nothing net p b old is = adds_nothing old (SummarizedSubnet net p b) (λ r s. s.alone is.range is.cost is.component)
-
 pub subnets_are : (net : Network) (d : Destination) (given : List AreaOffers) (b : ℕ) → IsDestination net d → given ≡ d.parts.items →
-    IsBorderRouter net b → (IsComponentOfSome net b d.dest → ⊥) → (r : AreaRoute) →
+    IsBorderRouter net b → (r : AreaRoute) →
     Any (λ (part : AreaOffers). IsSubnetSummary net d.dest part.area b r) given ↔ SummarizedSubnet net d.dest b r
-subnets_are net d given b is same border alone r = (
+subnets_are net d given b is same border r = (
   λ any.
       let f = any_in (λ (part : AreaOffers). IsSubnetSummary net d.dest part.area b r) given any in
       record {
         at = f.holds.at;
         border = border;
         costs = subst (λ (n : ℕ). IntraAreaCost net n d.dest b r.asks) (sym f.holds.area) f.holds.costs;
-        alone = λ range c component. alone (record { range = range; cost = c; component = component });
+        alone = λ range c component. f.holds.alone (record { range = range; cost = c; component = component });
       },
   λ s.
       let best = s.costs.best in
       let has = is.every r.area best.at best.attained.asks best.attained.offered in
       any_of (λ (part : AreaOffers). IsSubnetSummary net d.dest part.area b r) given has.part
       (subst (λ (l : List AreaOffers). Contains l has.part) (sym same) has.among)
-      (record { area = sym has.area; at = s.at; costs = subst (λ (n : ℕ). IntraAreaCost net n d.dest b r.asks) (sym has.area) s.costs }),
+      (record {
+        area = sym has.area;
+        at = s.at;
+        costs = subst (λ (n : ℕ). IntraAreaCost net n d.dest b r.asks) (sym has.area) s.costs;
+        alone = λ one. s.alone one.range one.cost one.component;
+      }),
 )
 
 pub ranges_are : (net : Network) (p : Block) (b : ℕ) (actives given : List ActiveRange) → AreActiveRanges net b actives → given ≡ actives → (r : AreaRoute) →
@@ -111,12 +111,6 @@ pub summarized_at : (net : Network) (p : Block) (b : ℕ) (r : AreaRoute) → Su
 summarized_at net p b r (SummarizedFrom.of_subnet s) = (s.at, s.border)
 summarized_at net p b r (SummarizedFrom.of_range s) = (s.at, s.has.border)
 
-border_within : (net : Network) (b : ℕ) → IsBorderRouter net b → b < length net
-border_within net b border = InArea-within net b border.one border.in_one
-
-pub summarized_back : (net : Network) (p : Block) (b : ℕ) (r : AreaRoute) → SummarizedFrom net p b r → SummarizedFrom net p r.at r
-summarized_back net p b r from = subst (λ (k : ℕ). SummarizedFrom net p k r) (sym (summarized_at net p b r from).0) from
-
 -- What goes out of the other areas
 
 outside_of : (net : Network) (n : ℕ) (p : Block) (r : AreaRoute) → r.area ≢ n → SummarizedFrom net p r.at r → OutsideSummary net n p r.at r.asks
@@ -142,23 +136,42 @@ outgoing_of net n p b cost (OutsideSummary.of_range s) =
           (record { at = refl; range = s.range; has = s.has; dest = s.dest; area = refl; advertised = s.advertised; costs = s.costs });
     }
 
-pub outside_are : (net : Network) (n : ℕ) (p : Block) (routes given : List AreaRoute) (offers : List Offer) → AreSummarized net p routes → given ≡ routes →
-    Exactly (λ (o : Offer). Any (λ (r : AreaRoute). OutsideOf n r o) given) offers →
-    AreOffers (OutsideSummary net n p) offers
-outside_are net n p routes given offers are same listed =
-    exactly_same offers (λ (o : Offer). Any (λ (r : AreaRoute). OutsideOf n r o) given) (λ (o : Offer). OutsideSummary net n p o.at o.asks) listed
-    (λ o. (
-      λ any.
-          let f = any_in (λ (r : AreaRoute). OutsideOf n r o) given any in
-          let from : SummarizedFrom net p f.item.at f.item = (are f.item).0 (subst (λ (l : List AreaRoute). Contains l f.item) same f.among) in
-          subst (λ (c : ℕ). OutsideSummary net n p o.at c) (sym f.holds.asks)
-          (subst (λ (b : ℕ). OutsideSummary net n p b f.item.asks) (sym f.holds.at) (outside_of net n p f.item f.holds.other from)),
-      λ out.
-          let going = outgoing_of net n p o.at o.asks out in
-          let r : AreaRoute = record { area = going.area; at = o.at; asks = o.asks } in
-          any_of (λ (x : AreaRoute). OutsideOf n x o) given r (subst (λ (l : List AreaRoute). Contains l r) (sym same) ((are r).1 going.from))
-          (record { other = going.other; at = refl; asks = refl }),
-    ))
+outside_is : (net : Network) (n : ℕ) (p : Block) (routes : List AreaRoute) → AreSummarized net p routes → (o : Offer) →
+    Any (λ (r : AreaRoute). OutsideOf n r o) routes ↔ OutsideSummary net n p o.at o.asks
+outside_is net n p routes are o = (
+  λ any.
+      let f = any_in (λ (r : AreaRoute). OutsideOf n r o) routes any in
+      subst (λ (c : ℕ). OutsideSummary net n p o.at c) (sym f.holds.asks)
+      (subst (λ (b : ℕ). OutsideSummary net n p b f.item.asks) (sym f.holds.at) (outside_of net n p f.item f.holds.other ((are f.item).0 f.among))),
+  λ out.
+      let going = outgoing_of net n p o.at o.asks out in
+      let r : AreaRoute = record { area = going.area; at = o.at; asks = o.asks } in
+      any_of (λ (x : AreaRoute). OutsideOf n x o) routes r ((are r).1 going.from) (record { other = going.other; at = refl; asks = refl }),
+)
+
+reached_is : (net : Network) (n : ℕ) (p : Block) (borders : List AreaRoute) → n ≢ 0 → Exactly (IsBackboneRoute net p) borders → (o : Offer) →
+    Any (λ (r : AreaRoute). OutsideOf n r o) borders ↔ BorderCost net p o.at o.asks
+reached_is net n p borders apart are o = (
+  λ any.
+      let f = any_in (λ (r : AreaRoute). OutsideOf n r o) borders any in
+      subst (λ (c : ℕ). BorderCost net p o.at c) (sym f.holds.asks)
+      (subst (λ (b : ℕ). BorderCost net p b f.item.asks) (sym f.holds.at) ((are f.item).0 f.among).costs),
+  λ costs.
+      let r : AreaRoute = record { area = 0; at = o.at; asks = o.asks } in
+      any_of (λ (x : AreaRoute). OutsideOf n x o) borders r ((are r).1 (record { area = refl; costs = costs }))
+      (record { other = λ same. apart (sym same); at = refl; asks = refl }),
+)
+
+outgoing_is : (net : Network) (n : ℕ) (routes : List AreaRoute) (o : Offer) (Out : Type 0) → Any (λ (r : AreaRoute). OutsideOf n r o) routes ↔ Out →
+    Any (IsOutgoing net n o) routes ↔ (Announces net n o.at × Out)
+outgoing_is net n routes o Out out = (
+  λ any.
+      let f = any_in (IsOutgoing net n o) routes any in
+      (f.holds.announces, out.0 (any_of (λ (r : AreaRoute). OutsideOf n r o) routes f.item f.among f.holds.outside)),
+  λ both.
+      let f = any_in (λ (r : AreaRoute). OutsideOf n r o) routes (out.1 both.1) in
+      any_of (IsOutgoing net n o) routes f.item f.among (record { outside = f.holds; announces = both.0 }),
+)
 
 -- into the backbone there goes nothing else
 pub backbone_is : (net : Network) (p : Block) (b cost : ℕ) → OutsideSummary net 0 p b cost ↔ BackboneSummary net p b cost
@@ -172,11 +185,13 @@ backbone_is net p b cost = (there, back)
     back (BackboneSummary.of_subnet s) = OutsideSummary.of_subnet s
     back (BackboneSummary.of_range s) = OutsideSummary.of_range s
 
-pub backbone_are : (net : Network) (p : Block) (offers given : List Offer) → AreOffers (OutsideSummary net 0 p) offers → given ≡ offers →
-    AreOffers (BackboneSummary net p) given
-backbone_are net p offers given are same =
-    exactly_same given (λ (o : Offer). OutsideSummary net 0 p o.at o.asks) (λ (o : Offer). BackboneSummary net p o.at o.asks)
-    (subst (λ (l : List Offer). AreOffers (OutsideSummary net 0 p) l) (sym same) are) (λ o. backbone_is net p o.at o.asks)
+-- the routes of other areas than the backbone, as offers
+pub backbone_are : (net : Network) (p : Block) (routes given : List AreaRoute) (offers other : List Offer) → AreSummarized net p routes → given ≡ routes →
+    Exactly (λ (o : Offer). Any (λ (r : AreaRoute). OutsideOf 0 r o) given) offers → other ≡ offers → AreOffers (BackboneSummary net p) other
+backbone_are net p routes given offers other are same listed also =
+    exactly_same other (λ (o : Offer). Any (λ (r : AreaRoute). OutsideOf 0 r o) given) (λ (o : Offer). BackboneSummary net p o.at o.asks)
+    (subst (Exactly (λ (o : Offer). Any (λ (r : AreaRoute). OutsideOf 0 r o) given)) (sym also) listed)
+    (λ o. iff_then (outside_is net 0 p given (subst (AreSummarized net p) (sym same) are) o) (backbone_is net p o.at o.asks))
 
 backbone_summary : (net : Network) (p : Block) (n b cost : ℕ) → n ≡ 0 → OutsideSummary net n p b cost ↔ Summary net p n b cost
 backbone_summary net p n b cost zero =
@@ -225,7 +240,7 @@ all_of_others offer u own at asks = (
 )
 
 -- another router that is reached in an area is in it
-pub reached_inside : (net : Network) (n u at d : ℕ) → LeastCost (Adjacent net (Area n)) u at d → at ≢ u → InArea net at n
+reached_inside : (net : Network) (n u at d : ℕ) → LeastCost (Adjacent net (Area n)) u at d → at ≢ u → InArea net at n
 reached_inside net n u at d reached apart = start reached.legs reached.walk.leads
   where
     ends : (legs : List Leg) (v : ℕ) → InArea net v n → Walks (Adjacent net (Area n)) v legs at → InArea net at n
@@ -315,72 +330,51 @@ border_cost_is net p u reach given border is are found best cost =
       λ is. record { border = border; no_intra = is.1; no_range = is.2; best = (others is.1 is.2).1 (listed.0 is.0) },
     )
 
--- the offer of border router u
-abbrev pub BorderOfRouter : Network → Block → ℕ → Offer → Type 0
-BorderOfRouter net p u o = (o.at ≡ u) × BorderCost net p o.at o.asks
+-- the route of border router u
+abbrev pub BorderOfRouter : Network → Block → ℕ → AreaRoute → Type 0
+BorderOfRouter net p u r = (r.at ≡ u) × IsBackboneRoute net p r
 
-pub border_of_router : (net : Network) (p : Block) (u : ℕ) (cost : Option ℕ) (one : Option Offer) → ((c : ℕ) → (cost ≡ Some c) ↔ BorderCost net p u c) →
-    ((o : Offer) → (one ≡ Some o) ↔ IsBorderOffer u cost o) →
-    (o : Offer) → (one ≡ Some o) ↔ BorderOfRouter net p u o
-border_of_router net p u cost one costs offers o = (
+pub border_of_router : (net : Network) (p : Block) (u : ℕ) (cost : Option ℕ) (one : Option AreaRoute) →
+    ((c : ℕ) → (cost ≡ Some c) ↔ BorderCost net p u c) → ((r : AreaRoute) → (one ≡ Some r) ↔ IsBorderRoute u cost r) →
+    (r : AreaRoute) → (one ≡ Some r) ↔ BorderOfRouter net p u r
+border_of_router net p u cost one costs routes r = (
   λ same.
-      let is = (offers o).0 same in
-      (is.at, subst (λ (k : ℕ). BorderCost net p k o.asks) (sym is.at) ((costs o.asks).0 is.costs)),
-  λ both. (offers o).1 (record { at = both.0; costs = (costs o.asks).1 (subst (λ (k : ℕ). BorderCost net p k o.asks) both.0 both.1) }),
+      let is = (routes r).0 same in
+      (is.at, record { area = is.area; costs = subst (λ (k : ℕ). BorderCost net p k r.asks) (sym is.at) ((costs r.asks).0 is.costs) }),
+  λ both.
+      let here = subst (λ (k : ℕ). BorderCost net p k r.asks) both.0 both.1.costs in
+      (routes r).1 (record { area = both.1.area; at = both.0; costs = (costs r.asks).1 here }),
 )
 
 -- Into an area other than the backbone
 
-pub outside_routers : (net : Network) (n : ℕ) (p : Block) (offers given : List Offer) → AreOffers (OutsideSummary net n p) offers → given ≡ offers →
-    All (λ (o : Offer). o.at < length net) given
-outside_routers net n p offers given are same k d within =
-    let o : Offer = get_or given k d in
-    let out : OutsideSummary net n p o.at o.asks = (subst (λ (l : List Offer). AreOffers (OutsideSummary net n p) l) (sym same) are o).0
-    (Contains-get_or given k d within) in
-    border_within net o.at (border_of out)
-  where
-    border_of : {b c : ℕ} → OutsideSummary net n p b c → IsBorderRouter net b
-    border_of (OutsideSummary.of_subnet s) = s.border
-    border_of (OutsideSummary.of_range s) = s.has.border
+-- routes of border routers are of routers
+pub routes_of_routers : (net : Network) (given : AreaRoute → Type 0) (routes : List AreaRoute) → Exactly given routes →
+    ((r : AreaRoute) → given r → IsBorderRouter net r.at) → All (λ (r : AreaRoute). r.at < length net) routes
+routes_of_routers net given routes are border k d within =
+    let r : AreaRoute = get_or routes k d in border_is_router net r.at (border r ((are r).0 (Contains-get_or routes k d within)))
 
-pub border_routers : (net : Network) (p : Block) (offers given : List Offer) → AreOffers (BorderCost net p) offers → given ≡ offers →
-    All (λ (o : Offer). o.at < length net) given
-border_routers net p offers given are same k d within =
-    let o : Offer = get_or given k d in
-    let costs : BorderCost net p o.at o.asks = (subst (λ (l : List Offer). AreOffers (BorderCost net p) l) (sym same) are o).0
-    (Contains-get_or given k d within) in
-    border_within net o.at costs.border
-
-allowed_is : (net : Network) (n : ℕ) (offer : Offers) (given : List Offer) → AreOffers offer given → (o : Offer) →
-    Any (IsAllowed net n o) given ↔ (Announces net n o.at × offer o.at o.asks)
-allowed_is net n offer given listed o = (
-  λ any.
-      let f = any_in (IsAllowed net n o) given any in
-      (f.holds.announces, (listed o).0 (subst (λ (x : Offer). Contains given x) f.holds.same f.among)),
-  λ both. any_of (IsAllowed net n o) given o ((listed o).1 both.1) (record { same = refl; announces = both.0 }),
-)
-
-pub heard_in_backbone : (net : Network) (n : ℕ) (p : Block) (outside none first : List Offer) → n ≡ 0 → AreOffers (OutsideSummary net n p) outside →
-    none ≡ [] → Adds none first (λ o. Any (IsAllowed net n o) outside) → AreOffers (IsHeard net p n) first
-heard_in_backbone net n p outside none first zero are empty adds =
-    let Outside : Offer → Type 0 = λ o. Any (IsAllowed net n o) outside in
+pub heard_in_backbone : (net : Network) (n : ℕ) (p : Block) (routes : List AreaRoute) (none first : List Offer) → n ≡ 0 → AreSummarized net p routes →
+    none ≡ [] → Adds none first (λ o. Any (IsOutgoing net n o) routes) → AreOffers (IsHeard net p n) first
+heard_in_backbone net n p routes none first zero are empty adds =
+    let Outside : Offer → Type 0 = λ o. Any (IsOutgoing net n o) routes in
     let Heard : Offer → Type 0 = λ o. IsHeard net p n o.at o.asks in
     exactly_added none first Heard empty (adds_same none first Outside Heard adds (λ o. (
       λ any.
-          let both = (allowed_is net n (OutsideSummary net n p) outside are o).0 any in
+          let both = (outgoing_is net n routes o (OutsideSummary net n p o.at o.asks) (outside_is net n p routes are o)).0 any in
           record { inside = both.0.inside; summary = (backbone_summary net p n o.at o.asks zero).0 both.1 },
-      λ heard. (allowed_is net n (OutsideSummary net n p) outside are o).1 (
+      λ heard. (outgoing_is net n routes o (OutsideSummary net n p o.at o.asks) (outside_is net n p routes are o)).1 (
         record { inside = heard.inside; summaries = λ apart. absurd (apart zero) },
         (backbone_summary net p n o.at o.asks zero).1 heard.summary,
       ),
     )))
 
-pub heard_in_area : (net : Network) (n : ℕ) (p : Block) (outside borders none first second third : List Offer) → n ≢ 0 →
-    AreOffers (OutsideSummary net n p) outside → AreOffers (BorderCost net p) borders → none ≡ [] → Adds none first (λ o. Any (IsAllowed net n o) outside) →
-    Adds first second (λ o. Any (IsAllowed net n o) borders) → Adds second third (HasDefault net n p) → AreOffers (IsHeard net p n) third
-heard_in_area net n p outside borders none first second third apart are_outside are_borders empty one two three =
-    let Outside : Offer → Type 0 = λ o. Any (IsAllowed net n o) outside in
-    let Borders : Offer → Type 0 = λ o. Any (IsAllowed net n o) borders in
+pub heard_in_area : (net : Network) (n : ℕ) (p : Block) (routes borders : List AreaRoute) (none first second third : List Offer) → n ≢ 0 →
+    AreSummarized net p routes → Exactly (IsBackboneRoute net p) borders → none ≡ [] → Adds none first (λ o. Any (IsOutgoing net n o) routes) →
+    Adds first second (λ o. Any (IsOutgoing net n o) borders) → Adds second third (HasDefault net n p) → AreOffers (IsHeard net p n) third
+heard_in_area net n p routes borders none first second third apart are_outside are_borders empty one two three =
+    let Outside : Offer → Type 0 = λ o. Any (IsOutgoing net n o) routes in
+    let Borders : Offer → Type 0 = λ o. Any (IsOutgoing net n o) borders in
     let Both : Offer → Type 0 = λ o. Outside o ⊎ Borders o in
     let All_of : Offer → Type 0 = λ o. Both o ⊎ HasDefault net n p o in
     exactly_added none third (λ (o : Offer). IsHeard net p n o.at o.asks) empty
@@ -389,31 +383,34 @@ heard_in_area net n p outside borders none first second third apart are_outside 
     (adds_both none first second Outside Borders Both one two (λ o. (λ x. x, λ x. x))) three (λ o. (λ x. x, λ x. x)))
     (λ o. (there o, λ heard. back o heard.inside (of_area net p n o.at o.asks apart heard.summary))))
   where
+    outside_out : (o : Offer) → Any (IsOutgoing net n o) routes ↔ (Announces net n o.at × OutsideSummary net n p o.at o.asks)
+    outside_out o = outgoing_is net n routes o (OutsideSummary net n p o.at o.asks) (outside_is net n p routes are_outside o)
+
+    border_out : (o : Offer) → Any (IsOutgoing net n o) borders ↔ (Announces net n o.at × BorderCost net p o.at o.asks)
+    border_out o = outgoing_is net n borders o (BorderCost net p o.at o.asks) (reached_is net n p borders apart are_borders o)
+
     from_outside : (o : Offer) → (IsTotallyStubby net o.at n → ⊥) → OutsideSummary net n p o.at o.asks → AreaSummary net n p o.at o.asks
     from_outside o allowed (OutsideSummary.of_subnet s) = AreaSummary.of_subnet allowed s
     from_outside o allowed (OutsideSummary.of_range s) = AreaSummary.of_range allowed s
 
-    there : (o : Offer) → (Any (IsAllowed net n o) outside ⊎ Any (IsAllowed net n o) borders) ⊎ HasDefault net n p o → IsHeard net p n o.at o.asks
-    there o (inl (inl any)) = let both = (allowed_is net n (OutsideSummary net n p) outside are_outside o).0 any in
+    there : (o : Offer) → (Any (IsOutgoing net n o) routes ⊎ Any (IsOutgoing net n o) borders) ⊎ HasDefault net n p o → IsHeard net p n o.at o.asks
+    there o (inl (inl any)) = let both = (outside_out o).0 any in
         record { inside = both.0.inside; summary = into_area apart (from_outside o (both.0.summaries apart) both.1) }
-    there o (inl (inr any)) = let both = (allowed_is net n (BorderCost net p) borders are_borders o).0 any in
+    there o (inl (inr any)) = let both = (border_out o).0 any in
         record { inside = both.0.inside; summary = into_area apart (AreaSummary.of_route (both.0.summaries apart) both.1) }
     there o (inr has) = record {
       inside = has.default.inside;
       summary = into_area apart (AreaSummary.of_stub has.default.border has.all has.default.stub has.default.has has.default.costs);
     }
 
-    outside_back : (o : Offer) → InArea net o.at n → (IsTotallyStubby net o.at n → ⊥) → OutsideSummary net n p o.at o.asks →
-        Any (IsAllowed net n o) outside
-    outside_back o inside allowed out =
-        (allowed_is net n (OutsideSummary net n p) outside are_outside o).1 (record { inside = inside; summaries = λ _. allowed }, out)
-
     back : (o : Offer) → InArea net o.at n → AreaSummary net n p o.at o.asks →
-        (Any (IsAllowed net n o) outside ⊎ Any (IsAllowed net n o) borders) ⊎ HasDefault net n p o
-    back o inside (AreaSummary.of_subnet allowed s) = inl (inl (outside_back o inside allowed (OutsideSummary.of_subnet s)))
-    back o inside (AreaSummary.of_range allowed s) = inl (inl (outside_back o inside allowed (OutsideSummary.of_range s)))
-    back o inside (AreaSummary.of_route allowed s) = inl (inr
-        ((allowed_is net n (BorderCost net p) borders are_borders o).1 (record { inside = inside; summaries = λ _. allowed }, s)))
+        (Any (IsOutgoing net n o) routes ⊎ Any (IsOutgoing net n o) borders) ⊎ HasDefault net n p o
+    back o inside (AreaSummary.of_subnet allowed s) = inl
+        (inl ((outside_out o).1 (record { inside = inside; summaries = λ _. allowed }, OutsideSummary.of_subnet s)))
+    back o inside (AreaSummary.of_range allowed s) = inl
+        (inl ((outside_out o).1 (record { inside = inside; summaries = λ _. allowed }, OutsideSummary.of_range s)))
+    back o inside (AreaSummary.of_route allowed s) = inl
+        (inr ((border_out o).1 (record { inside = inside; summaries = λ _. allowed }, s)))
     back o inside (AreaSummary.of_stub border all s has is) = inr
         (record { all = all; default = record { at = refl; inside = inside; border = border; stub = s; has = has; costs = is } })
 
@@ -457,15 +454,6 @@ router_default_is net n b config given inside border router are o = (
       (record { area = is.has.area; at = is.at; costs = sym is.costs }),
 )
 
-pub no_router_default : (net : Network) (n b : ℕ) (old : List Offer) → (IsBorderRouter net b → ⊥) → Adds old old (RouterDefault net n b)
-no_router_default net n b old inner = adds_nothing old (RouterDefault net n b) (λ o is. inner is.border)
-
-pub no_member_default : (net : Network) (n b : ℕ) (old : List Offer) → (InArea net b n → ⊥) → Adds old old (RouterDefault net n b)
-no_member_default net n b old away = adds_nothing old (RouterDefault net n b) (λ o is. away is.inside)
-
-pub no_default : (net : Network) (n : ℕ) (p : Block) (old : List Offer) → (p ≡ default_prefix → ⊥) → Adds old old (HasDefault net n p)
-no_default net n p old other = adds_nothing old (HasDefault net n p) (λ o is. other is.all)
-
 pub defaults_are : (net : Network) (n : ℕ) (p : Block) (m : ℕ) (old new : List Offer) → length net ≡ m → p ≡ default_prefix →
     Adds old new (AnyBelow (RouterDefault net n) m) → Adds old new (HasDefault net n p)
 defaults_are net n p m old new count all adds =
@@ -473,6 +461,6 @@ defaults_are net n p m old new count all adds =
     (λ o. (
       λ any. record { all = all; default = subst (λ (b : ℕ). RouterDefault net n b o) (sym any.given.at) any.given },
       λ has.
-          let within : o.at < length net = border_within net o.at has.default.border in
+          let within : o.at < length net = border_is_router net o.at has.default.border in
           record { source = o.at; below = omega arith; given = has.default },
     ))

@@ -12,7 +12,7 @@ use Rattle.igp_theory.specs.Ospf.{OspfEntry}
 use Rattle.route_tables.specs.Entries.{AreAlikePrefixes}
 use Rattle.route_tables.specs.Prefixes.{prefix_at}
 use Rattle.route_tables.proofs.DestinationLists.{element_at, prefix_is}
-use Rattle.ospf_routes.specs.steps.Destinations.{IsDestination, ospf_prefixes}
+use Rattle.ospf_routes.specs.steps.Destinations.{IsDestinationIn, ospf_prefixes}
 use Rattle.ospf_routes.specs.steps.Domain.{IsOspfDomain}
 use Rattle.ospf_routes.specs.steps.Ranges.{AreRangesBelow}
 use Rattle.ospf_routes.specs.steps.Summarized.{AreAllSummaries, AreSummaries}
@@ -22,7 +22,7 @@ use Rattle.ospf_routes.specs.declared.domain.Domain.{Domain}
 use Rattle.ospf_routes.specs.declared.intra_area.Destination.{Destination}
 use Rattle.ospf_routes.specs.declared.ranges.ActiveRange.{ActiveRange}
 use Rattle.ospf_routes.specs.declared.announcements.Summaries.{Summaries}
-use Rattle.ospf_routes.proofs.DestinationFacts.{same_dest}
+use Rattle.ospf_routes.proofs.DestinationFacts.{same_key}
 use Rattle.ospf_routes.proofs.TwinLaws.{is_twin_prefix, twin_destinations_back, twins_are_alike}
 
 -- twin destinations have the same entries
@@ -33,46 +33,43 @@ pub twin_at : (net : Network) (domain : Domain) (ranges : List (List ActiveRange
     (prefix_at (ospf_prefixes domain.destinations.items) other)
 twin_at net domain ranges ss one other is ranges_are announced within_one within_other at =
     subst (λ (p : Block). AreAlikePrefixes (length net) (OspfEntry net) p (prefix_at (ospf_prefixes ds) other))
-    (prefix_is (λ (d : Destination). d.dest) ds one at.d in_one at.d_at)
+    (prefix_is (λ (d : Destination). d.dest) ds one at.d (inside one within_one) at.d_at)
     (subst (λ (q : Block). AreAlikePrefixes (length net) (OspfEntry net) at.d.dest q)
-    (prefix_is (λ (d : Destination). d.dest) ds other at.e in_other at.e_at)
+    (prefix_is (λ (d : Destination). d.dest) ds other at.e (inside other within_other) at.e_at)
     (twins_are_alike net at.d.dest at.e.dest
-    (is_twin_prefix net areas ranges at.d at.e at.s at.t is.areas ranges_are is_d is_e is_s is_t dest_s dest_t at.twins)
-    (is_twin_prefix net areas ranges at.e at.d at.t at.s is.areas ranges_are is_e is_d is_t is_s dest_t dest_s
+    (is_twin_prefix net areas ranges at.d at.e at.s at.t is.areas ranges_are is_d.is is_e.is is_s is_t dest_s dest_t at.twins)
+    (is_twin_prefix net areas ranges at.e at.d at.t at.s is.areas ranges_are is_e.is is_d.is is_t is_s dest_t dest_s
     (twin_destinations_back ranges at.d at.e at.s at.t at.twins))))
   where
     ds : List Destination
     ds = domain.destinations.items
 
-    in_one : one < length (ospf_prefixes ds)
-    in_one = let long = length-map ds (λ (d : Destination). d.dest) in omega (arith, long, within_one)
+    inside : (k : ℕ) → k < length ds → k < length (ospf_prefixes ds)
+    inside k within = let long = length-map ds (λ (d : Destination). d.dest) in omega (arith, long, within)
 
-    in_other : other < length (ospf_prefixes ds)
-    in_other = let long = length-map ds (λ (d : Destination). d.dest) in omega (arith, long, within_other)
-
-    announced_in : (k : ℕ) → k < length (ospf_prefixes ds) → k < length (map (λ (s : Summaries). s.dest) ss)
-    announced_in k within = subst (λ (l : List Block). k < length l) (sym announced.dests) within
+    announced_in : (k : ℕ) → k < length ds → k < length (map (λ (s : Summaries). s.dest) ss)
+    announced_in k within = subst (λ (l : List Block). k < length l) (sym announced.dests) (inside k within)
 
     areas : List AreaWalks
     areas = domain.areas.items
 
-    is_d : IsDestination net at.d
-    is_d = element_at (λ (d : Destination). d.dest) (IsDestination net) ds one at.d is.destinations.each in_one at.d_at
+    is_d : IsDestinationIn net areas at.d
+    is_d = element_at (λ (d : Destination). d.dest) (IsDestinationIn net areas) ds one at.d is.destinations.each (inside one within_one) at.d_at
 
-    is_e : IsDestination net at.e
-    is_e = element_at (λ (d : Destination). d.dest) (IsDestination net) ds other at.e is.destinations.each in_other at.e_at
+    is_e : IsDestinationIn net areas at.e
+    is_e = element_at (λ (d : Destination). d.dest) (IsDestinationIn net areas) ds other at.e is.destinations.each (inside other within_other) at.e_at
 
     is_s : AreSummaries net areas at.s
-    is_s = element_at (λ (s : Summaries). s.dest) (AreSummaries net areas) ss one at.s announced.each (announced_in one in_one) at.s_at
+    is_s = element_at (λ (s : Summaries). s.dest) (AreSummaries net areas) ss one at.s announced.each (announced_in one within_one) at.s_at
 
     is_t : AreSummaries net areas at.t
-    is_t = element_at (λ (s : Summaries). s.dest) (AreSummaries net areas) ss other at.t announced.each (announced_in other in_other) at.t_at
+    is_t = element_at (λ (s : Summaries). s.dest) (AreSummaries net areas) ss other at.t announced.each (announced_in other within_other) at.t_at
 
     dest_s : at.s.dest ≡ at.d.dest
-    dest_s = same_dest ds ss one at.d at.s announced.dests within_one at.d_at at.s_at
+    dest_s = same_key (λ (s : Summaries). s.dest) (λ (d : Destination). d.dest) ss ds one at.s at.d announced.dests within_one at.s_at at.d_at
 
     dest_t : at.t.dest ≡ at.e.dest
-    dest_t = same_dest ds ss other at.e at.t announced.dests within_other at.e_at at.t_at
+    dest_t = same_key (λ (s : Summaries). s.dest) (λ (d : Destination). d.dest) ss ds other at.t at.e announced.dests within_other at.t_at at.e_at
 
 -- so the one that is found has the same entries
 pub twin_found : (net : Network) (domain : Domain) (ranges : List (List ActiveRange)) (ss : List Summaries) (given : List Destination) (place : ℕ)

@@ -26,10 +26,11 @@ use Rattle.ospf_routes.specs.declared.intra_area.Destination.{Destination}
 use Rattle.ospf_routes.specs.declared.ranges.ActiveRange.{ActiveRange}
 use Rattle.ospf_routes.specs.declared.announcements.Summaries.{Summaries}
 use Rattle.route_tables.proofs.ListFacts.{any_of}
+use Rattle.ospf_routes.proofs.AreaFacts.{listened_area}
 use Rattle.ospf_routes.proofs.BorderLists.{border_is_router}
 use Rattle.ospf_routes.proofs.CostBounds.{lists_from}
 use Rattle.ospf_routes.proofs.RangeFacts.{active_range_is}
-use Rattle.ospf_routes.proofs.RouteFacts.{listened_area}
+use Rattle.ospf_routes.proofs.RouteFacts.{announced_part}
 use Rattle.ospf_routes.proofs.SummaryFacts.{listened_cost, listened_hop}
 
 -- the second prefix is connected where the first one is alone, no active range is of either, and where the first one is
@@ -184,5 +185,5 @@ is_twin_prefix net areas ranges d e s t areas_are ranges_are is_d is_e is_s is_t
       subst (λ (p : Block). AskAlike (IsHeard net p n) (IsHeard net e.dest n)) dest_s
       (subst (λ (q : Block). AskAlike (IsHeard net s.dest n) (IsHeard net q n)) dest_t
       (alike_parts (IsHeard net s.dest) (IsHeard net t.dest) s.parts.items t.parts.items n is_s.exact is_t.exact twins.announced
-      (is_s.every n at asks (listened_area net areas n u areas_are listens) (subst (λ (p : Block). IsHeard net p n at asks) (sym dest_s) is))));
+      (announced_part areas s.parts.items n is_s.placed (listened_area net areas n u areas_are listens))));
 }

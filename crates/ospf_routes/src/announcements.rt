@@ -1,20 +1,19 @@
-ghost use Rattle.std.specs.Prelude.{◌≡◌, ◌<◌, ◌↔◌, ℕ, length, Some, All, Any, IfOk, IsTrue, OnOk};
-ghost use Rattle.igp_theory.specs.Ospf.{BorderCost};
+ghost use Rattle.std.specs.Prelude.{◌≡◌, ◌<◌, ◌↔◌, length, Some, All, Any, IfOk, IsTrue, OnOk};
 ghost use Rattle.walk_core.specs.declared.offers.Offer.{Offer as OfferValue};
-ghost use Rattle.ospf_routes.specs.steps.Areas.{AreAreas, HasArea};
+ghost use Rattle.ospf_routes.specs.steps.Areas.{AreAreas};
 ghost use Rattle.ospf_routes.specs.steps.Members.{AreMembersBelow};
-ghost use Rattle.ospf_routes.specs.steps.Destinations.{HasAreaPart, IsDestination};
+ghost use Rattle.ospf_routes.specs.steps.Destinations.{IsDestinationIn};
 ghost use Rattle.net_model.specs.Network.{IsBorderRouter};
 ghost use Rattle.ospf_routes.specs.Lists.{Adds, Exactly};
 ghost use Rattle.ospf_routes.specs.steps.Offered.{AreOffers};
 ghost use Rattle.ospf_routes.specs.steps.Ranges.{AreRangesBelow};
-ghost use Rattle.ospf_routes.specs.steps.Summarized.{Announces, AreSummaries, AreSummarized, IsAllowed, IsHeard, IsSummaryOf};
+ghost use Rattle.ospf_routes.specs.steps.Summarized.{Announces, AreOfAreas, AreSummaries, AreSummarized, IsBackboneRoute, IsHeard, IsOutgoing, IsSummaryOf};
 
 use crate::OutOfMemory;
-use crate::area_route::{AreaRoute, offers_outside};
+use crate::area_route::{AreaRoute, offers_outside, outside_offer};
 use crate::areas::AreaWalks;
-use crate::backbone_routes::border_offers;
-use crate::intra_area::{AreaOffers, Destination, push_part};
+use crate::backbone_routes::border_routes;
+use crate::intra_area::{AreaOffers, Destination};
 use crate::ranges::ActiveRanges;
 use crate::stub_areas::{is_totally_stubby, push_defaults};
 use crate::summarized_routes::summarized;
@@ -29,7 +28,7 @@ use walk_core::Offer;
 pub struct Summaries {
     /// The prefix.
     pub dest: Prefix,
-    /// The announcements into each area that has some.
+    /// The announcements into each area, place by place.
     pub parts: Vec<AreaOffers>,
 }
 
@@ -47,14 +46,14 @@ impl Summaries {
         requires borders { Exactly (IsBorderRouter net.now) borders.now }
         requires areas { AreAreas net.now areas.now }
         requires ranges { AreRangesBelow net.now (length net.now) ranges.now }
-        requires destination { IsDestination net.now destination.now }
+        requires destination { IsDestinationIn net.now areas.now destination.now }
         ensures dest { IfOk result (λ s. s.dest ≡ destination.now.dest) }
         ensures summaries { IfOk result (λ s. AreSummaries net.now areas.now s) }
     {
         let dest = destination.dest;
         let routes = summarized(alloc, net, areas, borders, ranges, destination)?;
         let backbone = offers_outside(alloc, routes.as_slice(), 0)?;
-        let reached = border_offers(
+        let reached = border_routes(
             alloc,
             net,
             areas,
@@ -75,25 +74,29 @@ impl Summaries {
     }
 }
 
-/// The announcements into each area that has some.
+/// The announcements into each area.
 fn area_parts(
     alloc: Global,
     net: &Net,
     areas: &[AreaWalks],
     dest: Prefix,
     routes: &[AreaRoute],
-    borders: &[Offer],
+    borders: &[AreaRoute],
 ) -> Result<Vec<AreaOffers>, OutOfMemory>
     requires areas { AreAreas net.now areas.now }
     requires routes { AreSummarized net.now dest routes.now }
-    requires borders { AreOffers (BorderCost net.now dest) borders.now }
+    requires borders { Exactly (IsBackboneRoute net.now dest) borders.now }
     ensures exact { IfOk result (λ parts. All (IsSummaryOf net.now dest) parts.items) }
-    ensures every { IfOk result (λ parts. (n at asks : ℕ) → HasArea areas.now n → IsHeard net.now dest n at asks → HasAreaPart parts.items n) }
+    ensures placed { IfOk result (λ parts. AreOfAreas areas.now parts.items) }
 {
-    let mut parts = Vec::new(alloc);
-    for area in areas {
+    let mut parts = Vec::with_capacity(alloc, areas.len())?;
+    for (zone, area) in areas.iter().enumerate() {
         let offers = summaries_into(alloc, net, area, dest, routes, borders)?;
-        push_part(&mut parts, area.number, offers)?;
+        parts.push(AreaOffers {
+            area: area.number,
+            zone,
+            offers,
+        })?;
     }
     Ok(parts)
 }
@@ -106,50 +109,49 @@ fn summaries_into(
     area: &AreaWalks,
     dest: Prefix,
     routes: &[AreaRoute],
-    borders: &[Offer],
+    borders: &[AreaRoute],
 ) -> Result<Vec<Offer>, OutOfMemory>
     requires members { AreMembersBelow net.now area.now.number (length net.now) area.now.members }
     requires routes { AreSummarized net.now dest routes.now }
-    requires borders { AreOffers (BorderCost net.now dest) borders.now }
+    requires borders { Exactly (IsBackboneRoute net.now dest) borders.now }
     ensures { IfOk result (λ offers. AreOffers (IsHeard net.now dest area.now.number) offers.items) }
 {
-    let outside = offers_outside(alloc, routes, area.number)?;
     let mut offers = Vec::new(alloc);
-    push_allowed(&mut offers, net, area, outside.as_slice())?;
+    push_outside(&mut offers, net, area, routes)?;
     let is_backbone = area.number == 0;
     if is_backbone {
         return Ok(offers);
     }
-    push_allowed(&mut offers, net, area, borders)?;
+    push_outside(&mut offers, net, area, borders)?;
     push_defaults(&mut offers, net, area, dest)?;
     Ok(offers)
 }
 
-/// Adds the offers that their routers announce into the area.
-fn push_allowed(
+/// Adds the routes of other areas that their routers announce into this one.
+fn push_outside(
     offers: &mut Vec<Offer>,
     net: &Net,
     area: &AreaWalks,
-    others: &[Offer],
+    routes: &[AreaRoute],
 ) -> Result<(), OutOfMemory>
     requires members { AreMembersBelow net.now area.now.number (length net.now) area.now.members }
-    requires routers { All (λ o. o.at < length net.now) others.now }
-    ensures { OnOk result (Adds offers.old.items offers.new.items (λ o. Any (IsAllowed net.now area.now.number o) others.now)) }
+    requires routers { All (λ r. r.at < length net.now) routes.now }
+    ensures { OnOk result (Adds offers.old.items offers.new.items (λ o. Any (IsOutgoing net.now area.now.number o) routes.now)) }
 {
-    for other in others {
-        push_option(offers, allowed(net, area, *other))?;
+    for route in routes {
+        push_option(offers, outgoing(net, area, *route))?;
     }
     Ok(())
 }
 
-/// The offer, where its router announces it into the area.
-fn allowed(net: &Net, area: &AreaWalks, offer: Offer) -> Option<Offer>
-    requires router { offer.at < length net.now }
+/// The route as an offer, where it is of another area and its router announces it into this one.
+fn outgoing(net: &Net, area: &AreaWalks, route: AreaRoute) -> Option<Offer>
+    requires router { route.at < length net.now }
     requires members { AreMembersBelow net.now area.now.number (length net.now) area.now.members }
-    ensures { (o : OfferValue) → (result ≡ Some o) ↔ IsAllowed net.now area.now.number o offer }
+    ensures { (o : OfferValue) → (result ≡ Some o) ↔ IsOutgoing net.now area.now.number o route }
 {
-    if announces(net, area, offer.at) {
-        Some(offer)
+    if announces(net, area, route.at) {
+        outside_offer(route, area.number)
     } else {
         None
     }

@@ -60,7 +60,7 @@ fn inside_offer(route: AreaRoute, area: u32) -> Option<Offer>
 }
 
 /// The offer of a route of another area.
-fn outside_offer(route: AreaRoute, area: u32) -> Option<Offer>
+pub fn outside_offer(route: AreaRoute, area: u32) -> Option<Offer>
     ensures { IsOutsideOffer area route result }
 {
     if route.area == area {

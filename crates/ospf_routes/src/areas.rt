@@ -1,8 +1,8 @@
 ghost use Rattle.std.specs.Prelude.{◌≡◌, ◌<◌, ◌↔◌, ℕ, length, Some, Any, Contains, IfOk, IfNone, IfSome, IsTrue, OnOk, MatchOption};
 ghost use Rattle.net_model.specs.Network.{InArea, IsBorderRouter, RunsArea};
 ghost use Rattle.net_model.specs.Refusals.{IsNetwork};
-ghost use Rattle.ospf_routes.specs.steps.Areas.{AreAreas, AreListeners, AreNumbered, HasArea, HasWalks, IsListener, IsReach, RunsOther};
-ghost use Rattle.ospf_routes.specs.steps.AreaReach.{IsThisBorder, IsZoneReach};
+ghost use Rattle.ospf_routes.specs.steps.Areas.{AreAreas, AreListeners, AreNumbered, HasArea, IsAreaAt, IsListener, IsListenerAt, IsReach, RunsOther};
+ghost use Rattle.ospf_routes.specs.steps.AreaReach.{IsThisBorder, area_reach};
 ghost use Rattle.ospf_routes.specs.Lists.{Adds, Exactly};
 
 use crate::OutOfMemory;
@@ -167,71 +167,67 @@ fn listens_to(net: &Net, u: u32) -> Option<u32>
     first_area(net.config(u).interfaces.as_slice())
 }
 
-/// The area that each router listens to.
-pub fn all_listens(alloc: Global, net: &Net) -> Result<Vec<Option<u32>>, OutOfMemory>
-    ensures { IfOk result (λ listens. AreListeners net.now (length net.now) listens.items) }
+/// The place of the area that each router listens to.
+pub fn all_listens(
+    alloc: Global,
+    net: &Net,
+    areas: &[AreaWalks],
+) -> Result<Vec<Option<usize>>, OutOfMemory>
+    requires { AreAreas net.now areas.now }
+    ensures { IfOk result (λ listens. AreListeners net.now areas.now (length net.now) listens.items) }
 {
     let mut listens = Vec::new(alloc);
     for u in 0..net.routers() {
-        listens.push(listens_to(net, u))?;
+        listens.push(listened_place(net, areas, u))?;
     }
     Ok(listens)
 }
 
-/// The least walks of an area.
-fn walks_of(areas: &[AreaWalks], number: u32) -> Option<&ZoneWalks>
-    ensures none { IfNone result (HasArea areas.now number → ⊥) }
-    ensures some { IfSome result (λ walks. HasWalks areas.now number walks.now) }
-{
-    for area in areas {
-        if area.number == number {
-            return Some(&area.walks);
-        }
-    }
-    None
-}
-
-/// The least walks from a router in an area, and the place of the area among all, its number as a zone of routes.
-#[derive(Clone, Copy, Debug)]
-pub struct ZoneReach<'a> {
-    /// The place of the area.
-    pub zone: usize,
-    /// The least walks.
-    pub walks: &'a LeastWalks,
-}
-
-/// The least walks from the router in an area, with the place of the area.
-pub fn zone_reach<'a>(
-    net: &Net,
-    areas: &'a [AreaWalks],
-    number: u32,
-    u: u32,
-) -> Option<ZoneReach<'a>>
+/// The place of the area that the router listens to.
+fn listened_place(net: &Net, areas: &[AreaWalks], u: u32) -> Option<usize>
     requires router { u < length net.now }
     requires areas { AreAreas net.now areas.now }
+    ensures { IsListenerAt net.now areas.now u result }
+{
+    match listens_to(net, u) {
+        Some(number) => place_of(areas, number),
+        None => None,
+    }
+}
+
+/// The place of the area of this number among all.
+fn place_of(areas: &[AreaWalks], number: u32) -> Option<usize>
     ensures none { IfNone result (HasArea areas.now number → ⊥) }
-    ensures some { IfSome result (λ found. IsZoneReach net.now areas.now number u found.zone found.walks.now) }
+    ensures some { IfSome result (IsAreaAt areas.now number) }
 {
     for (zone, area) in areas.iter().enumerate() {
         if area.number == number {
-            return Some(ZoneReach {
-                zone,
-                walks: area.walks.from_router(u),
-            });
+            return Some(zone);
         }
     }
     None
 }
 
-/// The least walks from the router in an area.
+/// The least walks from the router in the area at this place.
+pub fn zone_reach<'a>(net: &Net, areas: &'a [AreaWalks], zone: usize, u: u32) -> &'a LeastWalks
+    requires router { u < length net.now }
+    requires areas { AreAreas net.now areas.now }
+    requires zone { zone < length areas.now }
+    ensures same { area_reach areas.now u zone ≡ result.now }
+    ensures reach { (n : ℕ) → IsAreaAt areas.now n zone → IsReach net.now n u result.now }
+{
+    areas[zone].walks.from_router(u)
+}
+
+/// The least walks from the router in the area of this number.
 pub fn reach<'a>(net: &Net, areas: &'a [AreaWalks], number: u32, u: u32) -> Option<&'a LeastWalks>
     requires router { u < length net.now }
     requires areas { AreAreas net.now areas.now }
     ensures none { IfNone result (HasArea areas.now number → ⊥) }
     ensures some { IfSome result (λ walks. IsReach net.now number u walks.now) }
 {
-    match walks_of(areas, number) {
-        Some(walks) => Some(walks.from_router(u)),
+    match place_of(areas, number) {
+        Some(zone) => Some(zone_reach(net, areas, zone, u)),
         None => None,
     }
 }

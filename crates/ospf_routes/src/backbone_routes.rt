@@ -1,15 +1,16 @@
 ghost use Rattle.std.specs.Prelude.{◌≡◌, ◌<◌, ◌↔◌, ℕ, length, Some, IfOk};
 ghost use Rattle.igp_theory.specs.Ospf.{BackboneSummary, BorderCost};
-ghost use Rattle.walk_core.specs.declared.offers.Offer.{Offer as OfferValue};
+ghost use Rattle.ospf_routes.specs.declared.area_route.AreaRoute.{AreaRoute as RouteValue};
 ghost use Rattle.ospf_routes.specs.steps.Areas.{AreAreas};
-ghost use Rattle.ospf_routes.specs.steps.Destinations.{IsDestination};
+ghost use Rattle.ospf_routes.specs.steps.Destinations.{IsDestinationIn};
 ghost use Rattle.net_model.specs.Network.{IsBorderRouter};
 ghost use Rattle.ospf_routes.specs.Lists.{Exactly};
 ghost use Rattle.ospf_routes.specs.steps.Offered.{AreOffers};
 ghost use Rattle.ospf_routes.specs.steps.Ranges.{AreActiveRanges, AreRangesBelow};
-ghost use Rattle.ospf_routes.specs.steps.Summarized.{IsBorderOffer};
+ghost use Rattle.ospf_routes.specs.steps.Summarized.{IsBackboneRoute, IsBorderRoute};
 
 use crate::OutOfMemory;
+use crate::area_route::AreaRoute;
 use crate::areas::{AreaWalks, reach};
 use crate::intra_area::{Destination, has_intra};
 use crate::ranges::ActiveRanges;
@@ -18,8 +19,9 @@ use route_tables::push_option;
 use std::alloc::Global;
 use walk_core::Offer;
 
-/// The prefix with its inter-area cost at each border router that has one (RFC 2328, section 16.2).
-pub fn border_offers(
+/// The prefix with its inter-area cost at each border router that has one (RFC 2328, section 16.2), as a route of the
+/// backbone.
+pub fn border_routes(
     alloc: Global,
     net: &Net,
     areas: &[AreaWalks],
@@ -27,29 +29,33 @@ pub fn border_offers(
     ranges: &[ActiveRanges],
     destination: &Destination,
     backbone: &[Offer],
-) -> Result<Vec<Offer>, OutOfMemory>
+) -> Result<Vec<AreaRoute>, OutOfMemory>
     requires borders { Exactly (IsBorderRouter net.now) borders.now }
     requires areas { AreAreas net.now areas.now }
     requires ranges { AreRangesBelow net.now (length net.now) ranges.now }
-    requires destination { IsDestination net.now destination.now }
+    requires destination { IsDestinationIn net.now areas.now destination.now }
     requires backbone { AreOffers (BackboneSummary net.now destination.now.dest) backbone.now }
-    ensures { IfOk result (λ offers. AreOffers (BorderCost net.now destination.now.dest) offers.items) }
+    ensures { IfOk result (λ routes. Exactly (IsBackboneRoute net.now destination.now.dest) routes.items) }
 {
-    let mut offers = Vec::new(alloc);
+    let mut routes = Vec::new(alloc);
     for u in borders {
         let active = &ranges[*u as usize];
         let cost = border_cost(net, areas, active, destination, backbone, *u);
-        push_option(&mut offers, border_offer(*u, cost))?;
+        push_option(&mut routes, border_route(*u, cost))?;
     }
-    Ok(offers)
+    Ok(routes)
 }
 
-/// The cost as an offer of router `u`.
-fn border_offer(u: u32, cost: Option<u64>) -> Option<Offer>
-    ensures { (o : OfferValue) → (result ≡ Some o) ↔ IsBorderOffer u cost o }
+/// The cost as a route of the backbone at router `u`.
+fn border_route(u: u32, cost: Option<u64>) -> Option<AreaRoute>
+    ensures { (r : RouteValue) → (result ≡ Some r) ↔ IsBorderRoute u cost r }
 {
     match cost {
-        Some(asks) => Some(Offer { at: u, asks }),
+        Some(asks) => Some(AreaRoute {
+            area: 0,
+            at: u,
+            asks,
+        }),
         None => None,
     }
 }
@@ -69,7 +75,7 @@ fn border_cost(
     requires router { u < length net.now }
     requires areas { AreAreas net.now areas.now }
     requires ranges { AreActiveRanges net.now u ranges.now }
-    requires destination { IsDestination net.now destination.now }
+    requires destination { IsDestinationIn net.now areas.now destination.now }
     requires backbone { AreOffers (BackboneSummary net.now destination.now.dest) backbone.now }
     ensures { (cost : ℕ) → (result ≡ Some cost) ↔ BorderCost net.now destination.now.dest u cost }
 {

@@ -2,7 +2,7 @@ ghost use Rattle.std.specs.Prelude.{◌≡◌, All, IfOk};
 ghost use Rattle.net_model.specs.Network.{Network};
 ghost use Rattle.ospf_routes.specs.Lists.{Exactly};
 ghost use Rattle.ospf_routes.specs.steps.Areas.{AreAreas};
-ghost use Rattle.ospf_routes.specs.steps.Destinations.{AreOspfDestinations, IsDestination, ospf_prefixes};
+ghost use Rattle.ospf_routes.specs.steps.Destinations.{AreOspfDestinations, IsDestinationIn, ospf_prefixes};
 ghost use Rattle.ospf_routes.specs.steps.Domain.{IsOspfDomain};
 ghost use Rattle.ospf_routes.specs.steps.Subnets.{IsUpSubnet};
 
@@ -49,7 +49,7 @@ fn destinations(
 ) -> Result<Vec<Destination>, OutOfMemory>
     requires areas { AreAreas net.now areas.now }
     requires subnets { Exactly (IsUpSubnet net.now) subnets.now }
-    ensures { IfOk result (λ all. AreOspfDestinations net.now all.items) }
+    ensures { IfOk result (λ all. AreOspfDestinations net.now areas.now all.items) }
 {
     let dests = candidates_of(alloc, net)?;
     each_destination(alloc, areas, subnets, dests.as_slice())
@@ -64,7 +64,7 @@ fn each_destination(
     dests: &[Prefix],
 ) -> Result<Vec<Destination>, OutOfMemory>
     ensures dests { IfOk result (λ all. ospf_prefixes all.items ≡ dests.now) }
-    ensures each { IfOk result (λ all. (net : Network) → AreAreas net areas.now → Exactly (IsUpSubnet net) subnets.now → All (IsDestination net) all.items) }
+    ensures each { IfOk result (λ all. (net : Network) → AreAreas net areas.now → Exactly (IsUpSubnet net) subnets.now → All (IsDestinationIn net areas.now) all.items) }
 {
     let mut all = Vec::new(alloc);
     for dest in dests {

@@ -1,18 +1,18 @@
 ghost use Rattle.std.specs.Prelude.{◌≡◌, ◌<◌, ℕ, length, Contains, IfOk, MatchOption};
-ghost use Rattle.igp_theory.specs.Ospf.{IntraAreaCost, IsActiveRange, IsIntraArea, ListensTo, OspfEntry};
+ghost use Rattle.igp_theory.specs.Ospf.{IntraAreaCost, IsActiveRange, IsIntraArea, OspfEntry};
 ghost use Rattle.route_core.specs.declared.entry.Entry.{Entry};
 ghost use Rattle.route_tables.specs.Routings.{ForwardsBy, IsRouteFor};
 ghost use Rattle.ospf_routes.specs.steps.AreaReach.{area_reach};
-ghost use Rattle.ospf_routes.specs.steps.Areas.{AreAreas, IsListener};
-ghost use Rattle.ospf_routes.specs.steps.Destinations.{IsDestination};
+ghost use Rattle.ospf_routes.specs.steps.Areas.{AreAreas, IsListenedPlace, IsListenerAt};
+ghost use Rattle.ospf_routes.specs.steps.Destinations.{IsDestinationIn};
 ghost use Rattle.ospf_routes.specs.steps.Ranges.{AreActiveRanges};
 ghost use Rattle.ospf_routes.specs.steps.Routing.{AreAreaRoutes, IsAreaRoute, IsIntraRoute, IsListenedRoute, ListenedCost};
 ghost use Rattle.ospf_routes.specs.steps.Summarized.{AreSummaries};
 
 use crate::OutOfMemory;
 use crate::announcements::Summaries;
-use crate::areas::{AreaWalks, reach, zone_reach};
-use crate::intra_area::{AreaOffers, Destination, part_of};
+use crate::areas::{AreaWalks, zone_reach};
+use crate::intra_area::{AreaOffers, Destination, part_reach};
 use crate::ranges::ActiveRanges;
 use crate::united::united_some;
 use net_model::Net;
@@ -26,7 +26,7 @@ pub fn route_of(
     alloc: Global,
     net: &Net,
     areas: &[AreaWalks],
-    listens: Option<u32>,
+    listens: Option<usize>,
     ranges: &ActiveRanges,
     destination: &Destination,
     summaries: &Summaries,
@@ -34,9 +34,9 @@ pub fn route_of(
 ) -> Result<Option<Route>, OutOfMemory>
     requires router { u < length net.now }
     requires areas { AreAreas net.now areas.now }
-    requires listens { IsListener net.now u listens }
+    requires listens { IsListenerAt net.now areas.now u listens }
     requires ranges { AreActiveRanges net.now u ranges.now }
-    requires destination { IsDestination net.now destination.now }
+    requires destination { IsDestinationIn net.now areas.now destination.now }
     requires summaries { AreSummaries net.now areas.now summaries.now }
     requires dest { summaries.now.dest ≡ destination.now.dest }
     ensures { IfOk result (λ found. MatchOption found
@@ -52,10 +52,7 @@ pub fn route_of(
     if ranges.contains(destination.dest) {
         return Ok(Some(Route::Drops));
     }
-    if let Some(route) = inter_route(alloc, net, areas, listens, summaries, u)? {
-        return Ok(Some(route));
-    }
-    Ok(None)
+    inter_route(alloc, net, areas, listens, summaries, u)
 }
 
 /// The intra-area route, of all areas that the router is in (RFC 2328, section 16.1). Mostly one area alone offers a
@@ -69,7 +66,7 @@ fn intra_route(
 ) -> Result<Option<Route>, OutOfMemory>
     requires router { u < length net.now }
     requires areas { AreAreas net.now areas.now }
-    requires destination { IsDestination net.now destination.now }
+    requires destination { IsDestinationIn net.now areas.now destination.now }
     ensures { IfOk result (λ found. MatchOption found
         (IsIntraArea net.now destination.now.dest u → ⊥)
         (IsRouteFor (area_reach areas.now u) (length areas.now) (length net.now) (ForwardsBy (IsIntraRoute net.now destination.now.dest u)))) }
@@ -94,17 +91,17 @@ fn area_route(
 ) -> Result<Option<Route>, OutOfMemory>
     requires router { u < length net.now }
     requires areas { AreAreas net.now areas.now }
-    requires destination { IsDestination net.now destination.now }
+    requires destination { IsDestinationIn net.now areas.now destination.now }
     requires one { length destination.now.parts.items ≡ 1 }
     requires part { Contains destination.now.parts.items part.now }
     ensures { IfOk result (λ found. MatchOption found
         (IsIntraArea net.now destination.now.dest u → ⊥)
         (IsRouteFor (area_reach areas.now u) (length areas.now) (length net.now) (ForwardsBy (IsIntraRoute net.now destination.now.dest u)))) }
 {
-    match zone_reach(net, areas, part.area, u) {
-        Some(found) => {
+    match part_reach(net, areas, destination, part, u) {
+        Some(walks) => {
             let offers = part.offers.as_slice();
-            best_route(alloc, found.walks, found.zone, offers, net.routers())
+            best_route(alloc, walks, part.zone, offers, net.routers())
         }
         None => Ok(None),
     }
@@ -120,7 +117,7 @@ fn intra_hops(
 ) -> Result<Option<Hops>, OutOfMemory>
     requires router { u < length net.now }
     requires areas { AreAreas net.now areas.now }
-    requires destination { IsDestination net.now destination.now }
+    requires destination { IsDestinationIn net.now areas.now destination.now }
     ensures { IfOk result (λ found. MatchOption found
         (IsIntraArea net.now destination.now.dest u → ⊥)
         (IsIntraRoute net.now destination.now.dest u)) }
@@ -139,38 +136,36 @@ fn area_lists(
 ) -> Result<Vec<Hops>, OutOfMemory>
     requires router { u < length net.now }
     requires areas { AreAreas net.now areas.now }
-    requires destination { IsDestination net.now destination.now }
+    requires destination { IsDestinationIn net.now areas.now destination.now }
     ensures { IfOk result (λ lists. AreAreaRoutes net.now destination.now.dest u lists.items) }
 {
     let mut lists = Vec::new(alloc);
     for part in destination.parts.as_slice() {
-        let hops = area_hops(alloc, net, areas, destination, part.area, u)?;
+        let hops = area_hops(alloc, net, areas, destination, part, u)?;
         push_option(&mut lists, hops)?;
     }
     Ok(lists)
 }
 
-/// The hops of the intra-area route in an area.
+/// The hops of the intra-area route in the area of a part.
 fn area_hops(
     alloc: Global,
     net: &Net,
     areas: &[AreaWalks],
     destination: &Destination,
-    area: u32,
+    part: &AreaOffers,
     u: u32,
 ) -> Result<Option<Hops>, OutOfMemory>
     requires router { u < length net.now }
     requires areas { AreAreas net.now areas.now }
-    requires destination { IsDestination net.now destination.now }
+    requires destination { IsDestinationIn net.now areas.now destination.now }
+    requires part { Contains destination.now.parts.items part.now }
     ensures { IfOk result (λ found. MatchOption found
-        ((cost : ℕ) → IntraAreaCost net.now area destination.now.dest u cost → ⊥)
-        (IsAreaRoute net.now area destination.now.dest u)) }
+        ((cost : ℕ) → IntraAreaCost net.now part.now.area destination.now.dest u cost → ⊥)
+        (IsAreaRoute net.now part.now.area destination.now.dest u)) }
 {
-    match part_of(destination.parts.as_slice(), area) {
-        Some(part) => match reach(net, areas, area, u) {
-            Some(walks) => best_hops(alloc, walks, part.offers.as_slice(), net.routers()),
-            None => Ok(None),
-        },
+    match part_reach(net, areas, destination, part, u) {
+        Some(walks) => best_hops(alloc, walks, part.offers.as_slice(), net.routers()),
         None => Ok(None),
     }
 }
@@ -181,13 +176,13 @@ fn inter_route(
     alloc: Global,
     net: &Net,
     areas: &[AreaWalks],
-    listens: Option<u32>,
+    listens: Option<usize>,
     summaries: &Summaries,
     u: u32,
 ) -> Result<Option<Route>, OutOfMemory>
     requires router { u < length net.now }
     requires areas { AreAreas net.now areas.now }
-    requires listens { IsListener net.now u listens }
+    requires listens { IsListenerAt net.now areas.now u listens }
     requires summaries { AreSummaries net.now areas.now summaries.now }
     requires no_intra { IsIntraArea net.now summaries.now.dest u → ⊥ }
     requires no_range { IsActiveRange net.now summaries.now.dest u → ⊥ }
@@ -195,26 +190,23 @@ fn inter_route(
         ((cost : ℕ) → ListenedCost net.now summaries.now.dest u cost → ⊥)
         (IsRouteFor (area_reach areas.now u) (length areas.now) (length net.now) (ForwardsBy (IsListenedRoute net.now summaries.now.dest u)))) }
 {
-    if summaries.parts.as_slice().is_empty() {
-        return Ok(None);
-    }
     match listens {
-        Some(area) => listened_route(alloc, net, areas, summaries, area, u),
+        Some(zone) => listened_route(alloc, net, areas, summaries, zone, u),
         None => Ok(None),
     }
 }
 
-/// The inter-area route, over what is announced into this area.
+/// The inter-area route, over what is announced into the area at this place.
 fn listened_route(
     alloc: Global,
     net: &Net,
     areas: &[AreaWalks],
     summaries: &Summaries,
-    area: u32,
+    zone: usize,
     u: u32,
 ) -> Result<Option<Route>, OutOfMemory>
     requires router { u < length net.now }
-    requires listens { ListensTo net.now u area }
+    requires listens { IsListenedPlace net.now areas.now u zone }
     requires areas { AreAreas net.now areas.now }
     requires summaries { AreSummaries net.now areas.now summaries.now }
     requires no_intra { IsIntraArea net.now summaries.now.dest u → ⊥ }
@@ -223,14 +215,7 @@ fn listened_route(
         ((cost : ℕ) → ListenedCost net.now summaries.now.dest u cost → ⊥)
         (IsRouteFor (area_reach areas.now u) (length areas.now) (length net.now) (ForwardsBy (IsListenedRoute net.now summaries.now.dest u)))) }
 {
-    match zone_reach(net, areas, area, u) {
-        Some(found) => match part_of(summaries.parts.as_slice(), area) {
-            Some(part) => {
-                let offers = part.offers.as_slice();
-                best_route(alloc, found.walks, found.zone, offers, net.routers())
-            }
-            None => Ok(None),
-        },
-        None => Ok(None),
-    }
+    let walks = zone_reach(net, areas, zone, u);
+    let offers = summaries.parts[zone].offers.as_slice();
+    best_route(alloc, walks, zone, offers, net.routers())
 }

@@ -1,27 +1,31 @@
 ghost use Rattle.std.specs.Prelude.{◌≡◌, ◌<◌, ◌↔◌, ℕ, length, Some, All, Any, Contains, IfOk, IfNone, IfSome, IsTrue, OnOk};
-ghost use Rattle.net_model.specs.Network.{Network};
+ghost use Rattle.net_model.specs.Network.{InArea, Network};
 ghost use Rattle.igp_theory.specs.Ospf.{IntraAreaCost, IsIntraArea};
-ghost use Rattle.ospf_routes.specs.steps.Areas.{AreAreas, HasArea};
-ghost use Rattle.ospf_routes.specs.steps.Destinations.{AddsPart, HasAreaPart, IsDestination, IsPartOf};
+ghost use Rattle.ospf_routes.specs.steps.AreaReach.{area_reach};
+ghost use Rattle.ospf_routes.specs.steps.Areas.{AreAreas, HasArea, IsReach};
+ghost use Rattle.ospf_routes.specs.steps.Destinations.{AddsPart, HasAreaPart, IsDestinationIn, IsPartIn};
 ghost use Rattle.ospf_routes.specs.steps.Offered.{InsideOf};
 ghost use Rattle.ospf_routes.specs.steps.Subnets.{IsUpSubnet};
 ghost use Rattle.ospf_routes.specs.Lists.{Exactly};
+ghost use Rattle.walk_core.specs.BestOffers.{AreInRange};
 ghost use Rattle.walk_core.specs.declared.offers.Offer.{Offer as OfferValue};
 
 use crate::OutOfMemory;
 use crate::area_route::{AreaRoute, offers_inside};
-use crate::areas::{AreaWalks, reach};
+use crate::areas::{AreaWalks, zone_reach};
 use crate::subnets::{Subnets, homes_among, routes_among};
 use net_addr::Prefix;
 use net_model::Net;
 use std::alloc::Global;
-use walk_core::Offer;
+use walk_core::{LeastWalks, Offer};
 
 /// Offers of a prefix in one area.
 #[derive(Debug, Drop)]
 pub struct AreaOffers {
     /// The area.
     pub area: u32,
+    /// The place of the area among all.
+    pub zone: usize,
     /// The offers.
     pub offers: Vec<Offer>,
 }
@@ -46,7 +50,7 @@ impl Destination {
         dest: Prefix,
     ) -> Result<Destination, OutOfMemory>
         ensures dest { IfOk result (λ d. d.dest ≡ dest) }
-        ensures is { IfOk result (λ d. (net : Network) → AreAreas net areas.now → Exactly (IsUpSubnet net) subnets.now → IsDestination net d) }
+        ensures is { IfOk result (λ d. (net : Network) → AreAreas net areas.now → Exactly (IsUpSubnet net) subnets.now → IsDestinationIn net areas.now d) }
     {
         let near = subnets.around(dest);
         let homes = homes_among(alloc, near, dest)?;
@@ -59,7 +63,7 @@ impl Destination {
     pub fn is_home(&self, u: u32) -> bool
         ensures { IsTrue result ↔ Contains self.now.homes.items u }
     {
-        self.homes.contains(&u)
+        self.homes.iter().any(|home| *home == u)
     }
 }
 
@@ -69,29 +73,30 @@ fn area_parts(
     areas: &[AreaWalks],
     routes: &[AreaRoute],
 ) -> Result<Vec<AreaOffers>, OutOfMemory>
-    ensures exact { IfOk result (λ parts. All (IsPartOf routes.now) parts.items) }
+    ensures each { IfOk result (λ parts. All (IsPartIn areas.now routes.now) parts.items) }
     ensures every { IfOk result (λ parts. (n : ℕ) (o : OfferValue) → HasArea areas.now n → Any (λ r. InsideOf n r o) routes.now → HasAreaPart parts.items n) }
 {
     let mut parts = Vec::new(alloc);
-    for area in areas {
+    for (zone, area) in areas.iter().enumerate() {
         let offers = offers_inside(alloc, routes, area.number)?;
-        push_part(&mut parts, area.number, offers)?;
+        push_part(&mut parts, area.number, zone, offers)?;
     }
     Ok(parts)
 }
 
 /// Adds the offers of an area, unless there are none.
-pub fn push_part(
+fn push_part(
     parts: &mut Vec<AreaOffers>,
     area: u32,
+    zone: usize,
     offers: Vec<Offer>,
 ) -> Result<(), OutOfMemory>
-    ensures { OnOk result (AddsPart parts.old.items parts.new.items (record { area = area; offers = offers })) }
+    ensures { OnOk result (AddsPart parts.old.items parts.new.items (record { area = area; zone = zone; offers = offers })) }
 {
     if offers.is_empty() {
         return Ok(());
     }
-    Ok(parts.push(AreaOffers { area, offers })?)
+    Ok(parts.push(AreaOffers { area, zone, offers })?)
 }
 
 /// The offers of an area.
@@ -108,25 +113,47 @@ pub fn part_of(parts: &[AreaOffers], area: u32) -> Option<&AreaOffers>
     None
 }
 
-/// The intra-area cost of the prefix at router `u` in an area (RFC 2328, section 16.1).
-pub fn intra_cost(
+/// The intra-area cost of the prefix at router `u` in the area of a part (RFC 2328, section 16.1).
+pub fn part_cost(
     net: &Net,
     areas: &[AreaWalks],
     destination: &Destination,
-    area: u32,
+    part: &AreaOffers,
     u: u32,
 ) -> Option<u64>
     requires router { u < length net.now }
     requires areas { AreAreas net.now areas.now }
-    requires destination { IsDestination net.now destination.now }
-    ensures { (cost : ℕ) → (result ≡ Some cost) ↔ IntraAreaCost net.now area destination.now.dest u cost }
+    requires destination { IsDestinationIn net.now areas.now destination.now }
+    requires part { Contains destination.now.parts.items part.now }
+    ensures { (cost : ℕ) → (result ≡ Some cost) ↔ IntraAreaCost net.now part.now.area destination.now.dest u cost }
 {
-    match part_of(destination.parts.as_slice(), area) {
-        Some(part) => match reach(net, areas, area, u) {
-            Some(walks) => walks.best_cost(part.offers.as_slice()),
-            None => None,
-        },
+    match part_reach(net, areas, destination, part, u) {
+        Some(walks) => walks.best_cost(part.offers.as_slice()),
         None => None,
+    }
+}
+
+/// The least walks from the router in the area of a part, where the router is in that area.
+pub fn part_reach<'a>(
+    net: &Net,
+    areas: &'a [AreaWalks],
+    destination: &Destination,
+    part: &AreaOffers,
+    u: u32,
+) -> Option<&'a LeastWalks>
+    requires router { u < length net.now }
+    requires areas { AreAreas net.now areas.now }
+    requires destination { IsDestinationIn net.now areas.now destination.now }
+    requires part { Contains destination.now.parts.items part.now }
+    ensures none { IfNone result (InArea net.now u part.now.area → ⊥) }
+    ensures same { IfSome result (λ walks. area_reach areas.now u part.now.zone ≡ walks.now) }
+    ensures reach { IfSome result (λ walks. IsReach net.now part.now.area u walks.now) }
+    ensures range { IfSome result (λ walks. AreInRange walks.now part.now.offers.items) }
+{
+    if areas[part.zone].members.has(u) {
+        Some(zone_reach(net, areas, part.zone, u))
+    } else {
+        None
     }
 }
 
@@ -134,11 +161,11 @@ pub fn intra_cost(
 pub fn has_intra(net: &Net, areas: &[AreaWalks], destination: &Destination, u: u32) -> bool
     requires router { u < length net.now }
     requires areas { AreAreas net.now areas.now }
-    requires destination { IsDestination net.now destination.now }
+    requires destination { IsDestinationIn net.now areas.now destination.now }
     ensures { IsTrue result ↔ IsIntraArea net.now destination.now.dest u }
 {
     for part in destination.parts.as_slice() {
-        if intra_cost(net, areas, destination, part.area, u).is_some() {
+        if part_cost(net, areas, destination, part, u).is_some() {
             return true;
         }
     }

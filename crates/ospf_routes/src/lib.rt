@@ -10,8 +10,8 @@
 //! 2. `ranges.rt`: the active ranges of border routers (12.4.3, 11.1), and what they cost.
 //! 3. `announcements.rt` (`Summaries::build`, 12.4.3): what the border routers of each area announce of a prefix into it.
 //!    `summarized_routes.rt` has what they summarize out of whichever area. Into the backbone there go the routes of other
-//!    areas (`offers_outside` of `area_route.rt`), into every other area these too, and what border routers reach over the
-//!    backbone (`backbone_routes.rt`, costs alone, 16.2) and the defaults of stub areas (`stub_areas.rt`, 3.6).
+//!    areas, into every other area these too, and what border routers reach over the backbone (`backbone_routes.rt`, costs
+//!    alone, 16.2) and the defaults of stub areas (`stub_areas.rt`, 3.6).
 //! 4. `entry.rt`: the intra-area route, else a discard, else the inter-area route (16, 11.1), for which `listened_route` reads
 //!    the `Summaries`; `united.rt`: several areas' hops together.
 //!

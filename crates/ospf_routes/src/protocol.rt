@@ -20,13 +20,13 @@ use std::alloc::Global;
 use std::marker::Model;
 use walk_core::{LeastWalks, Segment};
 
-/// OSPF on a network, with what its routers know, the areas that they listen to, the active ranges of border routers,
-/// what these announce of each prefix, and which prefixes have the same routes.
+/// OSPF on a network, with what its routers know, the places of the areas that they listen to, the active ranges of border
+/// routers, what these announce of each prefix, and which prefixes have the same routes.
 #[derive(Drop)]
 pub struct Ospf<'a> {
     net: &'a Net,
     domain: Domain,
-    listens: Vec<Option<u32>>,
+    listens: Vec<Option<usize>>,
     ranges: Vec<ActiveRanges>,
     summaries: Vec<Summaries>,
     twins: Vec<Option<usize>>,
@@ -49,7 +49,8 @@ impl<'a> Ospf<'a> {
         ensures { IfOk result (λ ospf. ospf.net ≡ net.now) }
     {
         let domain = Domain::build(alloc, net)?;
-        let listens = all_listens(alloc, net)?;
+        let areas = domain.areas.as_slice();
+        let listens = all_listens(alloc, net, areas)?;
         let ranges = all_ranges(alloc, net, &domain)?;
         let borders = border_routers(alloc, net)?;
         let summaries = all_summaries(alloc, net, &domain, borders.as_slice(), ranges.as_slice())?;

@@ -2,7 +2,7 @@ ghost use Rattle.std.specs.Prelude.{◌≡◌, ◌<◌, ◌≤◌, ◌↔◌, �
 ghost use Rattle.net_model.specs.Network.{IsBorderRouter};
 ghost use Rattle.igp_theory.specs.Ospf.{HasRange, IsActive, IsActiveRange, IsComponent, RangeCost};
 ghost use Rattle.ospf_routes.specs.steps.Areas.{AreAreas};
-ghost use Rattle.ospf_routes.specs.steps.Destinations.{IsDestination};
+ghost use Rattle.ospf_routes.specs.steps.Destinations.{IsDestinationIn};
 ghost use Rattle.ospf_routes.specs.steps.Domain.{IsOspfDomain};
 ghost use Rattle.ospf_routes.specs.Lists.{Exactly};
 ghost use Rattle.ospf_routes.specs.steps.Ranges.{AreActiveRanges, AreRangesBelow, HasComponentCost, IsActiveAt, IsComponentOfSome, IsGreatestOf, IsLeastOf};
@@ -11,7 +11,7 @@ ghost use Rattle.ospf_routes.specs.steps.Ranges.{IsLonger, IsPicked};
 use crate::OutOfMemory;
 use crate::areas::{AreaWalks, is_border};
 use crate::domain::Domain;
-use crate::intra_area::{Destination, intra_cost};
+use crate::intra_area::{Destination, part_cost, part_of};
 use net_addr::Prefix;
 use net_model::{Net, Range};
 use route_tables::push_option;
@@ -203,14 +203,15 @@ fn component_cost(
     requires router { b < length net.now }
     requires has { HasRange net.now b range.now }
     requires areas { AreAreas net.now areas.now }
-    requires destination { IsDestination net.now destination.now }
+    requires destination { IsDestinationIn net.now areas.now destination.now }
     ensures { (cost : ℕ) → (result ≡ Some cost) ↔ IsComponent net.now b range.now destination.now.dest cost }
 {
+    let part = part_of(destination.parts.as_slice(), range.area)?;
     let ranges = net.config(b).ranges.as_slice();
     if !range.dest.covers(destination.dest) || has_longer(ranges, *range, destination.dest) {
         return None;
     }
-    intra_cost(net, areas, destination, range.area, b)
+    part_cost(net, areas, destination, part, b)
 }
 
 /// Whether a longer one of these ranges, of the same area, covers the prefix.
@@ -232,7 +233,7 @@ pub fn is_component(net: &Net, areas: &[AreaWalks], destination: &Destination, b
     requires router { b < length net.now }
     requires border { IsBorderRouter net.now b }
     requires areas { AreAreas net.now areas.now }
-    requires destination { IsDestination net.now destination.now }
+    requires destination { IsDestinationIn net.now areas.now destination.now }
     ensures { IsTrue result ↔ IsComponentOfSome net.now b destination.now.dest }
 {
     let ranges = net.config(b).ranges.as_slice();

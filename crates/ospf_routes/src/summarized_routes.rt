@@ -1,6 +1,6 @@
-ghost use Rattle.std.specs.Prelude.{◌≡◌, ◌<◌, ◌↔◌, length, Some, Any, IfOk, OnOk};
+ghost use Rattle.std.specs.Prelude.{◌≡◌, ◌<◌, ◌↔◌, length, Some, Any, Contains, IfOk, OnOk};
 ghost use Rattle.ospf_routes.specs.steps.Areas.{AreAreas};
-ghost use Rattle.ospf_routes.specs.steps.Destinations.{IsDestination};
+ghost use Rattle.ospf_routes.specs.steps.Destinations.{IsDestinationIn};
 ghost use Rattle.net_model.specs.Network.{IsBorderRouter};
 ghost use Rattle.ospf_routes.specs.Lists.{Adds, Exactly};
 ghost use Rattle.ospf_routes.specs.steps.Ranges.{AreActiveRanges, AreRangesBelow};
@@ -10,7 +10,7 @@ ghost use Rattle.ospf_routes.specs.declared.area_route.AreaRoute.{AreaRoute as R
 use crate::OutOfMemory;
 use crate::area_route::AreaRoute;
 use crate::areas::AreaWalks;
-use crate::intra_area::{Destination, intra_cost};
+use crate::intra_area::{AreaOffers, Destination, part_cost};
 use crate::ranges::{ActiveRange, ActiveRanges, is_component};
 use net_addr::Prefix;
 use net_model::Net;
@@ -29,7 +29,7 @@ pub fn summarized(
     requires borders { Exactly (IsBorderRouter net.now) borders.now }
     requires areas { AreAreas net.now areas.now }
     requires ranges { AreRangesBelow net.now (length net.now) ranges.now }
-    requires destination { IsDestination net.now destination.now }
+    requires destination { IsDestinationIn net.now areas.now destination.now }
     ensures { IfOk result (λ routes. AreSummarized net.now destination.now.dest routes.items) }
 {
     let mut routes = Vec::new(alloc);
@@ -53,7 +53,7 @@ fn push_summarized(
     requires router { b < length net.now }
     requires areas { AreAreas net.now areas.now }
     requires ranges { AreActiveRanges net.now b ranges.now }
-    requires destination { IsDestination net.now destination.now }
+    requires destination { IsDestinationIn net.now areas.now destination.now }
     ensures { OnOk result (Adds routes.old.items routes.new.items (λ r. SummarizedFrom net.now destination.now.dest b r)) }
 {
     push_subnets(routes, net, areas, destination, b)?;
@@ -72,38 +72,40 @@ fn push_subnets(
     requires border { IsBorderRouter net.now b }
     requires router { b < length net.now }
     requires areas { AreAreas net.now areas.now }
-    requires destination { IsDestination net.now destination.now }
+    requires destination { IsDestinationIn net.now areas.now destination.now }
     ensures { OnOk result (Adds routes.old.items routes.new.items (λ r. SummarizedSubnet net.now destination.now.dest b r)) }
 {
-    if is_component(net, areas, destination, b) {
-        return Ok(());
-    }
     for part in destination.parts.as_slice() {
-        push_option(
-            routes,
-            subnet_summary(net, areas, destination, part.area, b),
-        )?;
+        push_option(routes, subnet_summary(net, areas, destination, part, b))?;
     }
     Ok(())
 }
 
-/// The prefix as a route of the area, where router `b` has an intra-area cost for it there.
+/// The prefix as a route of the area of a part, where border router `b` has an intra-area cost for it there, unless it is a
+/// component of a range.
 fn subnet_summary(
     net: &Net,
     areas: &[AreaWalks],
     destination: &Destination,
-    area: u32,
+    part: &AreaOffers,
     b: u32,
 ) -> Option<AreaRoute>
+    requires border { IsBorderRouter net.now b }
     requires router { b < length net.now }
     requires areas { AreAreas net.now areas.now }
-    requires destination { IsDestination net.now destination.now }
-    ensures { (r : Route) → (result ≡ Some r) ↔ IsSubnetSummary net.now destination.now.dest area b r }
+    requires destination { IsDestinationIn net.now areas.now destination.now }
+    requires part { Contains destination.now.parts.items part.now }
+    ensures { (r : Route) → (result ≡ Some r) ↔ IsSubnetSummary net.now destination.now.dest part.now.area b r }
 {
-    match intra_cost(net, areas, destination, area, b) {
-        Some(asks) => Some(AreaRoute { area, at: b, asks }),
-        None => None,
+    let asks = part_cost(net, areas, destination, part, b)?;
+    if is_component(net, areas, destination, b) {
+        return None;
     }
+    Some(AreaRoute {
+        area: part.area,
+        at: b,
+        asks,
+    })
 }
 
 /// Adds the active ranges of this prefix that are advertised.

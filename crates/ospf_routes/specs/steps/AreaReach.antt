@@ -1,20 +1,13 @@
 -- The least walks of all areas, by the place of the area among them, which is its number as a zone of routes.
-use Rattle.std.specs.Prelude.{◌≡◌, ◌<◌, ℕ, List, [], length, slice_index_or}
+use Rattle.std.specs.Prelude.{◌≡◌, ℕ, List, [], slice_index_or}
 use Rattle.net_model.specs.Network.{Network, IsBorderRouter}
 use Rattle.walk_core.specs.Reach.{Reach}
-use Rattle.ospf_routes.specs.steps.Areas.{IsReach}
 use Rattle.ospf_routes.specs.declared.areas.AreaWalks.{AreaWalks}
 
 -- the least walks from router u in the area at a place
 abbrev pub area_reach : List AreaWalks → ℕ → ℕ → Reach
 area_reach areas u zone =
     slice_index_or (slice_index_or areas zone (record { number = 0; walks = []; members = [] })).walks u (record { distances = []; hops = [] })
-
--- the area at the place is area n, and these are the least walks from router u there
-pub record IsZoneReach (net : Network) (areas : List AreaWalks) (n u zone : ℕ) (reach : Reach) : Type 0 where
-  pub within : zone < length areas
-  pub same : area_reach areas u zone ≡ reach
-  pub reach_is : IsReach net n u reach
 
 -- v is this router, which is a border router
 pub record IsThisBorder (net : Network) (u v : ℕ) : Type 0 where

@@ -1,5 +1,5 @@
 -- The areas of a network, each with its least walks.
-use Rattle.std.specs.Prelude.{◌≡◌, ◌≢◌, ◌<◌, ◌↔◌, ℕ, List, length, Option, None, Some, All, Contains, slice_index_or}
+use Rattle.std.specs.Prelude.{◌≡◌, ◌≢◌, ◌<◌, ℕ, List, length, Option, None, MatchOption, All, Contains, slice_index_or}
 use Rattle.net_model.specs.Network.{Network, InArea, RunsArea, Adjacent}
 use Rattle.net_model.specs.Refusals.{IsNetwork}
 use Rattle.net_model.specs.declared.bounds.TheConstants.{MOST_ROUTERS}
@@ -23,12 +23,12 @@ pub record HasArea (areas : List AreaWalks) (n : ℕ) : Type 0 where
   pub among : Contains areas area
   pub number : area.number ≡ n
 
--- area n is among these, with these least walks
-pub record HasWalks (areas : List AreaWalks) (n : ℕ) (walks : List Reach) : Type 0 where
+-- area n is at this place among these
+pub record IsAreaAt (areas : List AreaWalks) (n zone : ℕ) : Type 0 where
+  pub within : zone < length areas
   pub area : AreaWalks
-  pub among : Contains areas area
+  pub here : area ≡ slice_index_or areas zone area
   pub number : area.number ≡ n
-  pub walks_are : area.walks ≡ walks
 
 -- each area has its least walks
 abbrev pub HaveWalks : Network → List AreaWalks → Type 0
@@ -60,9 +60,19 @@ pub record IsReach (net : Network) (n u : ℕ) (reach : Reach) : Type 0 where
 
 -- this is the area that router u listens to, where there is one
 abbrev pub IsListener : Network → ℕ → Option ℕ → Type 0
-IsListener net u listens = (n : ℕ) → (listens ≡ Some n) ↔ ListensTo net u n
+IsListener net u listens = MatchOption listens ((n : ℕ) → ListensTo net u n → ⊥) (ListensTo net u)
 
--- these are the areas that the routers below n listen to
-pub record AreListeners (net : Network) (n : ℕ) (listens : List (Option ℕ)) : Type 0 where
+-- router u listens to the area at this place
+pub record IsListenedPlace (net : Network) (areas : List AreaWalks) (u zone : ℕ) : Type 0 where
+  pub area : ℕ
+  pub listens : ListensTo net u area
+  pub at : IsAreaAt areas area zone
+
+-- router u listens to the area at this place, and to none where there is no place
+abbrev pub IsListenerAt : Network → List AreaWalks → ℕ → Option ℕ → Type 0
+IsListenerAt net areas u listens = MatchOption listens ((n : ℕ) → ListensTo net u n → ⊥) (IsListenedPlace net areas u)
+
+-- these are the places of the areas that the routers below n listen to
+pub record AreListeners (net : Network) (areas : List AreaWalks) (n : ℕ) (listens : List (Option ℕ)) : Type 0 where
   pub count : length listens ≡ n
-  pub each : (u : ℕ) → u < n → IsListener net u (slice_index_or listens u None)
+  pub each : (u : ℕ) → u < n → IsListenerAt net areas u (slice_index_or listens u None)

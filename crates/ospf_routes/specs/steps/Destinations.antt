@@ -5,9 +5,11 @@ use Rattle.net_model.specs.Network.{Network, Connected}
 use Rattle.walk_core.specs.declared.offers.Offer.{Offer}
 use Rattle.igp_theory.specs.Ospf.{OffersSubnet}
 use Rattle.route_tables.specs.Prefixes.{AreDistinctPrefixes}
+use Rattle.ospf_routes.specs.steps.Areas.{IsAreaAt}
 use Rattle.ospf_routes.specs.steps.Candidates.{IsOspfCandidate}
 use Rattle.ospf_routes.specs.Lists.{Exactly}
 use Rattle.ospf_routes.specs.steps.Offered.{AreOffers, InsideOf}
+use Rattle.ospf_routes.specs.declared.areas.AreaWalks.{AreaWalks}
 use Rattle.ospf_routes.specs.declared.intra_area.AreaOffers.{AreaOffers}
 use Rattle.ospf_routes.specs.declared.intra_area.Destination.{Destination}
 use Rattle.ospf_routes.specs.declared.area_route.AreaRoute.{AreaRoute}
@@ -15,6 +17,11 @@ use Rattle.ospf_routes.specs.declared.area_route.AreaRoute.{AreaRoute}
 -- these are the routes of the part's area, as offers
 abbrev pub IsPartOf : List AreaRoute → AreaOffers → Type 0
 IsPartOf routes part = Exactly (λ (o : Offer). Any (λ (r : AreaRoute). InsideOf part.area r o) routes) part.offers.items
+
+-- and the part says at which place its area is
+pub record IsPartIn (areas : List AreaWalks) (routes : List AreaRoute) (part : AreaOffers) : Type 0 where
+  pub offers : IsPartOf routes part
+  pub at : IsAreaAt areas part.area part.zone
 
 -- to the parts there comes this one, unless it has no offers
 pub record AddsPart (old new : List AreaOffers) (part : AreaOffers) : Type 0 where
@@ -35,12 +42,17 @@ pub record IsDestination (net : Network) (d : Destination) : Type 0 where
   pub exact : All (λ (part : AreaOffers). AreOffers (OffersSubnet net part.area d.dest) part.offers.items) d.parts.items
   pub every : (n w cost : ℕ) → OffersSubnet net n d.dest w cost → HasAreaPart d.parts.items n
 
+-- and each part says at which place its area is
+pub record IsDestinationIn (net : Network) (areas : List AreaWalks) (d : Destination) : Type 0 where
+  pub is : IsDestination net d
+  pub placed : All (λ (part : AreaOffers). IsAreaAt areas part.area part.zone) d.parts.items
+
 -- the prefixes of destinations
 abbrev pub ospf_prefixes : List Destination → List Block
 ospf_prefixes destinations = map (λ (d : Destination). d.dest) destinations
 
 -- the destinations are distinct prefixes, and each candidate is one
-pub record AreOspfDestinations (net : Network) (destinations : List Destination) : Type 0 where
-  pub each : All (IsDestination net) destinations
+pub record AreOspfDestinations (net : Network) (areas : List AreaWalks) (destinations : List Destination) : Type 0 where
+  pub each : All (IsDestinationIn net areas) destinations
   pub distinct : AreDistinctPrefixes (ospf_prefixes destinations)
   pub every : (p : Block) → IsOspfCandidate net p → Contains (ospf_prefixes destinations) p

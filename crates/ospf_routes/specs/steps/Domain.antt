@@ -7,4 +7,4 @@ use Rattle.ospf_routes.specs.declared.domain.Domain.{Domain}
 -- what is known is that of the network
 pub record IsOspfDomain (net : Network) (domain : Domain) : Type 0 where
   pub areas : AreAreas net domain.areas.items
-  pub destinations : AreOspfDestinations net domain.destinations.items
+  pub destinations : AreOspfDestinations net domain.areas.items domain.destinations.items

@@ -11,8 +11,8 @@ use Rattle.ospf_routes.specs.declared.domain.Domain.{Domain}
 use Rattle.ospf_routes.specs.declared.ranges.ActiveRange.{ActiveRange}
 use Rattle.ospf_routes.specs.declared.announcements.Summaries.{Summaries}
 
--- a network, what its routers know, the areas that they listen to, their active ranges, what they announce of each
--- prefix, and for each prefix an earlier one with the same entries, where one is found
+-- a network, what its routers know, the places of the areas that they listen to, their active ranges, what they announce of
+-- each prefix, and for each prefix an earlier one with the same entries, where one is found
 pub record OspfNetwork : Type 0 where
   pub net : Network
   pub domain : Domain
@@ -24,7 +24,7 @@ pub record OspfNetwork : Type 0 where
 -- all of it is that of the network
 pub record IsOspf (ospf : OspfNetwork) : Type 0 where
   pub domain : IsOspfDomain ospf.net ospf.domain
-  pub listeners : AreListeners ospf.net (length ospf.net) ospf.listens
+  pub listeners : AreListeners ospf.net ospf.domain.areas.items (length ospf.net) ospf.listens
   pub ranges : AreRangesBelow ospf.net (length ospf.net) ospf.ranges
   pub announced : AreAllSummaries ospf.net ospf.domain ospf.summaries
   pub twins : AreTwins ospf.net (ospf_prefixes ospf.domain.destinations.items) ospf.twins

@@ -5,11 +5,11 @@ use Rattle.net_model.specs.Network.{Network, InArea, IsBorderRouter}
 use Rattle.net_model.specs.declared.area.Range.{Range}
 use Rattle.net_model.specs.declared.area.Stub.{Stub}
 use Rattle.walk_core.specs.declared.offers.Offer.{Offer}
-use Rattle.igp_theory.specs.Ospf.{IntraAreaCost, HasRange, IsComponent, RangeCost, SummarizesSubnet, SummarizesRange, HasStub, IsTotallyStubby, Summary}
-use Rattle.ospf_routes.specs.steps.Areas.{HasArea}
-use Rattle.ospf_routes.specs.steps.Destinations.{HasAreaPart, ospf_prefixes}
+use Rattle.igp_theory.specs.Ospf.{IntraAreaCost, BorderCost, HasRange, IsComponent, RangeCost, SummarizesSubnet, SummarizesRange, HasStub, IsTotallyStubby, Summary}
+use Rattle.ospf_routes.specs.steps.Destinations.{ospf_prefixes}
 use Rattle.ospf_routes.specs.Lists.{Exactly}
-use Rattle.ospf_routes.specs.steps.Offered.{AreOffers}
+use Rattle.ospf_routes.specs.steps.Offered.{AreOffers, OutsideOf}
+use Rattle.ospf_routes.specs.steps.Ranges.{IsComponentOfSome}
 use Rattle.ospf_routes.specs.declared.areas.AreaWalks.{AreaWalks}
 use Rattle.ospf_routes.specs.declared.domain.Domain.{Domain}
 use Rattle.ospf_routes.specs.declared.intra_area.AreaOffers.{AreaOffers}
@@ -17,11 +17,12 @@ use Rattle.ospf_routes.specs.declared.ranges.ActiveRange.{ActiveRange}
 use Rattle.ospf_routes.specs.declared.area_route.AreaRoute.{AreaRoute}
 use Rattle.ospf_routes.specs.declared.announcements.Summaries.{Summaries}
 
--- b has an intra-area cost for p in area n, which the route says
+-- b has an intra-area cost for p in area n, which the route says, and p is no component at b
 pub record IsSubnetSummary (net : Network) (p : Block) (n b : ℕ) (r : AreaRoute) : Type 0 where
   pub area : r.area ≡ n
   pub at : r.at ≡ b
   pub costs : IntraAreaCost net n p b r.asks
+  pub alone : IsComponentOfSome net b p → ⊥
 
 -- b is a border router with an intra-area cost for p in the route's area, and p is no component
 pub record SummarizedSubnet (net : Network) (p : Block) (b : ℕ) (r : AreaRoute) : Type 0 where
@@ -62,19 +63,25 @@ pub data OutsideSummary (net : Network) (n : ℕ) (p : Block) (b cost : ℕ) : T
   of_subnet : SummarizesSubnet net n p b cost → OutsideSummary net n p b cost
   of_range : SummarizesRange net n p b cost → OutsideSummary net n p b cost
 
--- the offer is that of router u at this cost, if there is one
-pub record IsBorderOffer (u : ℕ) (cost : Option ℕ) (o : Offer) : Type 0 where
-  pub at : o.at ≡ u
-  pub costs : cost ≡ Some o.asks
+-- the route is that of router u in the backbone, at this cost, if there is one
+pub record IsBorderRoute (u : ℕ) (cost : Option ℕ) (r : AreaRoute) : Type 0 where
+  pub area : r.area ≡ 0
+  pub at : r.at ≡ u
+  pub costs : cost ≡ Some r.asks
+
+-- a border router reaches p over the backbone at this cost, and the route is one of the backbone
+pub record IsBackboneRoute (net : Network) (p : Block) (r : AreaRoute) : Type 0 where
+  pub area : r.area ≡ 0
+  pub costs : BorderCost net p r.at r.asks
 
 -- router b is in area n, and announces more than the default route into it
 pub record Announces (net : Network) (n b : ℕ) : Type 0 where
   pub inside : InArea net b n
   pub summaries : n ≢ 0 → IsTotallyStubby net b n → ⊥
 
--- the offer is this one, and its router announces it into area n
-pub record IsAllowed (net : Network) (n : ℕ) (o other : Offer) : Type 0 where
-  pub same : other ≡ o
+-- the offer is the route, which is of another area than n, and its router announces it into area n
+pub record IsOutgoing (net : Network) (n : ℕ) (o : Offer) (r : AreaRoute) : Type 0 where
+  pub outside : OutsideOf n r o
   pub announces : Announces net n o.at
 
 -- the stub area is n, with a default route alone
@@ -111,10 +118,14 @@ pub record IsHeard (net : Network) (p : Block) (n b cost : ℕ) : Type 0 where
 abbrev pub IsSummaryOf : Network → Block → AreaOffers → Type 0
 IsSummaryOf net p part = AreOffers (IsHeard net p part.area) part.offers.items
 
--- each part has what is announced into its area, and each area that something is announced into is a part
+-- there is a part for each area, place by place
+abbrev pub AreOfAreas : List AreaWalks → List AreaOffers → Type 0
+AreOfAreas areas parts = map (λ (part : AreaOffers). part.area) parts ≡ map (λ (a : AreaWalks). a.number) areas
+
+-- each part has what is announced into its area, and the parts are of the areas, place by place
 pub record AreSummaries (net : Network) (areas : List AreaWalks) (s : Summaries) : Type 0 where
   pub exact : All (IsSummaryOf net s.dest) s.parts.items
-  pub every : (n at asks : ℕ) → HasArea areas n → IsHeard net s.dest n at asks → HasAreaPart s.parts.items n
+  pub placed : AreOfAreas areas s.parts.items
 
 -- what border routers announce of each prefix, in the order of the destinations
 pub record AreAllSummaries (net : Network) (domain : Domain) (summaries : List Summaries) : Type 0 where

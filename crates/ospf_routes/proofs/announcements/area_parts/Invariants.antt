@@ -1,7 +1,7 @@
 use Rattle.std.proofs.Common.{take}
-use Rattle.ospf_routes.specs.steps.Summarized.{IsHeard}
-use Rattle.ospf_routes.proofs.IntraFacts.{PartsSoFar}
+use Rattle.std.specs.List.{All}
+use Rattle.ospf_routes.specs.steps.Summarized.{AreOfAreas, IsSummaryOf}
 use Rattle.ospf_routes.proofs.announcements.area_parts.Given as goal
 
-abbrev pub invariant-loop-area : goal.invariant-loop-area
-invariant-loop-area l = PartsSoFar (λ n o. IsHeard l.net l.dest n o.at o.asks) (take l.area-index l.areas) l.parts.items
+abbrev pub invariant-loop-zone : goal.invariant-loop-zone
+invariant-loop-zone l = All (IsSummaryOf l.net l.dest) l.parts.items × AreOfAreas (take l.zone l.areas) l.parts.items

@@ -1,37 +1,24 @@
-use Rattle.std.proofs.Common.{refl, subst, List, sym}
-use Rattle.walk_core.specs.declared.offers.Offer.{Offer}
-use Rattle.ospf_routes.proofs.SummaryFacts.{border_routers, heard_in_area, heard_in_backbone, outside_are, outside_routers}
-use Rattle.ospf_routes.specs.steps.Offered.{AreOffers}
-use Rattle.ospf_routes.specs.steps.Summarized.{OutsideSummary}
+use Rattle.ospf_routes.proofs.SummaryFacts.{heard_in_area, heard_in_backbone, routes_of_routers, summarized_at}
+use Rattle.ospf_routes.specs.steps.Summarized.{IsBackboneRoute, SummarizedFrom}
+use Rattle.ospf_routes.specs.declared.area_route.AreaRoute.{AreaRoute}
 use Rattle.ospf_routes.proofs.announcements.summaries_into.Goals as goal
 
-pub push_allowed-requires-clause-routers : goal.push_allowed-requires-clause-routers
-push_allowed-requires-clause-routers c =
-    outside_routers c.args.net.now c.args.area.now.number c.args.dest c.in_ok-outside.outside.items c.as_slice.result.now
-    (outside_are c.args.net.now c.args.area.now.number c.args.dest c.args.routes.now c.args.routes.now c.in_ok-outside.outside.items c.requires.routes refl
-    c.in_ok-outside.ensures) c.as_slice.ensures.value
+pub push_outside-requires-clause-routers : goal.push_outside-requires-clause-routers
+push_outside-requires-clause-routers c =
+    routes_of_routers c.args.net.now (λ (r : AreaRoute). SummarizedFrom c.args.net.now c.args.dest r.at r) c.args.routes.now c.requires.routes
+    (λ r from. (summarized_at c.args.net.now c.args.dest r.at r from).1)
 
-pub push_allowed-requires-2-clause-routers : goal.push_allowed-requires-2-clause-routers
-push_allowed-requires-2-clause-routers c =
-    border_routers c.args.net.now c.args.dest c.args.borders.now c.args.borders.now c.requires.borders refl
+pub push_outside-requires-2-clause-routers : goal.push_outside-requires-2-clause-routers
+push_outside-requires-2-clause-routers c =
+    routes_of_routers c.args.net.now (IsBackboneRoute c.args.net.now c.args.dest) c.args.borders.now c.requires.borders (λ r is. is.costs.border)
 
 pub returns-then-is_backbone : goal.returns-then-is_backbone
 returns-then-is_backbone c =
-    let net = c.args.net.now in
-    let n = c.args.area.now.number in
-    let outside : List Offer = c.as_slice.result.now in
-    heard_in_backbone net n c.args.dest outside c.new-offers.result.items c.push_allowed.new.offers.items c.if-is_backbone.true
-    (subst (λ (l : List Offer). AreOffers (OutsideSummary net n c.args.dest) l) (sym c.as_slice.ensures.value)
-    (outside_are net n c.args.dest c.args.routes.now c.args.routes.now c.in_ok-outside.outside.items c.requires.routes refl c.in_ok-outside.ensures))
-    c.new-offers.ensures.items c.in_ok-push_allowed.ensures
+    heard_in_backbone c.args.net.now c.args.area.now.number c.args.dest c.args.routes.now c.new-offers.result.items c.push_outside.new.offers.items
+    c.if-is_backbone.true c.requires.routes c.new-offers.ensures.items c.in_ok-push_outside.ensures
 
 pub returns : goal.returns
 returns c =
-    let net = c.args.net.now in
-    let n = c.args.area.now.number in
-    let outside : List Offer = c.as_slice.result.now in
-    heard_in_area net n c.args.dest outside c.args.borders.now c.new-offers.result.items c.push_allowed.new.offers.items c.push_allowed-2.new.offers.items
-    c.push_defaults.new.offers.items c.if-is_backbone.false
-    (subst (λ (l : List Offer). AreOffers (OutsideSummary net n c.args.dest) l) (sym c.as_slice.ensures.value)
-    (outside_are net n c.args.dest c.args.routes.now c.args.routes.now c.in_ok-outside.outside.items c.requires.routes refl c.in_ok-outside.ensures))
-    c.requires.borders c.new-offers.ensures.items c.in_ok-push_allowed.ensures c.in_ok-push_allowed-2.ensures c.in_ok-push_defaults.ensures
+    heard_in_area c.args.net.now c.args.area.now.number c.args.dest c.args.routes.now c.args.borders.now c.new-offers.result.items
+    c.push_outside.new.offers.items c.push_outside-2.new.offers.items c.push_defaults.new.offers.items c.if-is_backbone.false c.requires.routes
+    c.requires.borders c.new-offers.ensures.items c.in_ok-push_outside.ensures c.in_ok-push_outside-2.ensures c.in_ok-push_defaults.ensures

@@ -1,12 +1,12 @@
 use Rattle.std.proofs.Common.{◌∙◌, refl, ap}
 use Rattle.std.proofs.lemmas.Bool.{false≢true}
 use Rattle.net_model.specs.Configuration.{Configuration}
-use Rattle.ospf_routes.proofs.AreaFacts.{border_listens, inner_listens}
+use Rattle.igp_theory.specs.Ospf.{backbone}
+use Rattle.ospf_routes.proofs.AreaFacts.{inner_listens}
 use Rattle.ospf_routes.proofs.areas.listens_to.Goals as goal
 
 pub returns-then-is_border : goal.returns-then-is_border
-returns-then-is_border c =
-    λ n. border_listens c.args.net.now c.args.u n (c.if-is_border.ensures.0 refl)
+returns-then-is_border c = backbone (c.if-is_border.ensures.0 refl)
 
 pub returns : goal.returns
 returns c =

@@ -1,13 +1,14 @@
-use Rattle.std.proofs.Common.{◌+◌, ◌∷◌, ◌++◌, [], subst, List, sym, ℕ, get_or, take}
+use Rattle.std.proofs.Common.{◌+◌, ◌∷◌, ◌++◌, [], arith, subst, List, sym, ℕ, get_or, take}
 use Rattle.std.proofs.lemmas.List.{take_more, take_all}
-use Rattle.ospf_routes.proofs.AreaFacts.{numbered_none, numbered_more}
+use Rattle.ospf_routes.proofs.AreaFacts.{numbered_more}
 use Rattle.ospf_routes.specs.steps.Areas.{AreNumbered}
 use Rattle.ospf_routes.specs.declared.areas.AreaWalks.{AreaWalks}
 use Rattle.ospf_routes.proofs.areas.walks_of_areas.Goals as goal
 
 pub loop-number-init : goal.loop-number-init
 loop-number-init c =
-    subst (λ (l : List AreaWalks). AreNumbered c.args.net.now [] l) (sym c.new-areas.ensures.items) (numbered_none c.args.net.now)
+    subst (AreNumbered c.args.net.now []) (sym c.new-areas.ensures.items)
+    (record { walks = λ k d within. absurd (omega arith); members = λ k d within. absurd (omega arith); every = λ n has. absurd (omega (arith, has.1)) })
 
 pub loop-number-preserved : goal.loop-number-preserved
 loop-number-preserved c =

@@ -1,7 +1,7 @@
 use Rattle.std.proofs.Common.{◌≡◌, ◌+◌, ℕ, List, All, take, sym, subst}
 use Rattle.std.proofs.lemmas.List.Elements.{All-push}
 use Rattle.net_addr.specs.Addresses.{Block}
-use Rattle.ospf_routes.specs.steps.Destinations.{IsDestination, ospf_prefixes}
+use Rattle.ospf_routes.specs.steps.Destinations.{IsDestinationIn, ospf_prefixes}
 use Rattle.ospf_routes.specs.declared.intra_area.Destination.{Destination}
 use Rattle.route_tables.proofs.DestinationLists.{one_more_prefix}
 use Rattle.ospf_routes.proofs.domain.each_destination.Goals as goal
@@ -16,6 +16,6 @@ loop-dest-preserved c =
       dests = subst (λ (l : List Destination). ospf_prefixes l ≡ take (k + 1) dests) (sym c.in_ok-push.ensures.items)
           (one_more_prefix (λ (x : Destination). x.dest) dests k all d c.dest-item.result c.loop-dest-test.true c.dest-item.is c.loop-dest.invariant.dests
           c.in_ok-build.ensures.dest);
-      each = λ net are subnets. subst (λ (l : List Destination). All (IsDestination net) l) (sym c.in_ok-push.ensures.items)
-          (All-push (IsDestination net) all d (c.loop-dest.invariant.each net are subnets) (c.in_ok-build.ensures.is net are subnets));
+      each = λ net are subnets. subst (λ (l : List Destination). All (IsDestinationIn net c.args.areas.now) l) (sym c.in_ok-push.ensures.items)
+          (All-push (IsDestinationIn net c.args.areas.now) all d (c.loop-dest.invariant.each net are subnets) (c.in_ok-build.ensures.is net are subnets));
     }

@@ -1,14 +1,20 @@
-use Rattle.std.proofs.Common.{[], subst, List, ℕ, sym, take}
+use Rattle.std.proofs.Common.{[], arith, subst, List, ℕ, sym, take}
 use Rattle.std.proofs.lemmas.List.{take_all}
-use Rattle.route_tables.proofs.ListFacts.{one_more}
-use Rattle.ospf_routes.proofs.RouteFacts.{AreaListsSoFar, area_lists_none, area_lists_more, area_lists_all}
+use Rattle.std.specs.List.{Contains}
+use Rattle.route_tables.proofs.ListFacts.{contains_at, one_more}
+use Rattle.ospf_routes.proofs.RouteFacts.{AreaListsSoFar, area_lists_more, area_lists_all}
 use Rattle.ospf_routes.specs.declared.intra_area.AreaOffers.{AreaOffers}
 use Rattle.ospf_routes.proofs.entry.area_lists.Goals as goal
 
 pub loop-part-init : goal.loop-part-init
 loop-part-init c =
     subst (λ (l : List (List ℕ)). AreaListsSoFar c.args.net.now c.args.destination.now.dest c.args.u [] l) (sym c.new-lists.ensures.items)
-    (area_lists_none c.args.net.now c.args.destination.now.dest c.args.u)
+    (record { each = λ hops has. absurd (omega (arith, has.1)); every = λ n cost has costs. absurd (omega (arith, has.among.1)) })
+
+pub area_hops-requires-clause-part : goal.area_hops-requires-clause-part
+area_hops-requires-clause-part c =
+    subst (λ (l : List AreaOffers). Contains l c.part-item.result) c.as_slice-part-items.ensures.value
+    (contains_at c.as_slice-part-items.result.now c.loop-part.part-index c.part-item.result c.loop-part-test.true c.part-item.is)
 
 pub loop-part-preserved : goal.loop-part-preserved
 loop-part-preserved c =
@@ -20,7 +26,7 @@ loop-part-preserved c =
 
 pub returns : goal.returns
 returns c =
-    area_lists_all c.args.net.now c.args.destination.now c.as_slice-part-items.result.now c.args.u c.loop-part.lists.items c.requires.destination
+    area_lists_all c.args.net.now c.args.destination.now c.as_slice-part-items.result.now c.args.u c.loop-part.lists.items c.requires.destination.is
     c.as_slice-part-items.ensures.value
     (subst (λ (l : List AreaOffers). AreaListsSoFar c.args.net.now c.args.destination.now.dest c.args.u l c.loop-part.lists.items)
     (take_all c.loop-part.part-index c.as_slice-part-items.result.now c.loop-part-test.false) c.loop-part.invariant)

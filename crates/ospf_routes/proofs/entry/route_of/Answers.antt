@@ -1,20 +1,23 @@
-use Rattle.std.proofs.Common.{ℕ, length, refl, sym, subst}
+use Rattle.std.proofs.Common.{ℕ, length, Option, MatchOption, refl, sym, subst}
 use Rattle.std.proofs.lemmas.Bool.{false≢true}
 use Rattle.std.proofs.lemmas.Option.{MatchOption-at_some, MatchOption-at_none}
 use Rattle.net_addr.specs.Addresses.{Block}
 use Rattle.walk_core.specs.Reach.{Reach}
-use Rattle.igp_theory.specs.Ospf.{IsIntraArea, IsActiveRange, OspfEntry}
+use Rattle.std.proofs.lemmas.Result.{IfOk-weaker}
+use Rattle.igp_theory.specs.Ospf.{IsIntraArea, IsActiveRange, OspfEntry, intra_area, discard}
+use Rattle.route_core.specs.declared.entry.Entry.{Entry}
+use Rattle.route_tables.specs.declared.route.Route.{Route}
 use Rattle.route_tables.specs.Routings.{ForwardsBy, IsRouteFor}
 use Rattle.route_tables.proofs.BestRoutes.{route_by_hops, route_by_discard}
 use Rattle.ospf_routes.specs.steps.AreaReach.{area_reach}
 use Rattle.ospf_routes.specs.steps.Routing.{IsIntraRoute, IsListenedRoute, ListenedCost}
-use Rattle.ospf_routes.proofs.EntryFacts.{connected_has_none, entry_by_intra, entry_by_discard, entry_by_inter, no_route_no_entry}
+use Rattle.ospf_routes.proofs.EntryFacts.{connected_has_none, inter_entries}
 use Rattle.ospf_routes.proofs.RangeFacts.{active_range_is}
 use Rattle.ospf_routes.proofs.entry.route_of.Goals as goal
 
 pub returns-then-is_home : goal.returns-then-is_home
 returns-then-is_home c =
-    connected_has_none c.args.net.now c.args.u c.args.destination.now.dest ((c.requires.destination.homes c.args.u).0 (c.if-is_home.ensures.0 refl))
+    connected_has_none c.args.net.now c.args.u c.args.destination.now.dest ((c.requires.destination.is.homes c.args.u).0 (c.if-is_home.ensures.0 refl))
 
 pub returns-in-Some : goal.returns-in-Some
 returns-in-Some c =
@@ -24,7 +27,7 @@ returns-in-Some c =
     let reach : ℕ → Reach = area_reach c.args.areas.now u in
     let zones : ℕ = length c.args.areas.now in
     route_by_hops reach zones (length net) (IsIntraRoute net p u) (OspfEntry net u p) c.in-Some.route
-    (λ hops route. entry_by_intra net u p hops (λ is. false≢true (c.if-is_home.ensures.1 ((c.requires.destination.homes c.args.u).1 is))) route)
+    (λ hops route. intra_area (λ is. false≢true (c.if-is_home.ensures.1 ((c.requires.destination.is.homes c.args.u).1 is))) route.is route.hops_are)
     (MatchOption-at_some (IsIntraArea net p u → ⊥) (IsRouteFor reach zones (length net) (ForwardsBy (IsIntraRoute net p u)))
     c.in-Some.route c.in-Some.is c.in_ok-route.ensures)
 
@@ -36,10 +39,10 @@ returns-then-contains c =
     let reach : ℕ → Reach = area_reach c.args.areas.now u in
     let zones : ℕ = length c.args.areas.now in
     route_by_discard reach zones (length net) (OspfEntry net u p)
-    (entry_by_discard net u p (λ is. false≢true (c.if-is_home.ensures.1 ((c.requires.destination.homes c.args.u).1 is)))
+    (discard (λ is. false≢true (c.if-is_home.ensures.1 ((c.requires.destination.is.homes c.args.u).1 is)))
     (MatchOption-at_none (IsIntraArea net p u → ⊥) (IsRouteFor reach zones (length net) (ForwardsBy (IsIntraRoute net p u)))
     c.in_default.is c.in_ok-route.ensures)
-    ((active_range_is net u p c.args.ranges.now c.requires.ranges).0 (c.if-contains.ensures.0 refl)))
+    ((active_range_is net u p c.args.ranges.now c.requires.ranges).0 (c.if-contains.ensures.0 refl)) refl)
 
 pub inter_route-requires-clause-no_intra : goal.inter_route-requires-clause-no_intra
 inter_route-requires-clause-no_intra c =
@@ -58,23 +61,6 @@ inter_route-requires-clause-no_range c =
     subst (λ (q : Block). IsActiveRange net q c.args.u → ⊥) (sym c.requires.dest)
     (λ is. false≢true (c.if-contains.ensures.1 ((active_range_is net c.args.u p c.args.ranges.now c.requires.ranges).1 is)))
 
-pub returns-in-Some-2 : goal.returns-in-Some-2
-returns-in-Some-2 c =
-    let net = c.args.net.now in
-    let u = c.args.u in
-    let p : Block = c.args.destination.now.dest in
-    let reach : ℕ → Reach = area_reach c.args.areas.now u in
-    let zones : ℕ = length c.args.areas.now in
-    let other : Block = c.args.summaries.now.dest in
-    route_by_hops reach zones (length net) (IsListenedRoute net p u) (OspfEntry net u p) c.in-Some-2.route
-    (λ hops route. entry_by_inter net u p hops (λ is. false≢true (c.if-is_home.ensures.1 ((c.requires.destination.homes c.args.u).1 is)))
-    (MatchOption-at_none (IsIntraArea net p u → ⊥) (IsRouteFor reach zones (length net) (ForwardsBy (IsIntraRoute net p u)))
-    c.in_default.is c.in_ok-route.ensures)
-    (λ is. false≢true (c.if-contains.ensures.1 ((active_range_is net u p c.args.ranges.now c.requires.ranges).1 is))) route)
-    (subst (λ (q : Block). IsRouteFor reach zones (length net) (ForwardsBy (IsListenedRoute net q u)) c.in-Some-2.route) c.requires.dest
-    (MatchOption-at_some ((cost : ℕ) → ListenedCost net other u cost → ⊥) (IsRouteFor reach zones (length net) (ForwardsBy (IsListenedRoute net other u)))
-    c.in-Some-2.route c.in-Some-2.is c.in_ok-route-2.ensures))
-
 pub returns : goal.returns
 returns c =
     let net = c.args.net.now in
@@ -82,11 +68,12 @@ returns c =
     let p : Block = c.args.destination.now.dest in
     let reach : ℕ → Reach = area_reach c.args.areas.now u in
     let zones : ℕ = length c.args.areas.now in
-    let other : Block = c.args.summaries.now.dest in
-    no_route_no_entry net u p
+    let Given : Block → Option Route → Type 0 = λ q found. MatchOption found ((cost : ℕ) → ListenedCost net q u cost → ⊥)
+    (IsRouteFor reach zones (length net) (ForwardsBy (IsListenedRoute net q u))) in
+    IfOk-weaker c.inter_route.result (Given c.args.summaries.now.dest)
+    (λ found. MatchOption found ((e : Entry) → OspfEntry net u p e → ⊥) (IsRouteFor reach zones (length net) (OspfEntry net u p)))
+    (λ found is. inter_entries net u p reach zones found (λ is. false≢true (c.if-is_home.ensures.1 ((c.requires.destination.is.homes u).1 is)))
     (MatchOption-at_none (IsIntraArea net p u → ⊥) (IsRouteFor reach zones (length net) (ForwardsBy (IsIntraRoute net p u)))
     c.in_default.is c.in_ok-route.ensures)
     (λ is. false≢true (c.if-contains.ensures.1 ((active_range_is net u p c.args.ranges.now c.requires.ranges).1 is)))
-    (subst (λ (q : Block). (cost : ℕ) → ListenedCost net q u cost → ⊥) c.requires.dest
-    (MatchOption-at_none ((cost : ℕ) → ListenedCost net other u cost → ⊥) (IsRouteFor reach zones (length net) (ForwardsBy (IsListenedRoute net other u)))
-    c.in_default-2.is c.in_ok-route-2.ensures))
+    (subst (λ (q : Block). Given q found) c.requires.dest is)) c.inter_route.ensures

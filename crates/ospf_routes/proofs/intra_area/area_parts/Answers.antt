@@ -1,9 +1,8 @@
-use Rattle.std.proofs.Common.{[], subst, List, sym, take, refl, ℕ}
+use Rattle.std.proofs.Common.{arith, subst, List, sym, refl, ℕ}
 use Rattle.std.specs.List.{Any}
 use Rattle.std.proofs.lemmas.List.{take_all}
 use Rattle.walk_core.specs.declared.offers.Offer.{Offer}
-use Rattle.ospf_routes.proofs.IntraFacts.{PartsSoFar, parts_none, parts_more}
-use Rattle.route_tables.proofs.ListFacts.{one_more}
+use Rattle.ospf_routes.proofs.IntraFacts.{PartsSoFar, parts_more}
 use Rattle.ospf_routes.specs.steps.Areas.{HasArea}
 use Rattle.ospf_routes.specs.steps.Destinations.{HasAreaPart}
 use Rattle.ospf_routes.specs.declared.areas.AreaWalks.{AreaWalks}
@@ -11,28 +10,27 @@ use Rattle.ospf_routes.specs.declared.intra_area.AreaOffers.{AreaOffers}
 use Rattle.ospf_routes.specs.steps.Offered.{InsideOf}
 use Rattle.ospf_routes.proofs.intra_area.area_parts.Goals as goal
 
-pub loop-area-init : goal.loop-area-init
-loop-area-init c =
-    let wanted : ℕ → Offer → Type 0 = λ n o. Any (λ r. InsideOf n r o) c.args.routes.now in
-    subst (λ (l : List AreaOffers). PartsSoFar wanted [] l) (sym c.new-parts.ensures.items) (parts_none wanted)
+pub loop-zone-init : goal.loop-zone-init
+loop-zone-init c =
+    subst (PartsSoFar c.args.routes.now c.args.areas.now 0) (sym c.new-parts.ensures.items)
+    (record { each = λ k d within. absurd (omega arith); every = λ n o has is. absurd (omega (arith, has.among.1)) })
 
-pub loop-area-preserved : goal.loop-area-preserved
-loop-area-preserved c =
-    let wanted : ℕ → Offer → Type 0 = λ n o. Any (λ r. InsideOf n r o) c.args.routes.now in
-    let a : AreaWalks = c.area-item.result in
-    let part : AreaOffers = record { area = a.number; offers = c.in_ok-offers.offers } in
-    subst (λ (l : List AreaWalks). PartsSoFar wanted l c.push_part.new.parts.items)
-    (one_more c.args.areas.now c.loop-area.area-index a c.loop-area-test.true c.area-item.is)
-    (parts_more wanted (take c.loop-area.area-index c.args.areas.now)
-    a c.loop-area.parts.items c.push_part.new.parts.items part c.loop-area.invariant refl c.in_ok-offers.ensures c.in_ok-push_part.ensures)
+pub loop-zone-preserved : goal.loop-zone-preserved
+loop-zone-preserved c =
+    let a : AreaWalks = c.index-areas-zone.result in
+    let part : AreaOffers = record { area = a.number; zone = c.loop-zone.zone; offers = c.in_ok-offers.offers } in
+    parts_more c.args.routes.now c.args.areas.now c.loop-zone.zone a c.loop-zone.parts.items c.push_part.new.parts.items part c.loop-zone.invariant
+    c.loop-zone-test.true c.index-areas-zone.is refl
+    (record {
+      offers = c.in_ok-offers.ensures;
+      at = record { within = c.loop-zone-test.true; area = a; here = c.index-areas-zone.is; number = refl };
+    })
+    c.in_ok-push_part.ensures
 
-pub returns-clause-exact : goal.returns-clause-exact
-returns-clause-exact c = c.loop-area.invariant.exact
+pub returns-clause-each : goal.returns-clause-each
+returns-clause-each c = c.loop-zone.invariant.each
 
 pub returns-clause-every : goal.returns-clause-every
 returns-clause-every c =
-    let wanted : ℕ → Offer → Type 0 = λ n o. Any (λ r. InsideOf n r o) c.args.routes.now in
-    let all : (n : ℕ) (o : Offer) → HasArea c.args.areas.now n → wanted n o → HasAreaPart c.loop-area.parts.items n =
-    subst (λ (l : List AreaWalks). (n : ℕ) (o : Offer) → HasArea l n → wanted n o → HasAreaPart c.loop-area.parts.items n)
-    (take_all c.loop-area.area-index c.args.areas.now c.loop-area-test.false) c.loop-area.invariant.every in
-    all
+    subst (λ (l : List AreaWalks). (n : ℕ) (o : Offer) → HasArea l n → Any (λ r. InsideOf n r o) c.args.routes.now → HasAreaPart c.loop-zone.parts.items n)
+    (take_all c.loop-zone.zone c.args.areas.now c.loop-zone-test.false) c.loop-zone.invariant.every

@@ -6,7 +6,7 @@ use Rattle.ospf_routes.proofs.intra_area.push_part.Goals as goal
 
 pub returns : goal.returns
 returns c =
-    let part : AreaOffers = record { area = c.args.area; offers = c.args.offers } in
+    let part : AreaOffers = record { area = c.args.area; zone = c.args.zone; offers = c.args.offers } in
     let old : List AreaOffers = c.args.parts.now.items in
     subst (λ (l : List AreaOffers). AddsPart old l part) (sym c.in_ok-push.ensures.items) (record {
       each = λ other has. Contains-push_cases old part other has;

@@ -4,7 +4,7 @@ use Rattle.std.proofs.lemmas.List.Elements.{All-push}
 use Rattle.std.specs.List.{All}
 use Rattle.ospf_routes.proofs.DestinationFacts.{one_more_summary}
 use Rattle.route_tables.proofs.ListFacts.{all_in_at}
-use Rattle.ospf_routes.specs.steps.Destinations.{IsDestination, ospf_prefixes}
+use Rattle.ospf_routes.specs.steps.Destinations.{IsDestinationIn, ospf_prefixes}
 use Rattle.ospf_routes.specs.steps.Summarized.{AreSummaries}
 use Rattle.ospf_routes.specs.declared.areas.AreaWalks.{AreaWalks}
 use Rattle.ospf_routes.specs.declared.intra_area.Destination.{Destination}
@@ -13,9 +13,10 @@ use Rattle.ospf_routes.proofs.protocol.all_summaries.Goals as goal
 
 pub build-requires-clause-destination : goal.build-requires-clause-destination
 build-requires-clause-destination c =
-    all_in_at (IsDestination c.args.net.now) c.args.domain.now.destinations.items c.deref-destination-items.result.now c.loop-destination.destination-index
-    c.destination-item.result c.deref-destination-items.ensures.value c.requires.domain.destinations.each c.loop-destination-test.true
-    c.destination-item.is
+    subst (λ (l : List AreaWalks). IsDestinationIn c.args.net.now l c.destination-item.result) (sym c.as_slice-areas.ensures.value)
+    (all_in_at (IsDestinationIn c.args.net.now c.args.domain.now.areas.items) c.args.domain.now.destinations.items
+    c.deref-destination-items.result.now c.loop-destination.destination-index c.destination-item.result c.deref-destination-items.ensures.value
+    c.requires.domain.destinations.each c.loop-destination-test.true c.destination-item.is)
 
 pub loop-destination-preserved : goal.loop-destination-preserved
 loop-destination-preserved c =

@@ -1,17 +1,19 @@
-use Rattle.std.proofs.Common.{◌≡◌, ◌<◌, ◌≤◌, ℕ, length, get_or, subst, List}
+use Rattle.std.proofs.Common.{◌≡◌, ◌<◌, ◌≤◌, ℕ, length, get_or, subst, sym, List}
 use Rattle.std.specs.List.{Any}
 use Rattle.igp_theory.specs.Ospf.{IsComponent}
 use Rattle.route_tables.proofs.ListFacts.{all_in_at, adds_start, adds_step, exactly_added, adds_end}
 use Rattle.ospf_routes.proofs.RangeFacts.{component_costs_are}
-use Rattle.ospf_routes.specs.steps.Destinations.{IsDestination}
+use Rattle.ospf_routes.specs.steps.Destinations.{IsDestinationIn}
+use Rattle.ospf_routes.specs.declared.areas.AreaWalks.{AreaWalks}
 use Rattle.ospf_routes.specs.declared.intra_area.Destination.{Destination}
 use Rattle.ospf_routes.proofs.ranges.component_costs.Goals as goal
 
 pub component_cost-cost-requires-clause-destination : goal.component_cost-cost-requires-clause-destination
 component_cost-cost-requires-clause-destination c =
-    all_in_at (IsDestination c.args.net.now) c.args.domain.now.destinations.items c.deref-destination-items.result.now c.loop-destination.destination-index
-    c.destination-item.result c.deref-destination-items.ensures.value c.requires.domain.destinations.each c.loop-destination-test.true
-    c.destination-item.is
+    subst (λ (l : List AreaWalks). IsDestinationIn c.args.net.now l c.destination-item.result) (sym c.as_slice.ensures.value)
+    (all_in_at (IsDestinationIn c.args.net.now c.args.domain.now.areas.items) c.args.domain.now.destinations.items
+    c.deref-destination-items.result.now c.loop-destination.destination-index c.destination-item.result c.deref-destination-items.ensures.value
+    c.requires.domain.destinations.each c.loop-destination-test.true c.destination-item.is)
 
 pub loop-destination-init : goal.loop-destination-init
 loop-destination-init c =

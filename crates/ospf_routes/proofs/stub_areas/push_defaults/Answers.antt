@@ -1,13 +1,14 @@
 use Rattle.std.proofs.Common.{arith, refl}
 use Rattle.std.proofs.lemmas.Bool.{false≢true}
-use Rattle.route_tables.proofs.ListFacts.{below_start, below_step}
-use Rattle.ospf_routes.proofs.SummaryFacts.{no_default, defaults_are}
-use Rattle.ospf_routes.specs.steps.Summarized.{RouterDefault}
+use Rattle.route_tables.proofs.ListFacts.{adds_nothing, below_start, below_step}
+use Rattle.ospf_routes.proofs.SummaryFacts.{defaults_are}
+use Rattle.ospf_routes.specs.steps.Summarized.{HasDefault, RouterDefault}
 use Rattle.ospf_routes.proofs.stub_areas.push_defaults.Goals as goal
 
 pub returns-then-not-is_all_addresses : goal.returns-then-not-is_all_addresses
 returns-then-not-is_all_addresses c =
-    no_default c.args.net.now c.args.area.now.number c.args.dest c.args.offers.now.items (λ is. false≢true (c.if-not-is_all_addresses.ensures.1 is))
+    adds_nothing c.args.offers.now.items (HasDefault c.args.net.now c.args.area.now.number c.args.dest)
+    (λ o is. false≢true (c.if-not-is_all_addresses.ensures.1 is.all))
 
 pub loop-b-init : goal.loop-b-init
 loop-b-init c =

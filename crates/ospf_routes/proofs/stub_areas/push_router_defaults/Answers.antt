@@ -4,19 +4,20 @@ use Rattle.std.proofs.lemmas.Result.{on_ok_weaker}
 use Rattle.std.specs.List.{Any}
 use Rattle.net_model.specs.Configuration.{Configuration}
 use Rattle.walk_core.specs.declared.offers.Offer.{Offer}
-use Rattle.route_tables.proofs.ListFacts.{adds_same}
-use Rattle.ospf_routes.proofs.SummaryFacts.{no_member_default, no_router_default, router_default_is}
+use Rattle.route_tables.proofs.ListFacts.{adds_nothing, adds_same}
+use Rattle.ospf_routes.proofs.SummaryFacts.{router_default_is}
 use Rattle.ospf_routes.specs.steps.Summarized.{IsDefault, RouterDefault}
 use Rattle.ospf_routes.proofs.stub_areas.push_router_defaults.Goals as goal
 
 pub returns-then-not-has : goal.returns-then-not-has
 returns-then-not-has c =
-    no_member_default c.args.net.now c.args.area.now.number c.args.b c.args.offers.now.items
-    (λ inside. false≢true (c.if-not-has.ensures.1 ((c.requires.members.exact c.args.b c.requires.router).1 inside)))
+    adds_nothing c.args.offers.now.items (RouterDefault c.args.net.now c.args.area.now.number c.args.b)
+    (λ o is. false≢true (c.if-not-has.ensures.1 ((c.requires.members.exact c.args.b c.requires.router).1 is.inside)))
 
 pub returns-then-not-is_border : goal.returns-then-not-is_border
 returns-then-not-is_border c =
-    no_router_default c.args.net.now c.args.area.now.number c.args.b c.args.offers.now.items (λ is. false≢true (c.if-not-is_border.ensures.1 is))
+    adds_nothing c.args.offers.now.items (RouterDefault c.args.net.now c.args.area.now.number c.args.b)
+    (λ o is. false≢true (c.if-not-is_border.ensures.1 is.border))
 
 pub returns : goal.returns
 returns c =

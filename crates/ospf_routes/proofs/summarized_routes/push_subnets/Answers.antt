@@ -1,16 +1,16 @@
-use Rattle.std.proofs.Common.{refl}
-use Rattle.std.proofs.lemmas.Bool.{false≢true}
-use Rattle.std.specs.List.{Any}
-use Rattle.route_tables.proofs.ListFacts.{adds_start, adds_step, adds_same, adds_end}
-use Rattle.ospf_routes.proofs.SummaryFacts.{subnets_nothing, subnets_are}
+use Rattle.std.proofs.Common.{List, subst}
+use Rattle.std.specs.List.{Any, Contains}
+use Rattle.route_tables.proofs.ListFacts.{contains_at, adds_start, adds_step, adds_same, adds_end}
+use Rattle.ospf_routes.proofs.SummaryFacts.{subnets_are}
 use Rattle.ospf_routes.specs.steps.Summarized.{IsSubnetSummary, SummarizedSubnet}
 use Rattle.ospf_routes.specs.declared.area_route.AreaRoute.{AreaRoute}
 use Rattle.ospf_routes.specs.declared.intra_area.AreaOffers.{AreaOffers}
 use Rattle.ospf_routes.proofs.summarized_routes.push_subnets.Goals as goal
 
-pub returns-then-is_component : goal.returns-then-is_component
-returns-then-is_component c =
-    subnets_nothing c.args.net.now c.args.destination.now.dest c.args.b c.args.routes.now.items (c.if-is_component.ensures.0 refl)
+pub subnet_summary-requires-clause-part : goal.subnet_summary-requires-clause-part
+subnet_summary-requires-clause-part c =
+    subst (λ (l : List AreaOffers). Contains l c.part-item.result) c.as_slice-part-items.ensures.value
+    (contains_at c.as_slice-part-items.result.now c.loop-part.part-index c.part-item.result c.loop-part-test.true c.part-item.is)
 
 pub loop-part-init : goal.loop-part-init
 loop-part-init c =
@@ -33,5 +33,4 @@ returns c =
     (SummarizedSubnet net d.dest c.args.b)
     (adds_end (λ (r : AreaRoute) (part : AreaOffers). IsSubnetSummary net d.dest part.area c.args.b r)
     c.args.routes.now.items c.loop-part.routes.items given c.loop-part.part-index c.loop-part-test.false c.loop-part.invariant)
-    (subnets_are net d given c.args.b c.requires.destination c.as_slice-part-items.ensures.value c.requires.border
-    (λ is. false≢true (c.if-is_component.ensures.1 is)))
+    (subnets_are net d given c.args.b c.requires.destination.is c.as_slice-part-items.ensures.value c.requires.border)

@@ -3,7 +3,7 @@ use Rattle.std.proofs.lemmas.List.{get_or_default}
 use Rattle.route_tables.proofs.ListFacts.{adds_start, adds_more}
 use Rattle.ospf_routes.proofs.BorderLists.{listed_is_border, listed_is_router, exactly_by_borders}
 use Rattle.ospf_routes.proofs.RangeFacts.{ranges_of}
-use Rattle.ospf_routes.proofs.SummaryFacts.{summarized_at, summarized_back}
+use Rattle.ospf_routes.proofs.SummaryFacts.{summarized_at}
 use Rattle.ospf_routes.specs.steps.Summarized.{SummarizedFrom}
 use Rattle.ospf_routes.specs.declared.area_route.AreaRoute.{AreaRoute}
 use Rattle.ospf_routes.proofs.summarized_routes.summarized.Goals as goal
@@ -44,4 +44,5 @@ returns c =
     let p = c.args.destination.now.dest in
     exactly_by_borders net c.args.borders.now (λ (r : AreaRoute) (b : ℕ). SummarizedFrom net p b r) (λ (r : AreaRoute). SummarizedFrom net p r.at r)
     c.new-routes.result.items c.loop-b.routes.items c.loop-b.b-index c.requires.borders c.new-routes.ensures.items c.loop-b-test.false c.loop-b.invariant
-    (λ r from. (r.at, (summarized_at net p r.at r from).1, from)) (λ r b from. summarized_back net p b r from)
+    (λ r from. (r.at, (summarized_at net p r.at r from).1, from))
+    (λ r b from. subst (λ (k : ℕ). SummarizedFrom net p k r) (sym (summarized_at net p b r from).0) from)

@@ -12,4 +12,4 @@ returns-clause-is c net are subnets =
     destination_is net c.args.areas.now c.in_ok-routes.routes.items c.as_slice.result.now d are
     (homes_are net p all near d.homes.items subnets c.around-near.ensures c.in_ok-homes.ensures)
     (subnet_routes_are net p all near c.in_ok-routes.routes.items subnets c.around-near.ensures c.in_ok-routes.ensures)
-    c.as_slice.ensures.value c.in_ok-parts.ensures.exact c.in_ok-parts.ensures.every
+    c.as_slice.ensures.value c.in_ok-parts.ensures.each c.in_ok-parts.ensures.every

@@ -1,11 +1,13 @@
-use Rattle.std.proofs.Common.{◌≡◌, ◌∙◌, ◌<◌, List, length, map, IfOk, MatchOption, ap, sym, subst}
+use Rattle.std.proofs.Common.{◌<◌, List, length, IfOk, MatchOption, arith, sym, subst}
+use Rattle.std.proofs.lemmas.List.{length-map}
 use Rattle.net_addr.specs.Addresses.{Block}
 use Rattle.net_model.specs.Network.{Network}
 use Rattle.route_core.specs.declared.entry.Entry.{Entry}
 use Rattle.igp_theory.specs.Ospf.{OspfEntry}
 use Rattle.route_tables.specs.Prefixes.{prefix_at}
 use Rattle.route_tables.proofs.DestinationLists.{element_at, prefix_is}
-use Rattle.ospf_routes.specs.steps.Destinations.{IsDestination, ospf_prefixes}
+use Rattle.ospf_routes.specs.steps.Destinations.{IsDestinationIn, ospf_prefixes}
+use Rattle.ospf_routes.specs.steps.Areas.{IsListenerAt}
 use Rattle.route_tables.specs.Routings.{IsRouteFor}
 use Rattle.ospf_routes.specs.steps.AreaReach.{area_reach}
 use Rattle.ospf_routes.specs.steps.Networks.{OspfNetwork}
@@ -14,6 +16,7 @@ use Rattle.ospf_routes.specs.declared.areas.AreaWalks.{AreaWalks}
 use Rattle.ospf_routes.specs.declared.intra_area.Destination.{Destination}
 use Rattle.ospf_routes.specs.declared.announcements.Summaries.{Summaries}
 use Rattle.ospf_routes.proofs.AreaFacts.{listener_of}
+use Rattle.ospf_routes.proofs.DestinationFacts.{same_key}
 use Rattle.ospf_routes.proofs.RangeFacts.{ranges_of}
 use Rattle.ospf_routes.proofs.protocol.OspfProtocol.route.Goals as goal
 
@@ -24,16 +27,18 @@ route_of-requires-clause-ranges c =
 
 pub route_of-requires-clause-listens : goal.route_of-requires-clause-listens
 route_of-requires-clause-listens c =
-    listener_of c.self.inside.net.now c.self.inside.listens.items c.args.router c.index-listens.result.now c.self.invariant.listeners
-    (subst (λ (ospf : OspfNetwork). c.args.router < length ospf.net) (sym c.self.view_is) c.requires.router) c.index-listens.ensures
+    subst (λ (l : List AreaWalks). IsListenerAt c.self.inside.net.now l c.args.router c.index-listens.result.now) (sym c.as_slice-areas.ensures.value)
+    (listener_of c.self.inside.net.now c.self.inside.domain.areas.items c.self.inside.listens.items c.args.router c.index-listens.result.now
+    c.self.invariant.listeners (subst (λ (ospf : OspfNetwork). c.args.router < length ospf.net) (sym c.self.view_is) c.requires.router) c.index-listens.ensures)
 
 pub route_of-requires-clause-destination : goal.route_of-requires-clause-destination
 route_of-requires-clause-destination c =
-    element_at (λ (d : Destination). d.dest) (IsDestination c.self.inside.net.now)
+    subst (λ (l : List AreaWalks). IsDestinationIn c.self.inside.net.now l c.index-destination.result.now) (sym c.as_slice-areas.ensures.value)
+    (element_at (λ (d : Destination). d.dest) (IsDestinationIn c.self.inside.net.now c.self.inside.domain.areas.items)
     c.self.inside.domain.destinations.items c.args.place c.index-destination.result.now
     c.self.invariant.domain.destinations.each
     (subst (λ (ospf : OspfNetwork). c.args.place < length (ospf_prefixes ospf.domain.destinations.items)) (sym c.self.view_is) c.requires.place)
-    c.index-destination.ensures
+    c.index-destination.ensures)
 
 pub route_of-requires-clause-summaries : goal.route_of-requires-clause-summaries
 route_of-requires-clause-summaries c =
@@ -53,11 +58,9 @@ route_of-requires-clause-dest c =
     let all : List Summaries = c.self.inside.summaries.items in
     let within : c.args.place < length (ospf_prefixes ds) = subst (λ (ospf : OspfNetwork). c.args.place < length (ospf_prefixes ospf.domain.destinations.items))
     (sym c.self.view_is) c.requires.place in
-    let same : ospf_prefixes ds ≡ map (λ (s : Summaries). s.dest) all = sym c.self.invariant.announced.dests in
-    prefix_is (λ (s : Summaries). s.dest) all c.args.place c.index-summaries.result.now (subst (λ (l : List Block). c.args.place < length l) same within)
-    c.index-summaries.ensures
-    ∙ ap (λ (l : List Block). prefix_at l c.args.place) (sym same)
-    ∙ sym (prefix_is (λ (d : Destination). d.dest) ds c.args.place c.index-destination.result.now within c.index-destination.ensures)
+    let long = length-map ds (λ (d : Destination). d.dest) in
+    same_key (λ (s : Summaries). s.dest) (λ (d : Destination). d.dest) all ds c.args.place c.index-summaries.result.now c.index-destination.result.now
+    c.self.invariant.announced.dests (omega (arith, long, within)) c.index-summaries.ensures c.index-destination.ensures
 
 pub returns : goal.returns
 returns c =

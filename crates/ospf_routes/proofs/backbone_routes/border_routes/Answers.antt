@@ -1,12 +1,12 @@
 use Rattle.std.proofs.Common.{◌≡◌, ℕ, ◌<◌, Some, refl, get_or, sym, subst}
 use Rattle.std.proofs.lemmas.List.{get_or_default}
-use Rattle.igp_theory.specs.Ospf.{BorderCost}
-use Rattle.walk_core.specs.declared.offers.Offer.{Offer}
+use Rattle.ospf_routes.specs.steps.Summarized.{IsBackboneRoute}
+use Rattle.ospf_routes.specs.declared.area_route.AreaRoute.{AreaRoute}
 use Rattle.route_tables.proofs.ListFacts.{adds_start, adds_more, adds_same}
 use Rattle.ospf_routes.proofs.BorderLists.{listed_is_border, listed_is_router, exactly_by_borders}
 use Rattle.ospf_routes.proofs.RangeFacts.{ranges_of}
 use Rattle.ospf_routes.proofs.SummaryFacts.{BorderOfRouter, border_of_router}
-use Rattle.ospf_routes.proofs.backbone_routes.border_offers.Goals as goal
+use Rattle.ospf_routes.proofs.backbone_routes.border_routes.Goals as goal
 
 pub bounds-ranges-u : goal.bounds-ranges-u
 bounds-ranges-u c =
@@ -28,7 +28,7 @@ border_cost-cost-requires-clause-router c =
 
 pub loop-u-init : goal.loop-u-init
 loop-u-init c =
-    adds_start (λ (o : Offer) (u : ℕ). BorderOfRouter c.args.net.now c.args.destination.now.dest u o) c.new-offers.result.items c.args.borders.now
+    adds_start (λ (o : AreaRoute) (u : ℕ). BorderOfRouter c.args.net.now c.args.destination.now.dest u o) c.new-routes.result.items c.args.borders.now
 
 pub loop-u-preserved : goal.loop-u-preserved
 loop-u-preserved c =
@@ -36,16 +36,16 @@ loop-u-preserved c =
     let p = c.args.destination.now.dest in
     let i : ℕ = c.loop-u.u-index in
     let u : ℕ = get_or c.args.borders.now i 0 in
-    adds_more (λ (o : Offer) (u : ℕ). BorderOfRouter net p u o) c.new-offers.result.items c.loop-u.offers.items
+    adds_more (λ (o : AreaRoute) (u : ℕ). BorderOfRouter net p u o) c.new-routes.result.items c.loop-u.routes.items
     c.push_option.new.all.items c.args.borders.now i u c.loop-u-test.true (get_or_default c.args.borders.now i 0 u c.loop-u-test.true)
     c.loop-u.invariant
-    (adds_same c.loop-u.offers.items c.push_option.new.all.items (λ (o : Offer). c.border_offer.result ≡ Some o) (BorderOfRouter net p u)
-    c.in_ok-push_option.ensures.ok (border_of_router net p u c.border_cost-cost.result c.border_offer.result c.border_cost-cost.ensures c.border_offer.ensures))
+    (adds_same c.loop-u.routes.items c.push_option.new.all.items (λ (o : AreaRoute). c.border_route.result ≡ Some o) (BorderOfRouter net p u)
+    c.in_ok-push_option.ensures.ok (border_of_router net p u c.border_cost-cost.result c.border_route.result c.border_cost-cost.ensures c.border_route.ensures))
 
 pub returns : goal.returns
 returns c =
     let net = c.args.net.now in
     let p = c.args.destination.now.dest in
-    exactly_by_borders net c.args.borders.now (λ (o : Offer) (u : ℕ). BorderOfRouter net p u o) (λ (o : Offer). BorderCost net p o.at o.asks)
-    c.new-offers.result.items c.loop-u.offers.items c.loop-u.u-index c.requires.borders c.new-offers.ensures.items c.loop-u-test.false c.loop-u.invariant
-    (λ o costs. (o.at, costs.border, (refl, costs))) (λ o u both. both.1)
+    exactly_by_borders net c.args.borders.now (λ (o : AreaRoute) (u : ℕ). BorderOfRouter net p u o) (IsBackboneRoute net p)
+    c.new-routes.result.items c.loop-u.routes.items c.loop-u.u-index c.requires.borders c.new-routes.ensures.items c.loop-u-test.false c.loop-u.invariant
+    (λ o is. (o.at, is.costs.border, (refl, is))) (λ o u both. both.1)

@@ -1,7 +1,0 @@
-use Rattle.std.proofs.Common.{◌≡◌}
-use Rattle.std.specs.List.{AllWithin}
-use Rattle.ospf_routes.specs.declared.areas.AreaWalks.{AreaWalks}
-use Rattle.ospf_routes.proofs.areas.walks_of.Given as goal
-
-abbrev pub invariant-loop-area : goal.invariant-loop-area
-invariant-loop-area l = AllWithin (λ (a : AreaWalks). a.number ≡ l.number → ⊥) l.areas 0 l.area-index
