@@ -1,20 +1,20 @@
 -- Why intervals between cuts tell classes apart, and why numbers by the longest prefix number the classes.
-use Rattle.std.proofs.Common.{◌≡◌, ◌≢◌, ℕ, zero, suc, ◌+◌, ◌^◌, ◌<◌, ◌≤◌, List, length, get_or, map, Option, Some, None, All, AllPairs, Contains, slice_get}
-use Rattle.std.proofs.Common.{⊎_elim, arith, refl, sym, ap, subst, ◌∙◌}
+use Rattle.std.proofs.Common.{◌≡◌, ◌≢◌, ℕ, zero, suc, ◌+◌, ◌^◌, ◌<◌, ◌≤◌, List, length, get_or, inl, inr, Some, All, AllPairs, Contains, slice_get}
+use Rattle.std.proofs.Common.{⊎_elim, arith, sym, subst, ◌∙◌}
 use Rattle.std.proofs.lemmas.Bool.{cases_lt}
-use Rattle.std.proofs.lemmas.List.{get_or_default, get_or-map, length-map}
+use Rattle.std.proofs.lemmas.List.{get_or_default}
 use Rattle.std.proofs.lemmas.List.Elements.{All-contains}
 use Rattle.std.proofs.lemmas.Option.{slice_get_within, get_or_from_slice_get, same_Some}
 use Rattle.std.specs.List.Sorted.{IsStrictlyIncreasing}
 use Rattle.net_addr.specs.Addresses.{Block, ContainsAddress, IsBlock}
 use Rattle.net_addr.specs.Boundaries.{SameBlocksContain}
-use Rattle.net_addr.specs.LongestMatches.{IsLongestMatch, MatchAt, IsMatch, AreMatches}
-use Rattle.net_addr.specs.declared.matches.Match.{Match}
-use Rattle.net_addr.proofs.LongestMatchLaws.{IsLongestMatch-alike, IsMatch-alike, IsMatch-within, one_longest_match}
+use Rattle.net_addr.specs.LongestMatches.{IsLongestMatch}
+use Rattle.net_addr.proofs.LongestMatchLaws.{IsLongestMatch-alike, one_longest_match}
 use Rattle.net_addr.proofs.Blocks.{Covers-common, ContainsAddress-covers}
 use Rattle.net_addr.proofs.BoundaryFacts.{ContainsAddress-alike}
 use Rattle.prefix_atoms.specs.Classes.{AreSamples, Classes}
-use Rattle.prefix_atoms.specs.Lists.{AreCuts, place_or}
+use Rattle.prefix_atoms.specs.Lists.{AreCuts}
+use Rattle.prefix_atoms.specs.Longest.{AreKeys, IsKey}
 use Rattle.prefix_atoms.specs.Numbers.{IsNumbering, NumbersClasses, ArePicked, InInterval, TellClasses}
 use Rattle.prefix_atoms.proofs.Ascending.{below_later, at_most_later, start_is_last}
 use Rattle.prefix_atoms.proofs.ClassLaws.{alike_sym, alike_trans}
@@ -77,22 +77,26 @@ each_in_interval cuts (a) some first =
 -- The longest prefix tells the class
 
 -- addresses with one longest prefix are in one class, since a prefix that contains one covers that prefix
-longest_alike : (prefixes : List Block) (a b : ℕ) (found : Option Match) → All IsBlock prefixes → IsMatch prefixes a found → IsMatch prefixes b found
-    → SameBlocksContain prefixes a b
-longest_alike prefixes a b None blocks one two p member = (λ inside. absurd (one p member inside), λ inside. absurd (two p member inside))
-longest_alike prefixes a b (Some found) blocks one two p member =
-    let same : one.at.prefix ≡ two.at.prefix = same_Some one.at.prefix two.at.prefix (sym one.at.stands ∙ two.at.stands) in (
-      longer_contains prefixes a b p one.at.prefix blocks one.at.match
-          (subst (λ (q : Block). ContainsAddress q b) (sym same) two.at.match.contains) member,
-      longer_contains prefixes b a p two.at.prefix blocks two.at.match
-          (subst (λ (q : Block). ContainsAddress q a) same one.at.match.contains) member,
-    )
+key_alike : (prefixes : List Block) (a b key : ℕ) → All IsBlock prefixes → IsKey prefixes a key → IsKey prefixes b key → SameBlocksContain prefixes a b
+key_alike prefixes a b key blocks one two p member = elim one [
+  | inl none ↦ elim two [
+    | inl other ↦ (λ inside. absurd (none.1 p member inside), λ inside. absurd (other.1 p member inside))
+    | inr at ↦ absurd (omega (arith, slice_get_within prefixes key at.prefix at.stands, none.0))
+  ]
+  | inr at ↦ elim two [
+    | inl none ↦ absurd (omega (arith, slice_get_within prefixes key at.prefix at.stands, none.0))
+    | inr other ↦
+        let same : at.prefix ≡ other.prefix = same_Some at.prefix other.prefix (sym at.stands ∙ other.stands) in (
+          longer_contains a b at.prefix at.match (subst (λ (q : Block). ContainsAddress q b) (sym same) other.match.contains),
+          longer_contains b a other.prefix other.match (subst (λ (q : Block). ContainsAddress q a) same at.match.contains),
+        )
+  ]
+]
   where
-    longer_contains : (prefixes : List Block) (a b : ℕ) (p q : Block) → All IsBlock prefixes → IsLongestMatch (Contains prefixes) a q
-        → ContainsAddress q b → Contains prefixes p → ContainsAddress p a → ContainsAddress p b
-    longer_contains prefixes a b p q blocks longest at_b in_p inside =
+    longer_contains : (a b : ℕ) (q : Block) → IsLongestMatch (Contains prefixes) a q → ContainsAddress q b → ContainsAddress p a → ContainsAddress p b
+    longer_contains a b q longest at_b inside =
         let block : IsBlock q = All-contains IsBlock prefixes q blocks longest.is_offered in
-        ContainsAddress-covers p q b block (Covers-common p q a block (longest.longest p in_p inside) inside longest.contains) at_b
+        ContainsAddress-covers p q b block (Covers-common p q a block (longest.longest p member inside) inside longest.contains) at_b
 
 -- no prefix of a list without repeats stands at two places
 one_place : (prefixes : List Block) (i j : ℕ) (p : Block) → AllPairs (λ p q. p ≢ q) prefixes → slice_get prefixes i ≡ Some p →
@@ -110,95 +114,55 @@ one_place prefixes i j p apart at_i at_j =
     (cases_lt j i))
     (cases_lt i j)
 
--- matches at one place have one length
-same_match : (prefixes : List Block) (a b : ℕ) (m n : Match) → MatchAt prefixes a m → MatchAt prefixes b n → m.place ≡ n.place → m ≡ n
-same_match prefixes a b m n one two place =
-    let same : one.at.prefix ≡ two.at.prefix = same_Some one.at.prefix two.at.prefix
-    (sym one.at.stands ∙ ap (slice_get prefixes) place ∙ two.at.stands) in
-    let len : m.len ≡ n.len = sym one.len_is ∙ ap (λ (p : Block). p.len) same ∙ two.len_is in
-    λ i. record { place = place i; len = len i }
-
--- addresses of one class have one longest prefix
-alike_longest : (prefixes : List Block) (a b : ℕ) (found other : Option Match) → All IsBlock prefixes → AllPairs (λ p q. p ≢ q) prefixes
-    → IsMatch prefixes a found → IsMatch prefixes b other → SameBlocksContain prefixes a b → found ≡ other
-alike_longest prefixes a b None None blocks apart one two alike = refl
-alike_longest prefixes a b None (Some n) blocks apart one two alike =
-    absurd (IsMatch-alike prefixes a b None (λ q on. alike q on) one two.at.prefix two.at.match.is_offered two.at.match.contains)
-alike_longest prefixes a b (Some m) None blocks apart one two alike =
-    absurd (IsMatch-alike prefixes b a None (λ q on. ((alike q on).1, (alike q on).0)) two one.at.prefix one.at.match.is_offered one.at.match.contains)
-alike_longest prefixes a b (Some m) (Some n) blocks apart one two alike =
-    let same : one.at.prefix ≡ two.at.prefix = one_longest_match (Contains prefixes) b one.at.prefix two.at.prefix
-    (All-contains IsBlock prefixes one.at.prefix blocks one.at.match.is_offered)
-    (All-contains IsBlock prefixes two.at.prefix blocks two.at.match.is_offered)
-    (IsLongestMatch-alike (Contains prefixes) a b one.at.prefix (λ q on. alike q on) one.at.match) two.at.match in
-    ap Some (same_match prefixes a b m n one two
-    (one_place prefixes m.place n.place two.at.prefix apart (subst (λ (q : Block). slice_get prefixes m.place ≡ Some q) same one.at.stands) two.at.stands))
-
--- Keys
-
--- equal keys are of one match
-same_found : (prefixes : List Block) (a b : ℕ) (found other : Option Match) → IsMatch prefixes a found → IsMatch prefixes b other
-    → place_or (length prefixes) found ≡ place_or (length prefixes) other → found ≡ other
-same_found prefixes a b None None h k e = refl
-same_found prefixes a b None (Some n) h k e = let l : n.place < length prefixes = IsMatch-within prefixes b (Some n) k in absurd (omega arith)
-same_found prefixes a b (Some m) None h k e = let l : m.place < length prefixes = IsMatch-within prefixes a (Some m) h in absurd (omega arith)
-same_found prefixes a b (Some m) (Some n) h k e = ap Some (same_match prefixes a b m n h k e)
+-- addresses of one class have one key
+alike_key : (prefixes : List Block) (a b key other : ℕ) → All IsBlock prefixes → AllPairs (λ p q. p ≢ q) prefixes
+    → IsKey prefixes a key → IsKey prefixes b other → SameBlocksContain prefixes a b → key ≡ other
+alike_key prefixes a b key other blocks apart one two alike = elim one [
+  | inl none ↦ elim two [
+    | inl nor ↦ none.0 ∙ sym nor.0
+    | inr at ↦ absurd (none.1 at.prefix at.match.is_offered ((alike at.prefix at.match.is_offered).1 at.match.contains))
+  ]
+  | inr at ↦ elim two [
+    | inl none ↦ absurd (none.1 at.prefix at.match.is_offered ((alike at.prefix at.match.is_offered).0 at.match.contains))
+    | inr to ↦
+        let same : at.prefix ≡ to.prefix = one_longest_match (Contains prefixes) b at.prefix to.prefix
+        (All-contains IsBlock prefixes at.prefix blocks at.match.is_offered) (All-contains IsBlock prefixes to.prefix blocks to.match.is_offered)
+        (IsLongestMatch-alike (Contains prefixes) a b at.prefix (λ q on. alike q on) at.match) to.match in
+        one_place prefixes key other to.prefix apart (subst (λ (q : Block). slice_get prefixes key ≡ Some q) same at.stands) to.stands
+  ]
+]
 
 -- Classes
 
--- the key of each cut is that of its longest prefix
-key_at : (n : ℕ) (found : List (Option Match)) (keys : List ℕ) (i : ℕ) → keys ≡ map (place_or n) found → i < length found
-    → get_or keys i 0 ≡ place_or n (get_or found i None)
-key_at n found keys i keyed l = ap (λ (ks : List ℕ). get_or ks i 0) keyed ∙ get_or-map (place_or n) found i None 0 l
-
-pub keys_count : (n : ℕ) (found : List (Option Match)) (keys : List ℕ) → keys ≡ map (place_or n) found → length keys ≡ length found
-keys_count n found keys keyed = ap length keyed ∙ length-map found (place_or n)
-
-key_within : (prefixes : List Block) (a : ℕ) (found : Option Match) → IsMatch prefixes a found → place_or (length prefixes) found < length prefixes + 1
-key_within prefixes a None h = omega arith
-key_within prefixes a (Some m) h = let l : m.place < length prefixes = IsMatch-within prefixes a (Some m) h in omega arith
-
 -- no key is above the count of prefixes
-pub keys_below : (prefixes : List Block) (cuts : List ℕ) (found : List (Option Match)) (keys : List ℕ) → AreMatches prefixes cuts found
-    → keys ≡ map (place_or (length prefixes)) found → All (λ key. key < length prefixes + 1) keys
-keys_below prefixes cuts found keys longest keyed k d l =
-    let within : k < length found = omega (arith, keys_count (length prefixes) found keys keyed) in
-    let at : get_or keys k d ≡ place_or (length prefixes) (get_or found k None) = get_or_default keys k d 0 l ∙ key_at
-    (length prefixes) found keys k keyed within in
-    let low : place_or (length prefixes) (get_or found k None) < length prefixes + 1 =
-    key_within prefixes (get_or cuts k 0) (get_or found k None) (longest.each k (omega (arith, longest.count))) in
-    omega arith
+pub keys_below : (prefixes : List Block) (cuts keys : List ℕ) → AreKeys prefixes cuts keys → All (λ key. key < length prefixes + 1) keys
+keys_below prefixes cuts keys are k d l =
+    let at : get_or keys k d ≡ get_or keys k 0 = get_or_default keys k d 0 l in
+    elim (are.each k (omega (arith, are.count))) [
+      | inl none ↦ omega (arith, none.0)
+      | inr here ↦ omega (arith, slice_get_within prefixes (get_or keys k 0) here.prefix here.stands)
+    ]
 
 -- numbers by the longest prefix number the classes
-pub numbers_classes : (prefixes : List Block) (cuts : List ℕ) (found : List (Option Match)) (keys numbers firsts : List ℕ)
-    → All IsBlock prefixes → AllPairs (λ p q. p ≢ q) prefixes → AreMatches prefixes cuts found
-    → keys ≡ map (place_or (length prefixes)) found → IsNumbering keys numbers firsts → NumbersClasses prefixes cuts numbers firsts
-numbers_classes prefixes cuts found keys numbers firsts blocks apart longest keyed numbering =
-    let n : ℕ = length prefixes in
-    let many : length keys ≡ length cuts = keys_count n found keys keyed ∙ longest.count in
-    let at : (i : ℕ) → i < length cuts → get_or keys i 0 ≡ place_or n (get_or found i None) =
-    λ i l. key_at n found keys i keyed (omega (arith, longest.count)) in
-    record {
-      count = numbering.count ∙ many;
-      ascending = numbering.ascending;
-      within = λ k l. omega (arith, numbering.within k l);
-      first = λ k j l before alike.
-          let in_f : get_or firsts k 0 < length cuts = omega (arith, numbering.within k l) in
-          let in_j : j < length cuts = omega arith in
-          let one : get_or found j None ≡ get_or found (get_or firsts k 0) None = alike_longest prefixes (get_or cuts j 0) (get_or cuts (get_or firsts k 0) 0)
-          (get_or found j None) (get_or found (get_or firsts k 0) None) blocks apart (longest.each j in_j) (longest.each (get_or firsts k 0) in_f) alike in
-          numbering.first k j l before (at j in_j ∙ ap (place_or n) one ∙ sym (at (get_or firsts k 0) in_f));
-      numbered = λ j l. numbering.numbered j (omega arith);
-      same = λ j l.
-          let f : ℕ = get_or firsts (get_or numbers j 0) 0 in
-          let in_keys : j < length keys = omega arith in
-          let in_f : f < length cuts = omega (arith, numbering.within (get_or numbers j 0) (numbering.numbered j in_keys)) in
-          let one : get_or found f None ≡ get_or found j None =
-          same_found prefixes (get_or cuts f 0) (get_or cuts j 0) (get_or found f None) (get_or found j None)
-          (longest.each f in_f) (longest.each j l) (sym (at f in_f) ∙ numbering.same j in_keys ∙ at j l) in
-          longest_alike prefixes (get_or cuts f 0) (get_or cuts j 0) (get_or found j None) blocks
-          (subst (IsMatch prefixes (get_or cuts f 0)) one (longest.each f in_f)) (longest.each j l);
-    }
+pub numbers_classes : (prefixes : List Block) (cuts keys numbers firsts : List ℕ) → All IsBlock prefixes → AllPairs (λ p q. p ≢ q) prefixes
+    → AreKeys prefixes cuts keys → IsNumbering keys numbers firsts → NumbersClasses prefixes cuts numbers firsts
+numbers_classes prefixes cuts keys numbers firsts blocks apart are numbering = record {
+  count = numbering.count ∙ are.count;
+  ascending = numbering.ascending;
+  within = λ k l. omega (arith, numbering.within k l, are.count);
+  first = λ k j l before alike.
+      let f : ℕ = get_or firsts k 0 in
+      let in_f : f < length cuts = omega (arith, numbering.within k l, are.count) in
+      numbering.first k j l before (alike_key prefixes (get_or cuts j 0) (get_or cuts f 0) (get_or keys j 0) (get_or keys f 0) blocks apart
+      (are.each j (omega arith)) (are.each f in_f) alike);
+  numbered = λ j l. numbering.numbered j (omega (arith, are.count));
+  same = λ j l.
+      let f : ℕ = get_or firsts (get_or numbers j 0) 0 in
+      let in_keys : j < length keys = omega (arith, are.count) in
+      let in_f : f < length cuts = omega (arith, numbering.within (get_or numbers j 0) (numbering.numbered j in_keys), are.count) in
+      key_alike prefixes (get_or cuts f 0) (get_or cuts j 0) (get_or keys j 0) blocks
+      (subst (IsKey prefixes (get_or cuts f 0)) (numbering.same j in_keys) (are.each f in_f)) (are.each j l);
+}
 
 -- what the steps of the construction have made of the prefixes
 pub record Made (prefixes : List Block) (cuts numbers firsts samples : List ℕ) : Type 0 where

@@ -1,20 +1,23 @@
 -- The longest prefix of an address, as one prefix more is looked at.
-use Rattle.std.proofs.Common.{◌≡◌, ℕ, ◌+◌, ◌<◌, ◌≤◌, List, [], ◌∷◌, ◌++◌, length, take, get_or, set, Option, Some, None, All, Contains, slice_get, ⊎_elim}
-use Rattle.std.proofs.Common.{arith, sym, ap, subst, ◌∙◌, ◌≢◌, below_more, get_or-set_other, get_or-set_same, replicate}
+use Rattle.std.proofs.Common.{◌≡◌, ℕ, ◌+◌, ◌<◌, ◌≤◌, ◌==◌, inl, inr, Bool, true, false, if◌then◌else◌, List, [], ◌∷◌, ◌++◌, length, map, take, get_or, set}
+use Rattle.std.proofs.Common.{Option, Some, None, All, Contains, slice_get, ⊎_elim, arith, refl, sym, ap, subst, ◌∙◌, ◌≢◌, below_more, get_or-set_other}
+use Rattle.std.proofs.Common.{get_or-set_same, eqb-true, eq-eqb}
 use Rattle.std.proofs.lemmas.Bool.{cases_lt}
-use Rattle.std.proofs.lemmas.List.{length-take-le, length-set, length-replicate, get_or-replicate}
-use Rattle.std.proofs.lemmas.List.Elements.{All-push}
+use Rattle.std.proofs.lemmas.List.{length-take-le, length-map, length-set, get_or-map}
+use Rattle.std.proofs.lemmas.List.Elements.{All-push, Contains-push_cases}
 use Rattle.std.proofs.lemmas.Option.{slice_get_within}
 use Rattle.std.specs.List.Sorted.{IsStrictlyIncreasing}
 use Rattle.net_addr.specs.Addresses.{Block, ContainsAddress, IsBlock}
 use Rattle.net_addr.specs.Boundaries.{last_address}
 use Rattle.net_addr.proofs.Blocks.{block_size, ContainsAddress-bounds, ContainsAddress-between}
 use Rattle.net_addr.proofs.BoundaryFacts.{last_address-after}
-use Rattle.net_addr.specs.LongestMatches.{IsBestMatch, IsMatch, AreMatches, TakesLonger}
-use Rattle.net_addr.specs.declared.matches.Match.{Match}
-use Rattle.net_addr.proofs.LongestMatchLaws.{IsMatch-out, IsMatch-in}
-use Rattle.net_model.proofs.Members.{Contains-none}
-use Rattle.prefix_atoms.specs.Lists.{IsPlaceOf, IsPrefixAt, TakesPrefix}
+use Rattle.net_addr.specs.LongestMatches.{IsBestMatch}
+use Rattle.net_addr.proofs.LongestMatchLaws.{slice_get-push_old, slice_get-push_new}
+use Rattle.route_core.specs.declared.row.Row.{Row}
+use Rattle.route_core.proofs.TableLaws.{Contains-from_place}
+use Rattle.prefix_atoms.specs.Lists.{AreTargets, IsPlaceOf}
+use Rattle.prefix_atoms.specs.Longest.{AreLongestKept, AreKeys, IsKept, IsKey, TakesRow, key_of, nothing}
+use Rattle.prefix_atoms.specs.declared.longest.Longest.{Longest}
 use Rattle.prefix_atoms.proofs.Ascending.{at_most_later}
 use Rattle.prefix_atoms.proofs.Collected.{take_place}
 
@@ -33,82 +36,179 @@ contains_between p a block low high =
     let after : last_address p + 1 ≡ p.base + block_size p = last_address-after p in
     ContainsAddress-between p a block low (omega arith)
 
--- what holds while the addresses of the prefix after these get it: those before place i are done, the others not yet
-pub record Painted (prefixes : List Block) (next : Block) (addresses : List ℕ) (found : List (Option Match)) (i : ℕ) : Type 0 where
-  pub count : length found ≡ length addresses
-  pub low : (j : ℕ) → i ≤ j → j < length addresses → next.base ≤ get_or addresses j 0
-  pub done : (j : ℕ) → j < i → j < length addresses → IsMatch (prefixes ++ next ∷ []) (get_or addresses j 0) (get_or found j None)
-  pub rest : (j : ℕ) → i ≤ j → j < length addresses → IsMatch prefixes (get_or addresses j 0) (get_or found j None)
+-- a prefix that doesn't contain the address, or isn't longer, changes nothing
+kept_more : (prefixes : List Block) (next : Block) (numbers : ℕ → ℕ) (a : ℕ) (found : Longest) → IsKept prefixes numbers a found
+    → (ContainsAddress next a → next.len < found.size) → IsKept (prefixes ++ next ∷ []) numbers a found
+kept_more prefixes next numbers a found is short = record {
+  there = elim is.there [
+    | inl none ↦ inl none
+    | inr at ↦ inr (record {
+      place = at.place;
+      prefix = at.prefix;
+      stands = slice_get-push_old prefixes next at.place at.prefix at.stands;
+      contains = at.contains;
+      size_is = at.size_is;
+      number_is = at.number_is;
+    })
+  ];
+  covers = λ q has inside. ⊎_elim
+      (λ earlier. is.covers q earlier inside)
+      (λ same. subst (λ (r : Block). r.len < found.size) same (short (subst (λ (r : Block). ContainsAddress r a) (sym same) inside)))
+      (Contains-push_cases prefixes next q has);
+}
+
+-- a prefix that contains the address is kept where it is longer
+kept_in : (prefixes : List Block) (next : Block) (numbers : ℕ → ℕ) (a : ℕ) (found new r : Longest) → IsKept prefixes numbers a found
+    → ContainsAddress next a → numbers (length prefixes) ≡ new.number → next.len + 1 ≡ new.size → (found.size < new.size → r ≡ new)
+    → (new.size ≤ found.size → r ≡ found) → IsKept (prefixes ++ next ∷ []) numbers a r
+kept_in prefixes next numbers a found new r is inside number size longer earlier = ⊎_elim
+    (λ (l : found.size < new.size). subst (IsKept (prefixes ++ next ∷ []) numbers a) (sym (longer l)) (record {
+      there = inr (record {
+        place = length prefixes;
+        prefix = next;
+        stands = slice_get-push_new prefixes next;
+        contains = inside;
+        size_is = size;
+        number_is = number;
+      });
+      covers = λ q has in_q. ⊎_elim
+          (λ before. let short : q.len < found.size = is.covers q before in_q in omega arith)
+          (λ same. subst (λ (s : Block). s.len < new.size) same (let short : next.len < new.size = omega arith in short))
+          (Contains-push_cases prefixes next q has);
+    }))
+    (λ (l : new.size ≤ found.size). subst (IsKept (prefixes ++ next ∷ []) numbers a) (sym (earlier l))
+    (kept_more prefixes next numbers a found is (λ _. let short : next.len < found.size = omega arith in short)))
+    (cases_lt found.size new.size)
+
+-- prefixes by their numbers, the next one, and the addresses that they are found for
+pub record Painting : Type 0 where
+  pub prefixes : List Block
+  pub numbers : ℕ → ℕ
+  pub next : Block
+  pub addresses : List ℕ
+
+-- what is kept at a place of these prefixes, and with the next one
+abbrev IsDone : Painting → List Longest → ℕ → Type 0
+IsDone p found j = IsKept (p.prefixes ++ p.next ∷ []) p.numbers (get_or p.addresses j 0) (get_or found j nothing)
+
+abbrev IsLeft : Painting → List Longest → ℕ → Type 0
+IsLeft p found j = IsKept p.prefixes p.numbers (get_or p.addresses j 0) (get_or found j nothing)
+
+-- what holds while the addresses of the next prefix get it: those before place i are done, the others not yet
+pub record Painted (p : Painting) (found : List Longest) (i : ℕ) : Type 0 where
+  pub count : length found ≡ length p.addresses
+  pub low : (j : ℕ) → i ≤ j → j < length p.addresses → p.next.base ≤ get_or p.addresses j 0
+  pub done : (j : ℕ) → j < i → j < length p.addresses → IsDone p found j
+  pub rest : (j : ℕ) → i ≤ j → j < length p.addresses → IsLeft p found j
+
+-- a place whose address isn't the prefix's needs no change
+out : (p : Painting) (found : List Longest) (j : ℕ) → IsLeft p found j → ¬ ContainsAddress p.next (get_or p.addresses j 0) → IsDone p found j
+out p found j is away =
+    kept_more p.prefixes p.next p.numbers (get_or p.addresses j 0) (get_or found j nothing) is (λ inside. absurd (away inside))
 
 -- at first no address before the prefix's base needs a change
-pub painted_none : (prefixes : List Block) (next : Block) (addresses : List ℕ) (found : List (Option Match)) (i : ℕ)
-    → IsBlock next → AreMatches prefixes addresses found → IsPlaceOf addresses next.base i → Painted prefixes next addresses found i
-painted_none prefixes next addresses found i block are first = record {
+pub painted_none : (p : Painting) (found : List Longest) (i : ℕ) → IsBlock p.next → AreLongestKept p.prefixes p.numbers p.addresses found
+    → IsPlaceOf p.addresses p.next.base i → Painted p found i
+painted_none p found i block are first = record {
   count = are.count;
   low = first.after;
-  done = λ j l m. IsMatch-out prefixes (get_or addresses j 0) next (get_or found j None) (are.each j m)
-      (misses_before next (get_or addresses j 0) block (first.before j l));
+  done = λ j l m. out p found j (are.each j m) (misses_before p.next (get_or p.addresses j 0) block (first.before j l));
   rest = λ j l m. are.each j m;
 }
 
 -- at the end the addresses after the prefix's last need no change
-pub painted_all : (prefixes : List Block) (next : Block) (addresses : List ℕ) (found : List (Option Match)) (i : ℕ)
-    → IsBlock next → IsStrictlyIncreasing addresses → Painted prefixes next addresses found i
-    → (i < length addresses → last_address next < get_or addresses i 0) → AreMatches (prefixes ++ next ∷ []) addresses found
-painted_all prefixes next addresses found i block up painted past = record {
+pub painted_all : (p : Painting) (found : List Longest) (i : ℕ) → IsBlock p.next → IsStrictlyIncreasing p.addresses → Painted p found i
+    → (i < length p.addresses → last_address p.next < get_or p.addresses i 0) → AreLongestKept (p.prefixes ++ p.next ∷ []) p.numbers p.addresses found
+painted_all p found i block up painted past = record {
   count = painted.count;
   each = λ j m. ⊎_elim
       (λ (l : j < i). painted.done j l m)
       (λ (l : i ≤ j).
-      let high : last_address next < get_or addresses i 0 = past (omega arith) in
-      let later : get_or addresses i 0 ≤ get_or addresses j 0 = at_most_later addresses i j up l m in
-      IsMatch-out prefixes (get_or addresses j 0) next (get_or found j None) (painted.rest j l m)
-      (misses_after next (get_or addresses j 0) block (omega arith)))
+      let high : last_address p.next < get_or p.addresses i 0 = past (omega arith) in
+      let later : get_or p.addresses i 0 ≤ get_or p.addresses j 0 = at_most_later p.addresses i j up l m in
+      out p found j (painted.rest j l m) (misses_after p.next (get_or p.addresses j 0) block (omega arith)))
       (cases_lt j i);
 }
 
 -- the next address of the prefix gets the longer one
-pub painted_more : (prefixes : List Block) (next : Block) (addresses : List ℕ) (found : List (Option Match)) (i : ℕ) (r : Match)
-    → IsBlock next → Painted prefixes next addresses found i → i < length addresses → get_or addresses i 0 ≤ last_address next
-    → TakesLonger (get_or found i None) (record { place = length prefixes; len = next.len }) r
-    → Painted prefixes next addresses (set found i (Some r)) (i + 1)
-painted_more prefixes next addresses found i r block painted within low takes = record {
-  count = length-set found i (Some r) ∙ painted.count;
+pub painted_more : (p : Painting) (found : List Longest) (i : ℕ) (new r : Longest) → IsBlock p.next → Painted p found i → i < length p.addresses
+    → get_or p.addresses i 0 ≤ last_address p.next → p.numbers (length p.prefixes) ≡ new.number → p.next.len + 1 ≡ new.size
+    → ((get_or found i nothing).size < new.size → r ≡ new) → (new.size ≤ (get_or found i nothing).size → r ≡ get_or found i nothing)
+    → Painted p (set found i r) (i + 1)
+painted_more p found i new r block painted within low number size longer earlier = record {
+  count = length-set found i r ∙ painted.count;
   low = λ j l m. painted.low j (omega arith) m;
-  done = below_more (λ (j : ℕ). j < length addresses → IsMatch (prefixes ++ next ∷ []) (get_or addresses j 0) (get_or (set found i (Some r)) j None)) i
-      (λ j l m. subst (IsMatch (prefixes ++ next ∷ []) (get_or addresses j 0)) (sym
-      (get_or-set_other found i j (Some r) None (let ne : j ≢ i = omega arith in ne))) (painted.done j l m))
-      (λ m. subst (IsMatch (prefixes ++ next ∷ []) (get_or addresses i 0)) (sym
-      (get_or-set_same found i (Some r) None (let in' : i < length found = omega (arith, painted.count) in in')))
-      (IsMatch-in prefixes (get_or addresses i 0) next (get_or found i None) r (painted.rest i (omega arith) within)
-      (contains_between next (get_or addresses i 0) block (painted.low i (omega arith) within) low) takes));
-  rest = λ j l m. subst (IsMatch prefixes (get_or addresses j 0)) (sym (get_or-set_other found i j (Some r) None
-      (let ne : j ≢ i = omega arith in ne))) (painted.rest j (omega arith) m);
+  done = below_more (λ (j : ℕ). j < length p.addresses → IsDone p (set found i r) j) i
+      (λ j l m. subst (IsKept (p.prefixes ++ p.next ∷ []) p.numbers (get_or p.addresses j 0)) (other j (omega arith)) (painted.done j l m))
+      (λ m. subst (IsKept (p.prefixes ++ p.next ∷ []) p.numbers (get_or p.addresses i 0)) (sym
+      (get_or-set_same found i r nothing (let in' : i < length found = omega (arith, painted.count) in in')))
+      (kept_in p.prefixes p.next p.numbers (get_or p.addresses i 0) (get_or found i nothing) new r (painted.rest i (omega arith) within)
+      (contains_between p.next (get_or p.addresses i 0) block (painted.low i (omega arith) within) low) number size longer earlier));
+  rest = λ j l m. subst (IsKept p.prefixes p.numbers (get_or p.addresses j 0)) (other j (omega arith)) (painted.rest j (omega arith) m);
+}
+  where
+    other : (j : ℕ) → j ≢ i → get_or found j nothing ≡ get_or (set found i r) j nothing
+    other j apart = sym (get_or-set_other found i j r nothing apart)
+
+-- what is kept under its place gives the key
+key_kept : (prefixes : List Block) (a : ℕ) (found : Longest) → IsKept prefixes (λ place. place) a found
+    → IsKey prefixes a (key_of (length prefixes) found)
+key_kept prefixes a found is = by_size (found.size == 0) refl
+  where
+    by_size : (none : Bool) → (found.size == 0) ≡ none → IsKey prefixes a (if none then length prefixes else found.number)
+    by_size true at =
+        let zero : found.size ≡ 0 = eqb-true found.size 0 at in
+        inl (refl, λ q has inside. let short : q.len < found.size = is.covers q has inside in absurd (omega arith))
+    by_size false at = elim is.there [
+      | inl none ↦ absurd (let most : (found.size == 0) ≡ true = eq-eqb found.size 0 none in let no : ⊥ = cc in no)
+      | inr here ↦ inr (record {
+        prefix = here.prefix;
+        stands = subst (λ (n : ℕ). slice_get prefixes n ≡ Some here.prefix) here.number_is here.stands;
+        match = record {
+          is_offered = Contains-from_place prefixes here.place here.prefix here.stands;
+          contains = here.contains;
+          longest = λ q has inside. let short : q.len < found.size = is.covers q has inside in omega (arith, here.size_is);
+        };
+      })
+    ]
+
+pub keys_kept : (prefixes : List Block) (addresses keys : List ℕ) (found : List Longest) → AreLongestKept prefixes (λ place. place) addresses found
+    → keys ≡ map (key_of (length prefixes)) found → AreKeys prefixes addresses keys
+keys_kept prefixes addresses keys found are same = record {
+  count = ap length same ∙ length-map found (key_of (length prefixes)) ∙ are.count;
+  each = λ i l. subst (IsKey prefixes (get_or addresses i 0))
+      (sym (ap (λ (ks : List ℕ). get_or ks i 0) same ∙ get_or-map (key_of (length prefixes)) found i nothing 0 (omega (arith, are.count))))
+      (key_kept prefixes (get_or addresses i 0) (get_or found i nothing) (are.each i l));
 }
 
--- of no prefixes none contains an address
-pub longest_none : (addresses : List ℕ) (found : List (Option Match)) → found ≡ replicate (length addresses) None → AreMatches [] addresses found
-longest_none addresses found same = record {
-  count = ap length same ∙ length-replicate (length addresses) None;
-  each = λ i l. subst (IsMatch [] (get_or addresses i 0)) (sym (ap (λ (xs : List (Option Match)). get_or xs i None) same ∙ get_or-replicate
-      (length addresses) i None None l))
-      (λ q on inside. Contains-none q on);
+-- the prefix at the place of the key is the longest match
+key_longest : (prefixes : List Block) (a key : ℕ) → IsKey prefixes a key → IsBestMatch (Contains prefixes) a (slice_get prefixes key)
+key_longest prefixes a key is = elim is [
+  | inl none ↦ subst (IsBestMatch (Contains prefixes) a) (sym (ap (slice_get prefixes) none.0 ∙ past prefixes)) none.1
+  | inr at ↦ subst (IsBestMatch (Contains prefixes) a) (sym at.stands) at.match
+]
+  where
+    past : {X : Type 0} (xs : List X) → slice_get xs (length xs) ≡ None
+    past [] = refl
+    past (x ∷ xs) = past xs
+
+pub targets_found : (prefixes : List Block) (addresses keys : List ℕ) (targets : List (Option Block)) → AreKeys prefixes addresses keys
+    → targets ≡ map (slice_get prefixes) keys → AreTargets prefixes addresses targets
+targets_found prefixes addresses keys targets are same = record {
+  count = ap length same ∙ length-map keys (slice_get prefixes) ∙ are.count;
+  each = λ i l. subst (IsBestMatch (Contains prefixes) (get_or addresses i 0))
+      (sym (ap (λ (ts : List (Option Block)). get_or ts i None) same ∙ get_or-map (slice_get prefixes) keys i 0 None (omega (arith, are.count))))
+      (key_longest prefixes (get_or addresses i 0) (get_or keys i 0) (are.each i l));
 }
 
--- the prefix at the place of the match is the longest match
-pub prefix_longest : (prefixes : List Block) (a : ℕ) (found : Option Match) (t : Option Block) → IsMatch prefixes a found
-    → IsPrefixAt prefixes found t → IsBestMatch (Contains prefixes) a t
-prefix_longest prefixes a None t h at = subst (IsBestMatch (Contains prefixes) a) (sym at) h
-prefix_longest prefixes a (Some m) t h at = subst (IsBestMatch (Contains prefixes) a) (sym (at ∙ h.at.stands)) h.at.match
-
--- the matches among the prefixes of a list before a place, once the one at the place is taken
-pub matches_next : (prefixes : List Block) (place : ℕ) (next : Block) (addresses : List ℕ) (old new : List (Option Match))
-    → slice_get prefixes place ≡ Some next → TakesPrefix place next addresses old new → AreMatches (take place prefixes) addresses old
-    → AreMatches (take (place + 1) prefixes) addresses new
-matches_next prefixes place next addresses old new at takes are =
-    let within : place < length prefixes = slice_get_within prefixes place next at in
-    subst (λ (ps : List Block). AreMatches ps addresses new) (sym (take_place prefixes place next at))
-    (takes (take place prefixes) (length-take-le place prefixes (omega arith)) are)
+-- what is kept of the prefixes of a list before a place, once the row at the place is taken
+pub kept_next : (prefixes : List Block) (numbers : ℕ → ℕ) (place : ℕ) (row : Row) (addresses : List ℕ) (old new : List Longest)
+    → slice_get prefixes place ≡ Some row.dest → numbers place ≡ row.number → TakesRow row addresses old new
+    → AreLongestKept (take place prefixes) numbers addresses old → AreLongestKept (take (place + 1) prefixes) numbers addresses new
+kept_next prefixes numbers place row addresses old new at is takes are =
+    let within : place < length prefixes = slice_get_within prefixes place row.dest at in
+    subst (λ (ps : List Block). AreLongestKept ps numbers addresses new) (sym (take_place prefixes place row.dest at))
+    (takes (take place prefixes) numbers (ap numbers (length-take-le place prefixes (omega arith)) ∙ is) are)
 
 -- the next prefix is a block too
 pub blocks_next : (prefixes : List Block) (place : ℕ) (next : Block) → slice_get prefixes place ≡ Some next → All IsBlock (take place prefixes)

@@ -4,3 +4,4 @@ pub mod Views
 pub mod Laws
 pub mod Lists
 pub mod Numbers
+pub mod Longest

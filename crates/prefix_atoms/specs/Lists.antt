@@ -1,12 +1,11 @@
 -- Lists of prefixes: what is added to them, where they begin and end, the longest match of each address.
-use Rattle.std.specs.Prelude.{◌≡◌, ℕ, zero, suc, ◌^◌, ◌<◌, ◌≤◌, ◌⊎◌, ◌↔◌, if◌then◌else◌, ◌&&◌, ◌||◌, is_some, List, [], ◌∷◌, ◌++◌, length}
-use Rattle.std.specs.Prelude.{slice_index, slice_index_or, slice_get, Option, Some, None, All, Contains}
+use Rattle.std.specs.Prelude.{◌≡◌, ℕ, zero, suc, ◌^◌, ◌<◌, ◌≤◌, ◌⊎◌, ◌↔◌, if◌then◌else◌, ◌&&◌, ◌||◌, is_some, List, [], ◌++◌, length}
+use Rattle.std.specs.Prelude.{slice_index, slice_index_or, Option, None, All, Contains}
 use Rattle.std.specs.List.{filter_map, flat_map}
 use Rattle.std.specs.List.Sorted.{IsStrictlyIncreasing}
 use Rattle.net_addr.specs.Addresses.{Block}
 use Rattle.net_addr.specs.Boundaries.{IsBoundary}
-use Rattle.net_addr.specs.LongestMatches.{AreMatches, IsBestMatch}
-use Rattle.net_addr.specs.declared.matches.Match.{Match}
+use Rattle.net_addr.specs.LongestMatches.{IsBestMatch}
 use Rattle.net_model.specs.Configuration.{Configuration}
 use Rattle.net_model.specs.declared.interface.Interface.{Interface}
 use Rattle.route_core.specs.Tables.{table_prefixes}
@@ -47,21 +46,6 @@ pub record IsPlaceOf (numbers : List ℕ) (x place : ℕ) : Type 0 where
   pub within : place ≤ length numbers
   pub before : (k : ℕ) → k < place → slice_index numbers k < x
   pub after : (k : ℕ) → place ≤ k → k < length numbers → x ≤ slice_index numbers k
-
--- the longest matches of addresses among so many prefixes become those among one prefix more
-abbrev pub TakesPrefix : ℕ → Block → List ℕ → List (Option Match) → List (Option Match) → Type 0
-TakesPrefix count next addresses old new =
-    (prefixes : List Block) → length prefixes ≡ count → AreMatches prefixes addresses old → AreMatches (prefixes ++ next ∷ []) addresses new
-
--- the place of a match, and this number where there is none
-abbrev pub place_or : ℕ → Option Match → ℕ
-place_or none None = none
-place_or none (Some found) = found.place
-
--- the prefix that stands at the place of a match, none where there is none
-abbrev pub IsPrefixAt : List Block → Option Match → Option Block → Type 0
-IsPrefixAt prefixes None p = p ≡ None
-IsPrefixAt prefixes (Some found) p = p ≡ slice_get prefixes found.place
 
 -- for each address the longest prefix that contains it
 pub record AreTargets (prefixes : List Block) (addresses : List ℕ) (targets : List (Option Block)) : Type 0 where

@@ -1,17 +1,18 @@
-ghost use Rattle.std.specs.Prelude.{◌≡◌, ◌≢◌, ◌<◌, ◌≤◌, ◌^◌, ◌+◌, All, AllPairs, IfOk, IfSome, List, length, map, slice_get, slice_index, Some};
+ghost use Rattle.std.specs.Prelude.{◌≡◌, ◌≢◌, ◌<◌, ◌≤◌, ◌^◌, ◌+◌, All, AllPairs, IfOk, OnOk, List, length, map, slice_get, slice_index, Some};
 ghost use Rattle.std.specs.List.Sorted.{IsStrictlyIncreasing};
 ghost use Rattle.net_addr.specs.Addresses.{IsBlock};
 ghost use Rattle.igp_theory.specs.Migrations.{migration};
 ghost use Rattle.prefix_atoms.specs.Classes.{AreClasses, IsClassing, IsInClass, SourceEntry};
-ghost use Rattle.prefix_atoms.specs.Lists.{AreClassesOf, AreTargets, IsPrefixAt, place_or};
+ghost use Rattle.prefix_atoms.specs.Lists.{AreClassesOf, AreTargets};
+ghost use Rattle.prefix_atoms.specs.Longest.{AreKeys, key_of};
 ghost use Rattle.prefix_atoms.specs.Numbers.{ArePicked, InInterval, NumbersClasses};
 
 use crate::collect::{add_net, add_source, originated_prefixes};
 use crate::cuts::cuts_of;
 use crate::distinct::keep_distinct_prefixes;
-use crate::longest::longest_of_each;
+use crate::longest::{Longest, NOTHING, longest_in_prefixes};
 use crate::number::{Numbering, number};
-use net_addr::{Match, Prefix};
+use net_addr::Prefix;
 use net_model::Net;
 use route_core::RouteSource;
 use std::alloc::{AllocError as OutOfMemory, Global};
@@ -128,29 +129,39 @@ fn classes_of(
 /// Numbers cuts by their classes: cuts in one class have one longest prefix.
 fn number_cuts(alloc: Global, prefixes: &[Prefix], cuts: &[u32]) -> Result<Numbering, OutOfMemory>
     requires apart { AllPairs (λ p q. p ≢ q) prefixes.now }
-    requires blocks { All IsBlock prefixes.now }
     requires ascending { IsStrictlyIncreasing cuts.now }
     ensures { IfOk result (λ n. NumbersClasses prefixes.now cuts.now n.numbers.items n.firsts.items) }
 {
-    let found = longest_of_each(alloc, prefixes, cuts)?;
-    let keys = keys_of(alloc, found.as_slice(), prefixes.len())?;
+    let keys = keys_of(alloc, prefixes, cuts)?;
     number(alloc, keys.as_slice(), prefixes.len() + 1)
 }
 
-/// A key for each match: its place, and a key of its own for none.
-fn keys_of(alloc: Global, found: &[Option<Match>], none: usize) -> Result<Vec<usize>, OutOfMemory>
-    ensures { IfOk result (λ v. v.items ≡ map (place_or none) found.now) }
+/// A key for each of some ascending addresses: the place of its longest prefix, and how many there are for none.
+fn keys_of(alloc: Global, prefixes: &[Prefix], addresses: &[u32]) -> Result<Vec<usize>, OutOfMemory>
+    requires { IsStrictlyIncreasing addresses.now }
+    ensures keys { IfOk result (λ v. AreKeys prefixes.now addresses.now v.items) }
+    ensures blocks { OnOk result (All IsBlock prefixes.now) }
 {
-    found.iter().map(|one| place_or(*one, none)).collect(alloc)
+    let mut found = vec![in alloc; NOTHING; addresses.len()]?;
+    longest_in_prefixes(prefixes, addresses, &mut found)?;
+    numbered(alloc, found.as_slice(), prefixes.len())
 }
 
-/// The place of a match, and this number where there is none.
-fn place_or(found: Option<Match>, none: usize) -> usize
-    ensures { result ≡ place_or none found }
+/// The number of each that is found, and this one for none.
+fn numbered(alloc: Global, found: &[Longest], none: usize) -> Result<Vec<usize>, OutOfMemory>
+    ensures { IfOk result (λ v. v.items ≡ map (key_of none) found.now) }
 {
-    match found {
-        Some(found) => found.place,
-        None => none,
+    found.iter().map(|one| key_of(*one, none)).collect(alloc)
+}
+
+/// The number that is found, and this one where none is.
+fn key_of(found: Longest, none: usize) -> usize
+    ensures { result ≡ key_of none found }
+{
+    if found.size == 0 {
+        none
+    } else {
+        found.number as usize
     }
 }
 
@@ -175,21 +186,29 @@ fn targets_of(
     requires { IsStrictlyIncreasing addresses.now }
     ensures { IfOk result (λ v. AreTargets prefixes.now addresses.now v.items) }
 {
-    let found = longest_of_each(alloc, prefixes, addresses)?;
-    let mut targets = Vec::new(alloc);
-    for one in found.as_slice() {
-        targets.push(prefix_at(prefixes, *one))?;
-    }
-    Ok(targets)
+    let keys = keys_of(alloc, prefixes, addresses)?;
+    targets_at(alloc, prefixes, keys.as_slice())
 }
 
-/// The prefix at the place of a match, none where there is none.
-fn prefix_at(prefixes: &[Prefix], found: Option<Match>) -> Option<Prefix>
-    requires { IfSome found (λ one. one.place < length prefixes.now) }
-    ensures { IsPrefixAt prefixes.now found result }
+/// The prefixes at these places, none where the list has no such place.
+fn targets_at(
+    alloc: Global,
+    prefixes: &[Prefix],
+    places: &[usize],
+) -> Result<Vec<Option<Prefix>>, OutOfMemory>
+    ensures { IfOk result (λ v. v.items ≡ map (slice_get prefixes.now) places.now) }
 {
-    let found = found?;
-    Some(prefixes[found.place])
+    places
+        .iter()
+        .map(|place| prefix_at(prefixes, *place))
+        .collect(alloc)
+}
+
+/// The prefix at a place, none where the list has no such place.
+fn prefix_at(prefixes: &[Prefix], place: usize) -> Option<Prefix>
+    ensures { result ≡ slice_get prefixes.now place }
+{
+    prefixes.get(place).copied()
 }
 
 /// The place of the interval that an address lies in.

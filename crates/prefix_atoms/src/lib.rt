@@ -5,7 +5,7 @@
 //! | `atoms` | the classes, each with its least address and its target |
 //! | `collect`, `distinct`, `near` | the prefixes that occur, each once; a prefix is looked for near the one before |
 //! | `cuts`, `number` | where prefixes begin and end, and the intervals between, numbered by their longest prefix |
-//! | `longest` | the longest match of each of some ascending addresses |
+//! | `longest` | the longest of some prefixes for each of some ascending addresses |
 //! | `law` | that the addresses of a class act alike |
 //!
 //! Takes time of the entries of all tables, and of the distinct prefixes, in order.
@@ -28,5 +28,5 @@ mod law;
 pub use atoms::Atoms;
 pub use collect::add_connected;
 pub use law::one_class_acts_alike;
-pub use longest::{longest_in_rows, longest_of_each};
+pub use longest::{Longest, NOTHING, longest_in_prefixes, longest_in_rows};
 pub use route_core::OutOfMemory;

@@ -1,80 +1,111 @@
-ghost use Rattle.std.specs.Prelude.{◌≡◌, All, IfOk, OnOk, length};
+ghost use Rattle.std.specs.Prelude.{◌≡◌, ◌+◌, ◌<◌, ◌≤◌, All, OnOk, length, replicate};
 ghost use Rattle.std.specs.List.Sorted.{IsStrictlyIncreasing};
 ghost use Rattle.net_addr.specs.Addresses.{IsBlock};
-ghost use Rattle.net_addr.specs.LongestMatches.{AreMatches};
 ghost use Rattle.route_core.specs.Rows.{row_prefixes};
-ghost use Rattle.prefix_atoms.specs.Lists.{TakesPrefix};
+ghost use Rattle.prefix_atoms.specs.Longest.{AreLongestKept, TakesRow, nothing, number_at};
 
 use crate::near::number_near;
-use net_addr::{Match, Prefix};
+use net_addr::Prefix;
 use route_core::Row;
-use std::alloc::{AllocError as OutOfMemory, Global};
+use std::alloc::AllocError as OutOfMemory;
 
-/// For each of some ascending addresses the longest match among the prefixes.
+/// The longest prefix that is found for an address. It has 8 bytes, since there is one for each address.
+#[derive(Clone, Copy, Debug)]
+pub struct Longest {
+    /// The number that the prefix is kept under.
+    pub number: u32,
+    /// One more than its length, 0 where none is found.
+    pub size: u8,
+}
+
+/// No prefix is found.
+pub const NOTHING: Longest = Longest { number: 0, size: 0 };
+
+impl Longest {
+    /// The longer of this one and an earlier one, and the earlier one where they are as long.
+    fn or_longer(self, earlier: Longest) -> Longest
+        ensures longer { earlier.size < self.size → result ≡ self }
+        ensures earlier { self.size ≤ earlier.size → result ≡ earlier }
+    {
+        if self.size <= earlier.size {
+            earlier
+        } else {
+            self
+        }
+    }
+}
+
+/// Finds for each of some ascending addresses the longest of the prefixes, and keeps it under its place.
 ///
-/// The addresses of one prefix stand side by side. Where the prefixes ascend too, most of them begin near the one
-/// before, and the whole takes time of the prefixes and of the addresses in each.
-pub fn longest_of_each(
-    alloc: Global,
+/// The addresses of one prefix stand side by side. Where the prefixes ascend too, most of them begin where the one
+/// before ends, and the whole takes time of the prefixes and of the addresses in each.
+pub fn longest_in_prefixes(
     prefixes: &[Prefix],
     addresses: &[u32],
-) -> Result<Vec<Option<Match>>, OutOfMemory>
-    requires { IsStrictlyIncreasing addresses.now }
-    ensures longest { IfOk result (λ v. AreMatches prefixes.now addresses.now v.items) }
-    ensures blocks { OnOk result (All IsBlock prefixes.now) }
-{
-    let mut found = vec![in alloc; None; addresses.len()]?;
-    let mut start = 0;
-    for place in 0..prefixes.len() {
-        start = take_prefix(prefixes[place], place, addresses, start, &mut found);
-    }
-    Ok(found)
-}
-
-/// The same among the prefixes of a table's rows.
-pub fn longest_in_rows(
-    alloc: Global,
-    rows: &[Row],
-    addresses: &[u32],
-) -> Result<Vec<Option<Match>>, OutOfMemory>
-    requires { IsStrictlyIncreasing addresses.now }
-    ensures longest { IfOk result (λ v. AreMatches (row_prefixes rows.now) addresses.now v.items) }
-    ensures blocks { OnOk result (All IsBlock (row_prefixes rows.now)) }
-{
-    let mut found = vec![in alloc; None; addresses.len()]?;
-    let mut start = 0;
-    for (place, row) in rows.iter().enumerate() {
-        start = take_prefix(row.dest, place, addresses, start, &mut found);
-    }
-    Ok(found)
-}
-
-/// Gives the addresses of a prefix that prefix, where it is longer than the one found before, and says where they
-/// begin. That is first looked for at the places from `near` on.
-fn take_prefix(
-    prefix: Prefix,
-    place: usize,
-    addresses: &[u32],
-    near: usize,
-    found: &mut Vec<Option<Match>>,
-) -> usize
+    found: &mut Vec<Longest>,
+) -> Result<(), OutOfMemory>
     requires ascending { IsStrictlyIncreasing addresses.now }
     requires count { length found.old.items ≡ length addresses.now }
-    ensures longest { TakesPrefix place prefix addresses.now found.old.items found.new.items }
-    ensures block { IsBlock prefix }
+    ensures longest { OnOk result (AreLongestKept prefixes.now (λ place. place) addresses.now found.new.items) }
+    ensures blocks { OnOk result (All IsBlock prefixes.now) }
 {
-    let base = prefix.base();
-    let last = prefix.last();
-    let next = Match {
-        place,
-        len: prefix.len(),
+    let Ok(count) = u32::try_from(prefixes.len()) else {
+        return Err(OutOfMemory);
+    };
+    forget(found);
+    let mut near = 0;
+    for place in 0..count {
+        let row = Row {
+            dest: prefixes[place as usize],
+            number: place,
+        };
+        near = take_row(row, addresses, near, found);
+    }
+    Ok(())
+}
+
+/// Finds the longest of the prefixes of a table's rows, and keeps it under the number of its row's entry.
+pub fn longest_in_rows(rows: &[Row], addresses: &[u32], found: &mut Vec<Longest>)
+    requires ascending { IsStrictlyIncreasing addresses.now }
+    requires count { length found.old.items ≡ length addresses.now }
+    ensures longest { AreLongestKept (row_prefixes rows.now) (number_at rows.now) addresses.now found.new.items }
+    ensures blocks { All IsBlock (row_prefixes rows.now) }
+{
+    forget(found);
+    let mut near = 0;
+    for row in rows {
+        near = take_row(*row, addresses, near, found);
+    }
+}
+
+/// Nothing is found for any address.
+fn forget(found: &mut Vec<Longest>)
+    ensures { found.new.items ≡ replicate (length found.old.items) nothing }
+{
+    found.fill(NOTHING);
+}
+
+/// Gives the addresses of a row's prefix that prefix under the row's number, where it is longer than the one found before,
+/// and says where they end. They are first looked for at the places from `near` on.
+#[inline(always)]
+fn take_row(row: Row, addresses: &[u32], near: usize, found: &mut Vec<Longest>) -> usize
+    requires ascending { IsStrictlyIncreasing addresses.now }
+    requires count { length found.old.items ≡ length addresses.now }
+    ensures longest { TakesRow row addresses.now found.old.items found.new.items }
+    ensures block { IsBlock row.dest }
+{
+    let base = row.dest.base();
+    let last = row.dest.last();
+    let next = Longest {
+        number: row.number,
+        size: row.dest.len() + 1,
     };
     let start = number_near(addresses, base, near);
     for i in start..addresses.len() {
         if addresses[i] > last {
-            return start;
+            return i;
         }
-        found[i] = Some(next.or_longer(found[i]));
+        found[i] = next.or_longer(found[i]);
     }
-    start
+    addresses.len()
 }

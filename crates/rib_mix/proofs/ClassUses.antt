@@ -1,6 +1,5 @@
 -- What is used for the sample of a class is used for each of its addresses, and says what a router does with their packets.
-use Rattle.std.proofs.Common.{ℕ, ◌<◌, ◌↔◌, inl, inr, List, length, get_or, Contains}
-use Rattle.std.proofs.Common.{refl, sym, subst}
+use Rattle.std.proofs.Common.{◌≡◌, ℕ, ◌<◌, ◌⊎◌, ◌↔◌, inl, inr, Bool, true, false, if◌then◌else◌, List, length, get_or, Contains, refl, sym, subst}
 use Rattle.std.proofs.lemmas.Option.{slice_get-get_or}
 use Rattle.net_addr.specs.Addresses.{Block, ContainsAddress}
 use Rattle.net_model.specs.Network.{Network}
@@ -10,78 +9,92 @@ use Rattle.route_core.specs.declared.entry.Entry.TheVariants.{Discard}
 use Rattle.igp_theory.specs.Forwarding.{Usable, connected, of_old, of_new, Counts, connected_counts, old_counts, new_counts, Uses}
 use Rattle.igp_theory.specs.Migrations.{Migration, migration, listed_migration}
 use Rattle.igp_theory.specs.declared.phase.Phase.{Phase}
+use Rattle.igp_theory.specs.declared.phase.Phase.TheVariants.{Old, Middle, New}
 use Rattle.prefix_atoms.specs.Classes.{Classes, AreClasses, SourceEntry, connected_occurs, old_occurs, new_occurs, IsInClass}
-use Rattle.rib_mix.specs.Answers.{IsNext, IsThere, Says}
-use Rattle.rib_mix.specs.Cells.{IsUsable, IsKeptUse, ShowsUse}
+use Rattle.rib_mix.specs.Answers.{IsAlikeAt, IsNextAtAnEnd, IsNextOf, Says}
+use Rattle.rib_mix.specs.Cells.{IsCell, IsUsable, IsUse, ShowsUse, new_use, old_use, use_in}
+use Rattle.rib_mix.specs.Sites.{CountsAt, Site, UsesAt, table_of}
+use Rattle.rib_mix.specs.declared.both_tables.BothTables.{BothTables}
+use Rattle.rib_mix.specs.declared.cell.Cell.{Cell}
 use Rattle.rib_mix.specs.declared.next.Next.{Next}
+use Rattle.rib_mix.specs.declared.next.Next.TheVariants.{Absent}
 use Rattle.rib_mix.specs.declared.used.Used.{Used}
 use Rattle.rib_mix.specs.declared.used.Used.TheVariants as used
+use Rattle.rib_mix.proofs.Contests.{Within}
 
--- a network with the tables of all routers, their classes, and one router
+-- a router of a network, with its tables in their parts; the tables of all routers, and their classes
 pub record Place : Type 0 where
   pub net : Network
   pub old : ℕ → List (Block × Entry)
   pub new : ℕ → List (Block × Entry)
   pub classes : Classes
   pub u : ℕ
+  pub tables : BothTables
 
--- the classes are those of the tables, and the router is one of the network's
+-- the router is one of the network's, the tables are its own, and the classes are those of all tables
 pub record IsPlace (p : Place) : Type 0 where
   pub router : p.u < length p.net
+  pub olds : table_of p.tables.old ≡ p.old p.u
+  pub news : table_of p.tables.new ≡ p.new p.u
   pub classes : AreClasses (migration p.net (SourceEntry (length p.net) p.old) (SourceEntry (length p.net) p.new)) p.classes
 
--- what is used there by the tables of all routers, and by the router's own
-abbrev pub UsesOf : Place → Phase → ℕ → Usable → Type 0
-UsesOf p phase a x = Uses (listed_migration p.net p.old p.new) p.u phase a x
+abbrev pub move_of : Place → Migration
+move_of p = listed_migration p.net p.old p.new
 
-abbrev pub OwnUses : Place → Phase → ℕ → Usable → Type 0
-OwnUses p phase a x = Uses (migration p.net (λ v. IsListed (p.old p.u)) (λ v. IsListed (p.new p.u))) p.u phase a x
+-- where an answer is asked for: for the sample of class k
+abbrev pub sample : Place → ℕ → Site
+sample p k = record { net = p.net; u = p.u; tables = p.tables; a = get_or p.classes.samples k 0 }
 
-own_counts : (p : Place) (phase : Phase) (q : Block) (d : ℕ) (x : Usable) → Counts (listed_migration p.net p.old p.new) p.u phase q d x
-    → Counts (migration p.net (λ v. IsListed (p.old p.u)) (λ v. IsListed (p.new p.u))) p.u phase q d x
-own_counts p phase q d x (connected_counts h) = connected_counts h
-own_counts p phase q d x (old_counts counts c has is set listed) = old_counts counts c has is set listed
-own_counts p phase q d x (new_counts counts listed) = new_counts counts listed
+own_counts : (p : Place) (phase : Phase) (k : ℕ) → IsPlace p → Within (Counts (move_of p) p.u phase) (CountsAt (sample p k) phase)
+own_counts p phase k is q d x (connected_counts h) = connected_counts h
+own_counts p phase k is q d x (old_counts {e = e} counts c has at set listed) =
+    old_counts counts c has at set (subst (λ (t : List (Block × Entry)). IsListed t q e) (sym is.olds) listed)
+own_counts p phase k is q d x (new_counts {e = e} counts listed) =
+    new_counts counts (subst (λ (t : List (Block × Entry)). IsListed t q e) (sym is.news) listed)
 
-all_counts : (p : Place) (phase : Phase) (q : Block) (d : ℕ) (x : Usable)
-    → Counts (migration p.net (λ v. IsListed (p.old p.u)) (λ v. IsListed (p.new p.u))) p.u phase q d x
-    → Counts (listed_migration p.net p.old p.new) p.u phase q d x
-all_counts p phase q d x (connected_counts h) = connected_counts h
-all_counts p phase q d x (old_counts counts c has is set listed) = old_counts counts c has is set listed
-all_counts p phase q d x (new_counts counts listed) = new_counts counts listed
+all_counts : (p : Place) (phase : Phase) (k : ℕ) → IsPlace p → Within (CountsAt (sample p k) phase) (Counts (move_of p) p.u phase)
+all_counts p phase k is q d x (connected_counts h) = connected_counts h
+all_counts p phase k is q d x (old_counts {e = e} counts c has at set listed) =
+    old_counts counts c has at set (subst (λ (t : List (Block × Entry)). IsListed t q e) is.olds listed)
+all_counts p phase k is q d x (new_counts {e = e} counts listed) =
+    new_counts counts (subst (λ (t : List (Block × Entry)). IsListed t q e) is.news listed)
 
 -- the prefix of an entry that counts is one of the classes'
-counting_prefix : (p : Place) (phase : Phase) (q : Block) (d : ℕ) (x : Usable) → IsPlace p
-    → Counts (listed_migration p.net p.old p.new) p.u phase q d x → Contains p.classes.prefixes q
+counting_prefix : (p : Place) (phase : Phase) (q : Block) (d : ℕ) (x : Usable) → IsPlace p → Counts (move_of p) p.u phase q d x
+    → Contains p.classes.prefixes q
 counting_prefix p phase q d x is (connected_counts h) = (is.classes.occur q).1 (connected_occurs p.u h)
 counting_prefix p phase q d x is (old_counts {e = e} _ _ _ _ _ listed) = (is.classes.occur q).1 (old_occurs p.u e (is.router, listed))
 counting_prefix p phase q d x is (new_counts {e = e} _ listed) = (is.classes.occur q).1 (new_occurs p.u e (is.router, listed))
 
 -- what a router uses for the sample of a class it uses for each of its addresses, and the other way round
-pub class_uses : (p : Place) (phase : Phase) (k a : ℕ) (x : Usable) → IsPlace p → IsInClass p.classes k a
-    → OwnUses p phase (get_or p.classes.samples k 0) x ↔ UsesOf p phase a x
+class_uses : (p : Place) (phase : Phase) (k a : ℕ) (x : Usable) → IsPlace p → IsInClass p.classes k a
+    → UsesAt (sample p k) phase x ↔ Uses (move_of p) p.u phase a x
 class_uses p phase k a x is inside = (
   λ uses. record {
     prefix = uses.prefix;
     distance = uses.distance;
-    counts = all_counts p phase uses.prefix uses.distance x uses.counts;
-    contains = (alike uses.prefix uses.distance x (all_counts p phase uses.prefix uses.distance x uses.counts)).0 uses.contains;
-    longest = λ q d y counts contains. uses.longest q d y (own_counts p phase q d y counts) ((alike q d y counts).1 contains);
-    lowest = λ q d y counts contains. uses.lowest q d y (own_counts p phase q d y counts) ((alike q d y counts).1 contains);
+    counts = all uses.prefix uses.distance x uses.counts;
+    contains = (alike uses.prefix uses.distance x (all uses.prefix uses.distance x uses.counts)).0 uses.contains;
+    longest = λ q d y counts contains. uses.longest q d y (own q d y counts) ((alike q d y counts).1 contains);
+    lowest = λ q d y counts contains. uses.lowest q d y (own q d y counts) ((alike q d y counts).1 contains);
   },
   λ uses. record {
     prefix = uses.prefix;
     distance = uses.distance;
-    counts = own_counts p phase uses.prefix uses.distance x uses.counts;
+    counts = own uses.prefix uses.distance x uses.counts;
     contains = (alike uses.prefix uses.distance x uses.counts).1 uses.contains;
-    longest = λ q d y counts contains.
-        let all = all_counts p phase q d y counts in uses.longest q d y all ((alike q d y all).0 contains);
-    lowest = λ q d y counts contains.
-        let all = all_counts p phase q d y counts in uses.lowest q d y all ((alike q d y all).0 contains);
+    longest = λ q d y counts contains. uses.longest q d y (all q d y counts) ((alike q d y (all q d y counts)).0 contains);
+    lowest = λ q d y counts contains. uses.lowest q d y (all q d y counts) ((alike q d y (all q d y counts)).0 contains);
   },
 )
   where
-    alike : (q : Block) (d : ℕ) (y : Usable) → Counts (listed_migration p.net p.old p.new) p.u phase q d y
+    own : Within (Counts (move_of p) p.u phase) (CountsAt (sample p k) phase)
+    own = own_counts p phase k is
+
+    all : Within (CountsAt (sample p k) phase) (Counts (move_of p) p.u phase)
+    all = all_counts p phase k is
+
+    alike : (q : Block) (d : ℕ) (y : Usable) → Counts (move_of p) p.u phase q d y
         → ContainsAddress q (get_or p.classes.samples k 0) ↔ ContainsAddress q a
     alike q d y counts = inside.alike q (counting_prefix p phase q d y is counts)
 
@@ -92,32 +105,67 @@ shows_says olds news used.Connected next x shows is = subst (Says next) (sym is)
 shows_says olds news (used.Old number) next x shows is = subst (Says next) (sym is.2) (shows is.0 is.1)
 shows_says olds news (used.New number) next x shows is = subst (Says next) (sym is.2) (shows is.0 is.1)
 
-pub next_shown : (move : Migration) (u : ℕ) (phase : Phase) (a : ℕ) (olds news : List Entry) (way : Used) (next : Next)
-    → ((x : Usable) → Uses move u phase a x ↔ IsUsable olds news way x) → IsKeptUse olds news way → ShowsUse olds news way next
-    → IsNext move u phase a next
-next_shown move u phase a olds news way next exact within shows = record {
-  there = there way exact within shows;
-  only = λ x uses. shows_says olds news way next x shows ((exact x).0 uses);
+-- the answer that shows what is used alone for the sample of a class is the answer for the class
+pub answer_of : (p : Place) (k : ℕ) (phase : Phase) (way : Used) (next : Next) → IsPlace p → IsUse (sample p k) phase way
+    → ShowsUse p.tables.old.entries.now p.tables.new.entries.now way next → IsNextOf (move_of p) p.classes p.u k phase next
+answer_of p k phase way next is alone shows = λ a inside. record {
+  there = there a inside way alone shows;
+  only = λ x uses. shows_says olds news way next x shows ((alone.exact x).0 ((class_uses p phase k a x is inside).1 uses));
 }
   where
-    there : (way : Used) → ((x : Usable) → Uses move u phase a x ↔ IsUsable olds news way x) → IsKeptUse olds news way → ShowsUse olds news way next
-        → IsThere move u phase a next
-    there used.Nothing exact within shows = inl shows
-    there used.Connected exact within shows = inr (record { used = connected; uses = (exact connected).1 refl; says = shows })
-    there (used.Old number) exact within shows =
-        let at = slice_get-get_or olds number Discard within in
-        inr (record { used = of_old (get_or olds number Discard); uses = (exact (of_old (get_or olds number Discard))).1 (_, at, refl); says = shows _ at })
-    there (used.New number) exact within shows =
-        let at = slice_get-get_or news number Discard within in
-        inr (record { used = of_new (get_or news number Discard); uses = (exact (of_new (get_or news number Discard))).1 (_, at, refl); says = shows _ at })
+    olds : List Entry
+    olds = p.tables.old.entries.now
 
--- an answer is the answer wherever the same is used
-pub next_along : {move : Migration} {u : ℕ} {phase : Phase} {a b : ℕ} (next : Next)
-    → ((x : Usable) → Uses move u phase a x ↔ Uses move u phase b x) → IsNext move u phase a next → IsNext move u phase b next
-next_along next same is = record {
-  there = elim is.there [
-    | inl absent ↦ inl absent
-    | inr says ↦ inr (record { used = says.used; uses = (same says.used).0 says.uses; says = says.says })
-  ];
-  only = λ x uses. is.only x ((same x).1 uses);
-}
+    news : List Entry
+    news = p.tables.new.entries.now
+
+    there : (a : ℕ) → IsInClass p.classes k a → (way : Used) → IsUse (sample p k) phase way → ShowsUse olds news way next
+        → (next ≡ Absent) ⊎ ((x : Usable) × Uses (move_of p) p.u phase a x × Says next x)
+    there a inside used.Nothing alone shows = inl shows
+    there a inside used.Connected alone shows =
+        inr (connected, (class_uses p phase k a connected is inside).0 ((alone.exact connected).1 refl), shows)
+    there a inside (used.Old number) alone shows =
+        let at = slice_get-get_or olds number Discard alone.within in
+        let x : Usable = of_old (get_or olds number Discard) in
+        inr (x, (class_uses p phase k a x is inside).0 ((alone.exact x).1 (_, at, refl)), shows _ at)
+    there a inside (used.New number) alone shows =
+        let at = slice_get-get_or news number Discard alone.within in
+        let x : Usable = of_new (get_or news number Discard) in
+        inr (x, (class_uses p phase k a x is inside).0 ((alone.exact x).1 (_, at, refl)), shows _ at)
+
+-- what is used in Middle is what is used in Old or in New, and so is the answer
+pub middle_answer : (p : Place) (k : ℕ) (cell : Cell) (next : Next) → IsPlace p → IsCell (sample p k) cell
+    → ShowsUse p.tables.old.entries.now p.tables.new.entries.now (use_in cell Middle) next → IsNextAtAnEnd (move_of p) p.classes p.u k next
+middle_answer p k cell next is uses shows = by_end cell.middle_is_new shows
+  where
+    by_end : (is_new : Bool) → ShowsUse p.tables.old.entries.now p.tables.new.entries.now (if is_new then new_use cell else old_use cell) next
+        → IsNextAtAnEnd (move_of p) p.classes p.u k next
+    by_end true shown = inr (answer_of p k New (new_use cell) next is (uses New) shown)
+    by_end false shown = inl (answer_of p k Old (old_use cell) next is (uses Old) shown)
+
+-- the answer for a class is the answer for each class with the same cell
+one_way : (p : Place) (k j : ℕ) (cell : Cell) → IsPlace p → k < length p.classes.samples → IsCell (sample p k) cell → IsCell (sample p j) cell
+    → (phase : Phase) (next : Next) → IsNextOf (move_of p) p.classes p.u k phase next → IsNextOf (move_of p) p.classes p.u j phase next
+one_way p k j cell is within at_k at_j phase next answer b inside =
+    let first : ℕ = get_or p.classes.samples k 0 in
+    let sampled : IsInClass p.classes k first = record {
+      class = within;
+      address = is.classes.classing.samples.addresses k 0 within;
+      alike = λ q member. (λ h. h, λ h. h);
+    } in
+    let same : (x : Usable) → Uses (move_of p) p.u phase first x ↔ Uses (move_of p) p.u phase b x = λ x. (
+      λ h. (class_uses p phase j b x is inside).0 (((at_j phase).exact x).1 (((at_k phase).exact x).0 ((class_uses p phase k first x is sampled).1 h))),
+      λ h. (class_uses p phase k first x is sampled).0 (((at_k phase).exact x).1 (((at_j phase).exact x).0 ((class_uses p phase j b x is inside).1 h))),
+    ) in
+    record {
+      there = elim (answer first sampled).there [
+        | inl absent ↦ inl absent
+        | inr says ↦ inr (says.0, (same says.0).0 says.1, says.2)
+      ];
+      only = λ x uses. (answer first sampled).only x ((same x).1 uses);
+    }
+
+-- classes with the same cell are alike at a router
+pub alike_cells : (p : Place) (k j : ℕ) (cell : Cell) → IsPlace p → k < length p.classes.samples → j < length p.classes.samples
+    → IsCell (sample p k) cell → IsCell (sample p j) cell → IsAlikeAt (move_of p) p.classes p.u k j
+alike_cells p k j cell is in_k in_j at_k at_j = λ phase next. (one_way p k j cell is in_k at_k at_j phase next, one_way p j k cell is in_j at_j at_k phase next)

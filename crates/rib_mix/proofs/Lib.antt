@@ -7,4 +7,4 @@ mod MixedLaws
 mod FoundFacts
 mod SubnetFacts
 mod RowSteps
-mod ColumnLaws
+mod RowLaws

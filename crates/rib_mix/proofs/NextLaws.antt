@@ -29,6 +29,6 @@ steps_to_hops move u phase a next h is must = (
   λ s. (says_leads next s.used h (is.only s.used s.uses)).0 s.leads,
   λ f. ⊎_elim
       (λ absent. absurd (subst (λ (n : Next). NextLeadsTo n h) absent f))
-      (λ there. record { must = must; used = there.used; uses = there.uses; leads = (says_leads next there.used h there.says).1 f })
+      (λ there. record { must = must; used = there.0; uses = there.1; leads = (says_leads next there.0 h there.2).1 f })
       is.there,
 )

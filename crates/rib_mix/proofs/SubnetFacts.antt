@@ -1,28 +1,14 @@
--- The longest connected prefix, found in the list of the connected ones.
-use Rattle.std.proofs.Common.{◌≡◌, ℕ, Bool, true, false, if◌then◌else◌, IsTrue, List, Contains, Option, Some, None, refl, sym, subst}
+-- The connected prefixes of a router, as they are listed.
+use Rattle.std.proofs.Common.{◌≡◌, ℕ, Bool, true, false, if◌then◌else◌, IsTrue, Contains, Option, Some, None, refl, sym, subst}
 use Rattle.std.proofs.Common.{◌∙◌}
 use Rattle.std.specs.List.{filter_map}
 use Rattle.net_model.proofs.Members.{Contains-filter_map, Contains-in_filter_map}
 use Rattle.std.proofs.lemmas.Option.{same_Some}
 use Rattle.net_addr.specs.Addresses.{Block}
-use Rattle.net_addr.specs.LongestMatches.{IsMatch}
-use Rattle.net_addr.specs.declared.matches.Match.{Match}
-use Rattle.net_addr.proofs.LongestMatchLaws.{HasNoMatch-same, IsLongestMatch-same}
 use Rattle.net_model.specs.Configuration.{Configuration}
 use Rattle.net_model.specs.DestLists.{subnet_if_up}
-use Rattle.net_model.specs.Network.{Network, HasConfiguration, Connected}
+use Rattle.net_model.specs.Network.{Network, HasConfiguration}
 use Rattle.rib_mix.specs.Rows.{AreSubnets}
-use Rattle.rib_mix.specs.Sites.{IsConnectedLength, length_of}
-
--- the length of the longest match among the connected prefixes
-pub connected_length : (net : Network) (u a : ℕ) (subnets : List Block) (found : Option Match) → AreSubnets net u subnets
-    → IsMatch subnets a found → IsConnectedLength net u a (length_of found)
-connected_length net u a subnets None are match = HasNoMatch-same (Contains subnets) (Connected net u) a are match
-connected_length net u a subnets (Some m) are match = record {
-  prefix = match.at.prefix;
-  longest = IsLongestMatch-same (Contains subnets) (Connected net u) a match.at.prefix are match.at.match;
-  len_is = match.len_is;
-}
 
 if_up : (up : Bool) (subnet : Option Block) (p : Block) → (if up then subnet else None) ≡ Some p → IsTrue up × (subnet ≡ Some p)
 if_up true subnet p is = (refl, is)

@@ -1,5 +1,5 @@
 -- What a router does with the packets of an address, as an answer.
-use Rattle.std.specs.Prelude.{◌≡◌, ℕ, ◌<◌, ◌⊎◌, ◌↔◌, length, Contains}
+use Rattle.std.specs.Prelude.{◌≡◌, ℕ, ◌⊎◌, ◌↔◌, Contains}
 use Rattle.route_core.specs.declared.entry.Entry.{Entry}
 use Rattle.route_core.specs.declared.entry.Entry.TheVariants as entry
 use Rattle.igp_theory.specs.Forwarding.{Usable, connected, of_old, of_new, Uses}
@@ -23,20 +23,10 @@ Says next connected = next ≡ Connected
 Says next (of_old e) = ShowsEntry next e
 Says next (of_new e) = ShowsEntry next e
 
--- an entry is used, and the answer is what it says
-pub record SaysUsed (move : Migration) (u : ℕ) (phase : Phase) (a : ℕ) (next : Next) : Type 0 where
-  pub used : Usable
-  pub uses : Uses move u phase a used
-  pub says : Says next used
-
--- the answer is that no entry is used, or an entry is used
-abbrev pub IsThere : Migration → ℕ → Phase → ℕ → Next → Type 0
-IsThere move u phase a next = (next ≡ Absent) ⊎ SaysUsed move u phase a next
-
 -- what router u does in a phase with the packets of an address: what its one used entry says, where it
 -- has one, and otherwise nothing
 pub record IsNext (move : Migration) (u : ℕ) (phase : Phase) (a : ℕ) (next : Next) : Type 0 where
-  pub there : IsThere move u phase a next
+  pub there : (next ≡ Absent) ⊎ ((used : Usable) × Uses move u phase a used × Says next used)
   pub only : (used : Usable) → Uses move u phase a used → Says next used
 
 -- what it does with the packets of each address of a class
@@ -59,7 +49,3 @@ NextLeadsTo Absent h = ⊥
 abbrev pub IsAlikeAt : Migration → Classes → ℕ → ℕ → ℕ → Type 0
 IsAlikeAt move classes u class other =
     (phase : Phase) (next : Next) → IsNextOf move classes u class phase next ↔ IsNextOf move classes u other phase next
-
--- and so does each router
-abbrev pub AreAlikeClasses : Migration → Classes → ℕ → ℕ → Type 0
-AreAlikeClasses move classes class other = (u : ℕ) → u < length move.net → IsAlikeAt move classes u class other

@@ -1,5 +1,5 @@
 -- What is kept for each router and class: what is used in each phase.
-use Rattle.std.specs.Prelude.{◌≡◌, ◌↔◌, ℕ, ◌<◌, if◌then◌else◌, List, length, Option, Some, None, slice_get}
+use Rattle.std.specs.Prelude.{◌≡◌, ◌↔◌, ℕ, ◌<◌, Bool, if◌then◌else◌, List, length, Some, slice_get}
 use Rattle.net_model.specs.declared.bounds.TheConstants.{ISIS_DISTANCE}
 use Rattle.route_core.specs.declared.entry.Entry.{Entry}
 use Rattle.igp_theory.specs.Forwarding.{Usable, connected, of_old, of_new}
@@ -10,8 +10,8 @@ use Rattle.rib_mix.specs.steps.Candidates.{connected_of, entry_of, old_of, IsBet
 use Rattle.rib_mix.specs.Sites.{Site, UsesAt}
 use Rattle.rib_mix.specs.declared.candidate.Candidate.{Candidate}
 use Rattle.rib_mix.specs.declared.cell.Cell.{Cell}
-use Rattle.rib_mix.specs.declared.cell.Choice.{Choice}
-use Rattle.rib_mix.specs.declared.cell.Choice.TheVariants as choice
+use Rattle.rib_mix.specs.declared.candidate.Choice.{Choice}
+use Rattle.rib_mix.specs.declared.candidate.Choice.TheVariants as choice
 use Rattle.rib_mix.specs.declared.used.Used.{Used}
 use Rattle.rib_mix.specs.declared.used.Used.TheVariants as used
 use Rattle.rib_mix.specs.declared.found.Found.{Found}
@@ -37,45 +37,26 @@ use_in cell phase.Old = old_use cell
 use_in cell phase.Middle = if cell.middle_is_new then new_use cell else old_use cell
 use_in cell phase.New = new_use cell
 
--- what is chosen where this is the best candidate: by the entry that it has, and in all
-abbrev pub choice_of_entry : Option ℕ → Choice
-choice_of_entry None = choice.Connected
-choice_of_entry (Some number) = choice.Entry
-
-abbrev pub choice_of : Option Candidate → Choice
-choice_of None = choice.Nothing
-choice_of (Some c) = choice_of_entry c.entry
-
--- the number of its entry, 0 where it has none
-abbrev pub number_or : Option ℕ → ℕ
-number_or None = 0
-number_or (Some number) = number
-
-abbrev pub entry_number_of : Option Candidate → ℕ
-entry_number_of None = 0
-entry_number_of (Some c) = number_or c.entry
-
 -- what is used where this is the best candidate
-abbrev pub use_of_entry : (ℕ → Used) → Option ℕ → Used
-use_of_entry table None = used.Connected
-use_of_entry table (Some number) = table number
-
-abbrev pub use_of : (ℕ → Used) → Option Candidate → Used
-use_of table None = used.Nothing
-use_of table (Some c) = use_of_entry table c.entry
+abbrev pub use_of : (ℕ → Used) → Candidate → Used
+use_of table c = chosen_use table c.choice c.number
 
 -- what a router with this OSPF distance uses in each phase, of what is found: at each end what the best candidate says, and in
 -- Middle what the better of the two says
 pub record IsCellOf (found : Found) (ospf : ℕ) (cell : Cell) : Type 0 where
-  pub best_old : Option Candidate
-  pub best_new : Option Candidate
+  pub best_old : Candidate
+  pub best_new : Candidate
   pub is_old : IsBetter (connected_of found.connected) (old_of ospf found.old) best_old
   pub is_new : IsBetter (connected_of found.connected) (entry_of ISIS_DISTANCE found.new) best_new
-  pub old_choice : cell.old ≡ choice_of best_old
-  pub old_number : cell.old_entry ≡ entry_number_of best_old
-  pub new_choice : cell.new ≡ choice_of best_new
-  pub new_number : cell.new_entry ≡ entry_number_of best_new
-  pub middle : SecondLeads cell.middle_is_new best_old best_new
+  pub middle_is_new : Bool
+  pub middle : SecondLeads middle_is_new best_old best_new
+  pub cell_is : cell ≡ record {
+    old_entry = best_old.number;
+    new_entry = best_new.number;
+    old = best_old.choice;
+    new = best_new.choice;
+    middle_is_new = middle_is_new;
+  }
 
 -- what is used is within the entries that the tables keep
 abbrev pub IsKeptUse : List Entry → List Entry → Used → Type 0

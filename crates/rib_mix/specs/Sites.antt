@@ -1,23 +1,20 @@
 -- Where an answer is asked for, and what is known of the entries there.
-use Rattle.std.specs.Prelude.{◌≡◌, ℕ, List, length, slice_get, All, Some, None, Option, MatchOption}
+use Rattle.std.specs.Prelude.{◌≡◌, ℕ, ◌↔◌, List, length, slice_get, All, Some, Contains}
 use Rattle.net_addr.specs.Addresses.{Block, IsBlock}
-use Rattle.net_addr.specs.LongestMatches.{HasNoMatch}
-use Rattle.net_addr.specs.declared.matches.Match.{Match}
 use Rattle.net_model.specs.Configuration.{Configuration}
-use Rattle.net_model.specs.Lookups.{LongestConnected}
 use Rattle.net_model.specs.Network.{Network, Connected, HasConfiguration}
 use Rattle.net_model.specs.Refusals.{IsNetwork}
-use Rattle.route_core.specs.Rows.{AreTableRows, AreTableParts, listed_rows}
-use Rattle.route_core.specs.Tables.{HasDistinctPrefixes, IsListed, LongestEntry}
+use Rattle.route_core.specs.Rows.{AreTableRows, AreTableParts, listed_rows, row_prefixes}
+use Rattle.route_core.specs.Tables.{HasDistinctPrefixes, IsListed}
 use Rattle.route_core.specs.declared.entry.Entry.{Entry}
-use Rattle.route_core.specs.declared.row.Row.{Row}
 use Rattle.route_core.specs.declared.table.TableParts.{TableParts}
 use Rattle.igp_theory.specs.Forwarding.{Usable, Counts, Uses}
-use Rattle.igp_theory.specs.Migrations.{migration}
+use Rattle.igp_theory.specs.Migrations.{Migration, migration}
 use Rattle.igp_theory.specs.declared.phase.Phase.{Phase}
+use Rattle.prefix_atoms.specs.Longest.{IsKept, number_at}
+use Rattle.prefix_atoms.specs.declared.longest.Longest.{Longest}
 use Rattle.rib_mix.specs.declared.both_tables.BothTables.{BothTables}
 use Rattle.rib_mix.specs.declared.found.Found.{Found}
-use Rattle.rib_mix.specs.declared.found.Longest.{Longest}
 
 -- where an answer is asked for: at router u of a network, with its tables in their parts, for address a
 pub record Site : Type 0 where
@@ -30,50 +27,30 @@ pub record Site : Type 0 where
 abbrev pub table_of : TableParts → List (Block × Entry)
 table_of parts = listed_rows parts.entries.now parts.rows.now
 
--- an entry that counts there
-abbrev pub CountsAt : Site → Phase → Block → ℕ → Usable → Type 0
-CountsAt s phase p d x = Counts (migration s.net (λ v. IsListed (table_of s.tables.old)) (λ v. IsListed (table_of s.tables.new))) s.u phase p d x
+-- a kind of entries: by their prefix, distance and what is used
+abbrev pub Kind : Type 1
+Kind = Block → ℕ → Usable → Type 0
 
--- the one that is used
+-- the network with the tables of this router at each
+abbrev pub own_migration : Site → Migration
+own_migration s = migration s.net (λ v. IsListed (table_of s.tables.old)) (λ v. IsListed (table_of s.tables.new))
+
+-- the entries that count there, and the one that is used
+abbrev pub CountsAt : Site → Phase → Kind
+CountsAt s phase = Counts (own_migration s) s.u phase
+
 abbrev pub UsesAt : Site → Phase → Usable → Type 0
-UsesAt s phase x = Uses (migration s.net (λ v. IsListed (table_of s.tables.old)) (λ v. IsListed (table_of s.tables.new))) s.u phase s.a x
+UsesAt s phase = Uses (own_migration s) s.u phase s.a
 
--- the longest connected prefix that contains the address has this length
-pub record ConnectedLength (net : Network) (u a len : ℕ) : Type 0 where
-  pub prefix : Block
-  pub longest : LongestConnected net u a prefix
-  pub len_is : prefix.len ≡ len
+-- the longest entry of a table, by its number
+abbrev pub IsFoundIn : TableParts → ℕ → Longest → Type 0
+IsFoundIn parts a found = IsKept (row_prefixes parts.rows.now) (number_at parts.rows.now) a found
 
--- the length of the longest connected prefix, none where no connected prefix contains the address
-abbrev pub IsConnectedLength : Network → ℕ → ℕ → Option ℕ → Type 0
-IsConnectedLength net u a found = MatchOption found (HasNoMatch (Connected net u) a) (ConnectedLength net u a)
-
--- the longest entry of a table that contains the address is kept under this number, and has this length
-pub record IsLongest (parts : TableParts) (a : ℕ) (found : Longest) : Type 0 where
-  pub prefix : Block
-  pub entry : Entry
-  pub stands : slice_get parts.entries.now found.number ≡ Some entry
-  pub longest : LongestEntry (IsListed (table_of parts)) a prefix entry
-  pub len_is : prefix.len ≡ found.len
-
--- the longest entry of a table, none where no entry contains the address
-abbrev pub IsFoundIn : TableParts → ℕ → Option Longest → Type 0
-IsFoundIn parts a found = MatchOption found (HasNoMatch (λ p. (e : Entry) × IsListed (table_of parts) p e) a) (IsLongest parts a)
-
--- the length of a match
-abbrev pub length_of : Option Match → Option ℕ
-length_of None = None
-length_of (Some m) = Some m.len
-
--- the entry of the row at the place of a match
-abbrev pub IsLongestOf : List Row → Option Match → Option Longest → Type 0
-IsLongestOf rows None longest = longest ≡ None
-IsLongestOf rows (Some m) longest =
-    (row : Row) × (slice_get rows m.place ≡ Some row) × (longest ≡ Some (record { number = row.number; len = m.len }))
-
--- what is found there
+-- what is found there, of these connected prefixes and of both tables
 pub record AreFound (s : Site) (found : Found) : Type 0 where
-  pub connected : IsConnectedLength s.net s.u s.a found.connected
+  pub subnets : List Block
+  pub subnets_are : (p : Block) → Contains subnets p ↔ Connected s.net s.u p
+  pub connected : IsKept subnets (λ place. place) s.a found.connected
   pub old : IsFoundIn s.tables.old s.a found.old
   pub new : IsFoundIn s.tables.new s.a found.new
 
@@ -93,6 +70,8 @@ pub record IsLawfulSite (s : Site) : Type 0 where
   pub network : IsNetwork s.net
   pub old : IsLawfulTable (table_of s.tables.old)
   pub new : IsLawfulTable (table_of s.tables.new)
+  pub old_rows : AreTableRows s.tables.old.entries.now s.tables.old.rows.now
+  pub new_rows : AreTableRows s.tables.new.entries.now s.tables.new.rows.now
 
 -- both tables of each of so many routers, in their parts
 pub record AreTablesOf (old new : ℕ → List (Block × Entry)) (routers : ℕ) (tables : List BothTables) : Type 0 where

@@ -1,25 +1,14 @@
 ghost use Rattle.std.specs.Prelude.{◌≡◌};
 ghost use Rattle.igp_theory.specs.declared.phase.Phase.TheVariants.{Middle};
-ghost use Rattle.rib_mix.specs.Cells.{IsCellOf, choice_of, new_use, entry_number_of, old_use, use_in};
+ghost use Rattle.rib_mix.specs.Cells.{IsCellOf, new_use, old_use, use_in};
 
 use crate::candidate::{
-    Candidate, better, connected_candidate, entry_candidate, is_better, old_candidate,
+    Choice, better, connected_candidate, entry_candidate, is_better, old_candidate,
 };
 use crate::found::Found;
 use crate::used::Used;
 use igp_theory::Phase;
 use net_model::ISIS_DISTANCE;
-
-/// What a router chooses for an address in Old or in New, where one table counts.
-#[derive(Clone, Copy, Debug, PartialEq, Eq)]
-pub enum Choice {
-    /// Nothing.
-    Nothing,
-    /// The connected prefix.
-    Connected,
-    /// The entry of the table.
-    Entry,
-}
 
 /// What a router uses for an address in each phase. It has 12 bytes, since there is one for each router and class.
 #[derive(Clone, Copy, Debug, PartialEq, Eq)]
@@ -90,36 +79,10 @@ pub fn cell_of(found: Found, ospf: u8) -> Cell
     let best_old = better(connected, old_candidate(found.old, ospf));
     let best_new = better(connected, entry_candidate(found.new, ISIS_DISTANCE));
     Cell {
-        old_entry: number_of(best_old),
-        new_entry: number_of(best_new),
-        old: choice_of(best_old),
-        new: choice_of(best_new),
+        old_entry: best_old.number,
+        new_entry: best_new.number,
+        old: best_old.choice,
+        new: best_new.choice,
         middle_is_new: is_better(best_old, best_new),
-    }
-}
-
-/// What is chosen where this is the best candidate.
-fn choice_of(best: Option<Candidate>) -> Choice
-    ensures { result ≡ choice_of best }
-{
-    match best {
-        None => Choice::Nothing,
-        Some(Candidate { entry: None, .. }) => Choice::Connected,
-        Some(Candidate { entry: Some(_), .. }) => Choice::Entry,
-    }
-}
-
-/// The number of the best candidate's entry, 0 where it has none.
-fn number_of(best: Option<Candidate>) -> u32
-    ensures { result ≡ entry_number_of best }
-{
-    match best {
-        Some(
-            Candidate {
-                entry: Some(number),
-                ..
-            },
-        ) => number,
-        _ => 0,
     }
 }

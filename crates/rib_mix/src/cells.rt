@@ -4,7 +4,7 @@ ghost use Rattle.std.specs.Bool.{OnTrue};
 use crate::cell::Cell;
 use std::marker::Model;
 
-/// Cells side by side: those of a router for each class, or those of all routers for one class.
+/// What a router uses for each of some addresses, cell by cell.
 #[derive(Drop)]
 pub struct Cells {
     all: Vec<Cell>,
@@ -33,28 +33,6 @@ impl Cells {
         ensures { slice_get self.now place ≡ Some result }
     {
         self.all[place]
-    }
-
-    /// How many cells there are.
-    pub fn len(&self) -> usize
-        ensures { result ≡ length self.now }
-    {
-        self.all.len()
-    }
-
-    /// Whether cells are the same, place by place.
-    pub fn are_same(&self, other: &Cells) -> bool
-        ensures { OnTrue result (self.now ≡ other.now) }
-    {
-        if self.len() != other.len() {
-            return false;
-        }
-        for place in 0..self.len() {
-            if !is_same(self.at(place), other.at(place)) {
-                return false;
-            }
-        }
-        true
     }
 }
 

@@ -7,12 +7,12 @@
 //! |---|---|
 //! | `mixed`, `next` | mixed forwarding over a network and two sources of tables, and what a router does |
 //! | `both_tables`, `subnets` | of each router: its tables in their parts, and its connected prefixes |
-//! | `found`, `candidate`, `used` | the longest entries for an address, the best of what counts in a phase, and what is used |
-//! | `cell`, `cells`, `row`, `columns` | what is used in each phase: of one router for all classes, and of all routers for each class |
+//! | `found`, `finds`, `candidate`, `used` | the longest entries for addresses, the best of what counts in a phase, and what is used |
+//! | `cell`, `cells`, `row` | what a router uses in each phase: for an address, and for each class |
 //! | `law` | that what a router does is what the definitions call its steps |
 //!
 //! `Mixed::build` takes time of routers times classes and of the entries of all tables; `hops` looks one cell up. The cells of
-//! a class stand side by side.
+//! a router stand side by side.
 #![tactic(auto)]
 
 // mixed forwarding
@@ -24,7 +24,7 @@ mod both_tables;
 mod candidate;
 mod cell;
 mod cells;
-mod columns;
+mod finds;
 mod found;
 mod row;
 mod subnets;

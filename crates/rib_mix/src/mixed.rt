@@ -2,17 +2,18 @@ ghost use Rattle.std.specs.Prelude.{◌≡◌, ◌<◌, ◌↔◌, IfOk, IsTrue,
 ghost use Rattle.std.specs.Bool.{OnTrue};
 ghost use Rattle.std.specs.List.Sorted.{IsStrictlyIncreasing};
 ghost use Rattle.net_model.specs.Network.{Connected};
+ghost use Rattle.net_model.specs.Refusals.{IsNetwork};
 ghost use Rattle.igp_theory.specs.Migrations.{migration};
 ghost use Rattle.prefix_atoms.specs.Classes.{AreClasses, SourceEntry};
-ghost use Rattle.rib_mix.specs.Answers.{AreAlikeClasses, IsAlikeAt, IsNextAtAnEnd, IsNextOf, ShowsEntry};
+ghost use Rattle.rib_mix.specs.Answers.{IsAlikeAt, IsNextAtAnEnd, IsNextOf, ShowsEntry};
 ghost use Rattle.rib_mix.specs.Mixture.{migration_of};
 ghost use Rattle.rib_mix.specs.Cells.{IsKeptUse, ShowsUse};
 ghost use Rattle.rib_mix.specs.Rows.{AreAllSubnets, AreRows};
-ghost use Rattle.rib_mix.specs.Sites.{AreTablesInParts};
+ghost use Rattle.rib_mix.specs.Sites.{AreTablesInParts, HasOspfDistance};
 
 use crate::both_tables::{BothTables, tables_of};
 use crate::cells::{Cells, is_same};
-use crate::columns::columns_of;
+use crate::finds::Finds;
 use crate::next::Next;
 use crate::row::row_of;
 use crate::subnets::Subnets;
@@ -37,8 +38,8 @@ pub struct Mixed<'a, O: RouteSource, N: RouteSource> {
     subnets: Vec<Subnets>,
     /// Of each router both tables.
     tables: Vec<BothTables<'a>>,
-    /// For each class what all routers use.
-    columns: Vec<Cells>,
+    /// For each router what it uses for each class.
+    rows: Vec<Cells>,
 }
 
 impl<'a, O: RouteSource, N: RouteSource> Model for Mixed<'a, O, N> {
@@ -53,7 +54,7 @@ impl<'a, O: RouteSource, N: RouteSource> Model for Mixed<'a, O, N> {
       ground = record { net = x.net.now; tables = x.tables.items };
       classes = x.atoms;
       subnets = x.subnets.items;
-      columns = x.columns.items;
+      rows = x.rows.items;
     }) };
 }
 
@@ -76,7 +77,6 @@ impl<'a, O: RouteSource, N: RouteSource> Mixed<'a, O, N> {
         let tables = tables_of(alloc, old, new)?;
         let samples = atoms.samples();
         let rows = rows_of(alloc, net, subnets.as_slice(), tables.as_slice(), samples)?;
-        let columns = columns_of(alloc, rows.as_slice(), samples.len())?;
         Ok(Mixed {
             net,
             old,
@@ -84,7 +84,7 @@ impl<'a, O: RouteSource, N: RouteSource> Mixed<'a, O, N> {
             atoms,
             subnets,
             tables,
-            columns,
+            rows,
         })
     }
 
@@ -121,8 +121,8 @@ impl<'a, O: RouteSource, N: RouteSource> Mixed<'a, O, N> {
         ensures middle { phase ≡ Phase.Middle
             → IsNextAtAnEnd (migration_of O.table N.table self.now) self.now.classes router atom result }
     {
-        let cell = self.columns[atom as usize].at(router as usize);
         let tables = &self.tables[router as usize];
+        let cell = self.rows[router as usize].at(atom as usize);
         let old = tables.old.entries;
         let new = tables.new.entries;
         next_of(old, new, cell.used(phase))
@@ -136,21 +136,8 @@ impl<'a, O: RouteSource, N: RouteSource> Mixed<'a, O, N> {
         ensures { OnTrue result
             (IsAlikeAt (migration_of O.table N.table self.now) self.now.classes router atom other) }
     {
-        let one = self.columns[atom as usize].at(router as usize);
-        let two = self.columns[other as usize].at(router as usize);
-        is_same(one, two)
-    }
-
-    /// Whether that is known of all routers.
-    pub fn are_alike(&self, atom: u32, other: u32) -> bool
-        requires atom { atom < length self.now.classes.samples }
-        requires other { other < length self.now.classes.samples }
-        ensures { OnTrue result
-            (AreAlikeClasses (migration_of O.table N.table self.now) self.now.classes atom other) }
-    {
-        let one = &self.columns[atom as usize];
-        let two = &self.columns[other as usize];
-        one.are_same(two)
+        let row = &self.rows[router as usize];
+        is_same(row.at(atom as usize), row.at(other as usize))
     }
 }
 
@@ -179,14 +166,25 @@ fn rows_of(
     requires subnets { AreAllSubnets net.now subnets.now }
     ensures { IfOk result (λ rows. AreRows (record { net = net.now; tables = tables.now }) addresses.now rows.items) }
 {
+    let mut finds = Finds::with_places(alloc, addresses.len())?;
     let mut rows = Vec::with_capacity(alloc, net.routers() as usize)?;
     for router in 0..net.routers() {
         let subnets = &subnets[router as usize];
         let both = tables[router as usize];
-        let row = row_of(alloc, net, router, subnets, both, addresses)?;
+        finds.find(subnets.as_slice(), both, addresses)?;
+        let row = row_of(alloc, &finds, addresses.len(), ospf_distance(net, router))?;
         rows.push(row)?;
     }
     Ok(rows)
+}
+
+/// The OSPF distance of a router.
+fn ospf_distance(net: &Net, router: u32) -> u8
+    requires { router < length net.now }
+    ensures distance { HasOspfDistance net.now router result }
+    ensures network { IsNetwork net.now }
+{
+    net.config(router).distances.ospf
 }
 
 /// What a router does that uses this.

@@ -6,20 +6,14 @@ use Rattle.prefix_atoms.proofs.atoms.classes_of.Goals as goal
 
 pub targets_of-requires : goal.targets_of-requires
 targets_of-requires c =
-    let made = made_from c.args.prefixes.items c.as_slice.result.now c.as_slice-2.result.now c.in_ok-starts.starts.items c.as_slice-3.result.now
-    c.as_slice-4.result.now
-    c.in_ok-numbers.field-0.numbers.items c.in_ok-numbers.field-0.firsts.items c.as_slice-5.result.now c.in_ok-samples.samples.items
-    c.as_slice.ensures.value c.as_slice-2.ensures.value c.as_slice-3.ensures.value c.as_slice-4.ensures.value c.as_slice-5.ensures.value
-    c.in_ok-starts.ensures.blocks c.in_ok-starts.ensures.cuts c.in_ok-numbers.ensures c.in_ok-samples.ensures in
+    let made = made_from _ _ _ _ _ _ _ _ _ _ c.as_slice.ensures.value c.as_slice-2.ensures.value c.as_slice-3.ensures.value c.as_slice-4.ensures.value
+    c.as_slice-5.ensures.value c.in_ok-starts.ensures.blocks c.in_ok-starts.ensures.cuts c.in_ok-numbers.ensures c.in_ok-samples.ensures in
     subst IsStrictlyIncreasing (sym c.as_slice-6.ensures.value) (samples_ascend made)
 
 pub invariant_of-result : goal.invariant_of-result
 invariant_of-result c =
-    let made = made_from c.args.prefixes.items c.as_slice.result.now c.as_slice-2.result.now c.in_ok-starts.starts.items c.as_slice-3.result.now
-    c.as_slice-4.result.now
-    c.in_ok-numbers.field-0.numbers.items c.in_ok-numbers.field-0.firsts.items c.as_slice-5.result.now c.in_ok-samples.samples.items
-    c.as_slice.ensures.value c.as_slice-2.ensures.value c.as_slice-3.ensures.value c.as_slice-4.ensures.value c.as_slice-5.ensures.value
-    c.in_ok-starts.ensures.blocks c.in_ok-starts.ensures.cuts c.in_ok-numbers.ensures c.in_ok-samples.ensures in (
+    let made = made_from _ _ _ _ _ _ _ _ _ _ c.as_slice.ensures.value c.as_slice-2.ensures.value c.as_slice-3.ensures.value c.as_slice-4.ensures.value
+    c.as_slice-5.ensures.value c.in_ok-starts.ensures.blocks c.in_ok-starts.ensures.cuts c.in_ok-numbers.ensures c.in_ok-samples.ensures in (
       record { samples = samples_made made; targets = c.in_ok-targets.ensures.count ∙ ap length c.as_slice-6.ensures.value },
       intervals_tell (record { prefixes = c.args.prefixes.items; samples = c.in_ok-samples.samples.items; targets = c.in_ok-targets.targets.items }) refl refl
           made,
@@ -27,11 +21,8 @@ invariant_of-result c =
 
 pub returns : goal.returns
 returns c =
-    let made = made_from c.args.prefixes.items c.as_slice.result.now c.as_slice-2.result.now c.in_ok-starts.starts.items c.as_slice-3.result.now
-    c.as_slice-4.result.now
-    c.in_ok-numbers.field-0.numbers.items c.in_ok-numbers.field-0.firsts.items c.as_slice-5.result.now c.in_ok-samples.samples.items
-    c.as_slice.ensures.value c.as_slice-2.ensures.value c.as_slice-3.ensures.value c.as_slice-4.ensures.value c.as_slice-5.ensures.value
-    c.in_ok-starts.ensures.blocks c.in_ok-starts.ensures.cuts c.in_ok-numbers.ensures c.in_ok-samples.ensures in
+    let made = made_from _ _ _ _ _ _ _ _ _ _ c.as_slice.ensures.value c.as_slice-2.ensures.value c.as_slice-3.ensures.value c.as_slice-4.ensures.value
+    c.as_slice-5.ensures.value c.in_ok-starts.ensures.blocks c.in_ok-starts.ensures.cuts c.in_ok-numbers.ensures c.in_ok-samples.ensures in
     record {
       prefixes_are = refl;
       classing = record { samples = samples_made made; targets = c.in_ok-targets.ensures.count ∙ ap length c.as_slice-6.ensures.value };

@@ -1,10 +1,10 @@
 use Rattle.std.proofs.Common.{All, take}
 use Rattle.net_addr.specs.Addresses.{IsBlock}
-use Rattle.net_addr.specs.LongestMatches.{AreMatches}
-use Rattle.prefix_atoms.proofs.longest.longest_of_each.Given as goal
+use Rattle.prefix_atoms.specs.Longest.{AreLongestKept}
+use Rattle.prefix_atoms.proofs.longest.longest_in_prefixes.Given as goal
 
 abbrev pub invariant-loop-place : goal.invariant-loop-place
 invariant-loop-place l = record {
-  longest : AreMatches (take l.place l.prefixes) l.addresses l.found.items;
+  longest : AreLongestKept (take l.place l.prefixes) (λ place. place) l.addresses l.found.items;
   blocks : All IsBlock (take l.place l.prefixes);
 }
