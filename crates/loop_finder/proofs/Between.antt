@@ -8,26 +8,23 @@ use Rattle.igp_theory.proofs.ForwardingLaws.{every_phase_steps}
 use Rattle.igp_theory.proofs.LoopLaws.{old_or_new_step}
 use Rattle.igp_theory.proofs.SameTables.{follows_over}
 use Rattle.order_core.specs.declared.turn.Turn.{Turn}
-use Rattle.rib_mix.specs.Mixture.{Mixture, migration_of}
 use Rattle.loop_finder.specs.Faults.{state_in}
-use Rattle.loop_finder.specs.ClassSteps.{Listing, ClassState, sample_of, ClassStep, MovesIn, Moves}
+use Rattle.loop_finder.specs.ClassSteps.{ClassState, sample_of, ClassStep, MovesIn, Moves, Mix, migration_in}
 use Rattle.loop_finder.specs.Verdicts.{IsClassVerdict, SoundAt, IsBetween, IsClearAt}
 use Rattle.loop_finder.specs.declared.fault.Fault.{Fault}
 
 -- where a router moves it has a step
-pub has_step : {O N : Type 0} (old : Listing O) (new : Listing N) (c : ClassState O N) (u : ℕ) (phase : Phase) → MovesIn old new c u phase →
-    MustForward c.mixture.net (sample_of c.mixture c.atom) u
-    → HasStep (migration_of old new c.mixture) u phase (sample_of c.mixture c.atom)
-has_step old new c u phase moves must = record { hop = (moves must).0; steps = (moves must).1 }
+pub has_step : (c : ClassState) (u : ℕ) (phase : Phase) → MovesIn c u phase → MustForward c.mixture.net (sample_of c.mixture.classes c.atom) u
+    → HasStep (migration_in c.mixture) u phase (sample_of c.mixture.classes c.atom)
+has_step c u phase moves must = record { hop = (moves must).0; steps = (moves must).1 }
 
 -- a state is between itself and itself
 pub between_itself : (n : ℕ) (phases : List Phase) → IsBetween n phases phases (state_in phases)
 between_itself n phases u within = inl refl
 
-pub step_between : {O N : Type 0} (old : Listing O) (new : Listing N) (c : ClassState O N) (state : State) (u h : ℕ) →
-    IsBetween (length c.mixture.net) c.first c.last state
-    → StepsIn (migration_of old new c.mixture) state (sample_of c.mixture c.atom) u h → ClassStep old new c u h
-step_between old new c state u h between steps = elim (between u steps.must.router) [
+pub step_between : (c : ClassState) (state : State) (u h : ℕ) → IsBetween (length c.mixture.net) c.first c.last state
+    → StepsIn (migration_in c.mixture) state (sample_of c.mixture.classes c.atom) u h → ClassStep c u h
+step_between c state u h between steps = elim (between u steps.must.router) [
   | inl same ↦ inl (in_phase (state_in c.first u) same steps)
   | inr both ↦ elim (old_or_new_step (state u) steps) [
     | inl one ↦ inl (in_phase (state_in c.first u) (sym both.0) one)
@@ -35,46 +32,38 @@ step_between old new c state u h between steps = elim (between u steps.must.rout
   ]
 ]
   where
-    in_phase : {p : Phase} (q : Phase) → p ≡ q → Steps (migration_of old new c.mixture) u p
-        (sample_of c.mixture c.atom) h
-        → Steps (migration_of old new c.mixture) u q (sample_of c.mixture c.atom) h
-    in_phase q same one =
-        subst (λ (x : Phase). Steps (migration_of old new c.mixture) u x (sample_of c.mixture c.atom) h) same one
+    in_phase : {p : Phase} (q : Phase) → p ≡ q → Steps (migration_in c.mixture) u p (sample_of c.mixture.classes c.atom) h
+        → Steps (migration_in c.mixture) u q (sample_of c.mixture.classes c.atom) h
+    in_phase q same one = subst (λ (x : Phase). Steps (migration_in c.mixture) u x (sample_of c.mixture.classes c.atom) h) same one
 
 -- a router that moves in both moves in each state between them
-pub moves_between : {O N : Type 0} (old : Listing O) (new : Listing N) (c : ClassState O N) (state : State) (u : ℕ) →
-    IsBetween (length c.mixture.net) c.first c.last state → Moves old new c u
-    → MustForward c.mixture.net (sample_of c.mixture c.atom) u → HasStep (migration_of old new c.mixture) u
-    (state u) (sample_of c.mixture c.atom)
-moves_between old new c state u between moves must = elim (between u must.router) [
-  | inl same ↦ in_phase (state u) (sym same) (has_step old new c u (state_in c.first u) moves.0 must)
-  | inr both ↦ every_phase_steps (in_phase Old both.0 (has_step old new c u (state_in c.first u) moves.0 must))
-      (in_phase New both.1 (has_step old new c u (state_in c.last u) moves.1 must)) (state u)
+pub moves_between : (c : ClassState) (state : State) (u : ℕ) → IsBetween (length c.mixture.net) c.first c.last state → Moves c u
+    → MustForward c.mixture.net (sample_of c.mixture.classes c.atom) u → HasStep (migration_in c.mixture) u (state u) (sample_of c.mixture.classes c.atom)
+moves_between c state u between moves must = elim (between u must.router) [
+  | inl same ↦ in_phase (state u) (sym same) (has_step c u (state_in c.first u) moves.0 must)
+  | inr both ↦ every_phase_steps (in_phase Old both.0 (has_step c u (state_in c.first u) moves.0 must))
+      (in_phase New both.1 (has_step c u (state_in c.last u) moves.1 must)) (state u)
 ]
   where
-    in_phase : {p : Phase} (q : Phase) → p ≡ q → HasStep (migration_of old new c.mixture) u p
-        (sample_of c.mixture c.atom)
-        → HasStep (migration_of old new c.mixture) u q (sample_of c.mixture c.atom)
-    in_phase q same has =
-        subst (λ (x : Phase). HasStep (migration_of old new c.mixture) u x (sample_of c.mixture c.atom)) same has
+    in_phase : {p : Phase} (q : Phase) → p ≡ q → HasStep (migration_in c.mixture) u p (sample_of c.mixture.classes c.atom)
+        → HasStep (migration_in c.mixture) u q (sample_of c.mixture.classes c.atom)
+    in_phase q same has = subst (λ (x : Phase). HasStep (migration_in c.mixture) u x (sample_of c.mixture.classes c.atom)) same has
 
 -- where nothing is told of a class, every state between the two is sound for it
-pub clear_told : {O N : Type 0} (old : Listing O) (new : Listing N) (m : Mixture O N) (first last : List Phase) (atom : ℕ) (turns : List Turn) →
-    IsClassVerdict old new m first last atom None turns → (state : State)
-    → IsBetween (length m.net) first last state → SoundAt old new m state (sample_of m atom)
-clear_told {O} {N} old new m first last atom turns told state between = record {
-  forwards = λ u must. moves_between old new c state u between (told.verdict.0 u) must;
-  returns_never =
-      λ u h hops follows. told.verdict.1 u h hops (follows_over (λ v n steps. step_between old new c state v n between steps) u (h ∷ hops) u follows);
+pub clear_told : (m : Mix) (first last : List Phase) (atom : ℕ) (turns : List Turn) → IsClassVerdict m first last atom None turns → (state : State)
+    → IsBetween (length m.net) first last state → SoundAt m state (sample_of m.classes atom)
+clear_told m first last atom turns told state between = record {
+  forwards = λ u must. moves_between c state u between (told.verdict.0 u) must;
+  returns_never = λ u h hops follows. told.verdict.1 u h hops (follows_over (λ v n steps. step_between c state v n between steps) u (h ∷ hops) u follows);
 }
   where
-    c : ClassState O N
+    c : ClassState
     c = record { mixture = m; first = first; last = last; forwards = told.forwards; atom = atom }
 
 -- so where it answers none
-pub clear_where_told : {O N : Type 0} (old : Listing O) (new : Listing N) (m : Mixture O N) (first last : List Phase) (atom atom' : ℕ)
-    (result : Option Fault) (turns : List Turn) → atom' ≡ atom → IsClassVerdict old new m first last atom' result turns
-    → IfNone result (IsClearAt old new m first last atom)
-clear_where_told old new m first last atom atom' None turns same told = λ state between.
-    subst (λ (a : ℕ). SoundAt old new m state (sample_of m a)) same (clear_told old new m first last atom' turns told state between)
-clear_where_told old new m first last atom atom' (Some fault) turns same told = tt
+pub clear_where_told : (m : Mix) (first last : List Phase) (atom atom' : ℕ)
+    (result : Option Fault) (turns : List Turn) → atom' ≡ atom → IsClassVerdict m first last atom' result turns
+    → IfNone result (IsClearAt m first last atom)
+clear_where_told m first last atom atom' None turns same told = λ state between.
+    subst (λ (a : ℕ). SoundAt m state (sample_of m.classes a)) same (clear_told m first last atom' turns told state between)
+clear_where_told m first last atom atom' (Some fault) turns same told = tt

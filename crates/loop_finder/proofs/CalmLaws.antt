@@ -13,12 +13,11 @@ use Rattle.igp_theory.specs.Waves.{IsStateOfWave}
 use Rattle.igp_theory.specs.declared.phase.Phase.{Phase}
 use Rattle.igp_theory.specs.declared.phase.Phase.TheVariants.{Old, New}
 use Rattle.igp_theory.proofs.SameTables.{follows_over}
-use Rattle.rib_mix.specs.Mixture.{Mixture}
 use Rattle.loop_finder.specs.Calm.{WaveStep, IsCalmBefore, IsUnstirred, AreCalm, AreLowered}
 use Rattle.loop_finder.specs.Faults.{state_in}
 use Rattle.loop_finder.specs.Parts.{ClassPart, AreSteppers, IsBareIn, IsPart, AreParts}
 use Rattle.loop_finder.specs.Returns.{NeverReturnsTo}
-use Rattle.loop_finder.specs.ClassSteps.{Listing, sample_of}
+use Rattle.loop_finder.specs.ClassSteps.{sample_of, Mix}
 use Rattle.loop_finder.specs.Verdicts.{SoundAt, Sound, SoundWave, SoundWavesBefore}
 use Rattle.loop_finder.specs.Watches.{IsIdle, ArePlacesOf}
 use Rattle.loop_finder.specs.WaveLists.{AreSwitchedBefore}
@@ -73,8 +72,7 @@ calm_until part ranks steppers w v moves many are is each = record {
 pub calm_further : (part : ClassPart) (ranks steppers : List ℕ) (w v : ℕ) → part.moves ≡ true → length part.rows ≡ length ranks
     → AreSteppers part.rows steppers → IsCalmBefore part ranks w → All (IsUnstirred part ranks w) steppers
     → All (λ u. w + 1 ≤ rank_of ranks u → v ≤ rank_of ranks u) steppers → IsCalmBefore part ranks v
-calm_further part ranks steppers w v moves many are is unstirred next =
-    calm_until part ranks steppers w v moves many are is (λ k d within from less.
+calm_further part ranks steppers w v moves many are is unstirred next = calm_until part ranks steppers w v moves many are is (λ k d within from less.
     let here : rank_of ranks (get_or steppers k d) ≡ w = elim (cases_lt w (rank_of ranks (get_or steppers k d))) [
       | inl later ↦ absurd (omega (arith, less, next k d within (omega (arith, later))))
       | inr reached ↦ omega (arith, from, reached)
@@ -90,8 +88,7 @@ calm_with_idle part ranks u rank w idle is = record {
   moves = is.moves;
   calm = λ v less x within same h hops follows. elim (eqb_tells x u) [
     | inl this ↦ bare_wave part (set ranks u rank) v u h idle.bare (subst (λ (y : ℕ). WaveStep part (set ranks u rank) v y h) this.1 follows.0)
-    | inr apart ↦
-        is.calm v less x (omega (arith, within, length-set ranks u rank)) (sym (other_rank ranks u rank x apart.1) ∙ same) h hops
+    | inr apart ↦ is.calm v less x (omega (arith, within, length-set ranks u rank)) (sym (other_rank ranks u rank x apart.1) ∙ same) h hops
         (follows_over (λ y z steps. steps_before v y z steps) x (h ∷ hops) x follows)
   ];
 }
@@ -114,8 +111,7 @@ calm_with_later part ranks u rank w inside was now is = record {
         let here : rank_of (set ranks u rank) x ≡ rank =
         subst (λ (y : ℕ). rank_of (set ranks u rank) y ≡ rank) (sym this.1) (get_or-set_same ranks u rank 0 inside) in
         absurd (omega (arith, here, same, less, now))
-    | inr apart ↦
-        is.calm v less x (omega (arith, within, length-set ranks u rank)) (sym (other_rank ranks u rank x apart.1) ∙ same) h hops
+    | inr apart ↦ is.calm v less x (omega (arith, within, length-set ranks u rank)) (sym (other_rank ranks u rank x apart.1) ∙ same) h hops
         (follows_over (λ y z steps. steps_before v less y z steps) x (h ∷ hops) x follows)
   ];
 }
@@ -134,8 +130,7 @@ calm_with_later part ranks u rank w inside was now is = record {
 
 -- what is kept where a router takes another rank, and less of the parts which that concerns
 pub AreCalm-with_rank : (parts : List ClassPart) (ranks calm lowered places : List ℕ) (u rank most : ℕ) → u < length ranks → most ≤ rank_of ranks u →
-    most ≤ rank → ArePlacesOf parts u places
-    → AreLowered places most calm lowered → AreCalm parts ranks calm → AreCalm parts (set ranks u rank) lowered
+    most ≤ rank → ArePlacesOf parts u places → AreLowered places most calm lowered → AreCalm parts ranks calm → AreCalm parts (set ranks u rank) lowered
 AreCalm-with_rank parts ranks calm lowered places u rank most inside was now placed lower are = record {
   many = lower.many ∙ are.many;
   each = λ p d within.
@@ -151,8 +146,7 @@ AreCalm-with_rank parts ranks calm lowered places u rank most inside was now pla
 
 -- what is kept where one part was looked at
 pub AreCalm-at : (parts : List ClassPart) (ranks calm : List ℕ) (p w : ℕ) (part : ClassPart) → p < length parts → part ≡ get_or parts p part →
-    IsCalmBefore part ranks w
-    → AreCalm parts ranks calm → AreCalm parts ranks (set calm p w)
+    IsCalmBefore part ranks w → AreCalm parts ranks calm → AreCalm parts ranks (set calm p w)
 AreCalm-at parts ranks calm p w part there at one are = record {
   many = length-set calm p w ∙ are.many;
   each = λ q d within. elim (eqb_tells q p) [
@@ -161,8 +155,7 @@ AreCalm-at parts ranks calm p w part there at one are = record {
         subst (λ (x : ℕ). w ≡ get_or (set calm p w) x 0) (sym same.1) (sym (set_here (omega (arith, there, are.many)))) in
         let is : part ≡ get_or parts q d = at ∙ get_or_default parts p part d there ∙ ap (λ (x : ℕ). get_or parts x d) (sym same.1) in
         subst (λ (x : ClassPart). IsCalmBefore x ranks (get_or (set calm p w) q 0)) is (subst (λ (v : ℕ). IsCalmBefore part ranks v) now one)
-    | inr apart ↦
-        subst (λ (v : ℕ). IsCalmBefore (get_or parts q d) ranks v) (sym (get_or-set_other calm p q w 0 apart.1)) (are.each q d within)
+    | inr apart ↦ subst (λ (v : ℕ). IsCalmBefore (get_or parts q d) ranks v) (sym (get_or-set_other calm p q w 0 apart.1)) (are.each q d within)
   ];
 }
   where
@@ -171,8 +164,7 @@ AreCalm-at parts ranks calm p w part there at one are = record {
 
 -- the rank of one router more is taken
 pub taken_more : (ranks kept taken : List ℕ) (n : ℕ) → n < length kept → taken ≡ set kept n (get_or ranks n 0) →
-    ((u : ℕ) → u < n → get_or kept u 0 ≡ get_or ranks u 0)
-    → (u : ℕ) → u < n + 1 → get_or taken u 0 ≡ get_or ranks u 0
+    ((u : ℕ) → u < n → get_or kept u 0 ≡ get_or ranks u 0) → (u : ℕ) → u < n + 1 → get_or taken u 0 ≡ get_or ranks u 0
 taken_more ranks kept taken n within is before = subst (λ (xs : List ℕ). (u : ℕ) → u < n + 1 → get_or xs u 0 ≡ get_or ranks u 0) (sym is)
     (below_more (λ (u : ℕ). get_or (set kept n (get_or ranks n 0)) u 0 ≡ get_or ranks u 0) n
     (λ u below. get_or-set_other kept n u (get_or ranks n 0) 0 (λ same. omega (arith, same, below)) ∙ before u below)
@@ -181,23 +173,20 @@ taken_more ranks kept taken n within is before = subst (λ (xs : List ℕ). (u :
 -- Waves
 
 -- where the first state of a wave is sound, its states are sound for the parts that are calm in it
-sound_in_calm : {O N : Type 0} (old : Listing O) (new : Listing N) (m : Mixture O N) (part : ClassPart) (ranks : List ℕ) (c w : ℕ)
-    (first last : List Phase) (state : State)
-    → IsPart old new m part → AreEnds (length m.net) ranks w first last → IsCalmBefore part ranks c → w < c →
-    SoundAt old new m (state_in first) (sample_of m part.atom) → IsStateOfWave (length m.net) ranks w state
-    → SoundAt old new m state (sample_of m part.atom)
-sound_in_calm old new m part ranks c w first last state is ends calm less begun of_wave =
-    part_wave_sound old new m part ranks w first last state is ends (calm.moves (omega (arith, less))) (calm.calm w less) begun of_wave
+sound_in_calm : (m : Mix) (part : ClassPart) (ranks : List ℕ) (c w : ℕ) (first last : List Phase) (state : State)
+    → IsPart m part → AreEnds (length m.net) ranks w first last → IsCalmBefore part ranks c → w < c →
+    SoundAt m (state_in first) (sample_of m.classes part.atom) → IsStateOfWave (length m.net) ranks w state
+    → SoundAt m state (sample_of m.classes part.atom)
+sound_in_calm m part ranks c w first last state is ends calm less begun of_wave =
+    part_wave_sound m part ranks w first last state is ends (calm.moves (omega (arith, less))) (calm.calm w less) begun of_wave
 
-pub clear_parts : {O N : Type 0} (old : Listing O) (new : Listing N) (m : Mixture O N) (parts : List ClassPart) (ranks calm : List ℕ) (w : ℕ)
-    (first last : List Phase)
-    → AreParts old new m parts (length m.classes.samples) → AreEnds (length m.net) ranks w first last → AreCalm parts ranks calm →
-    Sound old new m (state_in first)
-    → AreClearParts old new m parts calm w first last
-clear_parts old new m parts ranks calm w first last are ends calms begun p d within less state between =
-    let is : IsPart old new m (get_or parts p d) = are.each p d within in
-    sound_in_calm old new m (get_or parts p d) ranks (get_or calm p 0) w first last state is ends (calms.each p d within) less
-    (begun (sample_of m (get_or parts p d).atom) (sample_in m.classes (get_or parts p d).atom are.classes is.class).address)
+pub clear_parts : (m : Mix) (parts : List ClassPart) (ranks calm : List ℕ) (w : ℕ) (first last : List Phase)
+    → AreParts m parts (length m.classes.samples) → AreEnds (length m.net) ranks w first last → AreCalm parts ranks calm → Sound m (state_in first)
+    → AreClearParts m parts calm w first last
+clear_parts m parts ranks calm w first last are ends calms begun p d within less state between =
+    let is : IsPart m (get_or parts p d) = are.each p d within in
+    sound_in_calm m (get_or parts p d) ranks (get_or calm p 0) w first last state is ends (calms.each p d within) less
+    (begun (sample_of m.classes (get_or parts p d).atom) (sample_in m.classes (get_or parts p d).atom are.classes is.class).address)
     (state_between state ends between)
 
 -- the phases before a wave
@@ -229,37 +218,33 @@ switched_before ranks w = record {
 }
 
 -- a wave in which all parts are calm is sound where its first state is
-sound_wave : {O N : Type 0} (old : Listing O) (new : Listing N) (m : Mixture O N) (parts : List ClassPart) (ranks calm : List ℕ) (start w : ℕ) →
-    length ranks ≡ length m.net
-    → AreParts old new m parts (length m.classes.samples) → AreCalm parts ranks calm → ((p : ℕ) → p < length calm → start ≤ get_or calm p 0) → w < start →
-    BeginsSound old new m ranks w
-    → SoundWave old new m ranks w
-sound_wave old new m parts ranks calm start w each are calms least less begins state of_wave =
+sound_wave : (m : Mix) (parts : List ClassPart) (ranks calm : List ℕ) (start w : ℕ) → length ranks ≡ length m.net
+    → AreParts m parts (length m.classes.samples) → AreCalm parts ranks calm → ((p : ℕ) → p < length calm → start ≤ get_or calm p 0) → w < start →
+    BeginsSound m ranks w → SoundWave m ranks w
+sound_wave m parts ranks calm start w each are calms least less begins state of_wave =
     let first : List Phase = phases_before ranks w in
     let last : List Phase = phases_before ranks (w + 1) in
     let none : ClassPart = record { atom = 0; moves = true; rows = [] } in
     let ends : AreEnds (length m.net) ranks w first last = record { each = each; begins = switched_before ranks w; ends = switched_before ranks (w + 1) } in
-    let begun : Sound old new m (state_in first) = begins first (phases_many ranks w) (switched_before ranks w) in
-    let clear : AreClearParts old new m parts calm w first last = clear_parts old new m parts ranks calm w first last are ends calms begun in
-    sound_from_classes old new m state (length m.classes.samples) are.classes (omega arith)
-    (λ k below. sound_whole old new m parts (length m.classes.samples) none state are
+    let begun : Sound m (state_in first) = begins first (phases_many ranks w) (switched_before ranks w) in
+    let clear : AreClearParts m parts calm w first last = clear_parts m parts ranks calm w first last are ends calms begun in
+    sound_from_classes m state (length m.classes.samples) are.classes (omega arith)
+    (λ k below. sound_whole m parts (length m.classes.samples) none state are
     (λ p within. clear p none within (let more : start ≤ get_or calm p 0 = least p (omega (arith, within, calms.many)) in omega (arith, more, less)) state
     (wave_between state ends of_wave)) k below)
 
 -- so the waves before one that no part has a lesser one than are sound
-pub sound_waves_before : {O N : Type 0} (old : Listing O) (new : Listing N) (m : Mixture O N) (parts : List ClassPart) (ranks calm : List ℕ) (begun : Bool)
-    (start : ℕ) → length ranks ≡ length m.net
-    → AreParts old new m parts (length m.classes.samples) → AreCalm parts ranks calm → OnTrue begun (Sound old new m all_old) → (0 < start → begun ≡ true)
-    → ((p : ℕ) → p < length calm → start ≤ get_or calm p 0) → (w : ℕ) → w ≤ start → SoundWavesBefore old new m ranks w
-sound_waves_before old new m parts ranks calm begun start each are calms first known least zero most = λ v less. absurd (omega (arith, less))
-sound_waves_before old new m parts ranks calm begun start each are calms first known least (suc w) most =
-    let before : SoundWavesBefore old new m ranks w =
-    sound_waves_before old new m parts ranks calm begun start each are calms first known least w (omega (arith, most)) in
-    let here : SoundWave old new m ranks w = sound_wave old new m parts ranks calm start w each are calms least (omega (arith, most))
-    (begins_sound old new m ranks w begun each first before (inl (known (omega (arith, most))))) in
+pub sound_waves_before : (m : Mix) (parts : List ClassPart) (ranks calm : List ℕ) (begun : Bool) (start : ℕ) → length ranks ≡ length m.net
+    → AreParts m parts (length m.classes.samples) → AreCalm parts ranks calm → OnTrue begun (Sound m all_old) → (0 < start → begun ≡ true)
+    → ((p : ℕ) → p < length calm → start ≤ get_or calm p 0) → (w : ℕ) → w ≤ start → SoundWavesBefore m ranks w
+sound_waves_before m parts ranks calm begun start each are calms first known least zero most = λ v less. absurd (omega (arith, less))
+sound_waves_before m parts ranks calm begun start each are calms first known least (suc w) most =
+    let before : SoundWavesBefore m ranks w = sound_waves_before m parts ranks calm begun start each are calms first known least w (omega (arith, most)) in
+    let here : SoundWave m ranks w = sound_wave m parts ranks calm start w each are calms least (omega (arith, most))
+    (begins_sound m ranks w begun each first before (inl (known (omega (arith, most))))) in
     λ v less. elim (cases_lt v w) [
       | inl sooner ↦ before v sooner
-      | inr later ↦ let is : w ≡ v = omega (arith, less, later) in subst (λ (x : ℕ). SoundWave old new m ranks x) is here
+      | inr later ↦ let is : w ≡ v = omega (arith, less, later) in subst (λ (x : ℕ). SoundWave m ranks x) is here
     ]
 
 -- Starting

@@ -1,5 +1,5 @@
 -- What is read of the steps of a state and a class.
-use Rattle.std.proofs.Common.{◌≡◌, ℕ, ◌<◌, ◌^◌, ◌↔◌, Bool, true, false, List, [], length, get_or, ◌==◌, Contains, eqb-true, eq-eqb, ap, arith, sym, ◌∙◌}
+use Rattle.std.proofs.Common.{◌≡◌, ℕ, ◌<◌, ◌^◌, ◌↔◌, Bool, true, false, List, length, get_or, ◌==◌, Contains, eqb-true, eq-eqb, arith, sym, ◌∙◌}
 use Rattle.std.specs.Bool.{OnTrue, OnFalse}
 use Rattle.std.proofs.lemmas.Bool.{false≢true}
 use Rattle.std.proofs.lemmas.List.Elements.{Contains-get_or}
@@ -8,46 +8,34 @@ use Rattle.igp_theory.specs.declared.phase.Phase.{Phase}
 use Rattle.prefix_atoms.specs.Classes.{IsInClass}
 use Rattle.rib_mix.specs.Answers.{NextLeadsTo}
 use Rattle.rib_mix.proofs.NextLaws.{steps_to_hops}
-use Rattle.rib_mix.specs.Mixture.{Mixture, migration_of}
 use Rattle.loop_finder.specs.Parts.{StepsOf}
 use Rattle.loop_finder.specs.steps.Making.{IsHopsOf}
-use Rattle.loop_finder.specs.ClassSteps.{Listing, ClassState, sample_of, StepsBy, IsStuckIn, MovesIn}
+use Rattle.loop_finder.specs.ClassSteps.{ClassState, sample_of, StepsBy, IsStuckIn, MovesIn, Mix, migration_in}
 
 -- the hops of what a router does that has to pass packets on
-pub steps_to_those : {O N : Type 0} (old : Listing O) (new : Listing N) (m : Mixture O N) (atom u : ℕ) (phase : Phase) (hops : List ℕ)
-    → atom < length m.classes.samples → sample_of m atom < 2 ^ 32 → IsHopsOf old new m atom u phase hops → MustForward m.net (sample_of m atom) u
-    → (h : ℕ) → Contains hops h ↔ StepsOf old new m atom u phase h
-steps_to_those old new m atom u phase hops inside address are must h =
-    let law : StepsOf old new m atom u phase h ↔ NextLeadsTo are.next h =
-    steps_to_hops (migration_of old new m) u phase (sample_of m atom) are.next h (are.is (sample_of m atom) member) must in
+pub steps_to_those : (m : Mix) (atom u : ℕ) (phase : Phase) (hops : List ℕ)
+    → atom < length m.classes.samples → sample_of m.classes atom < 2 ^ 32 → IsHopsOf m atom u phase hops → MustForward m.net (sample_of m.classes atom) u
+    → (h : ℕ) → Contains hops h ↔ StepsOf m atom u phase h
+steps_to_those m atom u phase hops inside address are must h =
+    let law : StepsOf m atom u phase h ↔ NextLeadsTo are.next h =
+    steps_to_hops (migration_in m) u phase (sample_of m.classes atom) are.next h (are.is (sample_of m.classes atom) member) must in
     (λ among. law.1 ((are.leads h).0 among), λ steps. (are.leads h).1 (law.0 steps))
   where
-    member : IsInClass m.classes atom (sample_of m atom)
+    member : IsInClass m.classes atom (sample_of m.classes atom)
     member = record { class = inside; address = address; alike = λ p contains. (λ h. h, λ h. h) }
 
--- a router that has none to pass on has no step
-pub no_hops_from : {O N : Type 0} (old : Listing O) (new : Listing N) (m : Mixture O N) (atom u : ℕ) (phase : Phase) (hops : List ℕ)
-    → hops ≡ [] → (¬ MustForward m.net (sample_of m atom) u) → (h : ℕ) → Contains hops h ↔ StepsOf old new m atom u phase h
-no_hops_from old new m atom u phase hops none never h = (
-  λ among. let within : among.0 < length hops = among.1 in absurd (omega (arith, within, ap length none)),
-  λ steps. absurd (never steps.must),
-)
-
 -- a router that has to pass packets on is stuck where it has no hops
-pub stuck_from : {O N : Type 0} (old : Listing O) (new : Listing N) (c : ClassState O N) (u : ℕ) (phase : Phase) (b : Bool) (hops : List ℕ) →
-    b ≡ (length hops == 0)
-    → MustForward c.mixture.net (sample_of c.mixture c.atom) u → ((h : ℕ) → Contains hops h ↔ StepsBy old new c u phase h) →
-    OnTrue b (IsStuckIn old new c u phase)
-stuck_from old new c u phase true hops e must exact =
+pub stuck_from : (c : ClassState) (u : ℕ) (phase : Phase) (b : Bool) (hops : List ℕ) → b ≡ (length hops == 0)
+    → MustForward c.mixture.net (sample_of c.mixture.classes c.atom) u → ((h : ℕ) → Contains hops h ↔ StepsBy c u phase h) → OnTrue b (IsStuckIn c u phase)
+stuck_from c u phase true hops e must exact =
     let none : length hops ≡ 0 = eqb-true (length hops) 0 (sym e) in
     record { must = must; lacks = λ h steps. let among : Contains hops h = (exact h).1 steps in omega (arith, among.1, none) }
-stuck_from old new c u phase false hops e must exact = tt
+stuck_from c u phase false hops e must exact = tt
 
-pub moves_from : {O N : Type 0} (old : Listing O) (new : Listing N) (c : ClassState O N) (u : ℕ) (phase : Phase) (b : Bool) (hops : List ℕ) →
-    b ≡ (length hops == 0)
-    → ((h : ℕ) → Contains hops h ↔ StepsBy old new c u phase h) → OnFalse b (MovesIn old new c u phase)
-moves_from old new c u phase true hops e exact = tt
-moves_from old new c u phase false hops e exact = λ must.
+pub moves_from : (c : ClassState) (u : ℕ) (phase : Phase) (b : Bool) (hops : List ℕ) → b ≡ (length hops == 0)
+    → ((h : ℕ) → Contains hops h ↔ StepsBy c u phase h) → OnFalse b (MovesIn c u phase)
+moves_from c u phase true hops e exact = tt
+moves_from c u phase false hops e exact = λ must.
     let apart : (length hops ≡ 0) → ⊥ = λ none. false≢true (e ∙ eq-eqb (length hops) 0 none) in
     let some : 0 < length hops = omega (arith, apart) in
     (get_or hops 0 0, (exact (get_or hops 0 0)).0 (Contains-get_or hops 0 0 some))

@@ -13,8 +13,7 @@ use Rattle.igp_theory.specs.declared.phase.Phase.{Phase}
 use Rattle.prefix_atoms.specs.Classes.{Classes, AreClasses, IsInClass, HasTarget}
 use Rattle.order_core.specs.Marks.{IsMarked}
 use Rattle.order_core.specs.declared.turn.Turn.{Turn}
-use Rattle.rib_mix.specs.Mixture.{Mixture}
-use Rattle.loop_finder.specs.ClassSteps.{Listing, ClassState, sample_of, AreForwarders, ClassStep}
+use Rattle.loop_finder.specs.ClassSteps.{ClassState, sample_of, AreForwarders, ClassStep, Mix}
 use Rattle.loop_finder.specs.Verdicts.{IsClassVerdict}
 
 -- an originated prefix is a block of addresses
@@ -43,28 +42,25 @@ forwarders_from net a p forwards network target exact u = (
 )
 
 -- without a target nothing is passed on
-pub told_without : {O N : Type 0} (old : Listing O) (new : Listing N) (m : Mixture O N) (first last : List Phase) (atom : ℕ) (turns : List Turn) →
-    HasTarget m.net (sample_of m atom) None
-    → IsClassVerdict old new m first last atom None turns
-told_without {O} {N} old new m first last atom turns none = record {
+pub told_without : (m : Mix) (first last : List Phase) (atom : ℕ) (turns : List Turn) → HasTarget m.net (sample_of m.classes atom) None
+    → IsClassVerdict m first last atom None turns
+told_without m first last atom turns none = record {
   forwards = [];
   verdict = (
     λ u. (λ must. absurd (none must.target must.is_target), λ must. absurd (none must.target must.is_target)),
-    λ u h hops follows.
-        nowhere u h follows.0,
+    λ u h hops follows. nowhere u h follows.0,
   );
 }
   where
-    c : ClassState O N
+    c : ClassState
     c = record { mixture = m; first = first; last = last; forwards = []; atom = atom }
 
-    nowhere : (u h : ℕ) → ClassStep old new c u h → ⊥
+    nowhere : (u h : ℕ) → ClassStep c u h → ⊥
     nowhere u h (inl steps) = none steps.must.target steps.must.is_target
     nowhere u h (inr steps) = none steps.must.target steps.must.is_target
 
 -- the least address of a class is in it
-pub sample_in : {move : Migration} (c : Classes) (atom : ℕ) → AreClasses move c → atom < length c.samples →
-    IsInClass c atom (get_or c.samples atom 0)
+pub sample_in : {move : Migration} (c : Classes) (atom : ℕ) → AreClasses move c → atom < length c.samples → IsInClass c atom (get_or c.samples atom 0)
 sample_in c atom are within = record {
   class = within;
   address = are.classing.samples.addresses atom 0 within;
@@ -73,7 +69,6 @@ sample_in c atom are within = record {
 
 -- what is read as the target of a class is the target of its least address
 pub target_at : {move : Migration} (c d : Classes) (atom : ℕ) (t : Option Block) → AreClasses move c → atom < length c.samples → d ≡ c →
-    slice_get d.targets atom ≡ Some t
-    → HasTarget move.net (get_or c.samples atom 0) t
+    slice_get d.targets atom ≡ Some t → HasTarget move.net (get_or c.samples atom 0) t
 target_at c d atom t are within same at =
     are.target atom (get_or c.samples atom 0) t (sample_in c atom are within) (subst (λ (x : Classes). slice_get x.targets atom ≡ Some t) same at)

@@ -14,8 +14,7 @@ pub record AreLevelled (step : ℕ → ℕ → Type 0) (layers : List ℕ) (star
 
 -- one router more
 pub AreLevelled-more : (step : ℕ → ℕ → Type 0) (layers : List ℕ) (start old new : List Bool) (i : ℕ) → AreLevelled step layers start old i
-    → IsLevelled step layers new i → ((u : ℕ) → (u ≡ i → ¬ HasLayer layers u) → IsMarked old u → IsMarked new u)
-    → AreLevelled step layers start new (i + 1)
+    → IsLevelled step layers new i → ((u : ℕ) → (u ≡ i → ¬ HasLayer layers u) → IsMarked old u → IsMarked new u) → AreLevelled step layers start new (i + 1)
 AreLevelled-more step layers start old new i levelled here kept = record {
   level = below_more (IsLevelled step layers new) i (λ u below. record {
     no_higher = (levelled.level u below).no_higher;

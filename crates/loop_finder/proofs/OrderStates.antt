@@ -1,16 +1,15 @@
 -- The changes of an order, one after another.
-use Rattle.std.proofs.Common.{◌≡◌, ℕ, zero, suc, ◌+◌, ◌-◌, ◌*◌, ◌/◌, ◌<◌, ◌≤◌, ◌==◌, if◌then◌else◌, List, [], ◌∷◌, ◌++◌, length, get_or, take, Contains, Option, Some}
-use Rattle.std.proofs.Common.{None, IfNone, IfSome, MatchOption, Bool, true, false, arith, refl, sym, ap, ◌∙◌, subst, inl, inr}
+use Rattle.std.proofs.Common.{◌≡◌, ℕ, zero, suc, ◌+◌, ◌-◌, ◌*◌, ◌/◌, ◌<◌, ◌≤◌, ◌==◌, if◌then◌else◌, List, [], ◌∷◌, ◌++◌, length, get_or, take, Contains}
+use Rattle.std.proofs.Common.{Option, Some, None, IfNone, IfSome, MatchOption, Bool, true, false, arith, refl, sym, ap, ◌∙◌, subst, inl, inr}
 use Rattle.std.proofs.lemmas.Bool.Decides.{eqb_tells}
 use Rattle.std.proofs.lemmas.List.{take_more, take_all}
 use Rattle.std.proofs.lemmas.List.Elements.{Contains-get_or}
 use Rattle.igp_theory.specs.States.{State, changes_of, changes_on, phase_after, state_of}
 use Rattle.igp_theory.specs.declared.phase.Phase.{Phase}
-use Rattle.loop_finder.specs.Faults.{state_in}
+use Rattle.loop_finder.specs.Faults.{state_in, told_fault}
 use Rattle.order_core.specs.declared.turn.Turn.{Turn}
-use Rattle.rib_mix.specs.Mixture.{Mixture}
 use Rattle.loop_finder.specs.Orders.{next_phase, IsStateOf, IsAdvanced, AreFirstStates}
-use Rattle.loop_finder.specs.ClassSteps.{Listing}
+use Rattle.loop_finder.specs.ClassSteps.{Mix}
 use Rattle.loop_finder.specs.Verdicts.{Sound, FirstFaulty}
 use Rattle.loop_finder.specs.declared.fault.Fault.{Fault}
 
@@ -104,17 +103,15 @@ same_changes (u ∷ one) (v ∷ other) places (suc (suc k)) many same most =
 
 -- so they share their first states
 pub same_states : (one other : List ℕ) (places k u : ℕ) → length one ≡ length other → ((j : ℕ) → j < places → get_or other j 0 ≡ get_or one j 0) →
-    k < 2 * places + 1
-    → state_of other k u ≡ state_of one k u
+    k < 2 * places + 1 → state_of other k u ≡ state_of one k u
 same_states one other places k u many same less =
     ap (λ (xs : List ℕ). phase_after (changes_on u xs)) (same_changes one other places k many same (omega (arith, less)))
 
 -- What is known of an order
 
 -- the states before the first unsound one are sound, all of them where there is none
-pub known_after : {O N : Type 0} (old : Listing O) (new : Listing N) (m : Mixture O N) (order : List ℕ) (found : Option (ℕ × Fault))
-    (turns : List Turn) (count : ℕ)
-    → IfNone found (AreFirstStates (Sound old new m) order (2 * length order + 1)) → IfSome found (λ first. FirstFaulty old new m order first.0 first.1 turns)
-    → MatchOption found (count ≡ 2 * length order + 1) (λ first. count ≡ first.0) → AreFirstStates (Sound old new m) order count
-known_after old new m order None turns count sound fault is = subst (λ (n : ℕ). AreFirstStates (Sound old new m) order n) (sym is) sound
-known_after old new m order (Some first) turns count sound fault is = subst (λ (n : ℕ). AreFirstStates (Sound old new m) order n) (sym is) fault.before
+pub known_after : (m : Mix) (order : List ℕ) (found : Option (ℕ × Fault)) (turns : List Turn) (count : ℕ)
+    → IfNone found (AreFirstStates (Sound m) order (2 * length order + 1)) → IfSome found (λ first. FirstFaulty m order first.0 (told_fault first.1 turns))
+    → MatchOption found (count ≡ 2 * length order + 1) (λ first. count ≡ first.0) → AreFirstStates (Sound m) order count
+known_after m order None turns count sound fault is = subst (λ (n : ℕ). AreFirstStates (Sound m) order n) (sym is) sound
+known_after m order (Some first) turns count sound fault is = subst (λ (n : ℕ). AreFirstStates (Sound m) order n) (sym is) fault.before

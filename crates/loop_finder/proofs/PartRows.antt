@@ -1,6 +1,6 @@
 -- How the part of a class is made of its rows.
-use Rattle.std.proofs.Common.{◌≡◌, ℕ, ◌+◌, ◌<◌, ◌↔◌, ◌⊎◌, Bool, List, [], ◌∷◌, ◌++◌, length, map, replicate, get_or, Contains, Option, Some, None, IfSome, inl, inr}
-use Rattle.std.proofs.Common.{arith, ap, ◌∙◌, sym, subst, below_more}
+use Rattle.std.proofs.Common.{◌≡◌, ℕ, ◌+◌, ◌<◌, ◌^◌, ◌↔◌, ◌⊎◌, Bool, List, [], ◌∷◌, ◌++◌, length, map, replicate, get_or, Contains, Option, Some, None}
+use Rattle.std.proofs.Common.{IfSome, inl, inr, arith, ap, ◌∙◌, sym, subst, below_more}
 use Rattle.std.specs.Bool.{OnTrue}
 use Rattle.std.proofs.lemmas.Bool.{cases_lt}
 use Rattle.std.proofs.lemmas.List.{get_or_past, get_or-replicate, length_push, length-map, length-replicate}
@@ -11,21 +11,19 @@ use Rattle.net_addr.specs.Addresses.{Block}
 use Rattle.net_model.proofs.Members.{Contains-none}
 use Rattle.net_model.specs.Network.{Connected}
 use Rattle.net_model.specs.Refusals.{IsNetwork}
-use Rattle.igp_theory.specs.Forwarding.{IsTarget}
-use Rattle.igp_theory.specs.States.{Follows}
+use Rattle.igp_theory.specs.Forwarding.{IsTarget, MustForward}
 use Rattle.igp_theory.specs.declared.phase.Phase.{Phase}
 use Rattle.igp_theory.specs.declared.phase.Phase.TheVariants.{Old, Middle, New}
 use Rattle.igp_theory.proofs.LoopLaws.{old_or_new_step}
 use Rattle.igp_theory.proofs.SameTables.{follows_over}
 use Rattle.order_core.specs.Marks.{IsMarked}
 use Rattle.rib_mix.specs.Answers.{IsAlikeAt}
-use Rattle.rib_mix.specs.Mixture.{Mixture, migration_of}
 use Rattle.loop_finder.specs.steps.Ends.{AreNoHops, EndStep, MovesAtEnds, hops_at}
 use Rattle.loop_finder.specs.steps.Making.{IsHopsOf, IsMaking, IsRead, IsReadAt, IsSameAt, ends_of}
-use Rattle.loop_finder.specs.steps.PartRows.{AreKept, IsRowOf, AreFirstRows}
-use Rattle.loop_finder.specs.Parts.{PhaseHops, hops_of, no_hops, StepsOf, StepsEver, HasStepOf, AllMove, IsPart, AreAllBut, AddsUnless}
+use Rattle.loop_finder.specs.steps.PartRows.{AreKept, HasHops, HasMarked, HaveHops, IsRowOf, AreFirstRows}
+use Rattle.loop_finder.specs.Parts.{PhaseHops, hops_of, no_hops, StepsOf, StepsEver, HasStepOf, AllMove, HaveReturning, IsPart, AreAllBut, AddsUnless}
 use Rattle.loop_finder.specs.Returns.{MarksAgain, MarksReturns}
-use Rattle.loop_finder.specs.ClassSteps.{Listing, sample_of}
+use Rattle.loop_finder.specs.ClassSteps.{sample_of, Mix, migration_in}
 use Rattle.loop_finder.specs.declared.end_lists.EndLists.{EndLists}
 use Rattle.loop_finder.specs.declared.parts.Making.{Making}
 use Rattle.loop_finder.proofs.ClassFacts.{steps_to_those}
@@ -51,32 +49,30 @@ none_in f a n bare = record {
     at u = subst (λ (hops : List ℕ). get_or (map f (replicate n a)) u hops ≡ hops) bare (get_or-map f (replicate n a) u a ∙ ap f (same u))
 
 -- what was read of a router is so where the same was read
-pub read_same : {O N : Type 0} (old : Listing O) (new : Listing N) (m : Mixture O N) (atom : ℕ) (one other : EndLists) (u : ℕ)
-    → IsReadAt old new m atom one u → IsSameAt one other u → IsReadAt old new m atom other u
-read_same old new m atom one other u read same = record {
-  olds = subst (IsHopsOf old new m atom u Old) same.olds read.olds;
-  news = subst (IsHopsOf old new m atom u New) same.news read.news;
+pub read_same : (m : Mix) (atom : ℕ) (one other : EndLists) (u : ℕ) → IsReadAt m atom one u → IsSameAt one other u → IsReadAt m atom other u
+read_same m atom one other u read same = record {
+  olds = subst (IsHopsOf m atom u Old) same.olds read.olds;
+  news = subst (IsHopsOf m atom u New) same.news read.news;
 }
 
 -- and for a class for whose packets the router does the same
-pub read_alike : {O N : Type 0} (old : Listing O) (new : Listing N) (m : Mixture O N) (atom other : ℕ) (lists : EndLists) (u : ℕ)
-    → IsReadAt old new m atom lists u → IsAlikeAt (migration_of old new m) m.classes u atom other
-    → IsReadAt old new m other lists u
-read_alike old new m atom other lists u read alike = record {
+pub read_alike : (m : Mix) (atom other : ℕ) (lists : EndLists) (u : ℕ) → IsReadAt m atom lists u → IsAlikeAt (migration_in m) m.classes u atom other
+    → IsReadAt m other lists u
+read_alike m atom other lists u read alike = record {
   olds = record { next = read.olds.next; is = (alike Old read.olds.next).0 read.olds.is; leads = read.olds.leads };
   news = record { next = read.news.next; is = (alike New read.news.next).0 read.news.is; leads = read.news.leads };
 }
 
 -- what was read of the class that is known
-pub known_class : {O N : Type 0} (old : Listing O) (new : Listing N) (m : Mixture O N) (known : Option ℕ) (lists : EndLists)
-    → IfSome known (λ other. IsRead old new m other lists) → IfSome known (λ other. other < length m.classes.samples)
-known_class old new m None lists is = tt
-known_class old new m (Some other) lists is = is.class
+pub known_class : (m : Mix) (known : Option ℕ) (lists : EndLists)
+    → IfSome known (λ other. IsRead m other lists) → IfSome known (λ other. other < length m.classes.samples)
+known_class m None lists is = tt
+known_class m (Some other) lists is = is.class
 
-pub known_at : {O N : Type 0} (old : Listing O) (new : Listing N) (m : Mixture O N) (known : Option ℕ) (one other : EndLists) (u : ℕ)
-    → IfSome known (λ k. IsRead old new m k one) → u < length m.net → IsSameAt one other u → IfSome known (λ k. IsReadAt old new m k other u)
-known_at old new m None one other u is within same = tt
-known_at old new m (Some k) one other u is within same = read_same old new m k one other u (is.each u within) same
+pub known_at : (m : Mix) (known : Option ℕ) (one other : EndLists) (u : ℕ)
+    → IfSome known (λ k. IsRead m k one) → u < length m.net → IsSameAt one other u → IfSome known (λ k. IsReadAt m k other u)
+known_at m None one other u is within same = tt
+known_at m (Some k) one other u is within same = read_same m k one other u (is.each u within) same
 
 -- the same was read of a router twice
 pub same_twice : (one other third : EndLists) (u : ℕ) → IsSameAt one other u → IsSameAt other third u → IsSameAt one third u
@@ -137,63 +133,62 @@ stuck_still one other n changed stuck none same are = record {
 }
 
 -- where each router that lacks a step in one end is one of the target's, all others move
-pub all_move_from : {O N : Type 0} (old : Listing O) (new : Listing N) (m : Mixture O N) (atom : ℕ) (p : Block) (lists : EndLists) (stuck : List ℕ)
-    → IsNetwork m.net → IsTarget m.net (sample_of m atom) p → IsRead old new m atom lists
-    → AreAllBut (MovesAtEnds (ends_of lists (length m.net))) (length m.net) stuck → ((u : ℕ) → Contains stuck u → Connected m.net u p)
-    → AllMove old new m atom
-all_move_from {O} {N} old new m atom p lists stuck network target read are here u must = elim (are.whole u must.router) [
+pub all_move_from : (m : Mix) (atom : ℕ) (p : Block) (lists : EndLists) (stuck : List ℕ)
+    → IsNetwork m.net → IsTarget m.net (sample_of m.classes atom) p → IsRead m atom lists
+    → AreAllBut (MovesAtEnds (ends_of lists (length m.net))) (length m.net) stuck → ((u : ℕ) → Contains stuck u → Connected m.net u p) → AllMove m atom
+all_move_from m atom p lists stuck network target read are here u must = elim (are.whole u must.router) [
   | inl among ↦ absurd (must.away (subst (λ (q : Block). Connected m.net u q)
-      (one_target m.net (sample_of m atom) p must.target network target must.is_target) (here u among)))
+      (one_target m.net (sample_of m.classes atom) p must.target network target must.is_target) (here u among)))
   | inr both ↦ (
     step Old (hops_at lists.olds u) (read.each u must.router).olds both.0,
     step New (hops_at lists.news u) (read.each u must.router).news both.1,
   )
 ]
   where
-    step : (phase : Phase) (hops : List ℕ) → IsHopsOf old new m atom u phase hops → 0 < length hops → HasStepOf old new m atom u phase
+    step : (phase : Phase) (hops : List ℕ) → IsHopsOf m atom u phase hops → 0 < length hops → HasStepOf m atom u phase
     step phase hops are some = record {
       hop = get_or hops 0 0;
-      steps = (steps_to_those old new m atom u phase hops read.class read.address are must (get_or hops 0 0)).0 (Contains-get_or hops 0 0 some);
+      steps = (steps_to_those m atom u phase hops read.class read.address are must (get_or hops 0 0)).0 (Contains-get_or hops 0 0 some);
     }
 
 -- a step of both networks is one of what was read
-over_read : {O N : Type 0} (old : Listing O) (new : Listing N) (m : Mixture O N) (atom : ℕ) (lists : EndLists) (x y : ℕ)
-    → IsRead old new m atom lists → StepsEver old new m atom x y → EndStep (ends_of lists (length m.net)) x y
-over_read old new m atom lists x y read (inl one) =
-    inl ((steps_to_those old new m atom x Old (hops_at lists.olds x) read.class read.address (read.each x one.must.router).olds one.must y).1 one)
-over_read old new m atom lists x y read (inr other) =
-    inr ((steps_to_those old new m atom x New (hops_at lists.news x) read.class read.address (read.each x other.must.router).news other.must y).1 other)
+over_read : (m : Mix) (atom : ℕ) (lists : EndLists) (x y : ℕ) → IsRead m atom lists → StepsEver m atom x y → EndStep (ends_of lists (length m.net)) x y
+over_read m atom lists x y read (inl one) =
+    inl ((steps_to_those m atom x Old (hops_at lists.olds x) read.class read.address (read.each x one.must.router).olds one.must y).1 one)
+over_read m atom lists x y read (inr other) =
+    inr ((steps_to_those m atom x New (hops_at lists.news x) read.class read.address (read.each x other.must.router).news other.must y).1 other)
 
 -- the routers that are returned to, by what is known of the class that was read
-pub returns_known : {O N : Type 0} (old : Listing O) (new : Listing N) (m : Mixture O N) (atom : ℕ) (making : Making) (marks : List Bool)
-    → IsMaking (length m.net) making → IsRead old new m atom making.lists → marks ≡ making.marks.items
-    → MarksReturns (StepsEver old new m atom) marks
-returns_known old new m atom making marks is read same u h hops follows = subst (λ (xs : List Bool). IsMarked xs u) (sym same)
-    (is.returns u h hops (follows_over (λ x y steps. over_read old new m atom making.lists x y read steps) u (h ∷ hops) u follows))
+pub returns_known : (m : Mix) (atom : ℕ) (making : Making) (marks : List Bool)
+    → IsMaking (length m.net) making → IsRead m atom making.lists → marks ≡ making.marks.items → MarksReturns (StepsEver m atom) marks
+returns_known m atom making marks is read same u h hops follows = subst (λ (xs : List Bool). IsMarked xs u) (sym same)
+    (is.returns u h hops (follows_over (λ x y steps. over_read m atom making.lists x y read steps) u (h ∷ hops) u follows))
 
 -- Rows
 
 -- a row with what is kept of the hops of each phase
-pub row_made : {O N : Type 0} (old : Listing O) (new : Listing N) (m : Mixture O N) (atom : ℕ) (marks : List Bool) (u : ℕ)
-    (olds middles news kept_olds kept_middles kept_news : List ℕ)
-    → ((h : ℕ) → Contains olds h ↔ StepsOf old new m atom u Old h) → ((h : ℕ) → Contains middles h ↔ StepsOf old new m atom u Middle h)
-    → ((h : ℕ) → Contains news h ↔ StepsOf old new m atom u New h)
-    → AreKept olds marks kept_olds → AreKept middles marks kept_middles → AreKept news marks kept_news
-    → IsRowOf old new m atom marks u (record { old = kept_olds; middle = kept_middles; new = kept_news })
-row_made old new m atom marks u olds middles news kept_olds kept_middles kept_news is_old is_middle is_new are_old are_middle are_new =
+pub row_made : (m : Mix) (atom : ℕ) (marks : List Bool) (u : ℕ)
+    (olds middles news kept_olds kept_middles kept_news : List ℕ) → atom < length m.classes.samples → sample_of m.classes atom < 2 ^ 32
+    → MustForward m.net (sample_of m.classes atom) u → IsHopsOf m atom u Old olds → IsHopsOf m atom u Middle middles
+    → IsHopsOf m atom u New news → AreKept olds marks kept_olds → AreKept middles marks kept_middles → AreKept news marks kept_news
+    → IsRowOf m atom marks u (record { old = kept_olds; middle = kept_middles; new = kept_news })
+row_made m atom marks u olds middles news kept_olds kept_middles kept_news within address must is_old is_middle is_new are_old are_middle are_new =
     record { steps = steps; all = all }
   where
-    steps : (phase : Phase) (h : ℕ) → Contains (hops_of (record { old = kept_olds; middle = kept_middles; new = kept_news }) phase) h
-        → StepsOf old new m atom u phase h
-    steps Old h among = (is_old h).0 (are_old.from h among)
-    steps Middle h among = (is_middle h).0 (are_middle.from h among)
-    steps New h among = (is_new h).0 (are_new.from h among)
+    exact : (phase : Phase) (hops : List ℕ) → IsHopsOf m atom u phase hops → (h : ℕ) → Contains hops h ↔ StepsOf m atom u phase h
+    exact phase hops are = steps_to_those m atom u phase hops within address are must
 
-    all : (phase : Phase) (h : ℕ) → StepsOf old new m atom u phase h → IsMarked marks u → IsMarked marks h
+    steps : (phase : Phase) (h : ℕ) → Contains (hops_of (record { old = kept_olds; middle = kept_middles; new = kept_news }) phase) h
+        → StepsOf m atom u phase h
+    steps Old h among = (exact Old olds is_old h).0 (are_old.from h among)
+    steps Middle h among = (exact Middle middles is_middle h).0 (are_middle.from h among)
+    steps New h among = (exact New news is_new h).0 (are_new.from h among)
+
+    all : (phase : Phase) (h : ℕ) → StepsOf m atom u phase h → IsMarked marks u → IsMarked marks h
         → Contains (hops_of (record { old = kept_olds; middle = kept_middles; new = kept_news }) phase) h
-    all Old h one here there = are_old.all h ((is_old h).1 one) there
-    all Middle h one here there = are_middle.all h ((is_middle h).1 one) there
-    all New h one here there = are_new.all h ((is_new h).1 one) there
+    all Old h one here there = are_old.all h ((exact Old olds is_old h).1 one) there
+    all Middle h one here there = are_middle.all h ((exact Middle middles is_middle h).1 one) there
+    all New h one here there = are_new.all h ((exact New news is_new h).1 one) there
 
 -- nothing is among no hops
 pub none_among : (phase : Phase) (h : ℕ) → Contains (hops_of no_hops phase) h → ⊥
@@ -201,62 +196,68 @@ none_among Old h = Contains-none h
 none_among Middle h = Contains-none h
 none_among New h = Contains-none h
 
--- a router without mark may have none
-pub row_unmarked : {O N : Type 0} (old : Listing O) (new : Listing N) (m : Mixture O N) (atom : ℕ) (marks : List Bool) (u : ℕ)
-    (row : PhaseHops) → ((phase : Phase) (h : ℕ) → ¬ Contains (hops_of row phase) h) → (¬ IsMarked marks u) → IsRowOf old new m atom marks u row
-row_unmarked old new m atom marks u row none bare = record {
-  steps = λ phase h among. absurd (none phase h among);
-  all = λ phase h steps here there. absurd (bare here);
+-- a router may have none that has no mark, or has no packets to pass on
+pub row_none : (m : Mix) (atom : ℕ) (marks : List Bool) (u : ℕ) (row : PhaseHops)
+    → row ≡ no_hops → (IsMarked marks u → ¬ MustForward m.net (sample_of m.classes atom) u) → IsRowOf m atom marks u row
+row_none m atom marks u row none never = record {
+  steps = λ phase h among. absurd (none_among phase h (subst (λ (x : PhaseHops). Contains (hops_of x phase) h) none among));
+  all = λ phase h steps here there. absurd (never here steps.must);
 }
+
+-- a row with the marked ones of a router's hops has all of these
+pub row_has : (m : Mix) (atom : ℕ) (marks : List Bool) (u : ℕ) (row own : PhaseHops) → IsRowOf m atom marks u own
+    → HasMarked marks row.old own.old → HasMarked marks row.middle own.middle → HasMarked marks row.new own.new → HasHops m atom marks u row
+row_has m atom marks u row own is olds middles news Old h steps here there = olds h (is.all Old h steps here there) there
+row_has m atom marks u row own is olds middles news Middle h steps here there = middles h (is.all Middle h steps here there) there
+row_has m atom marks u row own is olds middles news New h steps here there = news h (is.all New h steps here there) there
 
 -- what holds of n elements and of one more
 pub each_more : {X : Type 0} (Is : ℕ → X → Type 0) (xs longer : List X) (x d : X) (n : ℕ) → longer ≡ xs ++ x ∷ [] → length xs ≡ n
     → ((u : ℕ) → u < n → Is u (get_or xs u d)) → Is n x → (length longer ≡ n + 1) × ((u : ℕ) → u < n + 1 → Is u (get_or longer u d))
-each_more {X} Is xs longer x d n is many each one =
-    subst (λ (ys : List X). (length ys ≡ n + 1) × ((u : ℕ) → u < n + 1 → Is u (get_or ys u d))) (sym is) (
-      omega (arith, length_push xs x, many),
-      below_more (λ (u : ℕ). Is u (get_or (xs ++ x ∷ []) u d)) n
-          (λ u below. subst (Is u) (sym (get_or-append xs (x ∷ []) d u (omega (arith, below, many)))) (each u below))
-          (subst (λ (k : ℕ). Is n (get_or (xs ++ x ∷ []) k d)) many (subst (Is n) (sym (get_or-append_seam xs x [] d)) one)),
-    )
+each_more {X} Is xs longer x d n is many each one = subst (λ (ys : List X). (length ys ≡ n + 1) × ((u : ℕ) → u < n + 1 → Is u (get_or ys u d))) (sym is) (
+  omega (arith, length_push xs x, many),
+  below_more (λ (u : ℕ). Is u (get_or (xs ++ x ∷ []) u d)) n
+      (λ u below. subst (Is u) (sym (get_or-append xs (x ∷ []) d u (omega (arith, below, many)))) (each u below))
+      (subst (λ (k : ℕ). Is n (get_or (xs ++ x ∷ []) k d)) many (subst (Is n) (sym (get_or-append_seam xs x [] d)) one)),
+)
 
 -- one row more
-pub AreFirstRows-more : {O N : Type 0} (old : Listing O) (new : Listing N) (m : Mixture O N) (atom : ℕ) (marks : List Bool) (n : ℕ)
-    (rows longer : List PhaseHops) (row : PhaseHops) → longer ≡ rows ++ row ∷ [] → AreFirstRows old new m atom marks n rows
-    → IsRowOf old new m atom marks n row → AreFirstRows old new m atom marks (n + 1) longer
-AreFirstRows-more old new m atom marks n rows longer row is are one =
-    let more = each_more (IsRowOf old new m atom marks) rows longer row no_hops n is are.many are.each one in
+pub AreFirstRows-more : (m : Mix) (atom : ℕ) (marks : List Bool) (n : ℕ)
+    (rows longer : List PhaseHops) (row : PhaseHops) → longer ≡ rows ++ row ∷ [] → AreFirstRows m atom marks n rows
+    → IsRowOf m atom marks n row → AreFirstRows m atom marks (n + 1) longer
+AreFirstRows-more m atom marks n rows longer row is are one =
+    let more = each_more (IsRowOf m atom marks) rows longer row no_hops n is are.many are.each one in
     record { many = more.0; each = more.1 }
 
 -- The part
 
+-- rows with all hops between marked routers have each step from which a walk leads back
+pub have_returning : (m : Mix) (atom : ℕ) (marks : List Bool) (rows : List PhaseHops) → length marks ≡ length m.net
+    → MarksReturns (StepsEver m atom) marks → HaveHops m atom marks rows → HaveReturning m atom rows
+have_returning m atom marks rows many marked have u h hops phase steps follows =
+    let here : IsMarked marks u = marked u h hops (old_or_new_step phase steps, follows) in
+    let next = follows_on (StepsEver m atom) u h hops (old_or_new_step phase steps) follows in
+    let there : IsMarked marks h = marked h next.first next.rest next.follows in
+    have.each u (omega (arith, many, steps.must.router)) phase h steps here there
+
 -- the part with the rows of all routers, for the addresses of a class
-pub part_made : {O N : Type 0} (old : Listing O) (new : Listing N) (m : Mixture O N) (atom : ℕ) (marks : List Bool) (moves : Bool)
-    (rows : List PhaseHops) → atom < length m.classes.samples → length marks ≡ length m.net → MarksReturns (StepsEver old new m atom) marks
-    → OnTrue moves (AllMove old new m atom) → AreFirstRows old new m atom marks (length marks) rows
-    → IsPart old new m (record { atom = atom; moves = moves; rows = rows })
-part_made {O} {N} old new m atom marks moves rows within many marked move are = record {
+pub part_made : (m : Mix) (atom : ℕ) (marks : List Bool) (moves : Bool)
+    (rows : List PhaseHops) → atom < length m.classes.samples → length marks ≡ length m.net → MarksReturns (StepsEver m atom) marks
+    → OnTrue moves (AllMove m atom) → AreFirstRows m atom marks (length marks) rows → IsPart m (record { atom = atom; moves = moves; rows = rows })
+part_made m atom marks moves rows within many marked move are = record {
   class = within;
   many = omega (arith, are.many, many);
   moves = move;
   steps = steps;
-  returns = back;
+  returns = have_returning m atom marks rows many marked (record { many = are.many; each = λ u below. (are.each u below).all });
 }
   where
-    steps : (u h : ℕ) (phase : Phase) → Contains (hops_of (get_or rows u no_hops) phase) h → StepsOf old new m atom u phase h
+    steps : (u h : ℕ) (phase : Phase) → Contains (hops_of (get_or rows u no_hops) phase) h → StepsOf m atom u phase h
     steps u h phase among = elim (cases_lt u (length marks)) [
       | inl below ↦ (are.each u below).steps phase h among
       | inr past ↦ absurd (none_among phase h (subst (λ (row : PhaseHops). Contains (hops_of row phase) h)
           (get_or_past rows u no_hops (omega (arith, past, are.many))) among))
     ]
-
-    back : (u h : ℕ) (hops : List ℕ) (phase : Phase) → StepsOf old new m atom u phase h → Follows (StepsEver old new m atom) h hops u
-        → Contains (hops_of (get_or rows u no_hops) phase) h
-    back u h hops phase steps_on follows =
-        let here : IsMarked marks u = marked u h hops (old_or_new_step phase steps_on, follows) in
-        let next = follows_on (StepsEver old new m atom) u h hops (old_or_new_step phase steps_on) follows in
-        let there : IsMarked marks h = marked h next.first next.rest next.follows in
-        (are.each u (omega (arith, many, steps_on.must.router))).all phase h steps_on here there
 
 -- Which routers are listed
 
@@ -271,8 +272,7 @@ pub AreAllBut-more : (Is : ℕ → Type 0) (n : ℕ) (old new : List ℕ) → Ar
 AreAllBut-more Is n old new are (inl added) = subst (λ (xs : List ℕ). AreAllBut Is (n + 1) xs) (sym added) (record {
   below = All-push (λ (u : ℕ). u < n + 1) old n (λ k d inside. let less : get_or old k d < n = are.below k d inside in omega (arith, less)) (omega arith);
   whole = below_more (λ (u : ℕ). Contains (old ++ n ∷ []) u ⊎ Is u) n
-      (λ u below. elim (are.whole u below) [ inl among ↦ inl (Contains-append_left old (n ∷ []) u among) | inr is ↦ inr is ])
-      (inl (Contains-push old n));
+      (λ u below. elim (are.whole u below) [ inl among ↦ inl (Contains-append_left old (n ∷ []) u among) | inr is ↦ inr is ]) (inl (Contains-push old n));
 })
 AreAllBut-more Is n old new are (inr none) = subst (λ (xs : List ℕ). AreAllBut Is (n + 1) xs) (sym none.0) (record {
   below = λ k d inside. let less : get_or old k d < n = are.below k d inside in omega (arith, less);
@@ -283,11 +283,10 @@ AreAllBut-more Is n old new are (inr none) = subst (λ (xs : List ℕ). AreAllBu
 pub changed_more : (one other third : EndLists) (n : ℕ) (old new : List ℕ) → AreAllBut (IsSameAt one other) n old
     → ((u : ℕ) → (¬ (u ≡ n)) → IsSameAt other third u) → IsSameAt one other n → AddsUnless (IsSameAt other third n) n old new
     → AreAllBut (IsSameAt one third) (n + 1) new
-changed_more one other third n old new are others before added =
-    AreAllBut-more (IsSameAt one third) n old new (record {
-      below = are.below;
-      whole = λ u below. elim (are.whole u below) [
-        | inl among ↦ inl among
-        | inr same ↦ inr (same_twice one other third u same (others u (λ is. absurd (omega (arith, is, below)))))
-      ];
-    }) (elim added [ inl more ↦ inl more | inr none ↦ inr (none.0, same_twice one other third n before none.1) ])
+changed_more one other third n old new are others before added = AreAllBut-more (IsSameAt one third) n old new (record {
+  below = are.below;
+  whole = λ u below. elim (are.whole u below) [
+    | inl among ↦ inl among
+    | inr same ↦ inr (same_twice one other third u same (others u (λ is. absurd (omega (arith, is, below)))))
+  ];
+}) (elim added [ inl more ↦ inl more | inr none ↦ inr (none.0, same_twice one other third n before none.1) ])

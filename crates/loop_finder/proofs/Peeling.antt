@@ -1,7 +1,7 @@
 -- Marks that are taken one after another.
 use Rattle.std.proofs.Common.{◌≡◌, ℕ, ◌+◌, ◌<◌, ◌≤◌, Bool, true, false, cond, List, [], ◌∷◌, length, get_or, set, arith, subst, sym, refl, ap, ◌∙◌, below_more}
 use Rattle.std.proofs.Common.{inl, inr}
-use Rattle.std.proofs.lemmas.List.{get_or-set_same, get_or-set_other, get_or_past, length-set}
+use Rattle.std.proofs.lemmas.List.{get_or-set_other, get_or_past, length-set}
 use Rattle.std.proofs.lemmas.List.Sums.{sum_by-set, count_by-le-length}
 use Rattle.std.proofs.lemmas.Bool.{false≢true, cases_lt}
 use Rattle.std.proofs.lemmas.Bool.Decides.{eqb_tells}
@@ -9,14 +9,6 @@ use Rattle.std.specs.Bool.{OnFalse, OnTrue}
 use Rattle.igp_theory.specs.States.{Follows}
 use Rattle.order_core.specs.Marks.{IsMarked, marked_count}
 use Rattle.loop_finder.specs.steps.Live.{HasMarkedHop, AreBounded}
-
--- a mark that is there stays where another is taken
-marked_before : (marks : List Bool) (u r : ℕ) → u < length marks → IsMarked (set marks u false) r → IsMarked marks r
-marked_before marks u r within marked = elim (eqb_tells r u) [
-  | inl same ↦ absurd (false≢true (sym (get_or-set_same marks u false false within)
-      ∙ subst (λ (x : ℕ). get_or (set marks u false) x false ≡ true) same.1 marked))
-  | inr apart ↦ sym (get_or-set_other marks u r false false apart.1) ∙ marked
-]
 
 -- a router without a mark, once another's is taken: it is that one, or had none
 unmarked_before : (marks : List Bool) (u r : ℕ) → (¬ IsMarked (set marks u false) r) → ¬ (r ≡ u) → ¬ IsMarked marks r
@@ -30,15 +22,15 @@ marked_count-set marks u within marked =
     omega (arith, sum_by-set one marks u false false within, k)
 
 -- at first no router has no mark, so nothing is to be shown of one
-pub bounded_first : (step : ℕ → ℕ → Type 0) (marks : List Bool) → ((u h : ℕ) → step u h → u < length marks) → ((r : ℕ) → r < length marks → IsMarked marks r) →
+pub bounded_first : (step : ℕ → ℕ → Type 0) (marks : List Bool) → ((u h : ℕ) → step u h → u < length marks) →
+    ((r : ℕ) → r < length marks → IsMarked marks r) →
     AreBounded step marks
 bounded_first step marks inside all u [] last bare follows = omega (arith, count_by-le-length (λ (b : Bool). b) marks)
 bounded_first step marks inside all u (h ∷ hops) last bare follows = absurd (bare (all u (inside u h follows.0)))
 
 -- where a router steps to no marked one, its mark can be taken
 pub bounded_more : (step : ℕ → ℕ → Type 0) (marks : List Bool) (u : ℕ) → u < length marks → IsMarked marks u → ((h : ℕ) → step u h → ¬ IsMarked marks h) →
-    AreBounded step marks
-    → AreBounded step (set marks u false)
+    AreBounded step marks → AreBounded step (set marks u false)
 bounded_more step marks u within marked stuck bounded r hops last bare follows = elim (eqb_tells r u) [
   | inl same ↦ at_u hops (subst (λ (x : ℕ). Follows step x hops last) same.1 follows)
   | inr apart ↦
@@ -66,8 +58,7 @@ pub record IsPeel (step : ℕ → ℕ → Type 0) (start marks : List Bool) (pee
   pub fewer : peeled ≡ true → marked_count marks < marked_count start
 
 pub IsPeel-same : (step : ℕ → ℕ → Type 0) (start marks : List Bool) (peeled : Bool) (i : ℕ) → IsPeel step start marks peeled i →
-    (IsMarked marks i → HasMarkedHop step marks i)
-    → IsPeel step start marks peeled (i + 1)
+    (IsMarked marks i → HasMarkedHop step marks i) → IsPeel step start marks peeled (i + 1)
 IsPeel-same step start marks peeled i peel leads = record {
   bounded = peel.bounded;
   closed = λ e. below_more (λ u. IsMarked marks u → HasMarkedHop step marks u) i (peel.closed e) leads;
@@ -76,8 +67,7 @@ IsPeel-same step start marks peeled i peel leads = record {
 }
 
 pub IsPeel-taken : (step : ℕ → ℕ → Type 0) (start marks : List Bool) (peeled : Bool) (i : ℕ) → IsPeel step start marks peeled i →
-    i < length marks → IsMarked marks i
-    → ((h : ℕ) → step i h → ¬ IsMarked marks h) → IsPeel step start (set marks i false) true (i + 1)
+    i < length marks → IsMarked marks i → ((h : ℕ) → step i h → ¬ IsMarked marks h) → IsPeel step start (set marks i false) true (i + 1)
 IsPeel-taken step start marks peeled i peel within marked stuck =
     let less : marked_count (set marks i false) + 1 ≡ marked_count marks = marked_count-set marks i within marked in
     record {

@@ -40,8 +40,7 @@ reached_short goal marks reached r are within bare =
 
 -- a router that isn't the goal is reached
 pub AreReached-more : (goal : ℕ) (marks : List Bool) (reached : List ℕ) (r : ℕ) → AreReached goal marks reached → r < length marks →
-    get_or marks r false ≡ false → (¬ (r ≡ goal))
-    → AreReached goal (set marks r true) (reached ++ r ∷ [])
+    get_or marks r false ≡ false → (¬ (r ≡ goal)) → AreReached goal (set marks r true) (reached ++ r ∷ [])
 AreReached-more goal marks reached r are within bare apart = record {
   listed = λ u marked. elim (eqb_tells u r) [
     | inl same ↦ subst (λ (x : ℕ). Contains (reached ++ r ∷ []) x) (sym same.1) (Contains-push reached r)
@@ -60,8 +59,7 @@ ReachesMore-same marks reached = record { marked = λ u marked. marked; added = 
 
 -- first some are reached, then others
 pub ReachesMore-then : (marks marks' marks'' : List Bool) (reached reached' reached'' : List ℕ) → ReachesMore marks reached marks' reached' →
-    ReachesMore marks' reached' marks'' reached''
-    → ReachesMore marks reached marks'' reached''
+    ReachesMore marks' reached' marks'' reached'' → ReachesMore marks reached marks'' reached''
 ReachesMore-then marks marks' marks'' reached reached' reached'' one two = record {
   marked = λ u marked. two.marked u (one.marked u marked);
   added = one.added ++ two.added;
@@ -84,8 +82,7 @@ stays_marked step n goal marks within inside closed u (h ∷ hops) marked follow
 
 -- where the hops of the goal and of all routers reached are marked, no list of steps returns to the goal
 pub never_returns : (step : ℕ → ℕ → Type 0) (n goal : ℕ) (marks : List Bool) (reached : List ℕ) (place : ℕ) → goal < n → length marks ≡ n →
-    ((u h : ℕ) → step u h → u < n)
-    → AreReached goal marks reached → length reached ≤ place → ((h : ℕ) → step goal h → h < length marks → IsMarked marks h)
+    ((u h : ℕ) → step u h → u < n) → AreReached goal marks reached → length reached ≤ place → ((h : ℕ) → step goal h → h < length marks → IsMarked marks h)
     → ((k : ℕ) → k < place → (h : ℕ) → step (get_or reached k 0) h → h < length marks → IsMarked marks h) → NeverReturnsTo step goal
 never_returns step n goal marks reached place within many inside are whole first spread h hops follows =
     are.apart (stays_marked step n goal marks within inside closed h hops

@@ -45,8 +45,7 @@ record Passes (step : ℕ → ℕ → Type 0) (u v w : ℕ) : Type 0 where
 
 -- a list of steps passes a router, or it is one of another relation that has the steps of the other routers
 passes_or_not : (step other : ℕ → ℕ → Type 0) (u : ℕ) → ((x h : ℕ) → (¬ (x ≡ u)) → step x h → other x h) →
-    (v : ℕ) (hops : List ℕ) (w : ℕ) → Follows step v hops w
-    → Passes step u v w ⊎ Follows other v hops w
+    (v : ℕ) (hops : List ℕ) (w : ℕ) → Follows step v hops w → Passes step u v w ⊎ Follows other v hops w
 passes_or_not step other u over v [] w follows = inr follows
 passes_or_not step other u over v (h ∷ hops) w follows = elim (eqb_tells v u) [
   | inl same ↦ inl (record { front = []; next = h; back = hops; into = same.1; out = (subst (λ (x : ℕ). step x h) same.1 follows.0, follows.1) })

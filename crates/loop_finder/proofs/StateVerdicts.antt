@@ -15,8 +15,7 @@ use Rattle.prefix_atoms.specs.Classes.{AreSamples, Classes, IsInClass, SourceEnt
 use Rattle.prefix_atoms.specs.Laws.{ActAlike}
 use Rattle.prefix_atoms.proofs.ClassLaws.{one_class_acts_alike}
 use Rattle.order_core.proofs.DistinctLists.{length-le_from_distinct}
-use Rattle.rib_mix.specs.Mixture.{Mixture, migration_of}
-use Rattle.loop_finder.specs.ClassSteps.{Listing, sample_of}
+use Rattle.loop_finder.specs.ClassSteps.{sample_of, Mix, migration_in}
 use Rattle.loop_finder.specs.Verdicts.{ClassesOf, SoundAt, SoundBelow, Sound}
 use Rattle.loop_finder.proofs.ClassVerdicts.{sample_in}
 
@@ -41,14 +40,13 @@ same_entries net old new = record {
 }
 
 -- a state that is sound for one address of a class is sound for another
-sound_alike : {O N : Type 0} (old : Listing O) (new : Listing N) (m : Mixture O N) (state : State) (k a b : ℕ) → ClassesOf old new m →
-    IsInClass m.classes k a → IsInClass m.classes k b
-    → SoundAt old new m state a → SoundAt old new m state b
-sound_alike old new m state k a b are in_a in_b sound =
-    let same : HaveSameTables (migration_of old new m) (SourceEntry (length m.net) (old m.old))
-    (SourceEntry (length m.net) (new m.new)) = same_entries m.net (old m.old) (new m.new) in
-    let alike : ActAlike (migration m.net (SourceEntry (length m.net) (old m.old)) (SourceEntry (length m.net) (new m.new))) a b =
-    one_class_acts_alike (migration m.net (SourceEntry (length m.net) (old m.old)) (SourceEntry (length m.net) (new m.new))) m.classes k a b are in_a in_b in
+sound_alike : (m : Mix) (state : State) (k a b : ℕ) → ClassesOf m → IsInClass m.classes k a → IsInClass m.classes k b
+    → SoundAt m state a → SoundAt m state b
+sound_alike m state k a b are in_a in_b sound =
+    let same : HaveSameTables (migration_in m) (SourceEntry (length m.net) m.old)
+    (SourceEntry (length m.net) m.new) = same_entries m.net m.old m.new in
+    let alike : ActAlike (migration m.net (SourceEntry (length m.net) m.old) (SourceEntry (length m.net) m.new)) a b =
+    one_class_acts_alike (migration m.net (SourceEntry (length m.net) m.old) (SourceEntry (length m.net) m.new)) m.classes k a b are in_a in_b in
     sound_at_over (same_tables_sym same) ((alike.sound state).0 (sound_at_over same sound))
 
 -- an address is in a class whose least address isn't above it
@@ -70,14 +68,13 @@ class_of c a are address =
     }
 
 -- where a state is sound for the least addresses of the classes before one, it's sound for all lower addresses
-pub below_from : {O N : Type 0} (old : Listing O) (new : Listing N) (m : Mixture O N) (state : State) (k : ℕ) → ClassesOf old new m →
-    k < length m.classes.samples
-    → ((j : ℕ) → j < k → SoundAt old new m state (sample_of m j)) → SoundBelow old new m state (sample_of m k)
-below_from old new m state k are within sound b below =
+pub below_from : (m : Mix) (state : State) (k : ℕ) → ClassesOf m → k < length m.classes.samples
+    → ((j : ℕ) → j < k → SoundAt m state (sample_of m.classes j)) → SoundBelow m state (sample_of m.classes k)
+below_from m state k are within sound b below =
     let address : get_or m.classes.samples k 0 < 2 ^ 32 = are.classing.samples.addresses k 0 within in
     let at : HasClass m.classes b = class_of m.classes b are.classing.samples (omega (arith, address, below)) in
     elim (cases_lt at.class k) [
-      | inl before ↦ sound_alike old new m state at.class (sample_of m at.class) b are (sample_in m.classes at.class are at.inside.class) at.inside
+      | inl before ↦ sound_alike m state at.class (sample_of m.classes at.class) b are (sample_in m.classes at.class are at.inside.class) at.inside
           (sound at.class before)
       | inr after ↦ elim (cases_lt k at.class) [
         | inl past ↦
@@ -92,10 +89,9 @@ below_from old new m state k are within sound b below =
     ]
 
 -- where it is for the least addresses of all classes, it's sound
-pub sound_from_classes : {O N : Type 0} (old : Listing O) (new : Listing N) (m : Mixture O N) (state : State) (n : ℕ) → ClassesOf old new m →
-    length m.classes.samples ≤ n
-    → ((j : ℕ) → j < n → SoundAt old new m state (sample_of m j)) → Sound old new m state
-sound_from_classes old new m state n are whole sound a address =
+pub sound_from_classes : (m : Mix) (state : State) (n : ℕ) → ClassesOf m → length m.classes.samples ≤ n
+    → ((j : ℕ) → j < n → SoundAt m state (sample_of m.classes j)) → Sound m state
+sound_from_classes m state n are whole sound a address =
     let at : HasClass m.classes a = class_of m.classes a are.classing.samples address in
-    sound_alike old new m state at.class (sample_of m at.class) a are (sample_in m.classes at.class are at.inside.class) at.inside
+    sound_alike m state at.class (sample_of m.classes at.class) a are (sample_in m.classes at.class are at.inside.class) at.inside
     (sound at.class (omega (arith, at.inside.class, whole)))

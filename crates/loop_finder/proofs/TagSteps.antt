@@ -9,25 +9,23 @@ use Rattle.order_core.specs.declared.turn.Tag.TheVariants as tag
 use Rattle.order_core.specs.declared.turn.Turn.{Turn}
 use Rattle.loop_finder.specs.steps.Rings.{next_in}
 use Rattle.loop_finder.specs.Faults.{state_in}
-use Rattle.loop_finder.specs.ClassSteps.{Listing, ClassState, StepsBy, ClassStep, IsTagged}
+use Rattle.loop_finder.specs.ClassSteps.{ClassState, StepsBy, ClassStep, IsTagged}
 use Rattle.loop_finder.proofs.RingLaws.{each_at, each_to_next_push}
 
 -- a step of one of the states is a step of Old or of New
-pub old_or_new : {O N : Type 0} (old : Listing O) (new : Listing N) (c : ClassState O N) (u h : ℕ) → ClassStep old new c u h → StepsBy old new c u Old h ⊎
-    StepsBy old new c u New h
-old_or_new old new c u h (inl steps) = old_or_new_step (state_in c.first u) steps
-old_or_new old new c u h (inr steps) = old_or_new_step (state_in c.last u) steps
+pub old_or_new : (c : ClassState) (u h : ℕ) → ClassStep c u h → StepsBy c u Old h ⊎ StepsBy c u New h
+old_or_new c u h (inl steps) = old_or_new_step (state_in c.first u) steps
+old_or_new c u h (inr steps) = old_or_new_step (state_in c.last u) steps
 
 -- only a router of the network steps
-pub steps_inside : {O N : Type 0} (old : Listing O) (new : Listing N) (c : ClassState O N) (u h : ℕ) → ClassStep old new c u h → u < length c.mixture.net
-steps_inside old new c u h (inl steps) = steps.must.router
-steps_inside old new c u h (inr steps) = steps.must.router
+pub steps_inside : (c : ClassState) (u h : ℕ) → ClassStep c u h → u < length c.mixture.net
+steps_inside c u h (inl steps) = steps.must.router
+steps_inside c u h (inr steps) = steps.must.router
 
 -- a router that doesn't step in Old steps in New alone
-pub tagged_new : {O N : Type 0} (old : Listing O) (new : Listing N) (c : ClassState O N) (u h : ℕ) → (StepsBy old new c u Old h → ⊥) →
-    StepsBy old new c u Old h ⊎ StepsBy old new c u New h
-    → IsTagged old new c (record { router = u; tag = tag.New }) h
-tagged_new old new c u h never some = record {
+pub tagged_new : (c : ClassState) (u h : ℕ) → (StepsBy c u Old h → ⊥) → StepsBy c u Old h ⊎ StepsBy c u New h
+    → IsTagged c (record { router = u; tag = tag.New }) h
+tagged_new c u h never some = record {
   steps = (never, elim some [ inl steps ↦ absurd (never steps) | inr steps ↦ steps ]);
 }
 
@@ -40,8 +38,8 @@ ring_step step (r ∷ rest) place around within =
     subst (λ (n : ℕ). step (get_or (r ∷ rest) place 0) (get_or (r ∷ rest) n r)) e (each_at step r 0 (r ∷ rest) place around within)
 
 -- each turn has the tag by which it steps to the next one
-abbrev pub TagsNext : {O N : Type 0} → Listing O → Listing N → ClassState O N → Turn → Turn → Type 0
-TagsNext old new c r s = IsTagged old new c r s.router
+abbrev pub TagsNext : ClassState → Turn → Turn → Type 0
+TagsNext c r s = IsTagged c r s.router
 
 -- a router of a ring that is told by its number alone
 abbrev pub numbered : ℕ → Turn
@@ -52,52 +50,46 @@ abbrev pub here_in : List ℕ → ℕ → ℕ
 here_in routers place = get_or routers place (get_or routers 0 0)
 
 -- the first turns of a ring
-pub record IsPartRing {O N : Type 0} (old : Listing O) (new : Listing N) (c : ClassState O N) (routers : List ℕ) (turns : List Turn) (place : ℕ) : Type 0 where
+pub record IsPartRing (c : ClassState) (routers : List ℕ) (turns : List Turn) (place : ℕ) : Type 0 where
   pub routers_are : routers_of turns ≡ take place routers
-  pub tags : EachToNext (TagsNext old new c) (numbered (here_in routers place)) turns
+  pub tags : EachToNext (TagsNext c) (numbered (here_in routers place)) turns
 
 -- what is next to the last turn is told by its number
-next_by_number : {O N : Type 0} (old : Listing O) (new : Listing N) (c : ClassState O N) (f k : Turn) (xs : List Turn) → f.router ≡ k.router
-    → EachToNext (TagsNext old new c) f xs → EachToNext (TagsNext old new c) k xs
-next_by_number old new c f k [] same goes = tt
-next_by_number old new c f k (x ∷ []) same goes = subst (λ (n : ℕ). IsTagged old new c x n) same goes
-next_by_number old new c f k (x ∷ y ∷ rest) same goes = (goes.0, next_by_number old new c f k (y ∷ rest) same goes.1)
+next_by_number : (c : ClassState) (f k : Turn) (xs : List Turn) → f.router ≡ k.router → EachToNext (TagsNext c) f xs → EachToNext (TagsNext c) k xs
+next_by_number c f k [] same goes = tt
+next_by_number c f k (x ∷ []) same goes = subst (λ (n : ℕ). IsTagged c x n) same goes
+next_by_number c f k (x ∷ y ∷ rest) same goes = (goes.0, next_by_number c f k (y ∷ rest) same goes.1)
 
-pub IsPartRing-more : {O N : Type 0} (old : Listing O) (new : Listing N) (c : ClassState O N) (routers : List ℕ) (turns : List Turn) (place : ℕ)
-    (turn : Turn) → place < length routers
-    → turn.router ≡ get_or routers place 0 → IsTagged old new c turn (next_in routers place) → IsPartRing old new c routers turns place →
-    IsPartRing old new c routers (turns ++ turn ∷ []) (place + 1)
-IsPartRing-more old new c routers turns place turn within router tagged part = record {
-  routers_are =
-      map_push (λ (r : Turn). r.router) turns turn
+pub IsPartRing-more : (c : ClassState) (routers : List ℕ) (turns : List Turn) (place : ℕ) (turn : Turn) → place < length routers
+    → turn.router ≡ get_or routers place 0 → IsTagged c turn (next_in routers place) → IsPartRing c routers turns place →
+    IsPartRing c routers (turns ++ turn ∷ []) (place + 1)
+IsPartRing-more c routers turns place turn within router tagged part = record {
+  routers_are = map_push (λ (r : Turn). r.router) turns turn
       ∙ ap (λ (xs : List ℕ). xs ++ turn.router ∷ []) part.routers_are ∙ ap (λ (n : ℕ). take place routers ++ n ∷ []) router
       ∙ sym (take_more routers place 0 within);
-  tags = each_to_next_push (TagsNext old new c) (numbered (here_in routers (place + 1))) turn turns
-      (next_by_number old new c (numbered (here_in routers place)) turn turns (get_or_default routers place (get_or routers 0 0) 0 within
+  tags = each_to_next_push (TagsNext c) (numbered (here_in routers (place + 1))) turn turns
+      (next_by_number c (numbered (here_in routers place)) turn turns (get_or_default routers place (get_or routers 0 0) 0 within
       ∙ sym router) part.tags) tagged;
 }
 
 -- how many turns are written
-pub part_length : {O N : Type 0} (old : Listing O) (new : Listing N) (c : ClassState O N) (routers : List ℕ) (turns : List Turn) (place : ℕ) →
-    place < length routers → IsPartRing old new c routers turns place
+pub part_length : (c : ClassState) (routers : List ℕ) (turns : List Turn) (place : ℕ) → place < length routers → IsPartRing c routers turns place
     → length turns ≡ place
-part_length old new c routers turns place within part =
+part_length c routers turns place within part =
     let e : length (routers_of turns) ≡ length turns = length-map turns (λ (r : Turn). r.router) in
     let k : length (take place routers) ≡ place = length-take-le place routers (omega arith) in
     sym e ∙ ap length part.routers_are ∙ k
 
 -- all turns of a ring
-pub ring_whole : {O N : Type 0} (old : Listing O) (new : Listing N) (c : ClassState O N) (routers : List ℕ) (turns : List Turn) (place : ℕ) →
-    length routers ≤ place → IsPartRing old new c routers turns place
-    → (routers_of turns ≡ routers) × AroundRing (TagsNext old new c) turns
-ring_whole old new c routers turns place whole part = (same, around turns same part.tags)
+pub ring_whole : (c : ClassState) (routers : List ℕ) (turns : List Turn) (place : ℕ) → length routers ≤ place → IsPartRing c routers turns place
+    → (routers_of turns ≡ routers) × AroundRing (TagsNext c) turns
+ring_whole c routers turns place whole part = (same, around turns same part.tags)
   where
     same : routers_of turns ≡ routers
     same = part.routers_are ∙ take_all place routers whole
 
-    around : (ring : List Turn) → routers_of ring ≡ routers → EachToNext (TagsNext old new c) (numbered (here_in routers place)) ring →
-        AroundRing (TagsNext old new c) ring
+    around : (ring : List Turn) → routers_of ring ≡ routers → EachToNext (TagsNext c) (numbered (here_in routers place)) ring → AroundRing (TagsNext c) ring
     around [] is tags = tt
     around (r ∷ rest) is tags =
         let first : get_or (routers_of (r ∷ rest)) 0 0 ≡ get_or routers 0 0 = ap (λ (xs : List ℕ). get_or xs 0 0) is in
-        next_by_number old new c (numbered (here_in routers place)) r (r ∷ rest) (get_or_past routers place (get_or routers 0 0) whole ∙ sym first) tags
+        next_by_number c (numbered (here_in routers place)) r (r ∷ rest) (get_or_past routers place (get_or routers 0 0) whole ∙ sym first) tags

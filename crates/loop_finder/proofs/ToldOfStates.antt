@@ -5,9 +5,8 @@ use Rattle.igp_theory.specs.States.{StepsIn}
 use Rattle.igp_theory.specs.declared.phase.Phase.{Phase}
 use Rattle.igp_theory.proofs.SameTables.{SameHops, found_ring_over}
 use Rattle.order_core.specs.declared.turn.Turn.{Turn}
-use Rattle.rib_mix.specs.Mixture.{Mixture, migration_of}
 use Rattle.loop_finder.specs.Faults.{state_in}
-use Rattle.loop_finder.specs.ClassSteps.{Listing, ClassState, sample_of, ClassStep, IsStuckIn}
+use Rattle.loop_finder.specs.ClassSteps.{ClassState, sample_of, ClassStep, IsStuckIn, Mix, migration_in}
 use Rattle.loop_finder.specs.Verdicts.{Verdict, IsClassVerdict, Told, ClassesOf, SoundAt, SoundBelow, Sound, Faulty}
 use Rattle.loop_finder.specs.declared.fault.Fault.{Fault}
 use Rattle.loop_finder.specs.declared.fault.Fault.TheVariants.{Loop, Missing}
@@ -16,53 +15,47 @@ use Rattle.loop_finder.proofs.ClassVerdicts.{sample_in}
 use Rattle.loop_finder.proofs.StateVerdicts.{below_from, sound_from_classes}
 
 -- a state, twice, and a class
-abbrev pub twice : {O N : Type 0} → Mixture O N → List Phase → List Bool → ℕ → ClassState O N
+abbrev pub twice : Mix → List Phase → List Bool → ℕ → ClassState
 twice m phases forwards atom = record { mixture = m; first = phases; last = phases; forwards = forwards; atom = atom }
 
 -- the steps of a state, twice, are its steps
-same_steps : {O N : Type 0} (old : Listing O) (new : Listing N) (m : Mixture O N) (phases : List Phase) (forwards : List Bool) (atom : ℕ)
-    → SameHops (ClassStep old new (twice m phases forwards atom)) (StepsIn (migration_of old new m)
-    (state_in phases) (sample_of m atom))
-same_steps old new m phases forwards atom u h = (λ steps. elim steps [ inl one ↦ one | inr other ↦ other ], λ steps. inl steps)
+same_steps : (m : Mix) (phases : List Phase) (forwards : List Bool) (atom : ℕ)
+    → SameHops (ClassStep (twice m phases forwards atom)) (StepsIn (migration_in m) (state_in phases) (sample_of m.classes atom))
+same_steps m phases forwards atom u h = (λ steps. elim steps [ inl one ↦ one | inr other ↦ other ], λ steps. inl steps)
 
-fault_from : {O N : Type 0} (old : Listing O) (new : Listing N) (m : Mixture O N) (phases : List Phase) (forwards : List Bool) (atom : ℕ) (turns : List Turn)
-    (fault : Fault) → sample_of m atom < 2 ^ 32
-    → SoundBelow old new m (state_in phases) (sample_of m atom) → Verdict old new (twice m phases forwards atom) (Some fault) turns →
-    Faulty old new m (state_in phases) fault turns
-fault_from {O} {N} old new m phases forwards atom turns (Loop a) address below verdict =
-    let c : ClassState O N = twice m phases forwards atom in
-    subst (λ (x : ℕ). Faulty old new m (state_in phases) (Loop x) turns) (sym verdict.address)
-    (loop_arises address below (λ v must. has_step old new c v (state_in phases v) (verdict.moves v).0 must)
-    (found_ring_over (same_steps old new m phases forwards atom) verdict.found) verdict.tags)
-fault_from {O} {N} old new m phases forwards atom turns (Missing a u) address below verdict =
-    let c : ClassState O N = twice m phases forwards atom in
-    let stuck : IsStuckIn old new c u (state_in phases u) = elim verdict.1.0 [ inl one ↦ one | inr other ↦ other ] in
-    subst (λ (x : ℕ). Faulty old new m (state_in phases) (Missing x u) turns) (sym verdict.0)
-    (missing_step address below stuck.must (λ has. stuck.lacks has.hop has.steps) (λ v before must. has_step old new c v (state_in phases v)
+fault_from : (m : Mix) (phases : List Phase) (forwards : List Bool) (atom : ℕ) (turns : List Turn) (fault : Fault) → sample_of m.classes atom < 2 ^ 32
+    → SoundBelow m (state_in phases) (sample_of m.classes atom) → Verdict (twice m phases forwards atom) (Some fault) turns →
+    Faulty m (state_in phases) fault turns
+fault_from m phases forwards atom turns (Loop a) address below verdict =
+    let c : ClassState = twice m phases forwards atom in
+    subst (λ (x : ℕ). Faulty m (state_in phases) (Loop x) turns) (sym verdict.address)
+    (loop_arises address below (λ v must. has_step c v (state_in phases v) (verdict.moves v).0 must)
+    (found_ring_over (same_steps m phases forwards atom) verdict.found) verdict.tags)
+fault_from m phases forwards atom turns (Missing a u) address below verdict =
+    let c : ClassState = twice m phases forwards atom in
+    let stuck : IsStuckIn c u (state_in phases u) = elim verdict.1.0 [ inl one ↦ one | inr other ↦ other ] in
+    subst (λ (x : ℕ). Faulty m (state_in phases) (Missing x u) turns) (sym verdict.0)
+    (missing_step address below stuck.must (λ has. stuck.lacks has.hop has.steps) (λ v before must. has_step c v (state_in phases v)
     (verdict.1.1 v before).0 must))
 
 -- the fault that is told of a class is that of a state which is sound for the classes before it
-pub faulty_at : {O N : Type 0} (old : Listing O) (new : Listing N) (m : Mixture O N) (phases : List Phase) (atom : ℕ) (turns : List Turn) (fault : Fault) →
-    ClassesOf old new m → atom < length m.classes.samples
-    → ((k : ℕ) → k < atom → SoundAt old new m (state_in phases) (sample_of m k)) → IsClassVerdict old new m phases phases atom (Some fault) turns →
-    Faulty old new m (state_in phases) fault turns
-faulty_at old new m phases atom turns fault are within before told =
-    fault_from old new m phases told.forwards atom turns fault (sample_in m.classes atom are within).address
-    (below_from old new m (state_in phases) atom are within before) told.verdict
+pub faulty_at : (m : Mix) (phases : List Phase) (atom : ℕ) (turns : List Turn) (fault : Fault) → ClassesOf m → atom < length m.classes.samples
+    → ((k : ℕ) → k < atom → SoundAt m (state_in phases) (sample_of m.classes k)) → IsClassVerdict m phases phases atom (Some fault) turns →
+    Faulty m (state_in phases) fault turns
+faulty_at m phases atom turns fault are within before told =
+    fault_from m phases told.forwards atom turns fault (sample_in m.classes atom are within).address
+    (below_from m (state_in phases) atom are within before) told.verdict
 
 -- no fault tells that the state is sound, a fault tells it
-pub sound_of_told : {O N : Type 0} (old : Listing O) (new : Listing N) (m : Mixture O N) (phases : List Phase) (result : Option Fault) (turns : List Turn) →
-    ClassesOf old new m → Told old new m phases phases result turns
-    → IfNone result (Sound old new m (state_in phases))
-sound_of_told old new m phases None turns are told =
-    sound_from_classes old new m (state_in phases) (length m.classes.samples) are (omega arith) (λ j below.
+pub sound_of_told : (m : Mix) (phases : List Phase) (result : Option Fault) (turns : List Turn) → ClassesOf m → Told m phases phases result turns
+    → IfNone result (Sound m (state_in phases))
+sound_of_told m phases None turns are told = sound_from_classes m (state_in phases) (length m.classes.samples) are (omega arith) (λ j below.
     told j below (state_in phases) (between_itself (length m.net) phases))
-sound_of_told old new m phases (Some fault) turns are told = tt
+sound_of_told m phases (Some fault) turns are told = tt
 
-pub fault_of_told : {O N : Type 0} (old : Listing O) (new : Listing N) (m : Mixture O N) (phases : List Phase) (result : Option Fault) (turns : List Turn) →
-    ClassesOf old new m → Told old new m phases phases result turns
-    → IfSome result (λ fault. Faulty old new m (state_in phases) fault turns)
-fault_of_told old new m phases None turns are told = tt
-fault_of_told old new m phases (Some fault) turns are told =
-    faulty_at old new m phases told.atom turns fault are told.within (λ j below. told.before j below (state_in phases) (between_itself (length m.net) phases))
+pub fault_of_told : (m : Mix) (phases : List Phase) (result : Option Fault) (turns : List Turn) → ClassesOf m → Told m phases phases result turns
+    → IfSome result (λ fault. Faulty m (state_in phases) fault turns)
+fault_of_told m phases None turns are told = tt
+fault_of_told m phases (Some fault) turns are told =
+    faulty_at m phases told.atom turns fault are told.within (λ j below. told.before j below (state_in phases) (between_itself (length m.net) phases))
     told.here

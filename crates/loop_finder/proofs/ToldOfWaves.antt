@@ -11,9 +11,8 @@ use Rattle.igp_theory.specs.declared.phase.Phase.{Phase}
 use Rattle.igp_theory.proofs.FoundRings.{found_ring_returns}
 use Rattle.igp_theory.proofs.LoopWaves.{return_is_unsound}
 use Rattle.igp_theory.proofs.SameTables.{SameHops, found_ring_over}
-use Rattle.rib_mix.specs.Mixture.{Mixture, migration_of}
-use Rattle.loop_finder.specs.Faults.{state_in}
-use Rattle.loop_finder.specs.ClassSteps.{Listing, ClassState, sample_of, ClassStep, IsStuck, Moves}
+use Rattle.loop_finder.specs.Faults.{state_in, told_fault}
+use Rattle.loop_finder.specs.ClassSteps.{ClassState, sample_of, ClassStep, IsStuck, Moves, Mix, migration_in}
 use Rattle.loop_finder.specs.Verdicts.{Verdict, Told, ClassesOf, SoundAt, SoundWave, FaultyWave, IsBetween}
 use Rattle.loop_finder.specs.WaveLists.{AreSwitchedBefore}
 use Rattle.loop_finder.specs.declared.fault.Fault.{Fault}
@@ -54,38 +53,32 @@ wave_between {ranks = ranks} {w = w} state ends of_wave u within = elim (cases_o
 ]
 
 -- the steps of all states of the wave are those of both
-wave_steps : {O N : Type 0} (old : Listing O) (new : Listing N) (c : ClassState O N) (ranks : List ℕ) (w : ℕ) →
-    AreEnds (length c.mixture.net) ranks w c.first c.last
-    → SameHops (ClassStep old new c) (StepsInSome (migration_of old new c.mixture)
-    (IsStateOfWave (length c.mixture.net) ranks w) (sample_of c.mixture c.atom))
-wave_steps old new c ranks w ends u h = (
+wave_steps : (c : ClassState) (ranks : List ℕ) (w : ℕ) → AreEnds (length c.mixture.net) ranks w c.first c.last
+    → SameHops (ClassStep c) (StepsInSome (migration_in c.mixture) (IsStateOfWave (length c.mixture.net) ranks w) (sample_of c.mixture.classes c.atom))
+wave_steps c ranks w ends u h = (
   λ steps. elim steps [
     | inl one ↦ record { state = state_in c.first; among = first_of_wave ends; steps = one }
     | inr other ↦ record { state = state_in c.last; among = last_of_wave ends; steps = other }
   ],
-  λ some. step_between old new c some.state u h (wave_between some.state ends some.among) some.steps,
+  λ some. step_between c some.state u h (wave_between some.state ends some.among) some.steps,
 )
 
 -- a router that moves in both moves in all states of the wave
-steps_in_all : {O N : Type 0} (old : Listing O) (new : Listing N) (c : ClassState O N) (ranks : List ℕ) (w : ℕ) (u : ℕ) →
-    AreEnds (length c.mixture.net) ranks w c.first c.last → Moves old new c u
-    → MustForward c.mixture.net (sample_of c.mixture c.atom) u
-    → HasStepsInAll (migration_of old new c.mixture) (IsStateOfWave (length c.mixture.net) ranks w)
-    (sample_of c.mixture c.atom) u
-steps_in_all old new c ranks w u ends moves must state of_wave = moves_between old new c state u (wave_between state ends of_wave) moves must
+steps_in_all : (c : ClassState) (ranks : List ℕ) (w : ℕ) (u : ℕ) → AreEnds (length c.mixture.net) ranks w c.first c.last → Moves c u
+    → MustForward c.mixture.net (sample_of c.mixture.classes c.atom) u
+    → HasStepsInAll (migration_in c.mixture) (IsStateOfWave (length c.mixture.net) ranks w) (sample_of c.mixture.classes c.atom) u
+steps_in_all c ranks w u ends moves must state of_wave = moves_between c state u (wave_between state ends of_wave) moves must
 
 -- a router that is stuck in one of both lacks a step in a state of the wave
-lacks_from : {O N : Type 0} (old : Listing O) (new : Listing N) (c : ClassState O N) (ranks : List ℕ) (w : ℕ) (u : ℕ) →
-    AreEnds (length c.mixture.net) ranks w c.first c.last → IsStuck old new c u
-    → LacksStep (migration_of old new c.mixture) (IsStateOfWave (length c.mixture.net) ranks w)
-    (sample_of c.mixture c.atom) u
-lacks_from old new c ranks w u ends (inl one) = record {
+lacks_from : (c : ClassState) (ranks : List ℕ) (w : ℕ) (u : ℕ) → AreEnds (length c.mixture.net) ranks w c.first c.last → IsStuck c u
+    → LacksStep (migration_in c.mixture) (IsStateOfWave (length c.mixture.net) ranks w) (sample_of c.mixture.classes c.atom) u
+lacks_from c ranks w u ends (inl one) = record {
   must = one.must;
   state = state_in c.first;
   among = first_of_wave ends;
   lacks = λ has. one.lacks has.hop has.steps;
 }
-lacks_from old new c ranks w u ends (inr other) = record {
+lacks_from c ranks w u ends (inr other) = record {
   must = other.must;
   state = state_in c.last;
   among = last_of_wave ends;
@@ -93,54 +86,49 @@ lacks_from old new c ranks w u ends (inr other) = record {
 }
 
 -- at a class for which all lower addresses are sound the fault of the wave is told
-abbrev LeastIn : {O N : Type 0} → Listing O → Listing N → ClassState O N → List ℕ → ℕ → Type 0
-LeastIn old new c ranks w = IsLeastUnsound (migration_of old new c.mixture)
-    (IsStateOfWave (length c.mixture.net) ranks w) (sample_of c.mixture c.atom)
+abbrev LeastIn : ClassState → List ℕ → ℕ → Type 0
+LeastIn c ranks w = IsLeastUnsound (migration_in c.mixture) (IsStateOfWave (length c.mixture.net) ranks w) (sample_of c.mixture.classes c.atom)
 
-abbrev SoundLower : {O N : Type 0} → Listing O → Listing N → ClassState O N → List ℕ → ℕ → Type 0
-SoundLower old new c ranks w =
-    (b : ℕ) → b < sample_of c.mixture c.atom → (state : State) → IsStateOfWave (length c.mixture.net) ranks w state → SoundAt old new c.mixture state b
+abbrev SoundLower : ClassState → List ℕ → ℕ → Type 0
+SoundLower c ranks w =
+    (b : ℕ) → b < sample_of c.mixture.classes c.atom → (state : State) → IsStateOfWave (length c.mixture.net) ranks w state → SoundAt c.mixture state b
 
-fault_from : {O N : Type 0} (old : Listing O) (new : Listing N) (c : ClassState O N) (ranks : List ℕ) (w : ℕ) (turns : List Turn) (fault : Fault) →
-    AreEnds (length c.mixture.net) ranks w c.first c.last
-    → sample_of c.mixture c.atom < 2 ^ 32 → SoundLower old new c ranks w → Verdict old new c (Some fault) turns →
-    FaultyWave old new c.mixture ranks w fault turns
-fault_from old new c ranks w turns (Loop a) ends address below verdict =
-    let found = found_ring_over (wave_steps old new c ranks w ends) verdict.found in
+fault_from : (c : ClassState) (ranks : List ℕ) (w : ℕ) (turns : List Turn) (fault : Fault) → AreEnds (length c.mixture.net) ranks w c.first c.last
+    → sample_of c.mixture.classes c.atom < 2 ^ 32 → SoundLower c ranks w → Verdict c (Some fault) turns → FaultyWave c.mixture ranks w (told_fault fault turns)
+fault_from c ranks w turns (Loop a) ends address below verdict =
+    let found = found_ring_over (wave_steps c ranks w ends) verdict.found in
     let returns = found_ring_returns found in
-    let least : LeastIn old new c ranks w = record {
+    let least : LeastIn c ranks w = record {
       address = address;
-      unsound = return_is_unsound (migration_of old new c.mixture) ranks w (sample_of c.mixture c.atom) found.again
+      unsound = return_is_unsound (migration_in c.mixture) ranks w (sample_of c.mixture.classes c.atom) found.again
           returns.hop returns.hops returns.follows;
       below = below;
     } in
-    subst (λ (x : ℕ). FaultyWave old new c.mixture ranks w (Loop x) turns) (sym verdict.address)
-    (loop_over_all least (λ v must. steps_in_all old new c ranks w v ends (verdict.moves v) must) found verdict.tags)
-fault_from old new c ranks w turns (Missing a u) ends address below verdict =
-    let lack = lacks_from old new c ranks w u ends verdict.1.0 in
-    let least : LeastIn old new c ranks w = record {
+    subst (λ (x : ℕ). FaultyWave c.mixture ranks w (told_fault (Loop x) turns)) (sym verdict.address)
+    (loop_over_all least (λ v must. steps_in_all c ranks w v ends (verdict.moves v) must) found verdict.tags)
+fault_from c ranks w turns (Missing a u) ends address below verdict =
+    let lack = lacks_from c ranks w u ends verdict.1.0 in
+    let least : LeastIn c ranks w = record {
       address = address;
       unsound = record { state = lack.state; among = lack.among; unsound = λ sound. lack.lacks (sound.forwards u lack.must) };
       below = below;
     } in
-    subst (λ (x : ℕ). FaultyWave old new c.mixture ranks w (Missing x u) turns) (sym verdict.0)
-    (missing_in_one least lack (λ v before must. steps_in_all old new c ranks w v ends (verdict.1.1 v before) must))
+    subst (λ (x : ℕ). FaultyWave c.mixture ranks w (told_fault (Missing x u) turns)) (sym verdict.0)
+    (missing_in_one least lack (λ v before must. steps_in_all c ranks w v ends (verdict.1.1 v before) must))
 
 -- no fault tells that every state of the wave is sound, a fault tells it
-pub sound_of_told : {O N : Type 0} (old : Listing O) (new : Listing N) (m : Mixture O N) (ranks : List ℕ) (w : ℕ) (first last : List Phase)
-    (result : Option Fault) (turns : List Turn)
-    → AreEnds (length m.net) ranks w first last → ClassesOf old new m → Told old new m first last result turns → IfNone result (SoundWave old new m ranks w)
-sound_of_told old new m ranks w first last None turns ends are told = λ state of_wave.
-    sound_from_classes old new m state (length m.classes.samples) are (omega arith) (λ j below. told j below state (wave_between state ends of_wave))
-sound_of_told old new m ranks w first last (Some fault) turns ends are told = tt
+pub sound_of_told : (m : Mix) (ranks : List ℕ) (w : ℕ) (first last : List Phase) (result : Option Fault) (turns : List Turn)
+    → AreEnds (length m.net) ranks w first last → ClassesOf m → Told m first last result turns → IfNone result (SoundWave m ranks w)
+sound_of_told m ranks w first last None turns ends are told = λ state of_wave.
+    sound_from_classes m state (length m.classes.samples) are (omega arith) (λ j below. told j below state (wave_between state ends of_wave))
+sound_of_told m ranks w first last (Some fault) turns ends are told = tt
 
-pub fault_of_told : {O N : Type 0} (old : Listing O) (new : Listing N) (m : Mixture O N) (ranks : List ℕ) (w : ℕ) (first last : List Phase)
-    (result : Option Fault) (turns : List Turn)
-    → AreEnds (length m.net) ranks w first last → ClassesOf old new m → Told old new m first last result turns →
-    IfSome result (λ fault. FaultyWave old new m ranks w fault turns)
-fault_of_told old new m ranks w first last None turns ends are told = tt
-fault_of_told old new m ranks w first last (Some fault) turns ends are told =
-    fault_from old new (record { mixture = m; first = first; last = last; forwards = told.here.forwards; atom = told.atom }) ranks w turns fault ends
+pub fault_of_told : (m : Mix) (ranks : List ℕ) (w : ℕ) (first last : List Phase) (result : Option Fault) (turns : List Turn)
+    → AreEnds (length m.net) ranks w first last → ClassesOf m → Told m first last result turns
+    → IfSome result (λ fault. FaultyWave m ranks w (told_fault fault turns))
+fault_of_told m ranks w first last None turns ends are told = tt
+fault_of_told m ranks w first last (Some fault) turns ends are told =
+    fault_from (record { mixture = m; first = first; last = last; forwards = told.here.forwards; atom = told.atom }) ranks w turns fault ends
     (sample_in m.classes told.atom are told.within).address
-    (λ b less state of_wave. below_from old new m state told.atom are told.within (λ j below. told.before j below state (wave_between state ends of_wave)) b
+    (λ b less state of_wave. below_from m state told.atom are told.within (λ j below. told.before j below state (wave_between state ends of_wave)) b
     less) told.here.verdict

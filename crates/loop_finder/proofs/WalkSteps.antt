@@ -36,8 +36,7 @@ on_way_short marks path next distinct marked is fresh =
     omega (arith, length-le_from_distinct (path ++ next ∷ []) (length marks) apart below, length_push path next)
 
 pub IsOnWay-more : (step : ℕ → ℕ → Type 0) (marks : List Bool) (start : ℕ) (path : List ℕ) (last next : ℕ) → IsOnWay step marks start path last →
-    IsMarkedHop step marks last next
-    → ((k : ℕ) → k < length path → get_or path k 0 ≢ next) → IsOnWay step marks start (path ++ next ∷ []) next
+    IsMarkedHop step marks last next → ((k : ℕ) → k < length path → get_or path k 0 ≢ next) → IsOnWay step marks start (path ++ next ∷ []) next
 IsOnWay-more step marks start path last next way hop fresh = record {
   visited = way.visited ++ next ∷ [];
   begins = ap (λ (xs : List ℕ). xs ++ next ∷ []) way.begins;
@@ -51,8 +50,7 @@ IsOnWay-more step marks start path last next way hop fresh = record {
 }
 
 pub walk_from_way : (step : ℕ → ℕ → Type 0) (marks : List Bool) (start : ℕ) (path : List ℕ) (last next place : ℕ) → IsOnWay step marks start path last →
-    IsMarkedHop step marks last next
-    → place < length path → get_or path place 0 ≡ next → IsWalk step marks start path place
+    IsMarkedHop step marks last next → place < length path → get_or path place 0 ≡ next → IsWalk step marks start path place
 walk_from_way step marks start path last next place way hop within same = record {
   visited = way.visited;
   begins = way.begins;
@@ -116,8 +114,7 @@ found_from_walk step marks n start place path ring many peeled some lowest walk 
 
 -- what is left when the routers before a place are cut off, turned
 pub turned_to : (path moved kept seen ring : List ℕ) (place low : ℕ) → moved ≡ drop place path ++ take place path → kept ≡ take (length path - place) moved →
-    seen ≡ kept
-    → ring ≡ drop low kept ++ take low kept → low < length seen → All (λ u. get_or seen low 0 ≤ u) seen → IsTurned (drop place path) ring
+    seen ≡ kept → ring ≡ drop low kept ++ take low kept → low < length seen → All (λ u. get_or seen low 0 ≤ u) seen → IsTurned (drop place path) ring
 turned_to path moved kept seen ring place low moved_is kept_is seen_is ring_is within least =
     let same : seen ≡ drop place path =
     seen_is ∙ kept_is ∙ ap (λ (xs : List ℕ). take (length path - place) xs) moved_is ∙ take_at (drop place path) (take place path) (length path - place)

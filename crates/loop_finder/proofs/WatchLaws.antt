@@ -7,17 +7,16 @@ use Rattle.std.proofs.lemmas.List.Quantifiers.{all_pairs_push}
 use Rattle.igp_theory.specs.States.{State}
 use Rattle.igp_theory.specs.declared.phase.Phase.{Phase}
 use Rattle.order_core.specs.declared.turn.Turn.{Turn}
-use Rattle.rib_mix.specs.Mixture.{Mixture}
 use Rattle.loop_finder.specs.Faults.{state_in}
-use Rattle.loop_finder.specs.Parts.{PhaseHops, ClassPart, AreAllBut, hops_of, no_hops, PartStep, IsPart, AreParts, DifferAt}
+use Rattle.loop_finder.specs.Parts.{PhaseHops, ClassPart, AreAllBut, hops_of, no_hops, PartStep, IsPart, AreParts, part_hops}
 use Rattle.loop_finder.specs.Returns.{NeverReturnsTo}
-use Rattle.loop_finder.specs.ClassSteps.{Listing, sample_of}
+use Rattle.loop_finder.specs.ClassSteps.{sample_of, Mix}
 use Rattle.loop_finder.specs.Verdicts.{SoundAt, Sound, IsClassVerdict, Faulty}
-use Rattle.loop_finder.specs.Watches.{IsIdle, AreFirstPlaces, ArePlacesOf, AddsPlace, IsWatch, StaysSoundAt, StaysSound, TurnsFaulty}
+use Rattle.loop_finder.specs.Watches.{PhaseChange, LeadsFrom, IsIdle, AreFirstPlaces, ArePlacesOf, AddsPlace, IsWatch, StaysSoundAt, StaysSound, TurnsFaulty}
 use Rattle.loop_finder.specs.declared.fault.Fault.{Fault}
 use Rattle.loop_finder.proofs.Between.{between_itself, clear_told}
 use Rattle.loop_finder.proofs.ClassVerdicts.{sample_in}
-use Rattle.loop_finder.proofs.PartLaws.{part_stays_sound}
+use Rattle.loop_finder.proofs.PartLaws.{part_keeps_sound, part_stays_sound}
 use Rattle.loop_finder.proofs.PartLists.{sound_before, sound_whole, stands_before}
 use Rattle.loop_finder.proofs.PartRows.{AreAllBut-more, each_more}
 use Rattle.loop_finder.proofs.StateVerdicts.{sound_from_classes}
@@ -82,82 +81,80 @@ idle_never part first last u idle h hops follows = elim follows.0 [
 ]
 
 -- where no walk over a part's steps returns to the router that changed, a sound state stays sound for its class
-pub stays_where_never : {O N : Type 0} (old : Listing O) (new : Listing N) (m : Mixture O N) (part : ClassPart) (phases : List Phase) (u : ℕ) →
-    IsPart old new m part
-    → part.moves ≡ true → NeverReturnsTo (PartStep part phases phases) u → StaysSoundAt old new m phases u part.atom
-stays_where_never old new m part phases u is moves never before differ sound =
-    part_stays_sound old new m part phases phases u before (state_in phases) is moves never differ (between_itself (length m.net) phases) sound
+pub stays_where_never : (m : Mix) (part : ClassPart) (change : PhaseChange)
+    → IsPart m part → part.moves ≡ true → NeverReturnsTo (PartStep part change.phases change.phases) change.router → StaysSoundAt m change part.atom
+stays_where_never m part change is moves never before leads sound =
+    part_stays_sound m part change.phases change.phases change.router before (state_in change.phases) is moves never leads.others
+    (between_itself (length m.net) change.phases) sound
 
--- so it does where no fault of the class is told
-pub stays_where_told : {O N : Type 0} (old : Listing O) (new : Listing N) (m : Mixture O N) (phases : List Phase) (u atom a : ℕ) (result : Option Fault)
-    (turns : List Turn) → a ≡ atom
-    → IsClassVerdict old new m phases phases a result turns → IfNone result (StaysSoundAt old new m phases u atom)
-stays_where_told old new m phases u atom a None turns is told = λ before differ sound.
-    subst (λ (x : ℕ). SoundAt old new m (state_in phases) (sample_of m x)) is
-    (clear_told old new m phases phases a turns told (state_in phases) (between_itself (length m.net) phases))
-stays_where_told old new m phases u atom a (Some fault) turns is told = tt
+-- so it does where the router keeps its hops
+pub stays_where_kept : (m : Mix) (part : ClassPart) (change : PhaseChange) → IsPart m part
+    → part.moves ≡ true → part_hops part change.router change.was ≡ part_hops part change.router (state_in change.phases change.router)
+    → StaysSoundAt m change part.atom
+stays_where_kept m part change is moves kept before leads sound = part_keeps_sound m part change.router before (state_in change.phases) is moves
+    (ap (part_hops part change.router) leads.here ∙ kept) leads.others sound
+
+-- and where no fault of the class is told
+pub stays_where_told : (m : Mix) (change : PhaseChange) (atom a : ℕ) (result : Option Fault) (turns : List Turn) → a ≡ atom
+    → IsClassVerdict m change.phases change.phases a result turns → IfNone result (StaysSoundAt m change atom)
+stays_where_told m change atom a None turns is told = λ before leads sound. subst (λ (x : ℕ). SoundAt m (state_in change.phases) (sample_of m.classes x)) is
+    (clear_told m change.phases change.phases a turns told (state_in change.phases) (between_itself (length m.net) change.phases))
+stays_where_told m change atom a (Some fault) turns is told = tt
 
 -- what is known once the parts at the first i places are looked at
-abbrev pub StayFirst : {O N : Type 0} → Listing O → Listing N → Mixture O N → List ClassPart → List ℕ → List Phase → ℕ → ℕ → Type 0
-StayFirst old new m parts places phases u i =
-    (j : ℕ) (d : ClassPart) → j < i → StaysSoundAt old new m phases u (get_or parts (get_or places j 0) d).atom
+abbrev pub StayFirst : Mix → List ClassPart → List ℕ → PhaseChange → ℕ → Type 0
+StayFirst m parts places change i = (j : ℕ) (d : ClassPart) → j < i → StaysSoundAt m change (get_or parts (get_or places j 0) d).atom
 
 -- a part that is looked at by then, or not at all
-sound_there : {O N : Type 0} (old : Listing O) (new : Listing N) (m : Mixture O N) (parts : List ClassPart) (places : List ℕ) (phases : List Phase) (u i q : ℕ)
-    (d : ClassPart) (before : State)
-    → AreParts old new m parts (length m.classes.samples) → ArePlacesOf parts u places → StayFirst old new m parts places phases u i
-    → q < length parts → ((among : Contains places q) → among.0 < i) → DifferAt (length m.net) u before (state_in phases) → Sound old new m before
-    → SoundAt old new m (state_in phases) (sample_of m (get_or parts q d).atom)
-sound_there old new m parts places phases u i q d before are placed stays within early differ sound =
-    let is : IsPart old new m (get_or parts q d) = are.each q d within in
-    let was : SoundAt old new m before (sample_of m (get_or parts q d).atom) =
-    sound (sample_of m (get_or parts q d).atom) (sample_in m.classes (get_or parts q d).atom are.classes is.class).address in
+sound_there : (m : Mix) (parts : List ClassPart) (places : List ℕ) (change : PhaseChange) (i q : ℕ) (d : ClassPart) (before : State)
+    → AreParts m parts (length m.classes.samples) → ArePlacesOf parts change.router places → StayFirst m parts places change i
+    → q < length parts → ((among : Contains places q) → among.0 < i) → LeadsFrom (length m.net) change before → Sound m before
+    → SoundAt m (state_in change.phases) (sample_of m.classes (get_or parts q d).atom)
+sound_there m parts places change i q d before are placed stays within early leads sound =
+    let is : IsPart m (get_or parts q d) = are.each q d within in
+    let was : SoundAt m before (sample_of m.classes (get_or parts q d).atom) =
+    sound (sample_of m.classes (get_or parts q d).atom) (sample_in m.classes (get_or parts q d).atom are.classes is.class).address in
     elim (placed.whole q d within) [
       | inl among ↦
           let place : get_or places among.0 0 ≡ q = get_or_default places among.0 0 q among.1 ∙ among.2 in
-          let here : StaysSoundAt old new m phases u (get_or parts q d).atom =
-          subst (λ (x : ℕ). StaysSoundAt old new m phases u (get_or parts x d).atom) place (stays among.0 d (early among)) in
-          here before differ was
-      | inr idle ↦ stays_where_never old new m (get_or parts q d) phases u is idle.moves (idle_never (get_or parts q d) phases phases u idle) before differ was
+          let here : StaysSoundAt m change (get_or parts q d).atom =
+          subst (λ (x : ℕ). StaysSoundAt m change (get_or parts x d).atom) place (stays among.0 d (early among)) in
+          here before leads was
+      | inr idle ↦ stays_where_never m (get_or parts q d) change is idle.moves
+          (idle_never (get_or parts q d) change.phases change.phases change.router idle) before leads was
     ]
 
 -- where all are looked at
-pub stays_sound_at_all : {O N : Type 0} (old : Listing O) (new : Listing N) (m : Mixture O N) (parts : List ClassPart) (places : List ℕ)
-    (phases : List Phase) (u i : ℕ)
-    → AreParts old new m parts (length m.classes.samples) → ArePlacesOf parts u places → length places ≤ i → StayFirst old new m parts places phases u i →
-    StaysSound old new m phases u
-stays_sound_at_all old new m parts places phases u i are placed whole stays before differ sound =
+pub stays_sound_at_all : (m : Mix) (parts : List ClassPart) (places : List ℕ) (change : PhaseChange) (i : ℕ)
+    → AreParts m parts (length m.classes.samples) → ArePlacesOf parts change.router places → length places ≤ i → StayFirst m parts places change i →
+    StaysSound m change
+stays_sound_at_all m parts places change i are placed whole stays before leads sound =
     let none : ClassPart = record { atom = 0; moves = true; rows = [] } in
-    sound_from_classes old new m (state_in phases) (length m.classes.samples) are.classes (omega arith)
-    (λ k below. sound_whole old new m parts (length m.classes.samples) none (state_in phases) are
-    (λ q within. sound_there old new m parts places phases u i q none before are placed stays within (λ among. let there : among.0 < length places = among.1 in
-    omega (arith, there, whole)) differ sound) k below)
+    sound_from_classes m (state_in change.phases) (length m.classes.samples) are.classes (omega arith)
+    (λ k below. sound_whole m parts (length m.classes.samples) none (state_in change.phases) are
+    (λ q within. sound_there m parts places change i q none before are placed stays within (λ among. let there : among.0 < length places = among.1 in
+    omega (arith, there, whole)) leads sound) k below)
 
 -- where a fault is told of the part at the next place
-pub turns_faulty_at : {O N : Type 0} (old : Listing O) (new : Listing N) (m : Mixture O N) (parts : List ClassPart) (places : List ℕ) (phases : List Phase)
-    (u i : ℕ) (part : ClassPart) (fault : Fault) (turns : List Turn)
-    → AreParts old new m parts (length m.classes.samples) → ArePlacesOf parts u places → i < length places → part ≡ get_or parts (get_or places i 0) part
-    → StayFirst old new m parts places phases u i → IsClassVerdict old new m phases phases part.atom (Some fault) turns
-    → TurnsFaulty old new m phases u fault turns
-turns_faulty_at old new m parts places phases u i part fault turns are placed within at stays told before differ sound =
+pub turns_faulty_at : (m : Mix) (parts : List ClassPart) (places : List ℕ) (change : PhaseChange) (i : ℕ) (part : ClassPart) (fault : Fault) (turns : List Turn)
+    → AreParts m parts (length m.classes.samples) → ArePlacesOf parts change.router places → i < length places → part ≡ get_or parts (get_or places i 0) part
+    → StayFirst m parts places change i → IsClassVerdict m change.phases change.phases part.atom (Some fault) turns → TurnsFaulty m change fault turns
+turns_faulty_at m parts places change i part fault turns are placed within at stays told before leads sound =
     let there : get_or places i 0 < length parts = placed.below i 0 within in
-    let is : IsPart old new m part = subst (λ (x : ClassPart). IsPart old new m x) (sym at) (are.each (get_or places i 0) part there) in
-    faulty_at old new m phases part.atom turns fault are.classes is.class
-    (λ k below. sound_before old new m parts (length m.classes.samples) (get_or places i 0) part (state_in phases) are there
-    (λ q less. sound_there old new m parts places phases u i q part before are placed stays (omega (arith, less, there))
-    (λ among. stands_before (λ (p : ℕ). p) places i 0 q placed.ascending within among less) differ sound) k
+    let is : IsPart m part = subst (λ (x : ClassPart). IsPart m x) (sym at) (are.each (get_or places i 0) part there) in
+    faulty_at m change.phases part.atom turns fault are.classes is.class
+    (λ k below. sound_before m parts (length m.classes.samples) (get_or places i 0) part (state_in change.phases) are there
+    (λ q less. sound_there m parts places change i q part before are placed stays (omega (arith, less, there))
+    (λ among. stands_before (λ (p : ℕ). p) places i 0 q placed.ascending within among less) leads sound) k
     (subst (λ (a : ℕ). k < a) (ap (λ (x : ClassPart). x.atom) at) below)) told
 
 -- after a change of a sound state
-pub sound_after : {O N : Type 0} (old : Listing O) (new : Listing N) (m : Mixture O N) (phases : List Phase) (u : ℕ) (before : State) (result : Option Fault) →
-    DifferAt (length m.net) u before (state_in phases) → Sound old new m before
-    → IfNone result (StaysSound old new m phases u) → IfNone result (Sound old new m (state_in phases))
-sound_after old new m phases u before None differ sound stays = stays before differ sound
-sound_after old new m phases u before (Some fault) differ sound stays = tt
+pub sound_after : (m : Mix) (change : PhaseChange) (before : State) (result : Option Fault) → LeadsFrom (length m.net) change before → Sound m before
+    → IfNone result (StaysSound m change) → IfNone result (Sound m (state_in change.phases))
+sound_after m change before None leads sound stays = stays before leads sound
+sound_after m change before (Some fault) leads sound stays = tt
 
-pub faulty_after : {O N : Type 0} (old : Listing O) (new : Listing N) (m : Mixture O N) (phases : List Phase) (u : ℕ) (before : State) (result : Option Fault)
-    (turns : List Turn) → DifferAt (length m.net) u before (state_in phases)
-    → Sound old new m before → IfSome result (λ fault. TurnsFaulty old new m phases u fault turns) →
-    IfSome result (λ fault. Faulty old new m (state_in phases) fault turns)
-faulty_after old new m phases u before None turns differ sound turned = tt
-faulty_after old new m phases u before (Some fault) turns differ sound turned = turned before differ sound
+pub faulty_after : (m : Mix) (change : PhaseChange) (before : State) (result : Option Fault) (turns : List Turn) → LeadsFrom (length m.net) change before
+    → Sound m before → IfSome result (λ fault. TurnsFaulty m change fault turns) → IfSome result (λ fault. Faulty m (state_in change.phases) fault turns)
+faulty_after m change before None turns leads sound turned = tt
+faulty_after m change before (Some fault) turns leads sound turned = turned before leads sound

@@ -10,27 +10,23 @@ use Rattle.igp_theory.specs.WaveLaws.{IsStateOfSomeWave}
 use Rattle.igp_theory.specs.Waves.{AreSeamlessWaves}
 use Rattle.igp_theory.proofs.LoopWaves.{seamless_by_waves}
 use Rattle.igp_theory.proofs.WaveFaultLaws.{waves_fault_unsound}
-use Rattle.rib_mix.specs.Mixture.{Mixture}
 use Rattle.loop_finder.specs.Faults.{told_fault}
-use Rattle.loop_finder.specs.ClassSteps.{Listing}
+use Rattle.loop_finder.specs.ClassSteps.{Mix}
 use Rattle.loop_finder.specs.Verdicts.{SoundWavesBefore, SoundWaves}
 use Rattle.loop_finder.specs.WaveLists.{IsNumberedWavesFault}
 use Rattle.loop_finder.specs.declared.fault.Fault.{Fault}
 
 -- before a number that isn't a wave all waves stand
-pub sound_to_last : {O N : Type 0} (old : Listing O) (new : Listing N) (m : Mixture O N) (ranks : List ℕ) (w : ℕ) →
-    IsRanking (length m.net) ranks → (Contains ranks w → ⊥)
-    → SoundWavesBefore old new m ranks w → SoundWaves old new m ranks
-sound_to_last old new m ranks w ranking none sound state some = elim (cases_lt some.wave w) [
+pub sound_to_last : (m : Mix) (ranks : List ℕ) (w : ℕ) → IsRanking (length m.net) ranks → (Contains ranks w → ⊥)
+    → SoundWavesBefore m ranks w → SoundWaves m ranks
+sound_to_last m ranks w ranking none sound state some = elim (cases_lt some.wave w) [
   | inl before ↦ sound some.wave before state some.of_wave
   | inr after ↦ absurd (none (ranking.whole w some.wave after some.is_wave))
 ]
 
 -- there are no more waves than routers
-pub sound_to_all : {O N : Type 0} (old : Listing O) (new : Listing N) (m : Mixture O N) (ranks : List ℕ) (w : ℕ) →
-    IsRanking (length m.net) ranks → length m.net ≤ w
-    → SoundWavesBefore old new m ranks w → SoundWaves old new m ranks
-sound_to_all old new m ranks w ranking whole sound state some =
+pub sound_to_all : (m : Mix) (ranks : List ℕ) (w : ℕ) → IsRanking (length m.net) ranks → length m.net ≤ w → SoundWavesBefore m ranks w → SoundWaves m ranks
+sound_to_all m ranks w ranking whole sound state some =
     sound some.wave (omega (arith, rank_below_count ranks some.wave some.is_wave, count_le_length (length m.net) ranks ranking, ranking.each, whole)) state
     some.of_wave
 
@@ -41,6 +37,5 @@ pub none_seamless : (move : Migration) (ranks : List ℕ) (result : Option (ℕ 
 none_seamless move ranks None turns ranking sound fault = (λ none. seamless_by_waves move ranks ranking sound, λ seamless. refl)
 none_seamless move ranks (Some found) turns ranking sound fault = (
   λ none. absurd (false≢true (sym none)),
-  λ seamless.
-      absurd (waves_fault_unsound move ranks fault.wave (told_fault found.1 turns) fault.is_fault seamless),
+  λ seamless. absurd (waves_fault_unsound move ranks fault.wave (told_fault found.1 turns) fault.is_fault seamless),
 )

@@ -12,12 +12,11 @@ use Rattle.igp_theory.specs.declared.phase.Phase.{Phase}
 use Rattle.igp_theory.specs.declared.phase.Phase.TheVariants.{Old, New}
 use Rattle.igp_theory.proofs.AlikeStates.{sound_at_alike}
 use Rattle.igp_theory.proofs.SameTables.{follows_over}
-use Rattle.rib_mix.specs.Mixture.{Mixture}
 use Rattle.loop_finder.specs.Calm.{WaveStep}
 use Rattle.loop_finder.specs.Faults.{state_in}
 use Rattle.loop_finder.specs.Parts.{ClassPart, part_hops, PartStep, IsPart}
 use Rattle.loop_finder.specs.Returns.{NeverReturnsTo}
-use Rattle.loop_finder.specs.ClassSteps.{Listing, sample_of}
+use Rattle.loop_finder.specs.ClassSteps.{sample_of, Mix}
 use Rattle.loop_finder.specs.Verdicts.{SoundAt, Sound, SoundWavesBefore, IsBetween}
 use Rattle.loop_finder.specs.WaveLists.{AreSwitchedBefore}
 use Rattle.loop_finder.specs.steps.WaveStarts.{BeginsSound}
@@ -63,8 +62,7 @@ state_between {ranks = ranks} {w = w} {first = first} {last = last} state ends b
 
 -- the steps of a part in the first and the last state of a wave are those of the wave
 in_wave : (part : ClassPart) (ranks : List ℕ) (w : ℕ) (first last : List Phase) → length part.rows ≡ length ranks → AreSwitchedBefore ranks w first →
-    AreSwitchedBefore ranks (w + 1) last
-    → (u h : ℕ) → PartStep part first last u h → WaveStep part ranks w u h
+    AreSwitchedBefore ranks (w + 1) last → (u h : ℕ) → PartStep part first last u h → WaveStep part ranks w u h
 in_wave part ranks w first last rows begins ends u h step =
     let within : u < length ranks = omega (arith, part_inside part first last u h step, rows) in
     elim (cases_order (rank_of ranks u) w) [
@@ -76,8 +74,7 @@ in_wave part ranks w first last rows begins ends u h step =
         | inl one ↦ inr (omega (arith, before), subst (λ (p : Phase). Contains (part_hops part u p) h) (begins.switched u within before) one)
         | inr other ↦ inr (
           omega (arith, before),
-          subst (λ (p : Phase). Contains (part_hops part u p) h) (ends.switched u within (omega (arith, before)))
-              other,
+          subst (λ (p : Phase). Contains (part_hops part u p) h) (ends.switched u within (omega (arith, before))) other,
         )
       ]
       | inr (inr after) ↦ elim step [
@@ -88,12 +85,12 @@ in_wave part ranks w first last rows begins ends u h step =
 
 -- where no walk over the steps of a part in a wave returns to a router of the wave, and the first state of the wave is
 -- sound for its class, each state of the wave is: the routers change one after another
-pub part_wave_sound : {O N : Type 0} (old : Listing O) (new : Listing N) (m : Mixture O N) (part : ClassPart) (ranks : List ℕ) (w : ℕ)
-    (first last : List Phase) (state : State)
-    → IsPart old new m part → AreEnds (length m.net) ranks w first last → part.moves ≡ true
+pub part_wave_sound : (m : Mix) (part : ClassPart) (ranks : List ℕ) (w : ℕ) (first last : List Phase) (state : State)
+    → IsPart m part → AreEnds (length m.net) ranks w first last → part.moves ≡ true
     → ((u : ℕ) → u < length ranks → rank_of ranks u ≡ w → NeverReturnsTo (WaveStep part ranks w) u)
-    → SoundAt old new m (state_in first) (sample_of m part.atom) → IsStateOfWave (length m.net) ranks w state → SoundAt old new m state (sample_of m part.atom)
-part_wave_sound old new m part ranks w first last state is ends moves never begun of_wave =
+    → SoundAt m (state_in first) (sample_of m.classes part.atom) → IsStateOfWave (length m.net) ranks w state → SoundAt m state
+    (sample_of m.classes part.atom)
+part_wave_sound m part ranks w first last state is ends moves never begun of_wave =
     sound_at_alike (λ u within. mixed_one state (state_in first) (length m.net) u within) (sound_to (length m.net) (omega arith))
   where
     never_between : (u : ℕ) → u < length ranks → rank_of ranks u ≡ w → NeverReturnsTo (PartStep part first last) u
@@ -127,10 +124,10 @@ part_wave_sound old new m part ranks w first last state is ends moves never begu
       ]
     ]
 
-    sound_to : (r : ℕ) → r ≤ length m.net → SoundAt old new m (mixed state (state_in first) r) (sample_of m part.atom)
+    sound_to : (r : ℕ) → r ≤ length m.net → SoundAt m (mixed state (state_in first) r) (sample_of m.classes part.atom)
     sound_to zero most = sound_at_alike (λ u within. sym (mixed_other state (state_in first) zero u (omega arith))) begun
     sound_to (suc r) most = elim (cases_order (rank_of ranks r) w) [
-      | inl same ↦ part_stays_sound old new m part first last r (mixed state (state_in first) r) (mixed state (state_in first) (suc r)) is moves
+      | inl same ↦ part_stays_sound m part first last r (mixed state (state_in first) r) (mixed state (state_in first) (suc r)) is moves
           (never_between r (omega (arith, most, ends.each)) same) (λ v within apart. mixed_more state (state_in first) r v apart) (between (suc r))
           (sound_to r (omega (arith, most)))
       | inr (inl before) ↦ sound_at_alike (λ u within. unchanged r (as_first r (omega (arith, most)) (λ same. omega (arith, same, before))) u)
@@ -141,16 +138,16 @@ part_wave_sound old new m part ranks w first last state is ends moves never begu
 
 -- the first state of a wave is the last one of the wave before, and that of the first wave is the one in which every
 -- router is Old
-pub begins_sound : {O N : Type 0} (old : Listing O) (new : Listing N) (m : Mixture O N) (ranks : List ℕ) (w : ℕ) (begun : Bool) → length ranks ≡ length m.net
-    → OnTrue begun (Sound old new m all_old) → SoundWavesBefore old new m ranks w → (begun ≡ true) ⊎ (0 < w) → BeginsSound old new m ranks w
-begins_sound old new m ranks w begun each first before known phases many switched = elim (cases_lt 0 w) [
+pub begins_sound : (m : Mix) (ranks : List ℕ) (w : ℕ) (begun : Bool) → length ranks ≡ length m.net
+    → OnTrue begun (Sound m all_old) → SoundWavesBefore m ranks w → (begun ≡ true) ⊎ (0 < w) → BeginsSound m ranks w
+begins_sound m ranks w begun each first before known phases many switched = elim (cases_lt 0 w) [
   | inl later ↦ before (w - 1) (omega (arith, later)) (state_in phases) (record {
     earlier = λ u within less. switched.switched u (omega (arith, within, each)) (omega (arith, less));
     later = λ u within more. switched.others u (omega (arith, within, each)) (omega (arith, more));
   })
   | inr none ↦ elim known [
-    | inl known_now ↦ subst (λ (s : State). Sound old new m s) (same_state all_old (state_in phases) (λ u. sym (is_old none u)))
-        (subst (λ (b : Bool). OnTrue b (Sound old new m all_old)) known_now first)
+    | inl known_now ↦ subst (λ (s : State). Sound m s) (same_state all_old (state_in phases) (λ u. sym (is_old none u)))
+        (subst (λ (b : Bool). OnTrue b (Sound m all_old)) known_now first)
     | inr later ↦ absurd (omega (arith, none, later))
   ]
 ]

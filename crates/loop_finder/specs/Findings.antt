@@ -1,13 +1,12 @@
 -- What a finder keeps from call to call.
 use Rattle.std.specs.Prelude.{◌≡◌, ℕ, Bool, List, length}
 use Rattle.std.specs.Bool.{OnTrue}
-use Rattle.rib_mix.specs.Mixture.{Mixture}
 use Rattle.loop_finder.specs.Calm.{AreCalm}
 use Rattle.loop_finder.specs.Orders.{AreFirstStates}
 use Rattle.igp_theory.specs.States.{all_old}
 use Rattle.loop_finder.specs.Parts.{ClassPart, AreParts}
 use Rattle.loop_finder.specs.Rooms.{HasRoom}
-use Rattle.loop_finder.specs.ClassSteps.{Listing}
+use Rattle.loop_finder.specs.ClassSteps.{Mix}
 use Rattle.loop_finder.specs.Verdicts.{Sound}
 use Rattle.loop_finder.specs.Watches.{IsWatch}
 use Rattle.loop_finder.specs.declared.room.Room.{Room}
@@ -27,14 +26,14 @@ pub record Kept : Type 0 where
   pub later : ℕ
 
 -- they are so, and there is room to work in
-pub record IsFinding {O N : Type 0} (old : Listing O) (new : Listing N) (m : Mixture O N) (kept : Kept) (room : Room) : Type 0 where
-  pub parts_are : AreParts old new m kept.parts (length m.classes.samples)
+pub record IsFinding (m : Mix) (kept : Kept) (room : Room) : Type 0 where
+  pub parts_are : AreParts m kept.parts (length m.classes.samples)
   pub watch_is : IsWatch kept.parts (length m.net) kept.watch
   pub ranks_many : length kept.ranks ≡ length m.net
   pub calm_is : AreCalm kept.parts kept.ranks kept.calm
   pub order_many : length kept.order ≡ length m.net
-  pub order_is : AreFirstStates (Sound old new m) kept.order kept.sound
-  pub begun_is : OnTrue kept.begun (Sound old new m all_old)
+  pub order_is : AreFirstStates (Sound m) kept.order kept.sound
+  pub begun_is : OnTrue kept.begun (Sound m all_old)
   pub phases_many : kept.phases ≡ length m.net
   pub later_many : kept.later ≡ length m.net
   pub room_is : HasRoom (length m.net) room

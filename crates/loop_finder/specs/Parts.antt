@@ -5,9 +5,8 @@ use Rattle.igp_theory.specs.Forwarding.{MustForward, Steps, HasStep}
 use Rattle.igp_theory.specs.States.{State, Follows}
 use Rattle.igp_theory.specs.declared.phase.Phase.{Phase}
 use Rattle.igp_theory.specs.declared.phase.Phase.TheVariants.{Old, Middle, New}
-use Rattle.rib_mix.specs.Mixture.{Mixture, migration_of}
 use Rattle.loop_finder.specs.Faults.{state_in}
-use Rattle.loop_finder.specs.ClassSteps.{Listing, sample_of}
+use Rattle.loop_finder.specs.ClassSteps.{sample_of, Mix, migration_in}
 use Rattle.loop_finder.specs.Verdicts.{ClassesOf, SoundAt}
 
 -- Parts
@@ -54,30 +53,34 @@ abbrev pub AreSteppers : List PhaseHops → List ℕ → Type 0
 AreSteppers rows routers = AreAllBut (IsBareIn rows) (length rows) routers
 
 -- a router steps to another in a phase, for the addresses of a class
-abbrev pub StepsOf : {O N : Type 0} → Listing O → Listing N → Mixture O N → ℕ → ℕ → Phase → ℕ → Type 0
-StepsOf old new m atom u phase h = Steps (migration_of old new m) u phase (sample_of m atom) h
+abbrev pub StepsOf : Mix → ℕ → ℕ → Phase → ℕ → Type 0
+StepsOf m atom u phase h = Steps (migration_in m) u phase (sample_of m.classes atom) h
 
 -- a router has a step in a phase
-abbrev pub HasStepOf : {O N : Type 0} → Listing O → Listing N → Mixture O N → ℕ → ℕ → Phase → Type 0
-HasStepOf old new m atom u phase = HasStep (migration_of old new m) u phase (sample_of m atom)
+abbrev pub HasStepOf : Mix → ℕ → ℕ → Phase → Type 0
+HasStepOf m atom u phase = HasStep (migration_in m) u phase (sample_of m.classes atom)
 
 -- the steps of both networks: a router steps to another in Old or in New
-abbrev pub StepsEver : {O N : Type 0} → Listing O → Listing N → Mixture O N → ℕ → ℕ → ℕ → Type 0
-StepsEver old new m atom u h = StepsOf old new m atom u Old h ⊎ StepsOf old new m atom u New h
+abbrev pub StepsEver : Mix → ℕ → ℕ → ℕ → Type 0
+StepsEver m atom u h = StepsOf m atom u Old h ⊎ StepsOf m atom u New h
 
 -- each router that has to pass packets on has a step in both networks
-abbrev pub AllMove : {O N : Type 0} → Listing O → Listing N → Mixture O N → ℕ → Type 0
-AllMove old new m atom = (u : ℕ) → MustForward m.net (sample_of m atom) u → HasStepOf old new m atom u Old × HasStepOf old new m atom u New
+abbrev pub AllMove : Mix → ℕ → Type 0
+AllMove m atom = (u : ℕ) → MustForward m.net (sample_of m.classes atom) u → HasStepOf m atom u Old × HasStepOf m atom u New
+
+-- some rows have each step of a class from which a walk over the steps of both networks leads back
+abbrev pub HaveReturning : Mix → ℕ → List PhaseHops → Type 0
+HaveReturning m atom rows = (u h : ℕ) (hops : List ℕ) (phase : Phase) → StepsOf m atom u phase h → Follows (StepsEver m atom) h hops u →
+    Contains (hops_of (slice_index_or rows u no_hops) phase) h
 
 -- the part of a class: it has only steps of the class, and each step from which a walk over the steps of both
 -- networks leads back
-pub record IsPart {O N : Type 0} (old : Listing O) (new : Listing N) (m : Mixture O N) (part : ClassPart) : Type 0 where
+pub record IsPart (m : Mix) (part : ClassPart) : Type 0 where
   pub class : part.atom < length m.classes.samples
   pub many : length part.rows ≡ length m.net
-  pub moves : OnTrue part.moves (AllMove old new m part.atom)
-  pub steps : (u h : ℕ) (phase : Phase) → Contains (part_hops part u phase) h → StepsOf old new m part.atom u phase h
-  pub returns : (u h : ℕ) (hops : List ℕ) (phase : Phase) → StepsOf old new m part.atom u phase h → Follows (StepsEver old new m part.atom) h hops u →
-      Contains (part_hops part u phase) h
+  pub moves : OnTrue part.moves (AllMove m part.atom)
+  pub steps : (u h : ℕ) (phase : Phase) → Contains (part_hops part u phase) h → StepsOf m part.atom u phase h
+  pub returns : HaveReturning m part.atom part.rows
 
 -- the steps of a part in one of two states
 abbrev pub PartStep : ClassPart → List Phase → List Phase → ℕ → ℕ → Type 0
@@ -99,12 +102,12 @@ pub record IsPartState (c : PartState) : Type 0 where
 -- What the parts tell
 
 -- every state is sound for a class
-abbrev pub NeverUnsound : {O N : Type 0} → Listing O → Listing N → Mixture O N → ℕ → Type 0
-NeverUnsound old new m atom = (state : State) → SoundAt old new m state (sample_of m atom)
+abbrev pub NeverUnsound : Mix → ℕ → Type 0
+NeverUnsound m atom = (state : State) → SoundAt m state (sample_of m.classes atom)
 
 -- a state that is sound for class j is sound for class k
-abbrev pub SoundWith : {O N : Type 0} → Listing O → Listing N → Mixture O N → ℕ → ℕ → Type 0
-SoundWith old new m j k = (state : State) → SoundAt old new m state (sample_of m j) → SoundAt old new m state (sample_of m k)
+abbrev pub SoundWith : Mix → ℕ → ℕ → Type 0
+SoundWith m j k = (state : State) → SoundAt m state (sample_of m.classes j) → SoundAt m state (sample_of m.classes k)
 
 -- a class has one of some parts
 pub record IsOneOf (parts : List ClassPart) (k : ℕ) : Type 0 where
@@ -114,18 +117,18 @@ pub record IsOneOf (parts : List ClassPart) (k : ℕ) : Type 0 where
 
 -- a class has one of some parts, or every state is sound for it, or every state that is sound for an earlier class
 -- that has one
-pub data IsCovered {O N : Type 0} (old : Listing O) (new : Listing N) (m : Mixture O N) (parts : List ClassPart) (k : ℕ) : Type 0 where
-  has_part : IsOneOf parts k → IsCovered old new m parts k
-  never_unsound : NeverUnsound old new m k → IsCovered old new m parts k
-  as_earlier : (part : ClassPart) → Contains parts part → part.atom < k → SoundWith old new m part.atom k → IsCovered old new m parts k
+pub data IsCovered (m : Mix) (parts : List ClassPart) (k : ℕ) : Type 0 where
+  has_part : IsOneOf parts k → IsCovered m parts k
+  never_unsound : NeverUnsound m k → IsCovered m parts k
+  as_earlier : (part : ClassPart) → Contains parts part → part.atom < k → SoundWith m part.atom k → IsCovered m parts k
 
 -- parts, ascending, that tell of the first n classes
-pub record AreParts {O N : Type 0} (old : Listing O) (new : Listing N) (m : Mixture O N) (parts : List ClassPart) (n : ℕ) : Type 0 where
-  pub classes : ClassesOf old new m
-  pub each : All (IsPart old new m) parts
+pub record AreParts (m : Mix) (parts : List ClassPart) (n : ℕ) : Type 0 where
+  pub classes : ClassesOf m
+  pub each : All (IsPart m) parts
   pub ascending : AllPairs (λ (part other : ClassPart). part.atom < other.atom) parts
   pub below : All (λ (part : ClassPart). part.atom < n) parts
-  pub covered : (k : ℕ) → k < n → IsCovered old new m parts k
+  pub covered : (k : ℕ) → k < n → IsCovered m parts k
 
 -- Changes
 

@@ -3,10 +3,9 @@ use Rattle.std.specs.Prelude.{◌≡◌, ℕ, ◌<◌, ◌⊎◌, true, List, []
 use Rattle.igp_theory.specs.States.{State}
 use Rattle.igp_theory.specs.declared.phase.Phase.{Phase}
 use Rattle.order_core.specs.declared.turn.Turn.{Turn}
-use Rattle.rib_mix.specs.Mixture.{Mixture}
 use Rattle.loop_finder.specs.Faults.{state_in}
 use Rattle.loop_finder.specs.Parts.{ClassPart, part_hops, DifferAt}
-use Rattle.loop_finder.specs.ClassSteps.{Listing, sample_of}
+use Rattle.loop_finder.specs.ClassSteps.{sample_of, Mix}
 use Rattle.loop_finder.specs.Verdicts.{SoundAt, Sound, Faulty}
 use Rattle.loop_finder.specs.declared.fault.Fault.{Fault}
 
@@ -36,19 +35,29 @@ pub record IsWatch (parts : List ClassPart) (n : ℕ) (watch : List (List ℕ)) 
 
 -- Changes
 
--- a state in which these are the phases is sound for a class where one that differs from it at a router alone is
-abbrev pub StaysSoundAt : {O N : Type 0} → Listing O → Listing N → Mixture O N → List Phase → ℕ → ℕ → Type 0
-StaysSoundAt old new m phases u atom =
-    (before : State) → DifferAt (length m.net) u before (state_in phases) → SoundAt old new m before (sample_of m atom)
-    → SoundAt old new m (state_in phases) (sample_of m atom)
+-- a change of a router: the phases that come of it, the router, and its phase before
+pub record PhaseChange : Type 0 where
+  pub phases : List Phase
+  pub router : ℕ
+  pub was : Phase
+
+-- a change of one of n routers leads on from a state
+pub record LeadsFrom (n : ℕ) (change : PhaseChange) (before : State) : Type 0 where
+  pub here : before change.router ≡ change.was
+  pub others : DifferAt n change.router before (state_in change.phases)
+
+-- the state that comes of a change is sound for a class where the one before is
+abbrev pub StaysSoundAt : Mix → PhaseChange → ℕ → Type 0
+StaysSoundAt m change atom =
+    (before : State) → LeadsFrom (length m.net) change before → SoundAt m before (sample_of m.classes atom)
+    → SoundAt m (state_in change.phases) (sample_of m.classes atom)
 
 -- it is sound where that one is sound
-abbrev pub StaysSound : {O N : Type 0} → Listing O → Listing N → Mixture O N → List Phase → ℕ → Type 0
-StaysSound old new m phases u =
-    (before : State) → DifferAt (length m.net) u before (state_in phases) → Sound old new m before → Sound old new m (state_in phases)
+abbrev pub StaysSound : Mix → PhaseChange → Type 0
+StaysSound m change =
+    (before : State) → LeadsFrom (length m.net) change before → Sound m before → Sound m (state_in change.phases)
 
 -- it has this fault where that one is sound
-abbrev pub TurnsFaulty : {O N : Type 0} → Listing O → Listing N → Mixture O N → List Phase → ℕ → Fault → List Turn → Type 0
-TurnsFaulty old new m phases u fault turns =
-    (before : State) → DifferAt (length m.net) u before (state_in phases) → Sound old new m before
-    → Faulty old new m (state_in phases) fault turns
+abbrev pub TurnsFaulty : Mix → PhaseChange → Fault → List Turn → Type 0
+TurnsFaulty m change fault turns =
+    (before : State) → LeadsFrom (length m.net) change before → Sound m before → Faulty m (state_in change.phases) fault turns

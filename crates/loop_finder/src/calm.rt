@@ -19,7 +19,7 @@ use std::marker::Model;
 /// The steps of a part in the states of a wave.
 #[derive(Drop)]
 struct WaveSteps<'s> {
-    part: &'s Part,
+    part: &'s Part<'s>,
     ranks: &'s [u32],
     wave: u32,
     routers: u32,
@@ -37,7 +37,7 @@ impl<'s> Model for WaveSteps<'s> {
 
 impl<'s> WaveSteps<'s> {
     /// The steps of a part in a wave, over so many routers.
-    fn new(part: &'s Part, ranks: &'s [u32], wave: u32, routers: u32) -> WaveSteps<'s>
+    fn new(part: &'s Part<'s>, ranks: &'s [u32], wave: u32, routers: u32) -> WaveSteps<'s>
         requires rows { length part.now.rows ≡ routers }
         requires ranks { length ranks.now ≡ routers }
         ensures { result ≡ record { part = part.now; ranks = ranks.now; wave = wave; routers = routers } }
@@ -92,7 +92,7 @@ impl<'s> StepGraph for WaveSteps<'s> {
 }
 
 /// Of none of some parts is anything known, for any ranking.
-pub fn none_known(alloc: Global, parts: &[Part]) -> Result<Vec<u32>, OutOfMemory>
+pub fn none_known(alloc: Global, parts: &[Part<'_>]) -> Result<Vec<u32>, OutOfMemory>
     ensures { IfOk result (λ calm. (ranks : List ℕ) → AreCalm parts.now ranks calm.items) }
 {
     let calm = vec![in alloc; 0; parts.len()]?;
@@ -102,7 +102,7 @@ pub fn none_known(alloc: Global, parts: &[Part]) -> Result<Vec<u32>, OutOfMemory
 /// Makes what is known of some parts for one ranking hold for another. In the waves before each changed rank of a part's
 /// routers nothing changes for the part; from there on it is looked at.
 pub fn renew(
-    parts: &[Part],
+    parts: &[Part<'_>],
     watch: &[Places],
     routers: u32,
     ranks: &[u32],
@@ -126,7 +126,13 @@ pub fn renew(
 }
 
 /// Takes the ranks of another ranking.
-fn take_ranks(parts: &[Part], watch: &[Places], ranks: &[u32], kept: &mut [u32], calm: &mut [u32])
+fn take_ranks(
+    parts: &[Part<'_>],
+    watch: &[Places],
+    ranks: &[u32],
+    kept: &mut [u32],
+    calm: &mut [u32],
+)
     requires rows { All (λ part. length part.rows ≡ length ranks.now) parts.now }
     requires watch { IsWatch parts.now (length ranks.now) watch.now }
     requires kept { length kept.old ≡ length ranks.now }
@@ -148,7 +154,7 @@ fn take_ranks(parts: &[Part], watch: &[Places], ranks: &[u32], kept: &mut [u32],
 
 /// Takes the rank of a router.
 fn take_rank(
-    parts: &[Part],
+    parts: &[Part<'_>],
     places: &[usize],
     router: usize,
     rank: u32,
@@ -180,7 +186,7 @@ fn lower(places: &[usize], most: u32, calm: &mut [u32])
 }
 
 /// Looks at each part from the first wave on in which it isn't known to be calm.
-fn look(parts: &[Part], routers: u32, ranks: &[u32], calm: &mut [u32], room: &mut Room)
+fn look(parts: &[Part<'_>], routers: u32, ranks: &[u32], calm: &mut [u32], room: &mut Room)
     requires rows { All (λ part. length part.rows ≡ routers) parts.now }
     requires ranks { length ranks.now ≡ routers }
     requires calm { AreCalm parts.now ranks.now calm.old }
@@ -197,7 +203,7 @@ fn look(parts: &[Part], routers: u32, ranks: &[u32], calm: &mut [u32], room: &mu
 /// The first wave that isn't known to be calm for a part, from one on before which it is: that one where some router
 /// may not move, else the first in which a walk over the part's steps returns to a router of the wave. The count of the
 /// routers where there is none.
-fn calm_from(part: &Part, routers: u32, ranks: &[u32], known: u32, room: &mut Room) -> u32
+fn calm_from(part: &Part<'_>, routers: u32, ranks: &[u32], known: u32, room: &mut Room) -> u32
     requires rows { length part.now.rows ≡ routers }
     requires ranks { length ranks.now ≡ routers }
     requires known { IsCalmBefore part.now ranks.now known }
@@ -246,7 +252,7 @@ fn earlier_of(rank: u32, from: u32, next: u32) -> u32
 
 /// Whether a walk over the steps of a part in a wave returns to one of some routers that is of the wave.
 fn stirs_in(
-    part: &Part,
+    part: &Part<'_>,
     steppers: &[u32],
     routers: u32,
     ranks: &[u32],
@@ -270,7 +276,14 @@ fn stirs_in(
 }
 
 /// Whether a router is of a wave, and a walk over the steps of a part in the wave returns to it.
-fn stirs(part: &Part, routers: u32, ranks: &[u32], wave: u32, router: u32, room: &mut Room) -> bool
+fn stirs(
+    part: &Part<'_>,
+    routers: u32,
+    ranks: &[u32],
+    wave: u32,
+    router: u32,
+    room: &mut Room,
+) -> bool
     requires rows { length part.now.rows ≡ routers }
     requires ranks { length ranks.now ≡ routers }
     requires router { router < routers }
@@ -287,7 +300,7 @@ fn stirs(part: &Part, routers: u32, ranks: &[u32], wave: u32, router: u32, room:
 
 /// Whether a walk over the steps of a part in a wave returns to a router.
 fn returns_in(
-    part: &Part,
+    part: &Part<'_>,
     routers: u32,
     ranks: &[u32],
     router: u32,

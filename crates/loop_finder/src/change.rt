@@ -1,6 +1,8 @@
-ghost use Rattle.std.specs.Prelude.{◌≡◌, ◌<◌, IfNone, IfSome, Some, length};
+ghost use Rattle.std.specs.Prelude.{◌≡◌, ◌<◌, IfNone, IfSome, Some, length, true};
+ghost use Rattle.std.specs.Bool.{OnTrue};
+ghost use Rattle.loop_finder.specs.ClassSteps.{mix_of};
 ghost use Rattle.loop_finder.specs.Faults.{KeepsRing};
-ghost use Rattle.loop_finder.specs.Parts.{AreParts, IsPart};
+ghost use Rattle.loop_finder.specs.Parts.{AreParts, IsPart, part_hops};
 ghost use Rattle.loop_finder.specs.Rooms.{HasRoom};
 ghost use Rattle.loop_finder.specs.Verdicts.{IsClassVerdict};
 ghost use Rattle.loop_finder.specs.Watches.{ArePlacesOf, StaysSound, StaysSoundAt, TurnsFaulty};
@@ -13,28 +15,29 @@ use crate::room::Room;
 use rib_mix::{Mixed, Phase};
 use route_core::RouteSource;
 
-/// The fault of a state that came of a sound one by a change of a router. Looked at are the parts at the places that
-/// such a change concerns, and of them only the walks through the router.
+/// The fault of a state that came of a sound one by a change of a router, which was in this phase. Looked at are the parts at the places that
+/// such a change concerns, and of those in which the router's hops change only the walks through it.
 pub fn turned_fault<O: RouteSource, N: RouteSource>(
     mixed: &Mixed<'_, O, N>,
-    parts: &[Part],
+    parts: &[Part<'_>],
     places: &[usize],
     phases: &[Phase],
     router: u32,
+    was: Phase,
     room: &mut Room,
 ) -> Option<Fault>
-    requires parts { AreParts O.table N.table mixed.now parts.now (length mixed.now.classes.samples) }
+    requires parts { AreParts (mix_of O.table N.table mixed.now) parts.now (length mixed.now.classes.samples) }
     requires places { ArePlacesOf parts.now router places.now }
     requires phases { length phases.now ≡ length mixed.now.net }
     requires router { router < length mixed.now.net }
     requires room { HasRoom (length mixed.now.net) room.old }
     ensures room { HasRoom (length mixed.now.net) room.new }
-    ensures sound { IfNone result (StaysSound O.table N.table mixed.now phases.now router) }
-    ensures fault { IfSome result (λ fault. TurnsFaulty O.table N.table mixed.now phases.now router fault room.new.ring.items) }
+    ensures sound { IfNone result (StaysSound (mix_of O.table N.table mixed.now) (record { phases = phases.now; router = router; was = was })) }
+    ensures fault { IfSome result (λ fault. TurnsFaulty (mix_of O.table N.table mixed.now) (record { phases = phases.now; router = router; was = was }) fault room.new.ring.items) }
     ensures ring { KeepsRing result room.old.ring.items room.new.ring.items }
 {
     for place in places {
-        if let Some(fault) = part_fault(mixed, &parts[*place], phases, router, room) {
+        if let Some(fault) = part_fault(mixed, &parts[*place], phases, router, was, room) {
             return Some(fault);
         }
     }
@@ -44,22 +47,35 @@ pub fn turned_fault<O: RouteSource, N: RouteSource>(
 /// The fault of such a state for the class of a part.
 fn part_fault<O: RouteSource, N: RouteSource>(
     mixed: &Mixed<'_, O, N>,
-    part: &Part,
+    part: &Part<'_>,
     phases: &[Phase],
     router: u32,
+    was: Phase,
     room: &mut Room,
 ) -> Option<Fault>
-    requires part { IsPart O.table N.table mixed.now part.now }
+    requires part { IsPart (mix_of O.table N.table mixed.now) part.now }
     requires phases { length phases.now ≡ length mixed.now.net }
     requires router { router < length mixed.now.net }
     requires room { HasRoom (length mixed.now.net) room.old }
     ensures room { HasRoom (length mixed.now.net) room.new }
-    ensures sound { IfNone result (StaysSoundAt O.table N.table mixed.now phases.now router part.now.atom) }
-    ensures told { IfSome result (λ fault. IsClassVerdict O.table N.table mixed.now phases.now phases.now part.now.atom (Some fault) room.new.ring.items) }
+    ensures sound { IfNone result (StaysSoundAt (mix_of O.table N.table mixed.now) (record { phases = phases.now; router = router; was = was }) part.now.atom) }
+    ensures told { IfSome result (λ fault. IsClassVerdict (mix_of O.table N.table mixed.now) phases.now phases.now part.now.atom (Some fault) room.new.ring.items) }
     ensures ring { KeepsRing result room.old.ring.items room.new.ring.items }
 {
+    if keeps_hops(part, router, was, phases[router as usize]) {
+        return None;
+    }
     if passes_part_never(part, phases, phases, router, mixed.net().routers(), room) {
         return None;
     }
     class_fault(mixed, phases, phases, part.atom(), room)
+}
+
+/// Whether all routers move in a part, and a router has the same hops in two phases.
+fn keeps_hops(part: &Part<'_>, router: u32, was: Phase, phase: Phase) -> bool
+    requires { router < length part.now.rows }
+    ensures moves { OnTrue result (part.now.moves ≡ true) }
+    ensures hops { OnTrue result (part_hops part.now router was ≡ part_hops part.now router phase) }
+{
+    part.moves() && part.hops_in(router, was) == part.hops_in(router, phase)
 }

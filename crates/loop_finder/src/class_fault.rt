@@ -6,7 +6,7 @@ ghost use Rattle.prefix_atoms.specs.Classes.{HasTarget};
 ghost use Rattle.order_core.specs.Marks.{IsMarked};
 ghost use Rattle.loop_finder.specs.Faults.{KeepsRing};
 ghost use Rattle.loop_finder.specs.Rooms.{HasRoom};
-ghost use Rattle.loop_finder.specs.ClassSteps.{AreForwarders, sample_of};
+ghost use Rattle.loop_finder.specs.ClassSteps.{AreForwarders, mix_of, sample_of, state_over};
 ghost use Rattle.loop_finder.specs.Verdicts.{IsClassVerdict, Verdict};
 
 use crate::class_steps::ClassSteps;
@@ -32,7 +32,7 @@ pub fn class_fault<O: RouteSource, N: RouteSource>(
     requires last { length last.now ≡ length mixed.now.net }
     requires room { HasRoom (length mixed.now.net) room.old }
     ensures room { HasRoom (length mixed.now.net) room.new }
-    ensures told { IsClassVerdict O.table N.table mixed.now first.now last.now atom result room.new.ring.items }
+    ensures told { IsClassVerdict (mix_of O.table N.table mixed.now) first.now last.now atom result room.new.ring.items }
     ensures ring { KeepsRing result room.old.ring.items room.new.ring.items }
 {
     if !mark_class(mixed, atom, &mut room.forwards) {
@@ -54,8 +54,8 @@ pub fn class_target<O: RouteSource, N: RouteSource>(
     atom: u32,
 ) -> Option<Prefix>
     requires atom { atom < length mixed.now.classes.samples }
-    ensures target { HasTarget mixed.now.net (sample_of mixed.now atom) result }
-    ensures address { sample_of mixed.now atom < 2 ^ 32 }
+    ensures target { HasTarget mixed.now.net (sample_of mixed.now.classes atom) result }
+    ensures address { sample_of mixed.now.classes atom < 2 ^ 32 }
 {
     mixed.atoms().target(atom)
 }
@@ -68,9 +68,9 @@ fn mark_class<O: RouteSource, N: RouteSource>(
 ) -> bool
     requires atom { atom < length mixed.now.classes.samples }
     requires many { length forwards.old ≡ length mixed.now.net }
-    ensures forwarders { OnTrue result (AreForwarders mixed.now.net (sample_of mixed.now atom) forwards.new) }
-    ensures none { OnFalse result (HasTarget mixed.now.net (sample_of mixed.now atom) None) }
-    ensures address { sample_of mixed.now atom < 2 ^ 32 }
+    ensures forwarders { OnTrue result (AreForwarders mixed.now.net (sample_of mixed.now.classes atom) forwards.new) }
+    ensures none { OnFalse result (HasTarget mixed.now.net (sample_of mixed.now.classes atom) None) }
+    ensures address { sample_of mixed.now.classes atom < 2 ^ 32 }
 {
     match class_target(mixed, atom) {
         Some(target) => {
@@ -106,13 +106,13 @@ fn steps_fault<O: RouteSource, N: RouteSource>(
     path: &mut Vec<u32>,
     ring: &mut Vec<Turn>,
 ) -> Option<Fault>
-    requires address { address ≡ sample_of steps.now.mixture steps.now.atom }
+    requires address { address ≡ sample_of steps.now.mixture.classes steps.now.atom }
     requires live { length live.old ≡ length steps.now.mixture.net }
     requires path { length steps.now.mixture.net ≤ vec_capacity path.old }
     requires ring { length steps.now.mixture.net ≤ vec_capacity ring.old }
     ensures path { vec_capacity path.old ≤ vec_capacity path.new }
     ensures capacity { vec_capacity ring.old ≤ vec_capacity ring.new }
-    ensures verdict { Verdict O.table N.table steps.now result ring.new.items }
+    ensures verdict { Verdict (state_over O.table N.table steps.now) result ring.new.items }
     ensures ring { KeepsRing result ring.old.items ring.new.items }
 {
     if let Some(router) = steps.first_stuck() {

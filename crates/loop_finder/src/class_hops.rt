@@ -1,11 +1,9 @@
 ghost use Rattle.std.specs.Prelude.{◌≡◌, ◌<◌, ◌↔◌, ◌^◌, ℕ, Contains, length};
 ghost use Rattle.loop_finder.specs.steps.Making.{IsHopsOf};
-ghost use Rattle.loop_finder.specs.steps.Targets.{IsTargetIn};
 ghost use Rattle.rib_mix.specs.Answers.{NextLeadsTo};
 ghost use Rattle.loop_finder.specs.Parts.{StepsOf};
-ghost use Rattle.loop_finder.specs.ClassSteps.{AreForwarders, sample_of};
+ghost use Rattle.loop_finder.specs.ClassSteps.{AreForwarders, mix_of, sample_of};
 
-use net_addr::Prefix;
 use rib_mix::{Mixed, Next, Phase};
 use route_core::RouteSource;
 
@@ -19,33 +17,13 @@ pub fn class_hops<'m, O: RouteSource, N: RouteSource>(
     router: u32,
 ) -> &'m [u32]
     requires atom { atom < length mixed.now.classes.samples }
-    requires address { sample_of mixed.now atom < 2 ^ 32 }
+    requires address { sample_of mixed.now.classes atom < 2 ^ 32 }
     requires many { length forwards.now ≡ length mixed.now.net }
-    requires forwards { AreForwarders mixed.now.net (sample_of mixed.now atom) forwards.now }
+    requires forwards { AreForwarders mixed.now.net (sample_of mixed.now.classes atom) forwards.now }
     requires router { router < length mixed.now.net }
-    ensures { (h : ℕ) → Contains result.now h ↔ StepsOf O.table N.table mixed.now atom router phase h }
+    ensures { (h : ℕ) → Contains result.now h ↔ StepsOf (mix_of O.table N.table mixed.now) atom router phase h }
 {
     if !forwards[router as usize] {
-        return &[];
-    }
-    next_hops(mixed, atom, phase, router)
-}
-
-/// The routers that a router steps to in a phase for the addresses of a class with this target.
-pub fn hops_towards<'m, O: RouteSource, N: RouteSource>(
-    mixed: &'m Mixed<'_, O, N>,
-    atom: u32,
-    target: Prefix,
-    phase: Phase,
-    router: u32,
-) -> &'m [u32]
-    requires atom { atom < length mixed.now.classes.samples }
-    requires address { sample_of mixed.now atom < 2 ^ 32 }
-    requires target { IsTargetIn mixed.now.net (sample_of mixed.now atom) target }
-    requires router { router < length mixed.now.net }
-    ensures { (h : ℕ) → Contains result.now h ↔ StepsOf O.table N.table mixed.now atom router phase h }
-{
-    if mixed.originates(router, target) {
         return &[];
     }
     next_hops(mixed, atom, phase, router)
@@ -60,7 +38,7 @@ pub fn next_hops<'m, O: RouteSource, N: RouteSource>(
 ) -> &'m [u32]
     requires atom { atom < length mixed.now.classes.samples }
     requires router { router < length mixed.now.net }
-    ensures { IsHopsOf O.table N.table mixed.now atom router phase result.now }
+    ensures { IsHopsOf (mix_of O.table N.table mixed.now) atom router phase result.now }
 {
     hops_of(mixed.hops(router, atom, phase))
 }

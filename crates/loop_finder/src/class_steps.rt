@@ -2,7 +2,7 @@ ghost use Rattle.std.specs.Prelude.{◌≡◌, ◌<◌, ◌↔◌, ◌^◌, ℕ,
 ghost use Rattle.std.specs.Bool.{OnFalse, OnTrue};
 ghost use Rattle.igp_theory.specs.Forwarding.{MustForward};
 ghost use Rattle.loop_finder.specs.Faults.{state_in};
-ghost use Rattle.loop_finder.specs.ClassSteps.{AreForwarders, FirstStuck, IsStuck, IsStuckIn, Moves, MovesIn, StepsBy, sample_of};
+ghost use Rattle.loop_finder.specs.ClassSteps.{AreForwarders, FirstStuck, IsStuck, IsStuckIn, Moves, MovesIn, StepsBy, sample_of, state_over};
 
 use crate::class_hops::class_hops;
 use crate::graph::StepGraph;
@@ -21,14 +21,14 @@ pub struct ClassSteps<'s, 'm, O: RouteSource, N: RouteSource> {
 }
 
 impl<'s, 'm, O: RouteSource, N: RouteSource> Model for ClassSteps<'s, 'm, O, N> {
-    ghost use Rattle.loop_finder.specs.ClassSteps.{ClassState, IsClassState};
+    ghost use Rattle.loop_finder.specs.ClassSteps.{IsClassState, SourceState, mix_of};
 
-    ghost Value = { ClassState O N };
+    ghost Value = { SourceState O N };
 
     ghost view = { λ x. record { mixture = x.mixed.now; first = x.first.now; last = x.last.now; forwards = x.forwards.now; atom = x.atom } };
 
-    ghost invariant = { λ x. IsClassState {O = O} {N = N} (record {
-      mixture = x.mixed.now;
+    ghost invariant = { λ x. IsClassState (record {
+      mixture = mix_of O.table N.table x.mixed.now;
       first = x.first.now;
       last = x.last.now;
       forwards =
@@ -47,11 +47,11 @@ impl<'s, 'm, O: RouteSource, N: RouteSource> ClassSteps<'s, 'm, O, N> {
         atom: u32,
     ) -> ClassSteps<'s, 'm, O, N>
         requires atom { atom < length mixed.now.classes.samples }
-        requires address { sample_of mixed.now atom < 2 ^ 32 }
+        requires address { sample_of mixed.now.classes atom < 2 ^ 32 }
         requires first { length first.now ≡ length mixed.now.net }
         requires last { length last.now ≡ length mixed.now.net }
         requires many { length forwards.now ≡ length mixed.now.net }
-        requires forwards { AreForwarders mixed.now.net (sample_of mixed.now atom) forwards.now }
+        requires forwards { AreForwarders mixed.now.net (sample_of mixed.now.classes atom) forwards.now }
         ensures { result ≡ record { mixture = mixed.now; first = first.now; last = last.now; forwards = forwards.now; atom = atom } }
     {
         ClassSteps {
@@ -73,7 +73,7 @@ impl<'s, 'm, O: RouteSource, N: RouteSource> ClassSteps<'s, 'm, O, N> {
     /// The routers that a router steps to in a phase.
     pub fn hops_in(&self, router: u32, phase: Phase) -> &[u32]
         requires { router < length self.now.mixture.net }
-        ensures { (h : ℕ) → Contains result.now h ↔ StepsBy O.table N.table self.now router phase h }
+        ensures { (h : ℕ) → Contains result.now h ↔ StepsBy (state_over O.table N.table self.now) router phase h }
     {
         class_hops(self.mixed, self.atom, phase, self.forwards, router)
     }
@@ -81,14 +81,14 @@ impl<'s, 'm, O: RouteSource, N: RouteSource> ClassSteps<'s, 'm, O, N> {
     /// Whether a router steps to another in a phase.
     pub fn leads(&self, router: u32, phase: Phase, hop: u32) -> bool
         requires { router < length self.now.mixture.net }
-        ensures { IsTrue result ↔ StepsBy O.table N.table self.now router phase hop }
+        ensures { IsTrue result ↔ StepsBy (state_over O.table N.table self.now) router phase hop }
     {
         is_among(self.hops_in(router, phase), hop)
     }
 
     /// The lowest-numbered router that has to pass packets on and has no step in one of the states.
     pub fn first_stuck(&self) -> Option<u32>
-        ensures { FirstStuck O.table N.table self.now result }
+        ensures { FirstStuck (state_over O.table N.table self.now) result }
     {
         for router in 0..self.mixed.net().routers() {
             if self.is_stuck(router) {
@@ -101,8 +101,8 @@ impl<'s, 'm, O: RouteSource, N: RouteSource> ClassSteps<'s, 'm, O, N> {
     /// Whether a router has to pass packets on and has no step in one of the states.
     fn is_stuck(&self, router: u32) -> bool
         requires { router < length self.now.mixture.net }
-        ensures stuck { OnTrue result (IsStuck O.table N.table self.now router) }
-        ensures moves { OnFalse result (Moves O.table N.table self.now router) }
+        ensures stuck { OnTrue result (IsStuck (state_over O.table N.table self.now) router) }
+        ensures moves { OnFalse result (Moves (state_over O.table N.table self.now) router) }
     {
         self.is_stuck_in(router, self.first_phase(router))
             || self.is_stuck_in(router, self.last_phase(router))
@@ -111,8 +111,8 @@ impl<'s, 'm, O: RouteSource, N: RouteSource> ClassSteps<'s, 'm, O, N> {
     /// Whether a router has to pass packets on and has no step in a phase.
     fn is_stuck_in(&self, router: u32, phase: Phase) -> bool
         requires { router < length self.now.mixture.net }
-        ensures stuck { OnTrue result (IsStuckIn O.table N.table self.now router phase) }
-        ensures moves { OnFalse result (MovesIn O.table N.table self.now router phase) }
+        ensures stuck { OnTrue result (IsStuckIn (state_over O.table N.table self.now) router phase) }
+        ensures moves { OnFalse result (MovesIn (state_over O.table N.table self.now) router phase) }
     {
         if !self.must_forward(router) {
             return false;
@@ -123,7 +123,7 @@ impl<'s, 'm, O: RouteSource, N: RouteSource> ClassSteps<'s, 'm, O, N> {
     /// Whether a router has to pass packets on.
     fn must_forward(&self, router: u32) -> bool
         requires { router < length self.now.mixture.net }
-        ensures { IsTrue result ↔ MustForward self.now.mixture.net (sample_of self.now.mixture self.now.atom) router }
+        ensures { IsTrue result ↔ MustForward self.now.mixture.net (sample_of self.now.mixture.classes self.now.atom) router }
     {
         self.forwards[router as usize]
     }
@@ -147,11 +147,11 @@ impl<'s, 'm, O: RouteSource, N: RouteSource> ClassSteps<'s, 'm, O, N> {
 
 impl<'s, 'm, O: RouteSource, N: RouteSource> StepGraph for ClassSteps<'s, 'm, O, N> {
     ghost use Rattle.std.specs.Prelude.{length};
-    ghost use Rattle.loop_finder.specs.ClassSteps.{ClassStep};
+    ghost use Rattle.loop_finder.specs.ClassSteps.{ClassStep, state_over};
 
     ghost size = { λ s. length s.mixture.net };
 
-    ghost step = { λ s. ClassStep {O = O} {N = N} O.table N.table s };
+    ghost step = { λ s. ClassStep (state_over O.table N.table s) };
 
     fn size(&self) -> u32 {
         self.mixed.net().routers()

@@ -1,4 +1,5 @@
 ghost use Rattle.std.specs.Prelude.{◌≡◌, IfNone, IfSome, Some, length};
+ghost use Rattle.loop_finder.specs.ClassSteps.{mix_of};
 ghost use Rattle.loop_finder.specs.Faults.{KeepsRing};
 ghost use Rattle.loop_finder.specs.Parts.{AreParts, IsPart};
 ghost use Rattle.loop_finder.specs.Rooms.{HasRoom};
@@ -15,17 +16,17 @@ use route_core::RouteSource;
 /// The fault of the steps of two states, for the first class that has one.
 pub fn classes_fault<O: RouteSource, N: RouteSource>(
     mixed: &Mixed<'_, O, N>,
-    parts: &[Part],
+    parts: &[Part<'_>],
     first: &[Phase],
     last: &[Phase],
     room: &mut Room,
 ) -> Option<Fault>
-    requires parts { AreParts O.table N.table mixed.now parts.now (length mixed.now.classes.samples) }
+    requires parts { AreParts (mix_of O.table N.table mixed.now) parts.now (length mixed.now.classes.samples) }
     requires first { length first.now ≡ length mixed.now.net }
     requires last { length last.now ≡ length mixed.now.net }
     requires room { HasRoom (length mixed.now.net) room.old }
     ensures room { HasRoom (length mixed.now.net) room.new }
-    ensures told { Told O.table N.table mixed.now first.now last.now result room.new.ring.items }
+    ensures told { Told (mix_of O.table N.table mixed.now) first.now last.now result room.new.ring.items }
     ensures ring { KeepsRing result room.old.ring.items room.new.ring.items }
 {
     for part in parts {
@@ -40,18 +41,18 @@ pub fn classes_fault<O: RouteSource, N: RouteSource>(
 /// steps of the part may return, or a router may not move.
 fn fault_in<O: RouteSource, N: RouteSource>(
     mixed: &Mixed<'_, O, N>,
-    part: &Part,
+    part: &Part<'_>,
     first: &[Phase],
     last: &[Phase],
     room: &mut Room,
 ) -> Option<Fault>
-    requires part { IsPart O.table N.table mixed.now part.now }
+    requires part { IsPart (mix_of O.table N.table mixed.now) part.now }
     requires first { length first.now ≡ length mixed.now.net }
     requires last { length last.now ≡ length mixed.now.net }
     requires room { HasRoom (length mixed.now.net) room.old }
     ensures room { HasRoom (length mixed.now.net) room.new }
-    ensures clear { IfNone result (IsClearAt O.table N.table mixed.now first.now last.now part.now.atom) }
-    ensures told { IfSome result (λ fault. IsClassVerdict O.table N.table mixed.now first.now last.now part.now.atom (Some fault) room.new.ring.items) }
+    ensures clear { IfNone result (IsClearAt (mix_of O.table N.table mixed.now) first.now last.now part.now.atom) }
+    ensures told { IfSome result (λ fault. IsClassVerdict (mix_of O.table N.table mixed.now) first.now last.now part.now.atom (Some fault) room.new.ring.items) }
     ensures ring { KeepsRing result room.old.ring.items room.new.ring.items }
 {
     if is_clear(part, first, last, mixed.net().routers(), room) {

@@ -3,7 +3,7 @@ ghost use Rattle.std.specs.Bool.{OnTrue};
 ghost use Rattle.loop_finder.specs.steps.Ends.{hops_at};
 ghost use Rattle.loop_finder.specs.steps.Making.{AreNoEnds, IsKnownAt, IsRead, IsReadAt, IsSameAt};
 ghost use Rattle.loop_finder.specs.Parts.{AddsUnless, AreAllBut};
-ghost use Rattle.loop_finder.specs.ClassSteps.{sample_of};
+ghost use Rattle.loop_finder.specs.ClassSteps.{mix_of, sample_of};
 
 use crate::class_hops::next_hops;
 use crate::hop_lists::HopLists;
@@ -69,11 +69,11 @@ pub fn read_class<'m, O: RouteSource, N: RouteSource>(
     changed: &mut Vec<u32>,
 ) -> Result<(), OutOfMemory>
     requires atom { atom < length mixed.now.classes.samples }
-    requires address { sample_of mixed.now atom < 2 ^ 32 }
+    requires address { sample_of mixed.now.classes atom < 2 ^ 32 }
     requires olds { length lists.old.olds ≡ length mixed.now.net }
     requires news { length lists.old.news ≡ length mixed.now.net }
-    requires known { IfSome known (λ other. IsRead O.table N.table mixed.now other lists.old) }
-    ensures read { OnOk result (IsRead O.table N.table mixed.now atom lists.new) }
+    requires known { IfSome known (λ other. IsRead (mix_of O.table N.table mixed.now) other lists.old) }
+    ensures read { OnOk result (IsRead (mix_of O.table N.table mixed.now) atom lists.new) }
     ensures changed { OnOk result (AreAllBut (IsSameAt lists.old lists.new) (length mixed.now.net) changed.new.items) }
 {
     changed.clear();
@@ -97,8 +97,8 @@ fn read_router<'m, O: RouteSource, N: RouteSource>(
     requires olds { length lists.old.olds ≡ length mixed.now.net }
     requires news { length lists.old.news ≡ length mixed.now.net }
     requires class { IfSome known (λ other. other < length mixed.now.classes.samples) }
-    requires known { IfSome known (λ other. IsReadAt O.table N.table mixed.now other lists.old router) }
-    ensures read { OnOk result (IsReadAt O.table N.table mixed.now atom lists.new router) }
+    requires known { IfSome known (λ other. IsReadAt (mix_of O.table N.table mixed.now) other lists.old router) }
+    ensures read { OnOk result (IsReadAt (mix_of O.table N.table mixed.now) atom lists.new router) }
     ensures olds_many { OnOk result (length lists.new.olds ≡ length lists.old.olds) }
     ensures news_many { OnOk result (length lists.new.news ≡ length lists.old.news) }
     ensures others { OnOk result ((u : ℕ) → ¬ (u ≡ router) → IsSameAt lists.old lists.new u) }
@@ -122,7 +122,7 @@ fn is_known_at<O: RouteSource, N: RouteSource>(
     requires atom { atom < length mixed.now.classes.samples }
     requires known { IfSome known (λ other. other < length mixed.now.classes.samples) }
     requires router { router < length mixed.now.net }
-    ensures { OnTrue result (IsKnownAt O.table N.table mixed.now known router atom) }
+    ensures { OnTrue result (IsKnownAt (mix_of O.table N.table mixed.now) known router atom) }
 {
     match known {
         Some(other) => mixed.is_alike_at(router, other, atom),

@@ -32,7 +32,7 @@ use std::marker::Model;
 pub struct Finder<'a, O: RouteSource, N: RouteSource> {
     mixed: &'a Mixed<'a, O, N>,
     /// The classes that are looked at.
-    parts: Vec<Part>,
+    parts: Vec<Part<'a>>,
     /// For each router the parts that a change of it may make unsound.
     watch: Vec<Places>,
     /// The ranks of the latest wave list.
@@ -52,6 +52,7 @@ pub struct Finder<'a, O: RouteSource, N: RouteSource> {
 
 impl<'a, O: RouteSource, N: RouteSource> Model for Finder<'a, O, N> {
     ghost use Rattle.std.specs.Prelude.{vec_len};
+    ghost use Rattle.loop_finder.specs.ClassSteps.{mix_of};
     ghost use Rattle.loop_finder.specs.Faults.{Finding};
     ghost use Rattle.loop_finder.specs.Findings.{IsFinding, Kept};
 
@@ -59,7 +60,7 @@ impl<'a, O: RouteSource, N: RouteSource> Model for Finder<'a, O, N> {
 
     ghost view = { λ x. record { mixture = x.mixed.now; ring = x.room.ring.items } };
 
-    ghost invariant = { λ x. IsFinding O.table N.table x.mixed.now (record {
+    ghost invariant = { λ x. IsFinding (mix_of O.table N.table x.mixed.now) (record {
       parts = x.parts.items;
       watch = x.watch.items;
       ranks = x.ranks.items;

@@ -17,7 +17,7 @@ use std::marker::Model;
 /// The steps of a part in two states: each router has the hops of both.
 #[derive(Drop)]
 struct PartSteps<'s> {
-    part: &'s Part,
+    part: &'s Part<'s>,
     first: &'s [Phase],
     last: &'s [Phase],
     routers: u32,
@@ -35,7 +35,7 @@ impl<'s> Model for PartSteps<'s> {
 
 impl<'s> PartSteps<'s> {
     /// The steps of a part in two states of so many routers.
-    fn new(part: &'s Part, first: &'s [Phase], last: &'s [Phase], routers: u32) -> PartSteps<'s>
+    fn new(part: &'s Part<'s>, first: &'s [Phase], last: &'s [Phase], routers: u32) -> PartSteps<'s>
         requires rows { length part.now.rows ≡ routers }
         requires first { length first.now ≡ routers }
         requires last { length last.now ≡ routers }
@@ -64,16 +64,17 @@ impl<'s> StepGraph for PartSteps<'s> {
     fn hops(&self, router: u32) -> (&[u32], &[u32]) {
         let first = self.first[router as usize];
         let last = self.last[router as usize];
-        (
-            self.part.hops_in(router, first),
-            self.part.hops_in(router, last),
-        )
+        let hops = self.part.hops_in(router, first);
+        if first == last {
+            return (hops, &[]);
+        }
+        (hops, self.part.hops_in(router, last))
     }
 }
 
 /// Whether all routers move, and no walk over the steps of a part in two states returns to a router.
 pub fn passes_part_never(
-    part: &Part,
+    part: &Part<'_>,
     first: &[Phase],
     last: &[Phase],
     router: u32,
@@ -98,7 +99,13 @@ pub fn passes_part_never(
 }
 
 /// Whether all routers move, and no walk over the steps of a part in two states returns.
-pub fn is_clear(part: &Part, first: &[Phase], last: &[Phase], routers: u32, room: &mut Room) -> bool
+pub fn is_clear(
+    part: &Part<'_>,
+    first: &[Phase],
+    last: &[Phase],
+    routers: u32,
+    room: &mut Room,
+) -> bool
     requires rows { length part.now.rows ≡ routers }
     requires first { length first.now ≡ routers }
     requires last { length last.now ≡ routers }

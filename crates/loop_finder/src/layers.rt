@@ -54,27 +54,28 @@ const UNREACHED: Visit = Visit {
 
 impl Visit {
     /// Follows the steps of its router, in two lists, on to the first that leads to one that isn't reached, which it tells.
-    fn follow_all(&mut self, hops: &[u32], others: &[u32], visits: &[Visit]) -> Option<u32> {
-        let first = self.followed;
-        if let Some(hop) = self.follow(hops, first, visits) {
-            return Some(hop);
-        }
-        let first = self.followed.saturating_sub(hops.len());
-        self.follow(others, first, visits)
-    }
-
-    /// Follows the steps to some routers from a place on.
-    fn follow(&mut self, hops: &[u32], first: usize, visits: &[Visit]) -> Option<u32> {
-        for place in first..hops.len() {
-            self.followed = self.followed.saturating_add(1);
-            let hop = hops[place];
+    fn follow(&mut self, hops: &[u32], others: &[u32], visits: &[Visit]) -> Option<u32> {
+        for place in self.followed..hops.len().saturating_add(others.len()) {
+            let hop = hop_at(hops, others, place);
             let number = number_of(visits, hop);
             if number == 0 {
+                self.followed = place + 1;
                 return Some(hop);
             }
             self.lowest = self.lowest.min(number);
         }
         None
+    }
+}
+
+/// The router at a place of two lists, one after the other.
+fn hop_at(hops: &[u32], others: &[u32], place: usize) -> u32 {
+    match hops.get(place) {
+        Some(hop) => *hop,
+        None => others
+            .get(place.saturating_sub(hops.len()))
+            .copied()
+            .unwrap_or(0),
     }
 }
 
@@ -103,7 +104,9 @@ impl Layers {
         for root in roots {
             self.search_once(graph, *root);
         }
-        self.search_marked(graph, marks);
+        if marks.contains(&true) {
+            self.search_marked(graph, marks);
+        }
     }
 
     /// Searches all that can be reached from marked routers and isn't reached yet.
@@ -157,36 +160,34 @@ impl Layers {
         }
     }
 
-    /// The router at which the search goes on after another: one that this steps to, else the one from which it was reached;
-    /// none where it was reached from itself.
+    /// The router at which the search goes on after another: one that this steps to and that isn't reached, else the one from
+    /// which it was reached; none where it was reached from itself.
     fn next_router<G: StepGraph>(&mut self, graph: &G, router: u32) -> Option<u32> {
-        match self.next_hop(graph, router) {
-            Some(hop) => {
-                self.reach(hop, router);
-                Some(hop)
-            }
-            None => self.go_back(router),
-        }
-    }
-
-    /// The next router that a router steps to and that isn't reached.
-    fn next_hop<G: StepGraph>(&mut self, graph: &G, router: u32) -> Option<u32> {
         let mut visit = self.visits.get(router as usize).copied()?;
         if router >= graph.size() {
             return None;
         }
         let (hops, others) = graph.hops(router);
-        let found = visit.follow_all(hops, others, self.visits.as_slice());
+        match visit.follow(hops, others, self.visits.as_slice()) {
+            Some(hop) => {
+                self.keep(router, visit);
+                self.reach(hop, router);
+                Some(hop)
+            }
+            None => self.go_back(router, visit),
+        }
+    }
+
+    /// Keeps what the search knows of a router.
+    fn keep(&mut self, router: u32, visit: Visit) {
         if let Some(own) = self.visits.get_mut(router as usize) {
             *own = visit;
         }
-        found
     }
 
-    /// Goes back to the router from which a router was reached. A router that leads to none reached before it closes a
-    /// strongly connected part.
-    fn go_back(&mut self, router: u32) -> Option<u32> {
-        let visit = self.visits.get(router as usize).copied()?;
+    /// Goes back to the router from which a router was reached, all of whose steps were followed. A router that leads to none
+    /// reached before it closes a strongly connected part.
+    fn go_back(&mut self, router: u32, visit: Visit) -> Option<u32> {
         if visit.lowest == visit.number {
             self.give_layer(router);
         }

@@ -2,8 +2,8 @@
 //!
 //! `Finder::new` looks at each class of addresses once. A class is kept as a *part* where some state may be unsound for it:
 //! its routers to which a walk over the steps of both networks may return, with their hops in each phase. All other classes
-//! are sound in every state, and classes with equal parts have one. A question then looks at parts alone, and on the first
-//! bad one at its class, for the fault that the definitions name.
+//! are sound in every state, and a class whose hops between such routers an earlier part has needs none. A question then
+//! looks at parts alone, and on the first bad one at its class, for the fault that the definitions name.
 //!
 //! | File | What it holds |
 //! |---|---|

@@ -1,7 +1,8 @@
 ghost use Rattle.std.specs.Prelude.{◌≡◌, ◌+◌, ◌*◌, ◌≤◌, ◌<◌, ℕ, Contains, IfNone, IfSome, length};
 ghost use Rattle.std.specs.Bool.{OnTrue};
 ghost use Rattle.order_core.specs.Orders.{IsOrder};
-ghost use Rattle.loop_finder.specs.Faults.{KeepsRing, told, state_in};
+ghost use Rattle.loop_finder.specs.ClassSteps.{mix_of};
+ghost use Rattle.loop_finder.specs.Faults.{KeepsRing, state_in, told, told_fault};
 ghost use Rattle.loop_finder.specs.Orders.{AreFirstStates, IsAdvanced, IsStateOf, next_phase};
 ghost use Rattle.igp_theory.specs.States.{all_old};
 ghost use Rattle.loop_finder.specs.Parts.{AreParts};
@@ -21,16 +22,16 @@ use route_core::RouteSource;
 /// The fault of a state.
 pub fn state_fault<O: RouteSource, N: RouteSource>(
     mixed: &Mixed<'_, O, N>,
-    parts: &[Part],
+    parts: &[Part<'_>],
     phases: &[Phase],
     room: &mut Room,
 ) -> Option<Fault>
-    requires parts { AreParts O.table N.table mixed.now parts.now (length mixed.now.classes.samples) }
+    requires parts { AreParts (mix_of O.table N.table mixed.now) parts.now (length mixed.now.classes.samples) }
     requires phases { length phases.now ≡ length mixed.now.net }
     requires room { HasRoom (length mixed.now.net) room.old }
     ensures room { HasRoom (length mixed.now.net) room.new }
-    ensures sound { IfNone result (Sound O.table N.table mixed.now (state_in phases.now)) }
-    ensures fault { IfSome result (λ fault. Faulty O.table N.table mixed.now (state_in phases.now) fault room.new.ring.items) }
+    ensures sound { IfNone result (Sound (mix_of O.table N.table mixed.now) (state_in phases.now)) }
+    ensures fault { IfSome result (λ fault. Faulty (mix_of O.table N.table mixed.now) (state_in phases.now) fault room.new.ring.items) }
     ensures ring { KeepsRing result room.old.ring.items room.new.ring.items }
 {
     classes_fault(mixed, parts, phases, phases, room)
@@ -39,15 +40,15 @@ pub fn state_fault<O: RouteSource, N: RouteSource>(
 /// Whether the state in which every router is in its old phase is sound. The room may keep the ring of its fault.
 pub fn begin_is_sound<O: RouteSource, N: RouteSource>(
     mixed: &Mixed<'_, O, N>,
-    parts: &[Part],
+    parts: &[Part<'_>],
     phases: &mut [Phase],
     room: &mut Room,
 ) -> bool
-    requires parts { AreParts O.table N.table mixed.now parts.now (length mixed.now.classes.samples) }
+    requires parts { AreParts (mix_of O.table N.table mixed.now) parts.now (length mixed.now.classes.samples) }
     requires phases { length phases.old ≡ length mixed.now.net }
     requires room { HasRoom (length mixed.now.net) room.old }
     ensures room { HasRoom (length mixed.now.net) room.new }
-    ensures sound { OnTrue result (Sound O.table N.table mixed.now all_old) }
+    ensures sound { OnTrue result (Sound (mix_of O.table N.table mixed.now) all_old) }
 {
     begin(phases);
     match state_fault(mixed, parts, phases, room) {
@@ -62,7 +63,7 @@ pub fn begin_is_sound<O: RouteSource, N: RouteSource>(
 /// After a change only the walks through the changed router are followed, since the state before was sound.
 pub fn order_fault<O: RouteSource, N: RouteSource>(
     mixed: &Mixed<'_, O, N>,
-    parts: &[Part],
+    parts: &[Part<'_>],
     watch: &[Places],
     begun: bool,
     known: usize,
@@ -70,17 +71,17 @@ pub fn order_fault<O: RouteSource, N: RouteSource>(
     phases: &mut [Phase],
     room: &mut Room,
 ) -> Option<(u32, Fault)>
-    requires parts { AreParts O.table N.table mixed.now parts.now (length mixed.now.classes.samples) }
+    requires parts { AreParts (mix_of O.table N.table mixed.now) parts.now (length mixed.now.classes.samples) }
     requires watch { IsWatch parts.now (length mixed.now.net) watch.now }
-    requires begun { OnTrue begun (Sound O.table N.table mixed.now all_old) }
-    requires known { AreFirstStates (Sound O.table N.table mixed.now) order.now known }
+    requires begun { OnTrue begun (Sound (mix_of O.table N.table mixed.now) all_old) }
+    requires known { AreFirstStates (Sound (mix_of O.table N.table mixed.now)) order.now known }
     requires order { IsOrder (length mixed.now.net) order.now }
     requires phases { length phases.old ≡ length mixed.now.net }
     requires room { HasRoom (length mixed.now.net) room.old }
     ensures room { HasRoom (length mixed.now.net) room.new }
-    ensures sound { IfNone result (AreFirstStates (Sound O.table N.table mixed.now) order.now (2 * length order.now + 1)) }
+    ensures sound { IfNone result (AreFirstStates (Sound (mix_of O.table N.table mixed.now)) order.now (2 * length order.now + 1)) }
     ensures within { IfSome result (λ found. found.0 ≤ 2 * length order.now) }
-    ensures fault { IfSome result (λ found. FirstFaulty O.table N.table mixed.now order.now found.0 found.1 room.new.ring.items) }
+    ensures fault { IfSome result (λ found. FirstFaulty (mix_of O.table N.table mixed.now) order.now found.0 (told_fault found.1 room.new.ring.items)) }
     ensures ring { KeepsRing (told result) room.old.ring.items room.new.ring.items }
 {
     begin(phases);
@@ -98,19 +99,19 @@ pub fn order_fault<O: RouteSource, N: RouteSource>(
 /// The fault of the first state, where that isn't known to be sound.
 fn begin_fault<O: RouteSource, N: RouteSource>(
     mixed: &Mixed<'_, O, N>,
-    parts: &[Part],
+    parts: &[Part<'_>],
     begun: bool,
     phases: &[Phase],
     room: &mut Room,
 ) -> Option<Fault>
-    requires parts { AreParts O.table N.table mixed.now parts.now (length mixed.now.classes.samples) }
-    requires begun { OnTrue begun (Sound O.table N.table mixed.now all_old) }
+    requires parts { AreParts (mix_of O.table N.table mixed.now) parts.now (length mixed.now.classes.samples) }
+    requires begun { OnTrue begun (Sound (mix_of O.table N.table mixed.now) all_old) }
     requires many { length phases.now ≡ length mixed.now.net }
     requires phases { (u : ℕ) → state_in phases.now u ≡ Phase.Old }
     requires room { HasRoom (length mixed.now.net) room.old }
     ensures room { HasRoom (length mixed.now.net) room.new }
-    ensures sound { IfNone result (Sound O.table N.table mixed.now (state_in phases.now)) }
-    ensures fault { IfSome result (λ fault. Faulty O.table N.table mixed.now (state_in phases.now) fault room.new.ring.items) }
+    ensures sound { IfNone result (Sound (mix_of O.table N.table mixed.now) (state_in phases.now)) }
+    ensures fault { IfSome result (λ fault. Faulty (mix_of O.table N.table mixed.now) (state_in phases.now) fault room.new.ring.items) }
     ensures ring { KeepsRing result room.old.ring.items room.new.ring.items }
 {
     if begun {
@@ -123,7 +124,7 @@ fn begin_fault<O: RouteSource, N: RouteSource>(
 /// sound.
 fn change_fault<O: RouteSource, N: RouteSource>(
     mixed: &Mixed<'_, O, N>,
-    parts: &[Part],
+    parts: &[Part<'_>],
     watch: &[Places],
     known: usize,
     order: &[u32],
@@ -131,29 +132,29 @@ fn change_fault<O: RouteSource, N: RouteSource>(
     phases: &mut [Phase],
     room: &mut Room,
 ) -> Option<Fault>
-    requires parts { AreParts O.table N.table mixed.now parts.now (length mixed.now.classes.samples) }
+    requires parts { AreParts (mix_of O.table N.table mixed.now) parts.now (length mixed.now.classes.samples) }
     requires watch { IsWatch parts.now (length mixed.now.net) watch.now }
-    requires known { AreFirstStates (Sound O.table N.table mixed.now) order.now known }
+    requires known { AreFirstStates (Sound (mix_of O.table N.table mixed.now)) order.now known }
     requires routers { (u : ℕ) → Contains order.now u → u < length mixed.now.net }
     requires many { length phases.old ≡ length mixed.now.net }
     requires state { IsStateOf phases.old order.now k }
-    requires before { Sound O.table N.table mixed.now (state_in phases.old) }
+    requires before { Sound (mix_of O.table N.table mixed.now) (state_in phases.old) }
     requires room { HasRoom (length mixed.now.net) room.old }
     ensures state { IsStateOf phases.new order.now (k + 1) }
     ensures room { HasRoom (length mixed.now.net) room.new }
-    ensures sound { IfNone result (Sound O.table N.table mixed.now (state_in phases.new)) }
-    ensures fault { IfSome result (λ fault. Faulty O.table N.table mixed.now (state_in phases.new) fault room.new.ring.items) }
+    ensures sound { IfNone result (Sound (mix_of O.table N.table mixed.now) (state_in phases.new)) }
+    ensures fault { IfSome result (λ fault. Faulty (mix_of O.table N.table mixed.now) (state_in phases.new) fault room.new.ring.items) }
     ensures ring { KeepsRing result room.old.ring.items room.new.ring.items }
 {
     let Some(router) = order.get(k as usize / 2) else {
         return None;
     };
-    advance(phases, *router);
+    let was = advance(phases, *router);
     if is_known(k, known) {
         return None;
     }
     let places = watch[*router as usize].as_slice();
-    turned_fault(mixed, parts, places, phases, *router, room)
+    turned_fault(mixed, parts, places, phases, *router, was, room)
 }
 
 /// Whether the state that comes of a change is among the first ones, so many of them.
@@ -172,12 +173,15 @@ fn begin(phases: &mut [Phase])
     }
 }
 
-/// Makes the next change of a router.
-fn advance(phases: &mut [Phase], router: u32)
+/// Makes the next change of a router, and tells its phase before.
+fn advance(phases: &mut [Phase], router: u32) -> Phase
     requires { router < length phases.old }
-    ensures { IsAdvanced phases.old phases.new router }
+    ensures state { IsAdvanced phases.old phases.new router }
+    ensures was { state_in phases.old router ≡ result }
 {
-    phases[router as usize] = next_phase(phases[router as usize]);
+    let was = phases[router as usize];
+    phases[router as usize] = next_phase(was);
+    was
 }
 
 /// The phase after the next change.

@@ -1,14 +1,15 @@
-ghost use Rattle.std.specs.Prelude.{◌≡◌, ◌<◌, ◌≤◌, ◌^◌, ℕ, Contains, IfOk, IfSome, OnOk, length, slice_index_or};
+ghost use Rattle.std.specs.Prelude.{◌≡◌, ◌<◌, ◌^◌, ℕ, Contains, IfOk, OnOk, length, slice_index_or};
 ghost use Rattle.std.specs.Bool.{OnTrue};
+ghost use Rattle.order_core.specs.Marks.{IsMarked};
 ghost use Rattle.loop_finder.specs.steps.Targets.{IsTargetIn};
 ghost use Rattle.igp_theory.specs.declared.phase.Phase.{Phase};
-ghost use Rattle.loop_finder.specs.steps.PartRows.{AreKept, AreRowsOf, HoldsNext, IsRowOf, KeepsOne};
+ghost use Rattle.loop_finder.specs.steps.PartRows.{AreKept, AreRowsOf, HasHops, HasMarked, HaveHops, IsRowOf};
 ghost use Rattle.loop_finder.specs.Parts.{AddsUnless, AllMove, AreSteppers, IsBareIn, IsPart, StepsEver, hops_of, no_hops, part_hops};
 ghost use Rattle.loop_finder.specs.Returns.{MarksReturns};
-ghost use Rattle.loop_finder.specs.ClassSteps.{sample_of};
+ghost use Rattle.loop_finder.specs.ClassSteps.{mix_of, sample_of};
 ghost use Rattle.loop_finder.specs.Watches.{IsIdle};
 
-use crate::class_hops::hops_towards;
+use crate::class_hops::next_hops;
 use crate::live::is_marked;
 use net_addr::Prefix;
 use rib_mix::{Mixed, OutOfMemory, Phase};
@@ -19,31 +20,33 @@ use std::marker::Model;
 /// What digests are multiplied by: an odd number whose bits look like chance (2 to the power of 64 by the golden ratio).
 const DIGEST_FACTOR: u64 = 0x9e37_79b9_7f4a_7c15;
 
-/// The hops of a router by which a walk may return to it, in each phase.
+/// The hops of a router by which a walk may return to it, in each phase: those of its entry where one of them is marked, else
+/// none.
 #[derive(Drop)]
-pub struct Row {
-    old: Vec<u32>,
-    middle: Vec<u32>,
-    new: Vec<u32>,
+pub struct Row<'m> {
+    old: &'m [u32],
+    middle: &'m [u32],
+    new: &'m [u32],
 }
 
-impl Model for Row {
+impl<'m> Model for Row<'m> {
     ghost use Rattle.loop_finder.specs.Parts.{PhaseHops};
 
     ghost Value = { PhaseHops };
 
-    ghost view = { λ x. record { old = x.old.items; middle = x.middle.items; new = x.new.items } };
+    ghost view = { λ x. record { old = x.old.now; middle = x.middle.now; new = x.new.now } };
 }
 
-impl Row {
+impl<'m> Row<'m> {
     /// No hops.
-    fn empty(alloc: Global) -> Row
+    fn empty() -> Row<'m>
         ensures { result ≡ no_hops }
     {
+        let none: &'m [u32] = &[];
         Row {
-            old: Vec::new(alloc),
-            middle: Vec::new(alloc),
-            new: Vec::new(alloc),
+            old: none,
+            middle: none,
+            new: none,
         }
     }
 
@@ -52,9 +55,9 @@ impl Row {
         ensures { result.now ≡ hops_of self.now phase }
     {
         match phase {
-            Phase::Old => self.old.as_slice(),
-            Phase::Middle => self.middle.as_slice(),
-            Phase::New => self.new.as_slice(),
+            Phase::Old => self.old,
+            Phase::Middle => self.middle,
+            Phase::New => self.new,
         }
     }
 
@@ -65,32 +68,32 @@ impl Row {
         self.old.is_empty() && self.middle.is_empty() && self.new.is_empty()
     }
 
-    /// Whether its hops are the marked ones of these.
-    fn has_kept(&self, olds: &[u32], middles: &[u32], news: &[u32], marks: &[bool]) -> bool
-        ensures old { OnTrue result (AreKept olds.now marks.now self.now.old) }
-        ensures middle { OnTrue result (AreKept middles.now marks.now self.now.middle) }
-        ensures new { OnTrue result (AreKept news.now marks.now self.now.new) }
+    /// Whether it has the marked ones of another's hops.
+    fn has_all(&self, other: &Row<'_>, marks: &[bool]) -> bool
+        ensures old { OnTrue result (HasMarked marks.now self.now.old other.now.old) }
+        ensures middle { OnTrue result (HasMarked marks.now self.now.middle other.now.middle) }
+        ensures new { OnTrue result (HasMarked marks.now self.now.new other.now.new) }
     {
-        are_kept(olds, marks, self.old.as_slice())
-            && are_kept(middles, marks, self.middle.as_slice())
-            && are_kept(news, marks, self.new.as_slice())
+        has_marked(self.old, other.old, marks)
+            && has_marked(self.middle, other.middle, marks)
+            && has_marked(self.new, other.new, marks)
     }
 }
 
 /// The part of a class's steps that loops can take: for each router and phase the hops by which a walk over the
 /// steps of both networks may return to the router.
 #[derive(Drop)]
-pub struct Part {
+pub struct Part<'m> {
     atom: u32,
     moves: bool,
     /// A number that parts share in which the same routers are marked, so that most others are told apart at once.
     digest: u64,
-    rows: Vec<Row>,
+    rows: Vec<Row<'m>>,
     /// The routers that have hops.
     steppers: Vec<u32>,
 }
 
-impl Model for Part {
+impl<'m> Model for Part<'m> {
     ghost use Rattle.loop_finder.specs.Parts.{AreSteppers, ClassPart};
 
     ghost Value = { ClassPart };
@@ -100,24 +103,24 @@ impl Model for Part {
     ghost invariant = { λ x. AreSteppers x.rows.items x.steppers.items };
 }
 
-impl Part {
+impl<'m> Part<'m> {
     /// The part of a class, where it's known to which routers a walk over its steps may return, and whether every router
     /// that has to pass packets on has a step in both networks.
     pub fn build<O: RouteSource, N: RouteSource>(
         alloc: Global,
-        mixed: &Mixed<'_, O, N>,
+        mixed: &'m Mixed<'_, O, N>,
         atom: u32,
         target: Prefix,
         marks: &[bool],
         moves: bool,
-    ) -> Result<Part, OutOfMemory>
+    ) -> Result<Part<'m>, OutOfMemory>
         requires atom { atom < length mixed.now.classes.samples }
-        requires address { sample_of mixed.now atom < 2 ^ 32 }
-        requires target { IsTargetIn mixed.now.net (sample_of mixed.now atom) target }
+        requires address { sample_of mixed.now.classes atom < 2 ^ 32 }
+        requires target { IsTargetIn mixed.now.net (sample_of mixed.now.classes atom) target }
         requires marks { length marks.now ≡ length mixed.now.net }
-        requires returns { MarksReturns (StepsEver O.table N.table mixed.now atom) marks.now }
-        requires moves { OnTrue moves (AllMove O.table N.table mixed.now atom) }
-        ensures part { IfOk result (IsPart O.table N.table mixed.now) }
+        requires returns { MarksReturns (StepsEver (mix_of O.table N.table mixed.now) atom) marks.now }
+        requires moves { OnTrue moves (AllMove (mix_of O.table N.table mixed.now) atom) }
+        ensures part { IfOk result (IsPart (mix_of O.table N.table mixed.now)) }
         ensures class { IfOk result (λ part. part.atom ≡ atom) }
     {
         let rows = rows_of(alloc, mixed, atom, target, marks)?;
@@ -168,8 +171,8 @@ impl Part {
         self.moves && self.rows[router as usize].is_bare()
     }
 
-    /// Whether its hops are those of a class between marked routers, of which this is the digest.
-    pub fn has_rows_of<O: RouteSource, N: RouteSource>(
+    /// Whether it has all hops of a class between marked routers, of which this is the digest.
+    pub fn has_hops_of<O: RouteSource, N: RouteSource>(
         &self,
         mixed: &Mixed<'_, O, N>,
         atom: u32,
@@ -179,13 +182,80 @@ impl Part {
     ) -> bool
         requires rows { length self.now.rows ≡ length mixed.now.net }
         requires atom { atom < length mixed.now.classes.samples }
-        requires address { sample_of mixed.now atom < 2 ^ 32 }
-        requires target { IsTargetIn mixed.now.net (sample_of mixed.now atom) target }
+        requires address { sample_of mixed.now.classes atom < 2 ^ 32 }
+        requires target { IsTargetIn mixed.now.net (sample_of mixed.now.classes atom) target }
         requires marks { length marks.now ≡ length mixed.now.net }
-        ensures { OnTrue result (AreRowsOf O.table N.table mixed.now atom marks.now self.now.rows) }
+        ensures { OnTrue result (HaveHops (mix_of O.table N.table mixed.now) atom marks.now self.now.rows) }
     {
-        self.digest == digest && are_rows_of(mixed, atom, target, marks, self.rows.as_slice())
+        self.digest == digest && have_hops(mixed, atom, target, marks, self.rows.as_slice())
     }
+}
+
+/// Whether some rows have all hops of a class between marked routers.
+fn have_hops<O: RouteSource, N: RouteSource>(
+    mixed: &Mixed<'_, O, N>,
+    atom: u32,
+    target: Prefix,
+    marks: &[bool],
+    rows: &[Row<'_>],
+) -> bool
+    requires rows { length rows.now ≡ length mixed.now.net }
+    requires atom { atom < length mixed.now.classes.samples }
+    requires address { sample_of mixed.now.classes atom < 2 ^ 32 }
+    requires target { IsTargetIn mixed.now.net (sample_of mixed.now.classes atom) target }
+    requires marks { length marks.now ≡ length mixed.now.net }
+    ensures { OnTrue result (HaveHops (mix_of O.table N.table mixed.now) atom marks.now rows.now) }
+{
+    for router in 0..mixed.net().routers() {
+        if !has_hops(mixed, atom, target, router, marks, &rows[router as usize]) {
+            return false;
+        }
+    }
+    true
+}
+
+/// Whether a row has all hops of a router to marked ones, where it's marked itself.
+fn has_hops<O: RouteSource, N: RouteSource>(
+    mixed: &Mixed<'_, O, N>,
+    atom: u32,
+    target: Prefix,
+    router: u32,
+    marks: &[bool],
+    row: &Row<'_>,
+) -> bool
+    requires atom { atom < length mixed.now.classes.samples }
+    requires address { sample_of mixed.now.classes atom < 2 ^ 32 }
+    requires target { IsTargetIn mixed.now.net (sample_of mixed.now.classes atom) target }
+    requires router { router < length mixed.now.net }
+    ensures { OnTrue result (HasHops (mix_of O.table N.table mixed.now) atom marks.now router row.now) }
+{
+    if !is_marked(marks, router) {
+        return true;
+    }
+    let own = row_of(mixed, atom, target, router, marks);
+    row.has_all(&own, marks)
+}
+
+/// Whether the marked ones of some routers are among others.
+fn has_marked(others: &[u32], routers: &[u32], marks: &[bool]) -> bool
+    ensures { OnTrue result (HasMarked marks.now others.now routers.now) }
+{
+    for router in routers {
+        if !is_among(others, marks, *router) {
+            return false;
+        }
+    }
+    true
+}
+
+/// Whether a router is among others, where it's marked.
+fn is_among(others: &[u32], marks: &[bool], router: u32) -> bool
+    ensures { OnTrue result (IsMarked marks.now router → Contains others.now router) }
+{
+    if !is_marked(marks, router) {
+        return true;
+    }
+    others.contains(&router)
 }
 
 /// A number made of the marked routers.
@@ -200,7 +270,7 @@ pub fn digest_of(marks: &[bool]) -> u64 {
 }
 
 /// The routers, so many, that have hops by their rows.
-fn steppers_of(alloc: Global, rows: &[Row], routers: u32) -> Result<Vec<u32>, OutOfMemory>
+fn steppers_of(alloc: Global, rows: &[Row<'_>], routers: u32) -> Result<Vec<u32>, OutOfMemory>
     requires { length rows.now ≡ routers }
     ensures { IfOk result (λ steppers. AreSteppers rows.now steppers.items) }
 {
@@ -212,7 +282,7 @@ fn steppers_of(alloc: Global, rows: &[Row], routers: u32) -> Result<Vec<u32>, Ou
 }
 
 /// Adds a router that has hops by its row.
-fn add_stepper(rows: &[Row], router: u32, steppers: &mut Vec<u32>) -> Result<(), OutOfMemory>
+fn add_stepper(rows: &[Row<'_>], router: u32, steppers: &mut Vec<u32>) -> Result<(), OutOfMemory>
     requires { router < length rows.now }
     ensures { OnOk result (AddsUnless (IsBareIn rows.now router) router steppers.old.items steppers.new.items) }
 {
@@ -224,151 +294,62 @@ fn add_stepper(rows: &[Row], router: u32, steppers: &mut Vec<u32>) -> Result<(),
 }
 
 /// The hops between marked routers, for each router and the addresses of a class.
-fn rows_of<O: RouteSource, N: RouteSource>(
+fn rows_of<'m, O: RouteSource, N: RouteSource>(
     alloc: Global,
-    mixed: &Mixed<'_, O, N>,
+    mixed: &'m Mixed<'_, O, N>,
     atom: u32,
     target: Prefix,
     marks: &[bool],
-) -> Result<Vec<Row>, OutOfMemory>
+) -> Result<Vec<Row<'m>>, OutOfMemory>
     requires atom { atom < length mixed.now.classes.samples }
-    requires address { sample_of mixed.now atom < 2 ^ 32 }
-    requires target { IsTargetIn mixed.now.net (sample_of mixed.now atom) target }
+    requires address { sample_of mixed.now.classes atom < 2 ^ 32 }
+    requires target { IsTargetIn mixed.now.net (sample_of mixed.now.classes atom) target }
     requires marks { length marks.now ≡ length mixed.now.net }
-    ensures { IfOk result (λ rows. AreRowsOf O.table N.table mixed.now atom marks.now rows.items) }
+    ensures { IfOk result (λ rows. AreRowsOf (mix_of O.table N.table mixed.now) atom marks.now rows.items) }
 {
     let mut rows = Vec::with_capacity(alloc, marks.len())?;
     for router in 0..mixed.net().routers() {
-        let row = row_of(alloc, mixed, atom, target, router, marks)?;
+        let row = row_of(mixed, atom, target, router, marks);
         rows.push(row)?;
     }
     Ok(rows)
 }
 
-/// Whether some rows are those.
-fn are_rows_of<O: RouteSource, N: RouteSource>(
-    mixed: &Mixed<'_, O, N>,
-    atom: u32,
-    target: Prefix,
-    marks: &[bool],
-    rows: &[Row],
-) -> bool
-    requires rows { length rows.now ≡ length mixed.now.net }
-    requires atom { atom < length mixed.now.classes.samples }
-    requires address { sample_of mixed.now atom < 2 ^ 32 }
-    requires target { IsTargetIn mixed.now.net (sample_of mixed.now atom) target }
-    requires marks { length marks.now ≡ length mixed.now.net }
-    ensures { OnTrue result (AreRowsOf O.table N.table mixed.now atom marks.now rows.now) }
-{
-    for router in 0..mixed.net().routers() {
-        if !is_row_of(mixed, atom, target, router, marks, &rows[router as usize]) {
-            return false;
-        }
-    }
-    true
-}
-
 /// The hops from a router to marked routers, none where it isn't marked itself.
-fn row_of<O: RouteSource, N: RouteSource>(
-    alloc: Global,
-    mixed: &Mixed<'_, O, N>,
+fn row_of<'m, O: RouteSource, N: RouteSource>(
+    mixed: &'m Mixed<'_, O, N>,
     atom: u32,
     target: Prefix,
     router: u32,
     marks: &[bool],
-) -> Result<Row, OutOfMemory>
+) -> Row<'m>
     requires atom { atom < length mixed.now.classes.samples }
-    requires address { sample_of mixed.now atom < 2 ^ 32 }
-    requires target { IsTargetIn mixed.now.net (sample_of mixed.now atom) target }
+    requires address { sample_of mixed.now.classes atom < 2 ^ 32 }
+    requires target { IsTargetIn mixed.now.net (sample_of mixed.now.classes atom) target }
     requires router { router < length mixed.now.net }
-    ensures { IfOk result (IsRowOf O.table N.table mixed.now atom marks.now router) }
+    ensures { IsRowOf (mix_of O.table N.table mixed.now) atom marks.now router result }
 {
     if !is_marked(marks, router) {
-        return Ok(Row::empty(alloc));
+        return Row::empty();
     }
-    let olds = hops_towards(mixed, atom, target, Phase::Old, router);
-    let middles = hops_towards(mixed, atom, target, Phase::Middle, router);
-    let news = hops_towards(mixed, atom, target, Phase::New, router);
-    Ok(Row {
-        old: kept(alloc, olds, marks)?,
-        middle: kept(alloc, middles, marks)?,
-        new: kept(alloc, news, marks)?,
-    })
+    if mixed.originates(router, target) {
+        return Row::empty();
+    }
+    Row {
+        old: kept(next_hops(mixed, atom, Phase::Old, router), marks),
+        middle: kept(next_hops(mixed, atom, Phase::Middle, router), marks),
+        new: kept(next_hops(mixed, atom, Phase::New, router), marks),
+    }
 }
 
-/// Whether a row is the one of a router.
-fn is_row_of<O: RouteSource, N: RouteSource>(
-    mixed: &Mixed<'_, O, N>,
-    atom: u32,
-    target: Prefix,
-    router: u32,
-    marks: &[bool],
-    row: &Row,
-) -> bool
-    requires atom { atom < length mixed.now.classes.samples }
-    requires address { sample_of mixed.now atom < 2 ^ 32 }
-    requires target { IsTargetIn mixed.now.net (sample_of mixed.now atom) target }
-    requires router { router < length mixed.now.net }
-    ensures { OnTrue result (IsRowOf O.table N.table mixed.now atom marks.now router row.now) }
+/// Some routers where one of them is marked, else none.
+fn kept<'m>(routers: &'m [u32], marks: &[bool]) -> &'m [u32]
+    ensures { AreKept routers.now marks.now result.now }
 {
-    if !is_marked(marks, router) {
-        return row.is_bare();
-    }
-    let olds = hops_towards(mixed, atom, target, Phase::Old, router);
-    let middles = hops_towards(mixed, atom, target, Phase::Middle, router);
-    let news = hops_towards(mixed, atom, target, Phase::New, router);
-    row.has_kept(olds, middles, news, marks)
-}
-
-/// The marked ones of some routers.
-fn kept(alloc: Global, routers: &[u32], marks: &[bool]) -> Result<Vec<u32>, OutOfMemory>
-    ensures { IfOk result (λ v. AreKept routers.now marks.now v.items) }
-{
-    let mut kept = Vec::new(alloc);
     for router in routers {
-        keep_one(&mut kept, marks, *router)?;
-    }
-    Ok(kept)
-}
-
-/// Keeps a router where it's marked.
-fn keep_one(kept: &mut Vec<u32>, marks: &[bool], router: u32) -> Result<(), OutOfMemory>
-    ensures { OnOk result (KeepsOne marks.now router kept.old.items kept.new.items) }
-{
-    if is_marked(marks, router) {
-        kept.push(router)?;
-    }
-    Ok(())
-}
-
-/// Whether these are the marked ones of some routers, in their order.
-fn are_kept(routers: &[u32], marks: &[bool], kept: &[u32]) -> bool
-    ensures { OnTrue result (AreKept routers.now marks.now kept.now) }
-{
-    let mut place = 0;
-    for router in routers {
-        match place_after(kept, place, marks, *router) {
-            Some(next) => place = next,
-            None => return false,
+        if is_marked(marks, *router) {
+            return routers;
         }
     }
-    if place != kept.len() {
-        return false;
-    }
-    true
-}
-
-/// The place that comes after a router among those kept: the one after its own where it's marked, else the same place; none
-/// where it's marked and isn't at the place.
-fn place_after(kept: &[u32], place: usize, marks: &[bool], router: u32) -> Option<usize>
-    requires { place ≤ length kept.now }
-    ensures { IfSome result (HoldsNext marks.now kept.now place router) }
-{
-    if !is_marked(marks, router) {
-        return Some(place);
-    }
-    if place < kept.len() && kept[place] == router {
-        return Some(place + 1);
-    }
-    None
+    &[]
 }

@@ -4,10 +4,10 @@ ghost use Rattle.loop_finder.specs.steps.Targets.{IsTargetIn};
 ghost use Rattle.order_core.specs.Marks.{IsMarked};
 ghost use Rattle.loop_finder.specs.steps.Ends.{EndStep, MovesAtEnds};
 ghost use Rattle.loop_finder.specs.steps.Making.{IsKnownClass, IsMaking, IsRead, ends_of};
-ghost use Rattle.loop_finder.specs.steps.PartRows.{HasEarlierRows};
-ghost use Rattle.loop_finder.specs.Parts.{AllMove, AreAllBut, AreParts, IsCovered, IsPart};
+ghost use Rattle.loop_finder.specs.steps.PartRows.{HasEarlierHops};
+ghost use Rattle.loop_finder.specs.Parts.{AllMove, AreAllBut, AreParts, IsCovered};
 ghost use Rattle.loop_finder.specs.Returns.{MarksAgain};
-ghost use Rattle.loop_finder.specs.ClassSteps.{sample_of};
+ghost use Rattle.loop_finder.specs.ClassSteps.{mix_of, sample_of};
 
 use crate::class_fault::class_target;
 use crate::end_lists::{EndLists, read_class};
@@ -69,11 +69,11 @@ impl<'m> Making<'m> {
         requires making { IsMaking (length mixed.now.net) self.old }
         requires routers { routers ≡ length mixed.now.net }
         requires atom { atom < length mixed.now.classes.samples }
-        requires address { sample_of mixed.now atom < 2 ^ 32 }
-        requires known { IsKnownClass O.table N.table mixed.now self.old }
+        requires address { sample_of mixed.now.classes atom < 2 ^ 32 }
+        requires known { IsKnownClass (mix_of O.table N.table mixed.now) self.old }
         ensures making { OnOk result (IsMaking (length mixed.now.net) self.new) }
         ensures known { OnOk result (self.new.known ≡ Some atom) }
-        ensures read { OnOk result (IsRead O.table N.table mixed.now atom self.new.lists) }
+        ensures read { OnOk result (IsRead (mix_of O.table N.table mixed.now) atom self.new.lists) }
     {
         read_class(mixed, atom, self.known, &mut self.lists, &mut self.changed)?;
         self.known = Some(atom);
@@ -120,16 +120,16 @@ fn find_stuck(lists: &EndLists<'_>, routers: u32, stuck: &mut Vec<u32>) -> Resul
     EndSteps::new(&lists.olds, &lists.news, routers).find_stuck(stuck)
 }
 
-/// The parts of the classes for which some state may be unsound, ascending. Of classes with the same hops only the
-/// first has one.
+/// The parts of the classes for which some state may be unsound, ascending. A class has none
+/// where an earlier part has its hops between routers to which a walk may return.
 ///
 /// Takes time of the classes and the routers, and of the classes and the parts. Only those steps of a class are searched to
 /// which steps lead from routers that don't do the same as for the class before.
-pub fn parts_of<O: RouteSource, N: RouteSource>(
+pub fn parts_of<'m, O: RouteSource, N: RouteSource>(
     alloc: Global,
-    mixed: &Mixed<'_, O, N>,
-) -> Result<Vec<Part>, OutOfMemory>
-    ensures { IfOk result (λ parts. AreParts O.table N.table mixed.now parts.items (length mixed.now.classes.samples)) }
+    mixed: &'m Mixed<'_, O, N>,
+) -> Result<Vec<Part<'m>>, OutOfMemory>
+    ensures { IfOk result (λ parts. AreParts (mix_of O.table N.table mixed.now) parts.items (length mixed.now.classes.samples)) }
 {
     let mut making = Making::new(alloc, mixed.net().routers())?;
     let mut parts = Vec::new(alloc);
@@ -139,21 +139,21 @@ pub fn parts_of<O: RouteSource, N: RouteSource>(
     Ok(parts)
 }
 
-/// Adds the part of the next class, where some state may be unsound for it and no earlier one has the same hops.
+/// Adds the part of the next class, where some state may be unsound for it and no earlier one has its hops.
 fn add_part<'m, O: RouteSource, N: RouteSource>(
     alloc: Global,
     mixed: &'m Mixed<'_, O, N>,
     atom: u32,
     making: &mut Making<'m>,
-    parts: &mut Vec<Part>,
+    parts: &mut Vec<Part<'m>>,
 ) -> Result<(), OutOfMemory>
     requires atom { atom < length mixed.now.classes.samples }
     requires making { IsMaking (length mixed.now.net) making.old }
-    requires known { IsKnownClass O.table N.table mixed.now making.old }
-    requires parts { AreParts O.table N.table mixed.now parts.old.items atom }
+    requires known { IsKnownClass (mix_of O.table N.table mixed.now) making.old }
+    requires parts { AreParts (mix_of O.table N.table mixed.now) parts.old.items atom }
     ensures making { OnOk result (IsMaking (length mixed.now.net) making.new) }
-    ensures known { OnOk result (IsKnownClass O.table N.table mixed.now making.new) }
-    ensures parts { OnOk result (AreParts O.table N.table mixed.now parts.new.items (atom + 1)) }
+    ensures known { OnOk result (IsKnownClass (mix_of O.table N.table mixed.now) making.new) }
+    ensures parts { OnOk result (AreParts (mix_of O.table N.table mixed.now) parts.new.items (atom + 1)) }
 {
     let Some(target) = class_target(mixed, atom) else {
         return Ok(());
@@ -162,22 +162,22 @@ fn add_part<'m, O: RouteSource, N: RouteSource>(
     add_known(alloc, mixed, atom, target, making, parts)
 }
 
-/// Adds the part of the class that was read, where some state may be unsound for it and no earlier one has the same hops.
-fn add_known<O: RouteSource, N: RouteSource>(
+/// Adds the part of the class that was read, where some state may be unsound for it and no earlier one has its hops.
+fn add_known<'m, O: RouteSource, N: RouteSource>(
     alloc: Global,
-    mixed: &Mixed<'_, O, N>,
+    mixed: &'m Mixed<'_, O, N>,
     atom: u32,
     target: Prefix,
-    making: &Making<'_>,
-    parts: &mut Vec<Part>,
+    making: &Making<'m>,
+    parts: &mut Vec<Part<'m>>,
 ) -> Result<(), OutOfMemory>
     requires atom { atom < length mixed.now.classes.samples }
-    requires address { sample_of mixed.now atom < 2 ^ 32 }
-    requires target { IsTargetIn mixed.now.net (sample_of mixed.now atom) target }
+    requires address { sample_of mixed.now.classes atom < 2 ^ 32 }
+    requires target { IsTargetIn mixed.now.net (sample_of mixed.now.classes atom) target }
     requires making { IsMaking (length mixed.now.net) making.now }
-    requires read { IsRead O.table N.table mixed.now atom making.now.lists }
-    requires parts { AreParts O.table N.table mixed.now parts.old.items atom }
-    ensures { OnOk result (AreParts O.table N.table mixed.now parts.new.items (atom + 1)) }
+    requires read { IsRead (mix_of O.table N.table mixed.now) atom making.now.lists }
+    requires parts { AreParts (mix_of O.table N.table mixed.now) parts.old.items atom }
+    ensures { OnOk result (AreParts (mix_of O.table N.table mixed.now) parts.new.items (atom + 1)) }
 {
     let moves = all_move(mixed, atom, target, making);
     if moves && is_covered(mixed, atom, target, making, parts.as_slice()) {
@@ -196,10 +196,10 @@ fn all_move<O: RouteSource, N: RouteSource>(
     target: Prefix,
     making: &Making<'_>,
 ) -> bool
-    requires target { IsTargetIn mixed.now.net (sample_of mixed.now atom) target }
+    requires target { IsTargetIn mixed.now.net (sample_of mixed.now.classes atom) target }
     requires making { IsMaking (length mixed.now.net) making.now }
-    requires read { IsRead O.table N.table mixed.now atom making.now.lists }
-    ensures { OnTrue result (AllMove O.table N.table mixed.now atom) }
+    requires read { IsRead (mix_of O.table N.table mixed.now) atom making.now.lists }
+    ensures { OnTrue result (AllMove (mix_of O.table N.table mixed.now) atom) }
 {
     let stuck = making.stuck.as_slice();
     for router in stuck {
@@ -217,16 +217,16 @@ fn is_covered<O: RouteSource, N: RouteSource>(
     atom: u32,
     target: Prefix,
     making: &Making<'_>,
-    parts: &[Part],
+    parts: &[Part<'_>],
 ) -> bool
     requires atom { atom < length mixed.now.classes.samples }
-    requires address { sample_of mixed.now atom < 2 ^ 32 }
-    requires target { IsTargetIn mixed.now.net (sample_of mixed.now atom) target }
+    requires address { sample_of mixed.now.classes atom < 2 ^ 32 }
+    requires target { IsTargetIn mixed.now.net (sample_of mixed.now.classes atom) target }
     requires making { IsMaking (length mixed.now.net) making.now }
-    requires read { IsRead O.table N.table mixed.now atom making.now.lists }
-    requires all { AllMove O.table N.table mixed.now atom }
-    requires parts { AreParts O.table N.table mixed.now parts.now atom }
-    ensures { OnTrue result (IsCovered O.table N.table mixed.now parts.now atom) }
+    requires read { IsRead (mix_of O.table N.table mixed.now) atom making.now.lists }
+    requires all { AllMove (mix_of O.table N.table mixed.now) atom }
+    requires parts { AreParts (mix_of O.table N.table mixed.now) parts.now atom }
+    ensures { OnTrue result (IsCovered (mix_of O.table N.table mixed.now) parts.now atom) }
 {
     let marks = making.marks.as_slice();
     if none_marked(marks) {
@@ -252,17 +252,17 @@ fn has_earlier<O: RouteSource, N: RouteSource>(
     target: Prefix,
     marks: &[bool],
     digest: u64,
-    parts: &[Part],
+    parts: &[Part<'_>],
 ) -> bool
     requires atom { atom < length mixed.now.classes.samples }
-    requires address { sample_of mixed.now atom < 2 ^ 32 }
-    requires target { IsTargetIn mixed.now.net (sample_of mixed.now atom) target }
+    requires address { sample_of mixed.now.classes atom < 2 ^ 32 }
+    requires target { IsTargetIn mixed.now.net (sample_of mixed.now.classes atom) target }
     requires marks { length marks.now ≡ length mixed.now.net }
     requires parts { All (λ part. length part.rows ≡ length mixed.now.net) parts.now }
-    ensures { OnTrue result (HasEarlierRows O.table N.table mixed.now atom marks.now parts.now) }
+    ensures { OnTrue result (HasEarlierHops (mix_of O.table N.table mixed.now) atom marks.now parts.now) }
 {
     for part in parts {
-        if part.has_rows_of(mixed, atom, target, marks, digest) {
+        if part.has_hops_of(mixed, atom, target, marks, digest) {
             return true;
         }
     }

@@ -58,7 +58,7 @@ pub fn visit(path: &mut Vec<u32>, router: u32)
     ensures items { path.new.items ≡ path.old.items ++ router ∷ [] }
     ensures capacity { vec_capacity path.old ≤ vec_capacity path.new }
 {
-    let _ = path.push(router);
+    path.push_reserved(router);
 }
 
 /// The lowest-numbered marked hop of a marked router.

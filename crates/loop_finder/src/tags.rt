@@ -4,7 +4,7 @@ ghost use Rattle.igp_theory.specs.Loops.{AroundRing};
 ghost use Rattle.order_core.specs.Turns.{routers_of};
 ghost use Rattle.order_core.specs.declared.turn.Turn.{Turn};
 ghost use Rattle.loop_finder.specs.steps.Rings.{next_in};
-ghost use Rattle.loop_finder.specs.ClassSteps.{ClassStep, IsTagged, StepsBy};
+ghost use Rattle.loop_finder.specs.ClassSteps.{ClassStep, IsTagged, StepsBy, state_over};
 
 use crate::class_steps::ClassSteps;
 use order_core::{Tag, Turn};
@@ -17,10 +17,10 @@ pub fn write_ring<O: RouteSource, N: RouteSource>(
     routers: &[u32],
     ring: &mut Vec<Turn>,
 )
-    requires around { AroundRing (ClassStep O.table N.table steps.now) routers.now }
+    requires around { AroundRing (ClassStep (state_over O.table N.table steps.now)) routers.now }
     requires room { length routers.now ≤ vec_capacity ring.old }
     ensures routers { routers_of ring.new.items ≡ routers.now }
-    ensures tags { AroundRing (λ (s t : Turn). IsTagged O.table N.table steps.now s t.router) ring.new.items }
+    ensures tags { AroundRing (λ (s t : Turn). IsTagged (state_over O.table N.table steps.now) s t.router) ring.new.items }
     ensures capacity { vec_capacity ring.old ≤ vec_capacity ring.new }
 {
     ring.clear();
@@ -51,8 +51,8 @@ fn tag_of<O: RouteSource, N: RouteSource>(
     next: u32,
 ) -> Tag
     requires router { router < length steps.now.mixture.net }
-    requires some { StepsBy O.table N.table steps.now router Phase.Old next ⊎ StepsBy O.table N.table steps.now router Phase.New next }
-    ensures { IsTagged O.table N.table steps.now (record { router = router; tag = result }) next }
+    requires some { StepsBy (state_over O.table N.table steps.now) router Phase.Old next ⊎ StepsBy (state_over O.table N.table steps.now) router Phase.New next }
+    ensures { IsTagged (state_over O.table N.table steps.now) (record { router = router; tag = result }) next }
 {
     let old = steps.leads(router, Phase::Old, next);
     let new = steps.leads(router, Phase::New, next);

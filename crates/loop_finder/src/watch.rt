@@ -22,7 +22,7 @@ impl Model for Places {
 
 impl Places {
     /// The places for a router.
-    fn of_router(alloc: Global, parts: &[Part], router: u32) -> Result<Places, OutOfMemory>
+    fn of_router(alloc: Global, parts: &[Part<'_>], router: u32) -> Result<Places, OutOfMemory>
         requires { All (λ part. router < length part.rows) parts.now }
         ensures { IfOk result (ArePlacesOf parts.now router) }
     {
@@ -43,7 +43,7 @@ impl Places {
 
 /// Adds the place of a part where a router isn't idle in it.
 fn add_place(
-    part: &Part,
+    part: &Part<'_>,
     router: u32,
     place: usize,
     places: &mut Vec<usize>,
@@ -59,7 +59,7 @@ fn add_place(
 }
 
 /// For each router the places of the parts that a change of it may make unsound.
-pub fn watch_of(alloc: Global, parts: &[Part], routers: u32) -> Result<Vec<Places>, OutOfMemory>
+pub fn watch_of(alloc: Global, parts: &[Part<'_>], routers: u32) -> Result<Vec<Places>, OutOfMemory>
     requires { All (λ part. length part.rows ≡ routers) parts.now }
     ensures { IfOk result (λ watch. IsWatch parts.now routers watch.items) }
 {

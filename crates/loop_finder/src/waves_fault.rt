@@ -1,8 +1,9 @@
 ghost use Rattle.std.specs.Prelude.{◌≡◌, ◌+◌, ◌<◌, ◌≤◌, ◌^◌, ◌↔◌, ◌⊎◌, ℕ, Contains, IfNone, IfSome, IsTrue, length, slice_index, true};
 ghost use Rattle.std.specs.Bool.{OnTrue};
 ghost use Rattle.order_core.specs.Rankings.{IsRanking};
+ghost use Rattle.loop_finder.specs.ClassSteps.{mix_of};
 ghost use Rattle.loop_finder.specs.Calm.{AreCalm};
-ghost use Rattle.loop_finder.specs.Faults.{KeepsRing, told};
+ghost use Rattle.loop_finder.specs.Faults.{KeepsRing, told, told_fault};
 ghost use Rattle.igp_theory.specs.States.{all_old};
 ghost use Rattle.loop_finder.specs.Parts.{AreParts};
 ghost use Rattle.loop_finder.specs.Rooms.{HasRoom};
@@ -26,7 +27,7 @@ use route_core::RouteSource;
 /// are sound for the class of the part.
 pub fn waves_fault<O: RouteSource, N: RouteSource>(
     mixed: &Mixed<'_, O, N>,
-    parts: &[Part],
+    parts: &[Part<'_>],
     begun: bool,
     ranks: &[u32],
     calm: &[u32],
@@ -34,16 +35,16 @@ pub fn waves_fault<O: RouteSource, N: RouteSource>(
     last: &mut [Phase],
     room: &mut Room,
 ) -> Option<(u32, Fault)>
-    requires parts { AreParts O.table N.table mixed.now parts.now (length mixed.now.classes.samples) }
-    requires begun { OnTrue begun (Sound O.table N.table mixed.now all_old) }
+    requires parts { AreParts (mix_of O.table N.table mixed.now) parts.now (length mixed.now.classes.samples) }
+    requires begun { OnTrue begun (Sound (mix_of O.table N.table mixed.now) all_old) }
     requires ranks { IsRanking (length mixed.now.net) ranks.now }
     requires calm { AreCalm parts.now ranks.now calm.now }
     requires first { length first.old ≡ length mixed.now.net }
     requires last { length last.old ≡ length mixed.now.net }
     requires room { HasRoom (length mixed.now.net) room.old }
     ensures room { HasRoom (length mixed.now.net) room.new }
-    ensures sound { IfNone result (SoundWaves O.table N.table mixed.now ranks.now) }
-    ensures fault { IfSome result (λ found. FaultyWaves O.table N.table mixed.now ranks.now found.0 found.1 room.new.ring.items) }
+    ensures sound { IfNone result (SoundWaves (mix_of O.table N.table mixed.now) ranks.now) }
+    ensures fault { IfSome result (λ found. FaultyWaves (mix_of O.table N.table mixed.now) ranks.now found.0 (told_fault found.1 room.new.ring.items)) }
     ensures ring { KeepsRing (told result) room.old.ring.items room.new.ring.items }
 {
     let start = first_stirred(begun, calm);
@@ -89,7 +90,7 @@ fn first_stirred(begun: bool, calm: &[u32]) -> u32
 /// `begun` tells that the first one is sound.
 fn wave_fault<O: RouteSource, N: RouteSource>(
     mixed: &Mixed<'_, O, N>,
-    parts: &[Part],
+    parts: &[Part<'_>],
     begun: bool,
     ranks: &[u32],
     calm: &[u32],
@@ -98,8 +99,8 @@ fn wave_fault<O: RouteSource, N: RouteSource>(
     last: &mut [Phase],
     room: &mut Room,
 ) -> Option<Fault>
-    requires parts { AreParts O.table N.table mixed.now parts.now (length mixed.now.classes.samples) }
-    requires begun { OnTrue begun (BeginsSound O.table N.table mixed.now ranks.now wave) }
+    requires parts { AreParts (mix_of O.table N.table mixed.now) parts.now (length mixed.now.classes.samples) }
+    requires begun { OnTrue begun (BeginsSound (mix_of O.table N.table mixed.now) ranks.now wave) }
     requires wave { wave + 1 < 2 ^ 32 }
     requires ranks { length ranks.now ≡ length mixed.now.net }
     requires calm { AreCalm parts.now ranks.now calm.now }
@@ -107,8 +108,8 @@ fn wave_fault<O: RouteSource, N: RouteSource>(
     requires last { length last.old ≡ length mixed.now.net }
     requires room { HasRoom (length mixed.now.net) room.old }
     ensures room { HasRoom (length mixed.now.net) room.new }
-    ensures sound { IfNone result (SoundWave O.table N.table mixed.now ranks.now wave) }
-    ensures fault { IfSome result (λ fault. FaultyWave O.table N.table mixed.now ranks.now wave fault room.new.ring.items) }
+    ensures sound { IfNone result (SoundWave (mix_of O.table N.table mixed.now) ranks.now wave) }
+    ensures fault { IfSome result (λ fault. FaultyWave (mix_of O.table N.table mixed.now) ranks.now wave (told_fault fault room.new.ring.items)) }
     ensures ring { KeepsRing result room.old.ring.items room.new.ring.items }
 {
     switch_before(first, ranks, wave);
@@ -124,21 +125,21 @@ fn wave_fault<O: RouteSource, N: RouteSource>(
 /// parts that are calm in a wave.
 fn stirred_fault<O: RouteSource, N: RouteSource>(
     mixed: &Mixed<'_, O, N>,
-    parts: &[Part],
+    parts: &[Part<'_>],
     calm: &[u32],
     wave: u32,
     first: &[Phase],
     last: &[Phase],
     room: &mut Room,
 ) -> Option<Fault>
-    requires parts { AreParts O.table N.table mixed.now parts.now (length mixed.now.classes.samples) }
+    requires parts { AreParts (mix_of O.table N.table mixed.now) parts.now (length mixed.now.classes.samples) }
     requires many { length calm.now ≡ length parts.now }
-    requires calm { AreClearParts O.table N.table mixed.now parts.now calm.now wave first.now last.now }
+    requires calm { AreClearParts (mix_of O.table N.table mixed.now) parts.now calm.now wave first.now last.now }
     requires first { length first.now ≡ length mixed.now.net }
     requires last { length last.now ≡ length mixed.now.net }
     requires room { HasRoom (length mixed.now.net) room.old }
     ensures room { HasRoom (length mixed.now.net) room.new }
-    ensures told { Told O.table N.table mixed.now first.now last.now result room.new.ring.items }
+    ensures told { Told (mix_of O.table N.table mixed.now) first.now last.now result room.new.ring.items }
     ensures ring { KeepsRing result room.old.ring.items room.new.ring.items }
 {
     for place in 0..parts.len() {

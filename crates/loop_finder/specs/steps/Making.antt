@@ -4,11 +4,10 @@ use Rattle.igp_theory.specs.declared.phase.Phase.{Phase}
 use Rattle.igp_theory.specs.declared.phase.Phase.TheVariants.{Old, New}
 use Rattle.rib_mix.specs.Answers.{IsAlikeAt, IsNextOf, NextLeadsTo}
 use Rattle.rib_mix.specs.declared.next.Next.{Next}
-use Rattle.rib_mix.specs.Mixture.{Mixture, migration_of}
 use Rattle.loop_finder.specs.steps.Ends.{EndHops, EndStep, MovesAtEnds, AreNoHops, hops_at}
 use Rattle.loop_finder.specs.Parts.{AreAllBut}
 use Rattle.loop_finder.specs.Returns.{MarksReturns}
-use Rattle.loop_finder.specs.ClassSteps.{Listing, sample_of}
+use Rattle.loop_finder.specs.ClassSteps.{sample_of, Mix, migration_in}
 use Rattle.loop_finder.specs.declared.end_lists.EndLists.{EndLists}
 use Rattle.loop_finder.specs.declared.parts.Making.{Making}
 
@@ -27,33 +26,33 @@ pub record IsSameAt (one other : EndLists) (u : ℕ) : Type 0 where
   pub news : hops_at one.news u ≡ hops_at other.news u
 
 -- these are the hops of what router u does in a phase with the packets of a class
-pub record IsHopsOf {O N : Type 0} (old : Listing O) (new : Listing N) (m : Mixture O N) (atom u : ℕ) (phase : Phase) (hops : List ℕ) : Type 0 where
+pub record IsHopsOf (m : Mix) (atom u : ℕ) (phase : Phase) (hops : List ℕ) : Type 0 where
   pub next : Next
-  pub is : IsNextOf (migration_of old new m) m.classes u atom phase next
+  pub is : IsNextOf (migration_in m) m.classes u atom phase next
   pub leads : (h : ℕ) → Contains hops h ↔ NextLeadsTo next h
 
 -- this was read of router u for a class
-pub record IsReadAt {O N : Type 0} (old : Listing O) (new : Listing N) (m : Mixture O N) (atom : ℕ) (lists : EndLists) (u : ℕ) : Type 0 where
-  pub olds : IsHopsOf old new m atom u Old (hops_at lists.olds u)
-  pub news : IsHopsOf old new m atom u New (hops_at lists.news u)
+pub record IsReadAt (m : Mix) (atom : ℕ) (lists : EndLists) (u : ℕ) : Type 0 where
+  pub olds : IsHopsOf m atom u Old (hops_at lists.olds u)
+  pub news : IsHopsOf m atom u New (hops_at lists.news u)
 
 -- this was read of a class
-pub record IsRead {O N : Type 0} (old : Listing O) (new : Listing N) (m : Mixture O N) (atom : ℕ) (lists : EndLists) : Type 0 where
+pub record IsRead (m : Mix) (atom : ℕ) (lists : EndLists) : Type 0 where
   pub class : atom < length m.classes.samples
-  pub address : sample_of m atom < 2 ^ 32
+  pub address : sample_of m.classes atom < 2 ^ 32
   pub olds_many : length lists.olds ≡ length m.net
   pub news_many : length lists.news ≡ length m.net
-  pub each : (u : ℕ) → u < length m.net → IsReadAt old new m atom lists u
+  pub each : (u : ℕ) → u < length m.net → IsReadAt m atom lists u
 
 -- this was read of the class that is known
-abbrev pub IsKnownClass : {O N : Type 0} → Listing O → Listing N → Mixture O N → Making → Type 0
-IsKnownClass old new m making = IfSome making.known (λ atom. IsRead old new m atom making.lists)
+abbrev pub IsKnownClass : Mix → Making → Type 0
+IsKnownClass m making = IfSome making.known (λ atom. IsRead m atom making.lists)
 
 -- a class is known, and router u does the same for another
-pub record IsKnownAt {O N : Type 0} (old : Listing O) (new : Listing N) (m : Mixture O N) (known : Option ℕ) (u atom : ℕ) : Type 0 where
+pub record IsKnownAt (m : Mix) (known : Option ℕ) (u atom : ℕ) : Type 0 where
   pub other : ℕ
   pub is : known ≡ Some other
-  pub alike : IsAlikeAt (migration_of old new m) m.classes u other atom
+  pub alike : IsAlikeAt (migration_in m) m.classes u other atom
 
 -- what was read is of n routers, those to which a walk over the steps of both networks may return are marked, and those
 -- that lack a step in one are listed

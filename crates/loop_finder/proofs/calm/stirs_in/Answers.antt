@@ -12,6 +12,5 @@ loop-router-preserved c = record {
 }
 
 pub returns-clause-calm : goal.returns-clause-calm
-returns-clause-calm c =
-    All-from_get_or (λ (u : ℕ). IsUnstirred c.args.part.now c.args.ranks.now c.args.wave u) c.args.steppers.now 0
+returns-clause-calm c = All-from_get_or (λ (u : ℕ). IsUnstirred c.args.part.now c.args.ranks.now c.args.wave u) c.args.steppers.now 0
     (λ k within. c.loop-router.invariant.calm k (omega (arith, within, c.loop-router-test.false)))

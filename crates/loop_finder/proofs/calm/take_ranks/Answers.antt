@@ -19,6 +19,5 @@ loop-router-preserved c = record {
 }
 
 pub returns-clause-kept : goal.returns-clause-kept
-returns-clause-kept c =
-    ext_get_or 0 c.loop-router.kept c.args.ranks.now (c.loop-router.auto.kept ∙ c.requires.kept)
+returns-clause-kept c = ext_get_or 0 c.loop-router.kept c.args.ranks.now (c.loop-router.auto.kept ∙ c.requires.kept)
     (λ u within. c.loop-router.invariant.taken u (omega (arith, within, c.loop-router.auto.kept, c.requires.kept, c.loop-router-test.false)))

@@ -3,38 +3,34 @@ use Rattle.std.proofs.lemmas.List.{get_or_default}
 use Rattle.loop_finder.specs.Parts.{ClassPart, IsPart}
 use Rattle.loop_finder.specs.Watches.{StaysSoundAt}
 use Rattle.loop_finder.proofs.WatchLaws.{stays_sound_at_all, turns_faulty_at}
+use Rattle.loop_finder.specs.ClassSteps.{mix_of}
 use Rattle.loop_finder.proofs.change.turned_fault.Goals as goal
 
 pub part_fault-requires-clause-part : goal.part_fault-requires-clause-part
 part_fault-requires-clause-part g c =
-    subst (λ (x : ClassPart). IsPart g.O.RouteSource.table g.N.RouteSource.table c.args.mixed.now x) (sym c.index-parts-place.is)
+    subst (λ (x : ClassPart). IsPart (mix_of g.O.RouteSource.table g.N.RouteSource.table c.args.mixed.now) x) (sym c.index-parts-place.is)
     (c.requires.parts.each (get_or c.args.places.now c.loop-place.place-index 0) c.index-parts-place.result
     (c.requires.places.below c.loop-place.place-index 0 c.loop-place-test.true))
 
 pub loop-place-preserved : goal.loop-place-preserved
 loop-place-preserved g c = record {
-  stays = λ j d less.
-      below_more (λ (k : ℕ). StaysSoundAt g.O.RouteSource.table g.N.RouteSource.table c.args.mixed.now c.args.phases.now c.args.router
-      (get_or c.args.parts.now (get_or c.args.places.now k 0) d).atom) c.loop-place.place-index
-      (λ k below. c.loop-place.invariant.stays k d below)
-      (subst (λ (x : ClassPart). StaysSoundAt g.O.RouteSource.table g.N.RouteSource.table c.args.mixed.now c.args.phases.now c.args.router x.atom)
+  stays = λ j d less. below_more (λ (k : ℕ). StaysSoundAt (mix_of g.O.RouteSource.table g.N.RouteSource.table c.args.mixed.now)
+      (record { phases = c.args.phases.now; router = c.args.router; was = c.args.was })
+      (get_or c.args.parts.now (get_or c.args.places.now k 0) d).atom) c.loop-place.place-index (λ k below. c.loop-place.invariant.stays k d below)
+      (subst (λ (x : ClassPart). StaysSoundAt (mix_of g.O.RouteSource.table g.N.RouteSource.table c.args.mixed.now)
+      (record { phases = c.args.phases.now; router = c.args.router; was = c.args.was }) x.atom)
       (c.index-parts-place.is ∙ get_or_default c.args.parts.now (get_or c.args.places.now c.loop-place.place-index 0) c.index-parts-place.result d
-      (c.requires.places.below c.loop-place.place-index 0 c.loop-place-test.true))
-      c.in_default.ensures.sound) j less;
+      (c.requires.places.below c.loop-place.place-index 0 c.loop-place-test.true)) c.in_default.ensures.sound) j less;
   room = c.in_default.ensures.room;
   ring = c.in_default.ensures.ring ∙ c.loop-place.invariant.ring;
 }
 
 pub returns-in-Some-clause-fault : goal.returns-in-Some-clause-fault
 returns-in-Some-clause-fault g c =
-    turns_faulty_at g.O.RouteSource.table g.N.RouteSource.table c.args.mixed.now c.args.parts.now c.args.places.now c.args.phases.now c.args.router
-    c.loop-place.place-index
+    turns_faulty_at (mix_of g.O.RouteSource.table g.N.RouteSource.table c.args.mixed.now) c.args.parts.now c.args.places.now _ c.loop-place.place-index
     c.index-parts-place.result c.in-Some.fault c.part_fault.new.room.ring.items c.requires.parts c.requires.places
-    c.loop-place-test.true c.index-parts-place.is
-    c.loop-place.invariant.stays c.in-Some.ensures.told
+    c.loop-place-test.true c.index-parts-place.is c.loop-place.invariant.stays c.in-Some.ensures.told
 
 pub returns-clause-sound : goal.returns-clause-sound
-returns-clause-sound g c =
-    stays_sound_at_all g.O.RouteSource.table g.N.RouteSource.table c.args.mixed.now c.args.parts.now c.args.places.now c.args.phases.now c.args.router
-    c.loop-place.place-index
-    c.requires.parts c.requires.places c.loop-place-test.false c.loop-place.invariant.stays
+returns-clause-sound g c = stays_sound_at_all (mix_of g.O.RouteSource.table g.N.RouteSource.table c.args.mixed.now) c.args.parts.now c.args.places.now _
+    c.loop-place.place-index c.requires.parts c.requires.places c.loop-place-test.false c.loop-place.invariant.stays

@@ -2,12 +2,14 @@ use Rattle.std.proofs.Common.{◌≡◌, ℕ, ◌<◌, length, get_or}
 use Rattle.loop_finder.specs.Parts.{ClassPart}
 use Rattle.loop_finder.specs.Rooms.{HasRoom}
 use Rattle.loop_finder.specs.Watches.{StaysSoundAt}
+use Rattle.loop_finder.specs.ClassSteps.{mix_of}
 use Rattle.loop_finder.proofs.change.turned_fault.Given as goal
 
 abbrev pub invariant-loop-place : goal.invariant-loop-place
 invariant-loop-place g l = record {
   stays : (j : ℕ) (d : ClassPart) → j < l.place-index
-      → StaysSoundAt g.O.RouteSource.table g.N.RouteSource.table l.mixed l.phases l.router (get_or l.parts (get_or l.places j 0) d).atom;
+      → StaysSoundAt (mix_of g.O.RouteSource.table g.N.RouteSource.table l.mixed) (record { phases = l.phases; router = l.router; was = l.was })
+      (get_or l.parts (get_or l.places j 0) d).atom;
   room : HasRoom (length l.mixed.net) l.room;
   ring : l.room.ring.items ≡ l.fn.room.ring.items;
 }

@@ -11,18 +11,16 @@ pub mark_forwarders-requires-clause-routers : goal.mark_forwarders-requires-clau
 mark_forwarders-requires-clause-routers g c = c.routers-routers.ensures.count ∙ ap (λ (n : Network). length n) c.net.ensures
 
 pub mark_forwarders-requires-clause-many : goal.mark_forwarders-requires-clause-many
-mark_forwarders-requires-clause-many g c =
-    omega (arith, c.requires.many, c.routers-routers.ensures.count, ap (λ (n : Network). length n) c.net.ensures)
+mark_forwarders-requires-clause-many g c = omega (arith, c.requires.many, c.routers-routers.ensures.count, ap (λ (n : Network). length n) c.net.ensures)
 
 pub returns-in-Some-clause-forwarders : goal.returns-in-Some-clause-forwarders
 returns-in-Some-clause-forwarders g c =
-    let target : IsTarget c.args.mixed.now.net (sample_of c.args.mixed.now c.args.atom) c.in-Some.target = c.in-Some.ensures.target in
+    let target : IsTarget c.args.mixed.now.net (sample_of c.args.mixed.now.classes c.args.atom) c.in-Some.target = c.in-Some.ensures.target in
     let network : IsNetwork c.args.mixed.now.net = subst IsNetwork c.net.ensures c.routers-routers.ensures.network in
-    let many : c.routers-routers.result ≡ length c.args.mixed.now.net =
-    c.routers-routers.ensures.count ∙ ap (λ (n : Network). length n) c.net.ensures in
+    let many : c.routers-routers.result ≡ length c.args.mixed.now.net = c.routers-routers.ensures.count ∙ ap (λ (n : Network). length n) c.net.ensures in
     let marks : (u : ℕ) → IsMarked c.mark_forwarders.new.forwards u
     ↔ ((u < length c.args.mixed.now.net) × (¬ Connected c.args.mixed.now.net u c.in-Some.target)) =
     subst (λ (k : ℕ). (u : ℕ) → IsMarked c.mark_forwarders.new.forwards u ↔ ((u < k) × (¬ Connected c.args.mixed.now.net u c.in-Some.target)))
     many c.mark_forwarders.ensures in
-    forwarders_from c.args.mixed.now.net (sample_of c.args.mixed.now c.args.atom) c.in-Some.target c.mark_forwarders.new.forwards network
+    forwarders_from c.args.mixed.now.net (sample_of c.args.mixed.now.classes c.args.atom) c.in-Some.target c.mark_forwarders.new.forwards network
     target marks

@@ -1,14 +1,14 @@
 use Rattle.std.proofs.Common.{◌≡◌, ℕ, ◌<◌, [], length, get_or, true, arith, sym, ap, ◌∙◌, subst, below_more}
 use Rattle.std.proofs.lemmas.List.{get_or_default}
 use Rattle.loop_finder.specs.Parts.{ClassPart, IsPart}
-use Rattle.loop_finder.specs.ClassSteps.{sample_of}
+use Rattle.loop_finder.specs.ClassSteps.{sample_of, mix_of}
 use Rattle.loop_finder.specs.Verdicts.{SoundAt}
 use Rattle.loop_finder.proofs.PartLists.{sound_before, sound_whole}
 use Rattle.loop_finder.proofs.classes_fault.classes_fault.Goals as goal
 
 pub fault_in-requires-clause-part : goal.fault_in-requires-clause-part
 fault_in-requires-clause-part g c =
-    subst (λ (x : ClassPart). IsPart g.O.RouteSource.table g.N.RouteSource.table c.args.mixed.now x) (sym c.part-item.is)
+    subst (λ (x : ClassPart). IsPart (mix_of g.O.RouteSource.table g.N.RouteSource.table c.args.mixed.now) x) (sym c.part-item.is)
     (c.requires.parts.each c.loop-part.part-index c.part-item.result c.loop-part-test.true)
 
 pub loop-part-preserved : goal.loop-part-preserved
@@ -16,11 +16,11 @@ loop-part-preserved g c = record {
   clear = λ state between q d less.
       let here : c.part-item.result ≡ get_or c.args.parts.now c.loop-part.part-index d =
       c.part-item.is ∙ get_or_default c.args.parts.now c.loop-part.part-index c.part-item.result d c.loop-part-test.true in
-      below_more (λ (k : ℕ). SoundAt g.O.RouteSource.table g.N.RouteSource.table c.args.mixed.now state
-      (sample_of c.args.mixed.now (get_or c.args.parts.now k d).atom)) c.loop-part.part-index
+      below_more (λ (k : ℕ). SoundAt (mix_of g.O.RouteSource.table g.N.RouteSource.table c.args.mixed.now) state
+      (sample_of c.args.mixed.now.classes (get_or c.args.parts.now k d).atom)) c.loop-part.part-index
       (λ k below. c.loop-part.invariant.clear state between k d below)
-      (subst (λ (x : ClassPart). SoundAt g.O.RouteSource.table g.N.RouteSource.table c.args.mixed.now state
-      (sample_of c.args.mixed.now x.atom)) here (c.in_default.ensures.clear state between)) q less;
+      (subst (λ (x : ClassPart). SoundAt (mix_of g.O.RouteSource.table g.N.RouteSource.table c.args.mixed.now) state
+      (sample_of c.args.mixed.now.classes x.atom)) here (c.in_default.ensures.clear state between)) q less;
   room = c.in_default.ensures.room;
   ring = c.in_default.ensures.ring ∙ c.loop-part.invariant.ring;
 }
@@ -34,7 +34,7 @@ returns-in-Some-clause-told g c =
       within = subst (λ (a : ℕ). a < length c.args.mixed.now.classes.samples) (sym here)
           (c.requires.parts.below c.loop-part.part-index c.part-item.result c.loop-part-test.true);
       before = λ k below state between.
-          sound_before g.O.RouteSource.table g.N.RouteSource.table c.args.mixed.now c.args.parts.now (length c.args.mixed.now.classes.samples)
+          sound_before (mix_of g.O.RouteSource.table g.N.RouteSource.table c.args.mixed.now) c.args.parts.now (length c.args.mixed.now.classes.samples)
           c.loop-part.part-index c.part-item.result state c.requires.parts c.loop-part-test.true
           (λ q less. c.loop-part.invariant.clear state between q c.part-item.result less) k (subst (λ (a : ℕ). k < a) here below);
       here = c.in-Some.ensures.told;
@@ -43,5 +43,5 @@ returns-in-Some-clause-told g c =
 pub returns-clause-told : goal.returns-clause-told
 returns-clause-told g c k below state between =
     let none : ClassPart = record { atom = 0; moves = true; rows = [] } in
-    sound_whole g.O.RouteSource.table g.N.RouteSource.table c.args.mixed.now c.args.parts.now (length c.args.mixed.now.classes.samples)
+    sound_whole (mix_of g.O.RouteSource.table g.N.RouteSource.table c.args.mixed.now) c.args.parts.now (length c.args.mixed.now.classes.samples)
     none state c.requires.parts (λ q less. c.loop-part.invariant.clear state between q none (omega (arith, less, c.loop-part-test.false))) k below

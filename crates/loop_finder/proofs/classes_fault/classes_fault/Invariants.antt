@@ -2,14 +2,14 @@ use Rattle.std.proofs.Common.{◌≡◌, ℕ, ◌<◌, length, get_or}
 use Rattle.igp_theory.specs.States.{State}
 use Rattle.loop_finder.specs.Parts.{ClassPart}
 use Rattle.loop_finder.specs.Rooms.{HasRoom}
-use Rattle.loop_finder.specs.ClassSteps.{sample_of}
+use Rattle.loop_finder.specs.ClassSteps.{sample_of, mix_of}
 use Rattle.loop_finder.specs.Verdicts.{IsBetween, SoundAt}
 use Rattle.loop_finder.proofs.classes_fault.classes_fault.Given as goal
 
 abbrev pub invariant-loop-part : goal.invariant-loop-part
 invariant-loop-part g l = record {
   clear : (state : State) → IsBetween (length l.mixed.net) l.first l.last state → (q : ℕ) (d : ClassPart) → q < l.part-index
-      → SoundAt g.O.RouteSource.table g.N.RouteSource.table l.mixed state (sample_of l.mixed (get_or l.parts q d).atom);
+      → SoundAt (mix_of g.O.RouteSource.table g.N.RouteSource.table l.mixed) state (sample_of l.mixed.classes (get_or l.parts q d).atom);
   room : HasRoom (length l.mixed.net) l.room;
   ring : l.room.ring.items ≡ l.fn.room.ring.items;
 }

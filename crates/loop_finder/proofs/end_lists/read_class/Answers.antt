@@ -2,6 +2,7 @@ use Rattle.std.proofs.Common.{◌≡◌, length, arith, refl, ap, ◌∙◌, bel
 use Rattle.net_model.specs.Network.{Network}
 use Rattle.loop_finder.specs.steps.Making.{IsReadAt, IsSameAt}
 use Rattle.loop_finder.proofs.PartRows.{AreAllBut-none, changed_more, known_at, known_class, read_same, same_twice}
+use Rattle.loop_finder.specs.ClassSteps.{mix_of}
 use Rattle.loop_finder.proofs.end_lists.read_class.Goals as goal
 
 pub loop-router-init : goal.loop-router-init
@@ -14,21 +15,22 @@ loop-router-init g c = record {
 }
 
 pub read_router-requires-clause-class : goal.read_router-requires-clause-class
-read_router-requires-clause-class g c = known_class g.O.RouteSource.table g.N.RouteSource.table c.args.mixed.now c.args.known c.args.lists.now c.requires.known
+read_router-requires-clause-class g c = known_class (mix_of g.O.RouteSource.table g.N.RouteSource.table c.args.mixed.now) c.args.known
+    c.args.lists.now c.requires.known
 
 pub read_router-requires-clause-known : goal.read_router-requires-clause-known
 read_router-requires-clause-known g c =
     let many : c.routers-router-end.result ≡ length c.args.mixed.now.net =
     c.routers-router-end.ensures.count ∙ ap (λ (n : Network). length n) c.net.ensures in
-    known_at g.O.RouteSource.table g.N.RouteSource.table c.args.mixed.now c.args.known c.args.lists.now c.loop-router.lists c.loop-router.router
+    known_at (mix_of g.O.RouteSource.table g.N.RouteSource.table c.args.mixed.now) c.args.known c.args.lists.now c.loop-router.lists c.loop-router.router
     c.requires.known (omega (arith, many, c.loop-router-test.true)) (c.loop-router.invariant.rest c.loop-router.router (omega arith))
 
 pub loop-router-preserved : goal.loop-router-preserved
 loop-router-preserved g c = record {
   olds_many = c.in_ok-read_router.ensures.olds_many ∙ c.loop-router.invariant.olds_many;
   news_many = c.in_ok-read_router.ensures.news_many ∙ c.loop-router.invariant.news_many;
-  read = below_more (IsReadAt g.O.RouteSource.table g.N.RouteSource.table c.args.mixed.now c.args.atom c.read_router.new.lists) c.loop-router.router
-      (λ u below. read_same g.O.RouteSource.table g.N.RouteSource.table c.args.mixed.now c.args.atom c.loop-router.lists c.read_router.new.lists u
+  read = below_more (IsReadAt (mix_of g.O.RouteSource.table g.N.RouteSource.table c.args.mixed.now) c.args.atom c.read_router.new.lists) c.loop-router.router
+      (λ u below. read_same (mix_of g.O.RouteSource.table g.N.RouteSource.table c.args.mixed.now) c.args.atom c.loop-router.lists c.read_router.new.lists u
       (c.loop-router.invariant.read u below) (c.in_ok-read_router.ensures.others u (λ same. absurd (omega (arith, same, below)))))
       c.in_ok-read_router.ensures.read;
   rest = λ u past. same_twice c.args.lists.now c.loop-router.lists c.read_router.new.lists u (c.loop-router.invariant.rest u (omega (arith, past)))

@@ -12,8 +12,7 @@ loop-router-preserved g c =
     c.loop-router.router c.loop-router.invariant c.if-not-mark_router.ensures.level c.if-not-mark_router.ensures.kept
 
 pub returns-clause-returns : goal.returns-clause-returns
-returns-clause-returns g c =
-    on_true c.have_layers.result c.have_layers.ensures (λ have.
+returns-clause-returns g c = on_true c.have_layers.result c.have_layers.ensures (λ have.
     marks_again (g.G.StepGraph.step c.args.graph.now) c.args.layers.now c.args.changed.now c.args.marks.now c.loop-router.marks c.loop-router.router
     c.loop-router.invariant (λ u h steps. let below : u < g.G.StepGraph.size c.args.graph.now = c.size-router-end.ensures.inside u h steps in
     omega (arith, below, c.loop-router-test.false, c.size-router-end.ensures.count)) have)

@@ -14,6 +14,5 @@ loop-router-preserved c =
     c.marked_one.result c.loop-router.invariant c.marked_one.ensures))
 
 pub returns : goal.returns
-returns c =
-    subst (λ (ys : List ℕ). LowestMarked ys c.args.marks.now c.loop-router.lowest) (take_all c.loop-router.router-index c.args.routers.now
+returns c = subst (λ (ys : List ℕ). LowestMarked ys c.args.marks.now c.loop-router.lowest) (take_all c.loop-router.router-index c.args.routers.now
     c.loop-router-test.false) c.loop-router.invariant

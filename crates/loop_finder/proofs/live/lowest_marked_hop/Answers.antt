@@ -7,5 +7,4 @@ pub returns : goal.returns
 returns g c =
     subst (λ (lowest : Option ℕ). LowestMarkedHop (g.G.StepGraph.step c.args.graph.now) c.args.marks.now c.args.router lowest) (sym c.lower_of.ensures)
     (lowest_hop_of (g.G.StepGraph.step c.args.graph.now) c.args.marks.now c.args.router c.hops.result.0.now c.hops.result.1.now c.lowest_marked.result
-    c.lowest_marked-2.result
-    c.hops.ensures c.lowest_marked.ensures c.lowest_marked-2.ensures)
+    c.lowest_marked-2.result c.hops.ensures c.lowest_marked.ensures c.lowest_marked-2.ensures)

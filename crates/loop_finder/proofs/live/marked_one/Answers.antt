@@ -18,6 +18,5 @@ returns-then-is_marked c = record {
 pub returns : goal.returns
 returns c q among = elim (Contains-push_cases [] c.args.router q among) [
   | inl before ↦ absurd (Contains-none q before)
-  | inr same ↦ subst (λ (x : ℕ). ¬ IsMarked c.args.marks.now x) same
-      (never_at_false c.is_marked.result c.if-is_marked.false c.is_marked.ensures)
+  | inr same ↦ subst (λ (x : ℕ). ¬ IsMarked c.args.marks.now x) same (never_at_false c.is_marked.result c.if-is_marked.false c.is_marked.ensures)
 ]

@@ -4,10 +4,12 @@ use Rattle.igp_theory.specs.States.{State, all_old}
 use Rattle.loop_finder.specs.Faults.{state_in}
 use Rattle.loop_finder.specs.Verdicts.{Sound}
 use Rattle.loop_finder.proofs.OrderStates.{same_state}
+use Rattle.loop_finder.specs.ClassSteps.{mix_of}
 use Rattle.loop_finder.proofs.order_fault.begin_fault.Goals as goal
 
 pub returns-then-begun-clause-sound : goal.returns-then-begun-clause-sound
 returns-then-begun-clause-sound g c =
-    subst (λ (state : State). Sound g.O.RouteSource.table g.N.RouteSource.table c.args.mixed.now state) (same_state all_old (state_in c.args.phases.now) (λ u.
+    subst (λ (state : State). Sound (mix_of g.O.RouteSource.table g.N.RouteSource.table c.args.mixed.now) state)
+    (same_state all_old (state_in c.args.phases.now) (λ u.
     sym (c.requires.phases u)))
-    (subst (λ (b : Bool). OnTrue b (Sound g.O.RouteSource.table g.N.RouteSource.table c.args.mixed.now all_old)) c.if-begun.true c.requires.begun)
+    (subst (λ (b : Bool). OnTrue b (Sound (mix_of g.O.RouteSource.table g.N.RouteSource.table c.args.mixed.now) all_old)) c.if-begun.true c.requires.begun)

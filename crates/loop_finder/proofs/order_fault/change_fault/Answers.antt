@@ -7,10 +7,11 @@ use Rattle.loop_finder.specs.Verdicts.{Sound}
 use Rattle.loop_finder.specs.Watches.{ArePlacesOf}
 use Rattle.loop_finder.proofs.OrderStates.{changed_inside, same_state, state_advanced, state_stays}
 use Rattle.loop_finder.proofs.WatchLaws.{sound_after, faulty_after}
+use Rattle.loop_finder.specs.ClassSteps.{mix_of}
 use Rattle.loop_finder.proofs.order_fault.change_fault.Goals as goal
 
-pub advance-requires : goal.advance-requires
-advance-requires g c =
+pub advance-was-requires : goal.advance-was-requires
+advance-was-requires g c =
     let below : c.in-Some.router.now < length c.args.mixed.now.net =
     changed_inside c.args.order.now (length c.args.mixed.now.net) (c.args.k / 2) c.in-Some.router.now c.requires.routers c.in-Some.ensures.lookup.3.0
     (get_or_read c.args.order.now (c.args.k / 2) c.in-Some.router.now c.in-Some.ensures.lookup.3.0 c.in-Some.ensures.lookup.1 0) in
@@ -22,8 +23,8 @@ returns-in_default-clause-state g c = state_stays c.args.order.now c.args.phases
 pub returns-clause-state : goal.returns-clause-state
 returns-clause-state g c =
     let within : c.args.k / 2 < length c.args.order.now = c.in-Some.ensures.lookup.3.0 in
-    state_advanced c.args.order.now c.args.phases.now c.advance.new.phases c.args.k c.in-Some.router.now within
-    (get_or_read c.args.order.now (c.args.k / 2) c.in-Some.router.now within c.in-Some.ensures.lookup.1 0) c.advance.ensures c.requires.state
+    state_advanced c.args.order.now c.args.phases.now c.advance-was.new.phases c.args.k c.in-Some.router.now within
+    (get_or_read c.args.order.now (c.args.k / 2) c.in-Some.router.now within c.in-Some.ensures.lookup.1 0) c.advance-was.ensures.state c.requires.state
 
 pub turned_fault-requires-clause-places : goal.turned_fault-requires-clause-places
 turned_fault-requires-clause-places g c =
@@ -42,28 +43,28 @@ turned_fault-requires-clause-router g c =
 
 pub returns-clause-sound : goal.returns-clause-sound
 returns-clause-sound g c =
-    sound_after g.O.RouteSource.table g.N.RouteSource.table c.args.mixed.now c.advance.new.phases c.in-Some.router.now
-    (state_in c.args.phases.now) c.turned_fault.result
-    (λ v within apart. c.advance.ensures.others v apart) c.requires.before c.turned_fault.ensures.sound
+    sound_after (mix_of g.O.RouteSource.table g.N.RouteSource.table c.args.mixed.now) _ (state_in c.args.phases.now) c.turned_fault.result
+    (record { here = c.advance-was.ensures.was; others = λ v within apart. c.advance-was.ensures.state.others v apart })
+    c.requires.before c.turned_fault.ensures.sound
 
 pub returns-clause-fault : goal.returns-clause-fault
 returns-clause-fault g c =
-    faulty_after g.O.RouteSource.table g.N.RouteSource.table c.args.mixed.now c.advance.new.phases c.in-Some.router.now
-    (state_in c.args.phases.now) c.turned_fault.result
-    c.turned_fault.new.room.ring.items (λ v within apart. c.advance.ensures.others v apart) c.requires.before c.turned_fault.ensures.fault
+    faulty_after (mix_of g.O.RouteSource.table g.N.RouteSource.table c.args.mixed.now) _ (state_in c.args.phases.now) c.turned_fault.result
+    c.turned_fault.new.room.ring.items (record { here = c.advance-was.ensures.was; others = λ v within apart. c.advance-was.ensures.state.others v apart })
+    c.requires.before c.turned_fault.ensures.fault
 
 pub returns-then-is_known-clause-state : goal.returns-then-is_known-clause-state
 returns-then-is_known-clause-state g c =
     let within : c.args.k / 2 < length c.args.order.now = c.in-Some.ensures.lookup.3.0 in
-    state_advanced c.args.order.now c.args.phases.now c.advance.new.phases c.args.k c.in-Some.router.now within
-    (get_or_read c.args.order.now (c.args.k / 2) c.in-Some.router.now within c.in-Some.ensures.lookup.1 0) c.advance.ensures c.requires.state
+    state_advanced c.args.order.now c.args.phases.now c.advance-was.new.phases c.args.k c.in-Some.router.now within
+    (get_or_read c.args.order.now (c.args.k / 2) c.in-Some.router.now within c.in-Some.ensures.lookup.1 0) c.advance-was.ensures.state c.requires.state
 
 pub returns-then-is_known-clause-sound : goal.returns-then-is_known-clause-sound
 returns-then-is_known-clause-sound g c =
     let within : c.args.k / 2 < length c.args.order.now = c.in-Some.ensures.lookup.3.0 in
-    let state : IsStateOf c.advance.new.phases c.args.order.now (c.args.k + 1) =
-    state_advanced c.args.order.now c.args.phases.now c.advance.new.phases c.args.k c.in-Some.router.now within
-    (get_or_read c.args.order.now (c.args.k / 2) c.in-Some.router.now within c.in-Some.ensures.lookup.1 0) c.advance.ensures c.requires.state in
-    subst (λ (s : State). Sound g.O.RouteSource.table g.N.RouteSource.table c.args.mixed.now s)
-    (same_state (state_of c.args.order.now (c.args.k + 1)) (state_in c.advance.new.phases) (λ u. sym (state u)))
+    let state : IsStateOf c.advance-was.new.phases c.args.order.now (c.args.k + 1) =
+    state_advanced c.args.order.now c.args.phases.now c.advance-was.new.phases c.args.k c.in-Some.router.now within
+    (get_or_read c.args.order.now (c.args.k / 2) c.in-Some.router.now within c.in-Some.ensures.lookup.1 0) c.advance-was.ensures.state c.requires.state in
+    subst (λ (s : State). Sound (mix_of g.O.RouteSource.table g.N.RouteSource.table c.args.mixed.now) s)
+    (same_state (state_of c.args.order.now (c.args.k + 1)) (state_in c.advance-was.new.phases) (λ u. sym (state u)))
     (c.requires.known (c.args.k + 1) c.if-is_known.ensures)

@@ -1,9 +1,6 @@
-use Rattle.std.proofs.Common.{ℕ, ◌<◌, get_or, Contains}
+use Rattle.std.proofs.Common.{ℕ, ◌<◌, get_or}
 use Rattle.order_core.specs.Marks.{IsMarked}
 use Rattle.loop_finder.proofs.part.kept.Given as goal
 
 abbrev pub invariant-loop-router : goal.invariant-loop-router
-invariant-loop-router l = record {
-  from : (h : ℕ) → Contains l.kept.items h → Contains l.routers h;
-  all : (k : ℕ) → k < l.router-index → IsMarked l.marks (get_or l.routers k 0) → Contains l.kept.items (get_or l.routers k 0);
-}
+invariant-loop-router l = (k : ℕ) → k < l.router-index → ¬ IsMarked l.marks (get_or l.routers k 0)

@@ -1,7 +1,25 @@
+use Rattle.std.proofs.Common.{◌≡◌, ℕ, length, arith, ap, subst}
+use Rattle.net_model.specs.Network.{Network}
+use Rattle.loop_finder.specs.steps.PartRows.{AreFirstRows}
 use Rattle.loop_finder.proofs.PartRows.{AreFirstRows-more}
+use Rattle.loop_finder.specs.ClassSteps.{mix_of}
 use Rattle.loop_finder.proofs.part.rows_of.Goals as goal
 
 pub loop-router-preserved : goal.loop-router-preserved
 loop-router-preserved g c =
-    AreFirstRows-more g.O.RouteSource.table g.N.RouteSource.table c.args.mixed.now c.args.atom c.args.marks.now c.loop-router.router
-    c.loop-router.rows.items c.push.new.self.items c.in_ok-row.row c.in_ok-push.ensures.items c.loop-router.invariant c.in_ok-row.ensures
+    AreFirstRows-more (mix_of g.O.RouteSource.table g.N.RouteSource.table c.args.mixed.now) c.args.atom c.args.marks.now c.loop-router.router
+    c.loop-router.rows.items c.push.new.self.items c.row_of-row.result c.in_ok-push.ensures.items c.loop-router.invariant c.row_of-row.ensures
+
+pub returns : goal.returns
+returns g c =
+    let all : c.loop-router.router ≡ length c.args.marks.now = omega (
+      arith,
+      c.requires.marks,
+      c.loop-router-test.false,
+      c.loop-router.auto.router-end,
+      c.routers-router-end.ensures.count,
+      ap (λ (n : Network). length n) c.net.ensures,
+    ) in
+    subst (λ (n : ℕ). AreFirstRows (mix_of g.O.RouteSource.table g.N.RouteSource.table c.args.mixed.now) c.args.atom c.args.marks.now n
+    c.loop-router.rows.items) all
+    c.loop-router.invariant

@@ -1,4 +1,5 @@
 use Rattle.std.proofs.Common.{◌+◌, List, sym, subst}
+use Rattle.loop_finder.specs.ClassSteps.{mix_of}
 use Rattle.loop_finder.specs.Parts.{ClassPart, AreParts, IsCovered}
 use Rattle.loop_finder.proofs.PartLists.{AreParts-more, AreParts-push}
 use Rattle.loop_finder.proofs.PartRows.{returns_known}
@@ -6,18 +7,17 @@ use Rattle.loop_finder.proofs.parts.add_known.Goals as goal
 
 pub returns-then-is_covered : goal.returns-then-is_covered
 returns-then-is_covered g c =
-    AreParts-more g.O.RouteSource.table g.N.RouteSource.table c.args.mixed.now c.args.parts.now.items c.args.atom c.requires.parts
-    (subst (λ (xs : List ClassPart). IsCovered g.O.RouteSource.table g.N.RouteSource.table c.args.mixed.now xs c.args.atom) c.as_slice.ensures.value
+    AreParts-more (mix_of g.O.RouteSource.table g.N.RouteSource.table c.args.mixed.now) c.args.parts.now.items c.args.atom c.requires.parts
+    (subst (λ (xs : List ClassPart). IsCovered (mix_of g.O.RouteSource.table g.N.RouteSource.table c.args.mixed.now) xs c.args.atom) c.as_slice.ensures.value
     c.if-is_covered.ensures)
 
 pub build-requires-clause-returns : goal.build-requires-clause-returns
 build-requires-clause-returns g c =
-    returns_known g.O.RouteSource.table g.N.RouteSource.table c.args.mixed.now c.args.atom c.args.making.now c.as_slice-marks.result.now
+    returns_known (mix_of g.O.RouteSource.table g.N.RouteSource.table c.args.mixed.now) c.args.atom c.args.making.now c.as_slice-marks.result.now
     c.requires.making c.requires.read c.as_slice-marks.ensures.value
 
 pub returns : goal.returns
-returns g c =
-    subst (λ (xs : List ClassPart). AreParts g.O.RouteSource.table g.N.RouteSource.table c.args.mixed.now xs (c.args.atom + 1))
+returns g c = subst (λ (xs : List ClassPart). AreParts (mix_of g.O.RouteSource.table g.N.RouteSource.table c.args.mixed.now) xs (c.args.atom + 1))
     (sym c.in_ok-push.ensures.items)
-    (AreParts-push g.O.RouteSource.table g.N.RouteSource.table c.args.mixed.now c.args.parts.now.items c.in_ok-part.part c.args.atom c.requires.parts
+    (AreParts-push (mix_of g.O.RouteSource.table g.N.RouteSource.table c.args.mixed.now) c.args.parts.now.items c.in_ok-part.part c.args.atom c.requires.parts
     c.in_ok-part.ensures.part c.in_ok-part.ensures.class)

@@ -5,6 +5,7 @@ use Rattle.loop_finder.specs.steps.Making.{IsMaking}
 use Rattle.loop_finder.specs.Parts.{ClassPart, AreParts}
 use Rattle.loop_finder.proofs.PartLists.{AreParts-none}
 use Rattle.loop_finder.proofs.StateVerdicts.{classes_few}
+use Rattle.loop_finder.specs.ClassSteps.{mix_of}
 use Rattle.loop_finder.proofs.parts.parts_of.Goals as goal
 
 pub loop-atom-init : goal.loop-atom-init
@@ -13,8 +14,9 @@ loop-atom-init g c =
     record {
       making = subst (λ (n : ℕ). IsMaking n c.in_ok-making.making) routers c.in_ok-making.ensures.making;
       known = rw (c.in_ok-making.ensures.known) tt;
-      parts = subst (λ (xs : List ClassPart). AreParts g.O.RouteSource.table g.N.RouteSource.table c.args.mixed.now xs 0) (sym c.new-parts.ensures.items)
-          (AreParts-none g.O.RouteSource.table g.N.RouteSource.table c.args.mixed.now c.atoms.ensures.classes);
+      parts = subst (λ (xs : List ClassPart). AreParts (mix_of g.O.RouteSource.table g.N.RouteSource.table c.args.mixed.now) xs 0)
+          (sym c.new-parts.ensures.items)
+          (AreParts-none (mix_of g.O.RouteSource.table g.N.RouteSource.table c.args.mixed.now) c.atoms.ensures.classes);
     }
 
 pub overflow_cast-atom : goal.overflow_cast-atom
@@ -36,4 +38,5 @@ returns g c =
     let many : c.count-atom-end.result ≡ length c.args.mixed.now.classes.samples =
     c.count-atom-end.ensures.count ∙ ap (λ (x : Classes). length x.samples) c.atoms.ensures.atoms in
     let all : c.loop-atom.atom ≡ length c.args.mixed.now.classes.samples = omega (arith, many, c.loop-atom-test.false, c.loop-atom.auto.atom-end) in
-    subst (λ (n : ℕ). AreParts g.O.RouteSource.table g.N.RouteSource.table c.args.mixed.now c.loop-atom.parts.items n) all c.loop-atom.invariant.parts
+    subst (λ (n : ℕ). AreParts (mix_of g.O.RouteSource.table g.N.RouteSource.table c.args.mixed.now) c.loop-atom.parts.items n) all
+    c.loop-atom.invariant.parts

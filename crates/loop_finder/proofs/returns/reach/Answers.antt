@@ -17,9 +17,9 @@ pub loop-router-preserved : goal.loop-router-preserved
 loop-router-preserved c = record {
   reached = c.reach_one.ensures.reached;
   more = ReachesMore-then _ _ _ _ _ _ c.loop-router.invariant.more c.reach_one.ensures.more;
-  routers = below_more (λ (k : ℕ). get_or c.args.routers.now k 0 < length c.reach_one.new.seen → IsMarked c.reach_one.new.seen (get_or c.args.routers.now k 0))
-      c.loop-router.router-index
-      (λ k below within. c.reach_one.ensures.more.marked (get_or c.args.routers.now k 0)
+  routers = below_more (λ (k : ℕ). get_or c.args.routers.now k 0 < length c.reach_one.new.seen → IsMarked c.reach_one.new.seen
+      (get_or c.args.routers.now k 0))
+      c.loop-router.router-index (λ k below within. c.reach_one.ensures.more.marked (get_or c.args.routers.now k 0)
       (c.loop-router.invariant.routers k below (omega (arith, within, c.reach_one.auto.seen))))
       (λ within. c.reach_one.ensures.router (omega (arith, within, c.reach_one.auto.seen)));
   many = omega (arith, c.loop-router.invariant.many, c.reach_one.auto.seen);

@@ -9,8 +9,7 @@ returns-in-Some-clause-walk g c =
     subst (λ (xs : List ℕ). (c.in-Some.place < length xs) × (get_or xs c.in-Some.place 0 ≡ c.lowest_hop-next.result))
     c.as_slice.ensures.value c.in-Some.ensures in
     walk_from_way (g.G.StepGraph.step c.args.graph.now) c.args.live.now c.args.start c.loop-place.path.items c.loop-place.last
-    c.lowest_hop-next.result c.in-Some.place
-    c.loop-place.invariant.way c.lowest_hop-next.ensures at.0 at.1
+    c.lowest_hop-next.result c.in-Some.place c.loop-place.invariant.way c.lowest_hop-next.ensures at.0 at.1
 
 pub visit-requires-in-loop-place : goal.visit-requires-in-loop-place
 visit-requires-in-loop-place g c =

@@ -1,6 +1,7 @@
 use Rattle.std.proofs.Common.{refl}
 use Rattle.std.proofs.lemmas.Bool.{false≢true}
 use Rattle.loop_finder.proofs.TagSteps.{tagged_new}
+use Rattle.loop_finder.specs.ClassSteps.{state_over}
 use Rattle.loop_finder.proofs.tags.tag_of.Goals as goal
 
 pub returns-in-true-false : goal.returns-in-true-false
@@ -9,6 +10,5 @@ returns-in-true-false g c = record {
 }
 
 pub returns-in-false-default : goal.returns-in-false-default
-returns-in-false-default g c =
-    tagged_new g.O.RouteSource.table g.N.RouteSource.table c.args.steps.now c.args.router c.args.next (λ steps.
+returns-in-false-default g c = tagged_new (state_over g.O.RouteSource.table g.N.RouteSource.table c.args.steps.now) c.args.router c.args.next (λ steps.
     false≢true (c.in-false-default.ensures.1 steps)) c.requires.some

@@ -6,6 +6,5 @@ pub loop-router-init : goal.loop-router-init
 loop-router-init c = IsWatch-none c.args.parts.now c.in_ok-watch.watch.items (ap length c.in_ok-watch.ensures.items)
 
 pub loop-router-preserved : goal.loop-router-preserved
-loop-router-preserved c =
-    IsWatch-more c.args.parts.now c.loop-router.router c.loop-router.watch.items _ c.in_ok-places.places c.in_ok-push.ensures.items
+loop-router-preserved c = IsWatch-more c.args.parts.now c.loop-router.router c.loop-router.watch.items _ c.in_ok-places.places c.in_ok-push.ensures.items
     c.loop-router.invariant c.in_ok-places.ensures

@@ -1,7 +1,7 @@
 use Rattle.std.proofs.Common.{◌≡◌, ℕ, ◌<◌, [], length, get_or, true, arith, sym, ap, ◌∙◌, subst, below_more}
 use Rattle.std.proofs.lemmas.List.{get_or_default}
 use Rattle.loop_finder.specs.Parts.{ClassPart}
-use Rattle.loop_finder.specs.ClassSteps.{sample_of}
+use Rattle.loop_finder.specs.ClassSteps.{sample_of, mix_of}
 use Rattle.loop_finder.specs.Verdicts.{SoundAt}
 use Rattle.loop_finder.proofs.Between.{clear_told}
 use Rattle.loop_finder.proofs.PartLists.{sound_before, sound_whole}
@@ -11,8 +11,8 @@ pub loop-place-preserved-then-wave-calm : goal.loop-place-preserved-then-wave-ca
 loop-place-preserved-then-wave-calm g c = record {
   clear = λ state between q d less.
       let within : c.loop-place.place < length c.args.parts.now = omega arith in
-      below_more (λ (k : ℕ). SoundAt g.O.RouteSource.table g.N.RouteSource.table c.args.mixed.now state
-      (sample_of c.args.mixed.now (get_or c.args.parts.now k d).atom)) c.loop-place.place
+      below_more (λ (k : ℕ). SoundAt (mix_of g.O.RouteSource.table g.N.RouteSource.table c.args.mixed.now) state
+      (sample_of c.args.mixed.now.classes (get_or c.args.parts.now k d).atom)) c.loop-place.place
       (λ k below. c.loop-place.invariant.clear state between k d below)
       (c.requires.calm c.loop-place.place d within c.if-wave-calm.true state between) q less;
   room = c.loop-place.invariant.room;
@@ -26,11 +26,12 @@ loop-place-preserved g c = record {
       let here : c.atom.result ≡ (get_or c.args.parts.now c.loop-place.place d).atom =
       c.atom.ensures ∙ ap (λ (x : ClassPart). x.atom) (c.index-parts-place.is
       ∙ get_or_default c.args.parts.now c.loop-place.place c.index-parts-place.result d within) in
-      below_more (λ (k : ℕ). SoundAt g.O.RouteSource.table g.N.RouteSource.table c.args.mixed.now state
-      (sample_of c.args.mixed.now (get_or c.args.parts.now k d).atom)) c.loop-place.place
+      below_more (λ (k : ℕ). SoundAt (mix_of g.O.RouteSource.table g.N.RouteSource.table c.args.mixed.now) state
+      (sample_of c.args.mixed.now.classes (get_or c.args.parts.now k d).atom)) c.loop-place.place
       (λ k below. c.loop-place.invariant.clear state between k d below)
-      (subst (λ (a : ℕ). SoundAt g.O.RouteSource.table g.N.RouteSource.table c.args.mixed.now state (sample_of c.args.mixed.now a)) here
-      (clear_told g.O.RouteSource.table g.N.RouteSource.table c.args.mixed.now c.args.first.now c.args.last.now c.atom.result c.class_fault.new.room.ring.items
+      (subst (λ (a : ℕ). SoundAt (mix_of g.O.RouteSource.table g.N.RouteSource.table c.args.mixed.now) state (sample_of c.args.mixed.now.classes a)) here
+      (clear_told (mix_of g.O.RouteSource.table g.N.RouteSource.table c.args.mixed.now) c.args.first.now c.args.last.now c.atom.result
+      c.class_fault.new.room.ring.items
       c.in_default.ensures.told state between)) q less;
   room = c.in_default.ensures.room;
   ring = c.in_default.ensures.ring ∙ c.loop-place.invariant.ring;
@@ -43,11 +44,10 @@ returns-in-Some-clause-told g c =
     c.atom.ensures ∙ ap (λ (x : ClassPart). x.atom) c.index-parts-place.is in
     record {
       atom = c.atom.result;
-      within =
-          subst (λ (a : ℕ). a < length c.args.mixed.now.classes.samples) (sym here)
+      within = subst (λ (a : ℕ). a < length c.args.mixed.now.classes.samples) (sym here)
           (c.requires.parts.below c.loop-place.place c.index-parts-place.result within);
       before = λ k below state between.
-          sound_before g.O.RouteSource.table g.N.RouteSource.table c.args.mixed.now c.args.parts.now (length c.args.mixed.now.classes.samples)
+          sound_before (mix_of g.O.RouteSource.table g.N.RouteSource.table c.args.mixed.now) c.args.parts.now (length c.args.mixed.now.classes.samples)
           c.loop-place.place c.index-parts-place.result state c.requires.parts
           within (λ q less. c.loop-place.invariant.clear state between q c.index-parts-place.result less) k (subst (λ (a : ℕ). k < a) here below);
       here = c.in-Some.ensures.told;
@@ -56,6 +56,5 @@ returns-in-Some-clause-told g c =
 pub returns-clause-told : goal.returns-clause-told
 returns-clause-told g c k below state between =
     let none : ClassPart = record { atom = 0; moves = true; rows = [] } in
-    sound_whole g.O.RouteSource.table g.N.RouteSource.table c.args.mixed.now c.args.parts.now (length c.args.mixed.now.classes.samples)
-    none state c.requires.parts
-    (λ q less. c.loop-place.invariant.clear state between q none (omega (arith, less))) k below
+    sound_whole (mix_of g.O.RouteSource.table g.N.RouteSource.table c.args.mixed.now) c.args.parts.now (length c.args.mixed.now.classes.samples)
+    none state c.requires.parts (λ q less. c.loop-place.invariant.clear state between q none (omega (arith, less))) k below

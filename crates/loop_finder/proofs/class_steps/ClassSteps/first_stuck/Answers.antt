@@ -1,17 +1,18 @@
 use Rattle.std.proofs.Common.{ℕ, ◌<◌, length, ap, arith, below_more}
 use Rattle.net_model.specs.Network.{Network}
 use Rattle.igp_theory.specs.Forwarding.{MustForward}
-use Rattle.loop_finder.specs.ClassSteps.{ClassState, Moves, sample_of}
+use Rattle.loop_finder.specs.ClassSteps.{Moves, sample_of, SourceState, state_over}
 use Rattle.loop_finder.proofs.class_steps.ClassSteps.first_stuck.Goals as goal
 
 pub loop-router-preserved : goal.loop-router-preserved
 loop-router-preserved g c =
-    below_more (λ (v : ℕ). Moves g.O.RouteSource.table g.N.RouteSource.table c.args.self.now v) c.loop-router.router c.loop-router.invariant
+    below_more (λ (v : ℕ). Moves (state_over g.O.RouteSource.table g.N.RouteSource.table c.args.self.now) v) c.loop-router.router c.loop-router.invariant
     c.if-is_stuck.ensures.moves
 
 pub returns : goal.returns
 returns g c u =
-    let below : MustForward c.args.self.now.mixture.net (sample_of c.args.self.now.mixture c.args.self.now.atom) u → u < c.loop-router.router = λ must.
+    let below : MustForward c.args.self.now.mixture.net (sample_of c.args.self.now.mixture.classes c.args.self.now.atom) u → u <
+    c.loop-router.router = λ must.
     let router : u < length c.args.self.now.mixture.net = must.router in
     omega (
       arith,
@@ -19,6 +20,6 @@ returns g c u =
       c.loop-router-test.false,
       c.routers-router-end.ensures.count,
       ap (λ (n : Network). length n) c.net.ensures,
-      ap (λ (x : ClassState g.row.O.Denot g.row.N.Denot). length x.mixture.net) c.self.view_is,
+      ap (λ (x : SourceState g.row.O.Denot g.row.N.Denot). length x.mixture.net) c.self.view_is,
     ) in
     (λ must. (c.loop-router.invariant u (below must)).0 must, λ must. (c.loop-router.invariant u (below must)).1 must)

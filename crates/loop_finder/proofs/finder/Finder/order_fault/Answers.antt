@@ -8,13 +8,12 @@ use Rattle.loop_finder.specs.Orders.{AreFirstStates}
 use Rattle.loop_finder.specs.Verdicts.{Sound}
 use Rattle.loop_finder.proofs.FaultLaws.{none_seamless}
 use Rattle.loop_finder.proofs.OrderStates.{same_state, known_after}
+use Rattle.loop_finder.specs.ClassSteps.{mix_of}
 use Rattle.loop_finder.proofs.finder.Finder.order_fault.Goals as goal
 
 pub returns-clause-seamless : goal.returns-clause-seamless
-returns-clause-seamless g c =
-    subst (λ (x : Finding g.row.O.Denot g.row.N.Denot). IsNone c.order_fault-found.result
-    ↔ IsSeamless (migration_of g.O.RouteSource.table g.N.RouteSource.table x.mixture) c.args.order.now)
-    c.self.view_is
+returns-clause-seamless g c = subst (λ (x : Finding g.row.O.Denot g.row.N.Denot). IsNone c.order_fault-found.result
+    ↔ IsSeamless (migration_of g.O.RouteSource.table g.N.RouteSource.table x.mixture) c.args.order.now) c.self.view_is
     (none_seamless (migration_of g.O.RouteSource.table g.N.RouteSource.table c.self.inside.mixed.now)
     c.args.order.now c.order_fault-found.result c.order_fault-found.new.room.ring.items
     (subst (λ (x : Finding g.row.O.Denot g.row.N.Denot). IsOrder (length x.mixture.net) c.args.order.now) (sym c.self.view_is) c.requires)
@@ -28,10 +27,10 @@ shared_states-known-requires g c =
 
 pub order_fault-found-requires-clause-known : goal.order_fault-found-requires-clause-known
 order_fault-found-requires-clause-known g c = λ k less.
-    let kept : AreFirstStates (Sound g.O.RouteSource.table g.N.RouteSource.table c.self.inside.mixed.now) c.as_slice.result.now c.self.inside.sound =
-    subst (λ (xs : List ℕ). AreFirstStates (Sound g.O.RouteSource.table g.N.RouteSource.table c.self.inside.mixed.now) xs c.self.inside.sound)
+    let kept : AreFirstStates (Sound (mix_of g.O.RouteSource.table g.N.RouteSource.table c.self.inside.mixed.now)) c.as_slice.result.now c.self.inside.sound =
+    subst (λ (xs : List ℕ). AreFirstStates (Sound (mix_of g.O.RouteSource.table g.N.RouteSource.table c.self.inside.mixed.now)) xs c.self.inside.sound)
     (sym c.as_slice.ensures.value) c.self.invariant.order_is in
-    subst (λ (s : State). Sound g.O.RouteSource.table g.N.RouteSource.table c.self.inside.mixed.now s)
+    subst (λ (s : State). Sound (mix_of g.O.RouteSource.table g.N.RouteSource.table c.self.inside.mixed.now) s)
     (same_state (state_of c.as_slice.result.now k) (state_of c.args.order.now k) (λ u. sym (c.shared_states-known.ensures.same k u less)))
     (kept k (omega (arith, less, c.shared_states-known.ensures.within)))
 
@@ -51,9 +50,9 @@ invariant_of-self g c =
       ranks_many = c.self.invariant.ranks_many;
       calm_is = c.self.invariant.calm_is;
       order_many = ap length c.copy_from_slice.ensures.items ∙ order_length (length c.self.inside.mixed.now.net) c.args.order.now order;
-      order_is = subst (λ (xs : List ℕ). AreFirstStates (Sound g.O.RouteSource.table g.N.RouteSource.table c.self.inside.mixed.now) xs
+      order_is = subst (λ (xs : List ℕ). AreFirstStates (Sound (mix_of g.O.RouteSource.table g.N.RouteSource.table c.self.inside.mixed.now)) xs
           c.sound_states-self-inside.result) (sym c.copy_from_slice.ensures.items)
-          (known_after g.O.RouteSource.table g.N.RouteSource.table c.self.inside.mixed.now c.args.order.now c.order_fault-found.result
+          (known_after (mix_of g.O.RouteSource.table g.N.RouteSource.table c.self.inside.mixed.now) c.args.order.now c.order_fault-found.result
           c.order_fault-found.new.room.ring.items c.sound_states-self-inside.result
           c.order_fault-found.ensures.sound c.order_fault-found.ensures.fault c.sound_states-self-inside.ensures);
       begun_is = c.self.invariant.begun_is;

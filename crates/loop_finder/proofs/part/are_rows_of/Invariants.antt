@@ -1,8 +1,0 @@
-use Rattle.std.proofs.Common.{ℕ, ◌<◌, get_or}
-use Rattle.loop_finder.specs.Parts.{no_hops}
-use Rattle.loop_finder.specs.steps.PartRows.{IsRowOf}
-use Rattle.loop_finder.proofs.part.are_rows_of.Given as goal
-
-abbrev pub invariant-loop-router : goal.invariant-loop-router
-invariant-loop-router g l =
-    (u : ℕ) → u < l.router → IsRowOf g.O.RouteSource.table g.N.RouteSource.table l.mixed l.atom l.marks u (get_or l.rows u no_hops)
