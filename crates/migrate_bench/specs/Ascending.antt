@@ -19,19 +19,19 @@ pub record AreRisingTurns (n : ℕ) (turns : List Turn) : Type 0 where
   pub are : turns ≡ two_turns lower higher
 
 -- an ascending ranking ranks the lower of them first
-pub RanksSomeOldFirst-ascending : (n : ℕ) (turns : List Turn) (ranks : List ℕ) → AreRisingTurns n turns → IsAscending n ranks →
+pub RanksSomeOldFirst-ascending : {n : ℕ} {turns : List Turn} (ranks : List ℕ) → AreRisingTurns n turns → IsAscending n ranks →
     RanksSomeOldFirst ranks turns
-RanksSomeOldFirst-ascending n turns ranks rising ascending =
+RanksSomeOldFirst-ascending ranks rising ascending =
     subst (λ (ts : List Turn). RanksSomeOldFirst ranks ts) (sym rising.are)
     (RanksSomeOldFirst-two ranks rising.lower rising.higher (ascending rising.lower rising.higher rising.rise rising.within))
 
--- a scan from the last number down to `at`: the lowest rank of these numbers is that of `lowest`, and `found` is the lowest of them
--- that has a later one of no higher rank, or `size` where there is none
-pub record IsScanned (ranks : List ℕ) (size at lowest found : ℕ) : Type 0 where
-  pub from : at ≤ lowest
-  pub within : lowest < size
-  pub least : (b : ℕ) → at ≤ b → b < size → rank_of ranks lowest ≤ rank_of ranks b
-  pub found_from : at ≤ found
-  pub found_within : found ≤ size
-  pub late : found < size → (b : ℕ) × (found < b) × (b < size) × (rank_of ranks b ≤ rank_of ranks found)
-  pub rises : (a b : ℕ) → at ≤ a → a < found → a < b → b < size → rank_of ranks a < rank_of ranks b
+-- a scan from the last number down to `at` has seen the number of the lowest rank, and the lowest number that has a later one of no
+-- higher rank, or `size` where there is none
+pub record IsScanned (ranks : List ℕ) (size at : ℕ) (seen : ℕ × ℕ) : Type 0 where
+  pub from : at ≤ seen.0
+  pub within : seen.0 < size
+  pub least : (b : ℕ) → at ≤ b → b < size → rank_of ranks seen.0 ≤ rank_of ranks b
+  pub found_from : at ≤ seen.1
+  pub found_within : seen.1 ≤ size
+  pub late : seen.1 < size → (b : ℕ) × (seen.1 < b) × (b < size) × (rank_of ranks b ≤ rank_of ranks seen.1)
+  pub rises : (a b : ℕ) → at ≤ a → a < seen.1 → a < b → b < size → rank_of ranks a < rank_of ranks b

@@ -45,7 +45,7 @@ impl Oracle for Ascending {
 
     ghost keeps_base = { λ o ranks _. KeepsPairs-nil ranks };
 
-    ghost decides = { λ o address turns ranks rising _ ascending. RanksSomeOldFirst-ascending o.size turns ranks rising ascending };
+    ghost decides = { λ _ _ _ ranks rising _ ascending. RanksSomeOldFirst-ascending ranks rising ascending };
 
     fn size(&self) -> u32 {
         self.size
@@ -124,8 +124,8 @@ fn lowest_not_risen(ranks: &[u32], size: u32) -> u32
 /// one of no higher rank.
 fn scan(ranks: &[u32], size: u32, at: u32, scanned: (u32, u32)) -> (u32, u32)
     requires size { length ranks.now ≡ size }
-    requires scanned { IsScanned ranks.now size (at + 1) scanned.0 scanned.1 }
-    ensures { IsScanned ranks.now size at result.0 result.1 }
+    requires scanned { IsScanned ranks.now size (at + 1) scanned }
+    ensures { IsScanned ranks.now size at result }
 {
     let (lowest, found) = scanned;
     if ranks[lowest as usize] <= ranks[at as usize] {

@@ -1,5 +1,5 @@
 -- Which answer each step of a call gives.
-use Rattle.std.proofs.Common.{◌≡◌, ◌≢◌, ◌⊎◌, inl, inr, ℕ, List, [], ◌++◌, Result, Ok, Err, IfOk, Some, refl, ◌∙◌, sym, subst, append-nil}
+use Rattle.std.proofs.Common.{◌≡◌, ◌≢◌, ◌⊎◌, inl, inr, ℕ, List, [], ◌++◌, Result, Ok, Err, IfOk, Some, refl, sym, subst, append-nil}
 use Rattle.std.proofs.lemmas.Option.{same_Some}
 use Rattle.std.specs.declared.alloc.AllocError.{AllocError}
 use Rattle.net_model.specs.declared.refusal.NetRefusal.{NetRefusal}
@@ -11,13 +11,13 @@ use Rattle.migrate_words.specs.declared.refusal.WordsRefused.TheVariants.{Words 
 use Rattle.migration_report.specs.Texts.{long_file_text, read_fault_text}
 use Rattle.migrate_cli.specs.RefusalStatus.{refusal_status}
 use Rattle.migrate_cli.specs.Answers.{AsksForFew, IsAnswer, MayAsk, FaultsAgree, RefusalAnswer, StopAnswer, HasAnswer}
-use Rattle.migrate_cli.specs.Answers.IsAnswer.{refused_words, many_files, read_fault, long_file, long_files, judged}
+use Rattle.migrate_cli.specs.Answers.IsAnswer.{refused_words, read_fault, long_file, long_files, judged}
 use Rattle.migrate_cli.specs.Answers.MayAsk.{asks_none, asks_some}
 use Rattle.migrate_cli.specs.Calls.{Call}
 use Rattle.migrate_cli.specs.CallWords.AreRefused.{not_taken, number_off}
-use Rattle.migrate_cli.specs.CommandFiles.{files_of, text_names}
-use Rattle.migrate_cli.specs.Reading.{AreRead, AreWithin, file_names}
-use Rattle.migrate_cli.specs.steps.Stops.{StopFaults, MayRead, HasRead}
+use Rattle.migrate_cli.specs.CommandFiles.{files_of, text_names, given_texts}
+use Rattle.migrate_cli.specs.Reading.{AreRead, AreWithin, file_names, to_read}
+use Rattle.migrate_cli.specs.steps.Stops.{MayRead, HasRead}
 use Rattle.migrate_cli.specs.steps.Stops.MayRead.{none_yet, so_far}
 use Rattle.migrate_cli.specs.steps.Unread.{IsUnread, UnreadAnswer}
 use Rattle.migrate_cli.specs.Verdicts.{IsVerdict}
@@ -78,7 +78,7 @@ may_ask_all call request texts ask read within =
 
 -- why reading stopped is the answer
 pub stop_answer : (call : Call) (before after : List (List ℕ)) (request : Request) (stop : Stop) (r : Result Answer AllocError)
-    → AsksForFew call.words request → HasRead call.content (files_of request) before after (Err stop)
+    → AsksForFew call.words request → HasRead (to_read call.content (files_of request)) before after (Err stop)
     → IfOk r (λ (a : Answer). StopAnswer stop a.status a.text) → HasAnswer call before after r
 stop_answer call before after request (Fault name) (Ok a) ask read answer =
     let Q : Status → List ℕ → Type 0 = λ s t. IsAnswer call read.asked s t in
@@ -110,34 +110,21 @@ stop_answer call before after request (Total number) (Ok a) ask read answer =
           (long_files request read.asked read.reads.texts read.reads.file number ask read.reads.up_to read.reads.stops));
     }
 stop_answer call before after request OutOfMemory (Ok a) ask read answer = absurd answer
-stop_answer call before after request (Fault name) (Err e) ask read answer =
-    record {
-      asked = read.asked;
-      asked_is = read.asked_is;
-      answers = asks_some request read.asked read.reads.texts read.reads.file ask read.reads.up_to;
-    }
-stop_answer call before after request (Long name) (Err e) ask read answer =
-    record {
-      asked = read.asked;
-      asked_is = read.asked_is;
-      answers = asks_some request read.asked read.reads.texts read.reads.file ask read.reads.up_to;
-    }
-stop_answer call before after request (Total number) (Err e) ask read answer =
-    record {
-      asked = read.asked;
-      asked_is = read.asked_is;
-      answers = asks_some request read.asked read.reads.texts read.reads.file ask read.reads.up_to;
-    }
 stop_answer call before after request OutOfMemory (Err e) ask read answer =
     record { asked = read.asked; asked_is = read.asked_is; answers = may_ask request ask read.reads }
+stop_answer call before after request stop (Err e) ask read answer = record {
+  asked = read.asked;
+  asked_is = read.asked_is;
+  answers = asks_some request read.asked read.reads.texts read.reads.file ask read.reads.up_to;
+}
 
 refusal_no_fault : (refusal : NetRefusal) (status : Status) → refusal_status refusal ≡ Some status → NoFault status
 refusal_no_fault (NetLimit _ _) status e = subst NoFault (same_Some Limit status e) ((λ f. Prim.cc f), (λ f. Prim.cc f))
 refusal_no_fault NoMemory status e = absurd (Prim.cc e)
 refusal_no_fault _ status e = subst NoFault (same_Some Refused status e) ((λ f. Prim.cc f), (λ f. Prim.cc f))
 
-pub verdict_no_fault : {request : Request} {own texts : List (List ℕ)} {status : Status} {text : List ℕ} → IsVerdict request own texts status text →
-    NoFault status
+pub verdict_no_fault : {request : Request} {own texts : List (List ℕ)} {status : Status} {text : List ℕ}
+    → IsVerdict request (given_texts own texts) status text → NoFault status
 verdict_no_fault (faulty_configuration _ _ _ _) = (λ e. Prim.cc e, λ e. Prim.cc e)
 verdict_no_fault (no_network _ refusal status _ _ given) = refusal_no_fault refusal status given
 verdict_no_fault (off_start _ _ _ _ _ _ _) = (λ e. Prim.cc e, λ e. Prim.cc e)
@@ -146,61 +133,26 @@ verdict_no_fault {request} {own} {texts} (of_command net status text _ _ verdict
 
 -- that a write failed is no answer
 pub answer_writes : {call : Call} {asked : List (List ℕ)} {status : Status} {text : List ℕ} → IsAnswer call asked status text → status ≢ WriteFault
-answer_writes (refused_words _ _) = λ e. Prim.cc e
-answer_writes (many_files _ _ _) = λ e. Prim.cc e
-answer_writes (read_fault _ _ _ _ _ _) = λ e. Prim.cc e
-answer_writes (long_file _ _ _ _ _ _ _) = λ e. Prim.cc e
-answer_writes (long_files _ _ _ _ _ _ _ _) = λ e. Prim.cc e
 answer_writes (judged _ _ _ _ _ _ _ verdict) = (verdict_no_fault verdict).1
+answer_writes _ = λ e. Prim.cc e
 
 -- an answer is a read fault, or it isn't
 pub reads_or_not : {call : Call} {asked : List (List ℕ)} {status : Status} {text : List ℕ} → IsAnswer call asked status text
     → (status ≡ ReadFault) ⊎ (status ≢ ReadFault)
-reads_or_not (refused_words _ _) = inr (λ e. Prim.cc e)
-reads_or_not (many_files _ _ _) = inr (λ e. Prim.cc e)
 reads_or_not (read_fault _ _ _ _ _ _) = inl refl
-reads_or_not (long_file _ _ _ _ _ _ _) = inr (λ e. Prim.cc e)
-reads_or_not (long_files _ _ _ _ _ _ _ _) = inr (λ e. Prim.cc e)
 reads_or_not (judged _ _ _ _ _ _ _ verdict) = inr (verdict_no_fault verdict).0
+reads_or_not _ = inr (λ e. Prim.cc e)
 
 -- where the count of faults stands it agrees with an answer that is no read fault
 pub faults_agree : (status : Status) (before after : ℕ) → status ≢ ReadFault → after ≡ before → FaultsAgree status before after
 faults_agree status before after no_fault stands = record { read_fault = λ e. absurd (no_fault e); unless_read_fault = λ _. stands }
 
--- with one of this status
-pub refusal_agrees : (r : Result Answer AllocError) (status : Status) (count : ℕ) → status ≢ ReadFault → IfOk r (λ (a : Answer). a.status ≡ status)
-    → IfOk r (λ (a : Answer). FaultsAgree a.status count count)
-refusal_agrees (Ok a) status count no_fault same = faults_agree a.status count count (λ e. no_fault (sym same ∙ e)) refl
-refusal_agrees (Err e) status count no_fault same = tt
-
--- with the answer that reading stopped
-pub stop_agrees : (stop : Stop) (before after : ℕ) (r : Result Answer AllocError) → StopFaults stop before after →
-    IfOk r (λ (a : Answer). StopAnswer stop a.status a.text)
-    → IfOk r (λ (a : Answer). FaultsAgree a.status before after)
-stop_agrees (Fault file) before after (Ok a) faults answer = record { read_fault = λ _. faults; unless_read_fault = λ no. absurd (no answer.0) }
-stop_agrees (Long file) before after (Ok a) faults answer =
-    faults_agree a.status before after (λ e. let clash : Limit ≡ ReadFault = sym answer.0 ∙ e in Prim.cc clash) faults
-stop_agrees (Total number) before after (Ok a) faults answer =
-    faults_agree a.status before after (λ e. let clash : Limit ≡ ReadFault = sym answer.0 ∙ e in Prim.cc clash) faults
-stop_agrees OutOfMemory before after (Ok a) faults answer = absurd answer
-stop_agrees stop before after (Err e) faults answer = tt
-
--- with the answer that words are refused
-pub words_agree : (refused : WordsRefused) (count : ℕ) (r : Result Answer AllocError) → IfOk r (λ (a : Answer). RefusalAnswer refused a.status a.text)
-    → IfOk r (λ (a : Answer). FaultsAgree a.status count count)
-words_agree (NotTaken detail) count (Ok a) answer =
-    faults_agree a.status count count (λ e. let clash : Words ≡ ReadFault = sym answer.0 ∙ e in Prim.cc clash) refl
-words_agree Number count (Ok a) answer =
-    faults_agree a.status count count (λ e. let clash : Words ≡ ReadFault = sym answer.0 ∙ e in Prim.cc clash) refl
-words_agree NoMemoryForWords count (Ok a) answer = absurd answer
-words_agree refused count (Err e) answer = tt
-
 -- why configurations aren't read is the verdict
 pub unread_verdict : (request : Request) (own texts : List (List ℕ)) (unread : Unread) (r : Result Answer AllocError) →
     IsUnread (text_names request) texts unread
-    → IfOk r (λ (a : Answer). UnreadAnswer unread a.status a.text) → IfOk r (λ (a : Answer). IsVerdict request own texts a.status a.text)
+    → IfOk r (λ (a : Answer). UnreadAnswer unread a.status a.text) → IfOk r (λ (a : Answer). IsVerdict request (given_texts own texts) a.status a.text)
 unread_verdict request own texts (Bad file line kind) (Ok a) is answer =
-    subst (λ s. IsVerdict request own texts s a.text) (sym answer.0)
-    (subst (IsVerdict request own texts Refused) (sym answer.1) (faulty_configuration file.now line kind is))
+    subst (λ s. IsVerdict request (given_texts own texts) s a.text) (sym answer.0)
+    (subst (IsVerdict request (given_texts own texts) Refused) (sym answer.1) (faulty_configuration file.now line kind is))
 unread_verdict request own texts NoMemoryToRead (Ok a) is answer = absurd answer
 unread_verdict request own texts unread (Err e) is answer = tt

@@ -13,21 +13,31 @@ use Rattle.migrate_cli.specs.Answers.IsAnswer.{refused_words, many_files, read_f
 use Rattle.migrate_cli.specs.Calls.{Call}
 use Rattle.migrate_cli.specs.CallWords.{AreRefused, TellsWordsRefused}
 use Rattle.migrate_cli.specs.CallWords.AreRefused.{not_taken, number_off}
-use Rattle.migrate_cli.specs.CommandFiles.{config_names, config_texts, files_of, own_texts}
+use Rattle.migrate_cli.specs.CommandFiles.{config_names, config_texts, files_of, own_texts, given_texts}
 use Rattle.migrate_cli.specs.Reading.{Contents, File, AreRead, AreWithin, file_names}
 use Rattle.migrate_cli.specs.Verdicts.{IsVerdict}
 use Rattle.migrate_cli.specs.declared.status.Status.{Status}
 use Rattle.migrate_cli.specs.declared.status.Status.TheVariants.{Words, ReadFault, Limit}
 use Rattle.migrate_cli.proofs.ReadingFacts.{AreRead-length}
-use Rattle.migrate_cli.proofs.StopLaws.{StopsAfter, IsBrokenSo, IsToldOf, long_breaks, total_breaks, told_with, told_files, told_up_to, one_list, none_past}
+use Rattle.migrate_cli.proofs.StopLaws.{StopsAfter, IsBrokenSo, broken_at, IsToldOf, long_breaks, total_breaks, told_with, told_files, told_up_to, one_list}
+use Rattle.migrate_cli.proofs.StopLaws.{none_past}
 use Rattle.migrate_cli.proofs.StopLaws.{same_place, same_limit}
 use Rattle.migrate_cli.proofs.StopLaws.IsBrokenSo.{too_long, too_many}
 use Rattle.migrate_cli.proofs.SameAnswers.{AreSame}
 use Rattle.migrate_cli.proofs.VerdictLaws.{one_verdict}
 
--- two answers to the same question: names asked for, status and text
-abbrev SameAnswer : List (List ℕ) → Status → List ℕ → List (List ℕ) → Status → List ℕ → Type 0
-SameAnswer asked s t also z w = (asked ≡ also) × (s ≡ z) × TellTheSame s t w
+-- an answer: the names asked for, the status and the text
+record Reply : Type 0 where
+  asked : List (List ℕ)
+  status : Status
+  text : List ℕ
+
+abbrev reply : List (List ℕ) → Status → List ℕ → Reply
+reply asked status text = record { asked = asked; status = status; text = text }
+
+-- two answers to the same question tell the same
+abbrev SameAnswer : Reply → Reply → Type 0
+SameAnswer one other = (one.asked ≡ other.asked) × (one.status ≡ other.status) × TellTheSame one.status one.text other.text
 
 -- answers with the same text tell the same
 tell_same : (s z : Status) (t w : List ℕ) → AreSame s t z w → TellTheSame s t w
@@ -35,23 +45,34 @@ tell_same s z t w both = subst (TellTheSame s t) both.1 same_text
 
 -- ---- the files of a command ----
 
-pub data OfFiles (content : Contents) (request : Request) : List (List ℕ) → Status → List ℕ → Type 0 where
-  above : 200 < length (config_names request) → OfFiles content request [] Limit (many_files_text (length (config_names request)))
+-- a request, and what is told of the files
+pub record Question : Type 0 where
+  pub content : Contents
+  pub request : Request
+
+abbrev pub question : Contents → Request → Question
+question content request = record { content = content; request = request }
+
+pub data OfFiles (q : Question) : List (List ℕ) → Status → List ℕ → Type 0 where
+  above : 200 < length (config_names q.request) → OfFiles q [] Limit (many_files_text (length (config_names q.request)))
   stopped : {asked : List (List ℕ)} {status : Status} {answer : List ℕ} (before : List File) (file : File) (texts : List (List ℕ)) (text : List ℕ)
-      → length (config_names request) ≤ 200 → asked ≡ file_names before ++ file.name ∷ [] → StopsAfter content (files_of request) before file texts text
-      → IsBrokenSo before file texts text status answer → OfFiles content request asked status answer
-  all_read : {status : Status} {answer : List ℕ} (texts : List (List ℕ)) → length (config_names request) ≤ 200
-      → AreRead content (files_of request) texts → AreWithin (files_of request) texts
-      → IsVerdict request (own_texts request texts) (config_texts request texts) status answer
-      → OfFiles content request (file_names (files_of request)) status answer
+      → length (config_names q.request) ≤ 200 → asked ≡ file_names before ++ file.name ∷ []
+      → StopsAfter q.content (files_of q.request) (broken_at before file texts text)
+      → IsBrokenSo (broken_at before file texts text) status answer → OfFiles q asked status answer
+  all_read : {status : Status} {answer : List ℕ} (texts : List (List ℕ)) → length (config_names q.request) ≤ 200
+      → AreRead q.content (files_of q.request) texts → AreWithin (files_of q.request) texts
+      → IsVerdict q.request (given_texts (own_texts q.request texts) (config_texts q.request texts)) status answer
+      → OfFiles q (file_names (files_of q.request)) status answer
 
 module _ (content : Contents) (request : Request) where
   pub few_or_many : 200 < length (config_names request) → length (config_names request) ≤ 200 → ⊥
   few_or_many many few = omega (arith, many, few)
 
   same_stop : {p q : List (List ℕ)} {s z : Status} {t w : List ℕ} (b c : List File) (n m : File) (ts ss : List (List ℕ)) (x y : List ℕ)
-      → All (IsFileTold content) p → p ≡ file_names b ++ n.name ∷ [] → q ≡ file_names c ++ m.name ∷ [] → StopsAfter content (files_of request) b n ts x
-      → StopsAfter content (files_of request) c m ss y → IsBrokenSo b n ts x s t → IsBrokenSo c m ss y z w → SameAnswer p s t q z w
+      → All (IsFileTold content) p → p ≡ file_names b ++ n.name ∷ [] → q ≡ file_names c ++ m.name ∷ []
+      → StopsAfter content (files_of request) (broken_at b n ts x)
+      → StopsAfter content (files_of request) (broken_at c m ss y) → IsBrokenSo (broken_at b n ts x) s t → IsBrokenSo (broken_at c m ss y) z w
+      → SameAnswer (reply p s t) (reply q z w)
   same_stop {p} {q} {s} {z} {t} {w} b c n m ts ss x y tell asked also one other here there =
       let tells = told_up_to content b n p asked tell in
       let place = same_place content (files_of request) b c n m tells ts ss x y one other in
@@ -60,21 +81,23 @@ module _ (content : Contents) (request : Request) where
       (asked ∙ names ∙ sym also, answer.0, tell_same s z t w answer)
 
   pub stop_or_all : (before : List File) (file : File) (texts : List (List ℕ)) (text : List ℕ) (all : List (List ℕ))
-      → All (IsToldOf content) (before ++ file ∷ []) → StopsAfter content (files_of request) before file texts text → AreRead content (files_of request) all
+      → All (IsToldOf content) (before ++ file ∷ []) → StopsAfter content (files_of request) (broken_at before file texts text)
+      → AreRead content (files_of request) all
       → AreWithin (files_of request) all → ⊥
   stop_or_all before file texts text all tell stop read within =
       none_past content (files_of request) before file texts text stop.after all stop tell
       (subst (λ files. AreRead content files all) stop.files_are read) (subst (λ files. AreWithin files all) stop.files_are within)
 
-  same_verdict : {s z : Status} {t w : List ℕ} (ts ss : List (List ℕ)) → ts ≡ ss → IsVerdict request (own_texts request ts) (config_texts request ts) s t
-      → IsVerdict request (own_texts request ss) (config_texts request ss) z w → AreSame s t z w
+  same_verdict : {s z : Status} {t w : List ℕ} (ts ss : List (List ℕ)) → ts ≡ ss
+      → IsVerdict request (given_texts (own_texts request ts) (config_texts request ts)) s t
+      → IsVerdict request (given_texts (own_texts request ss) (config_texts request ss)) z w → AreSame s t z w
   same_verdict {s} {z} {t} {w} ts ss is one other =
       one_verdict request (own_texts request ts) (config_texts request ts) s z t w one
-      (subst (λ some. IsVerdict request (own_texts request some) (config_texts request some) z w) (sym is) other)
+      (subst (λ some. IsVerdict request (given_texts (own_texts request some) (config_texts request some)) z w) (sym is) other)
 
-  one_of_files : {p q : List (List ℕ)} {s z : Status} {t w : List ℕ} → All (IsFileTold content) p → OfFiles content request p s t →
-      OfFiles content request q z w
-      → SameAnswer p s t q z w
+  one_of_files : {p q : List (List ℕ)} {s z : Status} {t w : List ℕ} → All (IsFileTold content) p → OfFiles (question content request) p s t →
+      OfFiles (question content request) q z w
+      → SameAnswer (reply p s t) (reply q z w)
   one_of_files tell (above _) (above _) = (refl, refl, same_text)
   one_of_files tell (above many) (stopped _ _ _ _ few _ _ _) = absurd (few_or_many many few)
   one_of_files tell (above many) (all_read _ few _ _ _) = absurd (few_or_many many few)
@@ -97,7 +120,7 @@ module _ (content : Contents) (request : Request) where
 pub data OfWords (call : Call) : List (List ℕ) → Status → List ℕ → Type 0 where
   refused : (text : List ℕ) → AreRefused call.words text → OfWords call [] Words text
   asks : {asked : List (List ℕ)} {status : Status} {answer : List ℕ} (request : Request) → Asks call.words request
-      → OfFiles call.content request asked status answer → OfWords call asked status answer
+      → OfFiles (question call.content request) asked status answer → OfWords call asked status answer
 
 -- each answer, step by step
 pub steps_of : {call : Call} {asked : List (List ℕ)} {status : Status} {text : List ℕ} → status ≢ ReadFault → IsAnswer call asked status text
@@ -137,17 +160,17 @@ tells words text (not_taken _ _ told) = told
 tells words text (number_off _) = record { detail = []; text_is = sym (append-nil words_refused_text) }
 
 one_of_words : (call : Call) {p q : List (List ℕ)} {s z : Status} {t w : List ℕ} → All (IsFileTold call.content) p → OfWords call p s t
-    → OfWords call q z w → SameAnswer p s t q z w
+    → OfWords call q z w → SameAnswer (reply p s t) (reply q z w)
 one_of_words call tell (refused t one) (refused w other) = (refl, refl, words_refused (tells call.words t one) (tells call.words w other))
 one_of_words call tell (refused t one) (asks request ask _) = absurd (refused_or_asks call.words t request one ask)
 one_of_words call tell (asks request ask _) (refused w other) = absurd (refused_or_asks call.words w request other ask)
 one_of_words call {q = q} {z = z} {w = w} tell (asks one ask files) (asks other again also) =
     let one_thing = one_request call.words one other ask again in
-    one_of_files call.content one tell files (subst (λ request. OfFiles call.content request q z w) (sym one_thing) also)
+    one_of_files call.content one tell files (subst (λ request. OfFiles (question call.content request) q z w) (sym one_thing) also)
 
 -- a call has one answer
 pub one_answer : (call : Call) (p q : List (List ℕ)) (s z : Status) (t w : List ℕ) → All (IsFileTold call.content) p → s ≢ ReadFault → z ≢ ReadFault
-    → IsAnswer call p s t → IsAnswer call q z w → SameAnswer p s t q z w
+    → IsAnswer call p s t → IsAnswer call q z w → SameAnswer (reply p s t) (reply q z w)
 one_answer call p q s z t w tell no_fault no_other one other = one_of_words call tell (steps_of no_fault one) (steps_of no_other other)
 
 -- and ends with it, or by a read fault

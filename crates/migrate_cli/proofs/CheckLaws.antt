@@ -17,6 +17,7 @@ use Rattle.migrate_cli.specs.CheckVerdict.IsWavesVerdict.{safe_waves, unsafe_wav
 use Rattle.migrate_cli.specs.CheckVerdict.IsCheckVerdict.{faulty_order, of_order, of_waves}
 use Rattle.migrate_cli.specs.declared.status.Status.{Status}
 use Rattle.migrate_cli.proofs.SameAnswers.{AreSame, NoFault}
+use Rattle.migrate_cli.specs.Reading.{named_text}
 
 -- an order has one verdict
 one_order_verdict : {move : Migration} {order : List ℕ} {s z : Status} {t w : List ℕ} → IsOrderVerdict move order s t
@@ -37,8 +38,8 @@ one_waves_verdict {move} (unsafe_wave _ _ _ first) (unsafe_wave _ _ _ again) =
     let same = waves_fault_unique first again in (refl, λ i. waves_unsafe_text (names_of move.net) (same.0 i + 1) (same.1 i))
 
 -- and so has an order file
-pub one_check_verdict : (file text : List ℕ) (net : Network) {s z : Status} {t w : List ℕ} → NamesAscend net → IsCheckVerdict file text net s t
-    → IsCheckVerdict file text net z w → AreSame s t z w
+pub one_check_verdict : (file text : List ℕ) (net : Network) {s z : Status} {t w : List ℕ} → NamesAscend net → IsCheckVerdict (named_text file text) net s t
+    → IsCheckVerdict (named_text file text) net z w → AreSame s t z w
 one_check_verdict file text net ascending (faulty_order n k one) (faulty_order m j other) =
     let same = one_faulty_line net text n m k j one other in (refl, λ i. faulty_text file (same.0 i) (order_kind_name (same.1 i)))
 one_check_verdict file text net ascending (faulty_order n k least) (of_order ranks _ _ names _) =
@@ -71,7 +72,8 @@ waves_verdict_no_fault : {move : Migration} {ranks : List ℕ} {status : Status}
 waves_verdict_no_fault (safe_waves _) = (λ e. Prim.cc e, λ e. Prim.cc e)
 waves_verdict_no_fault (unsafe_wave _ _ _ _) = (λ e. Prim.cc e, λ e. Prim.cc e)
 
-pub check_no_fault : {file text : List ℕ} {net : Network} {status : Status} {answer : List ℕ} → IsCheckVerdict file text net status answer → NoFault status
+pub check_no_fault : {file text : List ℕ} {net : Network} {status : Status} {answer : List ℕ}
+    → IsCheckVerdict (named_text file text) net status answer → NoFault status
 check_no_fault (faulty_order _ _ _) = (λ e. Prim.cc e, λ e. Prim.cc e)
 check_no_fault (of_order _ _ _ _ verdict) = order_verdict_no_fault verdict
 check_no_fault (of_waves _ _ _ _ verdict) = waves_verdict_no_fault verdict

@@ -3,9 +3,9 @@ use Rattle.std.proofs.Common.{◌≡◌, ◌∙◌, ◌∷◌, [], ℕ, List, sy
 use Rattle.net_model.specs.Refusals.{NamesAscend}
 use Rattle.migrate_words.specs.Requests.{Request, check, prepare, plan, refute, scripts, replay, sample}
 use Rattle.migrate_cli.specs.CheckVerdict.{IsCheckVerdict}
-use Rattle.migrate_cli.specs.PrepareVerdict.{IsPrepareVerdict}
+use Rattle.migrate_cli.specs.PrepareVerdict.{IsPrepareVerdict, configured}
 use Rattle.migrate_cli.specs.RefuteVerdict.{IsRefuteVerdict}
-use Rattle.migrate_cli.specs.ReplayVerdict.{IsReplayVerdict}
+use Rattle.migrate_cli.specs.ReplayVerdict.{IsReplayVerdict, journal_of}
 use Rattle.migrate_cli.specs.ScriptsVerdict.{IsScriptsVerdict}
 use Rattle.migrate_cli.specs.CommandVerdicts.{Input, IsCommandVerdict}
 use Rattle.migrate_cli.specs.declared.status.Status.{Status}
@@ -17,18 +17,19 @@ use Rattle.migrate_cli.proofs.ReplayLaws.{one_replay_verdict, replay_no_fault}
 use Rattle.migrate_cli.proofs.SampleLaws.{one_sample_verdict, sample_no_fault}
 use Rattle.migrate_cli.proofs.ScriptsLaws.{one_scripts_verdict, scripts_no_fault}
 use Rattle.migrate_cli.proofs.SameAnswers.{AreSame, NoFault}
+use Rattle.migrate_cli.specs.Reading.{named_text}
 
 pub one_command_verdict : (request : Request) (input : Input) {s z : Status} {t w : List ℕ} → NamesAscend input.net → IsCommandVerdict request input s t
     → IsCommandVerdict request input z w → AreSame s t z w
 one_command_verdict (check file _) input {z = z} {w = w} ascending one other =
     let lists : one.0 ∷ [] ≡ other.0 ∷ [] = sym one.1 ∙ other.1 in
     let same : one.0 ≡ other.0 = cc lists in
-    one_check_verdict file one.0 input.net ascending one.2 (subst (λ text. IsCheckVerdict file text input.net z w) (sym same) other.2)
+    one_check_verdict file one.0 input.net ascending one.2 (subst (λ text. IsCheckVerdict (named_text file text) input.net z w) (sym same) other.2)
 one_command_verdict (prepare file _) input {z = z} {w = w} ascending one other =
     let lists : one.0 ∷ [] ≡ other.0 ∷ [] = sym one.1 ∙ other.1 in
     let same : one.0 ≡ other.0 = cc lists in
     one_prepare_verdict file one.0 input.configs input.net one.2
-    (subst (λ text. IsPrepareVerdict file text input.configs input.net z w) (sym same) other.2)
+    (subst (λ text. IsPrepareVerdict (named_text file text) (configured input.configs input.net) z w) (sym same) other.2)
 one_command_verdict (plan budget _) input ascending one other = one_plan_verdict budget input.net one.1 other.1
 one_command_verdict (refute _ _) input {z = z} {w = w} ascending one other =
     let lists : one.0 ∷ [] ≡ other.0 ∷ [] = sym one.1 ∙ other.1 in
@@ -37,14 +38,14 @@ one_command_verdict (refute _ _) input {z = z} {w = w} ascending one other =
 one_command_verdict (scripts file _) input {z = z} {w = w} ascending one other =
     let lists : one.0 ∷ [] ≡ other.0 ∷ [] = sym one.1 ∙ other.1 in
     let same : one.0 ≡ other.0 = cc lists in
-    one_scripts_verdict file one.0 input.net ascending one.2 (subst (λ text. IsScriptsVerdict file text input.net z w) (sym same) other.2)
+    one_scripts_verdict file one.0 input.net ascending one.2 (subst (λ text. IsScriptsVerdict (named_text file text) input.net z w) (sym same) other.2)
 one_command_verdict (replay file _ _) input {z = z} {w = w} ascending one other =
     let lists : one.0 ∷ one.1 ∷ [] ≡ other.0 ∷ other.1 ∷ [] = sym one.2 ∙ other.2 in
     let order : one.0 ≡ other.0 = cc lists in
     let journal : one.1 ≡ other.1 = cc lists in
-    one_replay_verdict file one.0 one.1 input.net ascending one.3
-    (subst (λ text. IsReplayVerdict file text one.1 input.net z w) (sym order)
-    (subst (λ text. IsReplayVerdict file other.0 text input.net z w) (sym journal) other.3))
+    one_replay_verdict (named_text file one.0) (journal_of one.1 input.net) ascending one.3
+    (subst (λ text. IsReplayVerdict (named_text file text) (journal_of one.1 input.net) z w) (sym order)
+    (subst (λ text. IsReplayVerdict (named_text file other.0) (journal_of text input.net) z w) (sym journal) other.3))
 one_command_verdict (sample routers) input ascending one other = one_sample_verdict routers input.net one.1 other.1
 
 -- and it is no fault of reading or of writing

@@ -15,10 +15,10 @@ use Rattle.migrate_cli.specs.CheckVerdict.{IsCheckVerdict, IsOrderVerdict, IsWav
 use Rattle.migrate_cli.specs.CheckVerdict.IsCheckVerdict.{faulty_order, of_order, of_waves}
 use Rattle.migrate_cli.specs.CheckVerdict.IsOrderVerdict.{safe, unsafe}
 use Rattle.migrate_cli.specs.CheckVerdict.IsWavesVerdict.{safe_waves, unsafe_wave}
-use Rattle.migrate_cli.specs.CommandFiles.{NeedsStart, config_texts, files_of, own_texts}
+use Rattle.migrate_cli.specs.CommandFiles.{NeedsStart, config_texts, files_of, own_texts, given_texts}
 use Rattle.migrate_cli.specs.CommandVerdicts.{Input, IsCommandVerdict}
 use Rattle.migrate_cli.specs.RefuteVerdict.{IsRefuteVerdict}
-use Rattle.migrate_cli.specs.ReplayVerdict.{IsJournalVerdict, IsReplayVerdict}
+use Rattle.migrate_cli.specs.ReplayVerdict.{IsJournalVerdict, IsReplayVerdict, journal_of}
 use Rattle.migrate_cli.specs.ReplayVerdict.IsJournalVerdict.{reached, departs}
 use Rattle.migrate_cli.specs.ReplayVerdict.IsReplayVerdict.{faulty_waves as faulty_replay, of_waves as replay_of}
 use Rattle.migrate_cli.specs.ScriptsVerdict.{IsScriptsVerdict}
@@ -31,13 +31,14 @@ use Rattle.migrate_cli.specs.Verdicts.{IsVerdict}
 use Rattle.migrate_cli.specs.Verdicts.IsVerdict.{faulty_configuration, no_network, off_start, of_command}
 use Rattle.migrate_cli.specs.declared.status.Status.{Status}
 use Rattle.migrate_cli.specs.declared.status.Status.TheVariants.{ReadFault}
-use Rattle.migrate_cli.proofs.CallLaws.{OfFiles, OfWords, few_or_many, refused_or_asks, steps_of, stop_or_all}
+use Rattle.migrate_cli.proofs.CallLaws.{OfFiles, OfWords, question, few_or_many, refused_or_asks, steps_of, stop_or_all}
 use Rattle.migrate_cli.proofs.CallLaws.OfFiles.{above, stopped, all_read}
 use Rattle.migrate_cli.proofs.CallLaws.OfWords.{refused, asks}
 use Rattle.migrate_cli.proofs.RefuteLaws.{tree_decides}
 use Rattle.migrate_cli.proofs.StopLaws.{one_list, told_files, told_with, IsToldOf}
 use Rattle.migrate_cli.proofs.TextLaws.{one_reading, none_refused}
 use Rattle.migrate_cli.proofs.VerdictLaws.{no_memory}
+use Rattle.migrate_cli.specs.Reading.{named_text}
 
 -- an order of the routers is safe, or it isn't
 order_decides : {move : Migration} {order text : List ℕ} {status : Status} → IsOrderVerdict move order status text → Decides status
@@ -52,7 +53,7 @@ waves_decide (unsafe_wave _ _ _ _) = no
 -- an order file that names a wave list has no other verdict
 check_of_waves : {file text answer : List ℕ} {version : Version} {ranks : List ℕ} {net : Network} {status : Status} → NamesAscend net →
     NamesWaves net text version ranks
-    → IsCheckVerdict file text net status answer → Decides status
+    → IsCheckVerdict (named_text file text) net status answer → Decides status
 check_of_waves {text = text} {version = version} {ranks = ranks} {net = net} ascending names (faulty_order n k least) =
     absurd (no_fault net text version ranks n k ascending names least.faulty)
 check_of_waves ascending names (of_order _ _ _ _ verdict) = order_decides verdict
@@ -68,7 +69,7 @@ one_network texts net other a b =
 -- nothing of some texts is refused before a command's own verdict
 pub judged_alone : (request : Request) (own texts : List (List ℕ)) (net : Network) {status : Status} {answer : List ℕ} → GiveNetwork texts net →
     (NeedsStart request → IsAtStart net)
-    → IsVerdict request own texts status answer → IsCommandVerdict request (record { own = own; configs = texts; net = net }) status answer
+    → IsVerdict request (given_texts own texts) status answer → IsCommandVerdict request (record { own = own; configs = texts; net = net }) status answer
 judged_alone request own texts net gives start (faulty_configuration _ _ _ first) = absurd (none_refused first gives.configs gives.read)
 judged_alone request own texts net gives start (no_network all refusal status read refuses given) =
     let same = one_reading texts gives.configs all gives.read read in
@@ -84,7 +85,7 @@ module _ (call : Call) (request : Request) (texts : List (List ℕ)) (net : Netw
   abbrev pub input : Input
   input = record { own = own_texts request texts; configs = config_texts request texts; net = net }
 
-  files_judged : {asked : List (List ℕ)} {status : Status} {answer : List ℕ} → OfFiles call.content request asked status answer →
+  files_judged : {asked : List (List ℕ)} {status : Status} {answer : List ℕ} → OfFiles (question call.content request) asked status answer →
       IsCommandVerdict request input status answer
   files_judged (above many) = absurd (few_or_many call.content request many accepted.asked.few)
   files_judged (stopped before file read text _ _ stop _) =
@@ -94,13 +95,13 @@ module _ (call : Call) (request : Request) (texts : List (List ℕ)) (net : Netw
   files_judged {status = status} {answer = answer} (all_read some _ read _ verdict) =
       let same = one_list call.content (files_of request) some texts (told_files call.content (files_of request) accepted.told) read accepted.read in
       judged_alone request (own_texts request texts) (config_texts request texts) net accepted.gives accepted.start
-      (subst (λ list. IsVerdict request (own_texts request list) (config_texts request list) status answer) same verdict)
+      (subst (λ list. IsVerdict request (given_texts (own_texts request list) (config_texts request list)) status answer) same verdict)
 
   words_judged : {asked : List (List ℕ)} {status : Status} {answer : List ℕ} → OfWords call asked status answer → IsCommandVerdict request input status answer
   words_judged (refused text are) = absurd (refused_or_asks call.words text request are accepted.asked.asked)
   words_judged {asked} {status} {answer} (asks some ask files) =
       let same = one_request call.words some request ask accepted.asked.asked in
-      files_judged (subst (λ other. OfFiles call.content other asked status answer) same files)
+      files_judged (subst (λ other. OfFiles (question call.content other) asked status answer) same files)
 
   -- an answer that is no fault of reading is the command's own verdict
   pub accepted_verdict : (asked : List (List ℕ)) (status : Status) (answer : List ℕ) → status ≢ ReadFault → IsAnswer call asked status answer →
@@ -122,7 +123,7 @@ check_decides call it asked status answer no_fault one =
 -- a wave list has a script
 scripts_of_waves : {file text : List ℕ} {net : Network} {status : Status} {answer : List ℕ} {version : Version} {ranks : List ℕ} → NamesAscend net →
     NamesWaves net text version ranks
-    → IsScriptsVerdict file text net status answer → Writes status
+    → IsScriptsVerdict (named_text file text) net status answer → Writes status
 scripts_of_waves {text = text} {net = net} {version = version} {ranks = ranks} ascending names (faulty_scripts n k least) =
     absurd (no_fault net text version ranks n k ascending names least.faulty)
 scripts_of_waves ascending names (script_of _ _ _) = written
@@ -136,13 +137,14 @@ scripts_write call it asked status answer no_fault one =
     scripts_of_waves (names_ascend it.accepted.gives) (subst (λ t. NamesWaves it.net t it.version it.ranks) same it.names) verdict.2
 
 -- a journal of a wave list begins a run, or it doesn't
-journal_decides : {net : Network} {ranks journal text : List ℕ} {status : Status} → IsJournalVerdict net ranks journal status text → Decides status
+journal_decides : {net : Network} {ranks journal text : List ℕ} {status : Status}
+    → IsJournalVerdict (journal_of journal net) ranks status text → Decides status
 journal_decides (reached _ _ _ _ _) = yes
 journal_decides (departs _ _ _) = no
 
 replay_of_waves : {file text journal : List ℕ} {net : Network} {status : Status} {answer : List ℕ} {version : Version} {ranks : List ℕ} → NamesAscend net →
     NamesWaves net text version ranks
-    → IsReplayVerdict file text journal net status answer → Decides status
+    → IsReplayVerdict (named_text file text) (journal_of journal net) status answer → Decides status
 replay_of_waves {text = text} {net = net} {version = version} {ranks = ranks} ascending names (faulty_replay n k least) =
     absurd (no_fault net text version ranks n k ascending names least.faulty)
 replay_of_waves ascending names (replay_of _ _ _ _ _ verdict) = journal_decides verdict

@@ -6,7 +6,7 @@ use Rattle.ios_reader.specs.Texts.{ReadsText, IsRefusedText}
 use Rattle.ios_reader.specs.declared.kind.ReadKind.{ReadKind}
 use Rattle.net_model.specs.Configuration.{Configuration}
 use Rattle.isis_writer.specs.ReadTexts.{ReadsTexts}
-use Rattle.migrate_cli.specs.Configurations.{IsFirstRefused}
+use Rattle.migrate_cli.specs.Configurations.{IsFirstRefused, line_fault}
 use Rattle.migrate_cli.specs.Configurations.IsFirstRefused.{here, later}
 use Rattle.migrate_cli.specs.steps.Unread.{IsUnreadText, IsUnread}
 use Rattle.migrate_cli.specs.declared.configurations.Unread.{Unread}
@@ -41,11 +41,11 @@ ReadsTexts-next texts i text configs more within at first reads =
 pub first_refused : (names texts : List (List ℕ)) (i : ℕ) (name text : List ℕ) (configs : List Configuration) (line : ℕ) (kind : ReadKind) →
     length names ≡ length texts
     → i < length texts → name ≡ get_or names i name → text ≡ get_or texts i text → ReadsTexts (take i texts) configs → IsRefusedText text line kind
-    → IsFirstRefused names texts name line kind
+    → IsFirstRefused (line_fault line kind) names texts name
 first_refused names [] i name text configs line kind lengths within named at first refused = absurd (omega arith)
 first_refused [] (t ∷ texts) i name text configs line kind lengths within named at first refused = absurd (omega arith)
 first_refused (n ∷ names) (t ∷ texts) zero name text configs line kind lengths within named at first refused =
-    subst (λ file. IsFirstRefused (n ∷ names) (t ∷ texts) file line kind) (sym named)
+    subst (λ file. IsFirstRefused (line_fault line kind) (n ∷ names) (t ∷ texts) file) (sym named)
     (here (subst (λ some. IsRefusedText some line kind) at refused))
 first_refused (n ∷ names) (t ∷ texts) (suc i) name text configs line kind lengths within named at first refused =
     later first.reads (first_refused names texts i name text first.others line kind (omega arith) (omega arith) named at first.rest refused)
@@ -55,6 +55,6 @@ pub unread_first : (names texts : List (List ℕ)) (i : ℕ) (name text : List �
     → i < length texts → name ≡ get_or names i name → text ≡ get_or texts i text → ReadsTexts (take i texts) configs → IsUnreadText name text unread
     → IsUnread names texts unread
 unread_first names texts i name text configs (Bad file line kind) lengths within named at first refused =
-    subst (λ some. IsFirstRefused names texts some line kind) (sym refused.0)
+    subst (λ some. IsFirstRefused (line_fault line kind) names texts some) (sym refused.0)
     (first_refused names texts i name text configs line kind lengths within named at first refused.1)
 unread_first names texts i name text configs OutOfMemory lengths within named at first refused = tt

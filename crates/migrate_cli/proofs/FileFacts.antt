@@ -1,5 +1,5 @@
 -- The files of a command, and their texts.
-use Rattle.std.proofs.Common.{◌≡◌, ◌∙◌, ℕ, ◌+◌, ◌<◌, ◌≤◌, List, [], ◌∷◌, ◌++◌, length, map, take, drop, All, get_or, lit≤, refl, sym, ap, subst, arith}
+use Rattle.std.proofs.Common.{◌≡◌, ◌∙◌, ℕ, ◌+◌, ◌<◌, ◌≤◌, List, [], ◌∷◌, ◌++◌, length, map, take, drop, All, lit≤, refl, sym, ap, subst, arith}
 use Rattle.std.proofs.lemmas.List.{length-map, get_or-map}
 use Rattle.std.proofs.lemmas.List.Elements.{All-cons, All-append}
 use Rattle.migrate_words.specs.Requests.{Request, check, prepare, plan, refute, scripts, replay, sample}
@@ -135,13 +135,3 @@ split_texts request texts own configs place reads short at front rest =
       each = omega (arith, many, mapped, same, told);
       configs_short = subst (All (λ (text : List ℕ). length text ≤ 16777216)) (sym configs_are) (short_configs names (config_texts request texts) behind);
     }
-
--- the text of the one own file
-pub record IsOneText (file : File) (own : List (List ℕ)) (text : List ℕ) : Type 0 where
-  pub alone : own ≡ text ∷ []
-  pub short : length text ≤ file.most
-
-pub one_own : (file : File) (own : List (List ℕ)) (text : List ℕ) → AreShort (file ∷ []) own → text ≡ get_or own 0 text → IsOneText file own text
-one_own file [] text short at = absurd short
-one_own file (t ∷ []) text short at = record { alone = ap (λ x. x ∷ []) (sym at); short = subst (λ x. length x ≤ file.most) (sym at) short.0 }
-one_own file (t ∷ u ∷ more) text short at = absurd short.1

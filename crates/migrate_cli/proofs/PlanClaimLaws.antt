@@ -25,11 +25,11 @@ use Rattle.migrate_words.specs.Requests.{Request, plan}
 use Rattle.migrate_words.proofs.OneRequest.{one_request}
 use Rattle.migrate_cli.specs.Answers.{Answers, Ends, IsAnswer}
 use Rattle.migrate_cli.specs.Answers.Ends.{whole, cut, no_memory}
-use Rattle.migrate_cli.specs.Answers.IsAnswer.{refused_words, many_files, read_fault, long_file, long_files, judged}
-use Rattle.migrate_cli.specs.Calls.{Call, Outside}
+use Rattle.migrate_cli.specs.Answers.IsAnswer.{judged}
+use Rattle.migrate_cli.specs.Calls.{Call, Outside, course}
 use Rattle.migrate_cli.specs.CheckVerdict.IsCheckVerdict.{of_waves}
 use Rattle.migrate_cli.specs.CheckVerdict.IsWavesVerdict.{safe_waves}
-use Rattle.migrate_cli.specs.CommandFiles.{config_file, config_texts, files_of, own_texts}
+use Rattle.migrate_cli.specs.CommandFiles.{config_file, config_texts, files_of, own_texts, given_texts}
 use Rattle.migrate_cli.specs.Configurations.{GiveNetwork}
 use Rattle.migrate_cli.specs.PlanClaim.{DeliversAll, MeansOf, NamesSafeWaves, PlanPromises, ShowsThereIsNone}
 use Rattle.migrate_cli.specs.PlanVerdict.{IsPlanOver}
@@ -106,7 +106,7 @@ plan_holds {budget} {net} some network (refuted tree ends refutes) =
 
 module _ (call : Call) (configs : List (List ℕ)) (before after : Outside) where
   means_so : (status : Status) (texts : List (List ℕ)) (net : Network) (text : List ℕ) → AreRead call.content (map config_file configs) texts →
-      GiveNetwork texts net → AddsBytes before.written after.written text → HoldsOf net status text → MeansOf call configs before after status
+      GiveNetwork texts net → AddsBytes before.written after.written text → HoldsOf net status text → MeansOf call configs (course before after) status
   means_so Done texts net text read gives adds holds =
       record { texts = texts; read = read; net = net; gives = gives; text = text; written = adds; holds = holds }
   means_so Negative texts net text read gives adds holds =
@@ -114,13 +114,14 @@ module _ (call : Call) (configs : List (List ℕ)) (before after : Outside) wher
   means_so _ texts net text read gives adds holds = tt
 
   -- a refusal of the network is neither
-  refusal_means : (refusal : NetRefusal) (status : Status) → refusal_status refusal ≡ Some status → MeansOf call configs before after status
-  refusal_means (TooMany what number) status is = subst (MeansOf call configs before after) (same_Some Limit status is) tt
+  refusal_means : (refusal : NetRefusal) (status : Status) → refusal_status refusal ≡ Some status → MeansOf call configs (course before after) status
+  refusal_means (TooMany what number) status is = subst (MeansOf call configs (course before after)) (same_Some Limit status is) tt
   refusal_means OutOfMemory status is = let none : None ≡ Some status = is in cc none
-  refusal_means _ status is = subst (MeansOf call configs before after) (same_Some Refused status is) tt
+  refusal_means _ status is = subst (MeansOf call configs (course before after)) (same_Some Refused status is) tt
 
   verdict_means : (budget : ℕ) (texts : List (List ℕ)) {status : Status} {text : List ℕ} → AreRead call.content (map config_file configs) texts →
-      AddsBytes before.written after.written text → IsVerdict (plan budget configs) [] texts status text → MeansOf call configs before after status
+      AddsBytes before.written after.written text → IsVerdict (plan budget configs) (given_texts [] texts) status text →
+      MeansOf call configs (course before after) status
   verdict_means budget texts read adds (faulty_configuration _ _ _ _) = tt
   verdict_means budget texts read adds (no_network _ refusal status _ _ is) = refusal_means refusal status is
   verdict_means budget texts read adds (off_start _ _ _ _ _ _ _) = tt
@@ -128,19 +129,15 @@ module _ (call : Call) (configs : List (List ℕ)) (before after : Outside) wher
       means_so status texts net text read gives adds (plan_holds verdict.1.some verdict.1.network verdict.1.plan)
 
   answer_means : (budget : ℕ) {asked : List (List ℕ)} {status : Status} {text : List ℕ} → Asks call.words (plan budget configs) →
-      AddsBytes before.written after.written text → IsAnswer call asked status text → MeansOf call configs before after status
-  answer_means budget asks adds (refused_words _ _) = tt
-  answer_means budget asks adds (many_files _ _ _) = tt
-  answer_means budget asks adds (read_fault _ _ _ _ _ _) = tt
-  answer_means budget asks adds (long_file _ _ _ _ _ _ _) = tt
-  answer_means budget asks adds (long_files _ _ _ _ _ _ _ _) = tt
+      AddsBytes before.written after.written text → IsAnswer call asked status text → MeansOf call configs (course before after) status
   answer_means budget asks adds (judged request texts status text ask read within verdict) =
       let same : request ≡ plan budget configs = one_request call.words request (plan budget configs) ask.asked asks in
       verdict_means budget texts (subst (λ (r : Request). AreRead call.content (files_of r) texts) same read) adds
-      (subst (λ (r : Request). IsVerdict r (own_texts r texts) (config_texts r texts) status text) same verdict)
+      (subst (λ (r : Request). IsVerdict r (given_texts (own_texts r texts) (config_texts r texts)) status text) same verdict)
+  answer_means budget asks adds _ = tt
 
-  end_means : (budget : ℕ) {asked : List (List ℕ)} {status : Status} → Asks call.words (plan budget configs) → Ends call asked before after status →
-      MeansOf call configs before after status
+  end_means : (budget : ℕ) {asked : List (List ℕ)} {status : Status} → Asks call.words (plan budget configs) → Ends call asked (course before after) status →
+      MeansOf call configs (course before after) status
   end_means budget asks (whole status text is faults adds) = answer_means budget asks adds is
   end_means budget asks (cut _ _ _ _ _) = tt
   end_means budget asks (no_memory _ _) = tt

@@ -12,10 +12,11 @@ use Rattle.isis_writer.specs.PreparedConfigurations.{prepared_texts}
 use Rattle.migration_report.specs.DesignTexts.{refused_design_text}
 use Rattle.migrate_cli.specs.Completeness.{Writes}
 use Rattle.migrate_cli.specs.Completeness.Writes.{written}
-use Rattle.migrate_cli.specs.PrepareVerdict.{IsPrepareVerdict}
+use Rattle.migrate_cli.specs.PrepareVerdict.{IsPrepareVerdict, configured}
 use Rattle.migrate_cli.specs.PrepareVerdict.IsPrepareVerdict.{no_design, unsettled, prepared}
 use Rattle.migrate_cli.specs.declared.status.Status.{Status}
 use Rattle.migrate_cli.proofs.SameAnswers.{AreSame, NoFault}
+use Rattle.migrate_cli.specs.Reading.{named_text}
 
 -- a fault is no want of memory
 some_fault : (kind : DesignKind) (path : List ℕ) → Bad kind path ≢ OutOfMemory
@@ -27,7 +28,8 @@ told_of file (Bad kind path) = refused_design_text file path kind
 told_of file OutOfMemory = []
 
 pub one_prepare_verdict : (file design : List ℕ) (configs : List (List ℕ)) (net : Network) {s z : Status} {t w : List ℕ} →
-    IsPrepareVerdict file design configs net s t → IsPrepareVerdict file design configs net z w → AreSame s t z w
+    IsPrepareVerdict (named_text file design) (configured configs net) s t → IsPrepareVerdict (named_text file design) (configured configs net) z w →
+    AreSame s t z w
 one_prepare_verdict file design configs net (no_design k p one) (no_design j q other) =
     let same = one_text_refusal design (Bad k p) (Bad j q) (some_fault k p) (some_fault j q) one other in (refl, ap (told_of file) same)
 one_prepare_verdict file design configs net (no_design k p one) (unsettled said j q says _) =
@@ -57,7 +59,7 @@ one_prepare_verdict file design configs net (prepared said one says settles _) (
 
 -- no verdict is a fault of reading or of writing
 pub prepare_no_fault : {file design : List ℕ} {configs : List (List ℕ)} {net : Network} {status : Status} {text : List ℕ} →
-    IsPrepareVerdict file design configs net status text → NoFault status
+    IsPrepareVerdict (named_text file design) (configured configs net) status text → NoFault status
 prepare_no_fault (no_design _ _ _) = (λ e. Prim.cc e, λ e. Prim.cc e)
 prepare_no_fault (unsettled _ _ _ _ _) = (λ e. Prim.cc e, λ e. Prim.cc e)
 prepare_no_fault (prepared _ _ _ _ _) = (λ e. Prim.cc e, λ e. Prim.cc e)
@@ -65,7 +67,7 @@ prepare_no_fault (prepared _ _ _ _ _) = (λ e. Prim.cc e, λ e. Prim.cc e)
 -- a design that is settled for the network is written
 pub settled_writes : {file design : List ℕ} {configs : List (List ℕ)} {net : Network} {status : Status} {text : List ℕ}
     (said : Design) (settled : List SettledRouter) →
-    SaysDesign design said → Settles said net settled → IsPrepareVerdict file design configs net status text → Writes status
+    SaysDesign design said → Settles said net settled → IsPrepareVerdict (named_text file design) (configured configs net) status text → Writes status
 settled_writes {design = design} said settled says settles (no_design k p refused) =
     absurd (design_or_refusal design said (Bad k p) (some_fault k p) says refused)
 settled_writes {design = design} {net = net} said settled says settles (unsettled again k p its other) =

@@ -20,14 +20,14 @@ use Rattle.migrate_words.specs.Asked.{Asks}
 use Rattle.migrate_words.specs.Requests.{Request, prepare}
 use Rattle.migrate_cli.specs.Answers.{AsksForFew, IsAnswer}
 use Rattle.migrate_cli.specs.Answers.IsAnswer.{refused_words, many_files, read_fault, long_file, long_files, judged}
-use Rattle.migrate_cli.specs.Calls.{Call, Outside}
-use Rattle.migrate_cli.specs.CommandFiles.{config_texts, design_file, files_of, own_texts}
-use Rattle.migrate_cli.specs.CommandVerdicts.{IsCommandVerdict}
+use Rattle.migrate_cli.specs.Calls.{Call, Outside, course}
+use Rattle.migrate_cli.specs.CommandFiles.{config_texts, design_file, files_of, own_texts, given_texts, GivenTexts}
+use Rattle.migrate_cli.specs.CommandVerdicts.{IsCommandVerdict, input_of}
 use Rattle.migrate_cli.specs.Configurations.{GiveNetwork}
 use Rattle.migrate_cli.specs.PrepareReadBack.{HasPrepared}
-use Rattle.migrate_cli.specs.PrepareVerdict.{IsPrepareVerdict}
+use Rattle.migrate_cli.specs.PrepareVerdict.{IsPrepareVerdict, configured}
 use Rattle.migrate_cli.specs.PrepareVerdict.IsPrepareVerdict.{no_design, unsettled, prepared}
-use Rattle.migrate_cli.specs.Reading.{AreRead, AreWithin}
+use Rattle.migrate_cli.specs.Reading.{AreRead, AreWithin, named_text}
 use Rattle.migrate_cli.specs.RefusalStatus.{refusal_status}
 use Rattle.migrate_cli.specs.Verdicts.{IsVerdict}
 use Rattle.migrate_cli.specs.Verdicts.IsVerdict.{faulty_configuration, no_network, off_start, of_command}
@@ -44,7 +44,7 @@ record IsJudged (call : Call) (status : Status) (text : List ℕ) : Type 0 where
   ask : AsksForFew call.words request
   read : AreRead call.content (files_of request) texts
   within : AreWithin (files_of request) texts
-  verdict : IsVerdict request (own_texts request texts) (config_texts request texts) status text
+  verdict : IsVerdict request (given_texts (own_texts request texts) (config_texts request texts)) status text
 
 judged_done : {call : Call} {asked : List (List ℕ)} {status : Status} {text : List ℕ} → IsAnswer call asked status text → status ≡ Done →
     IsJudged call status text
@@ -62,13 +62,13 @@ refused_not_done NoMemory status e = absurd (Prim.cc e)
 refused_not_done _ status e = subst (λ (s : Status). s ≢ Done) (same_Some Refused status e) (λ f. Prim.cc f)
 
 -- the texts give a network, and this is the command's verdict
-record IsOfCommand (request : Request) (own configs : List (List ℕ)) (status : Status) (text : List ℕ) : Type 0 where
+record IsOfCommand (request : Request) (texts : GivenTexts) (status : Status) (text : List ℕ) : Type 0 where
   net : Network
-  gives : GiveNetwork configs net
-  verdict : IsCommandVerdict request (record { own = own; configs = configs; net = net }) status text
+  gives : GiveNetwork texts.configs net
+  verdict : IsCommandVerdict request (input_of texts net) status text
 
-command_done : {request : Request} {own configs : List (List ℕ)} {status : Status} {text : List ℕ} →
-    IsVerdict request own configs status text → status ≡ Done → IsOfCommand request own configs status text
+command_done : {request : Request} {texts : GivenTexts} {status : Status} {text : List ℕ} →
+    IsVerdict request texts status text → status ≡ Done → IsOfCommand request texts status text
 command_done (faulty_configuration _ _ _ _) e = absurd (Prim.cc e)
 command_done (no_network _ refusal status _ _ given) e = absurd (refused_not_done refusal status given e)
 command_done (off_start _ _ _ _ _ _ _) e = absurd (Prim.cc e)
@@ -84,7 +84,7 @@ record IsPrepared (design : List ℕ) (configs : List (List ℕ)) (net : Network
   text_is : text ≡ prepared_texts net settled configs
 
 prepared_done : {file design : List ℕ} {configs : List (List ℕ)} {net : Network} {status : Status} {text : List ℕ} →
-    IsPrepareVerdict file design configs net status text → status ≡ Done → IsPrepared design configs net text
+    IsPrepareVerdict (named_text file design) (configured configs net) status text → status ≡ Done → IsPrepared design configs net text
 prepared_done (no_design _ _ _) e = absurd (Prim.cc e)
 prepared_done (unsettled _ _ _ _ _) e = absurd (Prim.cc e)
 prepared_done (prepared said settled says settles fits) e =
@@ -118,14 +118,14 @@ network_read (text ∷ texts) net settled gives fits some = prepared_texts_read 
 -- what was written is read back
 pub reads_back : (call : Call) (before after : Outside) (asked : List (List ℕ)) (status : Status) (text : List ℕ) →
     IsAnswer call asked status text → AddsBytes before.written after.written text →
-    (file : List ℕ) (configs : List (List ℕ)) → Asks call.words (prepare file configs) → status ≡ Done → HasPrepared call file configs before after
+    (file : List ℕ) (configs : List (List ℕ)) → Asks call.words (prepare file configs) → status ≡ Done → HasPrepared call file configs (course before after)
 reads_back call before after asked status text answer adds file configs ask done =
     let it = judged_done answer done in
     let same : it.request ≡ prepare file configs = one_request call.words it.request (prepare file configs) it.ask.asked ask in
     let request : Request = prepare file configs in
     let read = subst (λ (r : Request). AreRead call.content (files_of r) it.texts) same it.read in
     let within = subst (λ (r : Request). AreWithin (files_of r) it.texts) same it.within in
-    let verdict = subst (λ (r : Request). IsVerdict r (own_texts r it.texts) (config_texts r it.texts) status text) same it.verdict in
+    let verdict = subst (λ (r : Request). IsVerdict r (given_texts (own_texts r it.texts) (config_texts r it.texts)) status text) same it.verdict in
     let command = command_done verdict done in
     let made = prepared_done command.verdict.2 done in
     let some : 0 < length (config_texts request it.texts) =

@@ -1,5 +1,5 @@
 -- What a call of `sample` promises.
-use Rattle.std.proofs.Common.{◌≡◌, ◌≢◌, ◌∙◌, ◌+◌, ◌<◌, ◌++◌, ◌∷◌, [], ℕ, List, ap, append-nil, arith, length, refl, subst}
+use Rattle.std.proofs.Common.{◌≡◌, ◌≢◌, ◌∙◌, ◌<◌, ◌++◌, ◌∷◌, [], ℕ, List, ap, append-nil, arith, length, refl, subst}
 use Rattle.std.proofs.lemmas.List.{length-append}
 use Rattle.net_model.specs.Network.{Network}
 use Rattle.net_model.specs.Refusals.{IsNetwork}
@@ -15,13 +15,13 @@ use Rattle.migrate_cli.specs.Answers.{Answers, Ends, IsAnswer, MayAsk}
 use Rattle.migrate_cli.specs.Answers.Ends.{whole, cut, no_memory}
 use Rattle.migrate_cli.specs.Answers.IsAnswer.{refused_words, many_files, read_fault, long_file, long_files, judged}
 use Rattle.migrate_cli.specs.Answers.MayAsk.{asks_none, asks_some}
-use Rattle.migrate_cli.specs.Calls.{Call, Outside}
-use Rattle.migrate_cli.specs.CommandFiles.{config_names, config_texts, files_of, own_texts}
+use Rattle.migrate_cli.specs.Calls.{Call, Outside, course}
+use Rattle.migrate_cli.specs.CommandFiles.{config_names, config_texts, files_of, own_texts, given_texts}
 use Rattle.migrate_cli.specs.PlanCompleteness.{Plans}
 use Rattle.migrate_cli.specs.PlanCompleteness.Plans.{waves as by_waves}
 use Rattle.migrate_cli.specs.PlanVerdict.{IsPlanVerdict}
 use Rattle.migrate_cli.specs.PlanVerdict.IsPlanOver.{waves}
-use Rattle.migrate_cli.specs.Reading.{Contents, File, ReadUpTo, file_names}
+use Rattle.migrate_cli.specs.Reading.{Contents, File, ReadUpTo, file_names, to_read}
 use Rattle.migrate_cli.specs.SampleClaim.{AcceptsSample, HasSampled, IsAsPlanned, IsVerdictOfSample, SamplePromises}
 use Rattle.migrate_cli.specs.SampleClaim.EndsSample.{whole as whole_verdict, cut as cut_verdict, no_memory as none_written}
 use Rattle.migrate_cli.specs.SampleVerdict.{IsSampleOver}
@@ -43,7 +43,7 @@ record IsSampled (routers : ℕ) (asked : List (List ℕ)) (status : Status) (te
 
 -- where no file is read the reading stops at none
 stops_at_none : (content : Contents) (files : List File) (asked texts : List (List ℕ)) (file : File) → files ≡ [] →
-    ReadUpTo content files asked texts file → ⊥
+    ReadUpTo (to_read content files) asked texts file → ⊥
 stops_at_none content files asked texts file none up =
     let some = ap length up.files_are in
     let zero = ap length none in
@@ -71,7 +71,7 @@ module _ (call : Call) (routers : ℕ) (asks : Asks call.words (sample routers))
   sampled (judged request texts status text ask _ _ verdict) = record {
     none = ap file_names (no_files request ask.asked);
     verdict =
-        subst (λ (r : Request). IsVerdict r (own_texts r texts) (config_texts r texts) status text) (one_sample request ask.asked) verdict;
+        subst (λ (r : Request). IsVerdict r (given_texts (own_texts r texts) (config_texts r texts)) status text) (one_sample request ask.asked) verdict;
   }
 
   -- nor is one asked for where memory ran out
@@ -115,7 +115,7 @@ module _ (call : Call) (before after : Outside) (routers : ℕ) (asks : Asks cal
   none_more : {asked : List (List ℕ)} → after.asked ≡ before.asked ++ asked → asked ≡ [] → after.asked ≡ before.asked
   none_more is none = is ∙ ap (λ (some : List (List ℕ)). before.asked ++ some) none ∙ append-nil before.asked
 
-  has_sampled : {asked : List (List ℕ)} {status : Status} → after.asked ≡ before.asked ++ asked → Ends call asked before after status →
+  has_sampled : {asked : List (List ℕ)} {status : Status} → after.asked ≡ before.asked ++ asked → Ends call asked (course before after) status →
       HasSampled routers before after status
   has_sampled is (whole status text answer faults adds) =
       let of = sampled call routers asks answer in

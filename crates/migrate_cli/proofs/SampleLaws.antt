@@ -17,7 +17,7 @@ use Rattle.migration_report.specs.SummaryTexts.{summary_text}
 use Rattle.migrate_cli.specs.PlanVerdict.{IsPlanOver}
 use Rattle.migrate_cli.specs.steps.PlannedAnswers.{plan_status, plan_text}
 use Rattle.migrate_cli.specs.steps.SampleAnswers.{TellsOfPlan}
-use Rattle.migrate_cli.specs.SampleVerdict.{IsSampleOver, IsSampleVerdict, SumsUp}
+use Rattle.migrate_cli.specs.SampleVerdict.{IsSampleOver, IsSampleVerdict, SumsUp, planned_waves}
 use Rattle.migrate_cli.specs.SampleVerdict.IsSampleOver.{summed_up, as_planned}
 use Rattle.migrate_cli.specs.declared.answer.Answer.{Answer}
 use Rattle.migrate_cli.specs.declared.status.Status.{Status}
@@ -60,8 +60,8 @@ of_plan {move} {routers = routers} (as_planned status text not_done over) =
     }
 
 -- there is one summary
-one_summary : (net : Network) (routers : ℕ) (ranks : List ℕ) (trail : List Node) (t w : List ℕ) → SumsUp net routers ranks trail t →
-    SumsUp net routers ranks trail w → t ≡ w
+one_summary : (net : Network) (routers : ℕ) (ranks : List ℕ) (trail : List Node) (t w : List ℕ) → SumsUp net (planned_waves routers ranks trail) t →
+    SumsUp net (planned_waves routers ranks trail) w → t ≡ w
 one_summary net routers ranks trail t w one other =
     let summary : ℕ → List ℕ = λ prefixes.
     summary_text (names_of net) (record { routers = routers; prefixes = prefixes; branches = branch_count trail }) ranks in

@@ -10,9 +10,10 @@ use Rattle.migrate_cli.specs.ScriptsVerdict.{IsScriptsVerdict}
 use Rattle.migrate_cli.specs.ScriptsVerdict.IsScriptsVerdict.{faulty_waves, of_waves}
 use Rattle.migrate_cli.specs.declared.status.Status.{Status}
 use Rattle.migrate_cli.proofs.SameAnswers.{AreSame, NoFault}
+use Rattle.migrate_cli.specs.Reading.{named_text}
 
 pub one_scripts_verdict : (file order : List ℕ) (net : Network) {s z : Status} {t w : List ℕ} → NamesAscend net
-    → IsScriptsVerdict file order net s t → IsScriptsVerdict file order net z w → AreSame s t z w
+    → IsScriptsVerdict (named_text file order) net s t → IsScriptsVerdict (named_text file order) net z w → AreSame s t z w
 one_scripts_verdict file order net ascending (faulty_waves n k one) (faulty_waves m j other) =
     let same = one_faulty_line net order n m k j one other in (refl, λ i. faulty_text file (same.0 i) (order_kind_name (same.1 i)))
 one_scripts_verdict file order net ascending (faulty_waves n k least) (of_waves version ranks names) =
@@ -23,6 +24,7 @@ one_scripts_verdict file order net ascending (of_waves version one names) (of_wa
     let same = one_wave_list net order version its one other ascending names again in (refl, λ i. script_text (same.0 i) net (same.1 i))
 
 -- no verdict is a fault of reading or of writing
-pub scripts_no_fault : {file order : List ℕ} {net : Network} {status : Status} {text : List ℕ} → IsScriptsVerdict file order net status text → NoFault status
+pub scripts_no_fault : {file order : List ℕ} {net : Network} {status : Status} {text : List ℕ}
+    → IsScriptsVerdict (named_text file order) net status text → NoFault status
 scripts_no_fault (faulty_waves _ _ _) = (λ e. Prim.cc e, λ e. Prim.cc e)
 scripts_no_fault (of_waves _ _ _) = (λ e. Prim.cc e, λ e. Prim.cc e)

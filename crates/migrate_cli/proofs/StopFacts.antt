@@ -2,7 +2,7 @@
 use Rattle.std.proofs.Common.{◌≡◌, ℕ, zero, suc, ◌+◌, ◌<◌, List, [], ◌∷◌, ◌++◌, length, take, drop, map, get_or, Option, Ok, Err, IfSome, arith, ap, ◌∙◌, refl}
 use Rattle.std.proofs.Common.{sym, subst, append-nil, append_assoc}
 use Rattle.std.proofs.lemmas.List.{take_more, map-append}
-use Rattle.migrate_cli.specs.Reading.{Contents, File, file_names, IsReadOf, AreRead, AreWithin, ReadUpTo, total_of}
+use Rattle.migrate_cli.specs.Reading.{Contents, File, file_names, IsReadOf, AreRead, AreWithin, ReadUpTo, total_of, to_read}
 use Rattle.migrate_cli.proofs.ReadingFacts.{AreRead-more, AreWithin-more, total_of-more, within_front}
 use Rattle.migrate_cli.specs.steps.Stops.{KeptTexts, StopsAt, IsFrontOf, HasAsked, IsNextText, MayRead, HasRead}
 use Rattle.migrate_cli.specs.steps.Stops.MayRead.{none_yet, so_far}
@@ -41,7 +41,7 @@ StopsAt-same content other file before OutOfMemory same stops = tt
 -- the names asked for up to a file
 abbrev up_to : (content : Contents) (files before after : List File) (texts : List (List ℕ)) (file : File) (asked : List (List ℕ)) →
     files ≡ before ++ file ∷ after
-    → AreRead content before texts → AreWithin before texts → asked ≡ file.name ∷ [] → ReadUpTo content files (file_names before ++ asked) texts file
+    → AreRead content before texts → AreWithin before texts → asked ≡ file.name ∷ [] → ReadUpTo (to_read content files) (file_names before ++ asked) texts file
 up_to content files before after texts file asked files_are read within alone = record {
   before = before;
   after = after;
@@ -105,7 +105,8 @@ may_read content files before after texts file (n ∷ m ∷ more) files_are read
 -- the reading of several files stops where that of one of them does
 pub stops_among : (content : Contents) (files before after : List File) (texts : List (List ℕ)) (file : File) (old now new : List (List ℕ)) (stop : Stop)
     → files ≡ before ++ file ∷ after → AreRead content before texts → AreWithin before texts → now ≡ old ++ file_names before
-    → StopsAt content file (total_of before texts) stop → HasAsked {A = Unit {0}} file.name now new (Err stop) → HasRead content files old new (Err stop)
+    → StopsAt content file (total_of before texts) stop → HasAsked {A = Unit {0}} file.name now new (Err stop)
+    → HasRead (to_read content files) old new (Err stop)
 stops_among content files before after texts file old now new (Fault name) files_are read within now_is stops asks = record {
   asked = file_names before ++ asks.asked;
   asked_is = asks.asked_is ∙ ap (λ some. some ++ asks.asked) now_is ∙ append_assoc old (file_names before) asks.asked;

@@ -86,30 +86,39 @@ fronts (x ∷ b) (y ∷ c) n m d e is =
     let rest : b ++ n ∷ d ≡ c ++ m ∷ e = cc is in
     longer_fronts x y b c n m head (fronts b c n m d e rest)
 
+-- files that were read, one more that breaks a limit, and their texts
+pub record Broken : Type 0 where
+  pub before : List File
+  pub file : File
+  pub texts : List (List ℕ)
+  pub text : List ℕ
+
+abbrev pub broken_at : List File → File → List (List ℕ) → List ℕ → Broken
+broken_at before file texts text = record { before = before; file = file; texts = texts; text = text }
+
 -- the files before one were read and are within the limits, and with it they aren't
-pub record StopsAfter (content : Contents) (files before : List File) (file : File) (texts : List (List ℕ)) (text : List ℕ) : Type 0 where
+pub record StopsAfter (content : Contents) (files : List File) (at : Broken) : Type 0 where
   pub after : List File
-  pub files_are : files ≡ before ++ file ∷ after
-  pub read : AreRead content before texts
-  pub next : IsReadOf content file text
-  pub within : AreWithin before texts
-  pub broken : AreWithin (before ++ file ∷ []) (texts ++ text ∷ []) → ⊥
+  pub files_are : files ≡ at.before ++ at.file ∷ after
+  pub read : AreRead content at.before at.texts
+  pub next : IsReadOf content at.file at.text
+  pub within : AreWithin at.before at.texts
+  pub broken : AreWithin (at.before ++ at.file ∷ []) (at.texts ++ at.text ∷ []) → ⊥
 
 -- which limit that file breaks, and the answer
-pub data IsBrokenSo (before : List File) (file : File) (texts : List (List ℕ)) (text : List ℕ) : Status → List ℕ → Type 0 where
-  too_long : file.most < length text → IsBrokenSo before file texts text Limit (long_file_text file.name)
-  too_many : (number : ℕ) → IsShort file text → number ≡ total_of before texts + counted file text →
-      IsBrokenSo before file texts text Limit (long_files_text number)
+pub data IsBrokenSo (at : Broken) : Status → List ℕ → Type 0 where
+  too_long : at.file.most < length at.text → IsBrokenSo at Limit (long_file_text at.file.name)
+  too_many : (number : ℕ) → IsShort at.file at.text → number ≡ total_of at.before at.texts + counted at.file at.text →
+      IsBrokenSo at Limit (long_files_text number)
 
 short_not_long : (file : File) (text : List ℕ) → file.most < length text → IsShort file text → ⊥
 short_not_long file text above short = let most : length text ≤ file.most = short in omega (arith, above, most)
 
-one_limit : (before : List File) (file : File) (texts : List (List ℕ)) (text : List ℕ) {s z : Status} {t w : List ℕ} → IsBrokenSo before file texts text s t
-    → IsBrokenSo before file texts text z w → AreSame s t z w
-one_limit before file texts text (too_long _) (too_long _) = (refl, refl)
-one_limit before file texts text (too_long above) (too_many _ short _) = absurd (short_not_long file text above short)
-one_limit before file texts text (too_many _ short _) (too_long above) = absurd (short_not_long file text above short)
-one_limit before file texts text (too_many n _ is) (too_many m _ also) =
+one_limit : (at : Broken) {s z : Status} {t w : List ℕ} → IsBrokenSo at s t → IsBrokenSo at z w → AreSame s t z w
+one_limit at (too_long _) (too_long _) = (refl, refl)
+one_limit at (too_long above) (too_many _ short _) = absurd (short_not_long at.file at.text above short)
+one_limit at (too_many _ short _) (too_long above) = absurd (short_not_long at.file at.text above short)
+one_limit at (too_many n _ is) (too_many m _ also) =
     (refl, ap (λ number. long_files_text number) (is ∙ sym also))
 
 module _ (content : Contents) where
@@ -159,7 +168,8 @@ module _ (content : Contents) where
 
   -- nothing is read within the limits past the file that breaks one
   pub none_past : (files before : List File) (file : File) (texts : List (List ℕ)) (text : List ℕ) (rest : List File) (all : List (List ℕ))
-      → StopsAfter content files before file texts text → All (IsToldOf content) (before ++ file ∷ []) → AreRead content (before ++ file ∷ rest) all
+      → StopsAfter content files (broken_at before file texts text)
+      → All (IsToldOf content) (before ++ file ∷ []) → AreRead content (before ++ file ∷ rest) all
       → AreWithin (before ++ file ∷ rest) all → ⊥
   none_past files before file texts text rest all stop tell read within =
       let front = front_read before file rest texts text all tell stop.read stop.next read in
@@ -169,7 +179,7 @@ module _ (content : Contents) where
       stop.broken (within_front content (before ++ file ∷ []) rest (texts ++ text ∷ []) front.rest with_it parted)
 
   module _ (files b c : List File) (n m : File) (tell : All (IsToldOf content) (b ++ n ∷ [])) (ts ss : List (List ℕ)) (t s : List ℕ)
-      (one : StopsAfter content files b n ts t) (other : StopsAfter content files c m ss s) where
+      (one : StopsAfter content files (broken_at b n ts t)) (other : StopsAfter content files (broken_at c m ss s)) where
     told_before : All (IsToldOf content) b
     told_before = All-front (IsToldOf content) b (n ∷ []) tell
 
@@ -194,10 +204,11 @@ module _ (content : Contents) where
     same_next = one_text n t s told_there one.next (subst (λ some. IsReadOf content some s) (sym same_place.1) other.next)
 
     -- and for one reason
-    pub same_limit : {status z : Status} {answer w : List ℕ} → IsBrokenSo b n ts t status answer → IsBrokenSo c m ss s z w → AreSame status answer z w
+    pub same_limit : {status z : Status} {answer w : List ℕ} → IsBrokenSo (broken_at b n ts t) status answer
+        → IsBrokenSo (broken_at c m ss s) z w → AreSame status answer z w
     same_limit {z = z} {w = w} here there =
-        one_limit b n ts t here
-        (subst (λ some. IsBrokenSo some n ts t z w) (sym same_place.0)
-        (subst (λ some. IsBrokenSo c some ts t z w) (sym same_place.1)
-        (subst (λ some. IsBrokenSo c m some t z w) (sym same_texts)
-        (subst (λ some. IsBrokenSo c m ss some z w) (sym same_next) there))))
+        let place = same_place in
+        let texts = same_texts in
+        let next = same_next in
+        let one : broken_at b n ts t ≡ broken_at c m ss s = λ i. broken_at (place.0 i) (place.1 i) (texts i) (next i) in
+        one_limit (broken_at b n ts t) here (subst (λ (at : Broken). IsBrokenSo at z w) (sym one) there)

@@ -13,10 +13,10 @@ use Rattle.migrate_words.specs.Requests.{Request}
 use Rattle.migration_report.specs.Kinds.{read_kind_name}
 use Rattle.migration_report.specs.Texts.{faulty_text, network_text, off_start_text}
 use Rattle.migrate_cli.specs.RefusalStatus.{refusal_status}
-use Rattle.migrate_cli.specs.CommandFiles.{NeedsStart, text_names}
-use Rattle.migrate_cli.specs.CommandVerdicts.{IsCommandVerdict}
+use Rattle.migrate_cli.specs.CommandFiles.{GivenTexts, NeedsStart, given_texts, text_names}
+use Rattle.migrate_cli.specs.CommandVerdicts.{Input, IsCommandVerdict, input_of}
 use Rattle.isis_writer.specs.ReadTexts.{ReadsTexts}
-use Rattle.migrate_cli.specs.Configurations.{IsFirstRefused, IsAtStart}
+use Rattle.migrate_cli.specs.Configurations.{IsFirstRefused, IsAtStart, line_fault}
 use Rattle.migrate_cli.specs.Verdicts.{IsVerdict}
 use Rattle.migrate_cli.specs.Verdicts.IsVerdict.{faulty_configuration, no_network, off_start, of_command}
 use Rattle.migrate_cli.specs.declared.status.Status.{Status}
@@ -27,23 +27,21 @@ use Rattle.migrate_cli.proofs.TextLaws.{one_reading, none_refused, one_refused}
 
 -- ---- a network ----
 
-data OfNetwork (request : Request) (own configs : List (List ℕ)) (net : Network) : Status → List ℕ → Type 0 where
-  off : (router : ℕ) (config : Configuration) → NeedsStart request → IsLowestOffStart net router → HasConfiguration net router config
-      → OfNetwork request own configs net Refused (off_start_text config.name)
-  at_start : {status : Status} {answer : List ℕ} → (NeedsStart request → IsAtStart net)
-      → IsCommandVerdict request (record { own = own; configs = configs; net = net }) status answer → OfNetwork request own configs net status answer
+data OfNetwork (request : Request) (input : Input) : Status → List ℕ → Type 0 where
+  off : (router : ℕ) (config : Configuration) → NeedsStart request → IsLowestOffStart input.net router → HasConfiguration input.net router config
+      → OfNetwork request input Refused (off_start_text config.name)
+  at_start : {status : Status} {answer : List ℕ} → (NeedsStart request → IsAtStart input.net) → IsCommandVerdict request input status answer
+      → OfNetwork request input status answer
 
-module _ (request : Request) (own texts : List (List ℕ)) where
-  one_of_network : (net : Network) {s z : Status} {t w : List ℕ} → NamesAscend net → OfNetwork request own texts net s t → OfNetwork request own texts net z w
-      → AreSame s t z w
-  one_of_network net ascending (off u c _ lowest has) (off v d _ least its) =
-      let router : u ≡ v = omega (arith, lowest.least v least.holds, least.least u lowest.holds) in
-      let same : c ≡ d = same_Some c d (sym has ∙ subst (λ n. HasConfiguration net n d) (sym router) its) in
-      (refl, ap (λ (config : Configuration). off_start_text config.name) same)
-  one_of_network net ascending (off u _ needs lowest _) (at_start start _) = absurd (start needs u lowest.holds)
-  one_of_network net ascending (at_start start _) (off u _ needs lowest _) = absurd (start needs u lowest.holds)
-  one_of_network net ascending (at_start _ one) (at_start _ other) =
-      one_command_verdict request (record { own = own; configs = texts; net = net }) ascending one other
+one_of_network : (request : Request) (input : Input) {s z : Status} {t w : List ℕ} → NamesAscend input.net → OfNetwork request input s t
+    → OfNetwork request input z w → AreSame s t z w
+one_of_network request input ascending (off u c _ lowest has) (off v d _ least its) =
+    let router : u ≡ v = omega (arith, lowest.least v least.holds, least.least u lowest.holds) in
+    let same : c ≡ d = same_Some c d (sym has ∙ subst (λ n. HasConfiguration input.net n d) (sym router) its) in
+    (refl, ap (λ (config : Configuration). off_start_text config.name) same)
+one_of_network request input ascending (off u _ needs lowest _) (at_start start _) = absurd (start needs u lowest.holds)
+one_of_network request input ascending (at_start start _) (off u _ needs lowest _) = absurd (start needs u lowest.holds)
+one_of_network request input ascending (at_start _ one) (at_start _ other) = one_command_verdict request input ascending one other
 
 -- ---- the configurations ----
 
@@ -65,53 +63,55 @@ one_refusal configs {s} {z} {t} {w} a b =
       a.text_is ∙ ap network_text same ∙ sym b.text_is,
     )
 
-data OfConfigurations (request : Request) (own texts : List (List ℕ)) (configs : List Configuration) : Status → List ℕ → Type 0 where
-  refused : {status : Status} {answer : List ℕ} → IsRefusedSo configs status answer → OfConfigurations request own texts configs status answer
-  makes : {status : Status} {answer : List ℕ} (net : Network) → MakeNetwork configs net → OfNetwork request own texts net status answer
-      → OfConfigurations request own texts configs status answer
+data OfConfigurations (Of : Network → Status → List ℕ → Type 0) (configs : List Configuration) : Status → List ℕ → Type 0 where
+  refused : {status : Status} {answer : List ℕ} → IsRefusedSo configs status answer → OfConfigurations Of configs status answer
+  makes : {status : Status} {answer : List ℕ} (net : Network) → MakeNetwork configs net → Of net status answer → OfConfigurations Of configs status answer
 
 refused_or_made : (configs : List Configuration) (net : Network) {status : Status} {text : List ℕ} → IsRefusedSo configs status text →
     MakeNetwork configs net → ⊥
 refused_or_made configs net {status} a make = no_memory a.refusal status a.status_is (MakeNetwork-refused configs net a.refusal make a.refuses)
 
-one_of_configurations : (request : Request) (own texts : List (List ℕ)) (configs : List Configuration) {s z : Status} {t w : List ℕ}
-    → OfConfigurations request own texts configs s t → OfConfigurations request own texts configs z w → AreSame s t z w
-one_of_configurations request own texts configs (refused one) (refused other) = one_refusal configs one other
-one_of_configurations request own texts configs (refused one) (makes net make _) = absurd (refused_or_made configs net one make)
-one_of_configurations request own texts configs (makes net make _) (refused other) = absurd (refused_or_made configs net other make)
-one_of_configurations request own texts configs {z = z} {w = w} (makes net make one) (makes again made other) =
-    let same : net ≡ again = IsNetworkOf-unique configs net again make.network made.network in
-    one_of_network request own texts net make.network.ascending one (subst (λ n. OfNetwork request own texts n z w) (sym same) other)
+module _ (request : Request) (texts : GivenTexts) where
+  abbrev Of : Network → Status → List ℕ → Type 0
+  Of net = OfNetwork request (input_of texts net)
 
--- ---- the texts ----
+  one_of_configurations : (configs : List Configuration) {s z : Status} {t w : List ℕ} → OfConfigurations Of configs s t
+      → OfConfigurations Of configs z w → AreSame s t z w
+  one_of_configurations configs (refused one) (refused other) = one_refusal configs one other
+  one_of_configurations configs (refused one) (makes net make _) = absurd (refused_or_made configs net one make)
+  one_of_configurations configs (makes net make _) (refused other) = absurd (refused_or_made configs net other make)
+  one_of_configurations configs {z = z} {w = w} (makes net make one) (makes again made other) =
+      let same : net ≡ again = IsNetworkOf-unique configs net again make.network made.network in
+      one_of_network request (input_of texts net) make.network.ascending one (subst (λ n. Of n z w) (sym same) other)
 
-data OfTexts (request : Request) (own texts : List (List ℕ)) : Status → List ℕ → Type 0 where
-  unread : (bad : List ℕ) (number : ℕ) (kind : ReadKind) → IsFirstRefused (text_names request) texts bad number kind
-      → OfTexts request own texts Refused (faulty_text bad number (read_kind_name kind))
-  reads : {status : Status} {answer : List ℕ} (configs : List Configuration) → ReadsTexts texts configs →
-      OfConfigurations request own texts configs status answer
-      → OfTexts request own texts status answer
+  -- ---- the texts ----
 
-one_of_texts : (request : Request) (own texts : List (List ℕ)) {s z : Status} {t w : List ℕ} → OfTexts request own texts s t
-    → OfTexts request own texts z w → AreSame s t z w
-one_of_texts request own texts (unread _ _ _ one) (unread _ _ _ other) =
-    let same = one_refused one other in (refl, λ i. faulty_text (same.0 i) (same.1 i) (read_kind_name (same.2 i)))
-one_of_texts request own texts (unread _ _ _ one) (reads configs read _) = absurd (none_refused one configs read)
-one_of_texts request own texts (reads configs read _) (unread _ _ _ other) = absurd (none_refused other configs read)
-one_of_texts request own texts {z = z} {w = w} (reads configs read one) (reads again two other) =
-    let same : configs ≡ again = one_reading texts configs again read two in
-    one_of_configurations request own texts configs one (subst (λ some. OfConfigurations request own texts some z w) (sym same) other)
+  data OfTexts : Status → List ℕ → Type 0 where
+    unread : (bad : List ℕ) (number : ℕ) (kind : ReadKind) → IsFirstRefused (line_fault number kind) (text_names request) texts.configs bad
+        → OfTexts Refused (faulty_text bad number (read_kind_name kind))
+    reads : {status : Status} {answer : List ℕ} (configs : List Configuration) → ReadsTexts texts.configs configs → OfConfigurations Of configs status answer
+        → OfTexts status answer
 
--- each verdict, step by step
-steps_of : {request : Request} {own texts : List (List ℕ)} {status : Status} {answer : List ℕ} → IsVerdict request own texts status answer
-    → OfTexts request own texts status answer
-steps_of (faulty_configuration bad number kind first) = unread bad number kind first
-steps_of (no_network configs refusal status read refuses given) =
-    reads configs read (refused (record { refusal = refusal; refuses = refuses; status_is = given; text_is = refl }))
-steps_of (off_start net router config gives needs lowest has) = reads gives.configs gives.read (makes net gives.make (off router config needs lowest has))
-steps_of (of_command net _ _ gives start verdict) = reads gives.configs gives.read (makes net gives.make (at_start start verdict))
+  one_of_texts : {s z : Status} {t w : List ℕ} → OfTexts s t → OfTexts z w → AreSame s t z w
+  one_of_texts (unread _ _ _ one) (unread _ _ _ other) =
+      let same = one_refused one other in (refl, λ i. faulty_text (same.0 i) (same.1 i) (read_kind_name (same.2 i)))
+  one_of_texts (unread _ _ _ one) (reads configs read _) = absurd (none_refused one configs read)
+  one_of_texts (reads configs read _) (unread _ _ _ other) = absurd (none_refused other configs read)
+  one_of_texts {z = z} {w = w} (reads configs read one) (reads again two other) =
+      let same : configs ≡ again = one_reading texts.configs configs again read two in
+      one_of_configurations configs one (subst (λ some. OfConfigurations Of some z w) (sym same) other)
+
+  -- each verdict, step by step
+  steps_of : {status : Status} {answer : List ℕ} → IsVerdict request texts status answer → OfTexts status answer
+  steps_of (faulty_configuration bad number kind first) = unread bad number kind first
+  steps_of (no_network configs refusal status read refuses given) =
+      reads configs read (refused (record { refusal = refusal; refuses = refuses; status_is = given; text_is = refl }))
+  steps_of (off_start net router config gives needs lowest has) = reads gives.configs gives.read (makes net gives.make (off router config needs lowest has))
+  steps_of (of_command net _ _ gives start verdict) = reads gives.configs gives.read (makes net gives.make (at_start start verdict))
 
 -- texts have one verdict
-pub one_verdict : (request : Request) (own texts : List (List ℕ)) (s z : Status) (t w : List ℕ) → IsVerdict request own texts s t
-    → IsVerdict request own texts z w → AreSame s t z w
-one_verdict request own texts s z t w one other = one_of_texts request own texts (steps_of one) (steps_of other)
+pub one_verdict : (request : Request) (own texts : List (List ℕ)) (s z : Status) (t w : List ℕ) → IsVerdict request (given_texts own texts) s t
+    → IsVerdict request (given_texts own texts) z w → AreSame s t z w
+one_verdict request own texts s z t w one other =
+    let all : GivenTexts = given_texts own texts in
+    one_of_texts request all (steps_of request all one) (steps_of request all other)

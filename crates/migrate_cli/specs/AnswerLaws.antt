@@ -8,12 +8,13 @@ use Rattle.migrate_cli.specs.Reading.{Contents}
 use Rattle.migrate_cli.specs.Verdicts.{IsVerdict}
 use Rattle.migrate_cli.specs.declared.status.Status.{Status}
 use Rattle.migrate_cli.specs.declared.status.Status.TheVariants.{Words, ReadFault, WriteFault, Memory}
+use Rattle.migrate_cli.specs.CommandFiles.{given_texts}
 
 -- the texts that a command reads have one verdict: one status and one text
 abbrev pub OneVerdictLaw : Type 0
 OneVerdictLaw =
     (request : Request) (own configs : List (List ℕ)) (status other_status : Status) (text other_text : List ℕ) →
-    IsVerdict request own configs status text → IsVerdict request own configs other_status other_text →
+    IsVerdict request (given_texts own configs) status text → IsVerdict request (given_texts own configs) other_status other_text →
     (status ≡ other_status) × (text ≡ other_text)
 
 -- what a name's file holds is told

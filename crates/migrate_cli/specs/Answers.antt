@@ -8,10 +8,10 @@ use Rattle.migrate_words.specs.Requests.{Request}
 use Rattle.migrate_words.specs.declared.refusal.WordsRefused.{WordsRefused}
 use Rattle.migrate_words.specs.declared.refusal.WordsRefused.TheVariants.{Words as NotTaken, Number, OutOfMemory as NoMemory}
 use Rattle.migration_report.specs.Texts.{long_file_text, long_files_text, many_files_text, read_fault_text, words_refused_text}
-use Rattle.migrate_cli.specs.Calls.{Call, Outside}
+use Rattle.migrate_cli.specs.Calls.{Call, Outside, course, Course}
 use Rattle.migrate_cli.specs.CallWords.{AreRefused, TellsWordsRefused}
-use Rattle.migrate_cli.specs.CommandFiles.{config_names, config_texts, files_of, own_texts}
-use Rattle.migrate_cli.specs.Reading.{File, AreRead, AreWithin, IsTooLong, PassesTotal, ReadUpTo, file_names, total_of}
+use Rattle.migrate_cli.specs.CommandFiles.{config_names, config_texts, files_of, own_texts, given_texts}
+use Rattle.migrate_cli.specs.Reading.{File, AreRead, AreWithin, IsTooLong, PassesTotal, ReadUpTo, file_names, total_of, to_read}
 use Rattle.migrate_cli.specs.Verdicts.{IsVerdict}
 use Rattle.migrate_cli.specs.declared.run_call.TheConstants.{FILES_MOST}
 use Rattle.migrate_cli.specs.declared.answer.Answer.{Answer}
@@ -31,23 +31,24 @@ pub data IsAnswer (call : Call) : List (List ℕ) → Status → List ℕ → Ty
   many_files : (request : Request) → Asks call.words request → FILES_MOST < length (config_names request) →
       IsAnswer call [] Limit (many_files_text (length (config_names request)))
   read_fault : (request : Request) (asked texts : List (List ℕ)) (file : File) → AsksForFew call.words request →
-      ReadUpTo call.content (files_of request) asked texts file →
+      ReadUpTo (to_read call.content (files_of request)) asked texts file →
       IsAnswer call asked ReadFault (read_fault_text file.name)
   long_file : (request : Request) (asked texts : List (List ℕ)) (file : File) → AsksForFew call.words request →
-      ReadUpTo call.content (files_of request) asked texts file → IsTooLong call.content file →
+      ReadUpTo (to_read call.content (files_of request)) asked texts file → IsTooLong call.content file →
       IsAnswer call asked Limit (long_file_text file.name)
   long_files : (request : Request) (asked texts : List (List ℕ)) (file : File) (number : ℕ) → AsksForFew call.words request →
-      (up : ReadUpTo call.content (files_of request) asked texts file) → PassesTotal call.content file (total_of up.before texts) number →
+      (up : ReadUpTo (to_read call.content (files_of request)) asked texts file) → PassesTotal call.content file (total_of up.before texts) number →
       IsAnswer call asked Limit (long_files_text number)
   judged : (request : Request) (texts : List (List ℕ)) (status : Status) (text : List ℕ) → AsksForFew call.words request →
       AreRead call.content (files_of request) texts → AreWithin (files_of request) texts →
-      IsVerdict request (own_texts request texts) (config_texts request texts) status text → IsAnswer call (file_names (files_of request)) status text
+      IsVerdict request (given_texts (own_texts request texts) (config_texts request texts)) status text →
+      IsAnswer call (file_names (files_of request)) status text
 
 -- the names that were asked for when memory ran out: none, or those up to a file before which all were read within the limits
 pub data MayAsk (call : Call) : List (List ℕ) → Type 0 where
   asks_none : MayAsk call []
   asks_some : (request : Request) (asked texts : List (List ℕ)) (file : File) → AsksForFew call.words request →
-      ReadUpTo call.content (files_of request) asked texts file → MayAsk call asked
+      ReadUpTo (to_read call.content (files_of request)) asked texts file → MayAsk call asked
 
 -- the count of the files' faults agrees with an answer: it rose where that is a read fault, and else it stands
 pub record FaultsAgree (status : Status) (before after : ℕ) : Type 0 where
@@ -55,18 +56,18 @@ pub record FaultsAgree (status : Status) (before after : ℕ) : Type 0 where
   pub unless_read_fault : status ≢ ReadFault → after ≡ before
 
 -- how a call ends that asked for these names: its answer is written whole, or its front, or there was no memory and nothing is written
-pub data Ends (call : Call) (asked : List (List ℕ)) (before after : Outside) : Status → Type 0 where
-  whole : (status : Status) (text : List ℕ) → IsAnswer call asked status text → FaultsAgree status before.file_faults after.file_faults →
-      AddsBytes before.written after.written text → Ends call asked before after status
-  cut : (status : Status) (text : List ℕ) → IsAnswer call asked status text → FaultsAgree status before.file_faults after.file_faults →
-      AddsFront before.written after.written text → Ends call asked before after WriteFault
-  no_memory : MayAsk call asked → after.written ≡ before.written → Ends call asked before after Memory
+pub data Ends (call : Call) (asked : List (List ℕ)) (outside : Course) : Status → Type 0 where
+  whole : (status : Status) (text : List ℕ) → IsAnswer call asked status text → FaultsAgree status outside.before.file_faults outside.after.file_faults →
+      AddsBytes outside.before.written outside.after.written text → Ends call asked outside status
+  cut : (status : Status) (text : List ℕ) → IsAnswer call asked status text → FaultsAgree status outside.before.file_faults outside.after.file_faults →
+      AddsFront outside.before.written outside.after.written text → Ends call asked outside WriteFault
+  no_memory : MayAsk call asked → outside.after.written ≡ outside.before.written → Ends call asked outside Memory
 
 -- a call asked for some names besides those before, and ended with an answer to its words and its files
 pub record Answers (call : Call) (before after : Outside) (status : Status) : Type 0 where
   pub asked : List (List ℕ)
   pub asked_is : after.asked ≡ before.asked ++ asked
-  pub ends : Ends call asked before after status
+  pub ends : Ends call asked (course before after) status
 
 -- the answer that reading stopped
 abbrev pub StopAnswer : Stop → Status → List ℕ → Type 0

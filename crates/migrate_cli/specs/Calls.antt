@@ -15,6 +15,14 @@ pub record Outside : Type 0 where
   pub written : Option (List ℕ)
   pub sink_faults : ℕ
 
+-- what stands outside before a call and after it
+pub record Course : Type 0 where
+  pub before : Outside
+  pub after : Outside
+
+abbrev pub course : Outside → Outside → Course
+course before after = record { before = before; after = after }
+
 -- the call of these words, where the files tell this
 abbrev pub call_of : List (List ℕ) → Contents → Call
 call_of words content = record { words = words; content = content }

@@ -14,6 +14,7 @@ use Rattle.step_scripts.specs.declared.kind.OrderKind.{OrderKind}
 use Rattle.migration_report.specs.Kinds.{order_kind_name}
 use Rattle.migration_report.specs.Texts.{faulty_text, safe_text, unsafe_text, waves_safe_text, waves_unsafe_text}
 use Rattle.net_model.specs.RouterNames.{names_of}
+use Rattle.migrate_cli.specs.Reading.{NamedText}
 use Rattle.migrate_cli.specs.declared.status.Status.{Status}
 use Rattle.migrate_cli.specs.declared.status.Status.TheVariants.{Done, Negative, Refused}
 
@@ -35,10 +36,10 @@ pub data IsWavesVerdict (move : Migration) (ranks : List ℕ) : Status → List 
 
 -- the order file has a faulty line; or it is of version 1, and its routers are switched one after the other; or it is of
 -- version 2, and they are switched wave by wave
-pub data IsCheckVerdict (file text : List ℕ) (net : Network) : Status → List ℕ → Type 0 where
-  faulty_order : (number : ℕ) (kind : OrderKind) → IsLeastFaultyLine net text number kind →
-      IsCheckVerdict file text net Refused (faulty_text file number (order_kind_name kind))
-  of_order : (ranks : List ℕ) (status : Status) (answer : List ℕ) → NamesWaves net text One ranks →
-      IsOrderVerdict (ospf_to_isis net) (flat_of ranks) status answer → IsCheckVerdict file text net status answer
-  of_waves : (ranks : List ℕ) (status : Status) (answer : List ℕ) → NamesWaves net text Two ranks →
-      IsWavesVerdict (ospf_to_isis net) ranks status answer → IsCheckVerdict file text net status answer
+pub data IsCheckVerdict (order : NamedText) (net : Network) : Status → List ℕ → Type 0 where
+  faulty_order : (number : ℕ) (kind : OrderKind) → IsLeastFaultyLine net order.text number kind →
+      IsCheckVerdict order net Refused (faulty_text order.file number (order_kind_name kind))
+  of_order : (ranks : List ℕ) (status : Status) (answer : List ℕ) → NamesWaves net order.text One ranks →
+      IsOrderVerdict (ospf_to_isis net) (flat_of ranks) status answer → IsCheckVerdict order net status answer
+  of_waves : (ranks : List ℕ) (status : Status) (answer : List ℕ) → NamesWaves net order.text Two ranks →
+      IsWavesVerdict (ospf_to_isis net) ranks status answer → IsCheckVerdict order net status answer

@@ -5,6 +5,14 @@ use Rattle.sample_network.specs.SampleTexts.{sample_text}
 use Rattle.migrate_cli.specs.Reading.{File}
 use Rattle.migrate_cli.specs.declared.files.TheConstants.{FILE_MOST, DESIGN_MOST}
 
+-- the texts that a command reads: those of its own files, and those of the configurations
+pub record GivenTexts : Type 0 where
+  pub own : List (List ℕ)
+  pub configs : List (List ℕ)
+
+abbrev pub given_texts : List (List ℕ) → List (List ℕ) → GivenTexts
+given_texts own configs = record { own = own; configs = configs }
+
 -- an order, a tree or a journal
 abbrev pub text_file : List ℕ → File
 text_file name = record { name = name; most = FILE_MOST; counts = false }

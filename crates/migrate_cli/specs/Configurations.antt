@@ -8,12 +8,20 @@ use Rattle.net_model.specs.Network.{Network}
 use Rattle.net_model.specs.OffStarts.{StartsOff}
 use Rattle.net_model.specs.Refusals.{MakeNetwork}
 
+-- a faulty line of a text, and why it is faulty
+pub record LineFault : Type 0 where
+  pub line : ℕ
+  pub kind : ReadKind
+
+abbrev pub line_fault : ℕ → ReadKind → LineFault
+line_fault line kind = record { line = line; kind = kind }
+
 -- the first of some files whose text has a faulty line, with its first faulty line and the least kind on it
-pub data IsFirstRefused : List (List ℕ) → List (List ℕ) → List ℕ → ℕ → ReadKind → Type 0 where
-  here : {file text : List ℕ} {files texts : List (List ℕ)} {line : ℕ} {kind : ReadKind} →
-      IsRefusedText text line kind → IsFirstRefused (file ∷ files) (text ∷ texts) file line kind
-  later : {file text refused : List ℕ} {files texts : List (List ℕ)} {line : ℕ} {kind : ReadKind} {configs : List Configuration} →
-      ReadsText text configs → IsFirstRefused files texts refused line kind → IsFirstRefused (file ∷ files) (text ∷ texts) refused line kind
+pub data IsFirstRefused (fault : LineFault) : List (List ℕ) → List (List ℕ) → List ℕ → Type 0 where
+  here : {file text : List ℕ} {files texts : List (List ℕ)} →
+      IsRefusedText text fault.line fault.kind → IsFirstRefused fault (file ∷ files) (text ∷ texts) file
+  later : {file text refused : List ℕ} {files texts : List (List ℕ)} {configs : List Configuration} →
+      ReadsText text configs → IsFirstRefused fault files texts refused → IsFirstRefused fault (file ∷ files) (text ∷ texts) refused
 
 -- the texts give this network
 pub record GiveNetwork (texts : List (List ℕ)) (net : Network) : Type 0 where

@@ -20,11 +20,11 @@ use Rattle.migrate_words.specs.Asked.{Asks}
 use Rattle.migrate_words.specs.Requests.{plan}
 use Rattle.migration_report.specs.Texts.{waves_safe_text}
 use Rattle.migration_report.specs.TreeVerdictTexts.{closed_text}
-use Rattle.migrate_cli.specs.Calls.{Call, Outside}
+use Rattle.migrate_cli.specs.Calls.{Call, Outside, course, Course}
 use Rattle.migrate_cli.specs.CheckVerdict.{IsCheckVerdict}
 use Rattle.migrate_cli.specs.CommandFiles.{config_file}
 use Rattle.migrate_cli.specs.Configurations.{GiveNetwork}
-use Rattle.migrate_cli.specs.Reading.{AreRead}
+use Rattle.migrate_cli.specs.Reading.{AreRead, named_text}
 use Rattle.migrate_cli.specs.RefuteVerdict.{IsRefuteVerdict}
 use Rattle.migrate_cli.specs.declared.status.Status.{Status}
 use Rattle.migrate_cli.specs.declared.status.Status.TheVariants.{Done, Negative}
@@ -53,7 +53,7 @@ pub record NamesSafeWaves (net : Network) (text : List ℕ) : Type 0 where
   pub sound : AreSeamlessWaves (ospf_to_isis net) ranks
   pub order_delivers : OrderDelivers net (flat_of ranks)
   pub order_sound : IsSeamless (ospf_to_isis net) (flat_of ranks)
-  pub checks : (file : List ℕ) → IsCheckVerdict file text net Done (waves_safe_text (2 * length net) (wave_count ranks))
+  pub checks : (file : List ℕ) → IsCheckVerdict (named_text file text) net Done (waves_safe_text (2 * length net) (wave_count ranks))
   pub chain : List ℕ
   pub chain_written : text ≡ waves_text (names_of net) ranks chain
   pub chain_tagged : IsTaggedChain (ospf_to_isis net) chain
@@ -70,22 +70,22 @@ pub record ShowsThereIsNone (net : Network) (text : List ℕ) : Type 0 where
   pub refutes : IsRefuteVerdict text net Done (closed_text branches leaves)
 
 -- the texts of these files give a network, and a text of which P says something for it was written after what stood before
-pub record HasWritten (call : Call) (configs : List (List ℕ)) (before after : Outside) (P : Network → List ℕ → Type 0) : Type 0 where
+pub record HasWritten (call : Call) (configs : List (List ℕ)) (outside : Course) (P : Network → List ℕ → Type 0) : Type 0 where
   pub texts : List (List ℕ)
   pub read : AreRead call.content (map config_file configs) texts
   pub net : Network
   pub gives : GiveNetwork texts net
   pub text : List ℕ
-  pub written : AddsBytes before.written after.written text
+  pub written : AddsBytes outside.before.written outside.after.written text
   pub holds : P net text
 
 -- what each status of a `plan` of these files means
-abbrev pub MeansOf : Call → List (List ℕ) → Outside → Outside → Status → Type 0
-MeansOf call configs before after Done = HasWritten call configs before after NamesSafeWaves
-MeansOf call configs before after Negative = HasWritten call configs before after ShowsThereIsNone
-MeansOf call configs before after _ = Unit {0}
+abbrev pub MeansOf : Call → List (List ℕ) → Course → Status → Type 0
+MeansOf call configs outside Done = HasWritten call configs outside NamesSafeWaves
+MeansOf call configs outside Negative = HasWritten call configs outside ShowsThereIsNone
+MeansOf call configs outside _ = Unit {0}
 
 -- where the words ask for a `plan`, its status means that
 abbrev pub PlanPromises : Call → Outside → Outside → Status → Type 0
 PlanPromises call before after result = (budget : ℕ) (configs : List (List ℕ)) → Asks call.words (plan budget configs) →
-    MeansOf call configs before after result
+    MeansOf call configs (course before after) result

@@ -9,7 +9,7 @@ use Rattle.design_file.specs.declared.settled.SettledRouter.{SettledRouter}
 use Rattle.isis_writer.specs.PreparedConfigurations.{prepared}
 use Rattle.migrate_words.specs.Asked.{Asks}
 use Rattle.migrate_words.specs.Requests.{prepare}
-use Rattle.migrate_cli.specs.Calls.{Call, Outside}
+use Rattle.migrate_cli.specs.Calls.{Call, Outside, course, Course}
 use Rattle.migrate_cli.specs.CommandFiles.{config_texts, files_of, own_texts}
 use Rattle.migrate_cli.specs.Configurations.{GiveNetwork}
 use Rattle.migrate_cli.specs.Reading.{AreRead, AreWithin}
@@ -19,7 +19,7 @@ use Rattle.migrate_cli.specs.declared.status.Status.TheVariants.{Done}
 -- `prepare` of these files has written what it was asked for: its texts were read within the limits; the first one says a
 -- design that is settled for the network of the others; and the bytes written are read as the configurations of these, in
 -- their order, each with what is settled for its router and all else as it was
-pub record HasPrepared (call : Call) (file : List ℕ) (configs : List (List ℕ)) (before after : Outside) : Type 0 where
+pub record HasPrepared (call : Call) (file : List ℕ) (configs : List (List ℕ)) (outside : Course) : Type 0 where
   pub texts : List (List ℕ)
   pub read : AreRead call.content (files_of (prepare file configs)) texts
   pub within : AreWithin (files_of (prepare file configs)) texts
@@ -32,10 +32,10 @@ pub record HasPrepared (call : Call) (file : List ℕ) (configs : List (List ℕ
   pub settled : List SettledRouter
   pub settles : Settles design net settled
   pub written : List ℕ
-  pub adds : AddsBytes before.written after.written written
+  pub adds : AddsBytes outside.before.written outside.after.written written
   pub reads_back : ReadsText written (map (prepared net settled) gives.configs)
 
 -- where a call asks for `prepare` and ends with `Done`, it has done so
 abbrev pub PrepareReadsBack : Call → Outside → Outside → Status → Type 0
 PrepareReadsBack call before after result =
-    (file : List ℕ) (configs : List (List ℕ)) → Asks call.words (prepare file configs) → result ≡ Done → HasPrepared call file configs before after
+    (file : List ℕ) (configs : List (List ℕ)) → Asks call.words (prepare file configs) → result ≡ Done → HasPrepared call file configs (course before after)

@@ -10,19 +10,29 @@ use Rattle.design_file.specs.declared.refusal.DesignRefusal.TheVariants.{Bad, Ou
 use Rattle.design_file.specs.declared.settled.SettledRouter.{SettledRouter}
 use Rattle.isis_writer.specs.PreparedConfigurations.{prepared_texts}
 use Rattle.migration_report.specs.DesignTexts.{refused_design_text}
+use Rattle.migrate_cli.specs.Reading.{NamedText}
 use Rattle.migrate_cli.specs.declared.status.Status.{Status}
 use Rattle.migrate_cli.specs.declared.status.Status.TheVariants.{Done, Refused}
+
+-- configurations, and the network that they make
+pub record Configured : Type 0 where
+  pub configs : List (List ℕ)
+  pub net : Network
+
+abbrev pub configured : List (List ℕ) → Network → Configured
+configured configs net = record { configs = configs; net = net }
 
 -- the file is refused as a design, by the lowest kind of what is wrong in it and the least path of this kind; or it says one
 -- that is refused so for the network, in which case its own text has no fault; or it says one that is settled for the
 -- network, and the texts are prepared
-pub data IsPrepareVerdict (file design : List ℕ) (configs : List (List ℕ)) (net : Network) : Status → List ℕ → Type 0 where
-  no_design : (kind : DesignKind) (path : List ℕ) → RefusesText design (Bad kind path) →
-      IsPrepareVerdict file design configs net Refused (refused_design_text file path kind)
-  unsettled : (said : Design) (kind : DesignKind) (path : List ℕ) → SaysDesign design said → RefusesDesign said net (Bad kind path) →
-      IsPrepareVerdict file design configs net Refused (refused_design_text file path kind)
-  prepared : (said : Design) (settled : List SettledRouter) → SaysDesign design said → Settles said net settled → FitsNetwork net settled →
-      IsPrepareVerdict file design configs net Done (prepared_texts net settled configs)
+pub data IsPrepareVerdict (design : NamedText) (routers : Configured) : Status → List ℕ → Type 0 where
+  no_design : (kind : DesignKind) (path : List ℕ) → RefusesText design.text (Bad kind path) →
+      IsPrepareVerdict design routers Refused (refused_design_text design.file path kind)
+  unsettled : (said : Design) (kind : DesignKind) (path : List ℕ) → SaysDesign design.text said → RefusesDesign said routers.net (Bad kind path) →
+      IsPrepareVerdict design routers Refused (refused_design_text design.file path kind)
+  prepared : (said : Design) (settled : List SettledRouter) → SaysDesign design.text said → Settles said routers.net settled →
+      FitsNetwork routers.net settled →
+      IsPrepareVerdict design routers Done (prepared_texts routers.net settled routers.configs)
 
 -- the answer that a design is refused
 abbrev pub DesignAnswer : List ℕ → DesignRefusal → Status → List ℕ → Type 0

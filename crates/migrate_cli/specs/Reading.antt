@@ -12,6 +12,22 @@ pub record File : Type 0 where
   pub most : ℕ
   pub counts : Bool
 
+-- a file that was read: its name and its text
+pub record NamedText : Type 0 where
+  pub file : List ℕ
+  pub text : List ℕ
+
+abbrev pub named_text : List ℕ → List ℕ → NamedText
+named_text file text = record { file = file; text = text }
+
+-- files that are to be read, and what is told of them
+pub record ToRead : Type 0 where
+  pub content : Contents
+  pub files : List File
+
+abbrev pub to_read : Contents → List File → ToRead
+to_read content files = record { content = content; files = files }
+
 -- the names of some files
 abbrev pub file_names : List File → List (List ℕ)
 file_names files = map (λ file. file.name) files
@@ -69,10 +85,10 @@ pub record PassesTotal (content : Contents) (file : File) (before number : ℕ) 
   pub passed : CONFIGS_MOST < number
 
 -- of these files those before one were read, and are within the limits; with it their names are those asked for
-pub record ReadUpTo (content : Contents) (files : List File) (asked : List (List ℕ)) (texts : List (List ℕ)) (file : File) : Type 0 where
+pub record ReadUpTo (all : ToRead) (asked : List (List ℕ)) (texts : List (List ℕ)) (file : File) : Type 0 where
   pub before : List File
   pub after : List File
-  pub files_are : files ≡ before ++ file ∷ after
+  pub files_are : all.files ≡ before ++ file ∷ after
   pub asked_are : asked ≡ file_names before ++ file.name ∷ []
-  pub read : AreRead content before texts
+  pub read : AreRead all.content before texts
   pub within : AreWithin before texts

@@ -1,8 +1,8 @@
 -- What `replay` answers to an order file, a journal and a network that is at its start.
-use Rattle.std.specs.Prelude.{◌≡◌, ℕ, ◌*◌, ◌<◌, List, length, slice_index_or, Option, None}
+use Rattle.std.specs.Prelude.{◌≡◌, ℕ, ◌<◌, List, length, slice_index_or, Option, None}
 use Rattle.net_model.specs.Network.{Network}
 use Rattle.net_model.specs.RouterNames.{names_of}
-use Rattle.state_replay.specs.Journals.{IsNextOn, IsPlace}
+use Rattle.state_replay.specs.Journals.{IsNextOn, IsPlace, progress}
 use Rattle.state_replay.specs.declared.half.Half.{Half}
 use Rattle.state_replay.specs.declared.place.Place.TheVariants.{Reached, Departs}
 use Rattle.step_scripts.specs.FaultyLines.{IsLeastFaultyLine}
@@ -12,6 +12,7 @@ use Rattle.step_scripts.specs.declared.version.Version.{Version}
 use Rattle.migration_report.specs.JournalTexts.{departs_text, reached_text}
 use Rattle.migration_report.specs.Kinds.{order_kind_name}
 use Rattle.migration_report.specs.Texts.{faulty_text}
+use Rattle.migrate_cli.specs.Reading.{NamedText}
 use Rattle.migrate_cli.specs.declared.status.Status.{Status}
 use Rattle.migrate_cli.specs.declared.status.Status.TheVariants.{Done, Negative, Refused}
 
@@ -20,17 +21,26 @@ pub record AreNext (ranks done : List ℕ) (routers : ℕ) (nexts : List (Option
   pub each : length nexts ≡ routers
   pub next : (u : ℕ) → u < routers → IsNextOn ranks done u (slice_index_or nexts u None)
 
+-- a journal of a migration of a network
+pub record Journal : Type 0 where
+  pub text : List ℕ
+  pub net : Network
+
+abbrev pub journal_of : List ℕ → Network → Journal
+journal_of text net = record { text = text; net = net }
+
 -- what is answered of a journal of a wave list: how many changes it has reached and which may come next, where its
 -- changes are the first ones of some run; else its first line that fits no run
-pub data IsJournalVerdict (net : Network) (ranks journal : List ℕ) : Status → List ℕ → Type 0 where
-  reached : (made : ℕ) (done : List ℕ) (nexts : List (Option Half)) → IsPlace net ranks journal (Reached made) done → AreNext ranks done (length net) nexts →
-      IsJournalVerdict net ranks journal Done (reached_text (names_of net) made (2 * length net) nexts (length net))
-  departs : (line : ℕ) (done : List ℕ) → IsPlace net ranks journal (Departs line) done →
-      IsJournalVerdict net ranks journal Negative (departs_text line)
+pub data IsJournalVerdict (journal : Journal) (ranks : List ℕ) : Status → List ℕ → Type 0 where
+  reached : (made : ℕ) (done : List ℕ) (nexts : List (Option Half)) → IsPlace (progress journal.net ranks done) journal.text (Reached made) →
+      AreNext ranks done (length journal.net) nexts →
+      IsJournalVerdict journal ranks Done (reached_text (names_of journal.net) made nexts (length journal.net))
+  departs : (line : ℕ) (done : List ℕ) → IsPlace (progress journal.net ranks done) journal.text (Departs line) →
+      IsJournalVerdict journal ranks Negative (departs_text line)
 
 -- the order file has a faulty line, or names a wave list of the routers
-pub data IsReplayVerdict (file order journal : List ℕ) (net : Network) : Status → List ℕ → Type 0 where
-  faulty_waves : (number : ℕ) (kind : OrderKind) → IsLeastFaultyLine net order number kind →
-      IsReplayVerdict file order journal net Refused (faulty_text file number (order_kind_name kind))
-  of_waves : (version : Version) (ranks : List ℕ) (status : Status) (text : List ℕ) → NamesWaves net order version ranks →
-      IsJournalVerdict net ranks journal status text → IsReplayVerdict file order journal net status text
+pub data IsReplayVerdict (order : NamedText) (journal : Journal) : Status → List ℕ → Type 0 where
+  faulty_waves : (number : ℕ) (kind : OrderKind) → IsLeastFaultyLine journal.net order.text number kind →
+      IsReplayVerdict order journal Refused (faulty_text order.file number (order_kind_name kind))
+  of_waves : (version : Version) (ranks : List ℕ) (status : Status) (text : List ℕ) → NamesWaves journal.net order.text version ranks →
+      IsJournalVerdict journal ranks status text → IsReplayVerdict order journal status text

@@ -13,14 +13,15 @@ use Rattle.migrate_cli.specs.PlanCompleteness.{Plans}
 use Rattle.migrate_cli.specs.Verdicts.{IsVerdict}
 use Rattle.migrate_cli.specs.declared.status.Status.{Status}
 use Rattle.migrate_cli.specs.declared.status.Status.TheVariants.{Done, WriteFault, Memory}
+use Rattle.migrate_cli.specs.CommandFiles.{given_texts}
 
 -- the verdict on the text of the sample network of so many routers
 abbrev pub IsVerdictOfSample : ℕ → Status → List ℕ → Type 0
-IsVerdictOfSample routers = IsVerdict (sample routers) [] (sample_text routers ∷ [])
+IsVerdictOfSample routers = IsVerdict (sample routers) (given_texts [] (sample_text routers ∷ []))
 
 -- the verdict of `plan`, with the usual budget, on one file of this name and text
 abbrev pub IsVerdictOfPlan : List ℕ → List ℕ → Status → List ℕ → Type 0
-IsVerdictOfPlan name text = IsVerdict (plan USUAL_BUDGET (name ∷ [])) [] (text ∷ [])
+IsVerdictOfPlan name text = IsVerdict (plan USUAL_BUDGET (name ∷ [])) (given_texts [] (text ∷ []))
 
 -- `plan` has a verdict of the same status on the same text, as a file that is named `sample`; where the status isn't that
 -- waves were found, it is the same verdict

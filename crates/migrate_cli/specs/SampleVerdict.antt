@@ -17,18 +17,27 @@ use Rattle.migrate_cli.specs.PlanVerdict.{IsPlanOver}
 use Rattle.migrate_cli.specs.declared.status.Status.{Status}
 use Rattle.migrate_cli.specs.declared.status.Status.TheVariants.{Done}
 
+-- a wave list of a network that is made of so many routers, and the trail of nodes that leads to it
+pub record PlannedWaves : Type 0 where
+  pub routers : ℕ
+  pub ranks : List ℕ
+  pub trail : List Node
+
+abbrev pub planned_waves : ℕ → List ℕ → List Node → PlannedWaves
+planned_waves routers ranks trail = record { routers = routers; ranks = ranks; trail = trail }
+
 -- the summary of a wave list of a network, made of so many routers, to which the nodes of a trail lead: how many distinct
 -- prefixes are originated in the network, the branches of the trail, the waves, and the lowest routers of the first and the last
-pub record SumsUp (net : Network) (routers : ℕ) (ranks : List ℕ) (trail : List Node) (text : List ℕ) : Type 0 where
+pub record SumsUp (net : Network) (waves : PlannedWaves) (text : List ℕ) : Type 0 where
   pub prefixes : ℕ
   pub counted : CountsOriginated net prefixes
-  pub text_is : text ≡ summary_text (names_of net) (record { routers = routers; prefixes = prefixes; branches = branch_count trail }) ranks
+  pub text_is : text ≡ summary_text (names_of net) (record { routers = waves.routers; prefixes = prefixes; branches = branch_count waves.trail }) waves.ranks
 
 -- what is answered, by the tables of the two protocols: where `plan` with the usual budget writes a wave list, the summary of it;
 -- else what `plan` answers
 pub data IsSampleOver (move : Migration) (routers : ℕ) : Status → List ℕ → Type 0 where
   summed_up : (ranks : List ℕ) (pairs : List Pair) (chain : List ℕ) (trail : List Node) (text : List ℕ) → AreSoundEnds move →
-      AreFoundWaves (waves_meaning move) USUAL_BUDGET ranks pairs chain trail → SumsUp move.net routers ranks trail text →
+      AreFoundWaves (waves_meaning move) USUAL_BUDGET ranks pairs chain trail → SumsUp move.net (planned_waves routers ranks trail) text →
       IsSampleOver move routers Done text
   as_planned : (status : Status) (text : List ℕ) → status ≢ Done → IsPlanOver move USUAL_BUDGET status text →
       IsSampleOver move routers status text

@@ -8,12 +8,13 @@ use Rattle.step_scripts.specs.declared.kind.OrderKind.{OrderKind}
 use Rattle.step_scripts.specs.declared.version.Version.{Version}
 use Rattle.migration_report.specs.Kinds.{order_kind_name}
 use Rattle.migration_report.specs.Texts.{faulty_text}
+use Rattle.migrate_cli.specs.Reading.{NamedText}
 use Rattle.migrate_cli.specs.declared.status.Status.{Status}
 use Rattle.migrate_cli.specs.declared.status.Status.TheVariants.{Done, Refused}
 
 -- the order file has a faulty line, or names a wave list of the routers: then its script, in the version of the file
-pub data IsScriptsVerdict (file order : List ℕ) (net : Network) : Status → List ℕ → Type 0 where
-  faulty_waves : (number : ℕ) (kind : OrderKind) → IsLeastFaultyLine net order number kind →
-      IsScriptsVerdict file order net Refused (faulty_text file number (order_kind_name kind))
-  of_waves : (version : Version) (ranks : List ℕ) → NamesWaves net order version ranks →
-      IsScriptsVerdict file order net Done (script_text version net ranks)
+pub data IsScriptsVerdict (order : NamedText) (net : Network) : Status → List ℕ → Type 0 where
+  faulty_waves : (number : ℕ) (kind : OrderKind) → IsLeastFaultyLine net order.text number kind →
+      IsScriptsVerdict order net Refused (faulty_text order.file number (order_kind_name kind))
+  of_waves : (version : Version) (ranks : List ℕ) → NamesWaves net order.text version ranks →
+      IsScriptsVerdict order net Done (script_text version net ranks)

@@ -10,20 +10,20 @@ use Rattle.migrate_words.specs.Requests.{Request}
 use Rattle.migration_report.specs.Kinds.{read_kind_name}
 use Rattle.migration_report.specs.Texts.{faulty_text, network_text, off_start_text}
 use Rattle.migrate_cli.specs.RefusalStatus.{refusal_status}
-use Rattle.migrate_cli.specs.CommandFiles.{NeedsStart, text_names}
-use Rattle.migrate_cli.specs.CommandVerdicts.{IsCommandVerdict}
+use Rattle.migrate_cli.specs.CommandFiles.{GivenTexts, NeedsStart, text_names}
+use Rattle.migrate_cli.specs.CommandVerdicts.{IsCommandVerdict, input_of}
 use Rattle.isis_writer.specs.ReadTexts.{ReadsTexts}
-use Rattle.migrate_cli.specs.Configurations.{IsFirstRefused, GiveNetwork, IsAtStart}
+use Rattle.migrate_cli.specs.Configurations.{IsFirstRefused, GiveNetwork, IsAtStart, line_fault}
 use Rattle.migrate_cli.specs.declared.status.Status.{Status}
 use Rattle.migrate_cli.specs.declared.status.Status.TheVariants.{Refused}
 
 -- each case, with the status and the text that answer it, by the texts of a command's own files and of the configurations
-pub data IsVerdict (request : Request) (own configs : List (List ℕ)) : Status → List ℕ → Type 0 where
-  faulty_configuration : (file : List ℕ) (number : ℕ) (kind : ReadKind) → IsFirstRefused (text_names request) configs file number kind →
-      IsVerdict request own configs Refused (faulty_text file number (read_kind_name kind))
-  no_network : (all : List Configuration) (refusal : NetRefusal) (status : Status) → ReadsTexts configs all → Refuses refusal all →
-      refusal_status refusal ≡ Some status → IsVerdict request own configs status (network_text refusal)
-  off_start : (net : Network) (router : ℕ) (config : Configuration) → GiveNetwork configs net → NeedsStart request → IsLowestOffStart net router →
-      HasConfiguration net router config → IsVerdict request own configs Refused (off_start_text config.name)
-  of_command : (net : Network) (status : Status) (text : List ℕ) → GiveNetwork configs net → (NeedsStart request → IsAtStart net) →
-      IsCommandVerdict request (record { own = own; configs = configs; net = net }) status text → IsVerdict request own configs status text
+pub data IsVerdict (request : Request) (texts : GivenTexts) : Status → List ℕ → Type 0 where
+  faulty_configuration : (file : List ℕ) (number : ℕ) (kind : ReadKind) → IsFirstRefused (line_fault number kind) (text_names request) texts.configs file →
+      IsVerdict request texts Refused (faulty_text file number (read_kind_name kind))
+  no_network : (all : List Configuration) (refusal : NetRefusal) (status : Status) → ReadsTexts texts.configs all → Refuses refusal all →
+      refusal_status refusal ≡ Some status → IsVerdict request texts status (network_text refusal)
+  off_start : (net : Network) (router : ℕ) (config : Configuration) → GiveNetwork texts.configs net → NeedsStart request → IsLowestOffStart net router →
+      HasConfiguration net router config → IsVerdict request texts Refused (off_start_text config.name)
+  of_command : (net : Network) (status : Status) (text : List ℕ) → GiveNetwork texts.configs net → (NeedsStart request → IsAtStart net) →
+      IsCommandVerdict request (input_of texts net) status text → IsVerdict request texts status text

@@ -10,6 +10,7 @@ ghost use Rattle.net_model.specs.RouterNames.{names_of};
 ghost use Rattle.rib_mix.specs.Mixture.{migration_of};
 ghost use Rattle.migrate_cli.specs.steps.Faults.{NamesRouters};
 ghost use Rattle.migrate_cli.specs.CheckVerdict.{IsCheckVerdict, IsOrderVerdict, IsWavesVerdict};
+ghost use Rattle.migrate_cli.specs.Reading.{named_text};
 
 use crate::answer::{Answer, refuse};
 use crate::files::FILE_MOST;
@@ -35,7 +36,7 @@ pub fn judge_check(
 ) -> Result<Answer, OutOfMemory>
     requires short { length text.now ≤ FILE_MOST }
     requires some { 0 < length net.now }
-    ensures { IfOk result (λ answer. IsCheckVerdict file.now text.now net.now answer.status answer.text) }
+    ensures { IfOk result (λ answer. IsCheckVerdict (named_text file.now text.now) net.now answer.status answer.text) }
 {
     let read = match read_waves(alloc, net, text.as_slice()) {
         Ok(read) => read,

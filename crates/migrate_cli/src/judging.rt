@@ -3,7 +3,7 @@ ghost use Rattle.net_model.specs.OffStarts.{IsLowestOffStart};
 ghost use Rattle.net_model.specs.declared.refusal.NetRefusal.{NetRefusal};
 ghost use Rattle.sample_network.specs.SampleTexts.{sample_text};
 ghost use Rattle.migrate_words.specs.Requests.{IsInRange, request_of, sample};
-ghost use Rattle.migrate_cli.specs.CommandFiles.{NeedsStart, ReadsFiles, config_texts, files_of, own_files, own_texts, text_names};
+ghost use Rattle.migrate_cli.specs.CommandFiles.{NeedsStart, ReadsFiles, config_texts, files_of, own_files, own_texts, text_names, given_texts};
 ghost use Rattle.migrate_cli.specs.Configurations.{GiveNetwork, IsAtStart};
 ghost use Rattle.migrate_cli.specs.Reading.{AreShort};
 ghost use Rattle.migrate_cli.specs.RefusalStatus.{refusal_status};
@@ -27,7 +27,7 @@ pub fn judge(alloc: Global, command: &Command<'_>, texts: &[Bytes]) -> Result<An
     requires range { IsInRange (request_of command.now) }
     requires short { AreShort (files_of (request_of command.now)) texts.now }
     ensures { IfOk result (λ answer. let request = request_of command.now in
-        IsVerdict request (own_texts request texts.now) (config_texts request texts.now) answer.status answer.text) }
+        IsVerdict request (given_texts (own_texts request texts.now) (config_texts request texts.now)) answer.status answer.text) }
 {
     match command {
         Command::Sample { routers } => judge_made(alloc, *routers),
@@ -38,7 +38,7 @@ pub fn judge(alloc: Global, command: &Command<'_>, texts: &[Bytes]) -> Result<An
 /// The answer of `sample` to the text that is made of so many routers.
 fn judge_made(alloc: Global, routers: u32) -> Result<Answer, OutOfMemory>
     requires { IsInRange (sample routers) }
-    ensures { IfOk result (λ answer. IsVerdict (sample routers) [] (sample_text routers ∷ []) answer.status answer.text) }
+    ensures { IfOk result (λ answer. IsVerdict (sample routers) (given_texts [] (sample_text routers ∷ [])) answer.status answer.text) }
 {
     let text = sample_text(alloc, routers)?;
     judge_texts(alloc, &Command::Sample { routers }, &[], &[text])
@@ -50,7 +50,7 @@ fn judge_read(alloc: Global, command: &Command<'_>, texts: &[Bytes]) -> Result<A
     requires range { IsInRange (request_of command.now) }
     requires short { AreShort (files_of (request_of command.now)) texts.now }
     ensures { IfOk result (λ answer. let request = request_of command.now in
-        IsVerdict request (own_texts request texts.now) (config_texts request texts.now) answer.status answer.text) }
+        IsVerdict request (given_texts (own_texts request texts.now) (config_texts request texts.now)) answer.status answer.text) }
 {
     let number = text_names(command).len();
     let (own, configs) = texts.split_at(texts.len() - number);
@@ -68,7 +68,7 @@ fn judge_texts(
     requires own { AreShort (own_files (request_of command.now)) own.now }
     requires each { length (text_names (request_of command.now)) ≡ length texts.now }
     requires short { All (λ text. length text ≤ FILE_MOST) texts.now }
-    ensures { IfOk result (λ answer. IsVerdict (request_of command.now) own.now texts.now answer.status answer.text) }
+    ensures { IfOk result (λ answer. IsVerdict (request_of command.now) (given_texts own.now texts.now) answer.status answer.text) }
 {
     let configs = match read_all(alloc, text_names(command), texts) {
         Ok(configs) => configs,
@@ -120,7 +120,7 @@ fn judge_network(
     requires some { 0 < length net.now }
     requires own { AreShort (own_files (request_of command.now)) own.now }
     requires configs { All (λ text. length text ≤ FILE_MOST) configs.now }
-    ensures { IfOk result (λ answer. GiveNetwork configs.now net.now → IsVerdict (request_of command.now) own.now configs.now answer.status answer.text) }
+    ensures { IfOk result (λ answer. GiveNetwork configs.now net.now → IsVerdict (request_of command.now) (given_texts own.now configs.now) answer.status answer.text) }
 {
     match off_start(command, net) {
         Some(router) => {

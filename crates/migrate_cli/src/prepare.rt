@@ -1,7 +1,8 @@
 ghost use Rattle.std.specs.Prelude.{◌≡◌, ◌≤◌, ◌++◌, All, IfOk, OnOk, length};
 ghost use Rattle.net_addr.specs.JoinedLines.{is_of_whole_lines};
 ghost use Rattle.isis_writer.specs.PreparedConfigurations.{prepared_texts, with_last_feed};
-ghost use Rattle.migrate_cli.specs.PrepareVerdict.{DesignAnswer, IsPrepareVerdict};
+ghost use Rattle.migrate_cli.specs.PrepareVerdict.{DesignAnswer, IsPrepareVerdict, configured};
+ghost use Rattle.migrate_cli.specs.Reading.{named_text};
 
 use crate::answer::Answer;
 use crate::files::FILE_MOST;
@@ -23,7 +24,7 @@ pub fn judge_prepare(
     net: &Net,
 ) -> Result<Answer, OutOfMemory>
     requires { All (λ text. length text ≤ FILE_MOST) configs.now }
-    ensures { IfOk result (λ answer. IsPrepareVerdict file.now design.now configs.now net.now answer.status answer.text) }
+    ensures { IfOk result (λ answer. IsPrepareVerdict (named_text file.now design.now) (configured configs.now net.now) answer.status answer.text) }
 {
     let design = match read_design(alloc, design.as_slice()) {
         Ok(design) => design,

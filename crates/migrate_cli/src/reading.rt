@@ -1,6 +1,6 @@
 ghost use Rattle.std.specs.Prelude.{◌≡◌, ◌+◌, ◌≤◌, ℕ, All, List, [], length, map, IfOk, IfErr, OnOk};
 ghost use Rattle.migrate_cli.specs.steps.FilesRead.{file_of};
-ghost use Rattle.migrate_cli.specs.Reading.{IsReadOf, IsShort, counted};
+ghost use Rattle.migrate_cli.specs.Reading.{IsReadOf, IsShort, counted, to_read};
 ghost use Rattle.migrate_cli.specs.steps.Stops.{CountsFaults, HasAsked, HasRead, IsNextText, StopsAlone, StopsAt};
 
 use crate::files::{FILE_MOST, Wanted};
@@ -126,7 +126,7 @@ pub fn read_texts<'a, F: Files>(
     files: &mut F,
 ) -> Result<Texts, Stop<'a>>
     requires { All (λ file. file.most ≤ FILE_MOST) wanted.now }
-    ensures read { HasRead (F.content files.old) (map file_of wanted.now) (F.asked files.old) (F.asked files.new) result }
+    ensures read { HasRead (to_read (F.content files.old) (map file_of wanted.now)) (F.asked files.old) (F.asked files.new) result }
     ensures faults { CountsFaults result (F.faults files.old) (F.faults files.new) }
 {
     let mut texts = Texts::new(alloc);

@@ -1,6 +1,7 @@
 ghost use Rattle.std.specs.Prelude.{◌≡◌, ◌<◌, ◌≤◌, IfOk, length};
 ghost use Rattle.order_core.specs.Rankings.{IsRanking};
-ghost use Rattle.migrate_cli.specs.ReplayVerdict.{AreNext, IsJournalVerdict, IsReplayVerdict};
+ghost use Rattle.migrate_cli.specs.ReplayVerdict.{AreNext, IsJournalVerdict, IsReplayVerdict, journal_of};
+ghost use Rattle.migrate_cli.specs.Reading.{named_text};
 
 use crate::answer::{Answer, refuse};
 use crate::files::FILE_MOST;
@@ -22,7 +23,7 @@ pub fn judge_replay(
 ) -> Result<Answer, OutOfMemory>
     requires short { length order.now ≤ FILE_MOST }
     requires some { 0 < length net.now }
-    ensures { IfOk result (λ answer. IsReplayVerdict file.now order.now journal.now net.now answer.status answer.text) }
+    ensures { IfOk result (λ answer. IsReplayVerdict (named_text file.now order.now) (journal_of journal.now net.now) answer.status answer.text) }
 {
     let waves = match read_waves(alloc, net, order.as_slice()) {
         Ok(file) => file.waves,
@@ -43,7 +44,7 @@ fn judge_journal(
     journal: &Bytes,
 ) -> Result<Answer, OutOfMemory>
     requires { IsRanking (length net.now) ranks.now }
-    ensures { IfOk result (λ answer. IsJournalVerdict net.now ranks.now journal.now answer.status answer.text) }
+    ensures { IfOk result (λ answer. IsJournalVerdict (journal_of journal.now net.now) ranks.now answer.status answer.text) }
 {
     let mut done = vec![in alloc; 0; net.routers() as usize]?;
     judge_counting(alloc, net, ranks, journal, &mut done)
@@ -59,7 +60,7 @@ fn judge_counting(
 ) -> Result<Answer, OutOfMemory>
     requires ranking { IsRanking (length net.now) ranks.now }
     requires counts { length done.old ≡ length net.now }
-    ensures { IfOk result (λ answer. IsJournalVerdict net.now ranks.now journal.now answer.status answer.text) }
+    ensures { IfOk result (λ answer. IsJournalVerdict (journal_of journal.now net.now) ranks.now answer.status answer.text) }
 {
     match replay(net, ranks, journal.as_slice(), done) {
         Place::Reached(made) => {

@@ -2,7 +2,7 @@ ghost use Rattle.std.specs.Prelude.{◌≡◌, ◌<◌, IfOk, length};
 ghost use Rattle.order_search.specs.Trees.{branch_count, branches_at};
 ghost use Rattle.migrate_cli.specs.steps.PlannedAnswers.{IsTellable, plan_status};
 ghost use Rattle.migrate_cli.specs.steps.SampleAnswers.{TellsOfPlan};
-ghost use Rattle.migrate_cli.specs.SampleVerdict.{IsSampleVerdict, SumsUp};
+ghost use Rattle.migrate_cli.specs.SampleVerdict.{IsSampleVerdict, SumsUp, planned_waves};
 
 use crate::answer::Answer;
 use crate::originated::count_originated;
@@ -54,7 +54,7 @@ fn sum_up(
 ) -> Result<Answer, OutOfMemory>
     requires { length waves.now ≡ length net.now }
     ensures status { IfOk result (λ answer. answer.status ≡ Status.Done) }
-    ensures text { IfOk result (λ answer. SumsUp net.now routers waves.now trail.now answer.text) }
+    ensures text { IfOk result (λ answer. SumsUp net.now (planned_waves routers waves.now trail.now) answer.text) }
 {
     let prefixes = count_originated(alloc, net)?;
     let branches = count_branches(trail);

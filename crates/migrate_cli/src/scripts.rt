@@ -1,5 +1,6 @@
 ghost use Rattle.std.specs.Prelude.{◌<◌, ◌≤◌, IfOk, length};
 ghost use Rattle.migrate_cli.specs.ScriptsVerdict.{IsScriptsVerdict};
+ghost use Rattle.migrate_cli.specs.Reading.{named_text};
 
 use crate::answer::{Answer, refuse};
 use crate::files::FILE_MOST;
@@ -19,7 +20,7 @@ pub fn judge_scripts(
 ) -> Result<Answer, OutOfMemory>
     requires short { length order.now ≤ FILE_MOST }
     requires some { 0 < length net.now }
-    ensures { IfOk result (λ answer. IsScriptsVerdict file.now order.now net.now answer.status answer.text) }
+    ensures { IfOk result (λ answer. IsScriptsVerdict (named_text file.now order.now) net.now answer.status answer.text) }
 {
     let read = match read_waves(alloc, net, order.as_slice()) {
         Ok(read) => read,

@@ -1,5 +1,5 @@
 -- What is printed of a journal.
-use Rattle.std.specs.Prelude.{ℕ, zero, suc, List, [], ◌∷◌, ◌++◌, codes, decimal, Option, Some, None, slice_index_or}
+use Rattle.std.specs.Prelude.{ℕ, ◌*◌, zero, suc, List, [], ◌∷◌, ◌++◌, codes, decimal, Option, Some, None, slice_index_or}
 use Rattle.printed_lines.specs.Texts.{line}
 use Rattle.state_replay.specs.Halves.{half_number}
 use Rattle.state_replay.specs.declared.half.Half.{Half}
@@ -24,7 +24,7 @@ abbrev pub or_done : List ℕ → List ℕ
 or_done [] = line (codes "done") []
 or_done (byte ∷ more) = byte ∷ more
 
--- how many of all changes are made, and which may come next
-abbrev pub reached_text : List (List ℕ) → ℕ → ℕ → List (Option Half) → ℕ → List ℕ
-reached_text names made all nexts routers =
-    line (codes "at") (decimal made ∷ codes "of" ∷ decimal all ∷ []) ++ or_done (next_texts names nexts routers)
+-- how many of all changes are made, two for each router, and which may come next
+abbrev pub reached_text : List (List ℕ) → ℕ → List (Option Half) → ℕ → List ℕ
+reached_text names made nexts routers =
+    line (codes "at") (decimal made ∷ codes "of" ∷ decimal (2 * routers) ∷ []) ++ or_done (next_texts names nexts routers)

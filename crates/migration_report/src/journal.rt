@@ -1,4 +1,4 @@
-ghost use Rattle.std.specs.Prelude.{◌≡◌, ◌<◌, ◌*◌, ◌++◌, IfOk, length};
+ghost use Rattle.std.specs.Prelude.{◌≡◌, ◌<◌, ◌++◌, IfOk, length};
 ghost use Rattle.net_model.specs.RouterNames.{names_of};
 ghost use Rattle.printed_lines.specs.Words.{router_word};
 ghost use Rattle.migration_report.specs.JournalTexts.{departs_text, next_text, next_texts, or_done, reached_text};
@@ -28,7 +28,7 @@ pub fn reached_text(
     nexts: &[Option<Half>],
 ) -> Result<Bytes, AllocError>
     requires { length nexts.now ≡ length net.now }
-    ensures { IfOk result (λ text. text ≡ reached_text (names_of net.now) made (2 * length net.now) nexts.now (length net.now)) }
+    ensures { IfOk result (λ text. text ≡ reached_text (names_of net.now) made nexts.now (length net.now)) }
 {
     let line = LineBuilder::start(alloc, b"at")?;
     let line = line.number(u64::from(made))?.word(b"of")?;

@@ -3,14 +3,13 @@ use Rattle.std.proofs.Common.{ℕ, ◌<◌, List, [], length}
 use Rattle.net_model.specs.Refusals.{IsNetwork}
 use Rattle.net_model.specs.RouterNames.{names_of}
 use Rattle.igp_theory.specs.Migrations.{Migration}
-use Rattle.igp_theory.specs.Waves.{AreSeamlessWaves}
 use Rattle.order_core.specs.Pairs.{Pair}
 use Rattle.order_search.specs.Answers.{AreFoundWaves, IsFound}
 use Rattle.order_search.specs.Trees.{branch_count}
 use Rattle.order_search.specs.declared.found.Found.{Found}
 use Rattle.order_search.specs.declared.found.Found.TheVariants.{Waves, Refuted, Spent}
 use Rattle.order_search.specs.declared.tree.Node.{Node}
-use Rattle.plan_theory.specs.WavesMeaning.{IsPickedFault, waves_meaning}
+use Rattle.plan_theory.specs.WavesMeaning.{waves_meaning}
 use Rattle.planned_texts.specs.Chains.{IsTaggedChain}
 use Rattle.planned_texts.specs.PlannedTexts.{IsPrintable, planned_text}
 use Rattle.planned_texts.specs.ReadingBack.{HasVerdict, ReadsAsSafeWaves, FoundReadsBack}
@@ -31,25 +30,25 @@ use Rattle.step_scripts.proofs.WaveFileLaws.{no_fault, one_wave_list}
 module _ (move : Migration) (budget : ℕ) where
   pub plan_printable : (found : Found) → IsFound (waves_meaning move) budget found → IsPrintable move.net found
   plan_printable (Waves ranks pairs chain trail) is = record {
-    each = found_each move (AreSeamlessWaves move) (IsPickedFault move) budget ranks pairs chain trail is;
-    one_of_each = found_one_of_each move (AreSeamlessWaves move) (IsPickedFault move) budget ranks pairs chain trail is;
+    each = found_each move budget ranks pairs chain trail is;
+    one_of_each = found_one_of_each move budget ranks pairs chain trail is;
   }
   plan_printable (Refuted tree) is =
-      nodes_below move [] tree (refuted_fill move (AreSeamlessWaves move) (IsPickedFault move) budget tree is)
+      nodes_below move [] tree (refuted_fill move budget tree is)
   plan_printable (Spent tree) is =
-      nodes_below move [] tree (spent_fill move (AreSeamlessWaves move) (IsPickedFault move) budget tree is)
+      nodes_below move [] tree (spent_fill move budget tree is)
 
   pub chain_tagged : (ranks : List ℕ) (pairs : List Pair) (chain : List ℕ) (trail : List Node) →
       AreFoundWaves (waves_meaning move) budget ranks pairs chain trail → IsTaggedChain move chain
   chain_tagged ranks pairs chain trail is =
-      found_tagged move (AreSeamlessWaves move) (IsPickedFault move) budget ranks pairs chain trail is
+      found_tagged move budget ranks pairs chain trail is
 
   module _ (network : IsNetwork move.net) (some : 0 < length move.net) where
     waves_read : (ranks : List ℕ) (pairs : List Pair) (chain : List ℕ) (trail : List Node) →
         AreFoundWaves (waves_meaning move) budget ranks pairs chain trail →
         ReadsAsSafeWaves move (waves_text (names_of move.net) ranks chain) ranks
     waves_read ranks pairs chain trail is =
-        let each = found_one_of_each move (AreSeamlessWaves move) (IsPickedFault move) budget ranks pairs chain trail is in
+        let each = found_one_of_each move budget ranks pairs chain trail is in
         let names : NamesWaves move.net (waves_text (names_of move.net) ranks chain) Two ranks =
         waves_read_back move.net ranks chain network some is.is_good.waves each in
         let text : List ℕ = waves_text (names_of move.net) ranks chain in
@@ -68,7 +67,7 @@ module _ (move : Migration) (budget : ℕ) where
     plan_reads_back (Waves ranks pairs chain trail) is = waves_read ranks pairs chain trail is
     plan_reads_back (Refuted tree) is =
         has_verdict (tree_text (names_of move.net) tree) (Closed (branch_count tree) (leaf_count tree))
-        (refutation_closes move (AreSeamlessWaves move) (IsPickedFault move) budget network tree is)
+        (refutation_closes move budget network tree is)
     plan_reads_back (Spent tree) is =
         has_verdict (tree_text (names_of move.net) tree) (Unfinished (open_count tree))
-        (spent_stays_open move (AreSeamlessWaves move) (IsPickedFault move) budget network tree is)
+        (spent_stays_open move budget network tree is)

@@ -1,25 +1,19 @@
 -- The nodes of a tree whose branches are loops of a network: they are of its routers, and they read back.
-use Rattle.std.proofs.Common.{ℕ, ◌<◌, ◌≤◌, List, [], ◌∷◌, ◌++◌, length, All, arith, ap, subst, sym}
-use Rattle.std.proofs.lemmas.List.Elements.{All-append, All-cons, All-contains, All-head, All-map, All-nil, All-push, All-tail, All-weaker}
-use Rattle.igp_theory.specs.Forwarding.{Steps}
-use Rattle.igp_theory.specs.Loops.{EachToNext, IsLoop, IsTag, IsTagOf}
+use Rattle.std.proofs.Common.{ℕ, ◌<◌, ◌≤◌, List, [], ◌∷◌, ◌++◌, length, All, Contains, arith, ap, subst, sym}
+use Rattle.std.proofs.lemmas.List.Elements.{All-append, All-cons, All-contains, All-contains_itself, All-head, All-map, All-nil, All-push, All-tail, All-weaker}
+use Rattle.igp_theory.specs.Loops.{IsLoop}
 use Rattle.igp_theory.specs.Migrations.{Migration}
-use Rattle.igp_theory.specs.declared.phase.Phase.TheVariants.{Old, New}
+use Rattle.igp_theory.proofs.LoopLaws.{tag_inside}
+use Rattle.igp_theory.proofs.Rings.{around_at}
+use Rattle.igp_theory.proofs.Tags.{IsTagTo}
 use Rattle.order_core.specs.Pairs.{Pair, AreBelow, IsPath}
 use Rattle.order_core.specs.Turns.{child_pairs}
-use Rattle.order_core.specs.declared.turn.Tag.{Tag}
-use Rattle.order_core.specs.declared.turn.Tag.TheVariants as tag
 use Rattle.order_core.specs.declared.turn.Turn.{Turn}
-use Rattle.order_search.specs.Meanings.{Good, Meaning, Picked}
 use Rattle.order_search.specs.Trees.{Fill, IsCycle, IsTreeNode, NodeFact, Place, places_below}
 use Rattle.order_search.specs.declared.tree.Node.{Node}
 use Rattle.order_search.specs.declared.tree.Node.TheVariants.{Branch, Leaf, Unvisited}
 use Rattle.refutation_check.specs.TreeTexts.{IsPrintedNode, NodeBelow}
 use Rattle.refutation_check.proofs.Leaving.{children_below}
-
--- the meaning of a search for a good ranking over the loops of a network
-abbrev pub over_loops : Migration → Good → Picked → Meaning
-over_loops move good picked = record { good = good; real = IsLoop move; picked = picked; size = length move.net; base = [] }
 
 -- what holds of a node at each place where Q does, and keeps Q at the places below it, holds of all nodes
 pub Fill-each : (P : NodeFact) (Q : Place → Type 0) (R : Node → Type 0) →
@@ -34,27 +28,11 @@ Fill-each P Q R each (place ∷ places) left (node ∷ nodes) fill here =
 
 -- The routers of a loop
 
--- whoever has a tag is a router of the network
-tag_below : (move : Migration) (u a h : ℕ) (t : Tag) →
-    IsTagOf t (Steps move u Old a h) (Steps move u New a h) → u < length move.net
-tag_below move u a h tag.Old is = is.0.must.router
-tag_below move u a h tag.New is = is.1.must.router
-tag_below move u a h tag.Both is = is.0.must.router
-
-ring_below : (move : Migration) (a : ℕ) (first : Turn) (turns : List Turn) →
-    EachToNext (λ (r s : Turn). IsTag move a r s.router) first turns → All (λ (t : Turn). t.router < length move.net) turns
-ring_below move a first [] each = All-nil (λ (t : Turn). t.router < length move.net)
-ring_below move a first (r ∷ []) each =
-    All-cons (λ (t : Turn). t.router < length move.net) r [] (tag_below move r.router a first.router r.tag each.steps)
-    (All-nil (λ (t : Turn). t.router < length move.net))
-ring_below move a first (r ∷ s ∷ rest) each =
-    All-cons (λ (t : Turn). t.router < length move.net) r (s ∷ rest) (tag_below move r.router a s.router r.tag each.0.steps)
-    (ring_below move a first (s ∷ rest) each.1)
-
-pub loop_below : (move : Migration) (a : ℕ) (turns : List Turn) → IsLoop move a turns →
-    All (λ (t : Turn). t.router < length move.net) turns
-loop_below move a [] loop = All-nil (λ (t : Turn). t.router < length move.net)
-loop_below move a (r ∷ rest) loop = ring_below move a r (r ∷ rest) loop.tags
+loop_below : (move : Migration) (a : ℕ) (turns : List Turn) → IsLoop move a turns → All (λ (t : Turn). t.router < length move.net) turns
+loop_below move a turns is =
+    All-weaker (Contains turns) (λ (t : Turn). t.router < length move.net)
+    (λ t among. let at = around_at (IsTagTo move a) turns t is.tags among in tag_inside move t.router a at.0.router t.tag at.1.steps) turns
+    (All-contains_itself turns)
 
 -- The routers of a cycle
 

@@ -1,11 +1,11 @@
 -- The texts of the trees that a search makes: a closed tree where it refutes, an unfinished one where it was stopped.
-use Rattle.std.proofs.Common.{◌≡◌, ℕ, suc, ◌+◌, ◌<◌, List, [], ◌∷◌, ◌++◌, length, replicate, arith, refl, sym, subst}
+use Rattle.std.proofs.Common.{ℕ, suc, ◌<◌, List, [], ◌∷◌, ◌++◌, length, replicate, arith, refl, sym, subst}
 use Rattle.net_model.specs.Refusals.{IsNetwork}
 use Rattle.net_model.specs.RouterNames.{names_of}
 use Rattle.igp_theory.specs.Loops.{IsLoop}
 use Rattle.igp_theory.specs.Migrations.{Migration}
 use Rattle.order_search.specs.Answers.{IsFoundNode, IsRefutation, IsSpent}
-use Rattle.order_search.specs.Meanings.{Good, Picked}
+use Rattle.plan_theory.specs.WavesMeaning.{waves_meaning}
 use Rattle.order_search.specs.Trees.{Fill, IsTreeNode, Place, Real, branch_count}
 use Rattle.order_search.proofs.Fills.{Fill-append, Fill-weaker}
 use Rattle.order_search.specs.declared.tree.Node.{Node}
@@ -13,7 +13,8 @@ use Rattle.order_search.specs.declared.tree.Node.TheVariants.{Unvisited}
 use Rattle.refutation_check.specs.TreeTexts.{tree_text}
 use Rattle.refutation_check.specs.Verdicts.{IsClosedText, IsTreeText, IsUnfinishedText, leaf_count, open_count}
 use Rattle.refutation_check.proofs.PrintedTrees.{trees_read_back}
-use Rattle.planned_texts.proofs.TreeNodes.{nodes_below, nodes_read, over_loops}
+use Rattle.refutation_check.proofs.ReadingFacts.{open_count-append}
+use Rattle.planned_texts.proofs.TreeNodes.{nodes_below, nodes_read}
 
 -- Unvisited places
 
@@ -22,27 +23,23 @@ open_places : (real : Real) (places : List Place) → Fill (IsTreeNode real) pla
 open_places real [] = refl
 open_places real (place ∷ places) = (tt, open_places real places)
 
-open_count-append : (nodes more : List Node) → open_count (nodes ++ more) ≡ open_count nodes + open_count more
-open_count-append [] more = omega arith
-open_count-append (node ∷ nodes) more = omega (arith, open_count-append nodes more)
-
 -- the last of some unvisited nodes is open
 open_some : (nodes : List Node) (n : ℕ) → 0 < open_count (nodes ++ replicate (suc n) Unvisited)
 open_some nodes n = omega (arith, open_count-append nodes (replicate (suc n) Unvisited))
 
-module _ (move : Migration) (good : Good) (picked : Picked) (budget : ℕ) where
-  found_fill : (places left : List Place) (nodes : List Node) → Fill (IsFoundNode (over_loops move good picked)) places nodes left →
+module _ (move : Migration) (budget : ℕ) where
+  found_fill : (places left : List Place) (nodes : List Node) → Fill (IsFoundNode (waves_meaning move)) places nodes left →
       Fill (IsTreeNode (IsLoop move)) places nodes left
   found_fill places left nodes fill =
-      Fill-weaker (IsFoundNode (over_loops move good picked)) (IsTreeNode (IsLoop move)) (λ place node is. is.is_node) places left nodes fill
+      Fill-weaker (IsFoundNode (waves_meaning move)) (IsTreeNode (IsLoop move)) (λ place node is. is.is_node) places left nodes fill
 
   -- the branches of a refutation are loops of the network
-  pub refuted_fill : (tree : List Node) → IsRefutation (over_loops move good picked) budget tree →
+  pub refuted_fill : (tree : List Node) → IsRefutation (waves_meaning move) budget tree →
       Fill (IsTreeNode (IsLoop move)) ([] ∷ []) tree []
   refuted_fill tree is = found_fill ([] ∷ []) [] tree is.closed.tree
 
   -- and so are those of a tree that was stopped
-  pub spent_fill : (tree : List Node) → IsSpent (over_loops move good picked) budget tree →
+  pub spent_fill : (tree : List Node) → IsSpent (waves_meaning move) budget tree →
       Fill (IsTreeNode (IsLoop move)) ([] ∷ []) tree []
   spent_fill tree is =
       let stopped = is.stopped in
@@ -61,7 +58,7 @@ module _ (move : Migration) (good : Good) (picked : Picked) (budget : ℕ) where
         record { lines = back.lines; text_is = back.text_is; right = record { said = back.said; fills = fill } }
 
     -- a refutation is a closed text
-    pub refutation_closes : (tree : List Node) → IsRefutation (over_loops move good picked) budget tree →
+    pub refutation_closes : (tree : List Node) → IsRefutation (waves_meaning move) budget tree →
         IsClosedText move (tree_text (names_of move.net) tree) (branch_count tree) (leaf_count tree)
     refutation_closes tree is = record {
       nodes = tree;
@@ -72,7 +69,7 @@ module _ (move : Migration) (good : Good) (picked : Picked) (budget : ℕ) where
     }
 
     -- a tree that was stopped is an unfinished text
-    pub spent_stays_open : (tree : List Node) → IsSpent (over_loops move good picked) budget tree →
+    pub spent_stays_open : (tree : List Node) → IsSpent (waves_meaning move) budget tree →
         IsUnfinishedText move (tree_text (names_of move.net) tree) (open_count tree)
     spent_stays_open tree is = record {
       nodes = tree;

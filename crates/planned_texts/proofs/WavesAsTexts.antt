@@ -1,7 +1,6 @@
 -- The waves that a search finds: their chain has one router of each, and each two neighbours of it are tagged in one loop.
-use Rattle.std.proofs.Common.{◌≡◌, ℕ, zero, suc, ◌+◌, ◌<◌, inl, inr, List, [], ◌∷◌, ◌++◌, length, get_or, map, All, Contains, arith}
-use Rattle.std.proofs.Common.{subst, sym}
-use Rattle.std.specs.List.{AllZip, range_with_len}
+use Rattle.std.proofs.Common.{◌≡◌, ℕ, suc, ◌<◌, inl, inr, List, [], ◌∷◌, ◌++◌, length, get_or, All, Contains, arith}
+use Rattle.std.proofs.Common.{subst, sym, ◌∙◌}
 use Rattle.std.proofs.lemmas.Bool.{cases_lt}
 use Rattle.std.proofs.lemmas.List.Elements.{All-contains, Contains-push_cases}
 use Rattle.order_core.specs.Pairs.{Pair, AreBelow}
@@ -10,31 +9,20 @@ use Rattle.order_core.specs.declared.turn.Turn.{Turn}
 use Rattle.order_core.proofs.WaveLists.{wave_routers}
 use Rattle.igp_theory.specs.Migrations.{Migration}
 use Rattle.order_search.specs.Answers.{AreFoundWaves, IsFoundNode}
-use Rattle.order_search.specs.Meanings.{Good, Meaning, Picked}
+use Rattle.order_search.specs.Meanings.{Meaning}
 use Rattle.order_search.specs.Places.{LeadsToRanking}
+use Rattle.plan_theory.specs.WavesMeaning.{waves_meaning}
 use Rattle.order_search.specs.Trees.{Place, Real}
 use Rattle.order_search.specs.declared.tree.Node.{Node}
 use Rattle.order_search.specs.declared.tree.Node.TheVariants.{Branch, Leaf, Unvisited}
 use Rattle.order_search.specs.Layers.{IsChain}
-use Rattle.step_scripts.specs.WavesTexts.{AreOneOfEach}
+use Rattle.step_scripts.specs.WavesTexts.{AreOneOfEach, waves_in}
+use Rattle.step_scripts.proofs.TextFacts.{wave_there, waves_long}
+use Rattle.step_scripts.proofs.Zips.{zip_from}
 use Rattle.planned_texts.specs.Chains.{AreTaggedInLoop, IsTaggedChain}
-use Rattle.planned_texts.proofs.TreeNodes.{Fill-each, over_loops}
+use Rattle.planned_texts.proofs.TreeNodes.{Fill-each}
 
 -- One router of each wave
-
--- what is related place by place
-zip_from : (R : List ℕ → ℕ → Type 0) (f : ℕ → List ℕ) (n a : ℕ) (chain : List ℕ) → length chain ≡ n →
-    ((k : ℕ) → k < n → R (f (a + k)) (get_or chain k 0)) → AllZip R (map f (range_with_len a n)) chain
-zip_from R f zero a [] long each = tt
-zip_from R f zero a (u ∷ chain) long each = absurd (omega (arith, long))
-zip_from R f (suc n) a [] long each = absurd (omega (arith, long))
-zip_from R f (suc n) a (u ∷ chain) long each =
-    let here : a + 0 ≡ a = omega arith in
-    let next : (k : ℕ) → a + suc k ≡ (a + 1) + k = λ k. omega arith in (
-      subst (λ (w : ℕ). R (f w) u) here (each 0 (omega arith)),
-      zip_from R f n (a + 1) chain (omega (arith, long))
-          (λ k within. subst (λ (w : ℕ). R (f w) (get_or chain k 0)) (next k) (each (suc k) (omega (arith, within)))),
-    )
 
 module _ (n : ℕ) (pairs : List Pair) (ranks chain : List ℕ) (long : length ranks ≡ n) (below : AreBelow n pairs) (is : IsChain pairs ranks chain) where
   -- each router of a chain stands in its wave
@@ -53,9 +41,9 @@ module _ (n : ℕ) (pairs : List Pair) (ranks chain : List ℕ) (long : length r
   -- so it has one router of each wave
   pub chain_one_of_each : AreOneOfEach ranks chain
   chain_one_of_each =
-      let numbered : (k : ℕ) → 0 + k ≡ k = λ k. omega arith in
-      zip_from (λ (wave : List ℕ) (u : ℕ). Contains wave u) (wave_of ranks) (wave_count ranks) 0 chain is.one_each
-      (λ k within. subst (λ (w : ℕ). Contains (wave_of ranks w) (get_or chain k 0)) (sym (numbered k)) (in_wave k (omega (arith, within, is.one_each))))
+      zip_from (λ (wave : List ℕ) (u : ℕ). Contains wave u) (waves_in ranks) chain [] 0 (waves_long ranks ∙ sym is.one_each)
+      (λ k within. let lower : k < wave_count ranks = omega (arith, within, waves_long ranks) in
+      subst (λ (wave : List ℕ). Contains wave (get_or chain k 0)) (sym (wave_there ranks k lower)) (in_wave k (omega (arith, lower, is.one_each))))
 
 -- Branches of a trail
 
@@ -88,9 +76,9 @@ trail_branch m place ranks trail address turns leads has =
       | inr same ↦ cc
     ]
 
-module _ (move : Migration) (good : Good) (picked : Picked) where
+module _ (move : Migration) where
   module _ (budget : ℕ) (ranks : List ℕ) (pairs : List Pair) (chain : List ℕ) (trail : List Node)
-      (found : AreFoundWaves (over_loops move good picked) budget ranks pairs chain trail) where
+      (found : AreFoundWaves (waves_meaning move) budget ranks pairs chain trail) where
     pub found_one_of_each : AreOneOfEach ranks chain
     found_one_of_each =
         chain_one_of_each (length move.net) pairs ranks chain found.leads.stands.layered.layers.whole found.leads.stands.layered.below found.chained
@@ -105,7 +93,7 @@ module _ (move : Migration) (good : Good) (picked : Picked) where
       | inr turned ↦ record {
         address = turned.address;
         ring = turned.turns;
-        is_loop = trail_branch (over_loops move good picked) pairs ranks trail turned.address turned.turns found.leads turned.branch;
+        is_loop = trail_branch (waves_meaning move) pairs ranks trail turned.address turned.turns found.leads turned.branch;
         is_old = turned.old;
         is_new = turned.new;
       }

@@ -1,10 +1,11 @@
 -- A text has one verdict. Each verdict tells how far the lines are right, and two of them tell it alike: where one goes on, no line is wrong.
-use Rattle.std.proofs.Common.{◌≡◌, ℕ, ◌+◌, ◌<◌, List, [], ◌∷◌, ◌++◌, length, get_or, All, ⊎_elim, arith, refl, sym, ap, ◌∙◌}
-use Rattle.std.proofs.Common.{subst}
+use Rattle.std.proofs.Common.{◌≡◌, ℕ, suc, ◌+◌, ◌-◌, ◌<◌, List, [], ◌∷◌, ◌++◌, length, get_or, take, All, ⊎_elim, arith, refl, sym, ap, ◌∙◌}
+use Rattle.std.proofs.Common.{subst, length-append}
 use Rattle.std.specs.List.{AllZip}
 use Rattle.std.proofs.lemmas.Bool.{cases_lt}
-use Rattle.std.proofs.lemmas.List.{append-nil}
+use Rattle.std.proofs.lemmas.List.{append-nil, append_cancel_left}
 use Rattle.std.proofs.lemmas.List.Elements.{All-head, All-tail}
+use Rattle.std.proofs.Math.Seq.{take-append_seam, take-append-add}
 use Rattle.net_addr.specs.Addresses.{Block}
 use Rattle.net_addr.specs.Lines.{line_texts}
 use Rattle.net_model.specs.Network.{Connected}
@@ -30,47 +31,24 @@ use Rattle.refutation_check.specs.declared.verdict.WrongKind.TheVariants.{Form, 
 use Rattle.refutation_check.specs.steps.Rings.{next_at}
 use Rattle.refutation_check.proofs.BranchFacts.{one_target}
 use Rattle.refutation_check.proofs.RingPlaces.{around_at, round_from}
-use Rattle.refutation_check.proofs.SaidNodes.{form_of, one_node, one_zip, later_words, first_word}
+use Rattle.refutation_check.proofs.SaidNodes.{form_of, one_node, one_zip, later_words}
 
 -- Lists of lines
 
--- the longer front of a list begins with the shorter one and the line behind it
-record GoesOn (b1 : List (List ℕ)) (x : List ℕ) (b2 : List (List ℕ)) : Type 0 where
-  after : List (List ℕ)
-  is : b2 ≡ b1 ++ x ∷ after
-
--- a longer front goes on where the shorter one ends, and so some line stands there
-record HasMore (b1 rest b2 : List (List ℕ)) : Type 0 where
-  line : List ℕ
-  later : List (List ℕ)
-  rest_is : rest ≡ line ∷ later
-  goes : GoesOn b1 line b2
-
-goes_on : (b1 b2 r1 r2 : List (List ℕ)) → b1 ++ r1 ≡ b2 ++ r2 → length b1 < length b2 → HasMore b1 r1 b2
-goes_on [] [] r1 r2 e less = absurd (omega (arith, less))
-goes_on [] (y ∷ b2) r1 r2 e less = record { line = y; later = b2 ++ r2; rest_is = e; goes = record { after = b2; is = refl } }
-goes_on (z ∷ b1) [] r1 r2 e less = absurd (omega (arith, less))
-goes_on (z ∷ b1) (y ∷ b2) r1 r2 e less =
-    let more = goes_on b1 b2 r1 r2 (later_words z y (b1 ++ r1) (b2 ++ r2) e) (omega (arith, less)) in
-    record {
-      line = more.line;
-      later = more.later;
-      rest_is = more.rest_is;
-      goes = record {
-        after = more.goes.after;
-        is = ap (λ (l : List (List ℕ)). y ∷ l) more.goes.is
-            ∙ ap (λ (w : List ℕ). w ∷ (b1 ++ more.line ∷ more.goes.after)) (sym (first_word z y (b1 ++ r1) (b2 ++ r2) e));
-      };
-    }
+-- of two fronts of a list the longer one goes on as the list
+longer : (before : List (List ℕ)) (line : List ℕ) (after others rest : List (List ℕ)) → before ++ line ∷ after ≡ others ++ rest →
+    length before < length others → others ≡ before ++ line ∷ take (length others - length before - 1) after
+longer before line after others rest same lower =
+    let more : ℕ = length others - length before - 1 in
+    let long : length others ≡ length before + suc more = omega (arith, lower) in
+    sym (take-append_seam others rest) ∙ ap (take (length others)) (sym same) ∙ ap (λ k. take k (before ++ line ∷ after)) long
+    ∙ take-append-add before (line ∷ after) (suc more)
 
 -- fronts of one length are one, and so is what follows them
 same_front : (b1 b2 r1 r2 : List (List ℕ)) → b1 ++ r1 ≡ b2 ++ r2 → length b1 ≡ length b2 → (b1 ≡ b2) × (r1 ≡ r2)
-same_front [] [] r1 r2 e long = (refl, e)
-same_front [] (y ∷ b2) r1 r2 e long = absurd (omega (arith, long))
-same_front (z ∷ b1) [] r1 r2 e long = absurd (omega (arith, long))
-same_front (z ∷ b1) (y ∷ b2) r1 r2 e long =
-    let rest = same_front b1 b2 r1 r2 (later_words z y (b1 ++ r1) (b2 ++ r2) e) (omega (arith, long)) in
-    (ap (λ (w : List ℕ). w ∷ b1) (first_word z y (b1 ++ r1) (b2 ++ r2) e) ∙ ap (λ (l : List (List ℕ)). y ∷ l) rest.0, rest.1)
+same_front b1 b2 r1 r2 e long =
+    let fronts : b1 ≡ b2 = sym (take-append_seam b1 r1) ∙ ap (take (length b1)) e ∙ ap (λ k. take k (b2 ++ r2)) long ∙ take-append_seam b2 r2 in
+    (fronts, append_cancel_left b2 r1 r2 (ap (λ l. l ++ r1) (sym fronts) ∙ e))
 
 -- Places
 
@@ -81,18 +59,13 @@ one_left P [] (n ∷ nodes) l1 l2 f g = absurd f
 one_left P (p ∷ places) (n ∷ nodes) l1 l2 f g = one_left P (places_below p n ++ places) nodes l1 l2 f.1 g.1
 
 -- some nodes fill places, and further ones fill what they leave
-record FillsOn (P : NodeFact) (places : List Place) (front rest : List Node) (left : List Place) : Type 0 where
-  mid : List Place
-  first : Fill P places front mid
-  second : Fill P mid rest left
-
 fills_on : (P : NodeFact) (places : List Place) (front rest : List Node) (left : List Place) → Fill P places (front ++ rest) left →
-    FillsOn P places front rest left
-fills_on P places [] rest left f = record { mid = places; first = refl; second = f }
+    (mid : List Place) × Fill P places front mid × Fill P mid rest left
+fills_on P places [] rest left f = (places, refl, f)
 fills_on P [] (n ∷ front) rest left f = absurd f
 fills_on P (p ∷ places) (n ∷ front) rest left f =
     let more = fills_on P (places_below p n ++ places) front rest left f.1 in
-    record { mid = more.mid; first = (f.0, more.first); second = more.second }
+    (more.0, (f.0, more.1), more.2)
 
 -- items related to the items of a list and some more are parted alike
 record SaidParts {A B : Type 0} (R : A → B → Type 0) (xs ys : List A) (zs : List B) : Type 0 where
@@ -128,8 +101,6 @@ loop_must move a turns k turn loop within is =
 
 right_no_wrong : (move : Migration) → IsNetwork move.net → (place : Place) (node : Node) (kind : WrongKind) →
     IsRightNode move place node → WrongNode move place node kind → ⊥
-right_no_wrong move network place (Branch a turns) Form right w = w
-right_no_wrong move network place (Branch a turns) Router right w = w
 right_no_wrong move network place (Branch a turns) Address right w = first turns right.0
   where
     first : (ts : List Turn) → IsLoop move a ts → ⊥
@@ -143,14 +114,9 @@ right_no_wrong move network place (Branch a turns) Originator right w =
     must.away (subst (λ (p : Block). Connected move.net w.by_some.1.router p) (sym same) w.by_some.4)
 right_no_wrong move network place (Branch a turns) Step right w = w right.0.tags
 right_no_wrong move network place (Branch a turns) OneSided right w = w right.1
-right_no_wrong move network place (Branch a turns) NotAssumed right w = w
-right_no_wrong move network place (Leaf cycle) Form right w = w
-right_no_wrong move network place (Leaf cycle) Router right w = w
-right_no_wrong move network place (Leaf cycle) Address right w = w
-right_no_wrong move network place (Leaf cycle) Originator right w = w
-right_no_wrong move network place (Leaf cycle) Step right w = w
-right_no_wrong move network place (Leaf cycle) OneSided right w = w
+right_no_wrong move network place (Branch a turns) kind right w = w
 right_no_wrong move network place (Leaf cycle) NotAssumed right w = w (round_from place cycle right)
+right_no_wrong move network place (Leaf cycle) kind right w = w
 right_no_wrong move network place Unvisited kind right w = w
 
 -- nor have words that say it
@@ -164,11 +130,7 @@ module _ (move : Migration) (network : IsNetwork move.net) (place : Place) (word
   no_wrong_words : (kind : WrongKind) → WrongWords move place words kind → ⊥
   no_wrong_words Form w = w (form_of move.net words node says)
   no_wrong_words Router w = w node says
-  no_wrong_words Address w = no_wrong w.node Address w.says w.wrong
-  no_wrong_words Originator w = no_wrong w.node Originator w.says w.wrong
-  no_wrong_words Step w = no_wrong w.node Step w.says w.wrong
-  no_wrong_words OneSided w = no_wrong w.node OneSided w.says w.wrong
-  no_wrong_words NotAssumed w = no_wrong w.node NotAssumed w.says w.wrong
+  no_wrong_words kind w = no_wrong w.node kind w.says w.wrong
 
 -- a kind is told by its number
 abbrev by_number : List WrongKind
@@ -192,21 +154,47 @@ one_lowest P k l low least = one_kind k l (omega (arith, low.lowest l least.wron
 
 -- How far the lines are right
 
+-- some first lines, with their nodes, the places that these leave open, and the lines behind them
+record RightFront : Type 0 where
+  before : List (List ℕ)
+  rest : List (List ℕ)
+  nodes : List Node
+  left : List Place
+
+abbrev right_front : List (List ℕ) → List (List ℕ) → List Node → List Place → RightFront
+right_front before rest nodes left = record { before = before; rest = rest; nodes = nodes; left = left }
+
+-- no place is open, and no line is left
+abbrev IsEnded : List Place → List (List ℕ) → Type 0
+IsEnded [] [] = Unit {0}
+IsEnded [] (x ∷ rest) = ⊥
+IsEnded (p ∷ left) rest = ⊥
+
 module _ (move : Migration) (network : IsNetwork move.net) where
-  -- the verdict where some lines are right, with their nodes, so many of them, the places that they leave open and the lines behind them
-  abbrev Outcome : List Place → List (List ℕ) → List Node → ℕ → Verdict → Type 0
-  Outcome [] [] nodes count (Closed branches leaves) = All IsVisited nodes × (branches ≡ branch_count nodes) × (leaves ≡ leaf_count nodes)
-  Outcome [] [] nodes count (Unfinished unvisited) = (0 < unvisited) × (unvisited ≡ open_count nodes)
-  Outcome [] [] nodes count (Wrong line kind) = ⊥
-  Outcome [] (x ∷ rest) nodes count (Closed branches leaves) = ⊥
-  Outcome [] (x ∷ rest) nodes count (Unfinished unvisited) = ⊥
-  Outcome [] (x ∷ rest) nodes count (Wrong line kind) = (line ≡ count + 2) × (kind ≡ Form)
-  Outcome (p ∷ left) [] nodes count (Closed branches leaves) = ⊥
-  Outcome (p ∷ left) [] nodes count (Unfinished unvisited) = ⊥
-  Outcome (p ∷ left) [] nodes count (Wrong line kind) = (line ≡ count + 2) × (kind ≡ Form)
-  Outcome (p ∷ left) (x ∷ rest) nodes count (Closed branches leaves) = ⊥
-  Outcome (p ∷ left) (x ∷ rest) nodes count (Unfinished unvisited) = ⊥
-  Outcome (p ∷ left) (x ∷ rest) nodes count (Wrong line kind) = (line ≡ count + 2) × IsLowestKind (WrongWords move p (pieces_of x)) kind
+  -- why the first line of the rest is wrong, where places are open or lines left
+  abbrev IsWrongNext : List Place → List (List ℕ) → WrongKind → Type 0
+  IsWrongNext [] [] kind = ⊥
+  IsWrongNext [] (x ∷ rest) kind = kind ≡ Form
+  IsWrongNext (p ∷ left) [] kind = kind ≡ Form
+  IsWrongNext (p ∷ left) (x ∷ rest) kind = IsLowestKind (WrongWords move p (pieces_of x)) kind
+
+  -- the verdict where some first lines are right
+  abbrev Outcome : RightFront → Verdict → Type 0
+  Outcome s (Closed branches leaves) =
+      IsEnded s.left s.rest × All IsVisited s.nodes × (branches ≡ branch_count s.nodes) × (leaves ≡ leaf_count s.nodes)
+  Outcome s (Unfinished unvisited) = IsEnded s.left s.rest × (0 < unvisited) × (unvisited ≡ open_count s.nodes)
+  Outcome s (Wrong line kind) = (line ≡ length s.before + 2) × IsWrongNext s.left s.rest kind
+
+  ended_right : (left : List Place) (rest : List (List ℕ)) (kind : WrongKind) → IsEnded left rest → IsWrongNext left rest kind → ⊥
+  ended_right [] [] kind ended wrong = wrong
+  ended_right [] (x ∷ rest) kind ended wrong = ended
+  ended_right (p ∷ left) rest kind ended wrong = ended
+
+  one_wrong : (left : List Place) (rest : List (List ℕ)) (j k : WrongKind) → IsWrongNext left rest j → IsWrongNext left rest k → j ≡ k
+  one_wrong [] [] j k f g = absurd f
+  one_wrong [] (x ∷ rest) j k f g = f ∙ sym g
+  one_wrong (p ∷ left) [] j k f g = f ∙ sym g
+  one_wrong (p ∷ left) (x ∷ rest) j k f g = one_lowest (WrongWords move p (pieces_of x)) j k f g
 
   -- no closed tree has an unvisited place
   none_open : (nodes : List Node) → All IsVisited nodes → open_count nodes ≡ 0
@@ -215,151 +203,104 @@ module _ (move : Migration) (network : IsNetwork move.net) where
   none_open (Leaf cycle ∷ nodes) visited = omega (arith, none_open nodes (All-tail IsVisited (Leaf cycle) nodes visited))
   none_open (Unvisited ∷ nodes) visited = absurd (All-head IsVisited Unvisited nodes visited)
 
-  same_wrong : (l m : ℕ) (j k : WrongKind) → l ≡ m → j ≡ k → Wrong l j ≡ Wrong m k
-  same_wrong l m j k line kind = ap (λ (n : ℕ). Wrong n j) line ∙ ap (λ (x : WrongKind). Wrong m x) kind
-
-  one_outcome : (left : List Place) (rest : List (List ℕ)) (nodes : List Node) (count : ℕ) (one other : Verdict) →
-      Outcome left rest nodes count one → Outcome left rest nodes count other → one ≡ other
-  one_outcome [] [] nodes count (Closed b l) (Closed c m) f g =
-      ap (λ (n : ℕ). Closed n l) (f.1 ∙ sym g.1) ∙ ap (λ (n : ℕ). Closed c n) (f.2 ∙ sym g.2)
-  one_outcome [] [] nodes count (Closed b l) (Unfinished u) f g = absurd (omega (arith, none_open nodes f.0, g.0, g.1))
-  one_outcome [] [] nodes count (Closed b l) (Wrong n k) f g = absurd g
-  one_outcome [] [] nodes count (Unfinished u) (Closed c m) f g = absurd (omega (arith, none_open nodes g.0, f.0, f.1))
-  one_outcome [] [] nodes count (Unfinished u) (Unfinished v) f g = ap (λ (n : ℕ). Unfinished n) (f.1 ∙ sym g.1)
-  one_outcome [] [] nodes count (Unfinished u) (Wrong n k) f g = absurd g
-  one_outcome [] [] nodes count (Wrong n k) other f g = absurd f
-  one_outcome [] (x ∷ rest) nodes count (Closed b l) other f g = absurd f
-  one_outcome [] (x ∷ rest) nodes count (Unfinished u) other f g = absurd f
-  one_outcome [] (x ∷ rest) nodes count (Wrong n k) (Closed b l) f g = absurd g
-  one_outcome [] (x ∷ rest) nodes count (Wrong n k) (Unfinished u) f g = absurd g
-  one_outcome [] (x ∷ rest) nodes count (Wrong n k) (Wrong m j) f g = same_wrong n m k j (f.0 ∙ sym g.0) (f.1 ∙ sym g.1)
-  one_outcome (p ∷ left) [] nodes count (Closed b l) other f g = absurd f
-  one_outcome (p ∷ left) [] nodes count (Unfinished u) other f g = absurd f
-  one_outcome (p ∷ left) [] nodes count (Wrong n k) (Closed b l) f g = absurd g
-  one_outcome (p ∷ left) [] nodes count (Wrong n k) (Unfinished u) f g = absurd g
-  one_outcome (p ∷ left) [] nodes count (Wrong n k) (Wrong m j) f g = same_wrong n m k j (f.0 ∙ sym g.0) (f.1 ∙ sym g.1)
-  one_outcome (p ∷ left) (x ∷ rest) nodes count (Closed b l) other f g = absurd f
-  one_outcome (p ∷ left) (x ∷ rest) nodes count (Unfinished u) other f g = absurd f
-  one_outcome (p ∷ left) (x ∷ rest) nodes count (Wrong n k) (Closed b l) f g = absurd g
-  one_outcome (p ∷ left) (x ∷ rest) nodes count (Wrong n k) (Unfinished u) f g = absurd g
-  one_outcome (p ∷ left) (x ∷ rest) nodes count (Wrong n k) (Wrong m j) f g =
-      same_wrong n m k j (f.0 ∙ sym g.0) (one_lowest (WrongWords move p (pieces_of x)) k j f.1 g.1)
+  one_outcome : (s : RightFront) (one other : Verdict) → Outcome s one → Outcome s other → one ≡ other
+  one_outcome s (Closed b l) (Closed c m) f g = ap (λ (n : ℕ). Closed n l) (f.2 ∙ sym g.2) ∙ ap (λ (n : ℕ). Closed c n) (f.3 ∙ sym g.3)
+  one_outcome s (Closed b l) (Unfinished u) f g = absurd (omega (arith, none_open s.nodes f.1, g.1, g.2))
+  one_outcome s (Closed b l) (Wrong n k) f g = absurd (ended_right s.left s.rest k f.0 g.1)
+  one_outcome s (Unfinished u) (Closed c m) f g = absurd (omega (arith, none_open s.nodes g.1, f.1, f.2))
+  one_outcome s (Unfinished u) (Unfinished v) f g = ap (λ (n : ℕ). Unfinished n) (f.2 ∙ sym g.2)
+  one_outcome s (Unfinished u) (Wrong n k) f g = absurd (ended_right s.left s.rest k f.0 g.1)
+  one_outcome s (Wrong n k) (Closed c m) f g = absurd (ended_right s.left s.rest k g.0 f.1)
+  one_outcome s (Wrong n k) (Unfinished v) f g = absurd (ended_right s.left s.rest k g.0 f.1)
+  one_outcome s (Wrong n k) (Wrong m j) f g =
+      ap (λ (l : ℕ). Wrong l k) (f.0 ∙ sym g.0) ∙ ap (λ (x : WrongKind). Wrong m x) (one_wrong s.left s.rest k j f.1 g.1)
 
   -- some first lines are right, and the verdict is what follows
   record Stops (lines : List (List ℕ)) (verdict : Verdict) : Type 0 where
-    before : List (List ℕ)
-    rest : List (List ℕ)
-    nodes : List Node
-    left : List Place
-    is : lines ≡ before ++ rest
-    right : AreRightLines move before nodes left
-    outcome : Outcome left rest nodes (length before) verdict
+    at : RightFront
+    is : lines ≡ at.before ++ at.rest
+    right : AreRightLines move at.before at.nodes at.left
+    outcome : Outcome at verdict
 
   -- where a line is wrong or stands behind the tree, no right line goes on
-  stops_there : (left : List Place) (line : List ℕ) (later : List (List ℕ)) (nodes : List Node) (count : ℕ) (verdict : Verdict) (more : List Node)
-      (end : List Place) → Outcome left (line ∷ later) nodes count verdict → (after : List (List ℕ)) →
+  stops_there : (s : RightFront) (line : List ℕ) (later : List (List ℕ)) (left : List Place) (verdict : Verdict) (more : List Node) (end : List Place) →
+      Outcome (right_front s.before (line ∷ later) s.nodes left) verdict → (after : List (List ℕ)) →
       AllZip (λ (l : List ℕ) (node : Node). SaysNode move.net (pieces_of l) node) (line ∷ after) more →
       Fill (IsRightNode move) left more end → ⊥
-  stops_there left line later nodes count verdict [] end out after said fills = said
-  stops_there [] line later nodes count verdict (n ∷ more) end out after said fills = fills
-  stops_there (p ∷ left) line later nodes count (Closed b l) (n ∷ more) end out after said fills = out
-  stops_there (p ∷ left) line later nodes count (Unfinished u) (n ∷ more) end out after said fills = out
-  stops_there (p ∷ left) line later nodes count (Wrong m k) (n ∷ more) end out after said fills =
+  stops_there s line later left verdict [] end out after said fills = said
+  stops_there s line later [] verdict (n ∷ more) end out after said fills = fills
+  stops_there s line later (p ∷ left) (Closed b l) (n ∷ more) end out after said fills = out.0
+  stops_there s line later (p ∷ left) (Unfinished u) (n ∷ more) end out after said fills = out.0
+  stops_there s line later (p ∷ left) (Wrong m k) (n ∷ more) end out after said fills =
       no_wrong_words move network p (pieces_of line) n said.0 fills.0 k out.1.wrong
 
   -- so none stops further on than another
-  no_further : (lines : List (List ℕ)) (v w : Verdict) (s : Stops lines v) (t : Stops lines w) → length s.before < length t.before → ⊥
-  no_further lines v w s t less =
-      let says : List ℕ → Node → Type 0 = λ (l : List ℕ) (node : Node). SaysNode move.net (pieces_of l) node in
-      let more = goes_on s.before t.before s.rest t.rest (sym s.is ∙ t.is) less in
-      let parts = said_parts says s.before (more.line ∷ more.goes.after) t.nodes
-      (subst (λ (l : List (List ℕ)). AllZip says l t.nodes) more.goes.is t.right.said) in
-      let fills = fills_on (IsRightNode move) ([] ∷ []) parts.front parts.rest t.left
-      (subst (λ (ns : List Node). Fill (IsRightNode move) ([] ∷ []) ns t.left) parts.is t.right.fills) in
-      let front : parts.front ≡ s.nodes = one_zip says (λ l m n f g. one_node move.net network (pieces_of l) m n f g) s.before parts.front s.nodes
-      parts.first s.right.said in
-      let left : fills.mid ≡ s.left = one_left (IsRightNode move) ([] ∷ []) s.nodes fills.mid s.left
-      (subst (λ (ns : List Node). Fill (IsRightNode move) ([] ∷ []) ns fills.mid) front fills.first) s.right.fills in
-      stops_there s.left more.line more.later s.nodes (length s.before) v parts.rest t.left
-      (subst (λ (r : List (List ℕ)). Outcome s.left r s.nodes (length s.before) v) more.rest_is s.outcome)
-      more.goes.after parts.second
-      (subst (λ (ps : List Place). Fill (IsRightNode move) ps parts.rest t.left) left fills.second)
+  no_further : (lines : List (List ℕ)) (v w : Verdict) (s : Stops lines v) (t : Stops lines w) → length s.at.before < length t.at.before → ⊥
+  no_further lines v w s t less = by_rest s.at.rest s.is s.outcome
+    where
+      says : List ℕ → Node → Type 0
+      says l node = SaysNode move.net (pieces_of l) node
 
-  same_length : (lines : List (List ℕ)) (v w : Verdict) (s : Stops lines v) (t : Stops lines w) → length s.before ≡ length t.before
+      by_rest : (rest : List (List ℕ)) → lines ≡ s.at.before ++ rest → Outcome (right_front s.at.before rest s.at.nodes s.at.left) v → ⊥
+      by_rest [] is out =
+          omega (arith, less, ap length (sym is ∙ t.is), length-append s.at.before [], length-append t.at.before t.at.rest)
+      by_rest (line ∷ later) is out =
+          let after = take (length t.at.before - length s.at.before - 1) later in
+          let parts = said_parts says s.at.before (line ∷ after) t.at.nodes
+          (subst (λ (l : List (List ℕ)). AllZip says l t.at.nodes) (longer s.at.before line later t.at.before t.at.rest (sym is ∙ t.is) less) t.right.said) in
+          let fills = fills_on (IsRightNode move) ([] ∷ []) parts.front parts.rest t.at.left
+          (subst (λ (ns : List Node). Fill (IsRightNode move) ([] ∷ []) ns t.at.left) parts.is t.right.fills) in
+          let front : parts.front ≡ s.at.nodes = one_zip says (λ l m n f g. one_node move.net network (pieces_of l) m n f g) s.at.before
+          parts.front s.at.nodes parts.first s.right.said in
+          let left : fills.0 ≡ s.at.left = one_left (IsRightNode move) ([] ∷ []) s.at.nodes fills.0 s.at.left
+          (subst (λ (ns : List Node). Fill (IsRightNode move) ([] ∷ []) ns fills.0) front fills.1) s.right.fills in
+          stops_there s.at line later s.at.left v parts.rest t.at.left out after parts.second
+          (subst (λ (ps : List Place). Fill (IsRightNode move) ps parts.rest t.at.left) left fills.2)
+
+  same_length : (lines : List (List ℕ)) (v w : Verdict) (s : Stops lines v) (t : Stops lines w) → length s.at.before ≡ length t.at.before
   same_length lines v w s t =
       ⊎_elim (λ less. absurd (no_further lines v w s t less))
       (λ at_least. ⊎_elim (λ less. absurd (no_further lines w v t s less)) (λ at_most. omega (arith, at_least, at_most))
-      (cases_lt (length t.before) (length s.before)))
-      (cases_lt (length s.before) (length t.before))
+      (cases_lt (length t.at.before) (length s.at.before)))
+      (cases_lt (length s.at.before) (length t.at.before))
 
   one_stop : (lines : List (List ℕ)) (v w : Verdict) → Stops lines v → Stops lines w → v ≡ w
   one_stop lines v w s t =
       let says : List ℕ → Node → Type 0 = λ (l : List ℕ) (node : Node). SaysNode move.net (pieces_of l) node in
-      let long = same_length lines v w s t in
-      let parts = same_front s.before t.before s.rest t.rest (sym s.is ∙ t.is) long in
-      let nodes : s.nodes ≡ t.nodes = one_zip says (λ l m n f g. one_node move.net network (pieces_of l) m n f g) t.before s.nodes t.nodes
-      (subst (λ (l : List (List ℕ)). AllZip says l s.nodes) parts.0 s.right.said) t.right.said in
-      let left : s.left ≡ t.left = one_left (IsRightNode move) ([] ∷ []) t.nodes s.left t.left
-      (subst (λ (ns : List Node). Fill (IsRightNode move) ([] ∷ []) ns s.left) nodes s.right.fills) t.right.fills in
-      let by_left = subst (λ (ps : List Place). Outcome ps s.rest s.nodes (length s.before) v) left s.outcome in
-      let by_rest = subst (λ (r : List (List ℕ)). Outcome t.left r s.nodes (length s.before) v) parts.1 by_left in
-      let by_nodes = subst (λ (ns : List Node). Outcome t.left t.rest ns (length s.before) v) nodes by_rest in
-      one_outcome t.left t.rest t.nodes (length t.before) v w
-      (subst (λ (n : ℕ). Outcome t.left t.rest t.nodes n v) long by_nodes) t.outcome
+      let parts = same_front s.at.before t.at.before s.at.rest t.at.rest (sym s.is ∙ t.is) (same_length lines v w s t) in
+      let nodes : s.at.nodes ≡ t.at.nodes = one_zip says (λ l m n f g. one_node move.net network (pieces_of l) m n f g) t.at.before s.at.nodes t.at.nodes
+      (subst (λ (l : List (List ℕ)). AllZip says l s.at.nodes) parts.0 s.right.said) t.right.said in
+      let left : s.at.left ≡ t.at.left = one_left (IsRightNode move) ([] ∷ []) t.at.nodes s.at.left t.at.left
+      (subst (λ (ns : List Node). Fill (IsRightNode move) ([] ∷ []) ns s.at.left) nodes s.right.fills) t.right.fills in
+      let one : s.at ≡ t.at = λ i. right_front (parts.0 i) (parts.1 i) (nodes i) (left i) in
+      one_outcome t.at v w (subst (λ (x : RightFront). Outcome x v) one s.outcome) t.outcome
 
-  -- the first line is no header, or the lines behind it stop somewhere
+  -- the first line is no header, or the lines behind it right_front somewhere
   data Judged (text : List ℕ) (verdict : Verdict) : Type 0 where
     no_header : ((lines : List (List ℕ)) → ¬ (line_texts text ≡ tree_header ∷ lines)) → verdict ≡ Wrong 1 Form → Judged text verdict
     stops : (lines : List (List ℕ)) → line_texts text ≡ tree_header ∷ lines → Stops lines verdict → Judged text verdict
 
   wrong_judged : (text : List ℕ) (line : ℕ) (kind : WrongKind) → IsFirstWrongLine move text line kind → Judged text (Wrong line kind)
   wrong_judged text line kind (header_missing none) = no_header none refl
-  wrong_judged text line kind (wrong_there before x after nodes place left k is right low) = stops (before ++ x ∷ after) is (record {
-    before = before;
-    rest = x ∷ after;
-    nodes = nodes;
-    left = place ∷ left;
-    is = refl;
-    right = right;
-    outcome = (refl, low);
-  })
-  wrong_judged text line kind (after_tree before x after nodes is right) = stops (before ++ x ∷ after) is (record {
-    before = before;
-    rest = x ∷ after;
-    nodes = nodes;
-    left = [];
-    is = refl;
-    right = right;
-    outcome = (refl, refl);
-  })
-  wrong_judged text line kind (ends_early lines nodes place left is right) = stops lines is (record {
-    before = lines;
-    rest = [];
-    nodes = nodes;
-    left = place ∷ left;
-    is = sym (append-nil lines);
-    right = right;
-    outcome = (refl, refl);
-  })
+  wrong_judged text line kind (wrong_there before x after nodes place left k is right low) =
+      stops (before ++ x ∷ after) is (record { at = right_front before (x ∷ after) nodes (place ∷ left); is = refl; right = right; outcome = (refl, low) })
+  wrong_judged text line kind (after_tree before x after nodes is right) =
+      stops (before ++ x ∷ after) is (record { at = right_front before (x ∷ after) nodes []; is = refl; right = right; outcome = (refl, refl) })
+  wrong_judged text line kind (ends_early lines nodes place left is right) =
+      stops lines is (record { at = right_front lines [] nodes (place ∷ left); is = sym (append-nil lines); right = right; outcome = (refl, refl) })
 
   judged : (text : List ℕ) (verdict : Verdict) → IsTextVerdict move text verdict → Judged text verdict
   judged text (Closed b l) is = stops is.tree.lines is.tree.text_is (record {
-    before = is.tree.lines;
-    rest = [];
-    nodes = is.nodes;
-    left = [];
+    at = right_front is.tree.lines [] is.nodes [];
     is = sym (append-nil is.tree.lines);
     right = is.tree.right;
-    outcome = (is.visited, is.branches_are, is.leaves_are);
+    outcome = (tt, is.visited, is.branches_are, is.leaves_are);
   })
   judged text (Unfinished u) is = stops is.tree.lines is.tree.text_is (record {
-    before = is.tree.lines;
-    rest = [];
-    nodes = is.nodes;
-    left = [];
+    at = right_front is.tree.lines [] is.nodes [];
     is = sym (append-nil is.tree.lines);
     right = is.tree.right;
-    outcome = (is.some, is.unvisited_are);
+    outcome = (tt, is.some, is.unvisited_are);
   })
   judged text (Wrong line kind) is = wrong_judged text line kind is
 

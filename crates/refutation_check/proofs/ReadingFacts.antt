@@ -1,8 +1,7 @@
 -- How far a tree file has been read: one line more, and what the first wrong line is.
-use Rattle.std.proofs.Common.{◌≡◌, ℕ, ◌+◌, ◌<◌, ◌≤◌, List, [], ◌∷◌, ◌++◌, length, get_or, take, drop, map, Result, Ok, Err}
+use Rattle.std.proofs.Common.{◌≡◌, ℕ, ◌+◌, ◌<◌, ◌≤◌, List, [], ◌∷◌, ◌++◌, length, get_or, take, drop, map}
 use Rattle.std.proofs.Common.{arith, refl, sym, ap, ◌∙◌, subst}
 use Rattle.std.specs.List.{All, AllZip}
-use Rattle.std.specs.Result.{MatchResult}
 use Rattle.std.proofs.lemmas.List.{take_more, drop_more, take-append-drop, length-take-le}
 use Rattle.std.proofs.lemmas.List.Elements.{All-cons, All-nil}
 use Rattle.std.proofs.lemmas.Slice.Zip.{AllZip-long, all_zipped_more}
@@ -25,11 +24,11 @@ use Rattle.refutation_check.specs.declared.tally.Tally.{Tally}
 use Rattle.refutation_check.specs.declared.verdict.Verdict.{Verdict}
 use Rattle.refutation_check.specs.declared.verdict.Verdict.TheVariants.{Closed, Unfinished, Wrong}
 use Rattle.refutation_check.specs.declared.verdict.WrongKind.{WrongKind}
-use Rattle.refutation_check.specs.declared.verdict.WrongKind.TheVariants.{Form, Router, Address, Originator, Step, OneSided, NotAssumed}
-use Rattle.refutation_check.specs.steps.Reading.{HasReadLines, IsTakenThere, IsNotTaken, TakesLine, IsEndVerdict, IsWholeVerdict}
+use Rattle.refutation_check.specs.declared.verdict.WrongKind.TheVariants.{Form, Router}
+use Rattle.refutation_check.specs.steps.Reading.{HasReadLines, IsNotTaken, TakesLine, IsEndVerdict, IsWholeVerdict}
 use Rattle.refutation_check.specs.steps.Shapes.{SaysNoNode}
 use Rattle.refutation_check.specs.steps.Right.{IsRightBranch}
-use Rattle.refutation_check.specs.steps.Walks.{IsRinged, IsTaken, PlacesLeft}
+use Rattle.refutation_check.specs.steps.Walks.{IsRinged, IsTaken}
 use Rattle.refutation_check.proofs.RingPlaces.{cycle_from}
 use Rattle.refutation_check.proofs.SaidNodes.{form_of, one_node}
 
@@ -39,7 +38,7 @@ leaf_count-append : (nodes more : List Node) → leaf_count (nodes ++ more) ≡ 
 leaf_count-append [] more = omega arith
 leaf_count-append (n ∷ nodes) more = omega (arith, leaf_count-append nodes more)
 
-open_count-append : (nodes more : List Node) → open_count (nodes ++ more) ≡ open_count nodes + open_count more
+pub open_count-append : (nodes more : List Node) → open_count (nodes ++ more) ≡ open_count nodes + open_count more
 open_count-append [] more = omega arith
 open_count-append (n ∷ nodes) more = omega (arith, open_count-append nodes more)
 
@@ -80,13 +79,13 @@ read_long move lines reading i within read =
 
 pub read_more : (move : Migration) (lines : List (List ℕ)) (i : ℕ) (before after : Reading) → i < length lines →
     HasReadLines move (take i lines) before
-    → IsTakenThere move before.walk.left (get_or lines i []) before after → HasReadLines move (take (i + 1) lines) after
-read_more move lines i before after within read taken = by_left before.walk.left read.right taken
+    → TakesLine move (get_or lines i []) before after → HasReadLines move (take (i + 1) lines) after
+read_more move lines i before after within read t = by_left before.walk.left read.right t.taken
   where
-    by_left : (places : List Place) → AreRightLines move (take i lines) read.nodes places →
-        IsTakenThere move places (get_or lines i []) before after → HasReadLines move (take (i + 1) lines) after
-    by_left [] right t = absurd t
-    by_left (place ∷ left) right t = record {
+    by_left : (places : List Place) → AreRightLines move (take i lines) read.nodes places → IsTaken move places after.walk.left t.node →
+        HasReadLines move (take (i + 1) lines) after
+    by_left [] right is = absurd is
+    by_left (place ∷ left) right is = record {
       nodes = read.nodes ++ t.node ∷ [];
       right = record {
         said =
@@ -94,8 +93,8 @@ read_more move lines i before after within read taken = by_left before.walk.left
             (sym (take_more lines i [] within))
             (all_zipped_more (λ (line : List ℕ) (node : Node). SaysNode move.net (pieces_of line) node) (take i lines) read.nodes
             (get_or lines i []) t.node right.said t.says);
-        fills = subst (λ (ps : List Place). Fill (IsRightNode move) ([] ∷ []) (read.nodes ++ t.node ∷ []) ps) (sym t.taken.places)
-            (Fill-push (IsRightNode move) ([] ∷ []) left place read.nodes t.node right.fills t.taken.right);
+        fills = subst (λ (ps : List Place). Fill (IsRightNode move) ([] ∷ []) (read.nodes ++ t.node ∷ []) ps) (sym is.1)
+            (Fill-push (IsRightNode move) ([] ∷ []) left place read.nodes t.node right.fills is.0);
       };
       counted = record {
         branches = omega (arith, t.counts.branches, read.counted.branches, branch_count-append read.nodes (t.node ∷ []));
@@ -171,27 +170,13 @@ unread_lowest move place words Form w = record { wrong = w; lowest = least }
   where
     least : (other : WrongKind) → WrongWords move place words other → 1 ≤ kind_number other
     least Form x = omega arith
-    least Router x = omega arith
-    least Address x = omega arith
-    least Originator x = omega arith
-    least Step x = omega arith
-    least OneSided x = omega arith
-    least NotAssumed x = omega arith
+    least other x = omega arith
 unread_lowest move place words Router w = record { wrong = w.none; lowest = least }
   where
     least : (other : WrongKind) → WrongWords move place words other → 2 ≤ kind_number other
     least Form x = absurd (x w.form)
-    least Router x = omega arith
-    least Address x = omega arith
-    least Originator x = omega arith
-    least Step x = omega arith
-    least OneSided x = omega arith
-    least NotAssumed x = omega arith
-unread_lowest move place words Address w = absurd w
-unread_lowest move place words Originator w = absurd w
-unread_lowest move place words Step w = absurd w
-unread_lowest move place words OneSided w = absurd w
-unread_lowest move place words NotAssumed w = absurd w
+    least other x = omega arith
+unread_lowest move place words kind w = absurd w
 
 -- the node of some words is wrong with the lowest kind, and so are the words
 module _ (move : Migration) (network : IsNetwork move.net) (place : Place) (words : List (List ℕ)) (node : Node)
@@ -209,11 +194,7 @@ module _ (move : Migration) (network : IsNetwork move.net) (place : Place) (word
   as_words : (kind : WrongKind) → WrongNode move place node kind → WrongWords move place words kind
   as_words Form w = absurd (no_form node w)
   as_words Router w = absurd (no_router node w)
-  as_words Address w = record { node = node; says = says; wrong = w }
-  as_words Originator w = record { node = node; says = says; wrong = w }
-  as_words Step w = record { node = node; says = says; wrong = w }
-  as_words OneSided w = record { node = node; says = says; wrong = w }
-  as_words NotAssumed w = record { node = node; says = says; wrong = w }
+  as_words kind w = record { node = node; says = says; wrong = w }
 
   same_wrong : (other : Node) (kind : WrongKind) → SaysNode move.net words other → WrongNode move place other kind →
       WrongNode move place node kind
@@ -225,19 +206,13 @@ module _ (move : Migration) (network : IsNetwork move.net) (place : Place) (word
       least : (other : WrongKind) → WrongWords move place words other → kind_number kind ≤ kind_number other
       least Form x = absurd (x (form_of move.net words node says))
       least Router x = absurd (x node says)
-      least Address x = is.lowest Address (same_wrong x.node Address x.says x.wrong)
-      least Originator x = is.lowest Originator (same_wrong x.node Originator x.says x.wrong)
-      least Step x = is.lowest Step (same_wrong x.node Step x.says x.wrong)
-      least OneSided x = is.lowest OneSided (same_wrong x.node OneSided x.says x.wrong)
-      least NotAssumed x = is.lowest NotAssumed (same_wrong x.node NotAssumed x.says x.wrong)
+      least other x = is.lowest other (same_wrong x.node other x.says x.wrong)
 
 -- what came of a node at the first open place
-pub take_there : (move : Migration) (places : List Place) (line : List ℕ) (before after : Reading) (node : Node) → ¬ (places ≡ []) →
-    SaysNode move.net (pieces_of line) node
-    → ((place : Place) (left : List Place) → places ≡ place ∷ left → TakesLine move place left line before after) →
-    IsTakenThere move places line before after
-take_there move [] line before after node some says taken = absurd (some refl)
-take_there move (place ∷ left) line before after node some says taken = taken place left refl
+pub taken_there : (move : Migration) (places after : List Place) (node : Node) → ¬ (places ≡ []) →
+    ((place : Place) (left : List Place) → places ≡ place ∷ left → IsTaken move (place ∷ left) after node) → IsTaken move places after node
+taken_there move [] after node some taken = absurd (some refl)
+taken_there move (place ∷ left) after node some taken = taken place left refl
 
 pub not_there : (move : Migration) (places : List Place) (line : List ℕ) (kind : WrongKind) → ¬ (places ≡ [])
     → ((place : Place) (left : List Place) → places ≡ place ∷ left → IsLowestKind (WrongWords move place (pieces_of line)) kind) →
@@ -250,25 +225,23 @@ not_there move (place ∷ left) line kind some wrong = wrong place left refl
 pub branch_taken : (move : Migration) (place : Place) (left after : List Place) (node : Node) (a : ℕ) (turns shown entered : List Turn) →
     node ≡ Branch a turns → shown ≡ turns → entered ≡ turns → IsRinged (length move.net) node
     → IsRightBranch move a shown → after ≡ map (λ (p : Pair). place ++ p ∷ []) (child_pairs entered) ++ left →
-    IsTaken move place left after node
+    IsTaken move (place ∷ left) after node
 branch_taken move place left after node a turns shown entered is shows enters ringed right below =
     let here : IsRightBranch move a turns = subst (λ (l : List Turn). IsRightBranch move a l) shows right in
     let many : IsRinged (length move.net) (Branch a turns) = subst (IsRinged (length move.net)) is ringed in
-    subst (λ (n : Node). IsTaken move place left after n) (sym is) (record {
-      right = (record { address = here.address; some = many.1.some; distinct = many.1.distinct; tags = here.tags }, here.both);
-      places = below ∙ ap (λ (l : List Turn). map (λ (p : Pair). place ++ p ∷ []) (child_pairs l) ++ left) enters;
-    })
+    subst (λ (n : Node). IsTaken move (place ∷ left) after n) (sym is) (
+      (record { address = here.address; some = many.1.some; distinct = many.1.distinct; tags = here.tags }, here.both),
+      below ∙ ap (λ (l : List Turn). map (λ (p : Pair). place ++ p ∷ []) (child_pairs l) ++ left) enters,
+    )
 
 pub leaf_taken : (move : Migration) (place : Place) (left after : List Place) (node : Node) (cycle shown : List ℕ) →
     node ≡ Leaf cycle →
     shown ≡ cycle → IsRinged (length move.net) node
-    → IsAssumedRound place shown → after ≡ left → IsTaken move place left after node
+    → IsAssumedRound place shown → after ≡ left → IsTaken move (place ∷ left) after node
 leaf_taken move place left after node cycle shown is shows ringed round behind =
     let many : IsRinged (length move.net) (Leaf cycle) = subst (IsRinged (length move.net)) is ringed in
-    subst (λ (n : Node). IsTaken move place left after n) (sym is) (record {
-      right = cycle_from place cycle many.1.some many.1.distinct (subst (λ (l : List ℕ). IsAssumedRound place l) shows round);
-      places = behind;
-    })
+    subst (λ (n : Node). IsTaken move (place ∷ left) after n) (sym is)
+    (cycle_from place cycle many.1.some many.1.distinct (subst (λ (l : List ℕ). IsAssumedRound place l) shows round), behind)
 
 -- the verdict behind the last line
 pub end_is : (move : Migration) (text : List ℕ) (lines : List (List ℕ)) (reading : Reading) (next : ℕ) (verdict : Verdict) →
@@ -295,19 +268,3 @@ read_none move reading left counts = record {
         (λ (t : Tally). t.unvisited) counts;
   };
 }
-
--- what came of a node, as a result
-abbrev IsTakenNode : Migration → Place → List Place → Node → Result PlacesLeft WrongKind → Type 0
-IsTakenNode move place left node taken = MatchResult taken (λ (after : PlacesLeft). IsTaken move place left after.left node)
-    (IsLowestKind (WrongNode move place node))
-
-pub taken_ok : (move : Migration) (place : Place) (left : List Place) (node : Node) (taken : Result PlacesLeft WrongKind)
-    (after : PlacesLeft) →
-    taken ≡ Ok after → IsTakenNode move place left node taken
-    → IsTaken move place left after.left node
-taken_ok move place left node taken after is all = subst (IsTakenNode move place left node) is all
-
-pub taken_err : (move : Migration) (place : Place) (left : List Place) (node : Node) (taken : Result PlacesLeft WrongKind)
-    (kind : WrongKind) → taken ≡ Err kind → IsTakenNode move place left node taken
-    → IsLowestKind (WrongNode move place node) kind
-taken_err move place left node taken kind is all = subst (IsTakenNode move place left node) is all

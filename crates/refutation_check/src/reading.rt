@@ -4,7 +4,7 @@ ghost use Rattle.net_model.specs.Refusals.{IsNetwork};
 ghost use Rattle.rib_mix.specs.Mixture.{migration_of};
 ghost use Rattle.order_search.specs.Trees.{Place};
 ghost use Rattle.refutation_check.specs.WrongLines.{IsLowestKind, WrongNode};
-ghost use Rattle.refutation_check.specs.steps.Reading.{IsNotTaken, IsTakenThere};
+ghost use Rattle.refutation_check.specs.steps.Reading.{IsNotTaken, TakesLine};
 ghost use Rattle.refutation_check.specs.steps.Walks.{IsRinged, IsTaken};
 
 use crate::branch::branch_fault;
@@ -45,7 +45,7 @@ impl Reading {
         requires unvisited { self.tally.unvisited < 2 ^ 32 - 1 }
         ensures routers { IfOk result (λ taken. IfOk taken (λ after. after.walk.routers ≡ length mixed.now.net)) }
         ensures taken { IfOk result (λ taken. MatchResult taken
-            (IsTakenThere (migration_of O.table N.table mixed.now) self.walk.left (bytes_of text.now line) self)
+            (TakesLine (migration_of O.table N.table mixed.now) (bytes_of text.now line) self)
             (IsNotTaken (migration_of O.table N.table mixed.now) self.walk.left (bytes_of text.now line))) }
     {
         if self.walk.is_whole() {
@@ -78,7 +78,7 @@ fn take_node<O: RouteSource, N: RouteSource>(
     requires ringed { IsRinged (length mixed.now.net) node.now }
     ensures routers { IfOk result (λ taken. IfOk taken (λ after. after.routers ≡ walk.routers)) }
     ensures taken { IfOk result (λ taken. (place : Place) (left : List Place) → walk.left ≡ place ∷ left → MatchResult taken
-        (λ after. IsTaken (migration_of O.table N.table mixed.now) place left after.left node.now)
+        (λ after. IsTaken (migration_of O.table N.table mixed.now) (place ∷ left) after.left node.now)
         (IsLowestKind (WrongNode (migration_of O.table N.table mixed.now) place node.now))) }
 {
     match node {

@@ -114,6 +114,19 @@ front_of_run n ranks changes begin =
       ];
     }
 
+-- a change that is made may precede one that isn't
+pub precede : {n : ℕ} {ranks : List ℕ} {changes : List Change} → AreInFront n ranks changes → (c d : Change) → Contains changes c →
+    (Contains changes d → ⊥) → changed d < n → MayPrecede ranks c d
+precede {ranks = ranks} {changes = changes} front c d here absent below = record {
+  other = λ same. absent (subst (λ (e : Change). Contains changes e) same here);
+  wave = elim (cases_lt (rank_of ranks (changed d)) (rank_of ranks (changed c))) [
+    | inl lower ↦ absurd (absent (front.earlier c d here below lower))
+    | inr up ↦ up
+  ];
+  half = λ u is same.
+      absent (subst (λ (e : Change). Contains changes e) (sym same) (front.halves u (subst (λ (e : Change). Contains changes e) is here)));
+}
+
 pub run_of_front : (n : ℕ) (ranks : List ℕ) (changes : List Change) → IsRanking n ranks → AreInFront n ranks changes → BeginRun n ranks changes
 run_of_front n ranks changes ranking front =
     let along : IsRun n ranks (run_along (flat_of ranks)) = flat_is_run n ranks ranking in
@@ -132,20 +145,9 @@ run_of_front n ranks changes ranking front =
             | inr absent ↦ Contains-append_right changes others.rest c (others.whole c ((along.all c).1 below) absent)
           ],
         );
-        in_turn = pairs_append (MayPrecede ranks) changes others.rest front.in_turn others.in_turn (λ c d here later. precede c d here (others.unmade d later)
-            ((along.all d).0 (others.among d later)));
+        in_turn = pairs_append (MayPrecede ranks) changes others.rest front.in_turn others.in_turn
+            (λ c d here later. precede front c d here (others.unmade d later) ((along.all d).0 (others.among d later)));
       };
-    }
-  where
-    precede : (c d : Change) → Contains changes c → (Contains changes d → ⊥) → changed d < n → MayPrecede ranks c d
-    precede c d here absent below = record {
-      other = λ same. absent (subst (λ (e : Change). Contains changes e) same here);
-      wave = elim (cases_lt (rank_of ranks (changed d)) (rank_of ranks (changed c))) [
-        | inl lower ↦ absurd (absent (front.earlier c d here below lower))
-        | inr up ↦ up
-      ];
-      half = λ u is same.
-          absent (subst (λ (e : Change). Contains changes e) (sym same) (front.halves u (subst (λ (e : Change). Contains changes e) is here)));
     }
 
 -- fewer changes begin a run too

@@ -56,15 +56,15 @@ told_once net ascending line c d one two =
     IsNamed-unique net two.name one.router two.router ascending (subst (λ name. IsNamed net name one.router) names one.named) two.named in
     one.is ∙ ap (λ u. change_of u one.half) routers ∙ ap (change_of two.router) halves ∙ sym two.is
 
+pub changed_is : (u : ℕ) (half : Half) → changed (change_of u half) ≡ u
+changed_is u First = refl
+changed_is u Second = refl
+
 -- the router of a change that a line tells is one of the network
 pub told_below : (net : Network) (line : List ℕ) (u : ℕ) (half : Half) → TellsChange net line (change_of u half) → u < length net
 told_below net line u half told =
     subst (λ v. v < length net) (sym (ap changed told.is ∙ changed_is told.router told.half) ∙ changed_is u half)
     (named_within net told.name told.router told.named)
-  where
-    changed_is : (v : ℕ) (h : Half) → changed (change_of v h) ≡ v
-    changed_is v First = refl
-    changed_is v Second = refl
 
 -- ---- which change a line tells ----
 

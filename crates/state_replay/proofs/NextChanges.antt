@@ -2,7 +2,7 @@
 use Rattle.std.proofs.Common.{◌≡◌, ◌≢◌, ℕ, ◌+◌, ◌<◌, inl, inr, List, [], ◌∷◌, ◌++◌, length, map, get_or, set, Option, Some}
 use Rattle.std.proofs.Common.{None, Contains, AllPairs, refl, sym, ap, subst, ◌∙◌, arith}
 use Rattle.std.specs.Option.{MatchOption}
-use Rattle.std.proofs.lemmas.Bool.{cases_lt, cases_eq}
+use Rattle.std.proofs.lemmas.Bool.{cases_eq}
 use Rattle.std.proofs.lemmas.List.{map-append, length-set, get_or-set_same, get_or-set_other}
 use Rattle.std.proofs.lemmas.List.Elements.{Contains-append_left, Contains-append_right, Contains-append_cases}
 use Rattle.net_model.proofs.Members.{Contains-first}
@@ -17,7 +17,8 @@ use Rattle.state_replay.specs.Journals.{BeginRun, MayComeNext, AreChangeCounts, 
 use Rattle.state_replay.specs.steps.Fitting.{FitsCounts}
 use Rattle.state_replay.specs.declared.half.Half.{Half}
 use Rattle.state_replay.specs.declared.half.Half.TheVariants.{First, Second}
-use Rattle.state_replay.proofs.Fronts.{AreInFront, front_of_run, run_of_front}
+use Rattle.state_replay.proofs.Fronts.{AreInFront, front_of_run, precede, run_of_front}
+use Rattle.state_replay.proofs.Lines.{changed_is}
 use Rattle.state_replay.proofs.Counting.{none_made, first_made, second_open, both_made, is_none, is_one, is_both}
 
 -- one change more
@@ -41,80 +42,46 @@ module _ (n : ℕ) (ranks : List ℕ) (changes : List Change) (front : AreInFron
   count_on : ℕ → ℕ
   count_on u = changes_on u (map changed changes)
 
-  -- the first change of a router on which none is made, where the earlier waves are done
-  first_fits : (u : ℕ) → u < n → (Contains changes (first u) → ⊥) →
-      ((v : ℕ) → v < n → rank_of ranks v < rank_of ranks u → Contains changes (first v) × Contains changes (second v)) →
-      AreInFront n ranks (changes ++ first u ∷ [])
-  first_fits u below absent done = record {
-    in_turn = one_more ranks changes (first u) front.in_turn (λ c here. record {
-      other = λ same. absent (subst (λ (e : Change). Contains changes e) same here);
-      wave = elim (cases_lt (rank_of ranks u) (rank_of ranks (changed c))) [
-        | inl lower ↦ absurd (absent (front.earlier c (first u) here below lower))
-        | inr up ↦ up
-      ];
-      half =
-          λ v is same. absent (subst (λ (w : ℕ). Contains changes (first w)) (sym (ap changed same))
-          (front.halves v (subst (λ (e : Change). Contains changes e) is here)));
-    });
-    below = λ c inside. elim (Contains-append_cases changes (first u ∷ []) c inside) [
+  -- a change that isn't made, where those before it are
+  one_fits : (d : Change) → changed d < n → (Contains changes d → ⊥) →
+      ((c : Change) → changed c < n → rank_of ranks (changed c) < rank_of ranks (changed d) → Contains changes c) →
+      ((u : ℕ) → d ≡ second u → Contains changes (first u)) → AreInFront n ranks (changes ++ d ∷ [])
+  one_fits d below absent done begun = record {
+    in_turn = one_more ranks changes d front.in_turn (λ c here. precede front c d here absent below);
+    below = λ c inside. elim (Contains-append_cases changes (d ∷ []) c inside) [
       | inl here ↦ front.below c here
-      | inr there ↦ subst (λ (e : Change). changed e < n) (contains_one (first u) c there) below
+      | inr there ↦ subst (λ (e : Change). changed e < n) (contains_one d c there) below
     ];
-    earlier = λ c d inside within lower. Contains-append_left changes (first u ∷ []) d
-        (elim (Contains-append_cases changes (first u ∷ []) c inside) [
-          | inl here ↦ front.earlier c d here within lower
-          | inr there ↦
-              let e : rank_of ranks u ≡ rank_of ranks (changed c) = ap (λ (x : Change). rank_of ranks (changed x)) (contains_one (first u) c there) in
-              both_of d (done (changed d) within (omega (arith, lower, e)))
-        ]);
-    halves = λ v inside. Contains-append_left changes (first u ∷ []) (first v) (front.halves v (among_more changes (first u) (second v) inside (λ e. cc)));
-  }
-    where
-      both_of : (d : Change) → Contains changes (first (changed d)) × Contains changes (second (changed d)) → Contains changes d
-      both_of (first v) both = both.0
-      both_of (second v) both = both.1
-
-  -- the second change of a router on which the first one is made
-  second_fits : (u : ℕ) → u < n → Contains changes (first u) → (Contains changes (second u) → ⊥) →
-      AreInFront n ranks (changes ++ second u ∷ [])
-  second_fits u below begun absent = record {
-    in_turn = one_more ranks changes (second u) front.in_turn (λ c here. record {
-      other = λ same. absent (subst (λ (e : Change). Contains changes e) same here);
-      wave = elim (cases_lt (rank_of ranks u) (rank_of ranks (changed c))) [
-        | inl lower ↦ absurd (absent (front.earlier c (second u) here below lower))
-        | inr up ↦ up
-      ];
-      half = λ v is same. cc;
-    });
-    below = λ c inside. elim (Contains-append_cases changes (second u ∷ []) c inside) [
-      | inl here ↦ front.below c here
-      | inr there ↦ subst (λ (e : Change). changed e < n) (contains_one (second u) c there) below
-    ];
-    earlier = λ c d inside within lower. Contains-append_left changes (second u ∷ []) d
-        (elim (Contains-append_cases changes (second u ∷ []) c inside) [
-          | inl here ↦ front.earlier c d here within lower
-          | inr there ↦
-              let e : rank_of ranks u ≡ rank_of ranks (changed c) = ap (λ (x : Change). rank_of ranks (changed x)) (contains_one (second u) c there) in
-              front.earlier (first u) d begun within (omega (arith, lower, e))
-        ]);
-    halves = λ v inside. Contains-append_left changes (second u ∷ []) (first v) (elim (Contains-append_cases changes (second u ∷ []) (second v) inside) [
+    earlier = λ c e inside within lower. Contains-append_left changes (d ∷ []) e (elim (Contains-append_cases changes (d ∷ []) c inside) [
+      | inl here ↦ front.earlier c e here within lower
+      | inr there ↦ done e within
+          (subst (λ (x : Change). rank_of ranks (changed e) < rank_of ranks (changed x)) (sym (contains_one d c there)) lower)
+    ]);
+    halves = λ v inside. Contains-append_left changes (d ∷ []) (first v) (elim (Contains-append_cases changes (d ∷ []) (second v) inside) [
       | inl here ↦ front.halves v here
-      | inr there ↦ subst (λ (w : ℕ). Contains changes (first w)) (ap changed (contains_one (second u) (second v) there)) begun
+      | inr there ↦ begun v (contains_one d (second v) there)
     ]);
   }
+
+  both_of : (d : Change) → Contains changes (first (changed d)) × Contains changes (second (changed d)) → Contains changes d
+  both_of (first v) both = both.0
+  both_of (second v) both = both.1
 
   fits_is_next : (done : List ℕ) (u : ℕ) (half : Half) → IsRanking n ranks → AreChangeCounts n changes done → u < n →
       FitsCounts ranks done u half →
       MayComeNext n ranks changes (change_of u half)
   fits_is_next done u First ranking counts below fits =
       run_of_front n ranks (changes ++ first u ∷ []) ranking
-      (first_fits u below (none_made n ranks changes u front (sym (counts.count u below) ∙ fits.none))
-      (λ v within lower. both_made n ranks changes v front (sym (counts.count v within) ∙ fits.earlier v (let long = ranking.each in
-      omega (arith, within, long)) lower)))
+      (one_fits (first u) below (none_made n ranks changes u front (sym (counts.count u below) ∙ fits.none))
+      (λ c within lower. both_of c (both_made n ranks changes (changed c) front (sym (counts.count (changed c) within)
+      ∙ fits.earlier (changed c) (let long = ranking.each in omega (arith, within, long)) lower)))
+      (λ v e. cc))
   fits_is_next done u Second ranking counts below fits =
       let one = sym (counts.count u below) ∙ fits in
+      let begun = first_made n ranks changes u front one in
       run_of_front n ranks (changes ++ second u ∷ []) ranking
-      (second_fits u below (first_made n ranks changes u front one) (second_open n ranks changes u front one))
+      (one_fits (second u) below (second_open n ranks changes u front one) (λ c within lower. front.earlier (first u) c begun within lower)
+      (λ v e. subst (λ (w : ℕ). Contains changes (first w)) (ap changed e) begun))
 
   pub next_fits : (done : List ℕ) (u : ℕ) (half : Half) → IsRanking n ranks → AreChangeCounts n changes done → u < n →
       MayComeNext n ranks changes (change_of u half) → FitsCounts ranks done u half
@@ -141,44 +108,29 @@ module _ (n : ℕ) (ranks : List ℕ) (changes : List Change) (front : AreInFron
       (not_yet ranks changes (second u) more.in_turn)
 
 -- the two changes of a router don't fit together
-one_fits : (ranks done : List ℕ) (u : ℕ) (half next : Half) → FitsCounts ranks done u half → FitsCounts ranks done u next → half ≡ next
-one_fits ranks done u First First one other = refl
-one_fits ranks done u Second Second one other = refl
-one_fits ranks done u First Second one other = let none = one.none in absurd (omega (arith, none, other))
-one_fits ranks done u Second First one other = let none = other.none in absurd (omega (arith, none, one))
-
--- the change that fits is the one that may come next
-pub fitting_is_next : (ranks done : List ℕ) (u : ℕ) (half : Half) → IsRanking (length ranks) ranks → u < length ranks →
-    FitsCounts ranks done u half →
-    IsNextOn ranks done u (Some half)
-fitting_is_next ranks done u half ranking below fits changes begin counts its =
-    let n : ℕ = length ranks in
-    let front : AreInFront n ranks changes = front_of_run n ranks changes begin in (
-      λ next. one_fits ranks done u its half (next_fits n ranks changes front done u its ranking counts below next) fits,
-      λ same. fits_is_next n ranks changes front done u its ranking counts below (subst (λ (h : Half). FitsCounts ranks done u h) (sym same) fits),
-    )
-
-pub none_is_next : (ranks done : List ℕ) (u : ℕ) → IsRanking (length ranks) ranks → u < length ranks →
-    ((half : Half) → FitsCounts ranks done u half → ⊥) →
-    IsNextOn ranks done u None
-none_is_next ranks done u ranking below none changes begin counts half next =
-    none half (next_fits (length ranks) ranks changes (front_of_run (length ranks) ranks changes begin) done u half ranking counts below next)
+fit_alone : (ranks done : List ℕ) (u : ℕ) (half next : Half) → FitsCounts ranks done u half → FitsCounts ranks done u next → half ≡ next
+fit_alone ranks done u First First one other = refl
+fit_alone ranks done u Second Second one other = refl
+fit_alone ranks done u First Second one other = let none = one.none in absurd (omega (arith, none, other))
+fit_alone ranks done u Second First one other = let none = other.none in absurd (omega (arith, none, one))
 
 -- what fits is what may come next
 pub fitting : (ranks done : List ℕ) (u : ℕ) (next : Option Half) → IsRanking (length ranks) ranks → u < length ranks →
     MatchOption next ((half : Half) → FitsCounts ranks done u half → ⊥) (FitsCounts ranks done u) → IsNextOn ranks done u next
-fitting ranks done u None ranking below none = none_is_next ranks done u ranking below none
-fitting ranks done u (Some half) ranking below fits = fitting_is_next ranks done u half ranking below fits
+fitting ranks done u None ranking below none = λ changes begin counts half next.
+    none half (next_fits (length ranks) ranks changes (front_of_run (length ranks) ranks changes begin) done u half ranking counts below next)
+fitting ranks done u (Some half) ranking below fits = λ changes begin counts its.
+    let n : ℕ = length ranks in
+    let front : AreInFront n ranks changes = front_of_run n ranks changes begin in (
+      λ next. fit_alone ranks done u its half (next_fits n ranks changes front done u its ranking counts below next) fits,
+      λ same. fits_is_next n ranks changes front done u its ranking counts below (subst (λ (h : Half). FitsCounts ranks done u h) (sym same) fits),
+    )
 
 -- ---- the counts with one change more ----
 
 on_more : (changes : List Change) (c : Change) (v : ℕ) →
     changes_on v (map changed (changes ++ c ∷ [])) ≡ changes_on v (map changed changes) + changes_on v (map changed (c ∷ []))
 on_more changes c v = ap (changes_on v) (map-append changed changes (c ∷ [])) ∙ count_append v (map changed changes) (map changed (c ∷ []))
-
-changed_is : (u : ℕ) (half : Half) → changed (change_of u half) ≡ u
-changed_is u First = refl
-changed_is u Second = refl
 
 before_fit : (ranks done : List ℕ) (u : ℕ) (half : Half) → FitsCounts ranks done u half → get_or done u 0 + 1 ≡ half_number half
 before_fit ranks done u First fits = let none = fits.none in omega (arith, none)

@@ -1,17 +1,20 @@
 -- Where a journal stands: how far its lines are taken, and that it stands at one place.
-use Rattle.std.proofs.Common.{◌≡◌, ℕ, ◌+◌, ◌*◌, ◌<◌, ◌≤◌, ◌⊎◌, inl, inr, Bool, true, false, List, [], ◌∷◌, ◌++◌}
-use Rattle.std.proofs.Common.{length, map, refl, sym, ap, subst, ◌∙◌, append_assoc, length-append, arith}
+use Rattle.std.proofs.Common.{◌≡◌, ℕ, suc, ◌+◌, ◌-◌, ◌*◌, ◌<◌, ◌≤◌, inl, inr, true, false, List, [], ◌∷◌, ◌++◌}
+use Rattle.std.proofs.Common.{length, map, take, refl, sym, ap, subst, ◌∙◌, append_assoc, length-append, arith}
 use Rattle.std.specs.List.{AllZip}
+use Rattle.std.proofs.lemmas.Bool.{cases_order}
 use Rattle.std.proofs.lemmas.List.{same_lists, get_or_default}
 use Rattle.std.proofs.lemmas.Slice.Zip.{all_zipped_more, AllZip-long}
+use Rattle.std.proofs.Math.Seq.{take-append_seam, take-append-add}
 use Rattle.net_addr.specs.Lines.{line_texts}
 use Rattle.net_model.specs.Network.{Network}
 use Rattle.net_model.specs.Refusals.{NamesAscend}
 use Rattle.order_core.specs.Rankings.{IsRanking}
 use Rattle.igp_theory.specs.States.{changes_on}
 use Rattle.igp_theory.specs.Waves.{Change, changed}
-use Rattle.state_replay.specs.Journals.{journal_header, BeginRun, MayComeNext, AreChangeCounts, TellsChange, AreReplayed, HasReached, HasMisfit, IsPlace}
-use Rattle.state_replay.specs.steps.Making.{BeginsWithHeader, IsMade, IsNotMade, MakesChange}
+use Rattle.state_replay.specs.Journals.{journal_header, BeginRun, AreChangeCounts, TellsChange, Progress, progress, AreReplayed, HasReached, HasMisfit}
+use Rattle.state_replay.specs.Journals.{IsPlace}
+use Rattle.state_replay.specs.steps.Making.{IsMade, IsNotMade, MakesChange}
 use Rattle.state_replay.specs.declared.place.Place.{Place}
 use Rattle.state_replay.specs.declared.place.Place.TheVariants.{Reached, Departs}
 use Rattle.state_replay.proofs.Fronts.{begin_fewer}
@@ -22,91 +25,60 @@ use Rattle.state_replay.proofs.Lines.{told_once}
 -- ---- how far the lines are taken ----
 
 -- the lines up to those that are left are taken, and so many changes are made
-pub record IsTaken (net : Network) (ranks journal : List ℕ) (left : List (List ℕ)) (made : ℕ) (done : List ℕ) : Type 0 where
+pub record IsTaken (p : Progress) (journal : List ℕ) (left : List (List ℕ)) (made : ℕ) : Type 0 where
   pub before : List (List ℕ)
   pub all : line_texts journal ≡ journal_header ∷ before ++ left
   pub changes : List Change
   pub count : made ≡ length changes
-  pub replayed : AreReplayed net ranks before changes done
+  pub replayed : AreReplayed p before changes
 
-pub taken_few : (net : Network) (ranks journal : List ℕ) (left : List (List ℕ)) (made : ℕ) (done : List ℕ) →
-    IsTaken net ranks journal left made done →
-    made ≤ 2 * length net
-taken_few net ranks journal left made done taken =
-    let few = few_changes (length net) ranks taken.changes taken.replayed.begin in
-    let count = taken.count in
-    omega (arith, few, count)
+pub taken_few : {p : Progress} {journal : List ℕ} {left : List (List ℕ)} {made : ℕ} → IsTaken p journal left made → made ≤ 2 * length p.net
+taken_few {p = p} taken = omega (arith, few_changes (length p.net) p.ranks taken.changes taken.replayed.begin, taken.count)
 
-pub taken_none : (net : Network) (ranks journal : List ℕ) (left : List (List ℕ)) (done : List ℕ) → line_texts journal ≡ journal_header ∷ left →
-    BeginRun (length net) ranks [] → AreChangeCounts (length net) [] done → IsTaken net ranks journal left 0 done
-taken_none net ranks journal left done all begin counts = record {
+-- the lines of a journal that begins with the header
+pub taken_start : {p : Progress} {journal : List ℕ} {left : List (List ℕ)} → line_texts journal ≡ journal_header ∷ left →
+    IsRanking (length p.net) p.ranks → AreChangeCounts (length p.net) [] p.done → IsTaken p journal left 0
+taken_start {p = p} header ranking counts = record {
   before = [];
-  all = all;
+  all = header;
   changes = [];
   count = refl;
-  replayed = record { told = tt; begin = begin; counts = counts };
+  replayed = record { told = tt; begin = begin_none (length p.net) p.ranks ranking; counts = counts };
 }
 
-pub taken_more : (net : Network) (ranks journal : List ℕ) (line : List ℕ) (left : List (List ℕ)) (made : ℕ) (done more : List ℕ) →
-    (taken : IsTaken net ranks journal (line ∷ left) made done) → IsMade net ranks line taken.changes more →
-    IsTaken net ranks journal left (made + 1) more
-taken_more net ranks journal line left made done more taken is = record {
-  before = taken.before ++ line ∷ [];
-  all = taken.all ∙ ap (λ l. journal_header ∷ l) (sym (append_assoc taken.before (line ∷ []) left));
-  changes = taken.changes ++ is.change ∷ [];
-  count = let count = taken.count in omega (arith, count, length-append taken.changes (is.change ∷ []));
-  replayed = record {
-    told = all_zipped_more (TellsChange net) taken.before taken.changes line is.change taken.replayed.told is.told;
-    begin = is.next;
-    counts = is.counts;
-  };
-}
+module _ (p : Progress) (journal : List ℕ) (line : List ℕ) (left : List (List ℕ)) (made : ℕ) (more : List ℕ) (taken : IsTaken p journal (line ∷ left) made)
+  where
+    -- the next line, where its change is made
+    pub taken_made : MakesChange p line more true → IsTaken (progress p.net p.ranks more) journal left (made + 1)
+    taken_made makes =
+        let is : IsMade (progress p.net p.ranks more) line taken.changes = makes taken.changes taken.replayed.begin taken.replayed.counts in
+        record {
+          before = taken.before ++ line ∷ [];
+          all = taken.all ∙ ap (λ l. journal_header ∷ l) (sym (append_assoc taken.before (line ∷ []) left));
+          changes = taken.changes ++ is.change ∷ [];
+          count = let count = taken.count in omega (arith, count, length-append taken.changes (is.change ∷ []));
+          replayed = record {
+            told = all_zipped_more (TellsChange p.net) taken.before taken.changes line is.change taken.replayed.told is.told;
+            begin = is.next;
+            counts = is.counts;
+          };
+        }
 
--- where the next line tells no change that may come next it fits no run
-pub taken_misfit : (net : Network) (ranks journal : List ℕ) (line : List ℕ) (left : List (List ℕ)) (made : ℕ) (done : List ℕ) →
-    (taken : IsTaken net ranks journal (line ∷ left) made done) → ((c : Change) → TellsChange net line c →
-    MayComeNext (length net) ranks taken.changes c → ⊥) →
-    HasMisfit net ranks journal (made + 2) done
-taken_misfit net ranks journal line left made done taken misfit = record {
-  before = taken.before;
-  text = line;
-  after = left;
-  all = taken.all;
-  number = let count = taken.count in omega (arith, count, AllZip-long (TellsChange net) taken.before taken.changes taken.replayed.told);
-  changes = taken.changes;
-  replayed = taken.replayed;
-  misfit = misfit;
-}
-
--- the first lines of a journal that begins with the header
-pub taken_start : (net : Network) (ranks journal : List ℕ) (lines left : List (List ℕ)) (done : List ℕ) (begins : Bool) →
-    lines ≡ line_texts journal →
-    BeginsWithHeader lines left begins → begins ≡ true → IsRanking (length net) ranks → AreChangeCounts (length net) [] done →
-    IsTaken net ranks journal left 0 done
-taken_start net ranks journal lines left done begins whole with_header same ranking counts =
-    taken_none net ranks journal left done (sym whole ∙ subst (λ b. BeginsWithHeader lines left b) same with_header)
-    (begin_none (length net) ranks ranking) counts
-
--- the next line, where its change is made
-pub taken_made : (net : Network) (ranks journal : List ℕ) (lines : List (List ℕ)) (line : List ℕ) (left : List (List ℕ)) (made : ℕ)
-    (done more : List ℕ) (fits : Bool) →
-    lines ≡ line ∷ left → IsTaken net ranks journal lines made done → MakesChange net ranks line done more fits → fits ≡ true →
-    IsTaken net ranks journal left (made + 1) more
-taken_made net ranks journal lines line left made done more fits next taken makes same =
-    let here : IsTaken net ranks journal (line ∷ left) made done = subst (λ l. IsTaken net ranks journal l made done) next taken in
-    taken_more net ranks journal line left made done more here
-    (subst (λ b. MakesChange net ranks line done more b) same makes here.changes here.replayed.begin here.replayed.counts)
-
--- and where it isn't
-pub taken_not : (net : Network) (ranks journal : List ℕ) (lines : List (List ℕ)) (line : List ℕ) (left : List (List ℕ)) (made : ℕ)
-    (done more : List ℕ) (fits : Bool) →
-    lines ≡ line ∷ left → IsTaken net ranks journal lines made done → MakesChange net ranks line done more fits → fits ≡ false →
-    HasMisfit net ranks journal (made + 2) more
-taken_not net ranks journal lines line left made done more fits next taken makes same =
-    let here : IsTaken net ranks journal (line ∷ left) made done = subst (λ l. IsTaken net ranks journal l made done) next taken in
-    let not : IsNotMade net ranks line here.changes done more =
-    subst (λ b. MakesChange net ranks line done more b) same makes here.changes here.replayed.begin here.replayed.counts in
-    subst (λ l. HasMisfit net ranks journal (made + 2) l) (sym not.stay) (taken_misfit net ranks journal line left made done here not.misfit)
+    -- and where it isn't
+    pub taken_not : MakesChange p line more false → HasMisfit (progress p.net p.ranks more) journal (made + 2)
+    taken_not makes =
+        let not : IsNotMade p line taken.changes more = makes taken.changes taken.replayed.begin taken.replayed.counts in
+        let count = taken.count in
+        subst (λ l. HasMisfit (progress p.net p.ranks l) journal (made + 2)) (sym not.stay) (record {
+          before = taken.before;
+          text = line;
+          after = left;
+          all = taken.all;
+          number = omega (arith, count, AllZip-long (TellsChange p.net) taken.before taken.changes taken.replayed.told);
+          changes = taken.changes;
+          replayed = taken.replayed;
+          misfit = not.misfit;
+        })
 
 -- ---- one place ----
 
@@ -123,31 +95,6 @@ one_count n changes others done made same one two =
     ∙ sym (two.count u below)
     ∙ get_or_default made u 0 d there)
 
--- lines that tell changes, and of these the first ones
-record FrontTold (net : Network) (before : List (List ℕ)) (text : List ℕ) (after : List (List ℕ)) (changes : List Change) : Type 0 where
-  front : List Change
-  next : Change
-  rest : List Change
-  whole : changes ≡ front ++ next ∷ rest
-  told : AllZip (TellsChange net) before front
-  told_next : TellsChange net text next
-
-front_told : (net : Network) (before : List (List ℕ)) (text : List ℕ) (after : List (List ℕ)) (changes : List Change) →
-    AllZip (TellsChange net) (before ++ text ∷ after) changes → FrontTold net before text after changes
-front_told net [] text after [] told = absurd told
-front_told net [] text after (c ∷ changes) told = record { front = []; next = c; rest = changes; whole = refl; told = tt; told_next = told.0 }
-front_told net (line ∷ before) text after [] told = absurd told
-front_told net (line ∷ before) text after (c ∷ changes) told =
-    let others = front_told net before text after changes told.1 in
-    record {
-      front = c ∷ others.front;
-      next = others.next;
-      rest = others.rest;
-      whole = ap (λ l. c ∷ l) others.whole;
-      told = (told.0, others.told);
-      told_next = others.told_next;
-    }
-
 -- lines tell one list of changes
 told_list : (net : Network) → NamesAscend net → (lines : List (List ℕ)) (one other : List Change) → AllZip (TellsChange net) lines one →
     AllZip (TellsChange net) lines other → one ≡ other
@@ -159,55 +106,40 @@ told_list net ascending (line ∷ lines) (c ∷ one) [] h k = absurd k
 told_list net ascending (line ∷ lines) (c ∷ one) (d ∷ other) h k =
     ap (λ x. x ∷ one) (told_once net ascending line c d h.0 k.0) ∙ ap (λ l. d ∷ l) (told_list net ascending lines one other h.1 k.1)
 
--- a line that tells no change that may come next is no line of changes that begin a run
-no_misfit : (net : Network) (ranks : List ℕ) → NamesAscend net → (before : List (List ℕ)) (text : List ℕ) (after : List (List ℕ))
-    (changes others : List Change) →
-    AllZip (TellsChange net) before changes → ((c : Change) → TellsChange net text c → MayComeNext (length net) ranks changes c → ⊥) →
-    AllZip (TellsChange net) (before ++ text ∷ after) others → BeginRun (length net) ranks others → ⊥
-no_misfit net ranks ascending before text after changes others told misfit all begin =
-    let part : FrontTold net before text after others = front_told net before text after others all in
-    let same : part.front ≡ changes = told_list net ascending before part.front changes part.told told in
-    let longer : BeginRun (length net) ranks ((part.front ++ part.next ∷ []) ++ part.rest) =
-    subst (λ l. BeginRun (length net) ranks l) (part.whole ∙ sym (append_assoc part.front (part.next ∷ []) part.rest)) begin in
-    let next : BeginRun (length net) ranks (part.front ++ part.next ∷ []) =
-    begin_fewer (length net) ranks (part.front ++ part.next ∷ []) part.rest longer in
-    misfit part.next part.told_next (subst (λ l. BeginRun (length net) ranks (l ++ part.next ∷ [])) same next)
+-- a change more than these is told by a line
+record HasNext (net : Network) (line : List ℕ) (changes more : List Change) : Type 0 where
+  next : Change
+  rest : List Change
+  whole : more ≡ changes ++ next ∷ rest
+  told : TellsChange net line next
 
--- one list split at two of its items: at the same one, or at one before the other
-record IsFurther (before : List (List ℕ)) (text : List ℕ) (others : List (List ℕ)) : Type 0 where
-  between : List (List ℕ)
-  is : others ≡ before ++ text ∷ between
+next_told : (net : Network) → NamesAscend net → (before : List (List ℕ)) (line : List ℕ) (after : List (List ℕ)) (changes more : List Change) →
+    AllZip (TellsChange net) before changes → AllZip (TellsChange net) (before ++ line ∷ after) more → HasNext net line changes more
+next_told net ascending [] line after [] [] h k = absurd k
+next_told net ascending [] line after [] (d ∷ more) h k = record { next = d; rest = more; whole = refl; told = k.0 }
+next_told net ascending [] line after (c ∷ changes) more h k = absurd h
+next_told net ascending (l ∷ before) line after [] more h k = absurd h
+next_told net ascending (l ∷ before) line after (c ∷ changes) [] h k = absurd k
+next_told net ascending (l ∷ before) line after (c ∷ changes) (d ∷ more) h k =
+    let is = next_told net ascending before line after changes more h.1 k.1 in
+    record {
+      next = is.next;
+      rest = is.rest;
+      whole = ap (λ x. x ∷ more) (told_once net ascending l d c k.0 h.0) ∙ ap (λ x. c ∷ x) is.whole;
+      told = is.told;
+    }
 
-splits : (before : List (List ℕ)) (text : List ℕ) (after others : List (List ℕ)) (item : List ℕ) (rest : List (List ℕ)) →
-    before ++ text ∷ after ≡ others ++ item ∷ rest → (before ≡ others) ⊎ IsFurther before text others ⊎ IsFurther others item before
-splits [] text after [] item rest same = inl refl
-splits [] text after (x ∷ others) item rest same =
-    let first : text ≡ x = cc in
-    inr (inl (record { between = others; is = ap (λ y. y ∷ others) (sym first) }))
-splits (x ∷ before) text after [] item rest same =
-    let first : x ≡ item = cc in
-    inr (inr (record { between = before; is = ap (λ y. y ∷ before) first }))
-splits (x ∷ before) text after (y ∷ others) item rest same =
-    let first : x ≡ y = cc in
-    let tails : before ++ text ∷ after ≡ others ++ item ∷ rest = cc in
-    elim (splits before text after others item rest tails) [
-      | inl one ↦ inl (ap (λ l. x ∷ l) one ∙ ap (λ z. z ∷ others) first)
-      | inr apart ↦ elim apart [
-        | inl further ↦ inr (inl (record {
-          between = further.between;
-          is = ap (λ l. y ∷ l) further.is
-              ∙ ap (λ z. z ∷ before ++ text ∷ further.between) (sym first);
-        }))
-        | inr further ↦ inr (inr (record {
-          between = further.between;
-          is = ap (λ l. x ∷ l) further.is
-              ∙ ap (λ z. z ∷ others ++ item ∷ further.between) first;
-        }))
-      ]
-    ]
+-- of two fronts of a list the longer one goes on as the list
+longer : (before : List (List ℕ)) (line : List ℕ) (after others rest : List (List ℕ)) → before ++ line ∷ after ≡ others ++ rest →
+    length before < length others → others ≡ before ++ line ∷ take (length others - length before - 1) after
+longer before line after others rest same lower =
+    let more : ℕ = length others - length before - 1 in
+    let long : length others ≡ length before + suc more = omega (arith, lower) in
+    sym (take-append_seam others rest) ∙ ap (take (length others)) (sym same) ∙ ap (λ k. take k (before ++ line ∷ after)) long
+    ∙ take-append-add before (line ∷ after) (suc more)
 
 module _ (net : Network) (ranks journal : List ℕ) (ascending : NamesAscend net) where
-  one_reached : (k j : ℕ) (done made : List ℕ) → HasReached net ranks journal k done → HasReached net ranks journal j made →
+  one_reached : (k j : ℕ) (done made : List ℕ) → HasReached (progress net ranks done) journal k → HasReached (progress net ranks made) journal j →
       (Reached k ≡ Reached j) × (done ≡ made)
   one_reached k j done made one two =
       let lines : one.lines ≡ two.lines = let e = sym one.all ∙ two.all in cc in
@@ -217,43 +149,54 @@ module _ (net : Network) (ranks journal : List ℕ) (ascending : NamesAscend net
       let count : k ≡ j = one.count ∙ ap length changes ∙ sym two.count in
       (ap Reached count, one_count (length net) one.changes two.changes done made changes one.replayed.counts two.replayed.counts)
 
-  reached_or_departs : (k line : ℕ) (done made : List ℕ) → HasReached net ranks journal k done → IsPlace net ranks journal (Departs line) made → ⊥
+  -- lines that tell changes that begin a run don't go on behind those before a misfit
+  no_misfit : (done made : List ℕ) (number : ℕ) (lines : List (List ℕ)) (changes : List Change) (misfit : HasMisfit (progress net ranks done) journal number)
+      (after : List (List ℕ)) → lines ≡ misfit.before ++ misfit.text ∷ after → AreReplayed (progress net ranks made) lines changes → ⊥
+  no_misfit done made number lines changes misfit after all replayed =
+      let more : HasNext net misfit.text misfit.changes changes =
+      next_told net ascending misfit.before misfit.text after misfit.changes changes misfit.replayed.told
+      (subst (λ l. AllZip (TellsChange net) l changes) all replayed.told) in
+      misfit.misfit more.next more.told
+      (begin_fewer (length net) ranks (misfit.changes ++ more.next ∷ []) more.rest
+      (subst (BeginRun (length net) ranks) (more.whole ∙ sym (append_assoc misfit.changes (more.next ∷ []) more.rest)) replayed.begin))
+
+  reached_or_departs : (k line : ℕ) (done made : List ℕ) → HasReached (progress net ranks done) journal k →
+      IsPlace (progress net ranks made) journal (Departs line) → ⊥
   reached_or_departs k line done made one (inl two) = two.other one.lines one.all
   reached_or_departs k line done made one (inr two) =
-      let lines : one.lines ≡ two.before ++ two.text ∷ two.after = let e = sym one.all ∙ two.all in cc in
-      no_misfit net ranks ascending two.before two.text two.after two.changes one.changes two.replayed.told two.misfit
-      (subst (λ l. AllZip (TellsChange net) l one.changes) lines one.replayed.told) one.replayed.begin
+      no_misfit made done line one.lines one.changes two two.after (let e = sym one.all ∙ two.all in cc) one.replayed
 
-  one_misfit : (line other : ℕ) (done made : List ℕ) → HasMisfit net ranks journal line done → HasMisfit net ranks journal other made →
-      (Departs line ≡ Departs other) × (done ≡ made)
+  one_misfit : (line other : ℕ) (done made : List ℕ) → HasMisfit (progress net ranks done) journal line →
+      HasMisfit (progress net ranks made) journal other → (Departs line ≡ Departs other) × (done ≡ made)
   one_misfit line other done made one two =
       let all : one.before ++ one.text ∷ one.after ≡ two.before ++ two.text ∷ two.after = let e = sym one.all ∙ two.all in cc in
-      elim (splits one.before one.text one.after two.before two.text two.after all) [
+      elim (cases_order (length one.before) (length two.before)) [
         | inl same ↦
+            let lines : one.before ≡ two.before = sym (take-append_seam one.before (one.text ∷ one.after)) ∙ ap (take (length one.before)) all
+            ∙ ap (λ k. take k (two.before ++ two.text ∷ two.after)) same ∙ take-append_seam two.before (two.text ∷ two.after) in
             let changes : one.changes ≡ two.changes =
-            told_list net ascending two.before one.changes two.changes (subst (λ l. AllZip (TellsChange net) l one.changes) same one.replayed.told)
+            told_list net ascending two.before one.changes two.changes (subst (λ l. AllZip (TellsChange net) l one.changes) lines one.replayed.told)
             two.replayed.told in
-            let number : line ≡ other = one.number ∙ ap (λ l. length l + 2) same ∙ sym two.number in
+            let number : line ≡ other = one.number ∙ ap (λ l. length l + 2) lines ∙ sym two.number in
             (ap Departs number, one_count (length net) one.changes two.changes done made changes one.replayed.counts two.replayed.counts)
         | inr apart ↦ elim apart [
-          | inl further ↦ absurd (no_misfit net ranks ascending one.before one.text further.between one.changes two.changes one.replayed.told one.misfit
-              (subst (λ l. AllZip (TellsChange net) l two.changes) further.is two.replayed.told) two.replayed.begin)
-          | inr further ↦ absurd (no_misfit net ranks ascending two.before two.text further.between two.changes one.changes two.replayed.told two.misfit
-              (subst (λ l. AllZip (TellsChange net) l one.changes) further.is one.replayed.told) one.replayed.begin)
+          | inl lower ↦ absurd (no_misfit done made line two.before two.changes one (take (length two.before - length one.before - 1) one.after)
+              (longer one.before one.text one.after two.before (two.text ∷ two.after) all lower) two.replayed)
+          | inr lower ↦ absurd (no_misfit made done other one.before one.changes two (take (length one.before - length two.before - 1) two.after)
+              (longer two.before two.text two.after one.before (one.text ∷ one.after) (sym all) lower) one.replayed)
         ]
       ]
 
-  one_departure : (line other : ℕ) (done made : List ℕ) → IsPlace net ranks journal (Departs line) done →
-      IsPlace net ranks journal (Departs other) made →
-      (Departs line ≡ Departs other) × (done ≡ made)
+  one_departure : (line other : ℕ) (done made : List ℕ) → IsPlace (progress net ranks done) journal (Departs line) →
+      IsPlace (progress net ranks made) journal (Departs other) → (Departs line ≡ Departs other) × (done ≡ made)
   one_departure line other done made (inl one) (inl two) =
       (ap Departs (one.number ∙ sym two.number), one_count (length net) [] [] done made refl one.counts two.counts)
   one_departure line other done made (inl one) (inr two) = absurd (one.other (two.before ++ two.text ∷ two.after) two.all)
   one_departure line other done made (inr one) (inl two) = absurd (two.other (one.before ++ one.text ∷ one.after) one.all)
   one_departure line other done made (inr one) (inr two) = one_misfit line other done made one two
 
-  pub one_place : (one other : Place) (done made : List ℕ) → IsPlace net ranks journal one done → IsPlace net ranks journal other made →
-      (one ≡ other) × (done ≡ made)
+  pub one_place : (one other : Place) (done made : List ℕ) → IsPlace (progress net ranks done) journal one →
+      IsPlace (progress net ranks made) journal other → (one ≡ other) × (done ≡ made)
   one_place (Reached k) (Reached j) done made one two = one_reached k j done made one two
   one_place (Reached k) (Departs line) done made one two = absurd (reached_or_departs k line done made one two)
   one_place (Departs line) (Reached k) done made one two = absurd (reached_or_departs k line made done two one)

@@ -29,16 +29,16 @@ pub record AreChangeCounts (n : ℕ) (changes : List Change) (done : List ℕ) :
   pub each : length done ≡ n
   pub count : (u : ℕ) → u < n → slice_index done u ≡ changes_on u (map changed changes)
 
--- none of the changes of router u may come next; this one of them may, and not the other
-abbrev pub IsNextAfter : ℕ → List ℕ → List Change → ℕ → Option Half → Type 0
-IsNextAfter n ranks changes u None = (half : Half) → MayComeNext n ranks changes (change_of u half) → ⊥
-IsNextAfter n ranks changes u (Some next) = (half : Half) → MayComeNext n ranks changes (change_of u half) ↔ (half ≡ next)
+-- by what may come, none of the changes of router u may; this one of them may, and not the other
+abbrev pub IsNextAfter : (Change → Type 0) → ℕ → Option Half → Type 0
+IsNextAfter MayCome u None = (half : Half) → MayCome (change_of u half) → ⊥
+IsNextAfter MayCome u (Some next) = (half : Half) → MayCome (change_of u half) ↔ (half ≡ next)
 
 -- that is so after all changes that begin a run and have these counts
 abbrev pub IsNextOn : List ℕ → List ℕ → ℕ → Option Half → Type 0
 IsNextOn ranks done u next =
     (changes : List Change) → BeginRun (length ranks) ranks changes → AreChangeCounts (length ranks) changes done →
-    IsNextAfter (length ranks) ranks changes u next
+    IsNextAfter (MayComeNext (length ranks) ranks changes) u next
 
 -- ---- the lines of a journal ----
 
@@ -55,38 +55,51 @@ pub record TellsChange (net : Network) (line : List ℕ) (c : Change) : Type 0 w
   pub named : IsNamed net name router
   pub is : c ≡ change_of router half
 
+-- how far a migration is: its network, the wave of each router, and how many changes are made on each
+pub record Progress : Type 0 where
+  pub net : Network
+  pub ranks : List ℕ
+  pub done : List ℕ
+
+abbrev pub progress : Network → List ℕ → List ℕ → Progress
+progress net ranks done = record { net = net; ranks = ranks; done = done }
+
 -- lines tell changes that begin a run, and these are the counts of the changes
-pub record AreReplayed (net : Network) (ranks : List ℕ) (lines : List (List ℕ)) (changes : List Change) (done : List ℕ) : Type 0 where
-  pub told : AllZip (TellsChange net) lines changes
-  pub begin : BeginRun (length net) ranks changes
-  pub counts : AreChangeCounts (length net) changes done
+pub record AreReplayed (p : Progress) (lines : List (List ℕ)) (changes : List Change) : Type 0 where
+  pub told : AllZip (TellsChange p.net) lines changes
+  pub begin : BeginRun (length p.net) p.ranks changes
+  pub counts : AreChangeCounts (length p.net) changes p.done
+
+-- a line tells none that may come next after these changes
+abbrev pub IsMisfit : Progress → List ℕ → List Change → Type 0
+IsMisfit p line changes = (c : Change) → TellsChange p.net line c → MayComeNext (length p.net) p.ranks changes c → ⊥
 
 -- the lines are the header and, for each of k changes that begin a run, the line that tells it
-pub record HasReached (net : Network) (ranks journal : List ℕ) (k : ℕ) (done : List ℕ) : Type 0 where
+pub record HasReached (p : Progress) (journal : List ℕ) (k : ℕ) : Type 0 where
   pub lines : List (List ℕ)
   pub all : line_texts journal ≡ journal_header ∷ lines
   pub changes : List Change
   pub count : k ≡ length changes
-  pub replayed : AreReplayed net ranks lines changes done
+  pub replayed : AreReplayed p lines changes
 
 -- the first line is missing or another one, and nothing is done
-pub record LacksHeader (net : Network) (journal : List ℕ) (line : ℕ) (done : List ℕ) : Type 0 where
+pub record LacksHeader (p : Progress) (journal : List ℕ) (line : ℕ) : Type 0 where
   pub number : line ≡ 1
   pub other : (lines : List (List ℕ)) → line_texts journal ≡ journal_header ∷ lines → ⊥
-  pub counts : AreChangeCounts (length net) [] done
+  pub counts : AreChangeCounts (length p.net) [] p.done
 
 -- the lines before this one tell changes that begin a run, and it tells none that may come next
-pub record HasMisfit (net : Network) (ranks journal : List ℕ) (line : ℕ) (done : List ℕ) : Type 0 where
+pub record HasMisfit (p : Progress) (journal : List ℕ) (line : ℕ) : Type 0 where
   pub before : List (List ℕ)
   pub text : List ℕ
   pub after : List (List ℕ)
   pub all : line_texts journal ≡ journal_header ∷ before ++ text ∷ after
   pub number : line ≡ length before + 2
   pub changes : List Change
-  pub replayed : AreReplayed net ranks before changes done
-  pub misfit : (c : Change) → TellsChange net text c → MayComeNext (length net) ranks changes c → ⊥
+  pub replayed : AreReplayed p before changes
+  pub misfit : IsMisfit p text changes
 
 -- where a journal stands, and how many changes are made on each router by the lines up to there
-abbrev pub IsPlace : Network → List ℕ → List ℕ → Place → List ℕ → Type 0
-IsPlace net ranks journal (Reached k) done = HasReached net ranks journal k done
-IsPlace net ranks journal (Departs line) done = LacksHeader net journal line done ⊎ HasMisfit net ranks journal line done
+abbrev pub IsPlace : Progress → List ℕ → Place → Type 0
+IsPlace p journal (Reached k) = HasReached p journal k
+IsPlace p journal (Departs line) = LacksHeader p journal line ⊎ HasMisfit p journal line

@@ -3,14 +3,14 @@ use Rattle.std.specs.Prelude.{◌≡◌, ℕ, List}
 use Rattle.net_model.specs.Network.{Network}
 use Rattle.net_model.specs.Refusals.{NamesAscend}
 use Rattle.igp_theory.specs.Waves.{Change, IsRun}
-use Rattle.state_replay.specs.Journals.{BeginRun, MayComeNext, IsPlace}
+use Rattle.state_replay.specs.Journals.{BeginRun, MayComeNext, IsPlace, progress}
 use Rattle.state_replay.specs.declared.place.Place.{Place}
 
 -- a journal stands at one place, with one count of each router
 abbrev pub OnePlaceLaw : Type 0
 OnePlaceLaw =
     (net : Network) (ranks journal : List ℕ) (one other : Place) (done made : List ℕ) → NamesAscend net →
-    IsPlace net ranks journal one done → IsPlace net ranks journal other made → (one ≡ other) × (done ≡ made)
+    IsPlace (progress net ranks done) journal one → IsPlace (progress net ranks made) journal other → (one ≡ other) × (done ≡ made)
 
 -- where changes begin a run and none may come next, they are the whole run
 abbrev pub SomeNextLaw : Type 0

@@ -1,7 +1,7 @@
 ghost use Rattle.std.specs.Prelude.{◌≡◌, [], length};
 ghost use Rattle.order_core.specs.Rankings.{IsRanking};
 ghost use Rattle.net_model.specs.Refusals.{IsNetwork};
-ghost use Rattle.state_replay.specs.Journals.{AreChangeCounts, IsPlace};
+ghost use Rattle.state_replay.specs.Journals.{AreChangeCounts, IsPlace, progress};
 ghost use Rattle.state_replay.specs.steps.Making.{BeginsWithHeader, MakesChange};
 
 use crate::told::told_change;
@@ -18,7 +18,7 @@ use net_model::Net;
 pub fn replay(net: &Net, ranks: &[u32], journal: &[u8], done: &mut [u8]) -> Place
     requires ranking { IsRanking (length net.now) ranks.now }
     requires counts { length done.old ≡ length net.now }
-    ensures { IsPlace net.now ranks.now journal.now result done.new }
+    ensures { IsPlace (progress net.now ranks.now done.new) journal.now result }
 {
     start_counts(net, done);
     let mut lines = LineCursor::new(journal);
@@ -61,7 +61,7 @@ fn judge_line(net: &Net, ranks: &[u32], line: &[u8], done: &mut [u8]) -> bool
     requires network { IsNetwork net.now }
     requires ranking { IsRanking (length net.now) ranks.now }
     requires counts { length done.old ≡ length net.now }
-    ensures { MakesChange net.now ranks.now line.now done.old done.new result }
+    ensures { MakesChange (progress net.now ranks.now done.old) line.now done.new result }
 {
     let Some(told) = told_change(net, line) else {
         return false;

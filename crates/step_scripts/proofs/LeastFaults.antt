@@ -10,23 +10,23 @@ use Rattle.net_model.specs.Network.{Network}
 use Rattle.net_model.specs.Refusals.{NamesAscend}
 use Rattle.step_scripts.specs.WaveLines.{header_of, wave_on, chain_on, waves_on, chains_on}
 use Rattle.step_scripts.specs.WaveFiles.{all_in, AreOfEach}
-use Rattle.step_scripts.specs.FaultyLines.{HasHeader, IsFaultBehind, IsFaultyLine, IsLeastFaultyLine, HasFaultyEntry, order_kind_rank}
+use Rattle.step_scripts.specs.FaultyLines.{FileEntry, file_entry, HasHeader, IsFaultBehind, IsFaultyLine, IsLeastFaultyLine, IsWaveBehind, HasFaultyEntry}
+use Rattle.step_scripts.specs.FaultyLines.{order_kind_rank}
 use Rattle.step_scripts.specs.steps.ReadWaves.{AreWavesRead, AreEntriesRead, IsUnfit, HasUnseated, HasUnknown, NamesRepeat}
 use Rattle.step_scripts.specs.declared.version.Version.{Version}
 use Rattle.step_scripts.specs.declared.kind.OrderKind.{OrderKind}
 use Rattle.step_scripts.specs.declared.kind.OrderKind.TheVariants.{Header, NotInNetwork, Twice, Missing, Wave, Chain}
 use Rattle.step_scripts.proofs.Routers.{same_router, same_name, has_name}
 use Rattle.step_scripts.proofs.Zips.{zip_at, zip_append, zip_flat, zip_take, zip_partner, zip_item}
-use Rattle.step_scripts.proofs.Splits.{IsSplitAt, split_at, one_split}
-use Rattle.step_scripts.proofs.Splits.IsSplitAt.{in_first, in_second}
+use Rattle.step_scripts.proofs.Splits.{split_at, one_split}
 use Rattle.step_scripts.proofs.WaveLineFacts.{Says, one_header, chain_no_wave, waves_of, no_chains}
 use Rattle.step_scripts.proofs.WaveLists.{seat_of}
 use Rattle.step_scripts.proofs.ReadFacts.{no_fault_in, waves_read}
 
 -- a line that is faulty with this kind by what stands before it, and with no lower one
-pub record IsLowestBehind (net : Network) (version : Version) (before : List (List ℕ)) (line : List ℕ) (kind : OrderKind) : Type 0 where
-  pub fault : IsFaultBehind net version before line kind
-  pub lowest : (its : OrderKind) → IsFaultBehind net version before line its → order_kind_rank kind ≤ order_kind_rank its
+pub record IsLowestBehind (net : Network) (e : FileEntry) (kind : OrderKind) : Type 0 where
+  pub fault : IsFaultBehind net e kind
+  pub lowest : (its : OrderKind) → IsFaultBehind net e its → order_kind_rank kind ≤ order_kind_rank its
 
 pub first_header : (text : List ℕ) (version : Version) (entries : List (List ℕ)) → line_texts text ≡ header_of version ∷ entries →
     HasHeader version text
@@ -46,14 +46,14 @@ module _ (net : Network) (network : NamesAscend net) (text : List ℕ) (version 
       AreEntriesRead net version entries seats →
       (number : ℕ) (kind : OrderKind) → HasFaultyEntry net text number kind → length entries + 2 ≤ number
   behind_entry entries rest seats lines read number kind f =
-      by_part (split_at f.before f.line f.after entries rest (sym (same_entries (entries ++ rest) lines f.version (f.before ++ f.line ∷ f.after) f.lines)))
-    where
-      by_part : IsSplitAt f.before f.line f.after entries rest → length entries + 2 ≤ number
-      by_part (in_first more is _) =
-          let its = same_version (entries ++ rest) lines f.version (f.before ++ f.line ∷ f.after) f.lines in
-          absurd (no_fault_in net network version entries seats read f.before f.line more is kind
-          (subst (λ v. IsFaultBehind net v f.before f.line kind) its f.fault))
-      by_part (in_second front is _) = omega (arith, f.number_is, ap length is, length-append entries front)
+      let same = same_entries (entries ++ rest) lines f.at.version (f.at.before ++ f.at.line ∷ f.after) f.lines in
+      elim (split_at f.at.before f.at.line f.after entries rest (sym same)) [
+        | inl here ↦
+            let its = same_version (entries ++ rest) lines f.at.version (f.at.before ++ f.at.line ∷ f.after) f.lines in
+            absurd (no_fault_in net network version entries seats read f.at.before f.at.line here.0 here.1 kind
+            (subst (λ v. IsFaultBehind net (file_entry v f.at.before f.at.line) kind) its f.fault))
+        | inr behind ↦ omega (arith, f.number_is, ap length behind.1, length-append entries behind.0)
+      ]
 
   pub behind_read : (entries rest seats : List (List ℕ)) → line_texts text ≡ header_of version ∷ (entries ++ rest) →
       AreEntriesRead net version entries seats →
@@ -62,46 +62,36 @@ module _ (net : Network) (network : NamesAscend net) (text : List ℕ) (version 
   behind_read entries rest seats lines read number Missing f =
       let same = same_entries (entries ++ rest) lines f.version f.entries f.lines in
       omega (arith, f.number_is, ap length same, length-append entries rest)
-  behind_read entries rest seats lines read number NotInNetwork f = behind_entry entries rest seats lines read number NotInNetwork f
-  behind_read entries rest seats lines read number Twice f = behind_entry entries rest seats lines read number Twice f
-  behind_read entries rest seats lines read number Wave f = behind_entry entries rest seats lines read number Wave f
-  behind_read entries rest seats lines read number Chain f = behind_entry entries rest seats lines read number Chain f
+  behind_read entries rest seats lines read number kind f = behind_entry entries rest seats lines read number kind f
 
   -- the line behind what was read
   module _ (entries : List (List ℕ)) (line : List ℕ) (more seats : List (List ℕ)) (lines : line_texts text ≡ header_of version
       ∷ (entries ++ line ∷ more)) where
-    here_entry : (kind : OrderKind) → IsFaultBehind net version entries line kind → HasFaultyEntry net text (length entries + 2) kind
-    here_entry kind fault = record { version = version; before = entries; line = line; after = more; lines = lines; number_is = refl; fault = fault }
+    here_entry : (kind : OrderKind) → IsFaultBehind net (file_entry version entries line) kind → HasFaultyEntry net text (length entries + 2) kind
+    here_entry kind fault = record { at = file_entry version entries line; after = more; lines = lines; number_is = refl; fault = fault }
 
-    faulty_here : (kind : OrderKind) → IsFaultBehind net version entries line kind → IsFaultyLine net text (length entries + 2) kind
+    faulty_here : (kind : OrderKind) → IsFaultBehind net (file_entry version entries line) kind → IsFaultyLine net text (length entries + 2) kind
     faulty_here Header fault = absurd fault
-    faulty_here NotInNetwork fault = here_entry NotInNetwork fault
-    faulty_here Twice fault = here_entry Twice fault
     faulty_here Missing fault = absurd fault
-    faulty_here Wave fault = here_entry Wave fault
-    faulty_here Chain fault = here_entry Chain fault
+    faulty_here kind fault = here_entry kind fault
 
-    entry_here : (kind : OrderKind) → HasFaultyEntry net text (length entries + 2) kind → IsFaultBehind net version entries line kind
+    entry_here : (kind : OrderKind) → HasFaultyEntry net text (length entries + 2) kind → IsFaultBehind net (file_entry version entries line) kind
     entry_here kind f =
-        let same = same_entries (entries ++ line ∷ more) lines f.version (f.before ++ f.line ∷ f.after) f.lines in
-        let its = same_version (entries ++ line ∷ more) lines f.version (f.before ++ f.line ∷ f.after) f.lines in
-        let split = one_split f.before f.line f.after entries line more (omega (arith, f.number_is)) same in
-        subst (λ l. IsFaultBehind net version entries l kind) split.items
-        (subst (λ l. IsFaultBehind net version l f.line kind) split.fronts
-        (subst (λ v. IsFaultBehind net v f.before f.line kind) its f.fault))
+        let same = same_entries (entries ++ line ∷ more) lines f.at.version (f.at.before ++ f.at.line ∷ f.after) f.lines in
+        let its = same_version (entries ++ line ∷ more) lines f.at.version (f.at.before ++ f.at.line ∷ f.after) f.lines in
+        let split = one_split f.at.before f.at.line f.after entries line more (omega (arith, f.number_is)) same in
+        let one : f.at ≡ file_entry version entries line = λ i. file_entry (its i) (split.0 i) (split.1 i) in
+        subst (λ e. IsFaultBehind net e kind) one f.fault
 
-    lowest_here : (kind : OrderKind) → IsLowestBehind net version entries line kind → (its : OrderKind) →
+    lowest_here : (kind : OrderKind) → IsLowestBehind net (file_entry version entries line) kind → (its : OrderKind) →
         IsFaultyLine net text (length entries + 2) its → order_kind_rank kind ≤ order_kind_rank its
     lowest_here kind is Header f = absurd (omega (arith, f.0))
-    lowest_here kind is NotInNetwork f = is.lowest NotInNetwork (entry_here NotInNetwork f)
-    lowest_here kind is Twice f = is.lowest Twice (entry_here Twice f)
     lowest_here kind is Missing f =
         let same = same_entries (entries ++ line ∷ more) lines f.version f.entries f.lines in
         absurd (omega (arith, f.number_is, ap length same, length-append entries (line ∷ more)))
-    lowest_here kind is Wave f = is.lowest Wave (entry_here Wave f)
-    lowest_here kind is Chain f = is.lowest Chain (entry_here Chain f)
+    lowest_here kind is its f = is.lowest its (entry_here its f)
 
-    pub least_here : AreEntriesRead net version entries seats → (kind : OrderKind) → IsLowestBehind net version entries line kind →
+    pub least_here : AreEntriesRead net version entries seats → (kind : OrderKind) → IsLowestBehind net (file_entry version entries line) kind →
         IsLeastFaultyLine net text (length entries + 2) kind
     least_here read kind is = record {
       faulty = faulty_here kind is.fault;
@@ -114,16 +104,14 @@ module _ (net : Network) (network : NamesAscend net) (text : List ℕ) (version 
     where
       not_behind : (kind : OrderKind) → HasFaultyEntry net text (length entries + 2) kind → ⊥
       not_behind kind f =
-          let same = same_entries entries lines f.version (f.before ++ f.line ∷ f.after) f.lines in
-          omega (arith, f.number_is, ap length same, length-append f.before (f.line ∷ f.after))
+          let same = same_entries entries lines f.at.version (f.at.before ++ f.at.line ∷ f.after) f.lines in
+          omega (arith, f.number_is, ap length same, length-append f.at.before (f.at.line ∷ f.after))
 
       lowest_behind : (its : OrderKind) → IsFaultyLine net text (length entries + 2) its → 4 ≤ order_kind_rank its
       lowest_behind Header f = absurd (omega (arith, f.0))
       lowest_behind NotInNetwork f = absurd (not_behind NotInNetwork f)
       lowest_behind Twice f = absurd (not_behind Twice f)
-      lowest_behind Missing f = omega arith
-      lowest_behind Wave f = omega arith
-      lowest_behind Chain f = omega arith
+      lowest_behind its f = omega arith
 
       absent : (u : ℕ) (name : List ℕ) → IsNamed net name u → Contains (all_in (waves_on version entries)) name → Contains (all_in seats) u
       absent u name named c =
@@ -154,38 +142,33 @@ module _ (net : Network) (network : NamesAscend net) (text : List ℕ) (version 
 -- why the line behind what was read has no lower kind
 
 module _ (net : Network) (network : NamesAscend net) (version : Version) where
+  -- a line that is no wave has no lower kind
+  not_lower : (e : FileEntry) → ((names : List (List ℕ)) → IsWaveBehind e names → ⊥) → (its : OrderKind) → IsFaultBehind net e its →
+      5 ≤ order_kind_rank its
+  not_lower e bare Header f = absurd f
+  not_lower e bare NotInNetwork f = absurd (bare f.names f.wave)
+  not_lower e bare Twice f = absurd (bare f.names f.wave)
+  not_lower e bare Missing f = absurd f
+  not_lower e bare its f = omega arith
+
   -- neither a wave nor a chain
   pub lowest_no_wave : (before : List (List ℕ)) (line : List ℕ) → wave_on version line ≡ None → chain_on version line ≡ None →
-      IsLowestBehind net version before line Wave
-  lowest_no_wave before line no_wave no_chain = record { fault = inl (no_wave, no_chain); lowest = lowest }
-    where
-      lowest : (its : OrderKind) → IsFaultBehind net version before line its → 5 ≤ order_kind_rank its
-      lowest Header f = absurd f
-      lowest NotInNetwork f = absurd (let wave = f.wave.wave in cc)
-      lowest Twice f = absurd (let wave = f.wave.wave in cc)
-      lowest Missing f = absurd f
-      lowest Wave f = omega arith
-      lowest Chain f = omega arith
+      IsLowestBehind net (file_entry version before line) Wave
+  lowest_no_wave before line no_wave no_chain =
+      record { fault = inl (no_wave, no_chain); lowest = not_lower (file_entry version before line) (λ names is. let wave = is.wave in cc) }
 
   -- any line behind a chain
   pub lowest_behind_chain : (before : List (List ℕ)) (line : List ℕ) → (chains_on version before ≡ [] → ⊥) →
-      IsLowestBehind net version before line Wave
-  lowest_behind_chain before line some = record { fault = inr some; lowest = lowest }
-    where
-      lowest : (its : OrderKind) → IsFaultBehind net version before line its → 5 ≤ order_kind_rank its
-      lowest Header f = absurd f
-      lowest NotInNetwork f = absurd (some f.wave.no_chain)
-      lowest Twice f = absurd (some f.wave.no_chain)
-      lowest Missing f = absurd f
-      lowest Wave f = omega arith
-      lowest Chain f = omega arith
+      IsLowestBehind net (file_entry version before line) Wave
+  lowest_behind_chain before line some =
+      record { fault = inr some; lowest = not_lower (file_entry version before line) (λ names is. some is.no_chain) }
 
   module _ (lines : List (List ℕ)) (seats : List (List ℕ)) (read : AreWavesRead net version lines seats) (line : List ℕ) (names : List (List ℕ)) where
     none : chains_on version lines ≡ []
     none = no_chains version lines read.waves read.each
 
     -- a chain of other names
-    pub lowest_chain : chain_on version line ≡ Some names → (AreOfEach read.waves names → ⊥) → IsLowestBehind net version lines line Chain
+    pub lowest_chain : chain_on version line ≡ Some names → (AreOfEach read.waves names → ⊥) → IsLowestBehind net (file_entry version lines line) Chain
     lowest_chain chain wrong = record {
       fault = record {
         names = names;
@@ -197,31 +180,24 @@ module _ (net : Network) (network : NamesAscend net) (version : Version) where
       lowest = lowest;
     }
       where
-        no : wave_on version line ≡ None
-        no = chain_no_wave version line names chain
+        bare : (others : List (List ℕ)) → IsWaveBehind (file_entry version lines line) others → ⊥
+        bare others is = let wave = is.wave in let nothing = chain_no_wave version line names chain in cc
 
-        lowest : (its : OrderKind) → IsFaultBehind net version lines line its → 6 ≤ order_kind_rank its
-        lowest Header f = absurd f
-        lowest NotInNetwork f = absurd (let wave = f.wave.wave in let nothing = no in cc)
-        lowest Twice f = absurd (let wave = f.wave.wave in let nothing = no in cc)
-        lowest Missing f = absurd f
+        lowest : (its : OrderKind) → IsFaultBehind net (file_entry version lines line) its → 6 ≤ order_kind_rank its
         lowest Wave f = ⊎_elim (λ neither. absurd (let nothing = neither.1 in cc)) (λ some. absurd (some none)) f
         lowest Chain f = omega arith
+        lowest its f = absurd (let low = not_lower (file_entry version lines line) bare its f in omega (arith, low))
 
     -- a name of no router
-    lowest_unknown : Says version line names → HasUnknown net names → IsLowestBehind net version lines line NotInNetwork
+    lowest_unknown : Says version line names → HasUnknown net names → IsLowestBehind net (file_entry version lines line) NotInNetwork
     lowest_unknown says has = record {
       fault = record { names = names; wave = record { wave = says; no_chain = none }; name = has.name; among = has.among; unknown = has.unknown };
       lowest = lowest;
     }
       where
-        lowest : (its : OrderKind) → IsFaultBehind net version lines line its → 2 ≤ order_kind_rank its
+        lowest : (its : OrderKind) → IsFaultBehind net (file_entry version lines line) its → 2 ≤ order_kind_rank its
         lowest Header f = absurd f
-        lowest NotInNetwork f = omega arith
-        lowest Twice f = omega arith
-        lowest Missing f = absurd f
-        lowest Wave f = omega arith
-        lowest Chain f = omega arith
+        lowest its f = omega arith
 
     inside : (is : NamesRepeat net names seats) → is.repeat.place < length names
     inside is = let long = AllZip-long (IsNamed net) names is.routers is.named in omega (arith, long, is.repeat.within)
@@ -241,28 +217,22 @@ module _ (net : Network) (network : NamesAscend net) (version : Version) where
         subst (λ l. Contains (all_in l ++ take place names) (get_or names place [])) (sym (waves_of version lines waves read.each))
         (subst (Contains (all_in waves ++ take place names)) same its.among)
 
-    lowest_repeat : Says version line names → NamesRepeat net names seats → IsLowestBehind net version lines line Twice
+    lowest_repeat : Says version line names → NamesRepeat net names seats → IsLowestBehind net (file_entry version lines line) Twice
     lowest_repeat says is = record {
       fault = record { names = names; wave = record { wave = says; no_chain = none }; place = is.repeat.place; within = inside is; stood = stood_before is };
       lowest = lowest;
     }
       where
-        lowest : (its : OrderKind) → IsFaultBehind net version lines line its → 3 ≤ order_kind_rank its
+        lowest : (its : OrderKind) → IsFaultBehind net (file_entry version lines line) its → 3 ≤ order_kind_rank its
         lowest Header f = absurd f
         lowest NotInNetwork f =
             let same : f.names ≡ names = cc (f.wave.wave, says) in
             let its = zip_partner (IsNamed net) names is.routers f.name 0 is.named (subst (λ l. Contains l f.name) same f.among) in
             absurd (f.unknown its.partner its.related)
-        lowest Twice f = omega arith
-        lowest Missing f = absurd f
-        lowest Wave f = omega arith
-        lowest Chain f = omega arith
+        lowest its f = omega arith
 
     -- names that are no further wave
-    pub lowest_unfit : Says version line names → (kind : OrderKind) → IsUnfit net names seats kind → IsLowestBehind net version lines line kind
-    lowest_unfit says Header f = absurd f
+    pub lowest_unfit : Says version line names → (kind : OrderKind) → IsUnfit net names seats kind → IsLowestBehind net (file_entry version lines line) kind
     lowest_unfit says NotInNetwork f = lowest_unknown says f
     lowest_unfit says Twice f = lowest_repeat says f
-    lowest_unfit says Missing f = absurd f
-    lowest_unfit says Wave f = absurd f
-    lowest_unfit says Chain f = absurd f
+    lowest_unfit says kind f = absurd f

@@ -6,7 +6,7 @@ use Rattle.std.proofs.lemmas.List.Elements.{Contains-get_or}
 use Rattle.net_model.specs.Lookups.{IsNamed}
 use Rattle.net_model.specs.Network.{Network}
 use Rattle.step_scripts.specs.steps.ReadWaves.{HasUnknown, NamesOneOf}
-use Rattle.step_scripts.proofs.Zips.{zip_push}
+use Rattle.std.proofs.lemmas.Slice.Zip.{all_zipped_more}
 
 -- what names point to
 abbrev pub bytes_all : List (Bor (List ℕ)) → List (List ℕ)
@@ -28,7 +28,7 @@ pub named_more : (net : Network) (names : List (Bor (List ℕ))) (i : ℕ) (d : 
     AllZip (IsNamed net) (bytes_all (take (i + 1) names)) (routers ++ u ∷ [])
 named_more net names i d routers u l before here =
     subst (λ some. AllZip (IsNamed net) some (routers ++ u ∷ [])) (sym (map_more (λ (name : Bor (List ℕ)). name.now) names i d l))
-    (zip_push (IsNamed net) (bytes_all (take i names)) routers (get_or names i d).now u before here)
+    (all_zipped_more (IsNamed net) (bytes_all (take i names)) routers (get_or names i d).now u before here)
 
 pub one_of_at : (net : Network) (wave : List ℕ) (names : List (Bor (List ℕ))) (i : ℕ) (d : Bor (List ℕ)) → i < length names →
     NamesOneOf net wave (get_or (bytes_all names) i []) → NamesOneOf net wave (get_or names i d).now

@@ -1,9 +1,9 @@
 -- What was read of an order file has no faulty line.
 use Rattle.std.proofs.Common.{◌≡◌, ℕ, ◌+◌, ◌<◌, List, [], ◌∷◌, ◌++◌, length, get_or, take, drop, Contains, sym, ap, subst, ◌∙◌}
-use Rattle.std.proofs.Common.{⊎_elim, arith}
+use Rattle.std.proofs.Common.{⊎_elim, inl, inr, arith}
 use Rattle.std.specs.List.{AllZip}
 use Rattle.std.proofs.lemmas.Grind.{flat_map-append}
-use Rattle.std.proofs.lemmas.List.{append-nil, append_assoc, drop_more, take-append-drop}
+use Rattle.std.proofs.lemmas.List.{append-nil, append_assoc, append_cancel_left, drop_more, take-append-drop}
 use Rattle.std.proofs.lemmas.List.Elements.{filter_map-append}
 use Rattle.std.proofs.lemmas.Slice.Zip.{AllZip-long}
 use Rattle.net_model.specs.Lookups.{IsNamed}
@@ -12,15 +12,14 @@ use Rattle.net_model.specs.Refusals.{NamesAscend}
 use Rattle.order_core.specs.Orders.{AreDistinct}
 use Rattle.step_scripts.specs.WaveLines.{wave_on, waves_on, chains_on}
 use Rattle.step_scripts.specs.WaveFiles.{all_in, MayFollowWaves, IsChainOf, AreOfEach}
-use Rattle.step_scripts.specs.FaultyLines.{IsFaultBehind, NamesNoRouter}
+use Rattle.step_scripts.specs.FaultyLines.{file_entry, IsFaultBehind, NamesNoRouter}
 use Rattle.step_scripts.specs.steps.ReadWaves.{AreWavesRead, AreEntriesRead}
 use Rattle.step_scripts.specs.declared.version.Version.{Version}
 use Rattle.step_scripts.specs.declared.kind.OrderKind.{OrderKind}
-use Rattle.step_scripts.specs.declared.kind.OrderKind.TheVariants.{Header, NotInNetwork, Twice, Missing, Wave, Chain}
+use Rattle.step_scripts.specs.declared.kind.OrderKind.TheVariants.{NotInNetwork, Twice, Wave, Chain}
 use Rattle.step_scripts.proofs.Routers.{same_router}
 use Rattle.step_scripts.proofs.Zips.{IsSplit, zip_at, zip_append, zip_flat, zip_take, zip_split, zip_partner}
-use Rattle.step_scripts.proofs.Splits.{IsSplitAt, split_at, not_before}
-use Rattle.step_scripts.proofs.Splits.IsSplitAt.{in_first, in_second}
+use Rattle.step_scripts.proofs.Splits.{split_of, split_at, not_before}
 use Rattle.step_scripts.proofs.WaveLineFacts.{Says, chain_no_wave, wave_no_chain, waves_of, no_chains, end_no_wave}
 
 pub all_in-append : {A : Type 0} (xs ys : List (List A)) → all_in (xs ++ ys) ≡ all_in xs ++ all_in ys
@@ -29,7 +28,7 @@ all_in-append xs ys = flat_map-append (λ wave. wave) xs ys
 module _ (net : Network) (network : NamesAscend net) (version : Version) where
   -- a wave that was read has no name of no router
   known : (line : List ℕ) (wave : List (List ℕ)) (seat : List ℕ) → Says version line wave → AllZip (IsNamed net) wave seat →
-      (before : List (List ℕ)) → NamesNoRouter net version before line → ⊥
+      (before : List (List ℕ)) → NamesNoRouter net (file_entry version before line) → ⊥
   known line wave seat says named before f =
       let same : f.names ≡ wave = cc (f.wave.wave, says) in
       let among = subst (λ l. Contains l f.name) same f.among in
@@ -62,25 +61,24 @@ module _ (net : Network) (network : NamesAscend net) (version : Version) where
   -- a line among waves that were read isn't faulty
   no_wave_fault : (lines seats : List (List ℕ)) → AreWavesRead net version lines seats →
       (before : List (List ℕ)) (line : List ℕ) (after : List (List ℕ)) →
-      lines ≡ before ++ line ∷ after → (kind : OrderKind) → IsFaultBehind net version before line kind → ⊥
+      lines ≡ before ++ line ∷ after → (kind : OrderKind) → IsFaultBehind net (file_entry version before line) kind → ⊥
   no_wave_fault lines seats read before line after parts kind fault =
       by_kind kind fault
     where
       each : AllZip (Says version) (before ++ line ∷ after) read.waves
       each = subst (λ l. AllZip (Says version) l read.waves) parts read.each
 
-      here : IsSplit (Says version) before line after read.waves
+      here : IsSplit (Says version) (split_of before line after) read.waves
       here = zip_split (Says version) before line after read.waves each
 
-      seat : IsSplit (AllZip (IsNamed net)) here.front here.partner here.back seats
+      seat : IsSplit (AllZip (IsNamed net)) (split_of here.front here.partner here.back) seats
       seat =
           zip_split (AllZip (IsNamed net)) here.front here.partner here.back seats (subst (λ l. AllZip (AllZip (IsNamed net)) l seats) here.parts read.named)
 
       none : chains_on version before ≡ []
       none = no_chains version before here.front here.before_zip
 
-      by_kind : (kind : OrderKind) → IsFaultBehind net version before line kind → ⊥
-      by_kind Header f = f
+      by_kind : (kind : OrderKind) → IsFaultBehind net (file_entry version before line) kind → ⊥
       by_kind NotInNetwork f = known line here.partner seat.partner here.here seat.here before f
       by_kind Twice f =
           let same : f.names ≡ here.partner = cc (f.wave.wave, here.here) in
@@ -90,29 +88,28 @@ module _ (net : Network) (network : NamesAscend net) (version : Version) where
           (subst (λ l. f.place < length l) same f.within)
           (subst (λ l. Contains (all_in l ++ take f.place here.partner) (get_or here.partner f.place [])) waves
           (subst (λ l. Contains (all_in (waves_on version before) ++ take f.place l) (get_or l f.place [])) same f.stood))
-      by_kind Missing f = f
       by_kind Wave f = ⊎_elim (λ no. let says = here.here in let wave = no.0 in absurd cc) (λ some. some none) f
       by_kind Chain f = let no = wave_no_chain version line here.partner here.here in let chain = f.chain in absurd cc
+      by_kind kind f = f
 
   -- a chain that was read isn't faulty
   no_chain_fault : (lines seats : List (List ℕ)) (read : AreWavesRead net version lines seats) (line : List ℕ) → IsChainOf version read.waves line →
-      (kind : OrderKind) → IsFaultBehind net version lines line kind → ⊥
-  no_chain_fault lines seats read line is Header f = f
+      (kind : OrderKind) → IsFaultBehind net (file_entry version lines line) kind → ⊥
   no_chain_fault lines seats read line is NotInNetwork f = let no = chain_no_wave version line is.names is.chain in let wave = f.wave.wave in absurd cc
   no_chain_fault lines seats read line is Twice f = let no = chain_no_wave version line is.names is.chain in let wave = f.wave.wave in absurd cc
-  no_chain_fault lines seats read line is Missing f = f
   no_chain_fault lines seats read line is Wave f =
       ⊎_elim (λ no. let chain = is.chain in let none = no.1 in absurd cc) (λ some. some (no_chains version lines read.waves read.each)) f
   no_chain_fault lines seats read line is Chain f =
       let same : is.names ≡ f.names = cc (is.chain, f.chain) in
       f.wrong (subst (λ l. AreOfEach l f.names) (sym (waves_of version lines read.waves read.each)) (subst (AreOfEach read.waves) same is.each))
+  no_chain_fault lines seats read line is kind f = f
 
   -- the chain is the last line
   last_fault : (lines seats : List (List ℕ)) (read : AreWavesRead net version lines seats) (front : List (List ℕ)) (line : List ℕ)
       (after : List (List ℕ)) →
-      MayFollowWaves version read.waves (front ++ line ∷ after) → (kind : OrderKind) → IsFaultBehind net version (lines ++ front) line kind → ⊥
+      MayFollowWaves version read.waves (front ++ line ∷ after) → (kind : OrderKind) → IsFaultBehind net (file_entry version (lines ++ front) line) kind → ⊥
   last_fault lines seats read [] line [] ends kind f =
-      no_chain_fault lines seats read line ends kind (subst (λ l. IsFaultBehind net version l line kind) (append-nil lines) f)
+      no_chain_fault lines seats read line ends kind (subst (λ l. IsFaultBehind net (file_entry version l line) kind) (append-nil lines) f)
   last_fault lines seats read [] line (next ∷ after) ends kind f = absurd ends
   last_fault lines seats read (first ∷ []) line after ends kind f = absurd ends
   last_fault lines seats read (first ∷ next ∷ front) line after ends kind f = absurd ends
@@ -120,15 +117,17 @@ module _ (net : Network) (network : NamesAscend net) (version : Version) where
   -- no line of what was read is faulty
   pub no_fault_in : (entries seats : List (List ℕ)) → AreEntriesRead net version entries seats →
       (before : List (List ℕ)) (line : List ℕ) (after : List (List ℕ)) →
-      entries ≡ before ++ line ∷ after → (kind : OrderKind) → IsFaultBehind net version before line kind → ⊥
+      entries ≡ before ++ line ∷ after → (kind : OrderKind) → IsFaultBehind net (file_entry version before line) kind → ⊥
   no_fault_in entries seats read before line after parts kind fault =
-      by_part (split_at before line after read.lines read.ending (sym read.parts ∙ parts))
-    where
-      by_part : IsSplitAt before line after read.lines read.ending → ⊥
-      by_part (in_first more is rest) = no_wave_fault read.lines seats read.read before line more is kind fault
-      by_part (in_second front is rest) =
-          last_fault read.lines seats read.read front line after (subst (MayFollowWaves version read.read.waves) rest read.ends) kind
-          (subst (λ l. IsFaultBehind net version l line kind) is fault)
+      let all : read.lines ++ read.ending ≡ before ++ line ∷ after = sym read.parts ∙ parts in
+      elim (split_at before line after read.lines read.ending all) [
+        | inl here ↦ no_wave_fault read.lines seats read.read before line here.0 here.1 kind fault
+        | inr behind ↦
+            let rest : read.ending ≡ behind.0 ++ line ∷ after = append_cancel_left read.lines read.ending (behind.0 ++ line ∷ after)
+            (all ∙ ap (λ l. l ++ line ∷ after) behind.1 ∙ append_assoc read.lines behind.0 (line ∷ after)) in
+            last_fault read.lines seats read.read behind.0 line after (subst (MayFollowWaves version read.read.waves) rest read.ends) kind
+            (subst (λ l. IsFaultBehind net (file_entry version l line) kind) behind.1 fault)
+      ]
 
   -- the waves among what was read
   pub waves_read : (entries seats : List (List ℕ)) (read : AreEntriesRead net version entries seats) → waves_on version entries ≡ read.read.waves

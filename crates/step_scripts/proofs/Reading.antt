@@ -16,7 +16,7 @@ use Rattle.net_model.specs.Refusals.{NamesAscend}
 use Rattle.order_core.specs.Orders.{AreDistinct}
 use Rattle.step_scripts.specs.WaveLines.{header_of, wave_on}
 use Rattle.step_scripts.specs.WaveFiles.{all_in}
-use Rattle.step_scripts.specs.FaultyLines.{IsLeastFaultyLine}
+use Rattle.step_scripts.specs.FaultyLines.{file_entry, IsLeastFaultyLine}
 use Rattle.step_scripts.specs.steps.ReadWaves.{bytes_of_lines, AreFileEntries, AreWavesRead, AreEntriesRead, AreFirstWaves, IsUnfit, TakesSeats}
 use Rattle.step_scripts.specs.declared.version.Version.{Version}
 use Rattle.step_scripts.specs.declared.kind.OrderKind.{OrderKind}
@@ -24,7 +24,7 @@ use Rattle.step_scripts.proofs.LeastFaults.{IsLowestBehind, least_here, lowest_u
 use Rattle.step_scripts.proofs.LineNumbers.{numbered}
 use Rattle.step_scripts.proofs.ReadFacts.{all_in-append, without_end}
 use Rattle.step_scripts.proofs.WaveLineFacts.{Says}
-use Rattle.step_scripts.proofs.Zips.{zip_push}
+use Rattle.std.proofs.lemmas.Slice.Zip.{all_zipped_more}
 
 one_few : (empty : Bool) (piece : List ℕ) → length (cond empty [] (piece ∷ [])) ≤ 1
 one_few true piece = omega arith
@@ -90,7 +90,7 @@ module _ (net : Network) (network : NamesAscend net) (version : Version) (text :
   -- a line behind what was read that is faulty is the least faulty one
   pub least_at : (i : ℕ) (d : Line) (seats : List (List ℕ)) → i < length entries → AreEntriesRead net version (take i (bytes_of_lines text entries))
       seats → (kind : OrderKind) →
-      IsLowestBehind net version (take i (bytes_of_lines text entries)) (bytes_of text (get_or entries i d).span) kind →
+      IsLowestBehind net (file_entry version (take i (bytes_of_lines text entries)) (bytes_of text (get_or entries i d).span)) kind →
       IsLeastFaultyLine net text (get_or entries i d).number kind
   least_at i d seats l read kind is =
       let front = take i (bytes_of_lines text entries) in
@@ -123,9 +123,9 @@ module _ (net : Network) (network : NamesAscend net) (version : Version) (text :
       record {
         waves = read.waves ++ names ∷ [];
         each = subst (λ l. AllZip (Says version) l (read.waves ++ names ∷ [])) (sym step)
-            (zip_push (Says version) (take i (bytes_of_lines text entries)) read.waves (get_or (bytes_of_lines text entries) i []) names read.each here);
+            (all_zipped_more (Says version) (take i (bytes_of_lines text entries)) read.waves (get_or (bytes_of_lines text entries) i []) names read.each here);
         named = subst (λ s. AllZip (AllZip (IsNamed net)) (read.waves ++ names ∷ []) s) (sym takes.added)
-            (zip_push (AllZip (IsNamed net)) read.waves old names takes.routers read.named takes.named);
+            (all_zipped_more (AllZip (IsNamed net)) read.waves old names takes.routers read.named takes.named);
         once =
             subst (λ s. AreDistinct (all_in s)) (sym takes.added)
             (subst AreDistinct (sym (all_in-append old (takes.routers ∷ []) ∙ ap (λ l. all_in old ++ l) (one_wave_in takes.routers))) takes.once);

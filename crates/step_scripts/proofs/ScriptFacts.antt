@@ -16,6 +16,7 @@ use Rattle.printed_lines.proofs.TextSteps.{text_of-append}
 use Rattle.step_scripts.specs.declared.version.Version.{Version}
 use Rattle.step_scripts.specs.Scripts.{isis_head, distance_line, name_on, change_comment, isis_change_lines, ospf_change_lines, by_configuration, change_lines}
 use Rattle.step_scripts.specs.Scripts.{wave_comment, wave_comments, shows_waves, opens_wave, change_part, change_parts, end_lines, is_comment}
+use Rattle.step_scripts.specs.Scripts.{Scripted, scripted}
 use Rattle.step_scripts.specs.ScriptLaws.{IsFrontOfScript}
 
 -- ---- parts one after the other ----
@@ -24,43 +25,43 @@ run_length : (order : List ℕ) → length (run_along order) ≡ 2 * length orde
 run_length [] = refl
 run_length (u ∷ order) = let more = run_length order in omega (arith, more)
 
-parts_append : (version : Version) (net : Network) (ranks : List ℕ) (made : ℕ) (one two : List Change) →
-    change_parts version net ranks made (one ++ two) ≡ change_parts version net ranks made one ++ change_parts version net ranks (made + length one) two
-parts_append version net ranks made [] two = ap (λ k. change_parts version net ranks k two) (let e : made ≡ made + 0 = omega arith in e)
-parts_append version net ranks made (c ∷ one) two =
-    ap (λ l. change_part version net ranks (made + 1) c ++ l)
-    (parts_append version net ranks (made + 1) one two
-    ∙ ap (λ k. change_parts version net ranks (made + 1) one ++ change_parts version net ranks k two)
+parts_append : (m : Scripted) (made : ℕ) (one two : List Change) →
+    change_parts m made (one ++ two) ≡ change_parts m made one ++ change_parts m (made + length one) two
+parts_append m made [] two = ap (λ k. change_parts m k two) (let e : made ≡ made + 0 = omega arith in e)
+parts_append m made (c ∷ one) two =
+    ap (λ l. change_part m (made + 1) c ++ l)
+    (parts_append m (made + 1) one two
+    ∙ ap (λ k. change_parts m (made + 1) one ++ change_parts m k two)
     (let e : made + 1 + length one ≡ made + suc (length one) = omega arith in e))
-    ∙ sym (append_assoc (change_part version net ranks (made + 1) c) (change_parts version net ranks (made + 1) one)
-    (change_parts version net ranks (made + length (c ∷ one)) two))
+    ∙ sym (append_assoc (change_part m (made + 1) c) (change_parts m (made + 1) one)
+    (change_parts m (made + length (c ∷ one)) two))
 
 -- the text of the parts for the routers before a place, and for the one there
-pub text_more : (version : Version) (net : Network) (ranks order : List ℕ) (place u d : ℕ) → place < length order → u ≡ get_or order place d →
-    text_of (change_parts version net ranks 0 (run_along (take (place + 1) order)))
-    ≡ (text_of (change_parts version net ranks 0 (run_along (take place order))) ++ text_of (change_part version net ranks (2 * place + 1) (first u)))
-    ++ text_of (change_part version net ranks (2 * place + 2) (second u))
-text_more version net ranks order place u d within is =
+pub text_more : (m : Scripted) (order : List ℕ) (place u d : ℕ) → place < length order → u ≡ get_or order place d →
+    text_of (change_parts m 0 (run_along (take (place + 1) order)))
+    ≡ (text_of (change_parts m 0 (run_along (take place order))) ++ text_of (change_part m (2 * place + 1) (first u)))
+    ++ text_of (change_part m (2 * place + 2) (second u))
+text_more m order place u d within is =
     let before : List ℕ = take place order in
     let long : length (run_along before) ≡ 2 * place =
     run_length before ∙ ap (λ k. 2 * k) (length-take-le place order (let e : place ≤ length order = omega (arith, within) in e)) in
     let taken : take (place + 1) order ≡ before ++ u ∷ [] = take_more order place d within ∙ ap (λ v. before ++ v ∷ []) (sym is) in
     let run : run_along (take (place + 1) order) ≡ run_along before ++ first u ∷ second u ∷ [] =
     ap run_along taken ∙ flat_map-append (λ (v : ℕ). first v ∷ second v ∷ []) before (u ∷ []) in
-    let one : List (List ℕ) = change_part version net ranks (2 * place + 1) (first u) in
-    let two : List (List ℕ) = change_part version net ranks (2 * place + 2) (second u) in
-    let parts : change_parts version net ranks (2 * place) (first u ∷ second u ∷ []) ≡ one ++ two =
-    ap (λ l. one ++ l) (append-nil (change_part version net ranks (2 * place + 1 + 1) (second u)) ∙ ap (λ k. change_part version net ranks k (second u))
+    let one : List (List ℕ) = change_part m (2 * place + 1) (first u) in
+    let two : List (List ℕ) = change_part m (2 * place + 2) (second u) in
+    let parts : change_parts m (2 * place) (first u ∷ second u ∷ []) ≡ one ++ two =
+    ap (λ l. one ++ l) (append-nil (change_part m (2 * place + 1 + 1) (second u)) ∙ ap (λ k. change_part m k (second u))
     (let e : 2 * place + 1 + 1 ≡ 2 * place + 2 = omega arith in e)) in
-    ap (λ r. text_of (change_parts version net ranks 0 r)) run
-    ∙ ap text_of (parts_append version net ranks 0 (run_along before) (first u ∷ second u ∷ []))
-    ∙ text_of-append (change_parts version net ranks 0 (run_along before)) (change_parts version net ranks (0 + length (run_along before))
+    ap (λ r. text_of (change_parts m 0 r)) run
+    ∙ ap text_of (parts_append m 0 (run_along before) (first u ∷ second u ∷ []))
+    ∙ text_of-append (change_parts m 0 (run_along before)) (change_parts m (0 + length (run_along before))
     (first u ∷ second u ∷ []))
-    ∙ ap (λ k. text_of (change_parts version net ranks 0 (run_along before)) ++ text_of (change_parts version net ranks k (first u ∷ second u ∷ [])))
+    ∙ ap (λ k. text_of (change_parts m 0 (run_along before)) ++ text_of (change_parts m k (first u ∷ second u ∷ [])))
     (let e : 0 + length (run_along before) ≡ 2 * place = omega (arith, long) in e)
-    ∙ ap (λ l. text_of (change_parts version net ranks 0 (run_along before)) ++ text_of l) parts
-    ∙ ap (λ l. text_of (change_parts version net ranks 0 (run_along before)) ++ l) (text_of-append one two)
-    ∙ sym (append_assoc (text_of (change_parts version net ranks 0 (run_along before))) (text_of one) (text_of two))
+    ∙ ap (λ l. text_of (change_parts m 0 (run_along before)) ++ text_of l) parts
+    ∙ ap (λ l. text_of (change_parts m 0 (run_along before)) ++ l) (text_of-append one two)
+    ∙ sym (append_assoc (text_of (change_parts m 0 (run_along before))) (text_of one) (text_of two))
 
 -- ---- lines without comments ----
 
@@ -105,29 +106,30 @@ plain_wave version ranks (first u) more = by_test (shows_waves version && opens_
     by_test false = refl
 plain_wave version ranks (second u) more = refl
 
-plain_part : (version : Version) (net : Network) (ranks : List ℕ) (number : ℕ) (c : Change) →
-    filter plain (change_part version net ranks number c) ≡ change_lines net c
-plain_part version net ranks number c =
-    plain_wave version ranks c (change_comment number (name_on net (changed c)) ∷ change_lines net c) ∙ plain_change net c
+plain_part : (m : Scripted) (number : ℕ) (c : Change) →
+    filter plain (change_part m number c) ≡ change_lines m.net c
+plain_part m number c =
+    plain_wave m.version m.ranks c (change_comment number (name_on m.net (changed c)) ∷ change_lines m.net c) ∙ plain_change m.net c
 
-plain_parts : (version : Version) (net : Network) (ranks : List ℕ) (made : ℕ) (changes : List Change) →
-    filter plain (change_parts version net ranks made changes) ≡ flat_map (change_lines net) changes
-plain_parts version net ranks made [] = refl
-plain_parts version net ranks made (c ∷ changes) =
-    filter-append plain (change_part version net ranks (made + 1) c) (change_parts version net ranks (made + 1) changes)
-    ∙ ap (λ l. l ++ filter plain (change_parts version net ranks (made + 1) changes)) (plain_part version net ranks (made + 1) c)
-    ∙ ap (λ l. change_lines net c ++ l) (plain_parts version net ranks (made + 1) changes)
+plain_parts : (m : Scripted) (made : ℕ) (changes : List Change) →
+    filter plain (change_parts m made changes) ≡ flat_map (change_lines m.net) changes
+plain_parts m made [] = refl
+plain_parts m made (c ∷ changes) =
+    filter-append plain (change_part m (made + 1) c) (change_parts m (made + 1) changes)
+    ∙ ap (λ l. l ++ filter plain (change_parts m (made + 1) changes)) (plain_part m (made + 1) c)
+    ∙ ap (λ l. change_lines m.net c ++ l) (plain_parts m (made + 1) changes)
 
 -- a script begins with the parts for its first changes
 pub script_front : (version : Version) (net : Network) (ranks : List ℕ) (k : ℕ) → IsFrontOfScript version net ranks k
 script_front version net ranks k =
+    let m : Scripted = scripted version net ranks in
     let run : List Change = run_along (flat_of ranks) in
-    let behind : List (List ℕ) = change_parts version net ranks (0 + length (take k run)) (drop k run) in
+    let behind : List (List ℕ) = change_parts m (0 + length (take k run)) (drop k run) in
     record {
       rest = behind ++ end_lines net;
       whole =
-          ap (λ r. change_parts version net ranks 0 r ++ end_lines net) (sym (take-append-drop k run))
-          ∙ ap (λ l. l ++ end_lines net) (parts_append version net ranks 0 (take k run) (drop k run))
-          ∙ append_assoc (change_parts version net ranks 0 (take k run)) behind (end_lines net);
-      lines = plain_parts version net ranks 0 (take k run);
+          ap (λ r. change_parts m 0 r ++ end_lines net) (sym (take-append-drop k run))
+          ∙ ap (λ l. l ++ end_lines net) (parts_append m 0 (take k run) (drop k run))
+          ∙ append_assoc (change_parts m 0 (take k run)) behind (end_lines net);
+      lines = plain_parts m 0 (take k run);
     }

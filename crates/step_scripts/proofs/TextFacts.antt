@@ -113,19 +113,21 @@ each_wave ranks P holds =
     let at : k ≡ get_or (numbers_below (wave_count ranks)) k d = omega (arith, get_or-range_with_len 0 (wave_count ranks) k d below) in
     subst (λ w. P (wave_of ranks w)) at (holds k below))
 
-waves_long : (ranks : List ℕ) → length (waves_in ranks) ≡ wave_count ranks
+pub waves_long : (ranks : List ℕ) → length (waves_in ranks) ≡ wave_count ranks
 waves_long ranks = length-map (numbers_below (wave_count ranks)) (wave_of ranks) ∙ length-range_with_len 0 (wave_count ranks)
+
+pub wave_there : (ranks : List ℕ) (w : ℕ) → w < wave_count ranks → wave_at (waves_in ranks) w ≡ wave_of ranks w
+wave_there ranks w below =
+    let number = get_or-range_with_len 0 (wave_count ranks) w 0 below in
+    let same : get_or (numbers_below (wave_count ranks)) w 0 ≡ w = omega (arith, number) in
+    get_or-map (wave_of ranks) (numbers_below (wave_count ranks)) w 0 [] (subst (λ n. w < n) (sym (length-range_with_len 0 (wave_count ranks))) below)
+    ∙ ap (wave_of ranks) same
 
 -- a router of wave w has this rank
 wave_rank : (ranks : List ℕ) (w u : ℕ) → Contains (wave_at (waves_in ranks) w) u → rank_of ranks u ≡ w
 wave_rank ranks w u c =
     ⊎_elim
-    (λ below.
-    let number = get_or-range_with_len 0 (wave_count ranks) w 0 below in
-    let at =
-    get_or-map (wave_of ranks) (numbers_below (wave_count ranks)) w 0 [] (subst (λ n. w < n) (sym (length-range_with_len 0 (wave_count ranks))) below) in
-    let same : get_or (numbers_below (wave_count ranks)) w 0 ≡ w = omega (arith, number) in
-    ((wave_routers ranks w u).0 (subst (λ l. Contains l u) (at ∙ ap (wave_of ranks) same) c)).1)
+    (λ below. ((wave_routers ranks w u).0 (subst (λ l. Contains l u) (wave_there ranks w below) c)).1)
     (λ past. absurd (none_there (subst (λ l. Contains l u) (get_or_past (waves_in ranks) w [] (omega (arith, past, waves_long ranks))) c)))
     (cases_lt w (wave_count ranks))
   where

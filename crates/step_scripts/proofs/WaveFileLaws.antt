@@ -39,10 +39,11 @@ module _ (net : Network) (text : List ℕ) (version : Version) (ranks : List ℕ
 
   no_entry : (network : NamesAscend net) (number : ℕ) (kind : OrderKind) → HasFaultyEntry net text number kind → ⊥
   no_entry network number kind f =
-      let same : n.lines ++ n.ending ≡ f.before ++ f.line ∷ f.after = cc (n.whole, f.lines) in
-      let its : version ≡ f.version = one_header version f.version (let both : header_of version ≡ header_of f.version = cc (n.whole, f.lines) in both) in
+      let same : n.lines ++ n.ending ≡ f.at.before ++ f.at.line ∷ f.after = cc (n.whole, f.lines) in
+      let both : header_of version ≡ header_of f.at.version = cc (n.whole, f.lines) in
+      let its : version ≡ f.at.version = one_header version f.at.version both in
       let read = subst (λ v. AreEntriesRead net v (n.lines ++ n.ending) n.are.routers) its read_all in
-      no_fault_in net network f.version (n.lines ++ n.ending) n.are.routers read f.before f.line f.after same kind f.fault
+      no_fault_in net network f.at.version (n.lines ++ n.ending) n.are.routers read f.at.before f.at.line f.after same kind f.fault
 
 -- waves have one list of ranks
 one_ranks : (net : Network) → NamesAscend net → (waves : List (List (List ℕ))) (one other : List ℕ) → AreWaves net waves one →
@@ -72,10 +73,6 @@ one_wave_list net text version its one other network n m =
 pub no_fault : (net : Network) (text : List ℕ) (version : Version) (ranks : List ℕ) (number : ℕ) (kind : OrderKind) → NamesAscend net →
     NamesWaves net text version ranks → IsFaultyLine net text number kind → ⊥
 no_fault net text version ranks number Header network n f = f.1 version (first_header text version (n.lines ++ n.ending) n.whole)
-no_fault net text version ranks number NotInNetwork network n f = no_entry net text version ranks n network number NotInNetwork f
-no_fault net text version ranks number Twice network n f = no_entry net text version ranks n network number Twice f
-no_fault net text version ranks number Wave network n f = no_entry net text version ranks n network number Wave f
-no_fault net text version ranks number Chain network n f = no_entry net text version ranks n network number Chain f
 no_fault net text version ranks number Missing network n f =
     let entries : n.lines ++ n.ending ≡ f.entries = cc (n.whole, f.lines) in
     let its : version ≡ f.version = one_header version f.version (let both : header_of version ≡ header_of f.version = cc (n.whole, f.lines) in both) in
@@ -85,6 +82,7 @@ no_fault net text version ranks number Missing network n f =
     let item = zip_item (IsNamed net) (all_in n.waves) (all_in n.are.routers) f.router [] (zip_flat (IsNamed net) n.waves n.are.routers n.are.named) among in
     let same = same_name net item.item f.name f.router item.related f.named in
     f.absent (subst (λ w. Contains (all_in w) f.name) waves (subst (Contains (all_in n.waves)) same item.among))
+no_fault net text version ranks number kind network n f = no_entry net text version ranks n network number kind f
 
 -- the kind at a place among the kinds
 abbrev kind_at : ℕ → OrderKind

@@ -2,10 +2,12 @@
 use Rattle.std.proofs.Common.{◌≡◌, ◌≢◌, ℕ, zero, suc, ◌+◌, ◌<◌, List, [], ◌∷◌, ◌++◌, length, get_or, take, Contains, refl, sym}
 use Rattle.std.proofs.Common.{ap, subst, ◌∙◌, ⊎_elim, arith}
 use Rattle.std.proofs.lemmas.List.Quantifiers.{all_pairs_push}
-use Rattle.std.proofs.lemmas.List.{take_more, get_or_append_left, get_or-append-add, get_or_default, length-append, append_assoc}
+use Rattle.std.proofs.lemmas.List.{take_more, get_or_default, append_assoc}
 use Rattle.std.proofs.lemmas.List.Elements.{Contains-append_left, Contains-append_right, Contains-append_cases}
 use Rattle.net_model.proofs.Members.{Contains-none}
 use Rattle.order_core.specs.Orders.{AreDistinct}
+use Rattle.order_core.proofs.DistinctLists.{back_distinct}
+use Rattle.igp_theory.proofs.OrderedLists.{pairs_across}
 use Rattle.step_scripts.specs.WaveFiles.{all_in, wave_at}
 use Rattle.step_scripts.specs.steps.ReadWaves.{HasSeat}
 
@@ -29,21 +31,9 @@ seat_of (wave ∷ seats) u c =
     })
     (Contains-append_cases wave (all_in seats) u c)
 
--- of two lists without a repeat, end to end, the second one has none
-pub second_distinct : (front back : List ℕ) → AreDistinct (front ++ back) → AreDistinct back
-second_distinct front back once i j d before within =
-    let long = length-append front back in
-    let one = get_or-append-add front back i d in
-    let two = get_or-append-add front back j d in
-    λ same. once (length front + i) (length front + j) d (omega (arith, before)) (omega (arith, long, within)) (one ∙ same ∙ sym two)
-
 -- nothing is in both
-pub in_one : (front back : List ℕ) (u : ℕ) → AreDistinct (front ++ back) → Contains front u → Contains back u → ⊥
-in_one front back u once c d =
-    let long = length-append front back in
-    let one = get_or_append_left front back u c.0 c.1 in
-    let two = get_or-append-add front back d.0 u in
-    once c.0 (length front + d.0) u (omega (arith, c.1)) (omega (arith, long, d.1)) (one ∙ c.2 ∙ sym (two ∙ d.2))
+in_one : (front back : List ℕ) (u : ℕ) → AreDistinct (front ++ back) → Contains front u → Contains back u → ⊥
+in_one front back u once c d = pairs_across (λ (v w : ℕ). v ≢ w) front back once u u c d refl
 
 -- a router stands in one wave
 pub one_wave : (seats : List (List ℕ)) (u v w : ℕ) → AreDistinct (all_in seats) → Contains (wave_at seats v) u →
@@ -52,7 +42,7 @@ one_wave [] u v w once c d = absurd (Contains-none u c)
 one_wave (wave ∷ seats) u zero zero once c d = refl
 one_wave (wave ∷ seats) u zero (suc w) once c d = absurd (in_one wave (all_in seats) u once c (in_all seats w u d))
 one_wave (wave ∷ seats) u (suc v) zero once c d = absurd (in_one wave (all_in seats) u once d (in_all seats v u c))
-one_wave (wave ∷ seats) u (suc v) (suc w) once c d = ap suc (one_wave seats u v w (second_distinct wave (all_in seats) once) c d)
+one_wave (wave ∷ seats) u (suc v) (suc w) once c d = ap suc (one_wave seats u v w (back_distinct wave (all_in seats) once) c d)
 
 -- one more router that isn't among them
 pub distinct_more : (before routers : List ℕ) (place d : ℕ) → place < length routers → AreDistinct (before ++ take place routers) →

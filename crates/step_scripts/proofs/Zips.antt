@@ -5,6 +5,7 @@ use Rattle.std.specs.List.{AllZip}
 use Rattle.std.proofs.lemmas.List.Elements.{Contains-get_or}
 use Rattle.std.proofs.lemmas.Slice.Zip.{AllZip-long}
 use Rattle.step_scripts.specs.WaveFiles.{all_in}
+use Rattle.step_scripts.proofs.Splits.{Split, split_of}
 
 pub zip_at : {A B : Type 0} (R : A → B → Type 0) (xs : List A) (ys : List B) (k : ℕ) (d : A) (e : B) → AllZip R xs ys → k < length xs →
     R (get_or xs k d) (get_or ys k e)
@@ -12,13 +13,6 @@ zip_at R [] ys k d e h l = absurd (omega (arith, l))
 zip_at R (x ∷ xs) [] k d e h l = absurd h
 zip_at R (x ∷ xs) (y ∷ ys) zero d e h l = h.0
 zip_at R (x ∷ xs) (y ∷ ys) (suc k) d e h l = zip_at R xs ys k d e h.1 (omega (arith, l))
-
-pub zip_push : {A B : Type 0} (R : A → B → Type 0) (xs : List A) (ys : List B) (x : A) (y : B) → AllZip R xs ys → R x y →
-    AllZip R (xs ++ x ∷ []) (ys ++ y ∷ [])
-zip_push R [] [] x y h r = (r, tt)
-zip_push R [] (b ∷ ys) x y h r = absurd h
-zip_push R (a ∷ xs) [] x y h r = absurd h
-zip_push R (a ∷ xs) (b ∷ ys) x y h r = (h.0, zip_push R xs ys x y h.1 r)
 
 -- where each item has one partner, the lists of partners are one
 pub zip_unique : {A B : Type 0} (R : A → B → Type 0) → ((x : A) (y z : B) → R x y → R x z → y ≡ z) → (xs : List A) (ys zs : List B) →
@@ -54,17 +48,17 @@ zip_take R (suc k) (x ∷ xs) [] h = absurd h
 zip_take R (suc k) (x ∷ xs) (y ∷ ys) h = (h.0, zip_take R k xs ys h.1)
 
 -- what stands before, at and behind the partner of an item
-pub record IsSplit {A B : Type 0} (R : A → B → Type 0) (before : List A) (x : A) (after : List A) (ys : List B) : Type 0 where
+pub record IsSplit {A B : Type 0} (R : A → B → Type 0) (s : Split A) (ys : List B) : Type 0 where
   pub front : List B
   pub partner : B
   pub back : List B
   pub parts : ys ≡ front ++ partner ∷ back
-  pub before_zip : AllZip R before front
-  pub here : R x partner
-  pub after_zip : AllZip R after back
+  pub before_zip : AllZip R s.before front
+  pub here : R s.item partner
+  pub after_zip : AllZip R s.after back
 
 pub zip_split : {A B : Type 0} (R : A → B → Type 0) (before : List A) (x : A) (after : List A) (ys : List B) → AllZip R (before ++ x ∷ after) ys →
-    IsSplit R before x after ys
+    IsSplit R (split_of before x after) ys
 zip_split R [] x after [] h = absurd h
 zip_split R [] x after (y ∷ ys) h = record { front = []; partner = y; back = ys; parts = refl; before_zip = tt; here = h.0; after_zip = h.1 }
 zip_split R (b ∷ before) x after [] h = absurd h

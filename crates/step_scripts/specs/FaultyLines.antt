@@ -16,56 +16,63 @@ use Rattle.step_scripts.specs.declared.kind.OrderRefusal.TheVariants.{Bad, OutOf
 abbrev pub HasHeader : Version → List ℕ → Type 0
 HasHeader version text = slice_get (line_texts text) 0 ≡ Some (header_of version)
 
--- a line is a wave, and no line before it is a chain. What comes before is told by the lines between the header and this line
-pub record IsWaveBehind (version : Version) (before : List (List ℕ)) (line : List ℕ) (names : List (List ℕ)) : Type 0 where
-  pub wave : wave_on version line ≡ Some names
-  pub no_chain : chains_on version before ≡ []
+-- a line behind a header of this version: the lines between the two, and the line
+pub record FileEntry : Type 0 where
+  pub version : Version
+  pub before : List (List ℕ)
+  pub line : List ℕ
+
+abbrev pub file_entry : Version → List (List ℕ) → List ℕ → FileEntry
+file_entry version before line = record { version = version; before = before; line = line }
+
+-- a line is a wave, and no line before it is a chain
+pub record IsWaveBehind (e : FileEntry) (names : List (List ℕ)) : Type 0 where
+  pub wave : wave_on e.version e.line ≡ Some names
+  pub no_chain : chains_on e.version e.before ≡ []
 
 -- a wave has a name of no router
-pub record NamesNoRouter (net : Network) (version : Version) (before : List (List ℕ)) (line : List ℕ) : Type 0 where
+pub record NamesNoRouter (net : Network) (e : FileEntry) : Type 0 where
   pub names : List (List ℕ)
-  pub wave : IsWaveBehind version before line names
+  pub wave : IsWaveBehind e names
   pub name : List ℕ
   pub among : Contains names name
   pub unknown : (u : ℕ) → IsNamed net name u → ⊥
 
 -- a wave has a name that stood before, in a wave on a line before or in front of it on its own line
-pub record NamesAgain (version : Version) (before : List (List ℕ)) (line : List ℕ) : Type 0 where
+pub record NamesAgain (e : FileEntry) : Type 0 where
   pub names : List (List ℕ)
-  pub wave : IsWaveBehind version before line names
+  pub wave : IsWaveBehind e names
   pub place : ℕ
   pub within : place < length names
-  pub stood : Contains (all_in (waves_on version before) ++ take place names) (slice_index_or names place [])
+  pub stood : Contains (all_in (waves_on e.version e.before) ++ take place names) (slice_index_or names place [])
 
 -- a line is neither a wave nor a chain, or some line before it is a chain
-abbrev pub IsNoWave : Version → List (List ℕ) → List ℕ → Type 0
-IsNoWave version before line = ((wave_on version line ≡ None) × (chain_on version line ≡ None)) ⊎ (chains_on version before ≡ [] → ⊥)
+abbrev pub IsNoWave : FileEntry → Type 0
+IsNoWave e = ((wave_on e.version e.line ≡ None) × (chain_on e.version e.line ≡ None)) ⊎ (chains_on e.version e.before ≡ [] → ⊥)
 
 -- a line is a chain, none before it is, and its names aren't one of each wave before it, in their order
-pub record IsWrongChain (version : Version) (before : List (List ℕ)) (line : List ℕ) : Type 0 where
+pub record IsWrongChain (e : FileEntry) : Type 0 where
   pub names : List (List ℕ)
-  pub chain : chain_on version line ≡ Some names
-  pub no_chain : chains_on version before ≡ []
-  pub wrong : AreOfEach (waves_on version before) names → ⊥
+  pub chain : chain_on e.version e.line ≡ Some names
+  pub no_chain : chains_on e.version e.before ≡ []
+  pub wrong : AreOfEach (waves_on e.version e.before) names → ⊥
 
 -- a line behind the header is faulty with this kind, by itself and the lines before it
-abbrev pub IsFaultBehind : Network → Version → List (List ℕ) → List ℕ → OrderKind → Type 0
-IsFaultBehind net version before line Header = ⊥
-IsFaultBehind net version before line NotInNetwork = NamesNoRouter net version before line
-IsFaultBehind net version before line Twice = NamesAgain version before line
-IsFaultBehind net version before line Missing = ⊥
-IsFaultBehind net version before line Wave = IsNoWave version before line
-IsFaultBehind net version before line Chain = IsWrongChain version before line
+abbrev pub IsFaultBehind : Network → FileEntry → OrderKind → Type 0
+IsFaultBehind net e Header = ⊥
+IsFaultBehind net e NotInNetwork = NamesNoRouter net e
+IsFaultBehind net e Twice = NamesAgain e
+IsFaultBehind net e Missing = ⊥
+IsFaultBehind net e Wave = IsNoWave e
+IsFaultBehind net e Chain = IsWrongChain e
 
 -- the line of this number, behind a header, is faulty with this kind
 pub record HasFaultyEntry (net : Network) (text : List ℕ) (number : ℕ) (kind : OrderKind) : Type 0 where
-  pub version : Version
-  pub before : List (List ℕ)
-  pub line : List ℕ
+  pub at : FileEntry
   pub after : List (List ℕ)
-  pub lines : line_texts text ≡ header_of version ∷ (before ++ line ∷ after)
-  pub number_is : number ≡ length before + 2
-  pub fault : IsFaultBehind net version before line kind
+  pub lines : line_texts text ≡ header_of at.version ∷ (at.before ++ at.line ∷ after)
+  pub number_is : number ≡ length at.before + 2
+  pub fault : IsFaultBehind net at kind
 
 -- a text ends before the line of this number, and some router stands in no wave
 pub record EndsEarly (net : Network) (text : List ℕ) (number : ℕ) : Type 0 where

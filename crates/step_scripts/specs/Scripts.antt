@@ -88,19 +88,27 @@ end_lines net = if list_any lacks_process net then end_comment ∷ [] else []
 
 -- ---- the script ----
 
+-- what a script is of: the version of its order file, the network, and the rank of each router
+pub record Scripted : Type 0 where
+  pub version : Version
+  pub net : Network
+  pub ranks : List ℕ
+
+abbrev pub scripted : Version → Network → List ℕ → Scripted
+scripted version net ranks = record { version = version; net = net; ranks = ranks }
+
 -- the part of a script for a change: its comments, and the lines that make it
-abbrev pub change_part : Version → Network → List ℕ → ℕ → Change → List (List ℕ)
-change_part version net ranks number c = wave_comments version ranks c ++ change_comment number (name_on net (changed c)) ∷ change_lines net c
+abbrev pub change_part : Scripted → ℕ → Change → List (List ℕ)
+change_part m number c = wave_comments m.version m.ranks c ++ change_comment number (name_on m.net (changed c)) ∷ change_lines m.net c
 
 -- the parts for changes one after the other, behind so many changes
-abbrev pub change_parts : Version → Network → List ℕ → ℕ → List Change → List (List ℕ)
-change_parts version net ranks made [] = []
-change_parts version net ranks made (c ∷ changes) =
-    change_part version net ranks (made + 1) c ++ change_parts version net ranks (made + 1) changes
+abbrev pub change_parts : Scripted → ℕ → List Change → List (List ℕ)
+change_parts m made [] = []
+change_parts m made (c ∷ changes) = change_part m (made + 1) c ++ change_parts m (made + 1) changes
 
 -- the lines of a script: the parts for the changes of the flat run, and the end
 abbrev pub script_lines : Version → Network → List ℕ → List (List ℕ)
-script_lines version net ranks = change_parts version net ranks 0 (run_along (flat_of ranks)) ++ end_lines net
+script_lines version net ranks = change_parts (scripted version net ranks) 0 (run_along (flat_of ranks)) ++ end_lines net
 
 -- its text
 abbrev pub script_text : Version → Network → List ℕ → List ℕ

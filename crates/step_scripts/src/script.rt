@@ -3,7 +3,7 @@ ghost use Rattle.std.specs.List.{list_any};
 ghost use Rattle.igp_theory.specs.Waves.{first, second};
 ghost use Rattle.printed_lines.specs.Texts.{text_of};
 ghost use Rattle.step_scripts.specs.Scripts.{change_comment, change_lines, change_part, end_lines, isis_change_lines};
-ghost use Rattle.step_scripts.specs.Scripts.{lacks_process, name_on, opens_wave, script_text, shows_waves, wave_comment};
+ghost use Rattle.step_scripts.specs.Scripts.{lacks_process, scripted, name_on, opens_wave, script_text, shows_waves, wave_comment};
 ghost use Rattle.step_scripts.specs.Scripts.{wave_comments};
 
 use crate::Version;
@@ -49,7 +49,7 @@ fn with_first(
 ) -> Result<TextBuilder, AllocError>
     requires each { length waves.now ≡ length net.now }
     requires router { router < length net.now }
-    ensures { IfOk result (λ longer. longer ≡ text ++ text_of (change_part version net.now waves.now number (first router))) }
+    ensures { IfOk result (λ longer. longer ≡ text ++ text_of (change_part (scripted version net.now waves.now) number (first router))) }
 {
     let config = net.config(router);
     let text = with_wave(alloc, text, waves, version, router)?;

@@ -49,7 +49,7 @@ impl Seats {
         requires { wave < length self.now }
         ensures { IsTrue result ↔ Contains (wave_at self.now wave) router }
     {
-        self.waves[wave].contains(&router)
+        self.waves[wave].iter().any(|other| *other == router)
     }
 
     /// The first wave that a router is in.

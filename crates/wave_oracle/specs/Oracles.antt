@@ -2,6 +2,7 @@
 use Rattle.std.specs.Prelude.{◌≡◌, ℕ, length}
 use Rattle.igp_theory.specs.LoopLaws.{AreSoundEnds}
 use Rattle.igp_theory.specs.Loops.{IsFault}
+use Rattle.igp_theory.specs.Migrations.{Migration}
 use Rattle.igp_theory.specs.States.{IsSound}
 use Rattle.igp_theory.specs.declared.phase.Phase.{Phase}
 use Rattle.rib_mix.specs.Mixture.{Mixture, migration_of}
@@ -13,12 +14,12 @@ use Rattle.plan_theory.specs.Plans.{fault_told}
 use Rattle.plan_theory.specs.declared.planned.EndFault.{EndFault}
 
 -- the state in which every router has this phase is sound
-abbrev pub IsSoundEnd : {O N : Type 0} → Listing O → Listing N → Mixture O N → Phase → Type 0
-IsSoundEnd old new m phase = IsSound (migration_of old new m) (λ _. phase)
+abbrev pub IsSoundEnd : Migration → Phase → Type 0
+IsSoundEnd move phase = IsSound move (λ _. phase)
 
 -- it has this fault
-abbrev pub HasEndFault : {O N : Type 0} → Listing O → Listing N → Mixture O N → Phase → EndFault → Type 0
-HasEndFault old new m phase fault = IsFault (migration_of old new m) (λ _. phase) (fault_told fault)
+abbrev pub HasEndFault : Migration → Phase → EndFault → Type 0
+HasEndFault move phase fault = IsFault move (λ _. phase) (fault_told fault)
 
 -- both ends are sound
 abbrev pub HasSoundEnds : {O N : Type 0} → Listing O → Listing N → Mixture O N → Type 0

@@ -1,5 +1,6 @@
 ghost use Rattle.std.specs.Prelude.{◌≡◌, ◌<◌, ℕ, IfOk, IfSome, IfNone, length};
 ghost use Rattle.loop_finder.specs.Faults.{state_in, told_fault};
+ghost use Rattle.rib_mix.specs.Mixture.{migration_of};
 ghost use Rattle.plan_theory.specs.Plans.{fault_told};
 ghost use Rattle.wave_oracle.specs.Oracles.{HasEndFault, IsSoundEnd};
 
@@ -19,8 +20,8 @@ pub(crate) fn end_fault<O: RouteSource, N: RouteSource>(
     phase: Phase,
 ) -> Result<Option<EndFault>, OutOfMemory>
     requires { routers ≡ length finder.old.mixture.net }
-    ensures sound { IfOk result (λ fault. IfNone fault (IsSoundEnd O.table N.table finder.old.mixture phase)) }
-    ensures fault { IfOk result (λ fault. IfSome fault (HasEndFault O.table N.table finder.old.mixture phase)) }
+    ensures sound { IfOk result (λ fault. IfNone fault (IsSoundEnd (migration_of O.table N.table finder.old.mixture) phase)) }
+    ensures fault { IfOk result (λ fault. IfSome fault (HasEndFault (migration_of O.table N.table finder.old.mixture) phase)) }
     ensures mixture { finder.new.mixture ≡ finder.old.mixture }
 {
     let phases = phases_of(alloc, routers, phase)?;

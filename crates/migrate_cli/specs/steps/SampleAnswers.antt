@@ -6,9 +6,9 @@ use Rattle.order_search.specs.declared.found.Found.TheVariants.{Waves}
 use Rattle.plan_theory.specs.declared.planned.Planned.{Planned}
 use Rattle.plan_theory.specs.declared.planned.Planned.TheVariants.{Searched}
 use Rattle.migrate_cli.specs.steps.PlannedAnswers.{plan_text}
-use Rattle.migrate_cli.specs.SampleVerdict.{SumsUp}
+use Rattle.migrate_cli.specs.SampleVerdict.{SumsUp, planned_waves}
 
 -- what is told of a plan: the summary of its waves, or what `plan` writes
 abbrev pub TellsOfPlan : Network → ℕ → Planned → List ℕ → Type 0
-TellsOfPlan net routers (Searched (Waves ranks pairs chain trail)) text = SumsUp net routers ranks trail text
+TellsOfPlan net routers (Searched (Waves ranks pairs chain trail)) text = SumsUp net (planned_waves routers ranks trail) text
 TellsOfPlan net routers planned text = text ≡ plan_text (names_of net) planned

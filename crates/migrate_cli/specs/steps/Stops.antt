@@ -2,6 +2,7 @@
 use Rattle.std.specs.Prelude.{◌≡◌, ℕ, ◌+◌, ◌≤◌, List, [], ◌∷◌, ◌++◌, Result, Ok, Err}
 use Rattle.store_edge.specs.Faults.{Rose}
 use Rattle.migrate_cli.specs.Reading.{Contents, File, file_names, IsReadOf, AreRead, AreWithin, IsShort, IsTooLong, PassesTotal, ReadUpTo, counted, total_of}
+use Rattle.migrate_cli.specs.Reading.{to_read, ToRead}
 use Rattle.migrate_cli.specs.declared.reading.Stop.{Stop}
 use Rattle.migrate_cli.specs.declared.reading.Stop.TheVariants.{Fault, Long, Total, OutOfMemory}
 use Rattle.migrate_cli.specs.declared.reading.TheConstants.{CONFIGS_MOST}
@@ -69,13 +70,13 @@ pub record IsNextText (content : Contents) (file : File) (before after : KeptTex
 pub record StopsIn (content : Contents) (files : List File) (asked : List (List ℕ)) (stop : Stop) : Type 0 where
   pub texts : List (List ℕ)
   pub file : File
-  pub up_to : ReadUpTo content files asked texts file
+  pub up_to : ReadUpTo (to_read content files) asked texts file
   pub stops : StopsAt content file (total_of up_to.before texts) stop
 
 -- the names that were asked for when memory ran out: none, or those up to a file before which all were read within the limits
 pub data MayRead (content : Contents) (files : List File) : List (List ℕ) → Type 0 where
   none_yet : MayRead content files []
-  so_far : (asked texts : List (List ℕ)) (file : File) → ReadUpTo content files asked texts file → MayRead content files asked
+  so_far : (asked texts : List (List ℕ)) (file : File) → ReadUpTo (to_read content files) asked texts file → MayRead content files asked
 
 -- the answer of reading some files, and the names that were asked for
 abbrev pub StopsAmong : Contents → List File → List (List ℕ) → Stop → Type 0
@@ -90,7 +91,7 @@ ReadsOrStops content files asked (Ok kept) = (asked ≡ file_names files) × Are
 ReadsOrStops content files asked (Err stop) = StopsAmong content files asked stop
 
 -- some names were asked for, and so much was read of the files
-pub record HasRead (content : Contents) (files : List File) (asked_before asked_after : List (List ℕ)) (answer : Result KeptTexts Stop) : Type 0 where
+pub record HasRead (all : ToRead) (asked_before asked_after : List (List ℕ)) (answer : Result KeptTexts Stop) : Type 0 where
   pub asked : List (List ℕ)
   pub asked_is : asked_after ≡ asked_before ++ asked
-  pub reads : ReadsOrStops content files asked answer
+  pub reads : ReadsOrStops all.content all.files asked answer

@@ -1,7 +1,7 @@
 -- Why the configurations of some files aren't read.
 use Rattle.std.specs.Prelude.{◌≡◌, ℕ, List}
 use Rattle.ios_reader.specs.Texts.{IsRefusedText}
-use Rattle.migrate_cli.specs.Configurations.{IsFirstRefused}
+use Rattle.migrate_cli.specs.Configurations.{IsFirstRefused, line_fault}
 use Rattle.migrate_cli.specs.declared.configurations.Unread.{Unread}
 use Rattle.migrate_cli.specs.declared.configurations.Unread.TheVariants.{Bad, OutOfMemory}
 use Rattle.migrate_cli.specs.declared.status.Status.{Status}
@@ -16,7 +16,7 @@ IsUnreadText name text OutOfMemory = Unit {0}
 
 -- the first file that has a faulty line, or want of memory
 abbrev pub IsUnread : List (List ℕ) → List (List ℕ) → Unread → Type 0
-IsUnread names texts (Bad file line kind) = IsFirstRefused names texts file.now line kind
+IsUnread names texts (Bad file line kind) = IsFirstRefused (line_fault line kind) names texts file.now
 IsUnread names texts OutOfMemory = Unit {0}
 
 -- the answer that some files aren't read

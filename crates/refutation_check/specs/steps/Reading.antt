@@ -40,22 +40,17 @@ pub record HasReadLines (move : Migration) (lines : List (List ℕ)) (reading : 
   pub right : AreRightLines move lines nodes reading.walk.left
   pub counted : AreTallied reading.tally nodes
 
--- a line says a node that is right at a place; the node is counted, and its children are open before the other places
-pub record TakesLine (move : Migration) (place : Place) (left : List Place) (line : List ℕ) (before after : Reading) : Type 0 where
+-- a line says a node that is right at the first open place; the node is counted, and its children are open before the other places
+pub record TakesLine (move : Migration) (line : List ℕ) (before after : Reading) : Type 0 where
   pub node : Node
   pub says : SaysNode move.net (pieces_of line) node
-  pub taken : IsTaken move place left after.walk.left node
+  pub taken : IsTaken move before.walk.left after.walk.left node
   pub counts : CountsNode before.tally after.tally node
 
 -- why a line isn't taken: no place is open, or it is wrong at the first open place
 abbrev pub IsNotTaken : Migration → List Place → List ℕ → WrongKind → Type 0
 IsNotTaken move [] line kind = kind ≡ Form
 IsNotTaken move (place ∷ left) line kind = IsLowestKind (WrongWords move place (pieces_of line)) kind
-
--- what came of a line where some place is open
-abbrev pub IsTakenThere : Migration → List Place → List ℕ → Reading → Reading → Type 0
-IsTakenThere move [] line before after = ⊥
-IsTakenThere move (place ∷ left) line before after = TakesLine move place left line before after
 
 -- the verdict is that a line is wrong, and which
 abbrev pub IsWrongVerdict : Migration → List ℕ → Verdict → Type 0

@@ -53,7 +53,7 @@ IsRinged count (Branch a turns) = All (λ (turn : Turn). turn.router < count) tu
 IsRinged count (Leaf cycle) = All (λ (u : ℕ). u < count) cycle × AreDistinctRouters cycle
 IsRinged count Unvisited = Unit {0}
 
--- a node is right at a place, and its children stand before the places that were open after it
-pub record IsTaken (move : Migration) (place : Place) (left after : List Place) (node : Node) : Type 0 where
-  pub right : IsRightNode move place node
-  pub places : after ≡ places_below place node ++ left
+-- a node is right at the first open place, and its children stand before the places that were open after it
+abbrev pub IsTaken : Migration → List Place → List Place → Node → Type 0
+IsTaken move [] after node = ⊥
+IsTaken move (place ∷ left) after node = IsRightNode move place node × (after ≡ places_below place node ++ left)

@@ -13,6 +13,7 @@ use Rattle.migrate_cli.specs.CheckVerdict.IsCheckVerdict.{faulty_order, of_order
 use Rattle.migrate_cli.specs.declared.status.Status.TheVariants.{Refused}
 use Rattle.migrate_cli.proofs.AnswerFacts.{from_refusal}
 use Rattle.migrate_cli.proofs.check.judge_check.Goals as goal
+use Rattle.migrate_cli.specs.Reading.{named_text}
 
 pub returns-in-Err-Bad : goal.returns-in-Err-Bad
 returns-in-Err-Bad c =
@@ -20,7 +21,7 @@ returns-in-Err-Bad c =
     let line = c.in-Err-Bad.line in
     let kind = c.in-Err-Bad.kind in
     from_refusal c.refuse.result Refused (faulty_text c.args.file.now line (order_kind_name kind)) (λ s t.
-    IsCheckVerdict c.args.file.now c.args.text.now net s t)
+    IsCheckVerdict (named_text c.args.file.now c.args.text.now) net s t)
     c.refuse.ensures.status c.refuse.ensures.text
     (faulty_order line kind
     (subst (λ text. IsLeastFaultyLine net text line kind) c.as_slice.ensures
@@ -42,7 +43,7 @@ returns-in-One c =
     let names = subst (λ version. NamesWaves net text version ranks) c.in-One.is (subst (λ t. NamesWaves net t c.in-Ok.read.version ranks)
     c.as_slice.ensures c.in-Ok.ensures.ok) in
     IfOk-weaker c.judge_order.result (λ a. IsOrderVerdict (ospf_to_isis net) c.flat.result.now a.status a.text)
-    (λ a. IsCheckVerdict c.args.file.now text net a.status a.text)
+    (λ a. IsCheckVerdict (named_text c.args.file.now text) net a.status a.text)
     (λ a verdict. of_order ranks a.status a.text names
     (subst (λ (order : List ℕ). IsOrderVerdict (ospf_to_isis net) order a.status a.text) c.flat.ensures verdict))
     c.judge_order.ensures
@@ -55,6 +56,6 @@ returns c =
     let names = subst (λ version. NamesWaves net text version ranks) c.in-Two.is (subst (λ t. NamesWaves net t c.in-Ok.read.version ranks)
     c.as_slice.ensures c.in-Ok.ensures.ok) in
     IfOk-weaker c.judge_waves.result (λ a. IsWavesVerdict (ospf_to_isis net) ranks a.status a.text)
-    (λ a. IsCheckVerdict c.args.file.now text net a.status a.text)
+    (λ a. IsCheckVerdict (named_text c.args.file.now text) net a.status a.text)
     (λ a verdict. of_waves ranks a.status a.text names verdict)
     c.judge_waves.ensures

@@ -5,6 +5,7 @@ use Rattle.migrate_cli.specs.Verdicts.{IsVerdict}
 use Rattle.migrate_cli.specs.declared.answer.Answer.{Answer}
 use Rattle.migrate_cli.proofs.SampleFacts.{sample_short}
 use Rattle.migrate_cli.proofs.judging.judge_made.Goals as goal
+use Rattle.migrate_cli.specs.CommandFiles.{given_texts}
 
 pub judge_texts-requires-clause-short : goal.judge_texts-requires-clause-short
 judge_texts-requires-clause-short c =
@@ -14,5 +15,5 @@ judge_texts-requires-clause-short c =
 
 pub returns : goal.returns
 returns c =
-    subst (λ (text : List ℕ). IfOk c.judge_texts.result (λ (a : Answer). IsVerdict (sample c.args.routers) [] (text ∷ []) a.status a.text))
+    subst (λ (text : List ℕ). IfOk c.judge_texts.result (λ (a : Answer). IsVerdict (sample c.args.routers) (given_texts [] (text ∷ [])) a.status a.text))
     c.in_ok-text.ensures c.judge_texts.ensures

@@ -10,6 +10,7 @@ use Rattle.migrate_cli.specs.Verdicts.IsVerdict.{off_start, of_command}
 use Rattle.migrate_cli.specs.declared.status.Status.TheVariants.{Refused}
 use Rattle.migrate_cli.proofs.AnswerFacts.{from_refusal}
 use Rattle.migrate_cli.proofs.judging.judge_network.Goals as goal
+use Rattle.migrate_cli.specs.CommandFiles.{given_texts}
 
 pub returns-in-Some : goal.returns-in-Some
 returns-in-Some c =
@@ -20,8 +21,8 @@ returns-in-Some c =
     let config = c.config.result.now in
     let same = ap (λ (some : Configuration). some.name) c.behind-net.view_is in
     from_refusal c.refuse.result Refused (off_start_text c.behind-net.inside.name)
-    (λ s t. GiveNetwork configs net → IsVerdict request own configs s t) c.refuse.ensures.status c.refuse.ensures.text
-    (λ gives. subst (λ name. IsVerdict request own configs Refused (off_start_text name)) (sym same)
+    (λ s t. GiveNetwork configs net → IsVerdict request (given_texts own configs) s t) c.refuse.ensures.status c.refuse.ensures.text
+    (λ gives. subst (λ name. IsVerdict request (given_texts own configs) Refused (off_start_text name)) (sym same)
     (off_start net c.in-Some.router config gives c.in-Some.ensures.0 c.in-Some.ensures.1 c.config.ensures.router))
 
 pub returns-in-None : goal.returns-in-None
@@ -32,6 +33,6 @@ returns-in-None c =
     let configs = c.args.configs.now in
     IfOk-weaker c.judge_command.result
     (λ a. IsCommandVerdict request (record { own = own; configs = configs; net = net }) a.status a.text)
-    (λ a. GiveNetwork configs net → IsVerdict request own configs a.status a.text)
+    (λ a. GiveNetwork configs net → IsVerdict request (given_texts own configs) a.status a.text)
     (λ a verdict gives. of_command net a.status a.text gives c.in-None.ensures verdict)
     c.judge_command.ensures

@@ -5,7 +5,7 @@ use Rattle.std.proofs.lemmas.List.{length-map}
 use Rattle.std.proofs.lemmas.Result.{IfOk-weaker}
 use Rattle.migrate_words.specs.Requests.{request_of}
 use Rattle.migration_report.specs.Texts.{network_text}
-use Rattle.migrate_cli.specs.CommandFiles.{text_names}
+use Rattle.migrate_cli.specs.CommandFiles.{given_texts}
 use Rattle.migrate_cli.specs.Configurations.{GiveNetwork}
 use Rattle.migrate_cli.specs.RefusalStatus.{refusal_status}
 use Rattle.migrate_cli.specs.steps.Unread.{IsUnread}
@@ -40,8 +40,8 @@ returns-in-Ok-build c =
     let net = c.in-Ok-build.net in
     let gives : GiveNetwork texts net = record { configs = c.in-Ok.configs; read = c.in-Ok.ensures.ok; make = c.in-Ok-build.ensures.ok } in
     IfOk-weaker c.judge_network.result
-    (λ a. GiveNetwork texts net → IsVerdict request own texts a.status a.text)
-    (λ a. IsVerdict request own texts a.status a.text)
+    (λ a. GiveNetwork texts net → IsVerdict request (given_texts own texts) a.status a.text)
+    (λ a. IsVerdict request (given_texts own texts) a.status a.text)
     (λ a verdict. verdict gives)
     c.judge_network.ensures
 
@@ -53,5 +53,5 @@ returns c =
     let request = request_of c.args.command.now in
     let refusal = c.in-Err-build.refusal in
     from_refusal c.refuse.result c.in-Some.status (network_text refusal)
-    (λ s t. IsVerdict request c.args.own.now c.args.texts.now s t) c.refuse.ensures.status c.refuse.ensures.text
+    (λ s t. IsVerdict request (given_texts c.args.own.now c.args.texts.now) s t) c.refuse.ensures.status c.refuse.ensures.text
     (no_network c.in-Ok.configs refusal c.in-Some.status c.in-Ok.ensures.ok c.in-Err-build.ensures.err (sym c.status_of.ensures ∙ c.in-Some.is))

@@ -7,9 +7,9 @@ use Rattle.migration_report.specs.Texts.{many_files_text}
 use Rattle.migrate_cli.specs.Answers.{AsksForFew, FaultsAgree, IsAnswer, MayAsk}
 use Rattle.migrate_cli.specs.Answers.IsAnswer.{judged, many_files}
 use Rattle.migrate_cli.specs.Calls.{Call}
-use Rattle.migrate_cli.specs.CommandFiles.{config_names, config_texts, files_of, own_texts}
+use Rattle.migrate_cli.specs.CommandFiles.{config_names, config_texts, files_of, own_texts, given_texts}
 use Rattle.migrate_cli.specs.steps.FilesRead.{file_of}
-use Rattle.migrate_cli.specs.Reading.{AreRead, AreWithin, File, file_names}
+use Rattle.migrate_cli.specs.Reading.{AreRead, AreWithin, File, file_names, to_read}
 use Rattle.migrate_cli.specs.steps.Stops.{HasRead}
 use Rattle.migrate_cli.specs.Verdicts.{IsVerdict}
 use Rattle.migrate_cli.specs.declared.status.Status.TheVariants.{Limit}
@@ -54,8 +54,8 @@ returns-in-Ok-read_texts-clause-answer g c = λ words asks.
     let few : length (config_names request) ≤ 200 = grind (arith, count) in
     let ask : AsksForFew words request = record { asked = asks; few = few } in
     let files : map file_of c.as_slice.result.now ≡ files_of request = ap (map file_of) c.as_slice.ensures.value ∙ c.in-Ok.ensures in
-    let has : HasRead content (files_of request) before after (Ok c.in-Ok-read_texts.texts) =
-    subst (λ some. HasRead content some before after (Ok c.in-Ok-read_texts.texts)) files c.in-Ok-read_texts.ensures.read in
+    let has : HasRead (to_read content (files_of request)) before after (Ok c.in-Ok-read_texts.texts) =
+    subst (λ some. HasRead (to_read content some) before after (Ok c.in-Ok-read_texts.texts)) files c.in-Ok-read_texts.ensures.read in
     let texts = c.as_slice-in-Ok-read_texts.result.now in
     let same : texts ≡ c.in-Ok-read_texts.texts.all = c.as_slice-in-Ok-read_texts.ensures in
     let read : AreRead content (files_of request) texts = subst (AreRead content (files_of request)) (sym same) has.reads.1 in
@@ -63,7 +63,7 @@ returns-in-Ok-read_texts-clause-answer g c = λ words asks.
     let r = c.judge.result in
     answered call before after has.asked r has.asked_is
     (subst (λ asked. IfOk r (λ a. IsAnswer call asked a.status a.text)) (sym has.reads.0)
-    (IfOk-weaker r (λ a. IsVerdict request (own_texts request texts) (config_texts request texts) a.status a.text)
+    (IfOk-weaker r (λ a. IsVerdict request (given_texts (own_texts request texts) (config_texts request texts)) a.status a.text)
     (λ a. IsAnswer call (file_names (files_of request)) a.status a.text)
     (λ a verdict. judged request texts a.status a.text ask read within verdict) c.judge.ensures))
     (subst (MayAsk call) (sym has.reads.0) (may_ask_all call request texts ask read within))
@@ -74,7 +74,7 @@ returns-in-Ok-read_texts-clause-faults g c =
     let texts = c.as_slice-in-Ok-read_texts.result.now in
     let before = g.F.Files.faults c.args.files.now in
     let after = g.F.Files.faults c.read_texts.new.files in
-    IfOk-weaker c.judge.result (λ a. IsVerdict request (own_texts request texts) (config_texts request texts) a.status a.text)
+    IfOk-weaker c.judge.result (λ a. IsVerdict request (given_texts (own_texts request texts) (config_texts request texts)) a.status a.text)
     (λ a. FaultsAgree a.status before after)
     (λ a verdict. faults_agree a.status before after (verdict_no_fault verdict).0 c.in-Ok-read_texts.ensures.faults)
     c.judge.ensures
@@ -93,6 +93,6 @@ returns-clause-answer g c = λ words asks.
     let ask : AsksForFew words request = record { asked = asks; few = few } in
     let files : map file_of c.as_slice.result.now ≡ files_of request = ap (map file_of) c.as_slice.ensures.value ∙ c.in-Ok.ensures in
     let stop = c.in-Err.stop in
-    let has : HasRead content (files_of request) before after (Err stop) =
-    subst (λ some. HasRead content some before after (Err stop)) files c.in-Err.ensures.read in
+    let has : HasRead (to_read content (files_of request)) before after (Err stop) =
+    subst (λ some. HasRead (to_read content some) before after (Err stop)) files c.in-Err.ensures.read in
     stop_answer call before after request stop c.refuse_stop.result ask has c.refuse_stop.ensures

@@ -7,7 +7,7 @@ use Rattle.igp_theory.specs.Migrations.{Migration}
 use Rattle.rib_mix.specs.Mixture.{migration_of}
 use Rattle.refutation_check.specs.Verdicts.{IsFirstWrongLine}
 use Rattle.refutation_check.specs.declared.reading.Reading.{Reading}
-use Rattle.refutation_check.specs.steps.Reading.{HasReadLines, IsTakenThere, IsNotTaken, line_bytes}
+use Rattle.refutation_check.specs.steps.Reading.{HasReadLines, TakesLine, IsNotTaken, line_bytes}
 use Rattle.refutation_check.proofs.ReadingFacts.{read_more, read_long, wrong_at, branches-few, leaves-few, open-few}
 use Rattle.refutation_check.proofs.judge.read_lines.Goals as goal
 
@@ -60,7 +60,7 @@ returns-in-Err g c =
     let within : i < length lines = omega (arith, c.loop-line-test.true, many text entries) in
     let line = bytes_of text (get_or entries i (record { number = 0; indent = 0; span = record { start = 0; stop = 0 } })).span in
     let off : IsNotTaken move before.walk.left line c.in-Err.kind =
-    MatchResult-at_err (IsTakenThere move before.walk.left line before) (IsNotTaken move before.walk.left line) c.in-Err.kind c.in-Err.is
+    MatchResult-at_err (TakesLine move line before) (IsNotTaken move before.walk.left line) c.in-Err.kind c.in-Err.is
     c.in_ok-after.ensures.taken in
     let there : IsNotTaken move before.walk.left (get_or lines i []) c.in-Err.kind =
     subst (λ (l : List ℕ). IsNotTaken move before.walk.left l c.in-Err.kind)
@@ -80,11 +80,11 @@ loop-line-preserved g c =
     let lines = line_bytes text entries in
     let within : i < length lines = omega (arith, c.loop-line-test.true, many text entries) in
     let line = bytes_of text (get_or entries i (record { number = 0; indent = 0; span = record { start = 0; stop = 0 } })).span in
-    let on : IsTakenThere move before.walk.left line before c.in-Ok.after =
-    MatchResult-at_ok (IsTakenThere move before.walk.left line before) (IsNotTaken move before.walk.left line) c.in-Ok.after c.in-Ok.is
+    let on : TakesLine move line before c.in-Ok.after =
+    MatchResult-at_ok (TakesLine move line before) (IsNotTaken move before.walk.left line) c.in-Ok.after c.in-Ok.is
     c.in_ok-after.ensures.taken in
-    let there : IsTakenThere move before.walk.left (get_or lines i []) before c.in-Ok.after =
-    subst (λ (l : List ℕ). IsTakenThere move before.walk.left l before c.in-Ok.after)
+    let there : TakesLine move (get_or lines i []) before c.in-Ok.after =
+    subst (λ (l : List ℕ). TakesLine move l before c.in-Ok.after)
     (at_line text entries i (record { number = 0; indent = 0; span = record { start = 0; stop = 0 } }) c.loop-line-test.true) on in (
       read_more move lines i before c.in-Ok.after within c.loop-line.invariant.0 there,
       IfOk-at_ok (λ (after : Reading). after.walk.routers ≡ length m.net) c.in-Ok.is c.in_ok-after.ensures.routers,

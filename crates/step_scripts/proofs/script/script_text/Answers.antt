@@ -4,7 +4,7 @@ use Rattle.order_core.specs.Rankings.{flat_of}
 use Rattle.order_core.proofs.WaveLists.{flat_is_order}
 use Rattle.igp_theory.specs.Waves.{first, second}
 use Rattle.printed_lines.specs.Texts.{text_of}
-use Rattle.step_scripts.specs.Scripts.{change_part}
+use Rattle.step_scripts.specs.Scripts.{Scripted, scripted, change_part}
 use Rattle.step_scripts.proofs.ScriptFacts.{text_more}
 use Rattle.step_scripts.proofs.script.script_text.Goals as goal
 
@@ -29,13 +29,12 @@ with_second-requires c =
 
 pub loop-place-preserved : goal.loop-place-preserved
 loop-place-preserved c =
-    let u : ℕ = get_or c.flat-router-items.result.now c.loop-place.place 0 in
-    let within : c.loop-place.place < length (flat_of c.args.waves.now) =
+    let m : Scripted = scripted c.args.version c.args.net.now c.args.waves.now in
+    let place = c.loop-place.place in
+    let u : ℕ = get_or c.flat-router-items.result.now place 0 in
+    let within : place < length (flat_of m.ranks) =
     let test = c.loop-place-test.true in let long = ap length c.flat-router-items.ensures in omega (arith, test, long) in
     c.in_ok-text-2.ensures
-    ∙ ap (λ (t : List ℕ). t ++ text_of (change_part c.args.version c.args.net.now c.args.waves.now (2 * c.loop-place.place + 2) (second u)))
-    (c.in_ok-text.ensures
-    ∙ ap (λ (t : List ℕ). t ++ text_of (change_part c.args.version c.args.net.now c.args.waves.now (2 * c.loop-place.place + 1) (first u)))
-    c.loop-place.invariant)
-    ∙ sym (text_more c.args.version c.args.net.now c.args.waves.now (flat_of c.args.waves.now) c.loop-place.place u 0 within
-    (ap (λ (l : List ℕ). get_or l c.loop-place.place 0) c.flat-router-items.ensures))
+    ∙ ap (λ (t : List ℕ). t ++ text_of (change_part m (2 * place + 2) (second u)))
+    (c.in_ok-text.ensures ∙ ap (λ (t : List ℕ). t ++ text_of (change_part m (2 * place + 1) (first u))) c.loop-place.invariant)
+    ∙ sym (text_more m (flat_of m.ranks) place u 0 within (ap (λ (l : List ℕ). get_or l place 0) c.flat-router-items.ensures))
