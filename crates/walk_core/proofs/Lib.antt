@@ -10,6 +10,7 @@ pub mod LoopLaws
 pub mod FloodLaws
 pub mod SegmentHopLaws
 pub mod SegmentSteps
+pub mod LanLaws
 mod AddingLaws
 mod OutletLaws
 pub mod RowLaws

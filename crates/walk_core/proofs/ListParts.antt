@@ -1,9 +1,11 @@
--- Spans of one list of numbers as lists.
-use Rattle.std.proofs.Common.{◌≡◌, ℕ, ◌-◌, ◌≤◌, List, [], ◌∷◌, ◌++◌, length, length-append, take, drop, refl, sym, ap, ◌∙◌, arith}
+-- Spans of one list of numbers as lists, and lists of one number or more.
+use Rattle.std.proofs.Common.{◌≡◌, ℕ, ◌-◌, ◌≤◌, List, [], ◌∷◌, ◌++◌, length, length-append, take, drop, map, All, refl, sym, ap, ◌∙◌, arith}
 use Rattle.std.proofs.lemmas.List.{drop-append-le, drop_at, take-append-le, take_all, map-append, length-drop}
-use Rattle.std.proofs.lemmas.List.Elements.{All-head, All-tail}
-use Rattle.walk_core.specs.steps.NumberLists.{part_of, lists_of, IsWithin, AreSpansWithin}
-use Rattle.walk_core.specs.declared.number_lists.Span.{Span}
+use Rattle.std.proofs.lemmas.List.Elements.{All-head, All-tail, All-weaker}
+use Rattle.walk_core.specs.steps.NumberLists.{part_of, lists_of, list_of, IsWithin, AreSpansWithin, IsLongListKept, Grows}
+use Rattle.walk_core.specs.declared.long_lists.Span.{Span}
+use Rattle.walk_core.specs.declared.number_lists.Numbers.{Numbers}
+use Rattle.walk_core.specs.declared.number_lists.Numbers.TheVariants.{Nothing, One, More}
 
 -- more numbers behind the others change no span
 pub part_stays : (numbers more : List ℕ) (span : Span) → IsWithin numbers span → part_of (numbers ++ more) span ≡ part_of numbers span
@@ -33,3 +35,26 @@ lists_more numbers more spans span are starts ends =
     map-append (part_of (numbers ++ more)) spans (span ∷ [])
     ∙ ap (λ (l : List (List ℕ)). l ++ part_of (numbers ++ more) span ∷ []) (lists_stay numbers more spans are)
     ∙ ap (λ (l : List ℕ). lists_of numbers spans ++ l ∷ []) (part_behind numbers more span starts ends)
+
+-- a list stays as it is where long ones come behind the others
+list_stays : (old new : List (List ℕ)) (numbers : Numbers) → Grows old new → IsLongListKept old numbers → list_of new numbers ≡ list_of old numbers
+list_stays old new Nothing grows kept = refl
+list_stays old new (One number) grows kept = refl
+list_stays old new (More place) grows kept = grows.same place (kept place refl)
+
+-- so do all, and one more list comes behind them
+pub kept_more : (old new : List (List ℕ)) (all : List Numbers) → Grows old new → All (IsLongListKept old) all → All (IsLongListKept new) all
+kept_more old new all grows = All-weaker (IsLongListKept old) (IsLongListKept new) (λ numbers kept place is. omega (arith, kept place is, grows.within)) all
+
+all_stay : (old new : List (List ℕ)) (all : List Numbers) → Grows old new → All (IsLongListKept old) all → map (list_of new) all ≡ map (list_of old) all
+all_stay old new [] grows kept = refl
+all_stay old new (numbers ∷ all) grows kept =
+    ap (λ (l : List ℕ). l ∷ map (list_of new) all) (list_stays old new numbers grows (All-head (IsLongListKept old) numbers all kept))
+    ∙ ap (λ (l : List (List ℕ)). list_of old numbers ∷ l) (all_stay old new all grows (All-tail (IsLongListKept old) numbers all kept))
+
+pub all_more : (old new : List (List ℕ)) (all : List Numbers) (numbers : Numbers) (list : List ℕ) → Grows old new → All (IsLongListKept old) all →
+    list_of new numbers ≡ list → map (list_of new) (all ++ numbers ∷ []) ≡ map (list_of old) all ++ list ∷ []
+all_more old new all numbers list grows kept is =
+    map-append (list_of new) all (numbers ∷ [])
+    ∙ ap (λ (l : List (List ℕ)). l ++ list_of new numbers ∷ []) (all_stay old new all grows kept)
+    ∙ ap (λ (l : List ℕ). map (list_of old) all ++ l ∷ []) is

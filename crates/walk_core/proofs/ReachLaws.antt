@@ -1,5 +1,5 @@
 -- The rows of first hops, one vertex after another, and what they come to with the distances.
-use Rattle.std.proofs.Common.{◌≡◌, ℕ, ◌+◌, ◌<◌, ◌↔◌, ◌⊎◌, List, [], ◌∷◌, ◌++◌, Option, Some, None, length, length-append, get_or, set, get_or-set_same}
+use Rattle.std.proofs.Common.{◌≡◌, ℕ, ◌+◌, ◌<◌, ◌≤◌, ◌↔◌, ◌⊎◌, List, [], ◌∷◌, ◌++◌, Option, Some, None, length, length-append, get_or, set, get_or-set_same}
 use Rattle.std.proofs.Common.{get_or-set_other, Contains, refl, sym, ap, subst, ◌∙◌, arith, inl, inr}
 use Rattle.std.specs.List.{slice_get}
 use Rattle.std.specs.List.Sorted.{IsStrictlyIncreasing}
@@ -10,7 +10,7 @@ use Rattle.std.proofs.lemmas.Option.{slice_get_within, slice_get-get_or, same_So
 use borrow.Author.Count.{below_more}
 use Rattle.walk_core.specs.Walks.{Arcs, FirstHop, walk_cost}
 use Rattle.walk_core.specs.Distances.{distance_at, AreLeastDistances, IsDistanceRow, AreDistanceRows}
-use Rattle.walk_core.specs.steps.FirstHops.{AreFirstHops, ListFirstHops}
+use Rattle.walk_core.specs.steps.FirstHops.{AreAllHops, AreFirstHops, ListFirstHops}
 use Rattle.walk_core.specs.Reach.{Reach, AreAscending, AreLeastWalks, AreNear, AreWalksBelow}
 use Rattle.walk_core.proofs.WalkLaws.{first_hop_has_least_cost}
 
@@ -137,3 +137,18 @@ walks_more arc count u walks reach before row hops = record {
               inl (slice_get-get_or walks w r inside ∙ ap (λ (x : Reach). Some x) (sym (get_or_append_left walks (reach ∷ []) r w inside) ∙ is))
           | inr same ↦ inr (same, sym (get_or_push walks reach r w (before.long ∙ sym same)) ∙ is)
         ]
+
+-- the first hops from one more vertex
+pub all_hops_more : (arc : Arcs) (n : ℕ) (all : List (List (List ℕ))) (lists : List (List ℕ)) → AreAllHops arc n all → ListFirstHops arc n lists →
+    AreAscending lists → AreAllHops arc (n + 1) (all ++ lists ∷ [])
+all_hops_more arc n all lists are exact ascending = record {
+  long = omega (arith, length-append all (lists ∷ []), are.long);
+  exact = each_at_more [] (ListFirstHops arc) all n lists are.long are.exact exact;
+  ascending = each_at_more [] (λ u l. AreAscending l) all n lists are.long are.ascending ascending;
+}
+
+-- what holds of those from a place on still holds of those behind it once that is taken out
+pub rest_kept : {X : Type 0} (P : ℕ → X → Type 0) (xs : List X) (none : X) (n count : ℕ) → ((u : ℕ) → n ≤ u → u < count → P u (get_or xs u none)) →
+    (u : ℕ) → n + 1 ≤ u → u < count → P u (get_or (set xs n none) u none)
+rest_kept {X} P xs none n count are u past below =
+    subst (λ (x : X). P u x) (sym (get_or-set_other xs n u none none (λ same. omega (arith, same, past)))) (are u (omega (arith, past)) below)

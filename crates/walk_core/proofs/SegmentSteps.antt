@@ -61,11 +61,11 @@ same_rest aim cost one other is too =
     let distance : one.distance ≡ other.distance = omega (arith, is.sum, too.sum) in
     ap (λ (n : ℕ). record { vertex = n; distance = one.distance }) vertex ∙ ap (λ (n : ℕ). record { vertex = other.vertex; distance = n }) distance
 
--- where the nearest vertices of a segment are not as far as this, none is
-pub no_end_apart : (mesh : Mesh) (place : ℕ) (rest : Aim) (reach : Reach) → AreWalksFrom mesh.rows (segment_at mesh.segments place) mesh.count reach →
-    rest.vertex < mesh.count → IsNoNearer mesh (record { place = place; cost = 0; to = None }) rest → (distance_of reach rest.vertex ≡ Some rest.distance → ⊥) →
-    (h : ℕ) → IsEndAt mesh.rows (segment_at mesh.segments place) rest h → ⊥
-no_end_apart mesh place rest reach from below near apart h end = go (distance_of reach rest.vertex) (from.distances rest.vertex below) apart
+-- a vertex of a segment that is as far as this, where none is nearer, is as far as the nearest
+pub end_is_nearest : (mesh : Mesh) (place : ℕ) (rest : Aim) (reach : Reach) → AreWalksFrom mesh.rows (segment_at mesh.segments place) mesh.count reach →
+    rest.vertex < mesh.count → IsNoNearer mesh (record { place = place; cost = 0; to = None }) rest →
+    (h : ℕ) → IsEndAt mesh.rows (segment_at mesh.segments place) rest h → distance_of reach rest.vertex ≡ Some rest.distance
+end_is_nearest mesh place rest reach from below near h end = go (distance_of reach rest.vertex) (from.distances rest.vertex below)
   where
     ports : List Port
     ports = segment_at mesh.segments place
@@ -73,12 +73,12 @@ no_end_apart mesh place rest reach from below near apart h end = go (distance_of
     here : HasCost (beyond_port mesh.rows rest.vertex) ports rest.distance
     here = record { thing = end.thing; among = end.among; costs = end.leads.far }
 
-    go : (nearest : Option ℕ) → IsCheapestCost (beyond_port mesh.rows rest.vertex) ports nearest → (nearest ≡ Some rest.distance → ⊥) → ⊥
-    go None none other = none rest.distance here
-    go (Some m) best other =
+    go : (nearest : Option ℕ) → IsCheapestCost (beyond_port mesh.rows rest.vertex) ports nearest → nearest ≡ Some rest.distance
+    go None none = absurd (none rest.distance here)
+    go (Some m) best =
         let less : m ≤ rest.distance = best.least rest.distance here in
         let more : rest.distance ≤ 0 + m = near best.attained.thing m best.attained.among best.attained.costs in
-        other (ap (λ (n : ℕ). Some n) (omega (arith, less, more)))
+        ap (λ (n : ℕ). Some n) (omega (arith, less, more))
 
 -- the ends behind the cost of an outlet are those that it goes over to
 pub adds_over : (mesh : Mesh) (aim : Aim) (outlet : Outlet) (rest : Aim) (old new : List ℕ) → IsBehind aim outlet.cost rest →

@@ -9,7 +9,7 @@
 //! | File | What it holds |
 //! |---|---|
 //! | `graph`, `segment` | the two kinds of graphs |
-//! | `walks`, `offers`, `number_lists` | what is known of the walks from a root, and the best of offers |
+//! | `walks`, `offers`, `number_lists`, `long_lists` | what is known of the walks from a root, and the best of offers |
 //! | `relax`, `rows`, `hops` | over arcs: distances by relaxing, and first hops by the distances from where arcs lead |
 //! | `flood`, `outlets`, `over_segments` | over segments: distances, from stale vertices, and onto a LAN at once |
 //! | `beyond`, `ways` | first hops over segments: by the distances from the ends of a link, by those from a whole LAN |
@@ -27,6 +27,7 @@ mod graph;
 mod segment;
 
 // what is known of the walks from a root
+mod long_lists;
 mod number_lists;
 mod offers;
 mod walks;

@@ -1,33 +1,39 @@
-ghost use Rattle.std.specs.Prelude.{◌≡◌};
+ghost use Rattle.std.specs.Prelude.{◌≡◌, IfOk};
+ghost use Rattle.walk_core.specs.steps.NumberLists.{list_of, Grows, IsLongListKept};
 
 use crate::OutOfMemory;
-use crate::union::add_behind;
+use crate::long_lists::LongLists;
 use std::alloc::Global;
 use std::marker::Model;
+use std::slice;
 
-/// Where a list stands among the numbers of all lists.
+/// The numbers of a list: one alone stands here, and more of them at a place among the long lists.
 #[derive(Clone, Copy, Debug)]
-pub struct Span {
-    start: usize,
-    end: usize,
+pub enum Numbers {
+    /// None.
+    Nothing,
+    /// This one alone.
+    One(u32),
+    /// Those of the long list of this place.
+    More(u32),
 }
 
-/// Lists of numbers, one after another in one vector, so that many short lists take no memory each.
+/// Lists of numbers, of which most have one or none.
 #[derive(Debug, Drop)]
 pub struct NumberLists {
-    numbers: Vec<u32>,
-    spans: Vec<Span>,
+    all: Vec<Numbers>,
+    long: LongLists,
 }
 
 impl Model for NumberLists {
-    ghost use Rattle.std.specs.Prelude.{List, ℕ};
-    ghost use Rattle.walk_core.specs.steps.NumberLists.{lists_of, AreSpansWithin};
+    ghost use Rattle.std.specs.Prelude.{List, ℕ, All, map};
+    ghost use Rattle.walk_core.specs.steps.NumberLists.{list_of, IsLongListKept};
 
     ghost Value = { List (List ℕ) };
 
-    ghost view = { λ x. lists_of x.numbers.items x.spans.items };
+    ghost view = { λ x. map (list_of x.long) x.all.items };
 
-    ghost invariant = { λ x. AreSpansWithin x.numbers.items x.spans.items };
+    ghost invariant = { λ x. All (IsLongListKept x.long) x.all.items };
 }
 
 impl NumberLists {
@@ -38,39 +44,54 @@ impl NumberLists {
         ensures { result ≡ [] }
     {
         NumberLists {
-            numbers: Vec::new(alloc),
-            spans: Vec::new(alloc),
+            all: Vec::new(alloc),
+            long: LongLists::none(alloc),
         }
     }
 
-    /// No lists, with room for so many of one number each.
+    /// No lists, with room for so many.
     pub fn with_room(alloc: Global, count: usize) -> Result<NumberLists, OutOfMemory>
         ensures { IfOk result (λ lists. lists ≡ []) }
     {
         Ok(NumberLists {
-            numbers: Vec::with_capacity(alloc, count)?,
-            spans: Vec::with_capacity(alloc, count)?,
+            all: Vec::with_capacity(alloc, count)?,
+            long: LongLists::none(alloc),
         })
     }
 
     /// Adds a list behind the others.
+    #[inline(always)]
     pub fn push(&mut self, list: &[u32]) -> Result<(), OutOfMemory>
         ensures { OnOk result (self.new ≡ self.old ++ list.now ∷ []) }
     {
-        let start = self.numbers.len();
-        add_behind(&mut self.numbers, list)?;
-        let end = self.numbers.len();
-        self.spans.push(Span { start, end })?;
+        let numbers = numbers_of(&mut self.long, list)?;
+        self.all.push(numbers)?;
         Ok(())
     }
 
     /// The list of this place, and an empty one past the last.
+    #[inline(always)]
     pub fn at(&self, place: usize) -> &[u32]
         ensures { result.now ≡ slice_index_or self.now place [] }
     {
-        match self.spans.get(place) {
-            Some(span) => &self.numbers[span.start..span.end],
-            None => &self.numbers[..0],
+        match self.all.get(place) {
+            Some(Numbers::One(number)) => slice::from_ref(number),
+            Some(Numbers::More(place)) => self.long.at(*place as usize),
+            _ => &[],
         }
+    }
+}
+
+/// The numbers of a list, which is kept among the long ones if need be.
+#[inline(always)]
+fn numbers_of(long: &mut LongLists, list: &[u32]) -> Result<Numbers, OutOfMemory>
+    ensures is { IfOk result (λ numbers. list_of long.new numbers ≡ list.now) }
+    ensures kept { IfOk result (IsLongListKept long.new) }
+    ensures grows { Grows long.old long.new }
+{
+    match list {
+        [] => Ok(Numbers::Nothing),
+        [number] => Ok(Numbers::One(*number)),
+        _ => Ok(Numbers::More(long.keep(list)?)),
     }
 }

@@ -1,4 +1,4 @@
-ghost use Rattle.std.specs.Prelude.{◌≡◌, ◌+◌, ◌<◌, ◌≤◌, ◌↔◌, [], length, replicate, Any, IfOk, OnOk, IsTrue, MatchOption};
+ghost use Rattle.std.specs.Prelude.{◌≡◌, ◌+◌, ◌<◌, ◌≤◌, ◌↔◌, ◌∷◌, [], None, length, replicate, Any, IfOk, IfSome, OnOk, IsTrue, MatchOption};
 ghost use Rattle.walk_core.specs.declared.segment.Port.{Port};
 ghost use Rattle.walk_core.specs.steps.SegmentWalks.{AreAllOutlets, AreOutletsBefore, IsFarEnd, IsLan};
 ghost use Rattle.walk_core.specs.Segments.{AreSegments};
@@ -64,6 +64,16 @@ pub fn is_lone(outlets: &[Outlet]) -> bool
     ensures { IsTrue result ↔ (length outlets.now ≡ 0) }
 {
     outlets.is_empty()
+}
+
+/// The port of a vertex that has no other, if it is on a LAN.
+pub fn only_lan(outlets: &[Outlet]) -> Option<Outlet>
+    ensures { IfSome result (λ outlet. (outlets.now ≡ outlet ∷ []) × (outlet.to ≡ None)) }
+{
+    match outlets {
+        [outlet] if outlet.to.is_none() => Some(*outlet),
+        _ => None,
+    }
 }
 
 /// The ports of every vertex. Each port of a segment is looked at once.

@@ -1,17 +1,20 @@
-ghost use Rattle.std.specs.Prelude.{◌<◌, IfOk};
+ghost use Rattle.std.specs.Prelude.{◌≡◌, ◌<◌, [], length, slice_index_or, slice_set, IfOk};
 ghost use Rattle.walk_core.specs.Distances.{AreDistanceRows, IsDistanceRow};
 ghost use Rattle.walk_core.specs.Reach.{AreWalksBelow};
+ghost use Rattle.walk_core.specs.steps.FirstHops.{AreAllHops};
 ghost use Rattle.walk_core.specs.steps.SegmentWalks.{AreAllOutlets};
 ghost use Rattle.walk_core.specs.Segments.{AreSegments, SendsAcross};
 
 use crate::beyond::all_beyond;
 use crate::flood::distances_over;
+use crate::number_lists::NumberLists;
 use crate::outlets::{Outlets, all_outlets, is_lone};
 use crate::rows::Distances;
 use crate::segment::Segment;
 use crate::ways::Ways;
 use crate::{LeastWalks, OutOfMemory};
 use std::alloc::Global;
+use std::mem;
 
 /// The least-cost walks from every one of so many vertices over the segments that join them.
 pub fn segment_walks(
@@ -23,16 +26,54 @@ pub fn segment_walks(
     ensures { IfOk result (λ all. AreWalksBelow (SendsAcross segments.now) count count all.items) }
 {
     let outlets = all_outlets(alloc, segments, count)?;
-    let rows = rows_over(alloc, segments, outlets.as_slice(), count)?;
+    let mut rows = rows_over(alloc, segments, outlets.as_slice(), count)?;
     let beyond = all_beyond(alloc, segments, rows.as_slice(), count)?;
     let ways = Ways::new(count, segments, rows.as_slice(), beyond.as_slice());
+    let mut lists = all_hops(alloc, &ways, outlets.as_slice(), count)?;
     let mut all = Vec::with_capacity(alloc, count as usize)?;
     for root in 0..count {
-        let hops = ways.hops_from(alloc, outlets[root as usize].as_slice(), root)?;
-        let distances = rows[root as usize].copied()?;
+        let hops = take_hops(alloc, &mut lists, root);
+        let distances = take_row(alloc, &mut rows, root);
         all.push(LeastWalks { distances, hops })?;
     }
     Ok(all)
+}
+
+/// The first hops from every vertex.
+fn all_hops<'a>(
+    alloc: Global,
+    ways: &Ways<'a>,
+    outlets: &[Outlets],
+    count: u32,
+) -> Result<Vec<NumberLists>, OutOfMemory>
+    requires count { ways.now.count ≡ count }
+    requires outlets { AreAllOutlets ways.now.segments count outlets.now }
+    ensures { IfOk result (λ lists. AreAllHops (SendsAcross ways.now.segments) count lists.items) }
+{
+    let mut lists = Vec::with_capacity(alloc, count as usize)?;
+    for root in 0..count {
+        let hops = ways.hops_from(alloc, outlets[root as usize].as_slice(), root)?;
+        lists.push(hops)?;
+    }
+    Ok(lists)
+}
+
+/// Takes the first hops from a vertex out of those of all.
+fn take_hops(alloc: Global, lists: &mut Vec<NumberLists>, root: u32) -> NumberLists
+    requires { root < length lists.old.items }
+    ensures taken { result ≡ slice_index_or lists.old.items root [] }
+    ensures others { lists.new.items ≡ slice_set lists.old.items root [] }
+{
+    mem::replace(&mut lists[root as usize], NumberLists::none(alloc))
+}
+
+/// Takes the distances from a vertex out of those of all.
+fn take_row(alloc: Global, rows: &mut Vec<Distances>, root: u32) -> Distances
+    requires { root < length rows.old.items }
+    ensures taken { result ≡ slice_index_or rows.old.items root [] }
+    ensures others { rows.new.items ≡ slice_set rows.old.items root [] }
+{
+    mem::replace(&mut rows[root as usize], Distances::none(alloc))
 }
 
 /// The distances from every vertex.

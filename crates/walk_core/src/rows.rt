@@ -65,16 +65,6 @@ impl Distances {
         }
         distance_at(self.others.as_slice(), v - self.none_before)
     }
-
-    /// The same distances once more.
-    pub fn copied(&self) -> Result<Distances, OutOfMemory>
-        ensures { IfOk result (λ copy. copy ≡ self.now) }
-    {
-        Ok(Distances {
-            none_before: self.none_before,
-            others: self.others.clone()?,
-        })
-    }
 }
 
 /// The distance from u to v by these rows, and None where there is none.

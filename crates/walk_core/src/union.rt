@@ -50,6 +50,15 @@ pub fn add_behind(numbers: &mut Vec<u32>, list: &[u32]) -> Result<(), OutOfMemor
     match list {
         [] => Ok(()),
         [number] => Ok(numbers.push(*number)?),
-        _ => numbers.extend_from_slice(list),
+        _ => add_all(numbers, list),
     }
+}
+
+/// Adds all numbers of a list behind others.
+#[inline(never)]
+fn add_all(numbers: &mut Vec<u32>, list: &[u32]) -> Result<(), OutOfMemory>
+    ensures added { OnOk result (numbers.new.items ≡ numbers.old.items ++ list.now) }
+    ensures kept { OnErr result (numbers.new.items ≡ numbers.old.items) }
+{
+    numbers.extend_from_slice(list)
 }

@@ -1,10 +1,11 @@
 ghost use Rattle.std.specs.Prelude.{◌<◌, MatchOption};
-ghost use Rattle.walk_core.specs.steps.SegmentWalks.{IsBehind};
+ghost use Rattle.std.specs.List.Sorted.{IsStrictlyIncreasing};
+ghost use Rattle.walk_core.specs.steps.SegmentWalks.{AreHopsBeyond, IsBehind};
 
 use crate::OutOfMemory;
 use crate::beyond::{Aim, is_at, walks_at};
 use crate::number_lists::NumberLists;
-use crate::outlets::{Outlet, is_lone};
+use crate::outlets::{Outlet, is_lone, only_lan};
 use crate::rows::{Distances, distance_between};
 use crate::segment::Segment;
 use crate::union::{add_behind, put_in_order};
@@ -32,7 +33,7 @@ impl<'a> Model for Ways<'a> {
 }
 
 impl<'a> Ways<'a> {
-    ghost use Rattle.std.specs.Prelude.{◌≡◌, ◌<◌, ◌↔◌, ℕ, [], None, length, slice_index_or, IfOk, OnOk, Contains};
+    ghost use Rattle.std.specs.Prelude.{◌≡◌, ◌<◌, ◌↔◌, ◌∷◌, ℕ, [], None, length, slice_index_or, IfOk, OnOk, Contains};
     ghost use Rattle.std.specs.List.Sorted.{IsStrictlyIncreasing};
     ghost use Rattle.walk_core.specs.Distances.{distance_between};
     ghost use Rattle.walk_core.specs.Reach.{AreAscending};
@@ -110,12 +111,39 @@ impl<'a> Ways<'a> {
         if is_lone(outlets) {
             return Ok(NumberLists::none(alloc));
         }
+        if let Some(outlet) = only_lan(outlets) {
+            return self.hops_over_lan(alloc, outlet, root);
+        }
         let mut hops = NumberLists::with_room(alloc, count as usize)?;
         let own = self.row(root);
         let mut found = Vec::new(alloc);
         for v in 0..count {
             self.find_hops(&mut found, outlets, own, root, v)?;
             hops.push(found.as_slice())?;
+        }
+        Ok(hops)
+    }
+
+    /// The first hops from a root whose only port is on a LAN: those of the walks that begin there.
+    fn hops_over_lan(
+        &self,
+        alloc: Global,
+        outlet: Outlet,
+        root: u32,
+    ) -> Result<NumberLists, OutOfMemory>
+        requires mesh { IsMesh self.now }
+        requires root { root < self.now.count }
+        requires lan { outlet.to ≡ None }
+        requires outlets { AreOutlets self.now.segments root (length self.now.segments) (outlet ∷ []) }
+        ensures exact { IfOk result (ListFirstHops (SendsAcross self.now.segments) root) }
+        ensures ascending { IfOk result AreAscending }
+    {
+        let count = self.count();
+        let own = self.row(root);
+        let walks = self.walks(outlet.place);
+        let mut hops = NumberLists::with_room(alloc, count as usize)?;
+        for v in 0..count {
+            hops.push(hops_beyond(own, walks, root, v))?;
         }
         Ok(hops)
     }
@@ -195,6 +223,17 @@ impl<'a> Ways<'a> {
             add_behind(found, walks.hops_to(rest.vertex))?;
         }
         Ok(())
+    }
+}
+
+/// The first hops from a root towards v, which are those of the walks that begin on its LAN.
+fn hops_beyond<'b>(own: &Distances, walks: &'b LeastWalks, root: u32, v: u32) -> &'b [u32]
+    ensures exact { AreHopsBeyond own.now walks.now root v result.now }
+    ensures ascending { IsStrictlyIncreasing result.now }
+{
+    match own.at(v) {
+        Some(_) if v != root => walks.hops_to(v),
+        _ => &[],
     }
 }
 

@@ -12,3 +12,9 @@ pub record AreFirstHops (arc : Arcs) (root n : ℕ) (lists : List (List ℕ)) : 
   pub long : length lists ≡ n
   pub exact : (v : ℕ) → v < n → (h : ℕ) → Contains (slice_index_or lists v []) h ↔ FirstHop arc root v h
   pub ascending : AreAscending lists
+
+-- the lists of each vertex below n
+pub record AreAllHops (arc : Arcs) (n : ℕ) (all : List (List (List ℕ))) : Type 0 where
+  pub long : length all ≡ n
+  pub exact : (u : ℕ) → u < n → ListFirstHops arc u (slice_index_or all u [])
+  pub ascending : (u : ℕ) → u < n → AreAscending (slice_index_or all u [])

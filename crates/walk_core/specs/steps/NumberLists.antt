@@ -1,6 +1,8 @@
--- Lists that stand one after another in one list of numbers.
-use Rattle.std.specs.Prelude.{ℕ, ◌-◌, ◌≤◌, List, length, take, drop, map, All}
-use Rattle.walk_core.specs.declared.number_lists.Span.{Span}
+-- Lists of numbers: those of one number by it, and long ones one after another in one list of numbers.
+use Rattle.std.specs.Prelude.{◌≡◌, ℕ, ◌-◌, ◌<◌, ◌≤◌, List, [], ◌∷◌, length, take, drop, map, All, slice_index_or}
+use Rattle.walk_core.specs.declared.long_lists.Span.{Span}
+use Rattle.walk_core.specs.declared.number_lists.Numbers.{Numbers}
+use Rattle.walk_core.specs.declared.number_lists.Numbers.TheVariants.{Nothing, One, More}
 
 -- the numbers of a span
 abbrev pub part_of : List ℕ → Span → List ℕ
@@ -18,3 +20,18 @@ pub record IsWithin (numbers : List ℕ) (span : Span) : Type 0 where
 -- all spans are
 abbrev pub AreSpansWithin : List ℕ → List Span → Type 0
 AreSpansWithin numbers spans = All (IsWithin numbers) spans
+
+-- the list of some numbers, by the long lists
+abbrev pub list_of : List (List ℕ) → Numbers → List ℕ
+list_of long Nothing = []
+list_of long (One number) = number ∷ []
+list_of long (More place) = slice_index_or long place []
+
+-- where it is a long list, it is there
+abbrev pub IsLongListKept : List (List ℕ) → Numbers → Type 0
+IsLongListKept long numbers = (place : ℕ) → numbers ≡ More place → place < length long
+
+-- long lists come behind others
+pub record Grows (old new : List (List ℕ)) : Type 0 where
+  pub within : length old ≤ length new
+  pub same : (place : ℕ) → place < length old → slice_index_or new place [] ≡ slice_index_or old place []

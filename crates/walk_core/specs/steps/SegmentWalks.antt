@@ -1,10 +1,10 @@
 -- Least walks that begin on a segment, and the first hops of its vertices by them.
-use Rattle.std.specs.Prelude.{◌≡◌, ℕ, ◌+◌, ◌<◌, ◌≤◌, ◌↔◌, ◌⊎◌, List, [], length, Option, Some, Contains, Any, MatchOption, slice_index_or}
+use Rattle.std.specs.Prelude.{◌≡◌, ◌≢◌, ℕ, ◌+◌, ◌<◌, ◌≤◌, ◌↔◌, ◌⊎◌, List, [], length, Option, Some, None, Contains, Any, MatchOption, slice_index_or}
 use Rattle.walk_core.specs.steps.Adding.{SomeLeadsTo}
 use Rattle.walk_core.specs.steps.Cheapest.{IsCheapestCost}
-use Rattle.walk_core.specs.Distances.{AreDistanceRows, distance_between}
+use Rattle.walk_core.specs.Distances.{AreDistanceRows, distance_at, distance_between}
 use Rattle.walk_core.specs.steps.Flooding.{segment_at}
-use Rattle.walk_core.specs.Reach.{Reach, distance_of, HasHop}
+use Rattle.walk_core.specs.Reach.{Reach, distance_of, listed_hops_of, HasHop}
 use Rattle.walk_core.specs.Segments.{AreSegments, SendsAcross}
 use Rattle.walk_core.specs.declared.beyond.Aim.{Aim}
 use Rattle.walk_core.specs.declared.outlets.Outlet.{Outlet}
@@ -31,6 +31,12 @@ pub record AreWalksFrom (rows : List (List (Option ℕ))) (ports : List Port) (c
 -- what is known of the walks from the segment of this place
 abbrev pub reach_at : List Reach → ℕ → Reach
 reach_at beyond place = slice_index_or beyond place (record { distances = []; hops = [] })
+
+-- the hops of a vertex u of a LAN towards v are those of the walks that begin there, but for u itself and where none leads
+pub record AreHopsBeyond (own : List (Option ℕ)) (reach : Reach) (u v : ℕ) (hops : List ℕ) : Type 0 where
+  pub here : v ≡ u → hops ≡ []
+  pub unreached : distance_at own v ≡ None → hops ≡ []
+  pub beyond : (d : ℕ) → v ≢ u → distance_at own v ≡ Some d → hops ≡ listed_hops_of reach v
 
 -- a segment of more than two ports
 abbrev pub IsLan : List Port → Type 0

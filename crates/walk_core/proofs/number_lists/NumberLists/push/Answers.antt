@@ -1,19 +1,15 @@
-use Rattle.std.proofs.Common.{◌≡◌, ◌++◌, ◌∷◌, [], ℕ, List, length, ap, ◌∙◌, arith}
-use Rattle.walk_core.specs.steps.NumberLists.{lists_of}
-use Rattle.walk_core.specs.declared.number_lists.Span.{Span}
-use Rattle.walk_core.proofs.ListParts.{lists_more}
+use Rattle.std.proofs.Common.{◌++◌, ◌∷◌, [], ℕ, List, map, ap, ◌∙◌}
+use Rattle.walk_core.specs.steps.NumberLists.{list_of}
+use Rattle.walk_core.specs.declared.number_lists.Numbers.{Numbers}
+use Rattle.walk_core.proofs.ListParts.{all_more}
 use Rattle.walk_core.proofs.number_lists.NumberLists.push.Goals as goal
 
 pub returns : goal.returns
 returns c =
-    let numbers : List ℕ = c.self.inside.numbers.items in
-    let spans : List Span = c.self.inside.spans.items in
+    let old : List (List ℕ) = c.self.inside.long in
+    let new : List (List ℕ) = c.numbers_of.new.long in
+    let all : List Numbers = c.self.inside.all.items in
     let list : List ℕ = c.args.list.now in
-    let span : Span = record { start = c.len-start.result; end = c.len-end.result } in
-    let grown : c.add_behind.new.numbers.items ≡ numbers ++ list = c.in_ok-add_behind.ensures.added in
-    let starts : c.len-start.result ≡ length numbers = omega (arith, c.len-start.ensures, c.self.inside.numbers.ok.0) in
-    let ends : c.len-end.result ≡ length (numbers ++ list) = omega (arith, c.len-end.ensures, c.add_behind.new.numbers.ok.0, ap length grown) in
-    ap (λ (ns : List ℕ). lists_of ns c.push.new.self.items) grown
-    ∙ ap (lists_of (numbers ++ list)) c.in_ok-push.ensures.items
-    ∙ lists_more numbers list spans span c.self.invariant starts ends
+    ap (λ (l : List Numbers). map (list_of new) l) c.in_ok-push.ensures.items
+    ∙ all_more old new all c.in_ok-numbers.numbers list c.numbers_of.ensures.grows c.self.invariant c.in_ok-numbers.ensures.is
     ∙ ap (λ (ls : List (List ℕ)). ls ++ list ∷ []) c.self.view_is

@@ -4,7 +4,7 @@ use Rattle.walk_core.specs.steps.Adding.{AddsNumbers}
 use Rattle.walk_core.specs.steps.Flooding.{segment_at}
 use Rattle.walk_core.specs.steps.SegmentWalks.{IsEndAt, Mesh}
 use Rattle.walk_core.proofs.AddingLaws.{adds_list, adds_nothing, adds_same}
-use Rattle.walk_core.proofs.SegmentSteps.{no_end_apart}
+use Rattle.walk_core.proofs.SegmentSteps.{end_is_nearest}
 use Rattle.walk_core.proofs.ways.Ways.add_ends_of.Goals as goal
 
 pub returns-in_ok-add_behind : goal.returns-in_ok-add_behind
@@ -27,6 +27,9 @@ returns-in_ok-add_behind c =
 pub returns-else-is_at : goal.returns-else-is_at
 returns-else-is_at c =
     let mesh : Mesh = c.args.self.now in
-    adds_nothing (IsEndAt mesh.rows (segment_at mesh.segments c.args.place) c.args.rest) c.args.found.now.items
-    (no_end_apart mesh c.args.place c.args.rest c.walks-walks.result.now (c.walks-walks.ensures c.requires.lan) c.requires.vertex c.requires.near
-    (λ is. let yes = c.is_at.ensures.1 (c.distance.ensures ∙ is) in let no = c.if-is_at.false in cc (yes, no)))
+    adds_nothing (IsEndAt mesh.rows (segment_at mesh.segments c.args.place) c.args.rest) c.args.found.now.items (λ h end.
+    let is =
+    end_is_nearest mesh c.args.place c.args.rest c.walks-walks.result.now (c.walks-walks.ensures c.requires.lan) c.requires.vertex
+    c.requires.near h end in
+    let yes = c.is_at.ensures.1 (c.distance.ensures ∙ is) in
+    let no = c.if-is_at.false in cc (yes, no))
