@@ -1,7 +1,7 @@
 -- Laws of rows: what they stand for when entries and rows are added, and their prefixes.
 use Rattle.std.proofs.Common.{◌≡◌, ℕ, ◌<◌, List, [], ◌∷◌, ◌++◌, length, get_or, slice_get, Some, refl, sym, ap, subst, ◌∙◌, arith, Option, None, IfNone}
-use Rattle.std.proofs.lemmas.List.{get_or_append_left, get_or_default, length_push, map_push, get_or-map, length-map}
-use Rattle.std.proofs.lemmas.List.Elements.{All-head, All-tail, All-weaker, All-push}
+use Rattle.std.proofs.lemmas.List.{get_or_append_left, get_or_default, length_push, get_or-map, length-map}
+use Rattle.std.proofs.lemmas.List.Elements.{All-head, All-tail, All-weaker}
 use Rattle.std.proofs.lemmas.Option.{slice_get-get_or}
 use Rattle.net_addr.specs.Addresses.{Block}
 use Rattle.route_core.specs.declared.entry.Entry.{Entry}
@@ -33,15 +33,6 @@ rows_kept entries entry (row ∷ rows) numbers =
     rows_kept entries entry rows (All-tail (λ (r : Row). r.number < length entries) row rows numbers) in
     ap (λ (e : Entry). (row.dest, e) ∷ listed_rows (entries ++ entry ∷ []) rows) same
     ∙ ap (λ (l : List (Block × Entry)). listed_row entries row ∷ l) later
-
--- a row more
-pub numbers_pushed : (entries : List Entry) (rows : List Row) (row : Row) → AreNumbersBelow entries rows → row.number < length entries →
-    AreNumbersBelow entries (rows ++ row ∷ [])
-numbers_pushed entries rows row numbers below = All-push (λ (r : Row). r.number < length entries) rows row numbers below
-
-pub rows_pushed : (entries : List Entry) (rows : List Row) (row : Row) →
-    listed_rows entries (rows ++ row ∷ []) ≡ listed_rows entries rows ++ listed_row entries row ∷ []
-rows_pushed entries rows row = map_push (listed_row entries) rows row
 
 -- what stands at a place of the rows
 pub row_at : (entries : List Entry) (rows : List Row) (now : List (Block × Entry)) (i : ℕ) (row : Row) → listed_rows entries rows ≡ now → i < length now →

@@ -33,9 +33,6 @@ HasDistinctPrefixes-push xs next distinct new =
 prefixes_agree : {x y : Block × Entry} {p : Block} {e f : Entry} → x ≡ (p, e) → y ≡ (p, f) → x.0 ≡ y.0
 prefixes_agree is_x is_y = ap (λ (x : Block × Entry). x.0) is_x ∙ sym (ap (λ (x : Block × Entry). x.0) is_y)
 
-some_eq : {X : Type 0} (x y : X) → Some x ≡ Some y → x ≡ y
-some_eq x y h = cc
-
 -- in a table with distinct prefixes two entries for one prefix stand at one place
 pub same_place : (xs : List (Block × Entry)) (i j : ℕ) (p : Block) (e f : Entry) → HasDistinctPrefixes xs
     → slice_get xs i ≡ Some (p, e) → slice_get xs j ≡ Some (p, f) → i ≡ j
@@ -60,7 +57,7 @@ one_entry xs p e f distinct has_e has_f =
     let at_f : (i : ℕ) × (slice_get xs i ≡ Some (p, f)) = place_from_Contains xs (p, f) has_f in
     let same : at_e.0 ≡ at_f.0 = same_place xs at_e.0 at_f.0 p e f distinct at_e.1 at_f.1 in
     let both : slice_get xs at_f.0 ≡ Some (p, e) = subst (λ (k : ℕ). slice_get xs k ≡ Some (p, e)) same at_e.1 in
-    ap (λ (x : Block × Entry). x.1) (some_eq (p, e) (p, f) (sym both ∙ at_f.1))
+    ap (λ (x : Block × Entry). x.1) (same_Some (p, e) (p, f) (sym both ∙ at_f.1))
 
 -- Prefixes of a table
 

@@ -1,4 +1,5 @@
 pub mod Hops
+pub mod HopLists
 pub mod Tables
 pub mod Rows
 pub mod steps

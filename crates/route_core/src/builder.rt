@@ -49,6 +49,7 @@ impl TableBuilder {
     }
 
     /// Keeps an entry for rows to share, and gives its number.
+    #[inline(always)]
     pub fn keep(&mut self, entry: Entry) -> Result<u32, OutOfMemory>
         ensures { IfOk result (Keeps self.old self.new entry) }
     {
@@ -67,15 +68,16 @@ impl TableBuilder {
         Ok(self.rows.push(Row { dest, number })?)
     }
 
-    /// The table of the rows.
+    /// The table of the rows, in as much memory as they take.
     pub fn finish(self) -> Table
         requires { HasDistinctPrefixes self.rows }
         ensures { result ≡ self.rows }
     {
-        Table {
-            entries: self.entries,
-            rows: self.rows,
-        }
+        let mut entries = self.entries;
+        let mut rows = self.rows;
+        entries.shrink_to_fit();
+        rows.shrink_to_fit();
+        Table { entries, rows }
     }
 }
 

@@ -2,18 +2,15 @@
 use Rattle.std.proofs.Common.{◌≡◌, ℕ, ◌<◌, ◌↔◌, ⊎_elim, List, [], ◌∷◌, ◌++◌, length, Some, None, Option, get_or, set, inl, inr, refl, sym, subst, ◌∙◌, arith, MatchOption, Result, Ok, Err, IfOk, OnOk, length-append}
 use Rattle.std.proofs.lemmas.Bool.{cases_eq, cases_lt}
 use Rattle.std.proofs.lemmas.List.{append-nil, get_or_append_left, get_or_push, length_push, get_or-set_same, get_or-set_other, set_past}
-use Rattle.std.proofs.lemmas.Option.{none-some, same_Some}
+use Rattle.std.proofs.lemmas.Option.{same_Some}
 use Rattle.net_addr.specs.Addresses.{Block}
-use Rattle.std.specs.List.{Contains}
-use Rattle.std.proofs.lemmas.List.Elements.{Contains-push_cases}
-use Rattle.walk_core.specs.Reach.{Reach, listed_hops_of}
+use Rattle.walk_core.specs.Reach.{Reach}
 use Rattle.route_core.specs.declared.entry.Entry.{Entry}
 use Rattle.route_core.specs.declared.entry.Entry.TheVariants.{Via, Discard}
 use Rattle.route_core.specs.Rows.{Keeps}
 use Rattle.route_tables.specs.Prefixes.{prefix_at}
-use Rattle.route_tables.specs.Routings.{AreHopsTo, IsEntryTo, Makes, IsRouteFor}
+use Rattle.route_tables.specs.Routings.{IsEntryTo}
 use Rattle.route_tables.specs.steps.Sharing.{AreNoted, AreNumbers, AreShared, HasNumber, IsNumberOf, KeepsMore}
-use Rattle.route_tables.specs.declared.route.Route.{Route}
 use Rattle.route_tables.specs.declared.sharing.Known.{Known}
 use Rattle.route_tables.specs.declared.sharing.SharedRows.{SharedRows}
 use Rattle.route_tables.proofs.ListFacts.{at_most}
@@ -48,11 +45,11 @@ number_alike one other entries None same none = λ e is. none e ((same e).1 is)
 number_alike one other entries (Some number) same has =
     record { below = has.below; is = (same (get_or entries number Discard)).0 has.is }
 
--- what a route makes is wanted
-pub number_by_route : (reach : ℕ → Reach) (zones n : ℕ) (wanted : Entry → Type 0) (route : Route) (entries : List Entry) (number : ℕ) →
-    IsRouteFor reach zones n wanted route → HasNumber (Makes reach n route) entries number → HasNumber wanted entries number
-number_by_route reach zones n wanted route entries number is has =
-    record { below = has.below; is = is.makes (get_or entries number Discard) has.is }
+-- the number of an entry that is wanted is that of one that is wanted otherwise too
+pub number_weaker : {E : Type 0} (one other : Entry → Type 0) (entries : List Entry) (r : Result ℕ E) → ((e : Entry) → one e → other e) →
+    IfOk r (HasNumber one entries) → IfOk r (HasNumber other entries)
+number_weaker one other entries (Ok number) more has = record { below = has.below; is = more (get_or entries number Discard) has.is }
+number_weaker one other entries (Err e) more has = has
 
 -- Prefix by prefix
 
@@ -87,11 +84,6 @@ row_by wanted entries dest old new (Some number) has adds = (Some (get_or entrie
 noted_kept : {K : Type 0} (wanted : ℕ → K → Entry → Type 0) (number_of : K → ℕ) (entries more : List Entry) (all : List (Option K)) →
     AreNoted wanted number_of entries all → AreNoted wanted number_of (entries ++ more) all
 noted_kept wanted number_of entries more all are at known is = number_kept (wanted at known) entries more (number_of known) (are at known is)
-
--- nothing is known where nothing is noted
-pub nothing_noted : {K : Type 0} (wanted : ℕ → K → Entry → Type 0) (number_of : K → ℕ) (entries : List Entry) (all : List (Option K)) →
-    ((at : ℕ) → get_or all at None ≡ None) → AreNoted wanted number_of entries all
-nothing_noted wanted number_of entries all none at known is = absurd (none-some known (sym (none at) ∙ is))
 
 -- with what is noted now
 pub noted_more : {K : Type 0} (wanted : ℕ → K → Entry → Type 0) (number_of : K → ℕ) (entries : List Entry) (all : List (Option K)) (at : ℕ) (noted : K) →
@@ -148,24 +140,3 @@ rows_where_kept old new entry (Err e) keeps = keeps
 -- where nothing is kept, nothing changes
 pub nothing_kept : (old : SharedRows) → KeepsMore old old
 nothing_kept old = record { more = []; entries = sym (append-nil old.builder.entries); rows = refl }
-
--- One hop alone
-
--- the one hop of a list
-pub one_hop : (reach : Reach) (at n hop : ℕ) (hops : List ℕ) → hops ≡ listed_hops_of reach at → hops ≡ hop ∷ [] → hop < n → AreHopsTo reach at n (hop ∷ [])
-one_hop reach at n hop hops are one below = record {
-  ascending = λ k within. absurd (omega arith);
-  exact = λ h. (
-    λ has. (
-      below_where hop h n below has,
-      subst (λ (l : List ℕ). Contains l h) (sym one ∙ are) has,
-    ),
-    λ both. subst (λ (l : List ℕ). Contains l h) (sym are ∙ one) both.1,
-  );
-}
-  where
-    below_where : (hop h n : ℕ) → hop < n → Contains (hop ∷ []) h → h < n
-    below_where hop h n below has = elim (Contains-push_cases [] hop h has) [
-      | inl none ↦ absurd (omega (arith, none.1))
-      | inr same ↦ subst (λ (x : ℕ). x < n) same below
-    ]

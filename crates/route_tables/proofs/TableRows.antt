@@ -1,5 +1,5 @@
 -- Tables, row by row, and the tables of all routers.
-use Rattle.std.proofs.Common.{◌≡◌, ℕ, ◌+◌, ◌<◌, ◌≤◌, ◌↔◌, ⊎_elim, List, [], ◌∷◌, ◌++◌, length, take, Option, Some, None, MatchOption, get_or, refl, sym, ap, subst, ◌∙◌, arith, length-append}
+use Rattle.std.proofs.Common.{◌≡◌, ℕ, ◌+◌, ◌<◌, ◌≤◌, ◌↔◌, ⊎_elim, List, [], ◌∷◌, ◌++◌, length, take, Option, Some, None, MatchOption, get_or, sym, ap, subst, ◌∙◌, arith, length-append}
 use Rattle.std.specs.List.{Contains}
 use Rattle.std.proofs.lemmas.List.{take_more, take_all, get_or-take, length-take-le, get_or_default}
 use Rattle.std.proofs.lemmas.List.Elements.{Contains-append_left, Contains-push, Contains-push_cases}
@@ -20,12 +20,6 @@ use Rattle.route_tables.proofs.ListFacts.{each_more}
 pub record AreRows (entry : Block → Entry → Type 0) (dests : List Block) (rows : List (Block × Entry)) : Type 0 where
   pub distinct : HasDistinctPrefixes rows
   pub exact : (p : Block) (e : Entry) → Contains rows (p, e) ↔ (Contains dests p × entry p e)
-
-pub rows_none : (entry : Block → Entry → Type 0) → AreRows entry [] []
-rows_none entry = record {
-  distinct = λ i j d before within. absurd (omega arith);
-  exact = λ p e. (λ has. absurd (omega (arith, has.1)), λ both. absurd (omega (arith, both.0.1)));
-}
 
 -- a prefix without an entry adds no row
 pub rows_no_more : (entry : Block → Entry → Type 0) (dests : List Block) (rows : List (Block × Entry)) (p : Block) → AreRows entry dests rows →
@@ -117,9 +111,6 @@ rows_are_table entry dests k rows past are every =
     }
 
 -- Router by router
-
-pub tables_none : (entry : ℕ → Block → Entry → Type 0) → AreTablesBelow entry 0 []
-tables_none entry = record { count = refl; each = λ u below. absurd (omega arith) }
 
 pub tables_more : (entry : ℕ → Block → Entry → Type 0) (n : ℕ) (tables : List (List (Block × Entry))) (next : List (Block × Entry)) →
     AreTablesBelow entry n tables → IsTableOf (entry n) next → AreTablesBelow entry (n + 1) (tables ++ next ∷ [])

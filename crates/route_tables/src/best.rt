@@ -1,8 +1,9 @@
-ghost use Rattle.std.specs.Prelude.{◌≡◌, ◌↔◌, ◌∷◌, ◌++◌, [], All, List, IfOk, IsTrue, MatchOption};
+ghost use Rattle.std.specs.Prelude.{◌≡◌, ◌↔◌, ◌∷◌, ◌++◌, ℕ, [], All, List, IfOk, IfSome, IsTrue, MatchOption};
 ghost use Rattle.walk_core.specs.BestOffers.{AreInRange, FitsTotal, NoneTotals, total_towards};
 ghost use Rattle.walk_core.specs.Reach.{Reach, listed_hops_of};
 ghost use Rattle.walk_core.specs.declared.offers.Offer.{Offer as OfferValue};
-ghost use Rattle.route_tables.specs.BestRoutes.{AreBestHops, IsBestRoute};
+ghost use Rattle.route_tables.specs.BestRoutes.{AreBestHops, IsBestRoute, IsBestTarget};
+ghost use Rattle.route_tables.specs.declared.route.Route.TheVariants.{Towards};
 ghost use Rattle.route_tables.specs.steps.BestSoFar.{IsBestAt, IsBestSoFar, IsBetterOf, LeadAlike};
 
 use crate::OutOfMemory;
@@ -11,10 +12,20 @@ use route_core::Hops;
 use std::alloc::Global;
 use walk_core::{LeastWalks, Offer};
 
+/// Where the best of some offers leads, where one vertex has the first hops of all best offers and at most two offers are
+/// made; also `None` where no offer is reached.
+#[inline(always)]
+pub fn best_target(walks: &LeastWalks, zone: usize, offers: &[Offer]) -> Option<Target>
+    requires { AreInRange walks.now offers.now }
+    ensures { (count : ℕ) → IfSome result (λ target. IsBestRoute walks.now offers.now zone count (Towards target)) }
+{
+    let best = best_of_few(walks, offers)?;
+    target_towards(walks, zone, offers, best)
+}
+
 /// The route to the best of some offers, over the least walks of a zone, and `None` where no offer is reached. The hops
 /// are routers below `count`; where one vertex has the first hops of all best offers, they are those towards it. It takes
 /// time of the offers, and memory only where best offers have different first hops.
-#[inline(always)]
 pub fn best_route(
     alloc: Global,
     walks: &LeastWalks,
@@ -28,8 +39,8 @@ pub fn best_route(
     let Some(best) = best_of(walks, offers) else {
         return Ok(None);
     };
-    if lead_alike(walks, offers, best) {
-        return Ok(Some(Route::Towards(Target { zone, at: best.at })));
+    if let Some(target) = target_towards(walks, zone, offers, best) {
+        return Ok(Some(Route::Towards(target)));
     }
     let hops = walks.hops_towards(alloc, offers, best.cost, count)?;
     Ok(Some(Route::Through(Hops::from_vec(hops))))
@@ -63,11 +74,11 @@ struct BestAt {
     alone: bool,
 }
 
-/// The best of some offers. Up to two, as most prefixes have, take no loop and no call.
+/// The best of one or two offers, as most prefixes have, by no loop and no call.
 #[inline(always)]
-fn best_of(walks: &LeastWalks, offers: &[Offer]) -> Option<BestAt>
+fn best_of_few(walks: &LeastWalks, offers: &[Offer]) -> Option<BestAt>
     requires { AreInRange walks.now offers.now }
-    ensures { IsBestSoFar walks.now offers.now result }
+    ensures { IfSome result (IsBestAt walks.now offers.now) }
 {
     if let [offer] = offers {
         return better(None, total(walks, *offer), offer.at);
@@ -76,12 +87,11 @@ fn best_of(walks: &LeastWalks, offers: &[Offer]) -> Option<BestAt>
         let first = better(None, total(walks, *one), one.at);
         return better(first, total(walks, *other), other.at);
     }
-    best_of_many(walks, offers)
+    None
 }
 
-/// The best of many offers.
-#[inline(never)]
-fn best_of_many(walks: &LeastWalks, offers: &[Offer]) -> Option<BestAt>
+/// The best of some offers.
+fn best_of(walks: &LeastWalks, offers: &[Offer]) -> Option<BestAt>
     requires { AreInRange walks.now offers.now }
     ensures { IsBestSoFar walks.now offers.now result }
 {
@@ -135,6 +145,18 @@ fn better_of(known: BestAt, next: BestAt) -> BestAt
         at: known.at,
         alone: known.alone && known.at == next.at,
     }
+}
+
+/// The vertex of the best offer as a target, where all best offers have the first hops towards it.
+#[inline(always)]
+fn target_towards(walks: &LeastWalks, zone: usize, offers: &[Offer], best: BestAt) -> Option<Target>
+    requires { IsBestAt walks.now offers.now best }
+    ensures { (count : ℕ) → IfSome result (IsBestTarget walks.now offers.now zone count) }
+{
+    if lead_alike(walks, offers, best) {
+        return Some(Target { zone, at: best.at });
+    }
+    None
 }
 
 /// Whether the first hops towards all best offers are those towards the vertex of the best one.

@@ -24,7 +24,7 @@ mod sharing;
 mod table;
 
 pub use alike::are_alike;
-pub use best::{best_hops, best_route};
+pub use best::{best_hops, best_route, best_target};
 pub use candidates::{Candidates, DistinctPrefixes, is_all_addresses};
 pub use lists::push_option;
 pub use protocol::Protocol;

@@ -5,9 +5,10 @@ ghost use Rattle.route_core.specs.declared.entry.Entry.{Entry};
 ghost use Rattle.route_tables.specs.Entries.{AreAlikePrefixes, AreJoinedBy, IsLawful};
 ghost use Rattle.route_tables.specs.Routings.{IsRouteFor};
 ghost use Rattle.route_tables.specs.Prefixes.{AreDistinctPrefixes, prefix_at};
+ghost use Rattle.route_tables.specs.declared.route.Route.TheVariants.{Towards};
 
 use crate::OutOfMemory;
-use crate::route::Route;
+use crate::route::{Route, Target};
 use net_addr::Prefix;
 use std::alloc::Global;
 use walk_core::{LeastWalks, Segment};
@@ -56,6 +57,13 @@ pub trait Protocol {
         ensures earlier { IfSome result (λ earlier. earlier < place) }
         ensures alike { IfSome result (λ earlier. AreAlikePrefixes (routers self.now) (entry self.now)
             (prefix_at (candidates self.now) earlier) (prefix_at (candidates self.now) place)) };
+
+    /// Where its route for the prefix of this number leads, where that is known at once, without hops of its own.
+    fn target(&self, place: usize, router: u32) -> Option<Target>
+        requires place { place < length (candidates self.now) }
+        requires router { router < routers self.now }
+        ensures { IfSome result (λ target. IsRouteFor (reach self.now router) (zones self.now) (routers self.now)
+            (entry self.now router (prefix_at (candidates self.now) place)) (Towards target)) };
 
     /// The route that it gives a router for the prefix of this number.
     fn route(&self, alloc: Global, place: usize, router: u32) -> Result<Option<Route>, OutOfMemory>

@@ -20,8 +20,8 @@ pub(crate) struct Known {
     number: u32,
 }
 
-/// A table in the making, with its entries over one hop alone, for each hop, and those towards routers that several hops
-/// lead to, for each router the latest one.
+/// A table in the making, with its entries over one hop alone, for each hop, and those towards routers, for each router the
+/// latest one.
 #[derive(Debug, Drop)]
 pub(crate) struct SharedRows {
     pub(crate) builder: TableBuilder,
@@ -60,7 +60,7 @@ impl SharedRows {
 }
 
 /// The number of the entry for the prefix at a place, where it has one: that of an earlier prefix with the same
-/// entries, where one is known, else that of its route's entry.
+/// entries, where one is known, else that towards its target, where one is known, else that of its route's entry.
 pub(crate) fn number_at<P: Protocol>(
     alloc: Global,
     protocol: &P,
@@ -81,6 +81,10 @@ pub(crate) fn number_at<P: Protocol>(
     if let Some(earlier) = protocol.alike(place) {
         return Ok(numbers[earlier]);
     }
+    if let Some(target) = protocol.target(place, router) {
+        let number = number_towards(alloc, protocol, router, shared, target)?;
+        return Ok(Some(number));
+    }
     match protocol.route(alloc, place, router)? {
         Some(route) => Ok(Some(number_of(alloc, protocol, router, shared, route)?)),
         None => Ok(None),
@@ -88,6 +92,7 @@ pub(crate) fn number_at<P: Protocol>(
 }
 
 /// The number of a route's entry, which is kept now or was before.
+#[inline(never)]
 fn number_of<P: Protocol>(
     alloc: Global,
     protocol: &P,
@@ -110,6 +115,7 @@ fn number_of<P: Protocol>(
 }
 
 /// The number of the entry over these hops: that of one that is kept, else that of a new one.
+#[inline(never)]
 fn number_through(shared: &mut SharedRows, hops: Hops) -> Result<u32, OutOfMemory>
     ensures known { (reach : ℕ → Reach) (n : ℕ) → AreShared reach n shared.old → OnOk result (AreShared reach n shared.new) }
     ensures kept { OnOk result (KeepsMore shared.old shared.new) }
@@ -121,48 +127,10 @@ fn number_through(shared: &mut SharedRows, hops: Hops) -> Result<u32, OutOfMemor
     }
 }
 
-/// The number of the entry towards a target.
+/// The number of the entry towards a target: the latest one towards its router, where that is of its zone, else one over
+/// its hops.
+#[inline(always)]
 fn number_towards<P: Protocol>(
-    alloc: Global,
-    protocol: &P,
-    router: u32,
-    shared: &mut SharedRows,
-    target: Target,
-) -> Result<u32, OutOfMemory>
-    requires router { router < P.routers protocol.now }
-    requires target { IsZoneTarget (P.reach protocol.now router) (P.zones protocol.now) target }
-    requires known { AreShared (P.reach protocol.now router) (P.routers protocol.now) shared.old }
-    ensures known { OnOk result (AreShared (P.reach protocol.now router) (P.routers protocol.now) shared.new) }
-    ensures kept { OnOk result (KeepsMore shared.old shared.new) }
-    ensures number { IfOk result (HasNumber (IsEntryTo (P.reach protocol.now router target.zone) target.at (P.routers protocol.now)) shared.new.builder.entries) }
-{
-    let walks = protocol.walks(router, target.zone);
-    match only_hop(walks, target.at, protocol.routers()) {
-        Some(hop) => number_over_one(alloc, shared, hop),
-        None => number_over_many(alloc, protocol, router, shared, target),
-    }
-}
-
-/// The number of the entry over a hop alone: that which is noted, else that of a new one.
-fn number_over_one(alloc: Global, shared: &mut SharedRows, hop: u32) -> Result<u32, OutOfMemory>
-    requires single { AreSingle shared.old.builder.entries shared.old.single.items }
-    ensures known { (reach : ℕ → Reach) (n : ℕ) → AreShared reach n shared.old → OnOk result (AreShared reach n shared.new) }
-    ensures kept { OnOk result (KeepsMore shared.old shared.new) }
-    ensures number { IfOk result (HasNumber (λ entry. entry ≡ Via (hop ∷ [])) shared.new.builder.entries) }
-{
-    if let Some(number) = single_number(shared.single.as_slice(), hop) {
-        return Ok(number);
-    }
-    let hops = Hops::from_vec(vec![in alloc; hop]?);
-    let number = shared.builder.keep(Entry::Via(hops))?;
-    note_single(&mut shared.single, hop, number);
-    Ok(number)
-}
-
-/// The number of the entry towards a target that several hops lead to: the latest one towards its router, where that is
-/// of its zone, else one with its hops.
-#[inline(never)]
-fn number_over_many<P: Protocol>(
     alloc: Global,
     protocol: &P,
     router: u32,
@@ -179,10 +147,47 @@ fn number_over_many<P: Protocol>(
     if let Some(number) = known_number(shared.known.as_slice(), target) {
         return Ok(number);
     }
-    let walks = protocol.walks(router, target.zone);
-    let hops = hops_towards(alloc, walks, target.at, protocol.routers())?;
-    let number = number_through(shared, hops)?;
+    let number = number_over(alloc, protocol, router, shared, target)?;
     remember(&mut shared.known, target, number);
+    Ok(number)
+}
+
+/// The number of the entry over the hops towards a target.
+#[inline(always)]
+fn number_over<P: Protocol>(
+    alloc: Global,
+    protocol: &P,
+    router: u32,
+    shared: &mut SharedRows,
+    target: Target,
+) -> Result<u32, OutOfMemory>
+    requires router { router < P.routers protocol.now }
+    requires target { IsZoneTarget (P.reach protocol.now router) (P.zones protocol.now) target }
+    requires known { AreShared (P.reach protocol.now router) (P.routers protocol.now) shared.old }
+    ensures known { OnOk result (AreShared (P.reach protocol.now router) (P.routers protocol.now) shared.new) }
+    ensures kept { OnOk result (KeepsMore shared.old shared.new) }
+    ensures number { IfOk result (HasNumber (IsEntryTo (P.reach protocol.now router target.zone) target.at (P.routers protocol.now)) shared.new.builder.entries) }
+{
+    let walks = protocol.walks(router, target.zone);
+    if let Some(hop) = only_hop(walks, target.at, protocol.routers()) {
+        return number_over_one(shared, hop);
+    }
+    let hops = hops_towards(alloc, walks, target.at, protocol.routers())?;
+    number_through(shared, hops)
+}
+
+/// The number of the entry over a hop alone: that which is noted, else that of a new one.
+fn number_over_one(shared: &mut SharedRows, hop: u32) -> Result<u32, OutOfMemory>
+    requires single { AreSingle shared.old.builder.entries shared.old.single.items }
+    ensures known { (reach : ℕ → Reach) (n : ℕ) → AreShared reach n shared.old → OnOk result (AreShared reach n shared.new) }
+    ensures kept { OnOk result (KeepsMore shared.old shared.new) }
+    ensures number { IfOk result (HasNumber (λ entry. entry ≡ Via (hop ∷ [])) shared.new.builder.entries) }
+{
+    if let Some(number) = single_number(shared.single.as_slice(), hop) {
+        return Ok(number);
+    }
+    let number = shared.builder.keep(Entry::Via(Hops::from_one(hop)))?;
+    note_single(&mut shared.single, hop, number);
     Ok(number)
 }
 
@@ -239,6 +244,7 @@ fn remember(known: &mut Vec<Option<Known>>, target: Target, number: u32)
 }
 
 /// The first hops below `count` towards a router.
+#[inline(never)]
 fn hops_towards(alloc: Global, walks: &LeastWalks, at: u32, count: u32) -> Result<Hops, OutOfMemory>
     requires { IsReached walks.now at }
     ensures { IfOk result (AreHopsTo walks.now at count) }

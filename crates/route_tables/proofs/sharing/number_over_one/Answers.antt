@@ -1,4 +1,4 @@
-use Rattle.std.proofs.Common.{◌≡◌, ◌∙◌, ◌∷◌, [], ℕ, List, Option, Some, None, ap, get_or, refl, subst, sym}
+use Rattle.std.proofs.Common.{◌≡◌, ◌∷◌, [], ℕ, List, Option, Some, None, ap, get_or, refl, subst, sym}
 use Rattle.route_core.specs.declared.entry.Entry.TheVariants.{Via}
 use Rattle.route_tables.specs.steps.Sharing.{AreSingle}
 use Rattle.route_tables.specs.declared.sharing.SharedRows.{SharedRows}
@@ -13,14 +13,14 @@ returns-in-Some-clause-number c =
 pub returns-clause-number : goal.returns-clause-number
 returns-clause-number c =
     let keeps = c.in_ok-number.ensures in
-    last_number (over_one c.args.hop c.in_ok-number.number) c.args.shared.now.builder.entries c.keep.new.self.entries (Via c.from_vec-hops.result)
-    c.in_ok-number.number keeps.entries keeps.number_is (ap Via (c.from_vec-hops.ensures ∙ c.in_ok-vec.ensures.items))
+    last_number (over_one c.args.hop c.in_ok-number.number) c.args.shared.now.builder.entries c.keep.new.self.entries (Via c.from_one.result)
+    c.in_ok-number.number keeps.entries keeps.number_is (ap Via c.from_one.ensures)
 
 pub returns-clause-known : goal.returns-clause-known
 returns-clause-known c = λ reach n are.
     let old = c.args.shared.now in
     let mid : SharedRows = record { builder = c.keep.new.self; known = old.known; single = old.single } in
-    let kept = shared_kept reach n old mid (Via c.from_vec-hops.result ∷ []) c.in_ok-number.ensures.entries refl refl are in
+    let kept = shared_kept reach n old mid (Via c.from_one.result ∷ []) c.in_ok-number.ensures.entries refl refl are in
     record {
       known = kept.known;
       single = subst (AreSingle c.keep.new.self.entries) (sym c.note_single.ensures)

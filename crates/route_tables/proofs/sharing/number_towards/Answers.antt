@@ -1,10 +1,9 @@
 use Rattle.std.proofs.Common.{◌≡◌, ℕ, List, Option, Some, None, get_or, subst, sym}
 use Rattle.walk_core.specs.Reach.{Reach}
-use Rattle.route_tables.specs.Routings.{AreHopsTo}
 use Rattle.route_tables.specs.steps.Sharing.{AreKnown}
 use Rattle.route_tables.specs.declared.sharing.Known.{Known}
 use Rattle.route_tables.proofs.SharingLaws.{noted_more, nothing_kept, towards}
-use Rattle.route_tables.proofs.sharing.number_over_many.Goals as goal
+use Rattle.route_tables.proofs.sharing.number_towards.Goals as goal
 
 pub returns-in-Some-clause-kept : goal.returns-in-Some-clause-kept
 returns-in-Some-clause-kept g c = nothing_kept c.args.shared.now
@@ -15,30 +14,17 @@ returns-in-Some-clause-number g c =
     c.requires.known.known c.args.target.at noted
     (subst (λ (l : List (Option Known)). get_or l c.args.target.at None ≡ Some noted) c.as_slice.ensures.value c.in-Some.ensures)
 
-pub returns-clause-number : goal.returns-clause-number
-returns-clause-number g c =
-    let has = c.in_ok-number.ensures.number in
-    record {
-      below = has.below;
-      is = record {
-        hops = c.in_ok-hops.hops;
-        is = has.is;
-        are = subst (λ (r : Reach). AreHopsTo r c.args.target.at (g.P.Protocol.routers c.args.protocol.now) c.in_ok-hops.hops) c.walks-walks.ensures
-            (subst (λ (m : ℕ). AreHopsTo c.walks-walks.result.now c.args.target.at m c.in_ok-hops.hops) c.routers.ensures.count c.in_ok-hops.ensures);
-      };
-    }
-
 pub returns-clause-known : goal.returns-clause-known
 returns-clause-known g c =
     let reach : ℕ → Reach = g.P.Protocol.reach c.args.protocol.now c.args.router in
     let n : ℕ = g.P.Protocol.routers c.args.protocol.now in
-    let mid = c.number_through.new.shared in
-    let kept = c.in_ok-number.ensures.known reach n c.requires.known in
+    let mid = c.number_over.new.shared in
+    let kept = c.in_ok-number.ensures.known in
     let noted : Known = record { zone = c.args.target.zone; number = c.in_ok-number.number } in
     record {
       known = subst (AreKnown reach n mid.builder.entries) (sym c.remember.ensures)
           (noted_more (towards reach n) (λ (k : Known). k.number) mid.builder.entries mid.known.items c.args.target.at noted kept.known
-          (returns-clause-number g c));
+          c.in_ok-number.ensures.number);
       single = kept.single;
     }
 
