@@ -1,5 +1,5 @@
 -- Attached routers.
-use Rattle.std.proofs.Common.{◌≡◌, ◌≢◌, ℕ, ◌<◌, ◌↔◌, List, length, Option, Some, None, IsTrue, refl, sym, ap, subst, ◌∙◌, arith}
+use Rattle.std.proofs.Common.{◌≡◌, ◌≢◌, ℕ, ◌<◌, ◌↔◌, List, length, Option, Some, None, IsTrue, refl, sym, ap, subst, arith}
 use Rattle.std.specs.List.{Contains}
 use Rattle.std.specs.Option.{is_some}
 use Rattle.std.proofs.lemmas.Option.{none-some, same_Some}
@@ -14,14 +14,6 @@ use Rattle.igp_theory.specs.Isis.{RunsLevelOne, RunsLevelTwo, IsAttached, Offers
 use Rattle.isis_routes.specs.steps.Attached.{LeadsOutside, LeavesArea}
 use Rattle.route_tables.specs.Lists.{Exactly}
 use Rattle.isis_routes.specs.steps.Routing.{RunsBothLevels}
-
--- a router of the same area isn't outside
-pub not_outside : (net : Network) (u v : ℕ) (near far : Configuration) → HasConfiguration net u near → HasConfiguration net v far →
-    near.isis_area ≡ far.isis_area → LeadsOutside net u v → ⊥
-not_outside net u v near far here there same out =
-    let is_near : out.near ≡ near = HasConfiguration-unique net u out.near near out.near_router here in
-    let is_far : out.far ≡ far = HasConfiguration-unique net v out.far far out.far_router there in
-    out.other_area (ap (λ (c : Configuration). c.isis_area) is_near ∙ same ∙ sym (ap (λ (c : Configuration). c.isis_area) is_far))
 
 -- a router of another area is outside where it is reached
 pub outside_by_distance : (net : Network) (u v : ℕ) (near far : Configuration) (reach : Reach) → HasConfiguration net u near → HasConfiguration net v far →

@@ -1,6 +1,7 @@
 -- Costs and routes over the least walks of a level.
-use Rattle.std.proofs.Common.{◌≡◌, ℕ, ◌<◌, ◌↔◌, List, [], length, get_or, Option, Some, None, MatchOption, Result, IfOk, sym, subst, arith}
-use Rattle.std.proofs.lemmas.Option.{slice_get-get_or}
+use Rattle.std.proofs.Common.{◌≡◌, ℕ, ◌<◌, ◌↔◌, List, [], length, get_or, Option, Some, None, MatchOption, Result, IfOk, refl, sym, subst, arith}
+use Rattle.std.specs.Option.{IfSome}
+use Rattle.std.proofs.lemmas.Option.{IfSome_then, slice_get-get_or}
 use Rattle.std.proofs.lemmas.Result.{IfOk-weaker}
 use Rattle.net_model.proofs.NetworkFacts.{Adjacent-to_within}
 use Rattle.net_model.specs.Network.{Network, Adjacent}
@@ -15,6 +16,8 @@ use Rattle.zone_graph.specs.Walks.{AreZoneWalks}
 use Rattle.route_tables.specs.BestRoutes.{AreBestHops, IsBestRoute}
 use Rattle.route_tables.specs.Routings.{ForwardsBy, IsRouteFor}
 use Rattle.route_tables.specs.declared.route.Route.{Route}
+use Rattle.route_tables.specs.declared.route.Route.TheVariants.{Towards}
+use Rattle.route_tables.specs.declared.route.Target.{Target}
 use Rattle.route_tables.proofs.BestRoutes.{best_cost_is, best_hops_are, best_route_is, offers_in_range}
 use Rattle.isis_routes.specs.steps.LevelReach.{level_reach}
 use Rattle.isis_routes.specs.steps.Levels.{zone_in, zone_number}
@@ -82,6 +85,17 @@ listed_hops net zone u n reach offers walks count (Some hops) best = record {
 }
 
 -- and so is the route to it
+listed_one : (net : Network) (level : Level) (walks : LevelWalks) (u n : ℕ) (reach : Reach) (offers : List Offer) → AreLevelWalks net walks → u < length net →
+    n ≡ length net → reach ≡ level_reach walks u (zone_number level) → (found : Option Route) →
+    MatchOption found (NoneTotals reach offers) (IsBestRoute reach offers (zone_number level) n) →
+    MatchOption found (HasBest (Adjacent net (zone_in level)) (ListsOffer offers) u → ⊥)
+    (IsRouteFor (level_reach walks u) 2 n (ForwardsBy (IsRouteToBest (Adjacent net (zone_in level)) (ListsOffer offers) u)))
+listed_one net level walks u n reach offers are within count is found best =
+    best_route_is (level_reach walks u) 2 n (zone_number level) reach offers (HasBest (Adjacent net (zone_in level)) (ListsOffer offers) u → ⊥)
+    (IsRouteToBest (Adjacent net (zone_in level)) (ListsOffer offers) u) (below_two level) (sym is)
+    (listed_hops net (zone_in level) u n reach offers
+    (subst (AreLeastWalks (Adjacent net (zone_in level)) u) (sym is) (reach_in net level walks u are within).least) count) found best
+
 pub listed_route : {E : Type 0} (net : Network) (level : Level) (walks : LevelWalks) (u n : ℕ) (reach : Reach) (offers : List Offer)
     (r : Result (Option Route) E) → AreLevelWalks net walks → u < length net → n ≡ length net → reach ≡ level_reach walks u (zone_number level) →
     IfOk r (λ found. MatchOption found (NoneTotals reach offers) (IsBestRoute reach offers (zone_number level) n)) →
@@ -94,6 +108,12 @@ listed_route net level walks u n reach offers r are within count is found =
     (IfOk-weaker r
     (λ found. MatchOption found (NoneTotals reach offers) (IsBestRoute reach offers (zone_number level) n))
     (λ found. MatchOption found none (IsRouteFor (level_reach walks u) 2 n (ForwardsBy some)))
-    (λ found best. best_route_is (level_reach walks u) 2 n (zone_number level) reach offers none some (below_two level) (sym is)
-    (listed_hops net (zone_in level) u n reach offers
-    (subst (AreLeastWalks (Adjacent net (zone_in level)) u) (sym is) (reach_in net level walks u are within).least) count) found best) found)
+    (listed_one net level walks u n reach offers are within count is) found)
+
+pub listed_target : (net : Network) (level : Level) (walks : LevelWalks) (u : ℕ) (reach : Reach) (offers : List Offer) (found : Option Target) →
+    AreLevelWalks net walks → u < length net → reach ≡ level_reach walks u (zone_number level) →
+    IfSome found (λ target. IsBestRoute reach offers (zone_number level) (length net) (Towards target)) →
+    IfSome found (λ target. IsRouteFor (level_reach walks u) 2 (length net)
+    (ForwardsBy (IsRouteToBest (Adjacent net (zone_in level)) (ListsOffer offers) u)) (Towards target))
+listed_target net level walks u reach offers found are within is best =
+    IfSome_then found best (λ target here. listed_one net level walks u (length net) reach offers are within refl is (Some (Towards target)) here)

@@ -1,7 +1,6 @@
 -- Lists of offers, router by router.
-use Rattle.std.proofs.Common.{◌≡◌, ℕ, ◌+◌, ◌<◌, ◌≤◌, ◌↔◌, List, [], ◌∷◌, ◌++◌, length, take, get_or, Option, Some, None, refl, sym, ap, subst, ◌∙◌}
+use Rattle.std.proofs.Common.{◌≡◌, ℕ, ◌+◌, ◌<◌, ◌≤◌, ◌↔◌, List, [], length, take, get_or, refl, sym, subst}
 use Rattle.std.specs.List.{Any, Contains}
-use Rattle.std.proofs.lemmas.Option.{none-some, same_Some}
 use Rattle.std.proofs.lemmas.List.{get_or_default}
 use Rattle.net_addr.specs.Addresses.{Block}
 use Rattle.net_model.proofs.Adjacency.{HasConfiguration-unique}
@@ -11,7 +10,7 @@ use Rattle.net_model.specs.declared.interface.Interface.{Interface}
 use Rattle.walk_core.specs.Offers.{Offers}
 use Rattle.walk_core.specs.declared.offers.Offer.{Offer}
 use Rattle.route_tables.specs.Lists.{Adds, Exactly}
-use Rattle.route_tables.proofs.ListFacts.{Found, adds_end, adds_more, adds_nothing, adds_one, adds_same, adds_start, any_in, any_of, exactly_added}
+use Rattle.route_tables.proofs.ListFacts.{Found, adds_end, adds_more, adds_nothing, adds_same, adds_start, any_in, any_of, exactly_added}
 use Rattle.isis_routes.specs.steps.Offered.{AsksIn, OffersIn, HoldsOffers, IsOffer, IsOfferOf, AddsOffers}
 use Rattle.isis_routes.specs.declared.level.Level.{Level}
 use Rattle.isis_routes.specs.declared.level.Level.TheVariants.{One, Two}
@@ -26,24 +25,6 @@ offers_same old new w one other adds same =
 
 pub no_offers : (old : List Offer) (w : ℕ) (asked : ℕ → Type 0) → ((c : ℕ) → asked c → ⊥) → AddsOffers old old w asked
 no_offers old w asked none = adds_nothing old (IsOffer w asked) (λ o is. none o.asks is.asks)
-
-made_of : (w asks : ℕ) (o : Offer) → o.at ≡ w → asks ≡ o.asks → ◌≡◌ {A = Offer} (record { at = w; asks = asks }) o
-made_of w asks o at same =
-    ap (λ (k : ℕ). let x : Offer = record { at = k; asks = asks } in x) (sym at)
-    ∙ ap (λ (k : ℕ). let x : Offer = record { at = o.at; asks = k } in x) same
-
--- a cost that there is, and none
-pub cost_added : (old : List Offer) (w asks : ℕ) → AddsOffers old (old ++ record { at = w; asks = asks } ∷ []) w (λ k. Some asks ≡ Some k)
-cost_added old w asks =
-    let new : Offer = record { at = w; asks = asks } in
-    adds_same old (old ++ new ∷ []) (λ o. new ≡ o) (IsOffer w (λ k. Some asks ≡ Some k)) (adds_one old new)
-    (λ o. (
-      λ same. record { at = sym (ap (λ (x : Offer). x.at) same); asks = ap (λ (x : Offer). Some x.asks) same },
-      λ is. made_of w asks o is.at (same_Some asks o.asks is.asks),
-    ))
-
-pub cost_not_added : (old : List Offer) (w : ℕ) → AddsOffers old old w (λ k. ◌≡◌ {A = Option ℕ} None (Some k))
-cost_not_added old w = no_offers old w (λ k. ◌≡◌ {A = Option ℕ} None (Some k)) (λ k is. none-some k is)
 
 -- Router by router
 

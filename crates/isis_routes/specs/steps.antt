@@ -6,6 +6,7 @@ pub mod Candidates
 pub mod Routing
 pub mod LevelReach
 pub mod Domain
+pub mod Routes
 pub mod Destinations
 pub mod Alike
 pub mod Isis

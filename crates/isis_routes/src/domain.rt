@@ -1,25 +1,24 @@
-ghost use Rattle.std.specs.Prelude.{◌≡◌, ◌<◌, ◌↔◌, ℕ, length, Some, IfOk, IsTrue, MatchOption};
+ghost use Rattle.std.specs.Prelude.{◌≡◌, ◌<◌, ◌↔◌, ℕ, length, Some, IfOk, IfSome, IsTrue, MatchOption};
 ghost use Rattle.net_model.specs.Network.{Adjacent};
 ghost use Rattle.walk_core.specs.BestOffers.{ListsOffer};
 ghost use Rattle.walk_core.specs.Offers.{BestCost};
 ghost use Rattle.igp_theory.specs.Isis.{Leaks, OffersDefault, RunsLevelOne, RunsLevelTwo};
 ghost use Rattle.route_tables.specs.Lists.{Exactly};
 ghost use Rattle.route_tables.specs.Routings.{ForwardsBy, IsRouteFor};
+ghost use Rattle.route_tables.specs.declared.route.Route.TheVariants.{Towards};
 ghost use Rattle.isis_routes.specs.steps.Domain.{IsKnown};
 ghost use Rattle.isis_routes.specs.steps.LevelReach.{level_reach};
 ghost use Rattle.isis_routes.specs.steps.Levels.{zone_in};
 ghost use Rattle.isis_routes.specs.steps.Offered.{AreSmall, HoldsOffers};
-ghost use Rattle.isis_routes.specs.steps.Routing.{HasBest, IsRouteToBest, RunsBothLevels, RunsLevelOneAlone};
+ghost use Rattle.isis_routes.specs.steps.Routing.{HasBest, IsRouteToBest, RunsBothLevels};
 
 use crate::OutOfMemory;
 use crate::attached::attached_routers;
 use crate::level::Level;
 use crate::level_walks::LevelWalks;
-use crate::runs::{
-    leaking_routers, routers_of_both_levels, runs_level_one, runs_level_one_alone, runs_level_two,
-};
+use crate::runs::{leaking_routers, routers_of_both_levels, runs_level_one, runs_level_two};
 use net_model::Net;
-use route_tables::{Route, best_route};
+use route_tables::{Route, Target, best_route, best_target};
 use std::alloc::Global;
 use std::marker::Model;
 use walk_core::{LeastWalks, Offer};
@@ -98,7 +97,7 @@ impl<'a> Domain<'a> {
         ensures runs { IsTrue result ↔ RunsLevelOne self.now.net router }
         ensures known { IsKnown self.now }
     {
-        runs_level_one(self.net, router)
+        runs_level_one(self.net(), router)
     }
 
     /// Whether a router runs level 2.
@@ -107,15 +106,7 @@ impl<'a> Domain<'a> {
         ensures runs { IsTrue result ↔ RunsLevelTwo self.now.net router }
         ensures known { IsKnown self.now }
     {
-        runs_level_two(self.net, router)
-    }
-
-    /// Whether a router runs level 1 and not level 2.
-    pub fn runs_level_one_alone(&self, router: u32) -> bool
-        requires { router < length self.now.net }
-        ensures { IsTrue result ↔ RunsLevelOneAlone self.now.net router }
-    {
-        runs_level_one_alone(self.net, router)
+        runs_level_two(self.net(), router)
     }
 
     /// The least walks from a router in the level of this number.
@@ -155,5 +146,18 @@ impl<'a> Domain<'a> {
         let number = level.zone();
         let walks = self.walks(router, number);
         best_route(alloc, walks, number, offers, self.net().routers())
+    }
+
+    /// Where the route of a router in a level to the best of some offers leads, where that is known at once.
+    #[inline(always)]
+    pub fn best_target(&self, level: Level, offers: &[Offer], router: u32) -> Option<Target>
+        requires router { router < length self.now.net }
+        requires small { AreSmall offers.now }
+        ensures { IfSome result (λ target. IsRouteFor (level_reach self.now.walks router) 2 (length self.now.net)
+            (ForwardsBy (IsRouteToBest (Adjacent self.now.net (zone_in level)) (ListsOffer offers.now) router)) (Towards target)) }
+    {
+        let number = level.zone();
+        let walks = self.walks(router, number);
+        best_target(walks, number, offers)
     }
 }

@@ -1,11 +1,10 @@
 ghost use Rattle.std.specs.Prelude.{◌<◌, length, IfOk, MatchOption};
 ghost use Rattle.net_model.specs.Network.{Connected};
-ghost use Rattle.route_tables.specs.Routings.{ForwardsBy, IsRouteFor};
 ghost use Rattle.igp_theory.specs.Isis.{HasLevelOneRoute, HasLevelTwoRoute, HasDownRoute, IsisEntry};
 ghost use Rattle.route_core.specs.declared.entry.Entry.{Entry};
 ghost use Rattle.isis_routes.specs.steps.Destinations.{HasAnnouncements};
-ghost use Rattle.isis_routes.specs.steps.LevelReach.{level_reach};
-ghost use Rattle.isis_routes.specs.steps.Routing.{IsLevelOneRoute, IsLevelTwoRoute, IsDownRoute, IsDefaultRoute, NoDefaultRoute};
+ghost use Rattle.isis_routes.specs.steps.Routes.{IsIsisRoute};
+ghost use Rattle.isis_routes.specs.steps.Routing.{NoDefaultRoute};
 
 use crate::OutOfMemory;
 use crate::destinations::Destination;
@@ -27,11 +26,28 @@ pub fn route_of(
     requires announced { HasAnnouncements domain.now.net destination.now }
     ensures { IfOk result (λ found. MatchOption found
         ((e : Entry) → IsisEntry domain.now.net router destination.now.one.dest e → ⊥)
-        (IsRouteFor (level_reach domain.now.walks router) 2 (length domain.now.net) (IsisEntry domain.now.net router destination.now.one.dest))) }
+        (IsIsisRoute domain.now router destination.now.one.dest)) }
 {
     if destination.one.is_connected(router) {
         return Ok(None);
     }
+    route_away(alloc, domain, destination, router)
+}
+
+/// The route of a router that isn't connected to the prefix.
+fn route_away(
+    alloc: Global,
+    domain: &Domain<'_>,
+    destination: &Destination,
+    router: u32,
+) -> Result<Option<Route>, OutOfMemory>
+    requires router { router < length domain.now.net }
+    requires announced { HasAnnouncements domain.now.net destination.now }
+    requires away { Connected domain.now.net router destination.now.one.dest → ⊥ }
+    ensures { IfOk result (λ found. MatchOption found
+        ((e : Entry) → IsisEntry domain.now.net router destination.now.one.dest e → ⊥)
+        (IsIsisRoute domain.now router destination.now.one.dest)) }
+{
     if let Some(route) = level_one_route(alloc, domain, destination, router)? {
         return Ok(Some(route));
     }
@@ -56,10 +72,10 @@ fn level_one_route(
 ) -> Result<Option<Route>, OutOfMemory>
     requires router { router < length domain.now.net }
     requires announced { HasAnnouncements domain.now.net destination.now }
+    requires away { Connected domain.now.net router destination.now.one.dest → ⊥ }
     ensures { IfOk result (λ found. MatchOption found
         (HasLevelOneRoute domain.now.net destination.now.one.dest router → ⊥)
-        (IsRouteFor (level_reach domain.now.walks router) 2 (length domain.now.net)
-        (ForwardsBy (IsLevelOneRoute domain.now.net destination.now.one.dest router)))) }
+        (IsIsisRoute domain.now router destination.now.one.dest)) }
 {
     if !domain.runs_level_one(router) {
         return Ok(None);
@@ -81,8 +97,7 @@ fn level_two_route(
     requires without_level_one { HasLevelOneRoute domain.now.net destination.now.one.dest router → ⊥ }
     ensures { IfOk result (λ found. MatchOption found
         (HasLevelTwoRoute domain.now.net destination.now.one.dest router → ⊥)
-        (IsRouteFor (level_reach domain.now.walks router) 2 (length domain.now.net)
-        (ForwardsBy (IsLevelTwoRoute domain.now.net destination.now.one.dest router)))) }
+        (IsIsisRoute domain.now router destination.now.one.dest)) }
 {
     if !domain.runs_level_two(router) {
         return Ok(None);
@@ -100,11 +115,12 @@ fn down_route(
 ) -> Result<Option<Route>, OutOfMemory>
     requires router { router < length domain.now.net }
     requires announced { HasAnnouncements domain.now.net destination.now }
+    requires away { Connected domain.now.net router destination.now.one.dest → ⊥ }
+    requires without_level_one { HasLevelOneRoute domain.now.net destination.now.one.dest router → ⊥ }
     requires without_level_two { HasLevelTwoRoute domain.now.net destination.now.one.dest router → ⊥ }
     ensures { IfOk result (λ found. MatchOption found
         (HasDownRoute domain.now.net destination.now.one.dest router → ⊥)
-        (IsRouteFor (level_reach domain.now.walks router) 2 (length domain.now.net)
-        (ForwardsBy (IsDownRoute domain.now.net destination.now.one.dest router)))) }
+        (IsIsisRoute domain.now router destination.now.one.dest)) }
 {
     if !domain.runs_level_one(router) {
         return Ok(None);
@@ -121,12 +137,14 @@ fn default_route(
     router: u32,
 ) -> Result<Option<Route>, OutOfMemory>
     requires router { router < length domain.now.net }
+    requires away { Connected domain.now.net router dest → ⊥ }
+    requires without_level_one { HasLevelOneRoute domain.now.net dest router → ⊥ }
+    requires without_level_two { HasLevelTwoRoute domain.now.net dest router → ⊥ }
+    requires without_down { HasDownRoute domain.now.net dest router → ⊥ }
     ensures { IfOk result (λ found. MatchOption found
-        (NoDefaultRoute domain.now.net dest router)
-        (IsRouteFor (level_reach domain.now.walks router) 2 (length domain.now.net)
-        (ForwardsBy (IsDefaultRoute domain.now.net dest router)))) }
+        (NoDefaultRoute domain.now.net dest router) (IsIsisRoute domain.now router dest)) }
 {
-    if !is_all_addresses(dest) || !domain.runs_level_one_alone(router) {
+    if !is_all_addresses(dest) || !domain.runs_level_one(router) || domain.runs_level_two(router) {
         return Ok(None);
     }
     domain.best_route(alloc, Level::One, domain.attached(), router)

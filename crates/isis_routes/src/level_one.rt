@@ -47,7 +47,11 @@ impl LevelOne {
     pub fn is_connected(&self, router: u32) -> bool
         ensures { IsTrue result ↔ Contains self.now.homes.items router }
     {
-        self.homes.iter().any(|home| *home == router)
+        match self.homes.as_slice() {
+            [one] => *one == router,
+            [one, other] => *one == router || *other == router,
+            homes => homes.contains(&router),
+        }
     }
 
     /// The router at which the prefix is connected, where it is one alone.

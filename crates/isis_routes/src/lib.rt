@@ -11,7 +11,8 @@
 //! 5. `leaked.rt`: what is announced into level 1, marked down (RFC 5302).
 //! 6. `alike.rt`: prefixes with the same routes.
 //! 7. `segments.rt`: who is adjacent to whom.
-//! 8. `entry.rt`: the level 1 route, else the level 2 route, else the down route, else the default.
+//! 8. `entry.rt`: the level 1 route, else the level 2 route, else the down route, else the default; `target.rt`: where
+//!    the first two lead, where that is known without hops of their own.
 //!
 //! Steps 2 to 6 take time of the connected prefixes of all routers, and of prefixes times the routers that run both
 //! levels; step 8 of routers times prefixes that aren't alike times the offers of a prefix.
@@ -34,6 +35,7 @@ mod protocol;
 mod routes;
 mod runs;
 mod segments;
+mod target;
 
 pub use route_tables::OutOfMemory;
 pub use routes::IsisRoutes;

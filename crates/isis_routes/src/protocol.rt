@@ -1,4 +1,6 @@
-ghost use Rattle.std.specs.Prelude.{◌≡◌, IfOk};
+ghost use Rattle.std.specs.Prelude.{◌≡◌, ◌<◌, length, IfOk};
+ghost use Rattle.route_tables.specs.Prefixes.{prefix_at};
+ghost use Rattle.isis_routes.specs.steps.Destinations.{HasAnnouncements, isis_prefixes};
 
 use crate::OutOfMemory;
 use crate::alike::{earlier_alike, named_at};
@@ -6,9 +8,10 @@ use crate::destinations::{Destination, destinations};
 use crate::domain::Domain;
 use crate::entry::route_of;
 use crate::segments::level_segments;
+use crate::target::target_of;
 use net_addr::Prefix;
 use net_model::Net;
-use route_tables::{Protocol, Route};
+use route_tables::{Protocol, Route, Target};
 use std::alloc::Global;
 use std::marker::Model;
 use walk_core::{LeastWalks, Segment};
@@ -46,13 +49,27 @@ impl<'a> Isis<'a> {
             earlier,
         })
     }
+
+    /// What its routers know before any prefix.
+    fn domain(&self) -> &Domain<'a>
+        ensures { result.now ≡ self.now.domain }
+    {
+        &self.domain
+    }
+
+    /// What is known of the prefix of this number.
+    fn destination(&self, place: usize) -> &Destination
+        requires { place < length (isis_prefixes self.now.destinations) }
+        ensures announced { HasAnnouncements self.now.domain.net result.now }
+        ensures dest { result.now.one.dest ≡ prefix_at (isis_prefixes self.now.destinations) place }
+    {
+        &self.destinations[place]
+    }
 }
 
 impl<'a> Protocol for Isis<'a> {
-    ghost use Rattle.std.specs.Prelude.{length};
     ghost use Rattle.igp_theory.specs.Isis.{IsisEntry};
     ghost use Rattle.igp_theory.specs.Laws.{IsIsisNeighbor};
-    ghost use Rattle.isis_routes.specs.steps.Destinations.{isis_prefixes};
     ghost use Rattle.isis_routes.specs.steps.LevelReach.{level_reach};
 
     ghost routers = { λ isis. length isis.domain.net };
@@ -68,7 +85,7 @@ impl<'a> Protocol for Isis<'a> {
     ghost reach = { λ isis. level_reach isis.domain.walks };
 
     fn routers(&self) -> u32 {
-        self.domain.net().routers()
+        self.domain().net().routers()
     }
 
     fn candidates(&self) -> usize {
@@ -76,7 +93,7 @@ impl<'a> Protocol for Isis<'a> {
     }
 
     fn candidate(&self, place: usize) -> Prefix {
-        self.destinations[place].one.dest
+        self.destination(place).one.dest
     }
 
     fn alike(&self, place: usize) -> Option<usize> {
@@ -89,15 +106,19 @@ impl<'a> Protocol for Isis<'a> {
         place: usize,
         router: u32,
     ) -> Result<Option<Route>, OutOfMemory> {
-        let destination = &self.destinations[place];
-        route_of(alloc, &self.domain, destination, router)
+        route_of(alloc, self.domain(), self.destination(place), router)
+    }
+
+    #[inline(always)]
+    fn target(&self, place: usize, router: u32) -> Option<Target> {
+        target_of(self.domain(), self.destination(place), router)
     }
 
     fn walks(&self, router: u32, zone: usize) -> &LeastWalks {
-        self.domain.walks(router, zone)
+        self.domain().walks(router, zone)
     }
 
     fn segments(&self, alloc: Global) -> Result<Vec<Segment>, OutOfMemory> {
-        level_segments(alloc, self.domain.net())
+        level_segments(alloc, self.domain().net())
     }
 }

@@ -13,7 +13,8 @@ use std::marker::Model;
 ///
 /// A router prefers level 1 routes to level 2 routes, and these to what is leaked into level 1 and marked
 /// down, whatever they cost. A router that runs level 1 alone takes a default towards the nearest attached
-/// routers; that a router of both levels takes none is this project's profile. Two routers are linked where they are adjacent in level 1 or in level 2.
+/// routers; that a router of both levels takes none is this project's profile. Two routers are linked where they
+/// are adjacent in level 1 or in level 2.
 #[derive(Debug, Drop)]
 pub struct IsisRoutes {
     all: RouteTables,

@@ -2,7 +2,7 @@ ghost use Rattle.std.specs.Prelude.{◌≡◌, ◌<◌, ◌↔◌, ℕ, length, 
 ghost use Rattle.net_model.specs.Refusals.{IsNetwork};
 ghost use Rattle.igp_theory.specs.Isis.{RunsLevelOne, RunsLevelTwo, Leaks};
 ghost use Rattle.route_tables.specs.Lists.{Exactly};
-ghost use Rattle.isis_routes.specs.steps.Routing.{RunsBothLevels, RunsLevelOneAlone, IsThisRouter};
+ghost use Rattle.isis_routes.specs.steps.Routing.{RunsBothLevels, IsThisRouter};
 
 use crate::OutOfMemory;
 use net_model::Net;
@@ -27,14 +27,6 @@ pub fn runs_level_two(net: &Net, u: u32) -> bool
 {
     let config = net.config(u);
     config.isis && config.levels.has_level_two()
-}
-
-/// Whether the router runs level 1 and not level 2.
-pub fn runs_level_one_alone(net: &Net, u: u32) -> bool
-    requires { u < length net.now }
-    ensures { IsTrue result ↔ RunsLevelOneAlone net.now u }
-{
-    runs_level_one(net, u) && !runs_level_two(net, u)
 }
 
 /// Whether the router runs both levels.

@@ -3,13 +3,13 @@ use Rattle.net_model.specs.Network.{Adjacent}
 use Rattle.net_model.specs.declared.zone.Zone.TheVariants.{One as ZoneOne}
 use Rattle.walk_core.specs.declared.offers.Offer.{Offer}
 use Rattle.igp_theory.specs.Ospf.{OfOthers}
-use Rattle.igp_theory.specs.Isis.{DownAnnouncement, HasDownRoute}
+use Rattle.igp_theory.specs.Isis.{DownAnnouncement, HasDownRoute, IsisEntry}
 use Rattle.isis_routes.specs.steps.LevelReach.{level_reach}
 use Rattle.isis_routes.specs.steps.Offered.{HoldsOffers}
-use Rattle.isis_routes.specs.steps.Routing.{IsDownRoute}
 use Rattle.isis_routes.proofs.Announced.{others_hold}
-use Rattle.isis_routes.proofs.BestRoutes.{down_is, route_found}
+use Rattle.isis_routes.proofs.BestRoutes.{route_found}
 use Rattle.isis_routes.proofs.CostBounds.{leaked_small}
+use Rattle.isis_routes.proofs.EntryFacts.{entry_by_down}
 use Rattle.isis_routes.proofs.entry.down_route.Goals as goal
 
 pub best_route-requires-clause-small : goal.best_route-requires-clause-small
@@ -28,6 +28,7 @@ returns c =
     (subst (λ (l : List Offer). HoldsOffers (DownAnnouncement net p) l) (sym c.as_slice.ensures.value) c.requires.announced.down)
     (λ k down. c.requires.without_level_two (record { cost = k; costs = down.costs })) in
     route_found (Adjacent net ZoneOne) (OfOthers (DownAnnouncement net p) u) c.as_slice.result.now u (level_reach c.args.domain.now.walks u) (length net)
-    (HasDownRoute net p u → ⊥) (IsDownRoute net p u) c.best_route.result others
+    (HasDownRoute net p u → ⊥) (IsisEntry net u p) c.best_route.result others
     (λ none has. none (record { cost = has.cost; best = has.costs.best }))
-    (λ hops route. down_is net p u hops (c.if-not-runs_level_one.ensures.runs.0 refl) route) c.best_route.ensures
+    (λ hops. entry_by_down net u p hops c.requires.away c.requires.without_level_one c.requires.without_level_two
+    (c.if-not-runs_level_one.ensures.runs.0 refl)) c.best_route.ensures

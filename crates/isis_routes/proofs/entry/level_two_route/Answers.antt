@@ -3,13 +3,13 @@ use Rattle.net_model.specs.Network.{Adjacent}
 use Rattle.net_model.specs.declared.zone.Zone.TheVariants.{Two as ZoneTwo}
 use Rattle.walk_core.specs.declared.offers.Offer.{Offer}
 use Rattle.igp_theory.specs.Ospf.{OfOthers}
-use Rattle.igp_theory.specs.Isis.{LevelTwoAnnouncement, HasLevelTwoRoute}
+use Rattle.igp_theory.specs.Isis.{LevelTwoAnnouncement, HasLevelTwoRoute, IsisEntry}
 use Rattle.isis_routes.specs.steps.LevelReach.{level_reach}
 use Rattle.isis_routes.specs.steps.Offered.{HoldsOffers}
-use Rattle.isis_routes.specs.steps.Routing.{IsLevelTwoRoute}
 use Rattle.isis_routes.proofs.Announced.{announces_nothing, others_hold}
-use Rattle.isis_routes.proofs.BestRoutes.{level_two_is, route_found}
+use Rattle.isis_routes.proofs.BestRoutes.{route_found}
 use Rattle.isis_routes.proofs.CostBounds.{announced_small}
+use Rattle.isis_routes.proofs.EntryFacts.{entry_by_two}
 use Rattle.isis_routes.proofs.entry.level_two_route.Goals as goal
 
 pub best_route-requires-clause-small : goal.best_route-requires-clause-small
@@ -28,6 +28,6 @@ returns c =
     (subst (λ (l : List Offer). HoldsOffers (LevelTwoAnnouncement net p) l) (sym c.as_slice.ensures.value) c.requires.announced.two)
     (λ k announces. announces_nothing net p u k c.requires.away c.requires.without_level_one announces) in
     route_found (Adjacent net ZoneTwo) (OfOthers (LevelTwoAnnouncement net p) u) c.as_slice.result.now u (level_reach c.args.domain.now.walks u) (length net)
-    (HasLevelTwoRoute net p u → ⊥) (IsLevelTwoRoute net p u) c.best_route.result others
+    (HasLevelTwoRoute net p u → ⊥) (IsisEntry net u p) c.best_route.result others
     (λ none has. none (record { cost = has.cost; best = has.costs.best }))
-    (λ hops route. level_two_is net p u hops (c.if-not-runs_level_two.ensures.runs.0 refl) route) c.best_route.ensures
+    (λ hops. entry_by_two net u p hops c.requires.away c.requires.without_level_one (c.if-not-runs_level_two.ensures.runs.0 refl)) c.best_route.ensures

@@ -1,0 +1,16 @@
+use Rattle.std.proofs.Common.{◌∙◌, ap, eqb-true, length, sym}
+use Rattle.std.proofs.lemmas.Bool.{false≢true}
+use Rattle.isis_routes.proofs.EntryFacts.{unoffered}
+use Rattle.isis_routes.proofs.target.target_of.Goals as goal
+
+pub level_two_target-requires-clause-away : goal.level_two_target-requires-clause-away
+level_two_target-requires-clause-away c = λ is. false≢true (c.if-is_connected.ensures.1 ((c.requires.announced.one.homes c.args.router).1 is))
+
+pub level_two_target-requires-clause-without_level_one : goal.level_two_target-requires-clause-without_level_one
+level_two_target-requires-clause-without_level_one c =
+    let one = c.args.destination.now.one in
+    unoffered c.args.domain.now.net one.dest c.args.router one.offers.items c.requires.announced.one.offers
+    (sym (ap length c.as_slice.ensures.value) ∙ eqb-true (length c.as_slice.result.now) 0 (sym c.is_empty.ensures ∙ c.if-is_empty.true))
+
+pub target_by_levels-requires-clause-away : goal.target_by_levels-requires-clause-away
+target_by_levels-requires-clause-away c = λ is. false≢true (c.if-is_connected.ensures.1 ((c.requires.announced.one.homes c.args.router).1 is))
