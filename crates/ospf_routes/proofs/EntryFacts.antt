@@ -1,5 +1,5 @@
 -- The entries of a router, by its routes.
-use Rattle.std.proofs.Common.{ℕ, Option, None, Some, MatchOption, length}
+use Rattle.std.proofs.Common.{◌≡◌, ℕ, List, Option, None, Some, MatchOption, length, subst}
 use Rattle.net_addr.specs.Addresses.{Block}
 use Rattle.net_model.specs.Network.{Network, Connected}
 use Rattle.route_core.specs.declared.entry.Entry.{Entry}
@@ -8,8 +8,17 @@ use Rattle.igp_theory.specs.Ospf.{into_backbone, into_area, InterAreaCost, OspfE
 use Rattle.walk_core.specs.Reach.{Reach}
 use Rattle.route_tables.specs.Routings.{ForwardsBy, IsRouteFor}
 use Rattle.route_tables.specs.declared.route.Route.{Route}
-use Rattle.route_tables.proofs.BestRoutes.{route_by_hops}
+use Rattle.route_tables.proofs.BestRoutes.{best_route_makes, route_by_hops}
 use Rattle.route_tables.proofs.ListFacts.{any_of}
+use Rattle.ospf_routes.specs.declared.areas.AreaWalks.{AreaWalks}
+use Rattle.ospf_routes.specs.declared.entry.Asked.{Asked}
+use Rattle.ospf_routes.specs.declared.entry.Deciding.{Deciding}
+use Rattle.ospf_routes.specs.steps.Asked.{IsDeciding, IsRouteTowards}
+use Rattle.ospf_routes.specs.steps.AreaReach.{area_reach}
+use Rattle.route_tables.specs.BestRoutes.{AreBestHops, IsBestRoute}
+use Rattle.route_tables.specs.declared.route.Route.TheVariants.{Towards}
+use Rattle.route_tables.specs.declared.route.Target.{Target}
+use Rattle.std.specs.Option.{IfSome}
 use Rattle.ospf_routes.specs.steps.Candidates.{IsOspfCandidate, IsRangeOf, all, range}
 use Rattle.ospf_routes.specs.steps.Routing.{IsListenedRoute, ListenedCost}
 use Rattle.ospf_routes.proofs.RangeFacts.{intra_is_candidate, range_cost_active}
@@ -20,7 +29,7 @@ connected_has_none net u p is e (intra_area away _ _) = away is
 connected_has_none net u p is e (discard away _ _ _) = away is
 connected_has_none net u p is e (inter_area away _ _ _) = away is
 
-inter_cost_of : (net : Network) (u : ℕ) (p : Block) (cost : ℕ) → (IsIntraArea net p u → ⊥) → (IsActiveRange net p u → ⊥) → ListenedCost net p u cost →
+pub inter_cost_of : (net : Network) (u : ℕ) (p : Block) (cost : ℕ) → (IsIntraArea net p u → ⊥) → (IsActiveRange net p u → ⊥) → ListenedCost net p u cost →
     InterAreaCost net p u cost
 inter_cost_of net u p cost no_intra no_range costs = record {
   no_intra = no_intra;
@@ -31,7 +40,7 @@ inter_cost_of net u p cost no_intra no_range costs = record {
 }
 
 -- without a route there is no entry
-no_route_no_entry : (net : Network) (u : ℕ) (p : Block) → (IsIntraArea net p u → ⊥) → (IsActiveRange net p u → ⊥) →
+pub no_route_no_entry : (net : Network) (u : ℕ) (p : Block) → (IsIntraArea net p u → ⊥) → (IsActiveRange net p u → ⊥) →
     ((cost : ℕ) → ListenedCost net p u cost → ⊥) → (e : Entry) → OspfEntry net u p e → ⊥
 no_route_no_entry net u p no_intra no_range none e (intra_area _ is _) = no_intra is
 no_route_no_entry net u p no_intra no_range none e (discard _ _ is _) = no_range is
@@ -47,6 +56,30 @@ inter_entries net u p reach zones None away no_intra no_range none = no_route_no
 inter_entries net u p reach zones (Some route) away no_intra no_range is =
     route_by_hops reach zones (length net) (IsListenedRoute net p u) (OspfEntry net u p) route
     (λ hops by. inter_area away by.cost (inter_cost_of net u p by.cost no_intra no_range by.costs) by.hops_are) is
+
+-- what holds of what is asked holds of the network's own
+pub asked_as : (P : Network → List AreaWalks → ℕ → Block → Type 0) (asked : Asked) (net : Network) (areas : List AreaWalks) (u : ℕ) (p : Block) →
+    asked.net.now ≡ net → asked.areas.now ≡ areas → asked.router ≡ u → asked.destination.now.dest ≡ p →
+    P asked.net.now asked.areas.now asked.router asked.destination.now.dest → P net areas u p
+asked_as P asked net areas u p nets lists routers dests is =
+    subst (λ (q : Block). P net areas u q) dests
+    (subst (λ (v : ℕ). P net areas v asked.destination.now.dest) routers
+    (subst (λ (l : List AreaWalks). P net l asked.router asked.destination.now.dest) lists
+    (subst (λ (n : Network). P n asked.areas.now asked.router asked.destination.now.dest) nets is)))
+
+-- Deciding offers
+
+-- the first hops of the route to deciding offers are those of the entry
+pub decided_target : (asked : Asked) (d : Deciding) (found : Option Target) → IsDeciding asked d →
+    (Connected asked.net.now asked.router asked.destination.now.dest → ⊥) →
+    IfSome found (λ t. IsBestRoute d.walks.now d.offers.now d.zone (length asked.net.now) (Towards t)) → IfSome found (IsRouteTowards asked)
+decided_target asked d None decides away none = tt
+decided_target asked d (Some t) decides away is =
+    let net : Network = asked.net.now in
+    let reach : ℕ → Reach = area_reach asked.areas.now asked.router in
+    route_by_hops reach (length asked.areas.now) (length net) (AreBestHops d.walks.now d.offers.now (length net))
+    (OspfEntry net asked.router asked.destination.now.dest) (Towards t) (λ hops best. decides.entry away hops best)
+    (best_route_makes reach (length asked.areas.now) (length net) d.zone d.walks.now d.offers.now (Towards t) decides.zone decides.same is)
 
 -- Every prefix with an entry is a candidate
 

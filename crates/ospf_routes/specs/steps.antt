@@ -11,3 +11,4 @@ pub mod Twins
 pub mod Networks
 pub mod Routing
 pub mod AreaReach
+pub mod Asked

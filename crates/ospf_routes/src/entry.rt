@@ -1,11 +1,11 @@
-ghost use Rattle.std.specs.Prelude.{◌≡◌, ◌<◌, ℕ, length, Contains, IfOk, MatchOption};
-ghost use Rattle.igp_theory.specs.Ospf.{IntraAreaCost, IsActiveRange, IsIntraArea, OspfEntry};
-ghost use Rattle.route_core.specs.declared.entry.Entry.{Entry};
+ghost use Rattle.std.specs.Prelude.{◌≡◌, ◌<◌, ℕ, length, Contains, IfOk, IfSome, IsTrue, MatchOption};
+ghost use Rattle.igp_theory.specs.Ospf.{IntraAreaCost, IsActiveRange, IsIntraArea};
+ghost use Rattle.walk_core.specs.BestOffers.{NoneTotals};
 ghost use Rattle.route_tables.specs.Routings.{ForwardsBy, IsRouteFor};
 ghost use Rattle.ospf_routes.specs.steps.AreaReach.{area_reach};
 ghost use Rattle.ospf_routes.specs.steps.Areas.{AreAreas, IsListenedPlace, IsListenerAt};
+ghost use Rattle.ospf_routes.specs.steps.Asked.{HasNoEntry, IsQuestion, IsDeciding, IsFoundRoute, IsRouteTowards};
 ghost use Rattle.ospf_routes.specs.steps.Destinations.{IsDestinationIn};
-ghost use Rattle.ospf_routes.specs.steps.Ranges.{AreActiveRanges};
 ghost use Rattle.ospf_routes.specs.steps.Routing.{AreAreaRoutes, IsAreaRoute, IsIntraRoute, IsListenedRoute, ListenedCost};
 ghost use Rattle.ospf_routes.specs.steps.Summarized.{AreSummaries};
 
@@ -17,42 +17,204 @@ use crate::ranges::ActiveRanges;
 use crate::united::united_some;
 use net_model::Net;
 use route_core::Hops;
-use route_tables::{Route, best_hops, best_route, push_option};
+use route_tables::{Route, Target, best_hops, best_route, best_target, push_option};
 use std::alloc::Global;
+use walk_core::{LeastWalks, Offer};
 
-/// The route of router `u` for a prefix: the intra-area route, else a discard of an active range, else
-/// the inter-area route (RFC 2328, sections 11.1 and 16). There is none for a connected prefix.
-pub fn route_of(
-    alloc: Global,
-    net: &Net,
-    areas: &[AreaWalks],
-    listens: Option<usize>,
-    ranges: &ActiveRanges,
-    destination: &Destination,
-    summaries: &Summaries,
-    u: u32,
-) -> Result<Option<Route>, OutOfMemory>
-    requires router { u < length net.now }
-    requires areas { AreAreas net.now areas.now }
-    requires listens { IsListenerAt net.now areas.now u listens }
-    requires ranges { AreActiveRanges net.now u ranges.now }
-    requires destination { IsDestinationIn net.now areas.now destination.now }
-    requires summaries { AreSummaries net.now areas.now summaries.now }
-    requires dest { summaries.now.dest ≡ destination.now.dest }
-    ensures { IfOk result (λ found. MatchOption found
-        ((e : Entry) → OspfEntry net.now u destination.now.dest e → ⊥)
-        (IsRouteFor (area_reach areas.now u) (length areas.now) (length net.now) (OspfEntry net.now u destination.now.dest))) }
+/// A router and a prefix whose route is asked for, with what is known of both.
+#[derive(Clone, Copy, Debug)]
+pub struct Asked<'a> {
+    /// The network.
+    pub net: &'a Net,
+    /// Its areas.
+    pub areas: &'a [AreaWalks],
+    /// The router.
+    pub router: u32,
+    /// The place of the area that the router listens to.
+    pub listens: Option<usize>,
+    /// The active ranges of the router.
+    pub ranges: &'a ActiveRanges,
+    /// The prefix, with what the interfaces of each area offer of it.
+    pub destination: &'a Destination,
+    /// What border routers announce of the prefix.
+    pub summaries: &'a Summaries,
+}
+
+/// Offers of a prefix that decide a router's route, with the least walks that they are reached over.
+#[derive(Clone, Copy, Debug)]
+struct Deciding<'a> {
+    walks: &'a LeastWalks,
+    zone: usize,
+    offers: &'a [Offer],
+}
+
+/// Where the route leads, where that is known at once: where one area alone offers the prefix and the router is in it, or
+/// isn't and has no active range of the prefix.
+pub fn target_of(asked: Asked) -> Option<Target>
+    requires { IsQuestion asked }
+    ensures { IfSome result (IsRouteTowards asked.entry) }
 {
+    match decided_by(asked) {
+        Some(deciding) => target_by(asked, deciding),
+        None => None,
+    }
+}
+
+/// Where the route to the best of the offers that decide it leads.
+fn target_by(asked: Asked, deciding: Deciding) -> Option<Target>
+    requires asked { IsQuestion asked }
+    requires decides { IsDeciding asked deciding }
+    ensures { IfSome result (IsRouteTowards asked.entry) }
+{
+    if deciding.offers.is_empty() || asked.destination.is_home(asked.router) {
+        return None;
+    }
+    best_target(deciding.walks, deciding.zone, deciding.offers)
+}
+
+/// The offers that decide the route, where one area alone offers the prefix.
+fn decided_by(asked: Asked<'_>) -> Option<Deciding<'_>>
+    requires { IsQuestion asked }
+    ensures { IfSome result (IsDeciding asked.entry) }
+{
+    if asked.destination.parts.len() == 1 {
+        return decided_in(asked, &asked.destination.parts[0]);
+    }
+    None
+}
+
+/// The offers that decide the route of a prefix that one area alone offers.
+fn decided_in<'a>(asked: Asked<'a>, part: &'a AreaOffers) -> Option<Deciding<'a>>
+    requires asked { IsQuestion asked }
+    requires one { length asked.destination.now.parts.items ≡ 1 }
+    requires part { Contains asked.destination.now.parts.items part.now }
+    ensures { IfSome result (IsDeciding asked.entry) }
+{
+    match part_reach(
+        asked.net,
+        asked.areas,
+        asked.destination,
+        part,
+        asked.router,
+    ) {
+        Some(walks) => {
+            let offers = part.offers.as_slice();
+            Some(Deciding {
+                walks,
+                zone: part.zone,
+                offers,
+            })
+        }
+        None => listened(asked),
+    }
+}
+
+/// The summaries that decide the route of a prefix without an intra-area route, where it is no active range.
+fn listened(asked: Asked<'_>) -> Option<Deciding<'_>>
+    requires asked { IsQuestion asked }
+    requires no_intra { IsIntraArea asked.net.now asked.destination.now.dest asked.router → ⊥ }
+    ensures some { IfSome result (IsDeciding asked.entry) }
+    ensures none { IfSome result (λ d. NoneTotals d.walks.now d.offers.now → HasNoEntry asked.entry) }
+{
+    if asked.ranges.contains(asked.destination.dest) {
+        return None;
+    }
+    match asked.listens {
+        Some(zone) => Some(listened_at(asked, zone)),
+        None => None,
+    }
+}
+
+/// The summaries into the area at this place, to which the router listens.
+fn listened_at(asked: Asked<'_>, zone: usize) -> Deciding<'_>
+    requires asked { IsQuestion asked }
+    requires listens { IsListenedPlace asked.net.now asked.areas.now asked.router zone }
+    requires no_intra { IsIntraArea asked.net.now asked.destination.now.dest asked.router → ⊥ }
+    requires no_range { IsActiveRange asked.net.now asked.destination.now.dest asked.router → ⊥ }
+    ensures some { IsDeciding asked.entry result }
+    ensures none { NoneTotals result.walks.now result.offers.now → HasNoEntry asked.entry }
+{
+    let walks = zone_reach(asked.net, asked.areas, zone, asked.router);
+    let offers = asked.summaries.parts[zone].offers.as_slice();
+    Deciding {
+        walks,
+        zone,
+        offers,
+    }
+}
+
+/// The route of a router for a prefix; that there is none is mostly known at once.
+pub fn route_of(alloc: Global, asked: Asked) -> Result<Option<Route>, OutOfMemory>
+    requires { IsQuestion asked }
+    ensures { IfOk result (IsFoundRoute asked.entry) }
+{
+    if is_unheard(asked) {
+        return Ok(None);
+    }
+    full_route(alloc, asked)
+}
+
+/// Whether it is known at once that there is no route: one area alone offers the prefix, in which the router isn't, and
+/// nothing is announced of it where the router listens.
+fn is_unheard(asked: Asked) -> bool
+    requires { IsQuestion asked }
+    ensures { IsTrue result → HasNoEntry asked.entry }
+{
+    if asked.destination.parts.len() == 1 {
+        return is_unheard_outside(asked, &asked.destination.parts[0]);
+    }
+    false
+}
+
+/// Whether it is known at once that there is no route for a prefix that one area alone offers.
+fn is_unheard_outside(asked: Asked, part: &AreaOffers) -> bool
+    requires asked { IsQuestion asked }
+    requires one { length asked.destination.now.parts.items ≡ 1 }
+    requires part { Contains asked.destination.now.parts.items part.now }
+    ensures { IsTrue result → HasNoEntry asked.entry }
+{
+    match part_reach(
+        asked.net,
+        asked.areas,
+        asked.destination,
+        part,
+        asked.router,
+    ) {
+        Some(_) => false,
+        None => hears_nothing(asked),
+    }
+}
+
+/// Whether nothing is announced of a prefix without an intra-area route, where it is no active range.
+fn hears_nothing(asked: Asked) -> bool
+    requires asked { IsQuestion asked }
+    requires no_intra { IsIntraArea asked.net.now asked.destination.now.dest asked.router → ⊥ }
+    ensures { IsTrue result → HasNoEntry asked.entry }
+{
+    match listened(asked) {
+        Some(deciding) => deciding.offers.is_empty(),
+        None => false,
+    }
+}
+
+/// The route of a router for a prefix: the intra-area route, else a discard of an active range, else
+/// the inter-area route (RFC 2328, sections 11.1 and 16). There is none for a connected prefix.
+#[inline(never)]
+fn full_route(alloc: Global, asked: Asked) -> Result<Option<Route>, OutOfMemory>
+    requires { IsQuestion asked }
+    ensures { IfOk result (IsFoundRoute asked.entry) }
+{
+    let (net, areas, destination, u) = (asked.net, asked.areas, asked.destination, asked.router);
     if destination.is_home(u) {
         return Ok(None);
     }
     if let Some(route) = intra_route(alloc, net, areas, destination, u)? {
         return Ok(Some(route));
     }
-    if ranges.contains(destination.dest) {
+    if asked.ranges.contains(destination.dest) {
         return Ok(Some(Route::Drops));
     }
-    inter_route(alloc, net, areas, listens, summaries, u)
+    inter_route(alloc, net, areas, asked.listens, asked.summaries, u)
 }
 
 /// The intra-area route, of all areas that the router is in (RFC 2328, section 16.1). Mostly one area alone offers a

@@ -13,7 +13,8 @@
 //!    areas, into every other area these too, and what border routers reach over the backbone (`backbone_routes.rt`, costs
 //!    alone, 16.2) and the defaults of stub areas (`stub_areas.rt`, 3.6).
 //! 4. `entry.rt`: the intra-area route, else a discard, else the inter-area route (16, 11.1), for which `listened_route` reads
-//!    the `Summaries`; `united.rt`: several areas' hops together.
+//!    the `Summaries`; `united.rt`: several areas' hops together. Where one area at most offers a prefix, `target_of` tells at
+//!    once where the route leads: to the best of the offers that decide it, of that area or of what the router listens to.
 //!
 //! `twins.rt` finds prefixes that have the same routes at every router, by what is offered and announced of them. Steps 1
 //! to 3 take time of prefixes times border routers and areas; step 4 of routers times prefixes times the offers of a prefix

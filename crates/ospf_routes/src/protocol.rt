@@ -1,5 +1,8 @@
-ghost use Rattle.std.specs.Prelude.{◌≡◌, length, IfOk};
+ghost use Rattle.std.specs.Prelude.{◌≡◌, ◌<◌, length, IfOk};
+ghost use Rattle.route_tables.specs.Prefixes.{prefix_at};
 ghost use Rattle.net_model.specs.Network.{IsBorderRouter};
+ghost use Rattle.ospf_routes.specs.steps.Asked.{IsQuestion};
+ghost use Rattle.ospf_routes.specs.steps.Destinations.{ospf_prefixes};
 ghost use Rattle.ospf_routes.specs.steps.Domain.{IsOspfDomain};
 ghost use Rattle.ospf_routes.specs.Lists.{Exactly};
 ghost use Rattle.ospf_routes.specs.steps.Ranges.{AreRangesBelow};
@@ -9,13 +12,13 @@ use crate::OutOfMemory;
 use crate::announcements::Summaries;
 use crate::areas::{all_listens, border_routers};
 use crate::domain::Domain;
-use crate::entry::route_of;
+use crate::entry::{Asked, route_of, target_of};
 use crate::ranges::{ActiveRanges, all_ranges};
 use crate::segments::segments_of_areas;
 use crate::twins::all_twins;
 use net_addr::Prefix;
 use net_model::Net;
-use route_tables::{Protocol, Route};
+use route_tables::{Protocol, Route, Target};
 use std::alloc::Global;
 use std::marker::Model;
 use walk_core::{LeastWalks, Segment};
@@ -64,6 +67,33 @@ impl<'a> Ospf<'a> {
             twins,
         })
     }
+
+    /// What is known of a router and of the prefix at a place.
+    #[inline(always)]
+    fn asked(&self, place: usize, router: u32) -> Asked<'_>
+        requires place { place < length (ospf_prefixes self.now.domain.destinations.items) }
+        requires router { router < length self.now.net }
+        ensures asked { IsQuestion result }
+        ensures net { result.net.now ≡ self.now.net }
+        ensures areas { result.areas.now ≡ self.now.domain.areas.items }
+        ensures router { result.router ≡ router }
+        ensures dest { result.destination.now.dest ≡ prefix_at (ospf_prefixes self.now.domain.destinations.items) place }
+    {
+        let areas = self.domain.areas.as_slice();
+        let listens = self.listens[router as usize];
+        let ranges = &self.ranges[router as usize];
+        let destination = &self.domain.destinations[place];
+        let summaries = &self.summaries[place];
+        Asked {
+            net: self.net,
+            areas,
+            router,
+            listens,
+            ranges,
+            destination,
+            summaries,
+        }
+    }
 }
 
 impl<'a> Protocol for Ospf<'a> {
@@ -101,27 +131,17 @@ impl<'a> Protocol for Ospf<'a> {
         self.twins[place]
     }
 
+    fn target(&self, place: usize, router: u32) -> Option<Target> {
+        target_of(self.asked(place, router))
+    }
+
     fn route(
         &self,
         alloc: Global,
         place: usize,
         router: u32,
     ) -> Result<Option<Route>, OutOfMemory> {
-        let areas = self.domain.areas.as_slice();
-        let listens = self.listens[router as usize];
-        let ranges = &self.ranges[router as usize];
-        let destination = &self.domain.destinations[place];
-        let summaries = &self.summaries[place];
-        route_of(
-            alloc,
-            self.net,
-            areas,
-            listens,
-            ranges,
-            destination,
-            summaries,
-            router,
-        )
+        route_of(alloc, self.asked(place, router))
     }
 
     fn walks(&self, router: u32, zone: usize) -> &LeastWalks {

@@ -1,0 +1,19 @@
+use Rattle.std.proofs.Common.{ℕ}
+use Rattle.std.proofs.lemmas.Bool.{false≢true}
+use Rattle.std.proofs.lemmas.Option.{MatchOption-at_some}
+use Rattle.igp_theory.specs.Ospf.{ListensTo}
+use Rattle.ospf_routes.specs.steps.Areas.{IsListenedPlace}
+use Rattle.ospf_routes.proofs.RangeFacts.{active_range_is}
+use Rattle.ospf_routes.proofs.entry.listened.Goals as goal
+
+pub listened_at-requires-clause-listens : goal.listened_at-requires-clause-listens
+listened_at-requires-clause-listens c =
+    let asked = c.args.asked in
+    MatchOption-at_some ((n : ℕ) → ListensTo asked.net.now asked.router n → ⊥) (IsListenedPlace asked.net.now asked.areas.now asked.router)
+    c.in-Some.zone c.in-Some.is c.requires.asked.listens
+
+pub listened_at-requires-clause-no_range : goal.listened_at-requires-clause-no_range
+listened_at-requires-clause-no_range c =
+    let asked = c.args.asked in
+    λ is. false≢true (c.if-contains.ensures.1 ((active_range_is asked.net.now asked.router asked.destination.now.dest asked.ranges.now
+    c.requires.asked.ranges).1 is))
