@@ -57,28 +57,24 @@ kept_more prefixes next numbers a found is short = record {
       (Contains-push_cases prefixes next q has);
 }
 
--- a prefix that contains the address is kept where it is longer
-kept_in : (prefixes : List Block) (next : Block) (numbers : ℕ → ℕ) (a : ℕ) (found new r : Longest) → IsKept prefixes numbers a found
-    → ContainsAddress next a → numbers (length prefixes) ≡ new.number → next.len + 1 ≡ new.size → (found.size < new.size → r ≡ new)
-    → (new.size ≤ found.size → r ≡ found) → IsKept (prefixes ++ next ∷ []) numbers a r
-kept_in prefixes next numbers a found new r is inside number size longer earlier = ⊎_elim
-    (λ (l : found.size < new.size). subst (IsKept (prefixes ++ next ∷ []) numbers a) (sym (longer l)) (record {
-      there = inr (record {
-        place = length prefixes;
-        prefix = next;
-        stands = slice_get-push_new prefixes next;
-        contains = inside;
-        size_is = size;
-        number_is = number;
-      });
-      covers = λ q has in_q. ⊎_elim
-          (λ before. let short : q.len < found.size = is.covers q before in_q in omega arith)
-          (λ same. subst (λ (s : Block). s.len < new.size) same (let short : next.len < new.size = omega arith in short))
-          (Contains-push_cases prefixes next q has);
-    }))
-    (λ (l : new.size ≤ found.size). subst (IsKept (prefixes ++ next ∷ []) numbers a) (sym (earlier l))
-    (kept_more prefixes next numbers a found is (λ _. let short : next.len < found.size = omega arith in short)))
-    (cases_lt found.size new.size)
+-- a longer prefix that contains the address is kept
+kept_longer : (prefixes : List Block) (next : Block) (numbers : ℕ → ℕ) (a : ℕ) (found new : Longest) → IsKept prefixes numbers a found
+    → ContainsAddress next a → numbers (length prefixes) ≡ new.number → next.len + 1 ≡ new.size → found.size < new.size
+    → IsKept (prefixes ++ next ∷ []) numbers a new
+kept_longer prefixes next numbers a found new is inside number size less = record {
+  there = inr (record {
+    place = length prefixes;
+    prefix = next;
+    stands = slice_get-push_new prefixes next;
+    contains = inside;
+    size_is = size;
+    number_is = number;
+  });
+  covers = λ q has in_q. ⊎_elim
+      (λ before. let short : q.len < found.size = is.covers q before in_q in omega arith)
+      (λ same. subst (λ (s : Block). s.len < new.size) same (let short : next.len < new.size = omega arith in short))
+      (Contains-push_cases prefixes next q has);
+}
 
 -- prefixes by their numbers, the next one, and the addresses that they are found for
 pub record Painting : Type 0 where
@@ -130,25 +126,33 @@ painted_all p found i block up painted past = record {
       (cases_lt j i);
 }
 
--- the next address of the prefix gets the longer one
-pub painted_more : (p : Painting) (found : List Longest) (i : ℕ) (new r : Longest) → IsBlock p.next → Painted p found i → i < length p.addresses
+-- the next address of the prefix gets it where it is longer
+pub painted_more : (p : Painting) (found after : List Longest) (i : ℕ) (new : Longest) → IsBlock p.next → Painted p found i → i < length p.addresses
     → get_or p.addresses i 0 ≤ last_address p.next → p.numbers (length p.prefixes) ≡ new.number → p.next.len + 1 ≡ new.size
-    → ((get_or found i nothing).size < new.size → r ≡ new) → (new.size ≤ (get_or found i nothing).size → r ≡ get_or found i nothing)
-    → Painted p (set found i r) (i + 1)
-painted_more p found i new r block painted within low number size longer earlier = record {
-  count = length-set found i r ∙ painted.count;
-  low = λ j l m. painted.low j (omega arith) m;
-  done = below_more (λ (j : ℕ). j < length p.addresses → IsDone p (set found i r) j) i
-      (λ j l m. subst (IsKept (p.prefixes ++ p.next ∷ []) p.numbers (get_or p.addresses j 0)) (other j (omega arith)) (painted.done j l m))
-      (λ m. subst (IsKept (p.prefixes ++ p.next ∷ []) p.numbers (get_or p.addresses i 0)) (sym
-      (get_or-set_same found i r nothing (let in' : i < length found = omega (arith, painted.count) in in')))
-      (kept_in p.prefixes p.next p.numbers (get_or p.addresses i 0) (get_or found i nothing) new r (painted.rest i (omega arith) within)
-      (contains_between p.next (get_or p.addresses i 0) block (painted.low i (omega arith) within) low) number size longer earlier));
-  rest = λ j l m. subst (IsKept p.prefixes p.numbers (get_or p.addresses j 0)) (other j (omega arith)) (painted.rest j (omega arith) m);
-}
+    → ((get_or found i nothing).size < new.size → after ≡ set found i new) → (new.size ≤ (get_or found i nothing).size → after ≡ found)
+    → Painted p after (i + 1)
+painted_more p found after i new block painted within low number size longer earlier = ⊎_elim
+    (λ (l : (get_or found i nothing).size < new.size). subst (λ (f : List Longest). Painted p f (i + 1)) (sym (longer l))
+    (one_more (set found i new) (length-set found i new) (λ j apart. sym (get_or-set_other found i j new nothing apart))
+    (subst (IsKept (p.prefixes ++ p.next ∷ []) p.numbers (get_or p.addresses i 0))
+    (sym (get_or-set_same found i new nothing (let in' : i < length found = omega (arith, painted.count) in in')))
+    (kept_longer p.prefixes p.next p.numbers (get_or p.addresses i 0) (get_or found i nothing) new (painted.rest i (omega arith) within)
+    (contains_between p.next (get_or p.addresses i 0) block (painted.low i (omega arith) within) low) number size l))))
+    (λ (l : new.size ≤ (get_or found i nothing).size). subst (λ (f : List Longest). Painted p f (i + 1)) (sym (earlier l))
+    (one_more found refl (λ j apart. refl)
+    (kept_more p.prefixes p.next p.numbers (get_or p.addresses i 0) (get_or found i nothing)
+    (painted.rest i (omega arith) within) (λ _. omega (arith, size, l)))))
+    (cases_lt (get_or found i nothing).size new.size)
   where
-    other : (j : ℕ) → j ≢ i → get_or found j nothing ≡ get_or (set found i r) j nothing
-    other j apart = sym (get_or-set_other found i j r nothing apart)
+    one_more : (f : List Longest) → length f ≡ length found → ((j : ℕ) → j ≢ i → get_or found j nothing ≡ get_or f j nothing) → IsDone p f i
+        → Painted p f (i + 1)
+    one_more f count other here = record {
+      count = count ∙ painted.count;
+      low = λ j l m. painted.low j (omega arith) m;
+      done = below_more (λ (j : ℕ). j < length p.addresses → IsDone p f j) i
+          (λ j l m. subst (IsKept (p.prefixes ++ p.next ∷ []) p.numbers (get_or p.addresses j 0)) (other j (omega arith)) (painted.done j l m)) (λ _. here);
+      rest = λ j l m. subst (IsKept p.prefixes p.numbers (get_or p.addresses j 0)) (other j (omega arith)) (painted.rest j (omega arith) m);
+    }
 
 -- what is kept under its place gives the key
 key_kept : (prefixes : List Block) (a : ℕ) (found : Longest) → IsKept prefixes (λ place. place) a found

@@ -1,4 +1,4 @@
-ghost use Rattle.std.specs.Prelude.{◌≡◌, ◌+◌, ◌<◌, ◌≤◌, All, OnOk, length, replicate};
+ghost use Rattle.std.specs.Prelude.{◌≡◌, ◌<◌, ◌≤◌, All, OnOk, length, replicate, slice_index_or, slice_set};
 ghost use Rattle.std.specs.List.Sorted.{IsStrictlyIncreasing};
 ghost use Rattle.net_addr.specs.Addresses.{IsBlock};
 ghost use Rattle.route_core.specs.Rows.{row_prefixes};
@@ -21,24 +21,11 @@ pub struct Longest {
 /// No prefix is found.
 pub const NOTHING: Longest = Longest { number: 0, size: 0 };
 
-impl Longest {
-    /// The longer of this one and an earlier one, and the earlier one where they are as long.
-    fn or_longer(self, earlier: Longest) -> Longest
-        ensures longer { earlier.size < self.size → result ≡ self }
-        ensures earlier { self.size ≤ earlier.size → result ≡ earlier }
-    {
-        if self.size <= earlier.size {
-            earlier
-        } else {
-            self
-        }
-    }
-}
-
 /// Finds for each of some ascending addresses the longest of the prefixes, and keeps it under its place.
 ///
 /// The addresses of one prefix stand side by side. Where the prefixes ascend too, most of them begin where the one
-/// before ends, and the whole takes time of the prefixes and of the addresses in each.
+/// before ends, and the whole takes time of the prefixes and of the addresses in each. 2^32 prefixes or more give
+/// `OutOfMemory`.
 pub fn longest_in_prefixes(
     prefixes: &[Prefix],
     addresses: &[u32],
@@ -105,7 +92,22 @@ fn take_row(row: Row, addresses: &[u32], near: usize, found: &mut Vec<Longest>) 
         if addresses[i] > last {
             return i;
         }
-        found[i] = next.or_longer(found[i]);
+        keep_longer(found, i, next);
     }
     addresses.len()
+}
+
+/// Keeps the next one at a place where it is longer than the one there.
+#[inline(always)]
+fn keep_longer(found: &mut Vec<Longest>, place: usize, next: Longest)
+    requires { place < length found.old.items }
+    ensures longer { (slice_index_or found.old.items place nothing).size < next.size → found.new.items ≡ slice_set found.old.items place next }
+    ensures earlier { next.size ≤ (slice_index_or found.old.items place nothing).size → found.new.items ≡ found.old.items }
+    ensures count { length found.new.items ≡ length found.old.items }
+{
+    if found[place].size < next.size {
+        let kept = &mut found[place];
+        kept.number = next.number;
+        kept.size = next.size;
+    }
 }

@@ -214,7 +214,7 @@ use_of_best s phase way best lawful h = elim h.there [
 -- what is found says what is used in each phase
 pub cell_found : (s : Site) (ospf : ℕ) (found : Found) (cell : Cell) → IsLawfulSite s → HasOspfDistance s.net s.u ospf → AreFound s found
     → IsCellOf found ospf cell → IsCell s cell
-cell_found s ospf found cell lawful at are is = subst (IsCell s) (sym is.cell_is) by_phase
+cell_found s ospf found cell lawful at are is = subst (IsCell s) (sym is.between.cell_is) by_phase
   where
     old : Used
     old = use_of used.Old is.best_old
@@ -234,21 +234,21 @@ cell_found s ospf found cell lawful at are is = subst (IsCell s) (sym is.cell_is
         (better_best s (Only s New IsConnected) (Only s New IsEntry) used.New (connected_of found.connected) (entry_of 115 found.new) is.best_new
         is.is_new (connected_covers s New used.New found are) (new_covers s found lawful are))
 
-    best_middle : IsBest s (CountsAt s Middle) (if is.middle_is_new then new else old) (if is.middle_is_new then is.best_new else is.best_old)
+    best_middle : IsBest s (CountsAt s Middle) (if is.between.middle_is_new then new else old) (if is.between.middle_is_new then is.best_new else is.best_old)
     best_middle =
-        best_along s (Either (CountsAt s Old) (CountsAt s New)) (CountsAt s Middle) (if is.middle_is_new then new else old)
-        (if is.middle_is_new then is.best_new else is.best_old)
+        best_along s (Either (CountsAt s Old) (CountsAt s New)) (CountsAt s Middle) (if is.between.middle_is_new then new else old)
+        (if is.between.middle_is_new then is.best_new else is.best_old)
         (λ q d x either. elim either [ inl one ↦ old_in_middle s q d x one | inr two ↦ new_in_middle s q d x two ]) (at_an_end s)
-        (leading_best s (CountsAt s Old) (CountsAt s New) old new is.best_old is.best_new is.middle_is_new is.middle best_old best_new)
+        (leading_best s (CountsAt s Old) (CountsAt s New) old new is.best_old is.best_new is.between.middle_is_new is.between.middle best_old best_new)
 
     by_phase : (phase : Phase) → IsUse s phase (use_in (record {
       old_entry = is.best_old.number;
       new_entry = is.best_new.number;
       old = is.best_old.choice;
       new = is.best_new.choice;
-      middle_is_new = is.middle_is_new;
+      middle_is_new = is.between.middle_is_new;
     }) phase)
     by_phase Old = use_of_best s Old old is.best_old lawful best_old
     by_phase Middle =
-        use_of_best s Middle (if is.middle_is_new then new else old) (if is.middle_is_new then is.best_new else is.best_old) lawful best_middle
+        use_of_best s Middle (if is.between.middle_is_new then new else old) (if is.between.middle_is_new then is.best_new else is.best_old) lawful best_middle
     by_phase New = use_of_best s New new is.best_new lawful best_new

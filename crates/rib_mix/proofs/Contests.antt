@@ -58,7 +58,7 @@ covers_along b c len distance over under =
     let within : len < c.size = under.0 in (
       omega arith,
       λ same.
-          let near : b.distance ≤ c.distance = over.1 (omega arith) in
+          let near : b.distance ≤ c.distance = over.1 (omega arith) (omega arith) in
           let far : c.distance ≤ distance = under.1 (omega arith) in
           omega arith,
     )

@@ -41,22 +41,19 @@ use_in cell phase.New = new_use cell
 abbrev pub use_of : (ℕ → Used) → Candidate → Used
 use_of table c = chosen_use table c.choice c.number
 
--- what a router with this OSPF distance uses in each phase, of what is found: at each end what the best candidate says, and in
--- Middle what the better of the two says
+-- what a router uses in each phase whose best candidates in Old and in New are these: in Middle what the better of the two says
+pub record IsCellBetween (old new : Candidate) (cell : Cell) : Type 0 where
+  pub middle_is_new : Bool
+  pub middle : SecondLeads middle_is_new old new
+  pub cell_is : cell ≡ record { old_entry = old.number; new_entry = new.number; old = old.choice; new = new.choice; middle_is_new = middle_is_new }
+
+-- what a router with this OSPF distance uses in each phase, of what is found: at each end what the best candidate says
 pub record IsCellOf (found : Found) (ospf : ℕ) (cell : Cell) : Type 0 where
   pub best_old : Candidate
   pub best_new : Candidate
   pub is_old : IsBetter (connected_of found.connected) (old_of ospf found.old) best_old
   pub is_new : IsBetter (connected_of found.connected) (entry_of ISIS_DISTANCE found.new) best_new
-  pub middle_is_new : Bool
-  pub middle : SecondLeads middle_is_new best_old best_new
-  pub cell_is : cell ≡ record {
-    old_entry = best_old.number;
-    new_entry = best_new.number;
-    old = best_old.choice;
-    new = best_new.choice;
-    middle_is_new = middle_is_new;
-  }
+  pub between : IsCellBetween best_old best_new cell
 
 -- what is used is within the entries that the tables keep
 abbrev pub IsKeptUse : List Entry → List Entry → Used → Type 0

@@ -1,14 +1,14 @@
 ghost use Rattle.std.specs.Prelude.{◌≡◌};
 ghost use Rattle.igp_theory.specs.declared.phase.Phase.TheVariants.{Middle};
-ghost use Rattle.rib_mix.specs.Cells.{IsCellOf, new_use, old_use, use_in};
+ghost use Rattle.rib_mix.specs.Cells.{IsCellBetween, IsCellOf, new_use, old_use, use_in};
 
 use crate::candidate::{
-    Choice, better, connected_candidate, entry_candidate, is_better, old_candidate,
+    Candidate, Choice, better, connected_candidate, entry_candidate, is_better, old_candidate,
 };
 use crate::found::Found;
 use crate::used::Used;
 use igp_theory::Phase;
-use net_model::ISIS_DISTANCE;
+use net_model::{ISIS_DISTANCE, MOST_DISTANCE};
 
 /// What a router uses for an address in each phase. It has 12 bytes, since there is one for each router and class.
 #[derive(Clone, Copy, Debug, PartialEq, Eq)]
@@ -71,18 +71,40 @@ impl Cell {
     }
 }
 
-/// What a router with this OSPF distance uses in each phase, of what is found for an address.
+/// What a router with this OSPF distance uses in each phase, of what is found for an address. Mostly no connected prefix is.
+#[inline(always)]
 pub fn cell_of(found: Found, ospf: u8) -> Cell
+    ensures { IsCellOf found ospf result }
+{
+    if found.connected.size == 0 && ospf != MOST_DISTANCE {
+        let old = entry_candidate(found.old, ospf);
+        let new = entry_candidate(found.new, ISIS_DISTANCE);
+        return cell_between(old, new);
+    }
+    cell_of_three(found, ospf)
+}
+
+/// The same, where a connected prefix may be the best, or the old table may not count.
+#[inline(never)]
+fn cell_of_three(found: Found, ospf: u8) -> Cell
     ensures { IsCellOf found ospf result }
 {
     let connected = connected_candidate(found.connected);
     let best_old = better(connected, old_candidate(found.old, ospf));
     let best_new = better(connected, entry_candidate(found.new, ISIS_DISTANCE));
+    cell_between(best_old, best_new)
+}
+
+/// What a router uses whose best candidates in Old and in New are these.
+#[inline(always)]
+fn cell_between(old: Candidate, new: Candidate) -> Cell
+    ensures { IsCellBetween old new result }
+{
     Cell {
-        old_entry: best_old.number,
-        new_entry: best_new.number,
-        old: best_old.choice,
-        new: best_new.choice,
-        middle_is_new: is_better(best_old, best_new),
+        old_entry: old.number,
+        new_entry: new.number,
+        old: old.choice,
+        new: new.choice,
+        middle_is_new: is_better(old, new),
     }
 }

@@ -1,5 +1,5 @@
 -- Candidates for the used entry, and the better of two.
-use Rattle.std.specs.Prelude.{◌≡◌, ℕ, ◌≤◌, ◌==◌, Bool, true, false, if◌then◌else◌}
+use Rattle.std.specs.Prelude.{◌≡◌, ℕ, ◌<◌, ◌≤◌, ◌==◌, Bool, true, false, if◌then◌else◌}
 use Rattle.net_model.specs.declared.bounds.TheConstants.{MOST_DISTANCE}
 use Rattle.prefix_atoms.specs.Longest.{nothing}
 use Rattle.prefix_atoms.specs.declared.longest.Longest.{Longest}
@@ -23,9 +23,9 @@ entry_of distance found = record { size = found.size; distance = distance; choic
 abbrev pub old_of : ℕ → Longest → Candidate
 old_of ospf found = if ospf == MOST_DISTANCE then entry_of ospf nothing else entry_of ospf found
 
--- the best is no worse than this candidate: it is longer, or as long and no farther
+-- the best is no worse than this candidate: it is longer, or as long and no farther, unless both are nothing
 abbrev pub NoWorse : Candidate → Candidate → Type 0
-NoWorse best c = (c.size ≤ best.size) × (c.size ≡ best.size → best.distance ≤ c.distance)
+NoWorse best c = (c.size ≤ best.size) × (0 < c.size → c.size ≡ best.size → best.distance ≤ c.distance)
 
 -- whether the second candidate leads: the one that leads is no worse
 abbrev pub SecondLeads : Bool → Candidate → Candidate → Type 0
