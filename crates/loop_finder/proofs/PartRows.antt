@@ -18,13 +18,12 @@ use Rattle.igp_theory.proofs.LoopLaws.{old_or_new_step}
 use Rattle.igp_theory.proofs.SameTables.{follows_over}
 use Rattle.order_core.specs.Marks.{IsMarked}
 use Rattle.rib_mix.specs.Answers.{IsAlikeAt}
-use Rattle.loop_finder.specs.steps.Ends.{AreNoHops, EndStep, MovesAtEnds, hops_at}
-use Rattle.loop_finder.specs.steps.Making.{IsHopsOf, IsMaking, IsRead, IsReadAt, IsSameAt, ends_of}
+use Rattle.loop_finder.specs.steps.Ends.{ReadHops, AreNoHops, EndStep, HasBothSteps, ends_of, hops_at}
+use Rattle.loop_finder.specs.steps.Making.{IsHopsOf, IsMaking, IsRead, IsReadAt, IsSameAt}
 use Rattle.loop_finder.specs.steps.PartRows.{AreKept, HasHops, HasMarked, HaveHops, IsRowOf, AreFirstRows}
 use Rattle.loop_finder.specs.Parts.{PhaseHops, hops_of, no_hops, StepsOf, StepsEver, HasStepOf, AllMove, HaveReturning, IsPart, AreAllBut, AddsUnless}
 use Rattle.loop_finder.specs.Returns.{MarksAgain, MarksReturns}
 use Rattle.loop_finder.specs.ClassSteps.{sample_of, Mix, migration_in}
-use Rattle.loop_finder.specs.declared.end_lists.EndLists.{EndLists}
 use Rattle.loop_finder.specs.declared.parts.Making.{Making}
 use Rattle.loop_finder.proofs.ClassFacts.{steps_to_those}
 use Rattle.loop_finder.proofs.ClassVerdicts.{one_target}
@@ -49,14 +48,14 @@ none_in f a n bare = record {
     at u = subst (λ (hops : List ℕ). get_or (map f (replicate n a)) u hops ≡ hops) bare (get_or-map f (replicate n a) u a ∙ ap f (same u))
 
 -- what was read of a router is so where the same was read
-pub read_same : (m : Mix) (atom : ℕ) (one other : EndLists) (u : ℕ) → IsReadAt m atom one u → IsSameAt one other u → IsReadAt m atom other u
+pub read_same : (m : Mix) (atom : ℕ) (one other : ReadHops) (u : ℕ) → IsReadAt m atom one u → IsSameAt one other u → IsReadAt m atom other u
 read_same m atom one other u read same = record {
   olds = subst (IsHopsOf m atom u Old) same.olds read.olds;
   news = subst (IsHopsOf m atom u New) same.news read.news;
 }
 
 -- and for a class for whose packets the router does the same
-pub read_alike : (m : Mix) (atom other : ℕ) (lists : EndLists) (u : ℕ) → IsReadAt m atom lists u → IsAlikeAt (migration_in m) m.classes u atom other
+pub read_alike : (m : Mix) (atom other : ℕ) (lists : ReadHops) (u : ℕ) → IsReadAt m atom lists u → IsAlikeAt (migration_in m) m.classes u atom other
     → IsReadAt m other lists u
 read_alike m atom other lists u read alike = record {
   olds = record { next = read.olds.next; is = (alike Old read.olds.next).0 read.olds.is; leads = read.olds.leads };
@@ -64,18 +63,18 @@ read_alike m atom other lists u read alike = record {
 }
 
 -- what was read of the class that is known
-pub known_class : (m : Mix) (known : Option ℕ) (lists : EndLists)
+pub known_class : (m : Mix) (known : Option ℕ) (lists : ReadHops)
     → IfSome known (λ other. IsRead m other lists) → IfSome known (λ other. other < length m.classes.samples)
 known_class m None lists is = tt
 known_class m (Some other) lists is = is.class
 
-pub known_at : (m : Mix) (known : Option ℕ) (one other : EndLists) (u : ℕ)
+pub known_at : (m : Mix) (known : Option ℕ) (one other : ReadHops) (u : ℕ)
     → IfSome known (λ k. IsRead m k one) → u < length m.net → IsSameAt one other u → IfSome known (λ k. IsReadAt m k other u)
 known_at m None one other u is within same = tt
 known_at m (Some k) one other u is within same = read_same m k one other u (is.each u within) same
 
 -- the same was read of a router twice
-pub same_twice : (one other third : EndLists) (u : ℕ) → IsSameAt one other u → IsSameAt other third u → IsSameAt one third u
+pub same_twice : (one other third : ReadHops) (u : ℕ) → IsSameAt one other u → IsSameAt other third u → IsSameAt one third u
 same_twice one other third u first second = record { olds = first.olds ∙ second.olds; news = first.news ∙ second.news }
 
 -- only a router that is there has hops
@@ -86,7 +85,7 @@ inside lists u h among = elim (cases_lt u (length lists)) [
 ]
 
 -- where a walk passes none of the routers that changed, it was one before
-pub returns_again : (one other : EndLists) (n : ℕ) (changed : List ℕ) (before marks : List Bool) → length other.olds ≡ n → length other.news ≡ n
+pub returns_again : (one other : ReadHops) (n : ℕ) (changed : List ℕ) (before marks : List Bool) → length other.olds ≡ n → length other.news ≡ n
     → AreAllBut (IsSameAt one other) n changed → MarksReturns (EndStep (ends_of one n)) before
     → MarksAgain (EndStep (ends_of other n)) changed before marks → MarksReturns (EndStep (ends_of other n)) marks
 returns_again one other n changed before marks olds news same returns again u h hops follows = elim (again u h hops follows) [
@@ -109,7 +108,7 @@ returns_again one other n changed before marks olds news same returns again u h 
     ]
 
 -- where none changed, the same routers are returned to
-pub returns_still : (one other : EndLists) (n : ℕ) (changed : List ℕ) (marks : List Bool) → length changed ≡ 0 → length other.olds ≡ n
+pub returns_still : (one other : ReadHops) (n : ℕ) (changed : List ℕ) (marks : List Bool) → length changed ≡ 0 → length other.olds ≡ n
     → length other.news ≡ n → AreAllBut (IsSameAt one other) n changed → MarksReturns (EndStep (ends_of one n)) marks
     → MarksReturns (EndStep (ends_of other n)) marks
 returns_still one other n changed marks none olds news same returns =
@@ -118,31 +117,17 @@ returns_still one other n changed marks none olds news same returns =
       follows_over (λ x y steps. (steps, λ among. omega (arith, among.1, none))) u (h ∷ hops) u follows,
     ))
 
--- and the same lack a step
-pub stuck_still : (one other : EndLists) (n : ℕ) (changed stuck : List ℕ) → length changed ≡ 0 → AreAllBut (IsSameAt one other) n changed
-    → AreAllBut (MovesAtEnds (ends_of one n)) n stuck → AreAllBut (MovesAtEnds (ends_of other n)) n stuck
-stuck_still one other n changed stuck none same are = record {
-  below = are.below;
-  whole = λ u below. elim (are.whole u below) [
-    | inl among ↦ inl among
-    | inr moves ↦ elim (same.whole u below) [
-      | inl among ↦ absurd (omega (arith, among.1, none))
-      | inr is ↦ inr (subst (λ (hops : List ℕ). 0 < length hops) is.olds moves.0, subst (λ (hops : List ℕ). 0 < length hops) is.news moves.1)
-    ]
-  ];
-}
-
--- where each router that lacks a step in one end is one of the target's, all others move
-pub all_move_from : (m : Mix) (atom : ℕ) (p : Block) (lists : EndLists) (stuck : List ℕ)
+-- where each router has a step in both ends or is one of the target's, all others move
+pub all_move_from : (m : Mix) (atom : ℕ) (p : Block) (lists : ReadHops)
     → IsNetwork m.net → IsTarget m.net (sample_of m.classes atom) p → IsRead m atom lists
-    → AreAllBut (MovesAtEnds (ends_of lists (length m.net))) (length m.net) stuck → ((u : ℕ) → Contains stuck u → Connected m.net u p) → AllMove m atom
-all_move_from m atom p lists stuck network target read are here u must = elim (are.whole u must.router) [
-  | inl among ↦ absurd (must.away (subst (λ (q : Block). Connected m.net u q)
-      (one_target m.net (sample_of m.classes atom) p must.target network target must.is_target) (here u among)))
-  | inr both ↦ (
+    → ((u : ℕ) → u < length m.net → HasBothSteps lists u ⊎ Connected m.net u p) → AllMove m atom
+all_move_from m atom p lists network target read each u must = elim (each u must.router) [
+  | inl both ↦ (
     step Old (hops_at lists.olds u) (read.each u must.router).olds both.0,
     step New (hops_at lists.news u) (read.each u must.router).news both.1,
   )
+  | inr connected ↦ absurd (must.away (subst (λ (q : Block). Connected m.net u q)
+      (one_target m.net (sample_of m.classes atom) p must.target network target must.is_target) connected))
 ]
   where
     step : (phase : Phase) (hops : List ℕ) → IsHopsOf m atom u phase hops → 0 < length hops → HasStepOf m atom u phase
@@ -152,7 +137,7 @@ all_move_from m atom p lists stuck network target read are here u must = elim (a
     }
 
 -- a step of both networks is one of what was read
-over_read : (m : Mix) (atom : ℕ) (lists : EndLists) (x y : ℕ) → IsRead m atom lists → StepsEver m atom x y → EndStep (ends_of lists (length m.net)) x y
+over_read : (m : Mix) (atom : ℕ) (lists : ReadHops) (x y : ℕ) → IsRead m atom lists → StepsEver m atom x y → EndStep (ends_of lists (length m.net)) x y
 over_read m atom lists x y read (inl one) =
     inl ((steps_to_those m atom x Old (hops_at lists.olds x) read.class read.address (read.each x one.must.router).olds one.must y).1 one)
 over_read m atom lists x y read (inr other) =
@@ -280,7 +265,7 @@ AreAllBut-more Is n old new are (inr none) = subst (λ (xs : List ℕ). AreAllBu
 })
 
 -- one router more was read
-pub changed_more : (one other third : EndLists) (n : ℕ) (old new : List ℕ) → AreAllBut (IsSameAt one other) n old
+pub changed_more : (one other third : ReadHops) (n : ℕ) (old new : List ℕ) → AreAllBut (IsSameAt one other) n old
     → ((u : ℕ) → (¬ (u ≡ n)) → IsSameAt other third u) → IsSameAt one other n → AddsUnless (IsSameAt other third n) n old new
     → AreAllBut (IsSameAt one third) (n + 1) new
 changed_more one other third n old new are others before added = AreAllBut-more (IsSameAt one third) n old new (record {

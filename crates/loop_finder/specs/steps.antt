@@ -2,6 +2,7 @@ pub mod Live
 pub mod Walks
 pub mod Rings
 pub mod PartRows
+pub mod EndPairs
 pub mod Ends
 pub mod Making
 pub mod WaveStarts

@@ -1,23 +1,32 @@
-ghost use Rattle.std.specs.Prelude.{◌≡◌, ◌<◌, ◌^◌, ℕ, IfOk, IfSome, OnOk, length};
+ghost use Rattle.std.specs.Prelude.{◌≡◌, ◌<◌, ◌^◌, ℕ, IfOk, IfSome, OnOk, length, slice_set};
 ghost use Rattle.std.specs.Bool.{OnTrue};
-ghost use Rattle.loop_finder.specs.steps.Ends.{hops_at};
+ghost use Rattle.loop_finder.specs.steps.EndPairs.{new_hops, old_hops};
+ghost use Rattle.loop_finder.specs.steps.Ends.{HasBothSteps, hops_at};
 ghost use Rattle.loop_finder.specs.steps.Making.{AreNoEnds, IsKnownAt, IsRead, IsReadAt, IsSameAt};
 ghost use Rattle.loop_finder.specs.Parts.{AddsUnless, AreAllBut};
 ghost use Rattle.loop_finder.specs.ClassSteps.{mix_of, sample_of};
 
 use crate::class_hops::next_hops;
-use crate::hop_lists::HopLists;
+use crate::ends::Ends;
 use rib_mix::{Mixed, OutOfMemory, Phase};
 use route_core::RouteSource;
 use std::alloc::Global;
+use std::marker::Model;
 
 /// What is read of a class: the hops of all routers in both networks, of each as if it had to pass the class's packets on.
 #[derive(Drop)]
 pub struct EndLists<'m> {
-    /// The hops of each router in the old network.
-    pub olds: HopLists<'m>,
-    /// The hops of each router in the new network.
-    pub news: HopLists<'m>,
+    all: Vec<Ends<'m>>,
+}
+
+impl<'m> Model for EndLists<'m> {
+    ghost use Rattle.std.specs.Prelude.{map};
+    ghost use Rattle.loop_finder.specs.steps.EndPairs.{new_hops, old_hops};
+    ghost use Rattle.loop_finder.specs.steps.Ends.{ReadHops};
+
+    ghost Value = { ReadHops };
+
+    ghost view = { λ x. record { olds = map old_hops x.all.items; news = map new_hops x.all.items } };
 }
 
 impl<'m> EndLists<'m> {
@@ -25,37 +34,68 @@ impl<'m> EndLists<'m> {
     pub fn new(alloc: Global, routers: u32) -> Result<EndLists<'m>, OutOfMemory>
         ensures { IfOk result (AreNoEnds routers) }
     {
-        Ok(EndLists {
-            olds: HopLists::new(alloc, routers)?,
-            news: HopLists::new(alloc, routers)?,
-        })
+        let none: &'m [u32] = &[];
+        let all = vec![in alloc; Ends::Each(none, none); routers as usize]?;
+        Ok(EndLists { all })
+    }
+
+    /// Whether a router has a hop in both networks.
+    pub fn moves(&self, router: u32) -> bool
+        requires { router < length self.now.olds }
+        ensures { OnTrue result (HasBothSteps self.now router) }
+    {
+        self.at(router).moves()
     }
 
     /// Puts hops in the place of a router's, and adds it to those changed where they aren't the same.
     fn set(
         &mut self,
         router: u32,
-        olds: &'m [u32],
-        news: &'m [u32],
+        ends: Ends<'m>,
         changed: &mut Vec<u32>,
     ) -> Result<(), OutOfMemory>
         requires olds { router < length self.old.olds }
         requires news { router < length self.old.news }
-        ensures olds { OnOk result (hops_at self.new.olds router ≡ olds.now) }
-        ensures news { OnOk result (hops_at self.new.news router ≡ news.now) }
+        ensures olds { OnOk result (hops_at self.new.olds router ≡ old_hops ends.entry) }
+        ensures news { OnOk result (hops_at self.new.news router ≡ new_hops ends.entry) }
         ensures olds_many { OnOk result (length self.new.olds ≡ length self.old.olds) }
         ensures news_many { OnOk result (length self.new.news ≡ length self.old.news) }
         ensures others { OnOk result ((u : ℕ) → ¬ (u ≡ router) → IsSameAt self.old self.new u) }
         ensures changed { OnOk result (AddsUnless (IsSameAt self.old self.new router) router changed.old.items changed.new.items) }
     {
-        let place = router as usize;
-        if self.olds.has(place, olds) && self.news.has(place, news) {
+        if self.has(router, &ends) {
             return Ok(());
         }
-        self.olds.set(place, olds);
-        self.news.set(place, news);
+        self.put(router, ends);
         changed.push(router)?;
         Ok(())
+    }
+
+    /// Whether these are the hops of a router.
+    fn has(&self, router: u32, ends: &Ends<'_>) -> bool
+        requires { router < length self.now.olds }
+        ensures olds { OnTrue result (hops_at self.now.olds router ≡ old_hops ends.now) }
+        ensures news { OnTrue result (hops_at self.now.news router ≡ new_hops ends.now) }
+    {
+        self.at(router).is_same(ends)
+    }
+
+    /// What was read of a router.
+    pub fn at(&self, router: u32) -> &Ends<'m>
+        requires { router < length self.now.olds }
+        ensures olds { hops_at self.now.olds router ≡ old_hops result.now }
+        ensures news { hops_at self.now.news router ≡ new_hops result.now }
+    {
+        &self.all[router as usize]
+    }
+
+    /// Puts hops in the place of a router's.
+    fn put(&mut self, router: u32, ends: Ends<'m>)
+        requires { router < length self.old.olds }
+        ensures olds { self.new.olds ≡ slice_set self.old.olds router (old_hops ends.entry) }
+        ensures news { self.new.news ≡ slice_set self.old.news router (new_hops ends.entry) }
+    {
+        self.all[router as usize] = ends;
     }
 }
 
@@ -109,7 +149,7 @@ fn read_router<'m, O: RouteSource, N: RouteSource>(
     }
     let olds = next_hops(mixed, atom, Phase::Old, router);
     let news = next_hops(mixed, atom, Phase::New, router);
-    lists.set(router, olds, news, changed)
+    lists.set(router, Ends::new(olds, news), changed)
 }
 
 /// Whether a class is known for whose packets a router does the same.

@@ -39,6 +39,17 @@ pub fn mark_none(marks: &mut [bool])
     }
 }
 
+/// Whether no router is marked.
+pub fn none_marked(marks: &[bool]) -> bool
+    ensures { OnTrue result ((u : ℕ) → ¬ IsMarked marks.now u) }
+{
+    let mut some = false;
+    for mark in marks {
+        some |= *mark;
+    }
+    !some
+}
+
 /// Goes once over the routers and takes the mark from each that steps to no marked one; whether any had it.
 fn peel<G: StepGraph>(graph: &G, routers: u32, live: &mut [bool]) -> bool
     requires routers { routers ≡ G.size graph.now }

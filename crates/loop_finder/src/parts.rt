@@ -1,12 +1,9 @@
 ghost use Rattle.std.specs.Prelude.{◌≡◌, ◌+◌, ◌<◌, ◌^◌, ℕ, All, None, Some, IfOk, OnOk, length};
 ghost use Rattle.std.specs.Bool.{OnTrue};
 ghost use Rattle.loop_finder.specs.steps.Targets.{IsTargetIn};
-ghost use Rattle.order_core.specs.Marks.{IsMarked};
-ghost use Rattle.loop_finder.specs.steps.Ends.{EndStep, MovesAtEnds};
-ghost use Rattle.loop_finder.specs.steps.Making.{IsKnownClass, IsMaking, IsRead, ends_of};
+ghost use Rattle.loop_finder.specs.steps.Making.{IsKnownClass, IsMaking, IsRead};
 ghost use Rattle.loop_finder.specs.steps.PartRows.{HasEarlierHops};
-ghost use Rattle.loop_finder.specs.Parts.{AllMove, AreAllBut, AreParts, IsCovered};
-ghost use Rattle.loop_finder.specs.Returns.{MarksAgain};
+ghost use Rattle.loop_finder.specs.Parts.{AllMove, AreParts, IsCovered};
 ghost use Rattle.loop_finder.specs.ClassSteps.{mix_of, sample_of};
 
 use crate::class_fault::class_target;
@@ -14,6 +11,7 @@ use crate::end_lists::{EndLists, read_class};
 use crate::end_steps::EndSteps;
 use crate::layers::Layers;
 use crate::level_marks::mark_returns;
+use crate::live::none_marked;
 use crate::part::{Part, digest_of};
 use net_addr::Prefix;
 use rib_mix::{Mixed, OutOfMemory};
@@ -31,10 +29,6 @@ pub struct Making<'m> {
     pub changed: Vec<u32>,
     /// For each router whether a walk over the class's steps may return to it.
     pub marks: Vec<bool>,
-    /// A number made of the marks.
-    pub digest: u64,
-    /// The routers that lack a step of the class in one of both networks.
-    pub stuck: Vec<u32>,
     /// The layers of the routers.
     pub layers: Layers,
 }
@@ -46,15 +40,11 @@ impl<'m> Making<'m> {
         ensures known { IfOk result (λ making. making.known ≡ None) }
     {
         let lists = EndLists::new(alloc, routers)?;
-        let mut stuck = Vec::with_capacity(alloc, routers as usize)?;
-        find_stuck(&lists, routers, &mut stuck)?;
         Ok(Making {
             known: None,
             lists,
             changed: Vec::with_capacity(alloc, routers as usize)?,
             marks: vec![in alloc; false; routers as usize]?,
-            digest: 0,
-            stuck,
             layers: Layers::new(alloc, routers)?,
         })
     }
@@ -81,43 +71,10 @@ impl<'m> Making<'m> {
         if changed.is_empty() {
             return Ok(());
         }
-        mark_changed(
-            &self.lists,
-            routers,
-            changed,
-            &mut self.layers,
-            &mut self.marks,
-        );
-        find_stuck(&self.lists, routers, &mut self.stuck)?;
-        self.digest = digest_of(self.marks.as_slice());
+        let ends = EndSteps::new(&self.lists, routers);
+        mark_returns(&ends, changed, &mut self.layers, &mut self.marks);
         Ok(())
     }
-}
-
-/// Marks the routers to which a walk over the steps that were read may return, where others were marked before some changed.
-fn mark_changed(
-    lists: &EndLists<'_>,
-    routers: u32,
-    changed: &[u32],
-    layers: &mut Layers,
-    marks: &mut [bool],
-)
-    requires olds { length lists.now.olds ≡ routers }
-    requires news { length lists.now.news ≡ routers }
-    requires marks { length marks.old ≡ routers }
-    ensures { MarksAgain (EndStep (ends_of lists.now routers)) changed.now marks.old marks.new }
-{
-    let ends = EndSteps::new(&lists.olds, &lists.news, routers);
-    mark_returns(&ends, changed, layers, marks);
-}
-
-/// Finds the routers that lack a step in one of both networks, by what was read.
-fn find_stuck(lists: &EndLists<'_>, routers: u32, stuck: &mut Vec<u32>) -> Result<(), OutOfMemory>
-    requires olds { length lists.now.olds ≡ routers }
-    requires news { length lists.now.news ≡ routers }
-    ensures { OnOk result (AreAllBut (MovesAtEnds (ends_of lists.now routers)) routers stuck.new.items) }
-{
-    EndSteps::new(&lists.olds, &lists.news, routers).find_stuck(stuck)
 }
 
 /// The parts of the classes for which some state may be unsound, ascending. A class has none
@@ -201,9 +158,8 @@ fn all_move<O: RouteSource, N: RouteSource>(
     requires read { IsRead (mix_of O.table N.table mixed.now) atom making.now.lists }
     ensures { OnTrue result (AllMove (mix_of O.table N.table mixed.now) atom) }
 {
-    let stuck = making.stuck.as_slice();
-    for router in stuck {
-        if !mixed.originates(*router, target) {
+    for router in 0..mixed.net().routers() {
+        if !making.lists.moves(router) && !mixed.originates(router, target) {
             return false;
         }
     }
@@ -232,17 +188,7 @@ fn is_covered<O: RouteSource, N: RouteSource>(
     if none_marked(marks) {
         return true;
     }
-    has_earlier(mixed, atom, target, marks, making.digest, parts)
-}
-
-/// Whether no router is marked.
-fn none_marked(marks: &[bool]) -> bool
-    ensures { OnTrue result ((u : ℕ) → ¬ IsMarked marks.now u) }
-{
-    if marks.contains(&true) {
-        return false;
-    }
-    true
+    has_earlier(mixed, atom, target, marks, digest_of(marks), parts)
 }
 
 /// Whether one of some parts has the hops of a class between marked routers, of which this is the digest.

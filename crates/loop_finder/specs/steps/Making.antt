@@ -4,24 +4,18 @@ use Rattle.igp_theory.specs.declared.phase.Phase.{Phase}
 use Rattle.igp_theory.specs.declared.phase.Phase.TheVariants.{Old, New}
 use Rattle.rib_mix.specs.Answers.{IsAlikeAt, IsNextOf, NextLeadsTo}
 use Rattle.rib_mix.specs.declared.next.Next.{Next}
-use Rattle.loop_finder.specs.steps.Ends.{EndHops, EndStep, MovesAtEnds, AreNoHops, hops_at}
-use Rattle.loop_finder.specs.Parts.{AreAllBut}
+use Rattle.loop_finder.specs.steps.Ends.{ReadHops, EndStep, AreNoHops, ends_of, hops_at}
 use Rattle.loop_finder.specs.Returns.{MarksReturns}
 use Rattle.loop_finder.specs.ClassSteps.{sample_of, Mix, migration_in}
-use Rattle.loop_finder.specs.declared.end_lists.EndLists.{EndLists}
 use Rattle.loop_finder.specs.declared.parts.Making.{Making}
 
--- the hops that were read, of so many routers
-abbrev pub ends_of : EndLists → ℕ → EndHops
-ends_of lists n = record { olds = lists.olds; news = lists.news; routers = n }
-
 -- nothing is read yet of n routers
-pub record AreNoEnds (n : ℕ) (lists : EndLists) : Type 0 where
+pub record AreNoEnds (n : ℕ) (lists : ReadHops) : Type 0 where
   pub olds : AreNoHops n lists.olds
   pub news : AreNoHops n lists.news
 
 -- the same was read of router u
-pub record IsSameAt (one other : EndLists) (u : ℕ) : Type 0 where
+pub record IsSameAt (one other : ReadHops) (u : ℕ) : Type 0 where
   pub olds : hops_at one.olds u ≡ hops_at other.olds u
   pub news : hops_at one.news u ≡ hops_at other.news u
 
@@ -32,12 +26,12 @@ pub record IsHopsOf (m : Mix) (atom u : ℕ) (phase : Phase) (hops : List ℕ) :
   pub leads : (h : ℕ) → Contains hops h ↔ NextLeadsTo next h
 
 -- this was read of router u for a class
-pub record IsReadAt (m : Mix) (atom : ℕ) (lists : EndLists) (u : ℕ) : Type 0 where
+pub record IsReadAt (m : Mix) (atom : ℕ) (lists : ReadHops) (u : ℕ) : Type 0 where
   pub olds : IsHopsOf m atom u Old (hops_at lists.olds u)
   pub news : IsHopsOf m atom u New (hops_at lists.news u)
 
 -- this was read of a class
-pub record IsRead (m : Mix) (atom : ℕ) (lists : EndLists) : Type 0 where
+pub record IsRead (m : Mix) (atom : ℕ) (lists : ReadHops) : Type 0 where
   pub class : atom < length m.classes.samples
   pub address : sample_of m.classes atom < 2 ^ 32
   pub olds_many : length lists.olds ≡ length m.net
@@ -54,11 +48,9 @@ pub record IsKnownAt (m : Mix) (known : Option ℕ) (u atom : ℕ) : Type 0 wher
   pub is : known ≡ Some other
   pub alike : IsAlikeAt (migration_in m) m.classes u other atom
 
--- what was read is of n routers, those to which a walk over the steps of both networks may return are marked, and those
--- that lack a step in one are listed
+-- what was read is of n routers, and those to which a walk over the steps of both networks may return are marked
 pub record IsMaking (n : ℕ) (making : Making) : Type 0 where
   pub olds_many : length making.lists.olds ≡ n
   pub news_many : length making.lists.news ≡ n
   pub marks_many : vec_len making.marks ≡ n
   pub returns : MarksReturns (EndStep (ends_of making.lists n)) making.marks.items
-  pub stuck : AreAllBut (MovesAtEnds (ends_of making.lists n)) n making.stuck.items

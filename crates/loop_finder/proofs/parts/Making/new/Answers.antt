@@ -10,5 +10,4 @@ returns-clause-making c = record {
     | inl among ↦ c.in_ok-lists.ensures.olds.none u h among
     | inr among ↦ c.in_ok-lists.ensures.news.none u h among
   ]);
-  stuck = c.in_ok-find_stuck.ensures;
 }

@@ -1,10 +1,8 @@
 use Rattle.std.proofs.Common.{◌≡◌, ℕ, Bool, List, length, ap, arith, eqb-true, ◌∙◌, sym, subst}
 use Rattle.std.proofs.lemmas.List.{with_items_is}
-use Rattle.loop_finder.specs.steps.Ends.{EndStep, MovesAtEnds}
-use Rattle.loop_finder.specs.steps.Making.{ends_of}
-use Rattle.loop_finder.specs.Parts.{AreAllBut}
+use Rattle.loop_finder.specs.steps.Ends.{EndHops, EndStep, ends_of}
 use Rattle.loop_finder.specs.Returns.{MarksAgain, MarksReturns}
-use Rattle.loop_finder.proofs.PartRows.{returns_again, returns_still, stuck_still}
+use Rattle.loop_finder.proofs.PartRows.{returns_again, returns_still}
 use Rattle.loop_finder.proofs.parts.Making.read.Goals as goal
 
 pub returns-then-is_empty-clause-making : goal.returns-then-is_empty-clause-making
@@ -18,8 +16,6 @@ returns-then-is_empty-clause-making g c =
       returns = returns_still c.args.self.now.lists c.read_class.new.lists (length c.args.mixed.now.net) c.read_class.new.changed.items
           c.args.self.now.marks.items none c.in_ok-read_class.ensures.read.olds_many c.in_ok-read_class.ensures.read.news_many
           c.in_ok-read_class.ensures.changed c.requires.making.returns;
-      stuck = stuck_still c.args.self.now.lists c.read_class.new.lists (length c.args.mixed.now.net) c.read_class.new.changed.items
-          c.args.self.now.stuck.items none c.in_ok-read_class.ensures.changed c.requires.making.stuck;
     }
 
 pub returns-clause-making : goal.returns-clause-making
@@ -28,16 +24,16 @@ returns-clause-making g c = record {
   news_many = c.in_ok-read_class.ensures.read.news_many;
   marks_many = c.requires.making.marks_many;
   returns = subst (λ (marks : List Bool). MarksReturns (EndStep (ends_of c.read_class.new.lists (length c.args.mixed.now.net))) marks)
-      (sym (with_items_is c.args.self.now.marks c.mark_changed.new.marks (omega (arith, c.mark_changed.auto.marks, c.deref_mut.ensures.len))))
+      (sym (with_items_is c.args.self.now.marks c.mark_returns.new.marks (omega (arith, c.mark_returns.auto.marks, c.deref_mut.ensures.len))))
       (returns_again c.args.self.now.lists c.read_class.new.lists (length c.args.mixed.now.net) c.read_class.new.changed.items
-      c.args.self.now.marks.items c.mark_changed.new.marks c.in_ok-read_class.ensures.read.olds_many c.in_ok-read_class.ensures.read.news_many
+      c.args.self.now.marks.items c.mark_returns.new.marks c.in_ok-read_class.ensures.read.olds_many c.in_ok-read_class.ensures.read.news_many
       c.in_ok-read_class.ensures.changed c.requires.making.returns
-      (subst (λ (n : ℕ). MarksAgain (EndStep (ends_of c.read_class.new.lists n)) c.read_class.new.changed.items c.args.self.now.marks.items
-      c.mark_changed.new.marks) c.requires.routers
-      (subst (λ (xs : List ℕ). MarksAgain (EndStep (ends_of c.read_class.new.lists c.args.routers)) xs c.args.self.now.marks.items c.mark_changed.new.marks)
+      (subst (λ (e : EndHops). MarksAgain (EndStep e) c.read_class.new.changed.items c.args.self.now.marks.items c.mark_returns.new.marks) are
+      (subst (λ (xs : List ℕ). MarksAgain (EndStep c.new-ends.result) xs c.args.self.now.marks.items c.mark_returns.new.marks)
       c.as_slice-changed.ensures.value
-      (subst (λ (marks : List Bool). MarksAgain (EndStep (ends_of c.read_class.new.lists c.args.routers)) c.as_slice-changed.result.now marks
-      c.mark_changed.new.marks) c.deref_mut.ensures.value c.mark_changed.ensures))));
-  stuck = subst (λ (n : ℕ). AreAllBut (MovesAtEnds (ends_of c.read_class.new.lists n)) n c.find_stuck.new.stuck.items) c.requires.routers
-      c.in_ok-find_stuck.ensures;
+      (subst (λ (marks : List Bool). MarksAgain (EndStep c.new-ends.result) c.as_slice-changed.result.now marks c.mark_returns.new.marks)
+      c.deref_mut.ensures.value c.mark_returns.ensures))));
 }
+  where
+    are : c.new-ends.result ≡ ends_of c.read_class.new.lists (length c.args.mixed.now.net)
+    are = c.new-ends.ensures ∙ ap (ends_of c.read_class.new.lists) c.requires.routers

@@ -1,0 +1,22 @@
+-- The hops of a router in Old and in New, as they are held.
+use Rattle.std.specs.Prelude.{◌≡◌, ℕ, List, [], ◌∷◌}
+use Rattle.loop_finder.specs.declared.ends.Ends.{Ends}
+use Rattle.loop_finder.specs.declared.ends.Ends.TheVariants.{One, Each}
+
+abbrev pub old_hops : Ends → List ℕ
+old_hops (One hop) = hop ∷ []
+old_hops (Each olds news) = olds.now
+
+abbrev pub new_hops : Ends → List ℕ
+new_hops (One hop) = hop ∷ []
+new_hops (Each olds news) = news.now
+
+-- the same hops
+pub record IsSamePair (one other : Ends) : Type 0 where
+  pub olds : old_hops one ≡ old_hops other
+  pub news : new_hops one ≡ new_hops other
+
+-- the same hop alone, in two lists
+pub record IsOneHop (olds news : List ℕ) (hop : ℕ) : Type 0 where
+  pub in_old : olds ≡ hop ∷ []
+  pub in_new : news ≡ hop ∷ []
