@@ -5,7 +5,7 @@ ghost use Rattle.ios_lines.specs.Words.{is_letter};
 ghost use Rattle.ios_lines.specs.Lookups.{good_value};
 ghost use Rattle.ios_reader.specs.steps.Passives.{ArePassivesOf};
 ghost use Rattle.ios_reader.specs.InterfacesAsRead.{address_given, is_loopback, is_up, names_process, area_by, interface_area, default_bandwidth};
-ghost use Rattle.ios_reader.specs.InterfacesAsRead.{cost_of_bandwidth, cost_by_bandwidth, default_cost, cost_given, ospf_cost};
+ghost use Rattle.ios_reader.specs.InterfacesAsRead.{cost_of_bandwidth, cost_by_bandwidth, default_cost, ospf_cost};
 ghost use Rattle.ios_reader.specs.InterfacesAsRead.{is_ospf_passive, runs_isis, runs_level, metric_by, level_metric, address_field, subnet_field, cost_field};
 ghost use Rattle.ios_reader.specs.InterfacesAsRead.{interface_with};
 
@@ -172,25 +172,15 @@ fn default_cost(
     cost_by_bandwidth(reference, bandwidth, default_bandwidth(letters_of(name)))
 }
 
-/// The cost of a cost line, else another one.
-fn cost_given(own: Option<Result<u32, ReadKind>>, otherwise: Option<u32>) -> Option<u32>
-    ensures { result ≡ cost_given own otherwise }
-{
-    match own {
-        Some(Ok(cost)) => Some(cost),
-        Some(Err(_)) => Some(1),
-        None => otherwise,
-    }
-}
-
-/// The OSPF cost of an interface, where anything gives one.
+/// The OSPF cost of an interface, where anything gives one: its cost line, or else its kind.
 pub fn ospf_cost(router: &Router, name: &[u8], facts: &InterfaceFacts) -> Option<u32>
     ensures { result ≡ ospf_cost router.now name.now facts.now }
 {
-    cost_given(
-        facts.cost,
-        default_cost(router.reference, name, facts.bandwidth),
-    )
+    match facts.cost {
+        Some(Ok(cost)) => Some(cost),
+        Some(Err(_)) => Some(1),
+        None => default_cost(router.reference, name, facts.bandwidth),
+    }
 }
 
 /// Whether the interface is passive for OSPF.

@@ -41,7 +41,7 @@ fn read_interfaces(
     ensures all { IfOk result (λ read. read.all.items ≡ map (interface_as_read router.now) sections.now) }
     ensures fault { IfOk result (λ read. read.fault ≡ least_fault (flat_map (interface_faults router.now (option_copied tag.entry)) sections.now)) }
 {
-    let mut all = Vec::new(alloc);
+    let mut all = Vec::with_capacity(alloc, sections.len())?;
     let mut fault = None;
     for section in sections {
         let name = name_of(alloc, section.name.as_slice())?;

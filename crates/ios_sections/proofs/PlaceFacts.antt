@@ -1,5 +1,5 @@
 -- The first place that passes a test, as a place or as none.
-use Rattle.std.proofs.Common.{◌≡◌, ℕ, ◌<◌, ◌≤◌, Bool, true, false, not, List, length, Some, None, refl, nat_lt, cond, arith}
+use Rattle.std.proofs.Common.{◌≡◌, ℕ, ◌≤◌, Bool, true, false, not, List, length, Some, None, refl, nat_lt, cond, arith}
 use Rattle.std.specs.Prelude.{position}
 use Rattle.std.specs.List.{position_or_len}
 use Rattle.std.proofs.lemmas.Bool.Decides.{nat_tests}
@@ -20,13 +20,4 @@ pub no_place : {X : Type 0} (p : X → Bool) (xs : List X) → position p xs ≡
 no_place p xs e =
     let beyond : nat_lt (position_or_len p xs) (length xs) ≡ false = refused _ (position_or_len p xs) e in
     let within : position_or_len p xs ≤ length xs = prefix_len-le-length (λ x. not (p x)) xs in
-    grind (arith, nat_tests)
-
-lasting : (t : Bool) (place n : ℕ) → cond t (Some place) None ≡ Some n → t ≡ true
-lasting true place n e = refl
-lasting false place n e = absurd cc
-
-pub some_within : {X : Type 0} (p : X → Bool) (xs : List X) (n : ℕ) → position p xs ≡ Some n → position_or_len p xs < length xs
-some_within p xs n e =
-    let below : nat_lt (position_or_len p xs) (length xs) ≡ true = lasting _ (position_or_len p xs) n e in
     grind (arith, nat_tests)

@@ -1,5 +1,6 @@
 ghost use Rattle.std.specs.Prelude.{◌≡◌, ◌≤◌, IfOk, map, filter, position, nat_eq, length};
 ghost use Rattle.std.specs.List.{position_or_len};
+ghost use Rattle.ios_lines.specs.InterfaceLines.{interface_line};
 ghost use Rattle.ios_sections.specs.TextLines.{opens_section, first_indent, section_lines, sections_of};
 ghost use Rattle.ios_sections.specs.Sections.{interface_statements, ospf_statements, isis_statements, section_with, section_of};
 
@@ -11,7 +12,7 @@ use crate::section::{
 use crate::text_line::TextLine;
 use ios_lines::fault::Fault;
 use ios_lines::head::{Head, head_of};
-use ios_lines::interface_line::{InterfaceStatement, interface_line};
+use ios_lines::interface_line::{InterfaceLine, InterfaceStatement, interface_line};
 use ios_lines::isis_line::{IsisStatement, isis_line};
 use ios_lines::ospf_line::{OspfStatement, ospf_line};
 use std::alloc::Global;
@@ -27,7 +28,7 @@ fn interface_statements(
     let mut statements = Vec::with_capacity(alloc, lines.len())?;
     for line in lines {
         if line.indent() == indent {
-            let says = interface_line(alloc, &line.words())?;
+            let says = says_of_interface(alloc, line)?;
             statements.push(InterfaceStatement {
                 line: line.number(),
                 says,
@@ -35,6 +36,17 @@ fn interface_statements(
         }
     }
     Ok(InterfaceStatements::from_vec(statements))
+}
+
+/// What a line says of an interface. Most lines that say nothing are told by their first word.
+fn says_of_interface(alloc: Global, line: &TextLine) -> Result<InterfaceLine, OutOfMemory>
+    ensures { IfOk result (λ says. says ≡ interface_line line.now.words) }
+{
+    if line.may_concern_interface() {
+        interface_line(alloc, &line.words())
+    } else {
+        Ok(InterfaceLine::Skipped)
+    }
 }
 
 /// The lines of an OSPF process, those of this indent.

@@ -3,6 +3,7 @@ ghost use Rattle.net_addr.specs.Blanks.{words_in};
 ghost use Rattle.ios_lines.specs.Words.{word_at, says};
 ghost use Rattle.ios_sections.specs.TextLines.{carets, is_caret, opens_banner, closes_banner, counts, is_end, begins_configuration, opens_section};
 ghost use Rattle.ios_sections.specs.TellingLines.{may_tell, has_lines};
+ghost use Rattle.ios_sections.specs.steps.ToldLines.{may_concern_interface};
 
 use ios_lines::words::{Words, first_word};
 use std::marker::Model;
@@ -134,6 +135,18 @@ impl<'a> TextLine<'a> {
             || self.begins_with(b"hostname")
             || self.begins_with(b"ip")
             || self.begins_with(b"end")
+    }
+
+    /// Whether the line, of an interface, may say something of it.
+    pub(crate) fn may_concern_interface(&self) -> bool
+        ensures { result ≡ may_concern_interface self.now }
+    {
+        self.begins_with(b"ip")
+            || self.begins_with(b"isis")
+            || self.begins_with(b"bandwidth")
+            || self.begins_with(b"shutdown")
+            || self.begins_with(b"no")
+            || self.begins_with(b"vrf")
     }
 
     /// Whether the line is at indent 0, and so opens a section.

@@ -1,5 +1,6 @@
 -- The lines that count and tell something, taken in one after the other.
-use Rattle.std.specs.Prelude.{List, filter, fold}
+use Rattle.std.specs.Prelude.{Bool, ◌||◌, List, codes, filter, fold}
+use Rattle.ios_lines.specs.Words.{says}
 use Rattle.ios_sections.specs.TextLines.{TextLine, banner_after, counts, outside_banner, outside_banners}
 use Rattle.ios_sections.specs.TellingLines.{open_after, telling_lines}
 use Rattle.ios_sections.specs.declared.text.TextPlace.{TextPlace}
@@ -18,3 +19,9 @@ place_after place line = record {
 -- of the lines from a place on those that count and tell something
 abbrev pub told_from : TextPlace → List TextLine → List TextLine
 told_from place lines = telling_lines place.below (filter counts (outside_banners place.in_banner lines))
+
+-- a line of an interface that may say something of it, by its first word
+abbrev pub may_concern_interface : TextLine → Bool
+may_concern_interface line =
+    says line.words 0 (codes "ip") || says line.words 0 (codes "isis") || says line.words 0 (codes "bandwidth") || says line.words 0 (codes "shutdown")
+    || says line.words 0 (codes "no") || says line.words 0 (codes "vrf")

@@ -7,11 +7,11 @@ use Rattle.ios_reader.proofs.passive.PassiveNames.get.Goals as goal
 pub returns-in-Some : goal.returns-in-Some
 returns-in-Some c =
     c.in-Some.ensures.value
-    ∙ table_lookup (λ k. k.items) c.self.inside.by_name.entries c.args.name.now
+    ∙ table_lookup (λ k. k.now) c.self.inside.by_name.entries c.args.name.now
     ∙ ap (λ (w : List (Word × Bool)). said_of w c.args.name.now) c.self.view_is
 
 pub returns-in-None : goal.returns-in-None
 returns-in-None c =
     c.in-None.ensures.value
-    ∙ table_lookup (λ k. k.items) c.self.inside.by_name.entries c.args.name.now
+    ∙ table_lookup (λ k. k.now) c.self.inside.by_name.entries c.args.name.now
     ∙ ap (λ (w : List (Word × Bool)). said_of w c.args.name.now) c.self.view_is

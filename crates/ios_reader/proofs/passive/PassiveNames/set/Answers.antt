@@ -6,7 +6,6 @@ use Rattle.ios_reader.proofs.passive.PassiveNames.set.Goals as goal
 
 pub returns : goal.returns
 returns c =
-    ap (map (λ e. (e.0.items, e.1))) c.in_ok-insert.ensures.entries
-    ∙ table_insert (λ k. k.items) c.self.inside.by_name.entries c.in_ok-key.key c.args.passive
-    ∙ ap (λ (w : List (Word × Bool)). with_said w c.in_ok-key.key.items c.args.passive) c.self.view_is
-    ∙ ap (λ (w : Word). with_said c.args.self.now w c.args.passive) c.in_ok-key.ensures.items
+    ap (map (λ e. (e.0.now, e.1))) c.in_ok-insert.ensures.entries
+    ∙ table_insert (λ k. k.now) c.self.inside.by_name.entries c.args.name c.args.passive
+    ∙ ap (λ (w : List (Word × Bool)). with_said w c.args.name.now c.args.passive) c.self.view_is
