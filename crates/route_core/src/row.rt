@@ -1,10 +1,8 @@
-use net_addr::Prefix;
-
-/// A row of a table: a prefix, and the number of its entry among those that the table keeps.
+/// A row of a table: a prefix and its entry, by their places in lists that many tables share.
 #[derive(Clone, Copy, Debug)]
 pub struct Row {
-    /// The prefix.
-    pub dest: Prefix,
+    /// The place of its prefix.
+    pub place: u32,
     /// The number of its entry.
     pub number: u32,
 }

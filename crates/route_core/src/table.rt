@@ -2,11 +2,10 @@ ghost use Rattle.std.specs.Prelude.{◌≡◌, ◌<◌, ℕ, length, slice_get, 
 ghost use Rattle.net_addr.specs.Addresses.{Block};
 ghost use Rattle.route_core.specs.declared.entry.Entry.{Entry};
 ghost use Rattle.net_addr.specs.LongestMatches.{HasNoMatch, LongestAt};
-ghost use Rattle.route_core.specs.Rows.{AreTableParts};
+ghost use Rattle.route_core.specs.Rows.{AreTableParts, AreTableRows, listed_rows};
 ghost use Rattle.route_core.specs.Tables.{HasDistinctPrefixes, IsListed, LongestEntry, table_prefixes};
 
 use crate::OutOfMemory;
-use crate::builder::TableBuilder;
 use crate::entries::Entries;
 use crate::entry::Entry;
 use crate::matches::longest_match;
@@ -14,21 +13,25 @@ use crate::row::Row;
 use net_addr::Prefix;
 use std::alloc::Global;
 use std::marker::Model;
+use std::rc::Rc;
 
-/// The route table of one router: entries for prefixes, no two for the same prefix. Prefixes may share an entry, which
-/// is kept once.
+/// The route table of one router: entries for prefixes, no two for the same prefix. Tables share the lists of prefixes
+/// and of entries that their rows point into.
 #[derive(Debug, Drop)]
 pub struct Table {
-    pub(crate) entries: Vec<Entry>,
-    pub(crate) rows: Vec<Row>,
+    prefixes: Rc<Vec<Prefix>>,
+    entries: Rc<Vec<Entry>>,
+    rows: Vec<Row>,
 }
 
-/// A table in its two parts, for callers that read many entries by their numbers.
+/// A table in its parts, for callers that read many entries by their numbers.
 #[derive(Clone, Copy, Debug)]
 pub struct TableParts<'a> {
-    /// The entries, each kept once.
+    /// The prefixes, of which the table may have rows for some alone.
+    pub prefixes: &'a [Prefix],
+    /// The entries, of which the table may have rows with some alone.
     pub entries: &'a [Entry],
-    /// The rows, each with the number of its entry.
+    /// The rows, each with the place of its prefix and the number of its entry.
     pub rows: &'a [Row],
 }
 
@@ -40,24 +43,49 @@ impl Model for Table {
 
     ghost Value = { List (Block × Entry) };
 
-    ghost view = { λ x. listed_rows x.entries.items x.rows.items };
+    ghost view = { λ x. listed_rows x.prefixes.value.items x.entries.value.items x.rows.items };
 
-    ghost invariant = { λ x. AreTableRows x.entries.items x.rows.items };
+    ghost invariant = { λ x. AreTableRows x.prefixes.value.items x.entries.value.items x.rows.items };
 }
 
 impl Table {
-    /// The table of these entries, in their order.
+    /// The table of these entries, in their order, with lists of its own.
     pub fn from_entries(alloc: Global, entries: Entries) -> Result<Table, OutOfMemory>
         requires { HasDistinctPrefixes entries }
         ensures { IfOk result (λ table. table ≡ entries) }
     {
         let all = entries.into_vec();
-        let mut builder = TableBuilder::with_capacity(alloc, all.len())?;
+        let mut prefixes = Vec::with_capacity(alloc, all.len())?;
+        let mut own = Vec::with_capacity(alloc, all.len())?;
+        let mut rows = Vec::with_capacity(alloc, all.len())?;
         for (dest, entry) in all {
-            let number = builder.keep(entry)?;
-            builder.add(dest, number)?;
+            let Ok(number) = u32::try_from(own.len()) else {
+                return Err(OutOfMemory);
+            };
+            prefixes.push(dest)?;
+            own.push(entry)?;
+            rows.push(Row {
+                place: number,
+                number,
+            })?;
         }
-        Ok(builder.finish())
+        Table::of_rows(&Rc::new(alloc, prefixes)?, &Rc::new(alloc, own)?, rows)
+    }
+
+    /// The table of these rows, which takes no memory but theirs.
+    pub fn of_rows(
+        prefixes: &Rc<Vec<Prefix>>,
+        entries: &Rc<Vec<Entry>>,
+        rows: Vec<Row>,
+    ) -> Result<Table, OutOfMemory>
+        requires { AreTableRows prefixes.now.value.items entries.now.value.items rows.items }
+        ensures { IfOk result (λ table. table ≡ listed_rows prefixes.now.value.items entries.now.value.items rows.items) }
+    {
+        Ok(Table {
+            prefixes: prefixes.clone()?,
+            entries: entries.clone()?,
+            rows,
+        })
     }
 
     /// How many entries there are.
@@ -73,7 +101,7 @@ impl Table {
         requires { i < length self.now }
         ensures { (entry : Entry) × (slice_get self.now i ≡ Some (result, entry)) }
     {
-        self.rows[i].dest
+        self.prefixes[self.rows[i].place as usize]
     }
 
     /// What an entry says.
@@ -84,11 +112,12 @@ impl Table {
         &self.entries[self.rows[i].number as usize]
     }
 
-    /// The rows of the table, and the entries that they share.
+    /// The rows of the table, and the prefixes and entries that they point to.
     pub fn parts(&self) -> TableParts<'_>
         ensures { AreTableParts result self.now }
     {
         TableParts {
+            prefixes: self.prefixes.as_slice(),
             entries: self.entries.as_slice(),
             rows: self.rows.as_slice(),
         }
@@ -102,7 +131,7 @@ impl Table {
             LongestEntry (IsListed self.now) a dest entry → slice_get self.now i ≡ Some (dest, entry)) }
         ensures within { IfSome result (λ i. i < length self.now) }
     {
-        let found = longest_match(self.rows.as_slice(), a)?;
+        let found = longest_match(self.prefixes.as_slice(), self.rows.as_slice(), a)?;
         Some(found.place)
     }
 }

@@ -1,5 +1,5 @@
--- Tables in the making: of which rows towards one router share an entry, and so do those of alike prefixes.
-use Rattle.std.proofs.Common.{◌≡◌, ℕ, ◌<◌, ◌↔◌, ⊎_elim, List, [], ◌∷◌, ◌++◌, length, Some, None, Option, get_or, set, inl, inr, refl, sym, subst, ◌∙◌, arith, MatchOption, Result, Ok, Err, IfOk, OnOk, length-append}
+-- Tables in the making: entries that all tables share, and the numbers of those that a table knows.
+use Rattle.std.proofs.Common.{◌≡◌, ℕ, ◌<◌, ◌↔◌, ⊎_elim, List, [], ◌∷◌, ◌++◌, length, Some, None, Option, get_or, set, inl, inr, sym, ap, subst, ◌∙◌, arith, MatchOption, Result, Ok, Err, IfOk, OnOk, length-append, append_assoc}
 use Rattle.std.proofs.lemmas.Bool.{cases_eq, cases_lt}
 use Rattle.std.proofs.lemmas.List.{append-nil, get_or_append_left, get_or_push, length_push, get_or-set_same, get_or-set_other, set_past}
 use Rattle.std.proofs.lemmas.Option.{same_Some}
@@ -7,12 +7,11 @@ use Rattle.net_addr.specs.Addresses.{Block}
 use Rattle.walk_core.specs.Reach.{Reach}
 use Rattle.route_core.specs.declared.entry.Entry.{Entry}
 use Rattle.route_core.specs.declared.entry.Entry.TheVariants.{Via, Discard}
-use Rattle.route_core.specs.Rows.{Keeps}
 use Rattle.route_tables.specs.Prefixes.{prefix_at}
 use Rattle.route_tables.specs.Routings.{IsEntryTo}
-use Rattle.route_tables.specs.steps.Sharing.{AreNoted, AreNumbers, AreShared, HasNumber, IsNumberOf, KeepsMore}
-use Rattle.route_tables.specs.declared.sharing.Known.{Known}
-use Rattle.route_tables.specs.declared.sharing.SharedRows.{SharedRows}
+use Rattle.route_tables.specs.steps.Sharing.{AreKnown, AreNumbers, AreOverOne, AreShared, HasNumber, IsNumberOf, Keeps, KeepsMore}
+use Rattle.route_tables.specs.declared.pool.Known.{Known}
+use Rattle.route_tables.specs.declared.pool.Pool.{Pool}
 use Rattle.route_tables.proofs.ListFacts.{at_most}
 
 -- Numbers of entries
@@ -45,12 +44,6 @@ number_alike one other entries None same none = λ e is. none e ((same e).1 is)
 number_alike one other entries (Some number) same has =
     record { below = has.below; is = (same (get_or entries number Discard)).0 has.is }
 
--- the number of an entry that is wanted is that of one that is wanted otherwise too
-pub number_weaker : {E : Type 0} (one other : Entry → Type 0) (entries : List Entry) (r : Result ℕ E) → ((e : Entry) → one e → other e) →
-    IfOk r (HasNumber one entries) → IfOk r (HasNumber other entries)
-number_weaker one other entries (Ok number) more has = record { below = has.below; is = more (get_or entries number Discard) has.is }
-number_weaker one other entries (Err e) more has = has
-
 -- Prefix by prefix
 
 -- the numbers stay those of the entries with more entries
@@ -78,65 +71,68 @@ pub row_by : (wanted : Entry → Type 0) (entries : List Entry) (dest : Block) (
 row_by wanted entries dest old new None none same = (None, none, same)
 row_by wanted entries dest old new (Some number) has adds = (Some (get_or entries number Discard), has.is, adds)
 
--- What is noted
+-- Over one hop
 
--- what is noted stays with more entries
-noted_kept : {K : Type 0} (wanted : ℕ → K → Entry → Type 0) (number_of : K → ℕ) (entries more : List Entry) (all : List (Option K)) →
-    AreNoted wanted number_of entries all → AreNoted wanted number_of (entries ++ more) all
-noted_kept wanted number_of entries more all are at known is = number_kept (wanted at known) entries more (number_of known) (are at known is)
+-- an entry over a hop alone that is wanted has the number of the hop
+pub number_over_hop : (wanted : Entry → Type 0) (entries : List Entry) (n hop : ℕ) → AreOverOne n entries → (hop < n) × wanted (Via (hop ∷ [])) →
+    HasNumber wanted entries hop
+number_over_hop wanted entries n hop are (below, is) =
+    let has = are hop below in
+    record { below = has.below; is = subst wanted (sym has.is) is }
 
--- with what is noted now
-pub noted_more : {K : Type 0} (wanted : ℕ → K → Entry → Type 0) (number_of : K → ℕ) (entries : List Entry) (all : List (Option K)) (at : ℕ) (noted : K) →
-    AreNoted wanted number_of entries all → HasNumber (wanted at noted) entries (number_of noted) →
-    AreNoted wanted number_of entries (set all at (Some noted))
-noted_more {K} wanted number_of entries all at noted are is v known there = elim (cases_eq v at) [
+pub over_one_kept : (n : ℕ) (entries more : List Entry) → AreOverOne n entries → AreOverOne n (entries ++ more)
+over_one_kept n entries more are hop below = number_kept (λ entry. entry ≡ Via (hop ∷ [])) entries more hop (are hop below)
+
+-- What is known towards vertices
+
+-- with what is known now
+pub known_more : (reach : ℕ → Reach) (n : ℕ) (entries : List Entry) (all : List (Option Known)) (at : ℕ) (known : Known) → AreKnown reach n entries all →
+    HasNumber (IsEntryTo (reach known.zone) at n) entries known.number → AreKnown reach n entries (set all at (Some known))
+known_more reach n entries all at noted are is v known there = elim (cases_eq v at) [
   | inl same ↦ elim (cases_lt at (length all)) [
     | inl inside ↦
         let read : get_or (set all at (Some noted)) at None ≡ Some noted = get_or-set_same all at (Some noted) None inside in
         let one : noted ≡ known = same_Some noted known (sym read ∙ subst (λ (w : ℕ). get_or (set all at (Some noted)) w None ≡ Some known) same there) in
-        subst (λ (w : ℕ). HasNumber (wanted w known) entries (number_of known)) (sym same)
-        (subst (λ (k : K). HasNumber (wanted at k) entries (number_of k)) one is)
-    | inr past ↦ are v known (subst (λ (l : List (Option K)). get_or l v None ≡ Some known) (set_past all at (Some noted) past) there)
+        subst (λ (w : ℕ). HasNumber (IsEntryTo (reach known.zone) w n) entries known.number) (sym same)
+        (subst (λ (k : Known). HasNumber (IsEntryTo (reach k.zone) at n) entries k.number) one is)
+    | inr past ↦ are v known (subst (λ (l : List (Option Known)). get_or l v None ≡ Some known) (set_past all at (Some noted) past) there)
   ]
   | inr other ↦ are v known (sym (get_or-set_other all at v (Some noted) None other) ∙ there)
 ]
 
--- what is wanted towards a vertex, and over a hop alone
-abbrev pub towards : (ℕ → Reach) → ℕ → ℕ → Known → Entry → Type 0
-towards reach n at known = IsEntryTo (reach known.zone) at n
-
-abbrev pub over_one : ℕ → ℕ → Entry → Type 0
-over_one hop _ entry = entry ≡ Via (hop ∷ [])
-
 -- Entries that come
 
--- what is noted stays noted
-pub shared_kept : (reach : ℕ → Reach) (n : ℕ) (old new : SharedRows) (more : List Entry) → new.builder.entries ≡ old.builder.entries ++ more →
-    new.known.items ≡ old.known.items → new.single.items ≡ old.single.items → AreShared reach n old → AreShared reach n new
-shared_kept reach n old new more entries known single are = record {
-  known = same (towards reach n) (λ (k : Known). k.number) old.known.items new.known.items known are.known;
-  single = same over_one (λ (k : ℕ). k) old.single.items new.single.items single are.single;
+-- what is known stays so
+pub shared_kept : (reach : ℕ → Reach) (n : ℕ) (old new : Pool) (more : List Entry) → new.entries.items ≡ old.entries.items ++ more →
+    new.known.items ≡ old.known.items → AreShared reach n old → AreShared reach n new
+shared_kept reach n old new more entries known are = record {
+  known = subst (λ (l : List Entry). AreKnown reach n l new.known.items) (sym entries)
+      (λ at one is. number_kept (IsEntryTo (reach one.zone) at n) old.entries.items more one.number
+      (are.known at one (subst (λ (l : List (Option Known)). get_or l at None ≡ Some one) known is)));
+  single = subst (AreOverOne n) (sym entries) (over_one_kept n old.entries.items more are.single);
 }
-  where
-    same : {K : Type 0} (wanted : ℕ → K → Entry → Type 0) (number_of : K → ℕ) (all given : List (Option K)) → given ≡ all →
-        AreNoted wanted number_of old.builder.entries all → AreNoted wanted number_of new.builder.entries given
-    same {K} wanted number_of all given is noted =
-        subst (λ (l : List Entry). AreNoted wanted number_of l given) (sym entries)
-        (subst (λ (l : List (Option K)). AreNoted wanted number_of (old.builder.entries ++ more) l) (sym is)
-        (noted_kept wanted number_of old.builder.entries more all noted))
 
-pub shared_where_kept : {E : Type 0} (reach : ℕ → Reach) (n : ℕ) (old new : SharedRows) (entry : Entry) (r : Result ℕ E) →
-    new.known.items ≡ old.known.items → new.single.items ≡ old.single.items → IfOk r (Keeps old.builder new.builder entry) → AreShared reach n old →
-    OnOk r (AreShared reach n new)
-shared_where_kept reach n old new entry (Ok number) known single keeps are = shared_kept reach n old new (entry ∷ []) keeps.entries known single are
-shared_where_kept reach n old new entry (Err e) known single keeps are = keeps
+pub shared_where_kept : {E : Type 0} (reach : ℕ → Reach) (n : ℕ) (old new : Pool) (entry : Entry) (r : Result ℕ E) → IfOk r (Keeps old new entry) →
+    AreShared reach n old → OnOk r (AreShared reach n new)
+shared_where_kept reach n old new entry (Ok number) keeps are = shared_kept reach n old new (entry ∷ []) keeps.entries keeps.known are
+shared_where_kept reach n old new entry (Err e) keeps are = keeps
 
--- the rows stay
-pub rows_where_kept : {E : Type 0} (old new : SharedRows) (entry : Entry) (r : Result ℕ E) → IfOk r (Keeps old.builder new.builder entry) →
-    OnOk r (KeepsMore old new)
-rows_where_kept old new entry (Ok number) keeps = record { more = entry ∷ []; entries = keeps.entries; rows = keeps.rows }
-rows_where_kept old new entry (Err e) keeps = keeps
+pub shared_where_more : {E : Type 0} (reach : ℕ → Reach) (n : ℕ) (old new : Pool) (r : Result ℕ E) → OnOk r (KeepsMore old new) →
+    OnOk r (new.known.items ≡ old.known.items) → AreShared reach n old → OnOk r (AreShared reach n new)
+shared_where_more reach n old new (Ok number) kept known are = shared_kept reach n old new kept.more kept.entries known are
+shared_where_more reach n old new (Err e) kept known are = kept
+
+pub more_where_kept : {E : Type 0} (old new : Pool) (entry : Entry) (r : Result ℕ E) → IfOk r (Keeps old new entry) → OnOk r (KeepsMore old new)
+more_where_kept old new entry (Ok number) keeps = record { more = entry ∷ []; entries = keeps.entries }
+more_where_kept old new entry (Err e) keeps = keeps
 
 -- where nothing is kept, nothing changes
-pub nothing_kept : (old : SharedRows) → KeepsMore old old
-nothing_kept old = record { more = []; entries = sym (append-nil old.builder.entries); rows = refl }
+pub nothing_kept : (old : Pool) → KeepsMore old old
+nothing_kept old = record { more = []; entries = sym (append-nil old.entries.items) }
+
+-- more and more entries
+pub more_kept : (old mid new : Pool) → KeepsMore old mid → KeepsMore mid new → KeepsMore old new
+more_kept old mid new first second = record {
+  more = first.more ++ second.more;
+  entries = second.entries ∙ ap (λ (l : List Entry). l ++ second.more) first.entries ∙ append_assoc old.entries.items first.more second.more;
+}

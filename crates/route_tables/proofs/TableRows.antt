@@ -1,14 +1,18 @@
 -- Tables, row by row, and the tables of all routers.
-use Rattle.std.proofs.Common.{◌≡◌, ℕ, ◌+◌, ◌<◌, ◌≤◌, ◌↔◌, ⊎_elim, List, [], ◌∷◌, ◌++◌, length, take, Option, Some, None, MatchOption, get_or, sym, ap, subst, ◌∙◌, arith, length-append}
-use Rattle.std.specs.List.{Contains}
-use Rattle.std.proofs.lemmas.List.{take_more, take_all, get_or-take, length-take-le, get_or_default}
-use Rattle.std.proofs.lemmas.List.Elements.{Contains-append_left, Contains-push, Contains-push_cases}
+use Rattle.std.proofs.Common.{◌≡◌, ℕ, ◌+◌, ◌<◌, ◌≤◌, ◌↔◌, ⊎_elim, List, [], ◌∷◌, ◌++◌, length, map, take, Option, Some, None, MatchOption, get_or, refl, sym, ap, subst, ◌∙◌, arith, length-append, Global, IfOk, Result, Ok, Err, Vec}
+use Rattle.std.specs.List.{All, Contains}
+use Rattle.std.proofs.lemmas.List.{take_more, take_all, get_or-take, length-take-le, get_or_default, get_or-map, length-map, map-append}
+use Rattle.std.proofs.lemmas.List.Elements.{All-push, Contains-append_left, Contains-push, Contains-push_cases}
 use Rattle.net_addr.specs.Addresses.{Block, default_prefix}
 use Rattle.walk_core.specs.declared.segment.Port.{Port}
 use Rattle.route_core.specs.Tables.{HasDistinctPrefixes, AreLinkedHops}
 use Rattle.route_core.specs.declared.entry.Entry.{Entry}
-use Rattle.route_core.specs.declared.entry.Entry.TheVariants.{Via}
+use Rattle.route_core.specs.declared.entry.Entry.TheVariants.{Discard, Via}
 use Rattle.route_core.proofs.TableLaws.{HasDistinctPrefixes-push}
+use Rattle.route_core.proofs.RowLaws.{numbers_kept, rows_kept}
+use Rattle.route_core.specs.Rows.{AreNumbersBelow, ArePlacesBelow, AreTableRows, listed_row, listed_rows}
+use Rattle.route_core.specs.declared.row.Row.{Row}
+use Rattle.route_tables.specs.steps.Sharing.{AreRowsBelow, AreRouterRows, IsAdded, IsNumberOf}
 use Rattle.route_tables.specs.Entries.{IsLawful, IsTableOf, AreTablesBelow, AreJoined, AreJoinedBy}
 use Rattle.route_tables.specs.Prefixes.{AreDistinctPrefixes, prefix_at}
 use Rattle.route_tables.specs.Tables.{AreLawful, AreRoutes}
@@ -110,14 +114,109 @@ rows_are_table entry dests k rows past are every =
       );
     }
 
+-- Rows that point to prefixes and entries
+
+-- the rows for the prefixes before a place
+pub record AreRowsTo (entry : Block → Entry → Type 0) (dests : List Block) (k : ℕ) (entries : List Entry) (list : List Row) : Type 0 where
+  pub places : ArePlacesBelow dests list
+  pub numbers : AreNumbersBelow entries list
+  pub rows : AreRows entry (take k dests) (listed_rows dests entries list)
+
+pub rows_to_kept : (entry : Block → Entry → Type 0) (dests : List Block) (k : ℕ) (entries more : List Entry) (list : List Row) →
+    AreRowsTo entry dests k entries list → AreRowsTo entry dests k (entries ++ more) list
+rows_to_kept entry dests k entries more list are = record {
+  places = are.places;
+  numbers = numbers_kept entries more list are.numbers;
+  rows = subst (AreRows entry (take k dests)) (sym (rows_kept dests entries more list are.numbers)) are.rows;
+}
+
+-- the row of the prefix at the next place, where it has an entry
+pub rows_to_more : (entry : Block → Entry → Type 0) (dests : List Block) (k : ℕ) (entries : List Entry) (old new : List Row) (number : Option ℕ) →
+    ((q : Block) (one other : Entry) → entry q one → entry q other → one ≡ other) → AreDistinctPrefixes dests → k < length dests →
+    AreRowsTo entry dests k entries old → IsNumberOf (entry (prefix_at dests k)) entries number → IsAdded k number old new →
+    AreRowsTo entry dests (k + 1) entries new
+rows_to_more entry dests k entries old new None single apart within are none same =
+    let listed : listed_rows dests entries new ≡ listed_rows dests entries old = ap (listed_rows dests entries) same in
+    record {
+      places = subst (ArePlacesBelow dests) (sym same) are.places;
+      numbers = subst (AreNumbersBelow entries) (sym same) are.numbers;
+      rows = rows_at entry dests k (listed_rows dests entries old) (listed_rows dests entries new) (prefix_at dests k) None single apart within refl
+          are.rows none listed;
+    }
+rows_to_more entry dests k entries old new (Some number) single apart within are has same =
+    let next : Row = record { place = k; number = number } in
+    let listed : listed_rows dests entries new ≡ listed_rows dests entries old ++ listed_row dests entries next ∷ [] =
+    ap (listed_rows dests entries) same ∙ map-append (listed_row dests entries) old (next ∷ []) in
+    record {
+      places = subst (ArePlacesBelow dests) (sym same) (All-push (λ (row : Row). row.place < length dests) old next are.places within);
+      numbers = subst (AreNumbersBelow entries) (sym same) (All-push (λ (row : Row). row.number < length entries) old next are.numbers has.below);
+      rows = rows_at entry dests k (listed_rows dests entries old) (listed_rows dests entries new) (prefix_at dests k)
+          (Some (get_or entries number Discard)) single apart within refl are.rows has.is listed;
+    }
+
+-- one more row at most
+pub at_most_one_more : (place : ℕ) (number : Option ℕ) (old new : List Row) → IsAdded place number old new → length new ≤ length old + 1
+at_most_one_more place None old new same = let long = ap length same in omega (arith, long)
+at_most_one_more place (Some number) old new same =
+    let next : Row = record { place = place; number = number } in
+    let long = ap length same ∙ length-append old (next ∷ []) in
+    omega (arith, long)
+
+-- the rows for all candidates are those of the table
+pub rows_to_all : (entry : Block → Entry → Type 0) (dests : List Block) (k : ℕ) (entries : List Entry) (list : List Row) → length dests ≤ k →
+    AreRowsTo entry dests k entries list → ((p : Block) (e : Entry) → entry p e → Contains dests p) → AreRouterRows entry dests entries list
+rows_to_all entry dests k entries list past are every =
+    let table : IsTableOf entry (listed_rows dests entries list) = rows_are_table entry dests k (listed_rows dests entries list) past are.rows every in
+    record { rows = record { places = are.places; numbers = are.numbers; distinct = table.distinct }; table = table }
+
 -- Router by router
 
-pub tables_more : (entry : ℕ → Block → Entry → Type 0) (n : ℕ) (tables : List (List (Block × Entry))) (next : List (Block × Entry)) →
-    AreTablesBelow entry n tables → IsTableOf (entry n) next → AreTablesBelow entry (n + 1) (tables ++ next ∷ [])
-tables_more entry n tables next are is = record {
-  count = let long = length-append tables (next ∷ []) in omega (arith, are.count);
-  each = each_more (λ (u : ℕ). IsTableOf (entry u)) tables n next are.count are.each is;
+-- with the entries of one more router the rows are those of the same tables, and so are its own
+pub rows_below_more : (entry : ℕ → Block → Entry → Type 0) (n : ℕ) (dests : List Block) (entries more : List Entry) (all : List (List Row)) (next : List Row) →
+    AreRowsBelow entry n dests entries all → AreRouterRows (entry n) dests (entries ++ more) next →
+    AreRowsBelow entry (n + 1) dests (entries ++ more) (all ++ next ∷ [])
+rows_below_more entry n dests entries more all next are is = record {
+  count = let long = length-append all (next ∷ []) in omega (arith, are.count);
+  each = each_more (λ (u : ℕ). AreRouterRows (entry u) dests (entries ++ more)) all n next are.count
+      (λ u below. kept u (get_or all u []) (are.each u below)) is;
 }
+  where
+    kept : (u : ℕ) (list : List Row) → AreRouterRows (entry u) dests entries list → AreRouterRows (entry u) dests (entries ++ more) list
+    kept u list own =
+        let same : listed_rows dests (entries ++ more) list ≡ listed_rows dests entries list = rows_kept dests entries more list own.rows.numbers in
+        record {
+          rows = record {
+            places = own.rows.places;
+            numbers = numbers_kept entries more list own.rows.numbers;
+            distinct = subst HasDistinctPrefixes (sym same) own.rows.distinct;
+          };
+          table = subst (IsTableOf (entry u)) (sym same) own.table;
+        }
+
+-- the rows are those of tables
+pub rows_of_tables : (entry : ℕ → Block → Entry → Type 0) (n : ℕ) (dests : List Block) (entries : List Entry) (all : List (List Row)) →
+    AreRowsBelow entry n dests entries all → All (AreTableRows dests entries) all
+rows_of_tables entry n dests entries all are = λ k d within.
+    subst (AreTableRows dests entries) (get_or_default all k [] d within) (are.each k (omega (arith, are.count))).rows
+
+-- and what they stand for are the tables
+pub tables_of_rows : (entry : ℕ → Block → Entry → Type 0) (n : ℕ) (dests : List Block) (entries : List Entry) (all : List (List Row))
+    (tables : List (List (Block × Entry))) → AreRowsBelow entry n dests entries all → tables ≡ map (listed_rows dests entries) all →
+    AreTablesBelow entry n tables
+tables_of_rows entry n dests entries all tables are same =
+    let listed = listed_rows dests entries in
+    subst (AreTablesBelow entry n) (sym same) (record {
+      count = length-map all listed ∙ are.count;
+      each = λ u below. subst (IsTableOf (entry u)) (sym (get_or-map listed all u [] [] (omega (arith, are.count)))) (are.each u below).table;
+    })
+
+pub tables_where_made : {E : Type 0} (entry : ℕ → Block → Entry → Type 0) (k n : ℕ) (prefixes dests : List Block) (entries : List Entry)
+    (all : List (List Row)) (r : Result (Vec (List (Block × Entry)) Global) E) → prefixes ≡ dests → k ≡ n → AreRowsBelow entry k dests entries all →
+    IfOk r (λ tables. tables.items ≡ map (listed_rows prefixes entries) all) → IfOk r (λ tables. AreTablesBelow entry n tables.items)
+tables_where_made entry k n prefixes dests entries all (Ok tables) same count are made =
+    subst (λ (m : ℕ). AreTablesBelow entry m tables.items) count
+    (tables_of_rows entry k dests entries all tables.items are (made ∙ ap (λ (l : List Block). map (listed_rows l entries) all) same))
+tables_where_made entry k n prefixes dests entries all (Err e) same count are made = made
 
 -- The source of tables
 

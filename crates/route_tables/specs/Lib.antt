@@ -3,6 +3,7 @@ pub mod Prefixes
 pub mod Routings
 pub mod BestRoutes
 pub mod AlikeOffers
+pub mod Lanes
 pub mod Entries
 pub mod Tables
 pub mod steps

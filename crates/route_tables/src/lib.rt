@@ -4,9 +4,13 @@
 //!   for each candidate, which candidates have the same routes, neighbors.
 //! - `route.rt`, `best.rt`: a route before it is an entry, and the route to the best of some offers, in one pass over them;
 //!   where one router has the first hops of all best offers, the route says that router and takes no memory.
+//! - `lane.rt`, `sure.rt`: what decides the routes of all routers that know the same offers, prefix by prefix, and what
+//!   that tells at once of a router's entry.
 //! - `alike.rt`: whether offers differ by a constant alone, by which prefixes have the same routes.
-//! - `sharing.rt`, `table.rt`: the table of a router, of which all routes over one hop alone share an entry, made once, and
-//!   so do those towards one router; no route is asked for a prefix with the same routes as an earlier one.
+//! - `pool.rt`: the entries that the tables of all routers share: those over one hop alone, which are made once and need no
+//!   search, and those that each table adds.
+//! - `sharing.rt`, `table.rt`: the number of each entry of a router, and its rows; no route is asked for a prefix with the
+//!   same routes as an earlier one, nor where the router's lane tells its entry.
 //! - `candidates.rt`, `distinct.rt`, `lists.rt`: prefixes, in order and each once, and lists that grow.
 //! - `routes.rt`, `joined.rt`: tables as a source of tables, with the segments that join neighbors.
 #![tactic(auto)]
@@ -16,16 +20,20 @@ mod best;
 mod candidates;
 mod distinct;
 mod joined;
+mod lane;
 mod lists;
+mod pool;
 mod protocol;
 mod route;
 mod routes;
 mod sharing;
+mod sure;
 mod table;
 
 pub use alike::are_alike;
 pub use best::{best_hops, best_route, best_target};
 pub use candidates::{Candidates, DistinctPrefixes, is_all_addresses};
+pub use lane::{Decision, Lane};
 pub use lists::push_option;
 pub use protocol::Protocol;
 pub use route::{Route, Target};

@@ -1,13 +1,16 @@
-ghost use Rattle.std.specs.Prelude.{◌≡◌, ◌<◌, ℕ, List, length, Contains, IfOk, IfSome, MatchOption};
+ghost use Rattle.std.specs.Prelude.{◌≡◌, ◌<◌, ℕ, List, length, slice_index_or, Contains, IfOk, IfSome, MatchOption};
+ghost use Rattle.route_tables.specs.declared.lane.Decision.TheVariants.{Unknown};
 ghost use Rattle.net_addr.specs.Addresses.{Block};
 ghost use Rattle.walk_core.specs.Reach.{Reach};
 ghost use Rattle.route_core.specs.declared.entry.Entry.{Entry};
 ghost use Rattle.route_tables.specs.Entries.{AreAlikePrefixes, AreJoinedBy, IsLawful};
+ghost use Rattle.route_tables.specs.Lanes.{DecidesRoute, LeadToBest};
 ghost use Rattle.route_tables.specs.Routings.{IsRouteFor};
 ghost use Rattle.route_tables.specs.Prefixes.{AreDistinctPrefixes, prefix_at};
 ghost use Rattle.route_tables.specs.declared.route.Route.TheVariants.{Towards};
 
 use crate::OutOfMemory;
+use crate::lane::Lane;
 use crate::route::{Route, Target};
 use net_addr::Prefix;
 use std::alloc::Global;
@@ -57,6 +60,18 @@ pub trait Protocol {
         ensures earlier { IfSome result (λ earlier. earlier < place) }
         ensures alike { IfSome result (λ earlier. AreAlikePrefixes (routers self.now) (entry self.now)
             (prefix_at (candidates self.now) earlier) (prefix_at (candidates self.now) place)) };
+
+    /// What decides the routes of a router, where it is in a lane.
+    fn lane(&self, router: u32) -> Option<Lane<'_>>
+        requires { router < routers self.now }
+        ensures zone { IfSome result (λ lane. lane.zone < zones self.now) }
+        ensures count { IfSome result (λ lane. length lane.decisions.now ≡ length (candidates self.now)) }
+        ensures decides { IfSome result (λ lane. (place : ℕ) → place < length (candidates self.now) →
+            DecidesRoute router (entry self.now router (prefix_at (candidates self.now) place))
+            (LeadToBest (reach self.now router lane.zone) lane.zone (routers self.now)
+            (IsRouteFor (reach self.now router) (zones self.now) (routers self.now)
+            (entry self.now router (prefix_at (candidates self.now) place))))
+            (slice_index_or lane.decisions.now place Unknown)) };
 
     /// Where its route for the prefix of this number leads, where that is known at once, without hops of its own.
     fn target(&self, place: usize, router: u32) -> Option<Target>

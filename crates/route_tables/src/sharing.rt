@@ -1,92 +1,83 @@
-ghost use Rattle.std.specs.Prelude.{◌≡◌, ◌<◌, ◌∷◌, ℕ, [], None, Some, length, slice_index_or, slice_set, IfOk, IfSome, OnOk, MatchOption};
-ghost use Rattle.walk_core.specs.Reach.{Reach};
+ghost use Rattle.std.specs.Prelude.{◌≡◌, ◌<◌, IfOk, IfSome, OnOk, length};
 ghost use Rattle.route_tables.specs.Prefixes.{prefix_at};
 ghost use Rattle.route_tables.specs.Routings.{AreHopsTo, HasZoneTarget, IsEntryTo, IsReached, IsZoneTarget, Makes};
-ghost use Rattle.route_tables.specs.steps.Sharing.{AddsNumber, AreNumbers, AreShared, AreSingle, HasNumber, IsNumberOf, KeepsMore};
+ghost use Rattle.route_tables.specs.steps.Sharing.{AreNumbers, AreOverOne, AreShared, HasNumber, IsNumberOf, IsRouterLane, KeepsMore};
+ghost use Rattle.route_tables.specs.steps.Sure.{IsSure};
 ghost use Rattle.route_core.specs.declared.entry.Entry.TheVariants.{Via};
 
 use crate::OutOfMemory;
+use crate::lane::Decision;
+use crate::pool::Pool;
 use crate::protocol::Protocol;
 use crate::route::{Route, Target};
-use net_addr::Prefix;
-use route_core::{Entry, Hops, TableBuilder};
+use crate::sure::{Sure, only_hop, sure_of};
+use route_core::{Entry, Hops};
 use std::alloc::Global;
 use walk_core::{LeastWalks, Offer};
 
-/// An entry towards a router that a table keeps: the zone of its target, and its number.
+/// The lane that a router is in: what decides its routes, and its least walks of the lane's zone.
 #[derive(Clone, Copy, Debug)]
-pub(crate) struct Known {
-    zone: usize,
-    number: u32,
+pub(crate) struct RouterLane<'a> {
+    walks: &'a LeastWalks,
+    decisions: &'a [Decision],
 }
 
-/// A table in the making, with its entries over one hop alone, for each hop, and those towards routers, for each router the
-/// latest one.
-#[derive(Debug, Drop)]
-pub(crate) struct SharedRows {
-    pub(crate) builder: TableBuilder,
-    known: Vec<Option<Known>>,
-    single: Vec<Option<u32>>,
+/// The lane of a router, where it is in one.
+pub(crate) fn lane_of<P: Protocol>(protocol: &P, router: u32) -> Option<RouterLane<'_>>
+    requires { router < P.routers protocol.now }
+    ensures { IfSome result (IsRouterLane (P.routers protocol.now) router (P.entry protocol.now router) (P.candidates protocol.now)) }
+{
+    let lane = protocol.lane(router)?;
+    Some(RouterLane {
+        walks: protocol.walks(router, lane.zone),
+        decisions: lane.decisions,
+    })
 }
 
-impl SharedRows {
-    /// No rows, with room for this many, and for entries towards each of so many routers.
-    pub(crate) fn with_capacity(
-        alloc: Global,
-        rows: usize,
-        routers: u32,
-    ) -> Result<SharedRows, OutOfMemory>
-        ensures rows { IfOk result (λ shared. shared.builder.rows ≡ []) }
-        ensures known { IfOk result (λ shared. (at : ℕ) → slice_index_or shared.known.items at None ≡ None) }
-        ensures single { IfOk result (λ shared. (hop : ℕ) → slice_index_or shared.single.items hop None ≡ None) }
-    {
-        Ok(SharedRows {
-            builder: TableBuilder::with_capacity(alloc, rows)?,
-            known: vec![in alloc; None; routers as usize]?,
-            single: vec![in alloc; None; routers as usize]?,
-        })
-    }
-
-    /// Adds the row of a prefix, where it has an entry.
-    pub(crate) fn add(&mut self, dest: Prefix, number: Option<u32>) -> Result<(), OutOfMemory>
-        requires { IfSome number (λ k. k < length self.old.builder.entries) }
-        ensures { OnOk result (AddsNumber dest number self.old self.new) }
-    {
-        match number {
-            Some(number) => self.builder.add(dest, number),
-            None => Ok(()),
-        }
+/// What a router's lane tells at once of its entry for the prefix at a place.
+#[inline(always)]
+pub(crate) fn sure_at<P: Protocol>(
+    protocol: &P,
+    router: u32,
+    lane: Option<RouterLane<'_>>,
+    place: usize,
+) -> Sure
+    requires place { place < length (P.candidates protocol.now) }
+    requires lane { IfSome lane (IsRouterLane (P.routers protocol.now) router (P.entry protocol.now router) (P.candidates protocol.now)) }
+    ensures { IsSure (P.routers protocol.now) (P.entry protocol.now router (prefix_at (P.candidates protocol.now) place)) result }
+{
+    let Some(lane) = lane else {
+        return Sure::Unknown;
+    };
+    match lane.decisions.get(place).copied() {
+        Some(decision) => sure_of(lane.walks, protocol.routers(), router, decision),
+        None => Sure::Unknown,
     }
 }
 
-/// The number of the entry for the prefix at a place, where it has one: that of an earlier prefix with the same
-/// entries, where one is known, else that towards its target, where one is known, else that of its route's entry.
-pub(crate) fn number_at<P: Protocol>(
+/// The number of the entry for the prefix at a place, where it has one: that towards its target, where one is known, else
+/// that of its route's entry.
+#[inline(never)]
+pub(crate) fn number_asked<P: Protocol>(
     alloc: Global,
     protocol: &P,
     router: u32,
-    shared: &mut SharedRows,
-    numbers: &[Option<u32>],
+    pool: &mut Pool,
     place: usize,
 ) -> Result<Option<u32>, OutOfMemory>
     requires router { router < P.routers protocol.now }
     requires place { place < length (P.candidates protocol.now) }
-    requires count { length numbers.now ≡ place }
-    requires known { AreShared (P.reach protocol.now router) (P.routers protocol.now) shared.old }
-    requires numbers { AreNumbers (P.entry protocol.now router) (P.candidates protocol.now) shared.old.builder.entries numbers.now }
-    ensures known { OnOk result (AreShared (P.reach protocol.now router) (P.routers protocol.now) shared.new) }
-    ensures kept { OnOk result (KeepsMore shared.old shared.new) }
-    ensures number { IfOk result (IsNumberOf (P.entry protocol.now router (prefix_at (P.candidates protocol.now) place)) shared.new.builder.entries) }
+    requires known { AreShared (P.reach protocol.now router) (P.routers protocol.now) pool.old }
+    ensures known { OnOk result (AreShared (P.reach protocol.now router) (P.routers protocol.now) pool.new) }
+    ensures kept { OnOk result (KeepsMore pool.old pool.new) }
+    ensures number { IfOk result (IsNumberOf (P.entry protocol.now router (prefix_at (P.candidates protocol.now) place)) pool.new.entries.items) }
 {
-    if let Some(earlier) = protocol.alike(place) {
-        return Ok(numbers[earlier]);
-    }
     if let Some(target) = protocol.target(place, router) {
-        let number = number_towards(alloc, protocol, router, shared, target)?;
+        let number = number_towards(alloc, protocol, router, pool, target)?;
         return Ok(Some(number));
     }
     match protocol.route(alloc, place, router)? {
-        Some(route) => Ok(Some(number_of(alloc, protocol, router, shared, route)?)),
+        Some(route) => Ok(Some(number_of(alloc, protocol, router, pool, route)?)),
         None => Ok(None),
     }
 }
@@ -97,149 +88,93 @@ fn number_of<P: Protocol>(
     alloc: Global,
     protocol: &P,
     router: u32,
-    shared: &mut SharedRows,
+    pool: &mut Pool,
     route: Route,
 ) -> Result<u32, OutOfMemory>
     requires router { router < P.routers protocol.now }
     requires target { HasZoneTarget (P.reach protocol.now router) (P.zones protocol.now) route }
-    requires known { AreShared (P.reach protocol.now router) (P.routers protocol.now) shared.old }
-    ensures known { OnOk result (AreShared (P.reach protocol.now router) (P.routers protocol.now) shared.new) }
-    ensures kept { OnOk result (KeepsMore shared.old shared.new) }
-    ensures number { IfOk result (HasNumber (Makes (P.reach protocol.now router) (P.routers protocol.now) route) shared.new.builder.entries) }
+    requires known { AreShared (P.reach protocol.now router) (P.routers protocol.now) pool.old }
+    ensures known { OnOk result (AreShared (P.reach protocol.now router) (P.routers protocol.now) pool.new) }
+    ensures kept { OnOk result (KeepsMore pool.old pool.new) }
+    ensures number { IfOk result (HasNumber (Makes (P.reach protocol.now router) (P.routers protocol.now) route) pool.new.entries.items) }
 {
     match route {
-        Route::Drops => shared.builder.keep(Entry::Discard),
-        Route::Towards(target) => number_towards(alloc, protocol, router, shared, target),
-        Route::Through(hops) => number_through(shared, hops),
+        Route::Drops => pool.keep(Entry::Discard),
+        Route::Towards(target) => number_towards(alloc, protocol, router, pool, target),
+        Route::Through(hops) => number_through(pool, hops, protocol.routers()),
     }
 }
 
-/// The number of the entry over these hops: that of one that is kept, else that of a new one.
-#[inline(never)]
-fn number_through(shared: &mut SharedRows, hops: Hops) -> Result<u32, OutOfMemory>
-    ensures known { (reach : ℕ → Reach) (n : ℕ) → AreShared reach n shared.old → OnOk result (AreShared reach n shared.new) }
-    ensures kept { OnOk result (KeepsMore shared.old shared.new) }
-    ensures number { IfOk result (HasNumber (λ entry. entry ≡ Via hops) shared.new.builder.entries) }
-{
-    match shared.builder.find(hops.as_slice()) {
-        Some(number) => Ok(number),
-        None => shared.builder.keep(Entry::Via(hops)),
-    }
-}
-
-/// The number of the entry towards a target: the latest one towards its router, where that is of its zone, else one over
-/// its hops.
+/// The number of the entry towards a target: that of its one first hop, where it has one alone, else that over all of them.
 #[inline(always)]
 fn number_towards<P: Protocol>(
     alloc: Global,
     protocol: &P,
     router: u32,
-    shared: &mut SharedRows,
+    pool: &mut Pool,
     target: Target,
 ) -> Result<u32, OutOfMemory>
     requires router { router < P.routers protocol.now }
     requires target { IsZoneTarget (P.reach protocol.now router) (P.zones protocol.now) target }
-    requires known { AreShared (P.reach protocol.now router) (P.routers protocol.now) shared.old }
-    ensures known { OnOk result (AreShared (P.reach protocol.now router) (P.routers protocol.now) shared.new) }
-    ensures kept { OnOk result (KeepsMore shared.old shared.new) }
-    ensures number { IfOk result (HasNumber (IsEntryTo (P.reach protocol.now router target.zone) target.at (P.routers protocol.now)) shared.new.builder.entries) }
+    requires known { AreShared (P.reach protocol.now router) (P.routers protocol.now) pool.old }
+    ensures known { OnOk result (AreShared (P.reach protocol.now router) (P.routers protocol.now) pool.new) }
+    ensures kept { OnOk result (KeepsMore pool.old pool.new) }
+    ensures number { IfOk result (HasNumber (IsEntryTo (P.reach protocol.now router target.zone) target.at (P.routers protocol.now)) pool.new.entries.items) }
 {
-    if let Some(number) = known_number(shared.known.as_slice(), target) {
-        return Ok(number);
+    match only_hop(protocol.walks(router, target.zone), target.at) {
+        Some(hop) if hop < protocol.routers() => Ok(hop),
+        _ => number_over(alloc, protocol, router, pool, target),
     }
-    let number = number_over(alloc, protocol, router, shared, target)?;
-    remember(&mut shared.known, target, number);
-    Ok(number)
 }
 
-/// The number of the entry over the hops towards a target.
-#[inline(always)]
+/// The number of the entry over the hops towards a target: the latest one towards its router, where that is of its zone,
+/// else one over these hops.
+#[inline(never)]
 fn number_over<P: Protocol>(
     alloc: Global,
     protocol: &P,
     router: u32,
-    shared: &mut SharedRows,
+    pool: &mut Pool,
     target: Target,
 ) -> Result<u32, OutOfMemory>
     requires router { router < P.routers protocol.now }
     requires target { IsZoneTarget (P.reach protocol.now router) (P.zones protocol.now) target }
-    requires known { AreShared (P.reach protocol.now router) (P.routers protocol.now) shared.old }
-    ensures known { OnOk result (AreShared (P.reach protocol.now router) (P.routers protocol.now) shared.new) }
-    ensures kept { OnOk result (KeepsMore shared.old shared.new) }
-    ensures number { IfOk result (HasNumber (IsEntryTo (P.reach protocol.now router target.zone) target.at (P.routers protocol.now)) shared.new.builder.entries) }
+    requires known { AreShared (P.reach protocol.now router) (P.routers protocol.now) pool.old }
+    ensures known { OnOk result (AreShared (P.reach protocol.now router) (P.routers protocol.now) pool.new) }
+    ensures kept { OnOk result (KeepsMore pool.old pool.new) }
+    ensures number { IfOk result (HasNumber (IsEntryTo (P.reach protocol.now router target.zone) target.at (P.routers protocol.now)) pool.new.entries.items) }
 {
-    let walks = protocol.walks(router, target.zone);
-    if let Some(hop) = only_hop(walks, target.at, protocol.routers()) {
-        return number_over_one(shared, hop);
-    }
-    let hops = hops_towards(alloc, walks, target.at, protocol.routers())?;
-    number_through(shared, hops)
-}
-
-/// The number of the entry over a hop alone: that which is noted, else that of a new one.
-fn number_over_one(shared: &mut SharedRows, hop: u32) -> Result<u32, OutOfMemory>
-    requires single { AreSingle shared.old.builder.entries shared.old.single.items }
-    ensures known { (reach : ℕ → Reach) (n : ℕ) → AreShared reach n shared.old → OnOk result (AreShared reach n shared.new) }
-    ensures kept { OnOk result (KeepsMore shared.old shared.new) }
-    ensures number { IfOk result (HasNumber (λ entry. entry ≡ Via (hop ∷ [])) shared.new.builder.entries) }
-{
-    if let Some(number) = single_number(shared.single.as_slice(), hop) {
+    if let Some(number) = pool.known_number(target) {
         return Ok(number);
     }
-    let number = shared.builder.keep(Entry::Via(Hops::from_one(hop)))?;
-    note_single(&mut shared.single, hop, number);
+    let walks = protocol.walks(router, target.zone);
+    let hops = hops_towards(alloc, walks, target.at, protocol.routers())?;
+    let number = number_through(pool, hops, protocol.routers())?;
+    pool.remember(target, number);
     Ok(number)
 }
 
-/// The one first hop below `count` towards a router, where there is one alone.
-fn only_hop(walks: &LeastWalks, at: u32, count: u32) -> Option<u32>
-    ensures { IfSome result (λ hop. AreHopsTo walks.now at count (hop ∷ [])) }
+/// The number of the entry over these hops: that of one that is kept, else that of a new one.
+fn number_through(pool: &mut Pool, hops: Hops, routers: u32) -> Result<u32, OutOfMemory>
+    requires { AreOverOne routers pool.old.entries.items }
+    ensures known { OnOk result (pool.new.known.items ≡ pool.old.known.items) }
+    ensures kept { OnOk result (KeepsMore pool.old pool.new) }
+    ensures number { IfOk result (HasNumber (λ entry. entry ≡ Via hops) pool.new.entries.items) }
 {
-    let hops = walks.hops_to(at);
-    if hops.len() == 1 && hops[0] < count {
-        Some(hops[0])
-    } else {
-        None
+    match number_kept(pool, hops.as_slice(), routers) {
+        Some(number) => Ok(number),
+        None => pool.keep(Entry::Via(hops)),
     }
 }
 
-/// The number of the entry over a hop alone, where that is known.
-fn single_number(single: &[Option<u32>], hop: u32) -> Option<u32>
-    ensures { IfSome result (λ number. slice_index_or single.now hop None ≡ Some number) }
+/// The number of an entry over these hops that is kept, where there is one: that of a hop alone is the hop.
+fn number_kept(pool: &Pool, hops: &[u32], routers: u32) -> Option<u32>
+    requires { AreOverOne routers pool.now.entries.items }
+    ensures { IfSome result (HasNumber (λ entry. entry ≡ Via hops.now) pool.now.entries.items) }
 {
-    single.get(hop as usize).copied().flatten()
-}
-
-/// Notes the number of the entry over a hop alone.
-fn note_single(single: &mut Vec<Option<u32>>, hop: u32, number: u32)
-    ensures { single.new.items ≡ slice_set single.old.items hop (Some number) }
-{
-    let place = hop as usize;
-    if place < single.len() {
-        single[place] = Some(number);
-    }
-}
-
-/// The number of the entry towards a target, where that is known.
-fn known_number(known: &[Option<Known>], target: Target) -> Option<u32>
-    ensures { IfSome result (λ number. slice_index_or known.now target.at None ≡ Some (record { zone = target.zone; number = number })) }
-{
-    match known.get(target.at as usize).copied().flatten() {
-        Some(known) if known.zone == target.zone => Some(known.number),
-        _ => None,
-    }
-}
-
-/// Notes the number of the entry towards a target.
-fn remember(known: &mut Vec<Option<Known>>, target: Target, number: u32)
-    ensures { known.new.items ≡ slice_set known.old.items target.at (Some (record { zone = target.zone; number = number })) }
-{
-    let at = target.at as usize;
-    if at < known.len() {
-        known[at] = Some(Known {
-            zone: target.zone,
-            number,
-        });
+    match hops {
+        [hop] if *hop < routers => Some(*hop),
+        _ => pool.find(hops),
     }
 }
 

@@ -1,13 +1,20 @@
--- Tables in the making: of which rows towards one router share an entry, and so do those of alike prefixes.
+-- Tables in the making: entries that all tables share, of which a table knows the numbers of some, and its rows.
 use Rattle.std.specs.Prelude.{◌≡◌, ◌<◌, ℕ, List, [], ◌∷◌, ◌++◌, length, Some, None, Option, MatchOption, slice_index_or}
 use Rattle.net_addr.specs.Addresses.{Block}
 use Rattle.walk_core.specs.Reach.{Reach}
+use Rattle.route_core.specs.Rows.{AreTableRows, listed_rows}
 use Rattle.route_core.specs.declared.entry.Entry.{Entry}
 use Rattle.route_core.specs.declared.entry.Entry.TheVariants.{Via, Discard}
+use Rattle.route_core.specs.declared.row.Row.{Row}
+use Rattle.route_tables.specs.Entries.{IsTableOf}
 use Rattle.route_tables.specs.Prefixes.{prefix_at}
 use Rattle.route_tables.specs.Routings.{IsEntryTo}
-use Rattle.route_tables.specs.declared.sharing.Known.{Known}
-use Rattle.route_tables.specs.declared.sharing.SharedRows.{SharedRows}
+use Rattle.route_tables.specs.declared.lane.Decision.TheVariants.{Unknown}
+use Rattle.route_tables.specs.declared.pool.Known.{Known}
+use Rattle.route_tables.specs.declared.pool.Pool.{Pool}
+use Rattle.route_tables.specs.declared.sharing.RouterLane.{RouterLane}
+use Rattle.route_tables.specs.declared.sure.Sure.{Sure}
+use Rattle.route_tables.specs.steps.Sure.{IsSure, Tells}
 
 -- the entry of the number is one that is wanted
 pub record HasNumber (wanted : Entry → Type 0) (entries : List Entry) (number : ℕ) : Type 0 where
@@ -18,39 +25,51 @@ pub record HasNumber (wanted : Entry → Type 0) (entries : List Entry) (number 
 abbrev pub IsNumberOf : (Entry → Type 0) → List Entry → Option ℕ → Type 0
 IsNumberOf wanted entries number = MatchOption number ((e : Entry) → wanted e → ⊥) (HasNumber wanted entries)
 
--- the numbers noted at some places are those of the entries that are wanted there
-abbrev pub AreNoted : {K : Type 0} → (ℕ → K → Entry → Type 0) → (K → ℕ) → List Entry → List (Option K) → Type 0
-AreNoted {K} wanted number_of entries all =
-    (at : ℕ) (known : K) → slice_index_or all at None ≡ Some known → HasNumber (wanted at known) entries (number_of known)
+-- the entry over each hop below n alone has the number of the hop
+abbrev pub AreOverOne : ℕ → List Entry → Type 0
+AreOverOne n entries = (hop : ℕ) → hop < n → HasNumber (λ entry. entry ≡ Via (hop ∷ [])) entries hop
 
--- what is known towards each vertex
+-- what is known towards vertices are the numbers of the entries towards them
 abbrev pub AreKnown : (ℕ → Reach) → ℕ → List Entry → List (Option Known) → Type 0
-AreKnown reach n entries all = AreNoted (λ at known. IsEntryTo (reach known.zone) at n) (λ known. known.number) entries all
+AreKnown reach n entries all =
+    (at : ℕ) (known : Known) → slice_index_or all at None ≡ Some known → HasNumber (IsEntryTo (reach known.zone) at n) entries known.number
 
--- the entries over each hop alone
-abbrev pub AreSingle : List Entry → List (Option ℕ) → Type 0
-AreSingle entries all = AreNoted (λ hop _ entry. entry ≡ Via (hop ∷ [])) (λ number. number) entries all
-
--- what is noted, towards vertices and over hops
-pub record AreShared (reach : ℕ → Reach) (n : ℕ) (shared : SharedRows) : Type 0 where
-  pub known : AreKnown reach n shared.builder.entries shared.known.items
-  pub single : AreSingle shared.builder.entries shared.single.items
+-- the numbers of entries that a table knows, towards vertices and over one hop
+pub record AreShared (reach : ℕ → Reach) (n : ℕ) (pool : Pool) : Type 0 where
+  pub known : AreKnown reach n pool.entries.items pool.known.items
+  pub single : AreOverOne n pool.entries.items
 
 -- these are the numbers of the entries for the first prefixes
 abbrev pub AreNumbers : (Block → Entry → Type 0) → List Block → List Entry → List (Option ℕ) → Type 0
 AreNumbers entry dests entries numbers =
     (place : ℕ) → place < length numbers → IsNumberOf (entry (prefix_at dests place)) entries (slice_index_or numbers place None)
 
--- an entry may have come, and the rows stay
-pub record KeepsMore (old new : SharedRows) : Type 0 where
+-- entries may have come
+pub record KeepsMore (old new : Pool) : Type 0 where
   pub more : List Entry
-  pub entries : new.builder.entries ≡ old.builder.entries ++ more
-  pub rows : new.builder.rows ≡ old.builder.rows
+  pub entries : new.entries.items ≡ old.entries.items ++ more
 
--- the prefix's row has come, where it has a number
-pub record AddsNumber (dest : Block) (number : Option ℕ) (old new : SharedRows) : Type 0 where
-  pub entries : new.builder.entries ≡ old.builder.entries
+-- this entry has come under the number
+pub record Keeps (old new : Pool) (entry : Entry) (number : ℕ) : Type 0 where
+  pub number_is : number ≡ length old.entries.items
+  pub entries : new.entries.items ≡ old.entries.items ++ entry ∷ []
   pub known : new.known.items ≡ old.known.items
-  pub single : new.single.items ≡ old.single.items
-  pub rows : MatchOption number (new.builder.rows ≡ old.builder.rows)
-      (λ k. new.builder.rows ≡ old.builder.rows ++ (dest, slice_index_or old.builder.entries k Discard) ∷ [])
+
+-- what the lane tells of router u, with hops below n, is so of the router's entries
+abbrev pub IsRouterLane : ℕ → ℕ → (Block → Entry → Type 0) → List Block → RouterLane → Type 0
+IsRouterLane n u entry dests lane = (place : ℕ) (sure : Sure) → place < length dests →
+    Tells lane.walks.now n u (slice_index_or lane.decisions.now place Unknown) sure → IsSure n (entry (prefix_at dests place)) sure
+
+-- the row of the prefix at this place has come, where it has a number
+abbrev pub IsAdded : ℕ → Option ℕ → List Row → List Row → Type 0
+IsAdded place number old new = MatchOption number (new ≡ old) (λ k. new ≡ old ++ record { place = place; number = k } ∷ [])
+
+-- the rows are those of a table with these entries
+pub record AreRouterRows (entry : Block → Entry → Type 0) (prefixes : List Block) (entries : List Entry) (list : List Row) : Type 0 where
+  pub rows : AreTableRows prefixes entries list
+  pub table : IsTableOf entry (listed_rows prefixes entries list)
+
+-- the rows of the routers below n
+pub record AreRowsBelow (entry : ℕ → Block → Entry → Type 0) (n : ℕ) (prefixes : List Block) (entries : List Entry) (all : List (List Row)) : Type 0 where
+  pub count : length all ≡ n
+  pub each : (u : ℕ) → u < n → AreRouterRows (entry u) prefixes entries (slice_index_or all u [])

@@ -6,6 +6,6 @@ use Rattle.route_core.proofs.matches.longest_match.Given as goal
 
 abbrev pub invariant-loop-place : goal.invariant-loop-place
 invariant-loop-place l = record {
-  best : IsMatch (row_prefixes (take l.place l.rows)) l.a l.best;
-  blocks : AreBlocks (row_prefixes (take l.place l.rows)) l.a;
+  best : IsMatch (row_prefixes l.prefixes (take l.place l.rows)) l.a l.best;
+  blocks : AreBlocks (row_prefixes l.prefixes (take l.place l.rows)) l.a;
 }

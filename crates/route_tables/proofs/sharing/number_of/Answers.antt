@@ -1,16 +1,16 @@
-use Rattle.std.proofs.Common.{refl}
 use Rattle.route_core.specs.declared.entry.Entry.TheVariants.{Discard}
-use Rattle.route_tables.proofs.SharingLaws.{rows_where_kept, shared_where_kept}
+use Rattle.route_tables.proofs.SharingLaws.{more_where_kept, shared_where_kept, shared_where_more}
 use Rattle.route_tables.proofs.sharing.number_of.Goals as goal
 
 pub returns-in-Drops-clause-kept : goal.returns-in-Drops-clause-kept
-returns-in-Drops-clause-kept g c = rows_where_kept c.args.shared.now _ Discard c.keep.result c.keep.ensures
+returns-in-Drops-clause-kept g c = more_where_kept c.args.pool.now _ Discard c.keep.result c.keep.ensures
 
 pub returns-in-Drops-clause-known : goal.returns-in-Drops-clause-known
 returns-in-Drops-clause-known g c =
-    shared_where_kept (g.P.Protocol.reach c.args.protocol.now c.args.router) (g.P.Protocol.routers c.args.protocol.now) c.args.shared.now _ Discard
-    c.keep.result refl refl c.keep.ensures c.requires.known
+    shared_where_kept (g.P.Protocol.reach c.args.protocol.now c.args.router) (g.P.Protocol.routers c.args.protocol.now) c.args.pool.now _ Discard
+    c.keep.result c.keep.ensures c.requires.known
 
 pub returns-in-Through-clause-known : goal.returns-in-Through-clause-known
 returns-in-Through-clause-known g c =
-    c.number_through.ensures.known (g.P.Protocol.reach c.args.protocol.now c.args.router) (g.P.Protocol.routers c.args.protocol.now) c.requires.known
+    shared_where_more (g.P.Protocol.reach c.args.protocol.now c.args.router) (g.P.Protocol.routers c.args.protocol.now) c.args.pool.now
+    c.number_through.new.pool c.number_through.result c.number_through.ensures.kept c.number_through.ensures.known c.requires.known

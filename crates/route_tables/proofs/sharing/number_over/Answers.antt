@@ -1,21 +1,38 @@
-use Rattle.std.proofs.Common.{◌≡◌, ℕ, subst}
+use Rattle.std.proofs.Common.{ℕ, List, sym, subst}
 use Rattle.walk_core.specs.Reach.{Reach}
 use Rattle.route_core.specs.declared.entry.Entry.{Entry}
-use Rattle.route_core.specs.declared.entry.Entry.TheVariants.{Via}
 use Rattle.route_tables.specs.Routings.{AreHopsTo, IsEntryTo}
-use Rattle.route_tables.proofs.SharingLaws.{number_weaker}
+use Rattle.route_tables.specs.declared.pool.Known.{Known}
+use Rattle.route_tables.specs.steps.Sharing.{AreKnown, AreOverOne, AreShared, HasNumber}
+use Rattle.route_tables.proofs.SharingLaws.{known_more, shared_kept}
 use Rattle.route_tables.proofs.sharing.number_over.Goals as goal
 
-pub returns-clause-number : goal.returns-clause-number
-returns-clause-number g c =
+pub returns-in-Some-clause-number : goal.returns-in-Some-clause-number
+returns-in-Some-clause-number g c =
+    c.requires.known.known c.args.target.at (record { zone = c.args.target.zone; number = c.in-Some.number }) c.in-Some.ensures
+
+pub returns-clause-known : goal.returns-clause-known
+returns-clause-known g c =
+    let reach : ℕ → Reach = g.P.Protocol.reach c.args.protocol.now c.args.router in
     let n : ℕ = g.P.Protocol.routers c.args.protocol.now in
-    let reach : Reach = g.P.Protocol.reach c.args.protocol.now c.args.router c.args.target.zone in
-    number_weaker (λ (e : Entry). e ≡ Via c.in_ok-hops.hops) (IsEntryTo reach c.args.target.at n) c.number_through.new.shared.builder.entries
-    c.number_through.result
-    (λ e is. record {
-      hops = c.in_ok-hops.hops;
-      is = is;
-      are = subst (λ (r : Reach). AreHopsTo r c.args.target.at n c.in_ok-hops.hops) c.walks-walks.ensures
-          (subst (λ (m : ℕ). AreHopsTo c.walks-walks.result.now c.args.target.at m c.in_ok-hops.hops) c.routers-2.ensures.count c.in_ok-hops.ensures);
-    })
-    c.number_through.ensures.number
+    let target = c.args.target in
+    let mid = c.number_through.new.pool in
+    let through = c.in_ok-number.ensures in
+    let hops = c.in_ok-hops.hops in
+    let shared : AreShared reach n mid = shared_kept reach n c.args.pool.now mid through.kept.more through.kept.entries through.known c.requires.known in
+    let known : Known = record { zone = target.zone; number = c.in_ok-number.number } in
+    let has : HasNumber (IsEntryTo (reach target.zone) target.at n) mid.entries.items known.number = record {
+      below = through.number.below;
+      is = record {
+        hops = hops;
+        is = through.number.is;
+        are = subst (λ (r : Reach). AreHopsTo r target.at n hops) c.walks-walks.ensures
+            (subst (λ (m : ℕ). AreHopsTo c.walks-walks.result.now target.at m hops) c.routers.ensures.count c.in_ok-hops.ensures);
+      };
+    } in
+    record {
+      known = subst (λ (l : List Entry). AreKnown reach n l c.remember.new.self.known.items) (sym c.remember.ensures.entries)
+          (subst (AreKnown reach n mid.entries.items) (sym c.remember.ensures.known)
+          (known_more reach n mid.entries.items mid.known.items target.at known shared.known has));
+      single = subst (AreOverOne n) (sym c.remember.ensures.entries) shared.single;
+    }

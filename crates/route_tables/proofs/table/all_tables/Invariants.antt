@@ -1,5 +1,8 @@
-use Rattle.route_tables.specs.Entries.{AreTablesBelow}
+use Rattle.route_tables.specs.steps.Sharing.{AreOverOne, AreRowsBelow}
 use Rattle.route_tables.proofs.table.all_tables.Given as goal
 
 abbrev pub invariant-loop-router : goal.invariant-loop-router
-invariant-loop-router g l = AreTablesBelow (g.P.Protocol.entry l.protocol) l.router l.tables.items
+invariant-loop-router g l = record {
+  rows : AreRowsBelow (g.P.Protocol.entry l.protocol) l.router (g.P.Protocol.candidates l.protocol) l.pool.entries.items l.rows.items;
+  single : AreOverOne (g.P.Protocol.routers l.protocol) l.pool.entries.items;
+}

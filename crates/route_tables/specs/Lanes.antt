@@ -1,0 +1,24 @@
+-- What decides the routes of all routers that know the same offers.
+use Rattle.std.specs.Prelude.{◌≢◌, ◌∷◌, ℕ, List, []}
+use Rattle.walk_core.specs.Reach.{Reach}
+use Rattle.walk_core.specs.BestOffers.{AreInRange}
+use Rattle.walk_core.specs.declared.offers.Offer.{Offer}
+use Rattle.route_core.specs.declared.entry.Entry.{Entry}
+use Rattle.route_tables.specs.BestRoutes.{IsBestTarget}
+use Rattle.route_tables.specs.declared.lane.Decision.{Decision}
+use Rattle.route_tables.specs.declared.lane.Decision.TheVariants.{Nothing, One, Two, Unknown}
+use Rattle.route_tables.specs.declared.route.Route.{Route}
+use Rattle.route_tables.specs.declared.route.Route.TheVariants.{Towards}
+use Rattle.route_tables.specs.declared.route.Target.{Target}
+
+-- the offers fit, and where all best ones have the first hops towards one router, a route of these leads there
+pub record LeadToBest (reach : Reach) (zone n : ℕ) (routes : Route → Type 0) (offers : List Offer) : Type 0 where
+  pub range : AreInRange reach offers
+  pub leads : (target : Target) → IsBestTarget reach offers zone n target → routes (Towards target)
+
+-- what decides the route of router u, which has these entries, where offers of which this holds decide it
+abbrev pub DecidesRoute : ℕ → (Entry → Type 0) → (List Offer → Type 0) → Decision → Type 0
+DecidesRoute u entry lead Nothing = (e : Entry) → entry e → ⊥
+DecidesRoute u entry lead (One at) = u ≢ at → lead (record { at = at; asks = 0 } ∷ [])
+DecidesRoute u entry lead (Two one other) = u ≢ one.at → u ≢ other.at → lead (one ∷ other ∷ [])
+DecidesRoute u entry lead Unknown = Unit {0}
