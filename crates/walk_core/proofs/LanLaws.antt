@@ -1,18 +1,24 @@
 -- First hops from a root whose only port is on a LAN: those of the walks that begin there.
 use Rattle.std.proofs.Common.{◌≡◌, ◌≢◌, ◌↔◌, ℕ, ◌<◌, List, [], ◌∷◌, Option, Some, None, Contains, length, get_or, refl, sym, subst, arith, inl, inr}
-use Rattle.std.proofs.lemmas.Bool.{cases_eq}
+use Rattle.std.proofs.Common.{set, get_or-set_other}
+use Rattle.std.proofs.Math.ListN.{get_or-eq_default}
+use Rattle.std.proofs.lemmas.Bool.{cases_eq, cases_lt}
 use Rattle.std.proofs.lemmas.List.Elements.{Contains-push, Contains-push_cases}
-use Rattle.walk_core.specs.declared.beyond.Aim.{Aim}
+use Rattle.walk_core.specs.declared.ways.Aim.{Aim}
 use Rattle.walk_core.specs.declared.outlets.Outlet.{Outlet}
 use Rattle.walk_core.specs.declared.segment.Port.{Port}
-use Rattle.walk_core.specs.Distances.{distance_between}
-use Rattle.walk_core.specs.Reach.{Reach, HasHop}
+use Rattle.walk_core.specs.Distances.{distance_between, IsDistanceRow}
+use Rattle.walk_core.specs.Reach.{Reach, distance_of, listed_hops_of, HasHop}
 use Rattle.walk_core.specs.Segments.{SendsAcross}
-use Rattle.walk_core.specs.Walks.{Arcs, Leg, LeastWalk, LeastCost, FirstHop, walk_cost}
+use Rattle.walk_core.specs.Walks.{Arcs, Leg, Walks, LeastWalk, LeastCost, FirstHop, walk_cost}
 use Rattle.walk_core.specs.steps.Flooding.{segment_at}
-use Rattle.walk_core.specs.steps.SegmentWalks.{AreHopsBeyond, AreOutlets, AreWalksFrom, GoesOut, GoesOver, IsBehind, IsEndAt, IsMesh, IsNoNearer, Mesh}
+use Rattle.walk_core.specs.steps.SegmentWalks.{beyond_port, AreOutlets, IsOutlet, AreWalksFrom, GoesOut, GoesOver, IsBehind, IsEndAt, IsMesh, IsNoNearer, Mesh}
+use Rattle.walk_core.specs.steps.Cheapest.{IsCheapestCost}
+use Rattle.walk_core.specs.steps.FirstHops.{ListFirstHops}
+use Rattle.walk_core.proofs.FloodLaws.{segment_among}
+use Rattle.walk_core.proofs.ReachLaws.{hop_below, none_at}
 use Rattle.walk_core.proofs.HopLaws.{BeginsLeast, begins_least_from_first_hop}
-use Rattle.walk_core.proofs.SegmentHopLaws.{IsWanted, hop_from_outlet, none_nearer, outlet_from_hop}
+use Rattle.walk_core.proofs.SegmentHopLaws.{arc_over, cost_from, IsWanted, hop_from_outlet, none_nearer, outlet_from_hop}
 use Rattle.walk_core.proofs.SegmentSteps.{end_is_nearest, same_rest}
 use Rattle.walk_core.proofs.WalkLaws.{first_hop_has_least_cost, least_cost_at_most}
 
@@ -95,28 +101,68 @@ same_hops mesh root v d h outlet reach on below away apart = (
         omega (arith, none_nearer mesh root (outlet ∷ []) aim outlet wanted listed port e among from, behind.sum)
 
     lists : HasHop reach rest.vertex h ↔ IsEndAt mesh.rows ports rest h
-    lists = on.walks.hops rest.vertex rest.distance h within
+    lists = (on.walks.ends rest.vertex within).some rest.distance h
         (end_is_nearest mesh outlet.place rest reach on.walks within near first.0 over_first.end)
 
--- such a list has the first hops
-pub hops_on_lan : (mesh : Mesh) (root v h : ℕ) (outlet : Outlet) (reach : Reach) (list : List ℕ) → IsOnLan mesh root outlet reach → v < mesh.count →
-    AreHopsBeyond (get_or mesh.rows root []) reach root v list → Contains list h ↔ FirstHop (SendsAcross mesh.segments) root v h
-hops_on_lan mesh root v h outlet reach list on below are = elim (cases_eq v root) [
-  | inl home ↦ nothing (are.here home) (no_hop_home mesh root v h on.mesh_is home)
-  | inr apart ↦ go apart (distance_between mesh.rows root v) refl
+-- what the root doesn't reach is reached from no vertex of the LAN
+unreached_beyond : (mesh : Mesh) (root v : ℕ) (outlet : Outlet) (reach : Reach) → IsOnLan mesh root outlet reach → v < mesh.count →
+    distance_between mesh.rows root v ≡ None → distance_of reach v ≡ None
+unreached_beyond mesh root v outlet reach on below away = go (distance_of reach v) (on.walks.distances v below)
+  where
+    ports : List Port
+    ports = segment_at mesh.segments outlet.place
+
+    is : IsOutlet mesh.segments root outlet
+    is = on.outlets_are.each outlet (Contains-push [] outlet)
+
+    go : (nearest : Option ℕ) → IsCheapestCost (beyond_port mesh.rows v) ports nearest → nearest ≡ None
+    go None none = refl
+    go (Some d) best =
+        let arc : Arcs = SendsAcross mesh.segments in
+        let port : Port = best.attained.thing in
+        let none : (legs : List Leg) → Walks arc root legs v → ⊥ = ((on.mesh_is.rows.each root on.root_is).least.none v).0 away in
+        let within : port.vertex < mesh.count =
+        (on.mesh_is.ports ports (segment_among mesh.segments outlet.place is.within) port best.attained.among).vertex in
+        let beyond : LeastCost arc port.vertex v d = cost_from mesh port.vertex v d on.mesh_is within best.attained.costs in
+        absurd (elim (cases_eq root port.vertex) [
+          | inl same ↦ none beyond.legs (subst (λ (n : ℕ). Walks arc n beyond.legs v) (sym same) beyond.walk.leads)
+          | inr apart ↦ none (record { to = port.vertex; cost = outlet.cost } ∷ beyond.legs)
+              (arc_over mesh.segments root outlet port is best.attained.among apart, beyond.walk.leads)
+        ])
+
+-- the lists of the walks that begin on the LAN, without one towards the root, have the first hops
+pub hops_on_lan : (mesh : Mesh) (root : ℕ) (outlet : Outlet) (reach : Reach) → IsOnLan mesh root outlet reach →
+    ListFirstHops (SendsAcross mesh.segments) root (set reach.hops root [])
+hops_on_lan mesh root outlet reach on v h = elim (cases_eq v root) [
+  | inl home ↦ nothing (get_or (set reach.hops root []) v [])
+      (subst (λ (n : ℕ). get_or (set reach.hops root []) n [] ≡ []) (sym home) (none_at reach.hops root)) (no_hop_home mesh root v h on.mesh_is home)
+  | inr apart ↦ subst (λ (l : List ℕ). Contains l h ↔ FirstHop arc root v h) (sym (get_or-set_other reach.hops root v [] [] apart)) (elsewhere apart)
 ]
   where
-    nothing : list ≡ [] → (FirstHop (SendsAcross mesh.segments) root v h → ⊥) → Contains list h ↔ FirstHop (SendsAcross mesh.segments) root v h
-    nothing none never = (
+    arc : Arcs
+    arc = SendsAcross mesh.segments
+
+    row : IsDistanceRow arc mesh.count root (get_or mesh.rows root [])
+    row = on.mesh_is.rows.each root on.root_is
+
+    nothing : (list : List ℕ) → list ≡ [] → (FirstHop arc root v h → ⊥) → Contains list h ↔ FirstHop arc root v h
+    nothing list none never = (
       λ has. let empty : Contains [] h = subst (λ (l : List ℕ). Contains l h) none has in absurd (omega (arith, empty.1)),
       λ hop. absurd (never hop),
     )
 
-    go : v ≢ root → (away : Option ℕ) → distance_between mesh.rows root v ≡ away → Contains list h ↔ FirstHop (SendsAcross mesh.segments) root v h
-    go apart None is = nothing (are.unreached is) (λ hop.
+    within : v < mesh.count → v ≢ root → (away : Option ℕ) → distance_between mesh.rows root v ≡ away →
+        Contains (listed_hops_of reach v) h ↔ FirstHop arc root v h
+    within below apart None is =
+        nothing (listed_hops_of reach v) ((on.walks.ends v below).none (unreached_beyond mesh root v outlet reach on below is)) (λ hop.
         let cost : ℕ = walk_cost (hop.leg ∷ hop.legs) in
-        let some = ((on.mesh_is.rows.each root on.root_is).least.least v cost).1 (first_hop_has_least_cost hop) in
+        let some = (row.least.least v cost).1 (first_hop_has_least_cost hop) in
         absurd (cc (some, is)))
-    go apart (Some d) is =
-        subst (λ (l : List ℕ). Contains l h ↔ FirstHop (SendsAcross mesh.segments) root v h) (sym (are.beyond d apart is))
-        (same_hops mesh root v d h outlet reach on below is (λ same. apart (sym same)))
+    within below apart (Some d) is = same_hops mesh root v d h outlet reach on below is (λ same. apart (sym same))
+
+    elsewhere : v ≢ root → Contains (listed_hops_of reach v) h ↔ FirstHop arc root v h
+    elsewhere apart = elim (cases_lt v mesh.count) [
+      | inl below ↦ within below apart (distance_between mesh.rows root v) refl
+      | inr past ↦ nothing (listed_hops_of reach v) (get_or-eq_default reach.hops [] (omega (arith, past, on.walks.within)))
+          (λ hop. omega (arith, past, hop_below arc root mesh.count v h (get_or mesh.rows root []) row hop))
+    ]

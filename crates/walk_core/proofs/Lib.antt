@@ -6,9 +6,11 @@ pub mod ReachLaws
 pub mod OfferLaws
 pub mod ListParts
 pub mod CheapestLaws
+mod NearestLaws
 pub mod LoopLaws
 pub mod FloodLaws
 pub mod SegmentHopLaws
+mod ExitLaws
 pub mod SegmentSteps
 pub mod LanLaws
 mod AddingLaws

@@ -1,6 +1,6 @@
 -- Spans of one list of numbers as lists, and lists of one number or more.
-use Rattle.std.proofs.Common.{◌≡◌, ℕ, ◌-◌, ◌≤◌, List, [], ◌∷◌, ◌++◌, length, length-append, take, drop, map, All, refl, sym, ap, ◌∙◌, arith}
-use Rattle.std.proofs.lemmas.List.{drop-append-le, drop_at, take-append-le, take_all, map-append, length-drop}
+use Rattle.std.proofs.Common.{◌≡◌, ℕ, ◌-◌, ◌≤◌, List, [], ◌∷◌, ◌++◌, length, length-append, take, drop, map, set, All, refl, sym, ap, ◌∙◌, arith}
+use Rattle.std.proofs.lemmas.List.{drop-append-le, drop_at, take-append-le, take_all, map-append, map-set, length-drop}
 use Rattle.std.proofs.lemmas.List.Elements.{All-head, All-tail, All-weaker}
 use Rattle.walk_core.specs.steps.NumberLists.{part_of, lists_of, list_of, IsWithin, AreSpansWithin, IsLongListKept, Grows}
 use Rattle.walk_core.specs.declared.long_lists.Span.{Span}
@@ -58,3 +58,11 @@ all_more old new all numbers list grows kept is =
     map-append (list_of new) all (numbers ∷ [])
     ∙ ap (λ (l : List (List ℕ)). l ++ list_of new numbers ∷ []) (all_stay old new all grows kept)
     ∙ ap (λ (l : List ℕ). map (list_of old) all ++ l ∷ []) is
+
+-- a copy with an empty list at a place
+pub copied_without : (old new : List (List ℕ)) (all copy : List Numbers) (place : ℕ) → new ≡ old → copy ≡ set all place Nothing →
+    map (list_of new) copy ≡ set (map (list_of old) all) place []
+copied_without old new all copy place long same =
+    ap (λ (l : List Numbers). map (list_of new) l) same
+    ∙ ap (λ (n : List (List ℕ)). map (list_of n) (set all place Nothing)) long
+    ∙ map-set (list_of old) all place Nothing

@@ -1,6 +1,6 @@
 -- The rows of first hops, one vertex after another, and what they come to with the distances.
 use Rattle.std.proofs.Common.{◌≡◌, ℕ, ◌+◌, ◌<◌, ◌≤◌, ◌↔◌, ◌⊎◌, List, [], ◌∷◌, ◌++◌, Option, Some, None, length, length-append, get_or, set, get_or-set_same}
-use Rattle.std.proofs.Common.{get_or-set_other, Contains, refl, sym, ap, subst, ◌∙◌, arith, inl, inr}
+use Rattle.std.proofs.Common.{get_or-set_other, length-set, Contains, refl, sym, ap, subst, ◌∙◌, arith, inl, inr}
 use Rattle.std.specs.List.{slice_get}
 use Rattle.std.specs.List.Sorted.{IsStrictlyIncreasing}
 use Rattle.std.proofs.Math.ListN.{get_or-eq_default}
@@ -63,6 +63,20 @@ ascending_more lists list are is v =
             subst IsStrictlyIncreasing (sym none) (λ k short. absurd (omega arith))
       ]
     ]
+
+-- an empty list that is put at a place is there, and lists that ascend still do
+pub none_at : (lists : List (List ℕ)) (i : ℕ) → get_or (set lists i []) i [] ≡ []
+none_at lists i = elim (cases_lt i (length lists)) [
+  | inl within ↦ get_or-set_same lists i [] [] within
+  | inr past ↦ get_or-eq_default (set lists i []) [] (omega (arith, past, length-set lists i []))
+]
+
+pub ascending_without : (lists : List (List ℕ)) (i : ℕ) → AreAscending lists → AreAscending (set lists i [])
+ascending_without lists i are v = elim (cases_eq v i) [
+  | inl same ↦ subst IsStrictlyIncreasing (sym (subst (λ (n : ℕ). get_or (set lists i []) n [] ≡ []) (sym same) (none_at lists i)))
+      (λ k short. absurd (omega (arith, short)))
+  | inr other ↦ subst IsStrictlyIncreasing (sym (get_or-set_other lists i v [] [] other)) (are v)
+]
 
 -- no hops of the vertices below 0
 pub no_hops_listed : (arc : Arcs) (root : ℕ) → AreFirstHops arc root 0 []

@@ -2,7 +2,7 @@
 use Rattle.std.proofs.Common.{◌≡◌, ◌≢◌, ◌↔◌, MatchOption, None, ℕ, ◌+◌, ◌<◌, ◌≤◌, List, ◌∷◌, Option, Some, length, refl, sym, ap, subst, ◌∙◌, arith, inl}
 use Rattle.std.proofs.Common.{inr, Contains}
 use Rattle.std.proofs.lemmas.Bool.{cases_eq}
-use Rattle.walk_core.specs.declared.beyond.Aim.{Aim}
+use Rattle.walk_core.specs.declared.ways.Aim.{Aim}
 use Rattle.walk_core.specs.declared.outlets.Outlet.{Outlet}
 use Rattle.walk_core.specs.declared.segment.Port.{Port}
 use Rattle.walk_core.specs.Walks.{Arcs, Leg, walk_cost, LeastCost, FirstHop}
@@ -23,11 +23,11 @@ pub record IsWanted (mesh : Mesh) (root : ℕ) (outlets : List Outlet) (aim : Ai
   pub away : distance_between mesh.rows root aim.vertex ≡ Some aim.distance
 
 -- a distance of the rows is a least cost
-cost_from : (mesh : Mesh) (u v d : ℕ) → IsMesh mesh → u < mesh.count → distance_between mesh.rows u v ≡ Some d → LeastCost (SendsAcross mesh.segments) u v d
+pub cost_from : (mesh : Mesh) (u v d : ℕ) → IsMesh mesh → u < mesh.count → distance_between mesh.rows u v ≡ Some d → LeastCost (SendsAcross mesh.segments) u v d
 cost_from mesh u v d is below away = ((is.rows.each u below).least.least v d).0 away
 
 -- the arc over an outlet to another vertex of its segment
-arc_over : (segments : List (List Port)) (root : ℕ) (outlet : Outlet) (port : Port) → IsOutlet segments root outlet →
+pub arc_over : (segments : List (List Port)) (root : ℕ) (outlet : Outlet) (port : Port) → IsOutlet segments root outlet →
     Contains (segment_at segments outlet.place) port → root ≢ port.vertex → SendsAcross segments root port.vertex outlet.cost
 arc_over segments root outlet port is among apart = record {
   apart = apart;

@@ -1,9 +1,8 @@
 -- Walks over segments, one vertex or segment after another.
-use Rattle.std.proofs.Common.{◌≡◌, ℕ, ◌+◌, ◌<◌, ◌≤◌, ◌↔◌, List, [], ◌∷◌, ◌++◌, Option, Some, None, length, length-append, get_or, sym, ap, subst, ◌∙◌, arith}
-use Rattle.std.proofs.Common.{Contains}
+use Rattle.std.proofs.Common.{◌≡◌, ℕ, ◌+◌, ◌<◌, ◌≤◌, List, [], ◌∷◌, ◌++◌, Option, Some, None, length, length-append, get_or, sym, ap, subst, ◌∙◌, arith}
 use Rattle.std.proofs.lemmas.List.{get_or_append_left, get_or_push}
 use Rattle.std.specs.List.Sorted.{IsStrictlyIncreasing}
-use Rattle.walk_core.specs.declared.beyond.Aim.{Aim}
+use Rattle.walk_core.specs.declared.ways.Aim.{Aim}
 use Rattle.walk_core.specs.declared.outlets.Outlet.{Outlet}
 use Rattle.walk_core.specs.declared.segment.Port.{Port}
 use Rattle.walk_core.specs.steps.Adding.{AddsNumbers}
@@ -11,14 +10,9 @@ use Rattle.walk_core.specs.steps.Flooding.{segment_at}
 use Rattle.walk_core.specs.steps.Cheapest.{HasCost, IsCheapestCost}
 use Rattle.walk_core.specs.Distances.{distance_at}
 use Rattle.walk_core.specs.Reach.{Reach, AreAscending, distance_of}
-use Rattle.walk_core.specs.steps.SegmentWalks.{beyond_port, IsEndAt, IsLan, AreWalksFrom, KnowsBeyond, Mesh, GoesOver, IsBehind, IsNoNearer}
+use Rattle.walk_core.specs.steps.SegmentWalks.{beyond_port, AreEnds, IsEndAt, IsLan, AreWalksFrom, KnowsBeyond, Mesh, GoesOver, IsBehind, IsNoNearer}
 use Rattle.walk_core.proofs.AddingLaws.{adds_same}
 use Rattle.walk_core.proofs.ReachLaws.{ascending_more, each_at_more}
-
--- the ends from which v is at this distance, if it has one
-abbrev pub AreEnds : List (List (Option ℕ)) → List Port → ℕ → Option ℕ → List ℕ → Type 0
-AreEnds rows ports v distance ends =
-    (d h : ℕ) → distance ≡ Some d → Contains ends h ↔ IsEndAt rows ports (record { vertex = v; distance = d }) h
 
 -- what is known of the walks from a segment to the vertices below n
 pub record KnowsBelow (rows : List (List (Option ℕ))) (ports : List Port) (n : ℕ) (distances : List (Option ℕ)) (hops : List (List ℕ)) : Type 0 where

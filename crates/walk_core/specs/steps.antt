@@ -6,3 +6,4 @@ pub mod Flooding
 pub mod Adding
 pub mod FirstHops
 pub mod SegmentWalks
+pub mod Exits

@@ -1,9 +1,6 @@
-ghost use Rattle.std.specs.Prelude.{◌≡◌, ◌<◌, ◌↔◌, ℕ, length, IfOk, OnOk, IsTrue, Contains, Some};
-ghost use Rattle.std.specs.List.Sorted.{IsStrictlyIncreasing};
-ghost use Rattle.walk_core.specs.steps.Adding.{AddsNumbers};
+ghost use Rattle.std.specs.Prelude.{◌≡◌, ◌<◌, length, IfOk, OnOk};
 ghost use Rattle.walk_core.specs.steps.Cheapest.{IsCheapestCost};
-ghost use Rattle.walk_core.specs.steps.SegmentWalks.{AreWalksFrom, IsEndAt, IsLan, KnowsBeyond, beyond_port, reach_at};
-ghost use Rattle.walk_core.specs.declared.beyond.Aim.{Aim};
+ghost use Rattle.walk_core.specs.steps.SegmentWalks.{AreEnds, AreWalksFrom, IsLan, JoinsNearest, KnowsBeyond, beyond_port, reach_at};
 
 use crate::number_lists::NumberLists;
 use crate::offers::least_of;
@@ -13,13 +10,6 @@ use crate::segment::{Port, Segment, ports_at};
 use crate::union::put_in_order;
 use crate::{LeastWalks, OutOfMemory};
 use std::alloc::Global;
-
-/// A vertex that is looked for, and how far away.
-#[derive(Clone, Copy, Debug)]
-pub struct Aim {
-    pub(crate) vertex: u32,
-    pub(crate) distance: u64,
-}
 
 /// The least walks that begin on each LAN, by the distances from the vertices.
 pub fn all_beyond(
@@ -62,8 +52,8 @@ fn walks_beyond(
     let mut hops = NumberLists::with_room(alloc, count as usize)?;
     let mut ends = Vec::new(alloc);
     for v in 0..count {
-        let distance = nearest(ports, rows, v);
-        find_ends(&mut ends, ports, rows, v, distance)?;
+        let distance = find_ends(&mut ends, ports, rows, v)?;
+        put_in_order(&mut ends);
         distances.push(distance)?;
         hops.push(ends.as_slice())?;
     }
@@ -73,79 +63,47 @@ fn walks_beyond(
     })
 }
 
-/// How far v is from the nearest vertex of a segment.
-fn nearest(ports: &[Port], rows: &[Distances], v: u32) -> Option<u64>
-    ensures { IsCheapestCost (beyond_port rows.now v) ports.now result }
-{
-    let mut best = None;
-    for port in ports {
-        best = least_of(best, distance_between(rows, port.vertex, v));
-    }
-    best
-}
-
-/// Finds the vertices of a segment from which v is at this distance, in ascending order.
+/// Finds how far v is from the nearest vertex of a segment, and which vertices of the segment are that near.
 fn find_ends(
     ends: &mut Vec<u32>,
     ports: &[Port],
     rows: &[Distances],
     v: u32,
-    known: Option<u64>,
-) -> Result<(), OutOfMemory>
-    ensures exact { OnOk result ((d h : ℕ) → known ≡ Some d →
-        Contains ends.new.items h ↔ IsEndAt rows.now ports.now (record { vertex = v; distance = d }) h) }
-    ensures ascending { OnOk result (IsStrictlyIncreasing ends.new.items) }
+) -> Result<Option<u64>, OutOfMemory>
+    ensures nearest { IfOk result (IsCheapestCost (beyond_port rows.now v) ports.now) }
+    ensures ends { IfOk result (λ distance. AreEnds rows.now ports.now v distance ends.new.items) }
 {
     ends.clear();
-    let Some(distance) = known else {
+    let mut nearest = None;
+    for port in ports {
+        let distance = distance_between(rows, port.vertex, v);
+        join_nearest(ends, port.vertex, distance, nearest)?;
+        nearest = least_of(nearest, distance);
+    }
+    Ok(nearest)
+}
+
+/// Lets a vertex at this distance join the nearest ones so far, which are at that one, or take their place.
+#[inline(always)]
+fn join_nearest(
+    ends: &mut Vec<u32>,
+    vertex: u32,
+    distance: Option<u64>,
+    nearest: Option<u64>,
+) -> Result<(), OutOfMemory>
+    ensures { OnOk result (JoinsNearest vertex distance (record { distance = nearest; ends = ends.old.items }) ends.new.items) }
+{
+    let Some(distance) = distance else {
         return Ok(());
     };
-    add_ends(
-        ends,
-        ports,
-        rows,
-        Aim {
-            vertex: v,
-            distance,
-        },
-    )?;
-    put_in_order(ends);
-    Ok(())
-}
-
-/// Adds the vertices of a segment that are as far as this from what is looked for.
-fn add_ends(
-    found: &mut Vec<u32>,
-    ports: &[Port],
-    rows: &[Distances],
-    aim: Aim,
-) -> Result<(), OutOfMemory>
-    ensures { OnOk result (AddsNumbers (IsEndAt rows.now ports.now aim) found.old.items found.new.items) }
-{
-    for port in ports {
-        if is_end(*port, rows, aim) {
-            found.push(port.vertex)?;
+    if let Some(nearest) = nearest {
+        if nearest < distance {
+            return Ok(());
+        }
+        if nearest == distance {
+            return Ok(ends.push(vertex)?);
         }
     }
-    Ok(())
-}
-
-/// Whether what is looked for is as far as this from the vertex of a port.
-fn is_end(port: Port, rows: &[Distances], aim: Aim) -> bool
-    ensures { IsTrue result ↔ (beyond_port rows.now aim.vertex port ≡ Some aim.distance) }
-{
-    is_at(
-        distance_between(rows, port.vertex, aim.vertex),
-        aim.distance,
-    )
-}
-
-/// Whether there is a distance, and this is it.
-pub fn is_at(distance: Option<u64>, this: u64) -> bool
-    ensures { IsTrue result ↔ (distance ≡ Some this) }
-{
-    match distance {
-        Some(distance) => distance == this,
-        None => false,
-    }
+    ends.clear();
+    Ok(ends.push(vertex)?)
 }

@@ -13,6 +13,7 @@
 //! | `relax`, `rows`, `hops` | over arcs: distances by relaxing, and first hops by the distances from where arcs lead |
 //! | `flood`, `outlets`, `over_segments` | over segments: distances, from stale vertices, and onto a LAN at once |
 //! | `beyond`, `ways` | first hops over segments: by the distances from the ends of a link, by those from a whole LAN |
+//! | `exits` | first hops from a root of two links, as most have, in one pass over three rows of distances |
 //! | `union` | numbers below a bound, and in order |
 //!
 //! A vertex relaxes its arcs again only once it is stale, when its distance fell. A LAN of n ports is entered in time
@@ -39,6 +40,7 @@ mod rows;
 
 // walks over segments
 mod beyond;
+mod exits;
 mod flood;
 mod outlets;
 mod over_segments;

@@ -60,6 +60,17 @@ impl LongLists {
         Ok(place)
     }
 
+    /// A copy of these lists.
+    pub fn copy(&self, alloc: Global) -> Result<LongLists, OutOfMemory>
+        ensures { IfOk result (λ lists. lists ≡ self.now) }
+    {
+        let mut numbers = Vec::with_capacity(alloc, self.numbers.len())?;
+        numbers.extend_from_slice(self.numbers.as_slice())?;
+        let mut spans = Vec::with_capacity(alloc, self.spans.len())?;
+        spans.extend_from_slice(self.spans.as_slice())?;
+        Ok(LongLists { numbers, spans })
+    }
+
     /// The list of this place, and an empty one past the last.
     pub fn at(&self, place: usize) -> &[u32]
         ensures { result.now ≡ slice_index_or self.now place [] }

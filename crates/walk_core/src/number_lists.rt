@@ -1,4 +1,5 @@
-ghost use Rattle.std.specs.Prelude.{◌≡◌, IfOk};
+ghost use Rattle.std.specs.Prelude.{◌≡◌, IfOk, slice_set};
+ghost use Rattle.walk_core.specs.declared.number_lists.Numbers.TheVariants.{Nothing};
 ghost use Rattle.walk_core.specs.steps.NumberLists.{list_of, Grows, IsLongListKept};
 
 use crate::OutOfMemory;
@@ -37,7 +38,7 @@ impl Model for NumberLists {
 }
 
 impl NumberLists {
-    ghost use Rattle.std.specs.Prelude.{◌≡◌, ◌++◌, ◌∷◌, [], IfOk, OnOk, slice_index_or};
+    ghost use Rattle.std.specs.Prelude.{◌≡◌, ◌++◌, ◌∷◌, [], IfOk, OnOk, slice_index_or, slice_set};
 
     /// No lists.
     pub fn none(alloc: Global) -> NumberLists
@@ -69,6 +70,17 @@ impl NumberLists {
         Ok(())
     }
 
+    /// A copy of these lists, but for an empty one at a place.
+    pub fn copy_without(&self, alloc: Global, place: usize) -> Result<NumberLists, OutOfMemory>
+        ensures { IfOk result (λ lists. lists ≡ slice_set self.now place []) }
+    {
+        let mut all = Vec::with_capacity(alloc, self.all.len())?;
+        all.extend_from_slice(self.all.as_slice())?;
+        let long = self.long.copy(alloc)?;
+        clear_at(&mut all, place);
+        Ok(NumberLists { all, long })
+    }
+
     /// The list of this place, and an empty one past the last.
     #[inline(always)]
     pub fn at(&self, place: usize) -> &[u32]
@@ -79,6 +91,15 @@ impl NumberLists {
             Some(Numbers::More(place)) => self.long.at(*place as usize),
             _ => &[],
         }
+    }
+}
+
+/// Puts an empty list at a place, if there is one.
+fn clear_at(all: &mut Vec<Numbers>, place: usize)
+    ensures { all.new.items ≡ slice_set all.old.items place Nothing }
+{
+    if place < all.len() {
+        all[place] = Numbers::Nothing;
     }
 }
 

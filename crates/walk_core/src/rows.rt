@@ -23,7 +23,7 @@ impl Model for Distances {
 }
 
 impl Distances {
-    ghost use Rattle.std.specs.Prelude.{◌≡◌, ◌++◌, ◌∷◌, [], Some, None, replicate, IfOk};
+    ghost use Rattle.std.specs.Prelude.{◌≡◌, ◌++◌, ◌∷◌, [], Some, None, replicate, IfOk, IfSome};
     ghost use Rattle.walk_core.specs.Distances.{distance_at};
 
     /// No distances.
@@ -54,6 +54,16 @@ impl Distances {
             none_before: root,
             others: vec![in alloc; Some(0)]?,
         })
+    }
+
+    /// The distances as a slice, if they begin with that of vertex 0.
+    pub fn whole(&self) -> Option<&[Option<u64>]>
+        ensures { IfSome result (λ row. row.now ≡ self.now) }
+    {
+        if self.none_before > 0 {
+            return None;
+        }
+        Some(self.others.as_slice())
     }
 
     /// The distance of v, and None where there is none.

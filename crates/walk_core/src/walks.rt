@@ -86,9 +86,9 @@ fn most_ends(departures: &[Departure], vertices: u32) -> u32
 }
 
 impl LeastWalks {
-    ghost use Rattle.std.specs.Prelude.{◌≡◌, ◌↔◌, IsTrue};
+    ghost use Rattle.std.specs.Prelude.{◌≡◌, ◌↔◌, [], IfOk, IsTrue, slice_set};
     ghost use Rattle.std.specs.List.Sorted.{IsStrictlyIncreasing};
-    ghost use Rattle.walk_core.specs.Reach.{distance_of, listed_hops_of, HasHop};
+    ghost use Rattle.walk_core.specs.Reach.{AreAscending, distance_of, listed_hops_of, HasHop};
 
     /// Nothing known, of no vertex.
     pub(crate) fn none(alloc: Global) -> LeastWalks {
@@ -96,6 +96,14 @@ impl LeastWalks {
             distances: Distances::none(alloc),
             hops: NumberLists::none(alloc),
         }
+    }
+
+    /// A copy of the lists of first hops, but for an empty one towards v.
+    pub(crate) fn hops_without(&self, alloc: Global, v: u32) -> Result<NumberLists, OutOfMemory>
+        ensures lists { IfOk result (λ lists. lists ≡ slice_set self.now.hops v []) }
+        ensures ascending { AreAscending self.now.hops }
+    {
+        self.hops.copy_without(alloc, v as usize)
     }
 
     /// The least cost of a walk from the root to v, and None where no walk leads there.
@@ -115,6 +123,7 @@ impl LeastWalks {
 
     /// The first hops towards v, in ascending order: those with which the least-cost walks to v begin. There are none
     /// towards the root itself, nor where no walk leads.
+    #[inline(always)]
     pub fn hops_to(&self, v: u32) -> &[u32]
         ensures hops { result.now ≡ listed_hops_of self.now v }
         ensures ascending { IsStrictlyIncreasing result.now }

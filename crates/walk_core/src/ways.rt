@@ -1,9 +1,9 @@
-ghost use Rattle.std.specs.Prelude.{◌<◌, MatchOption};
-ghost use Rattle.std.specs.List.Sorted.{IsStrictlyIncreasing};
-ghost use Rattle.walk_core.specs.steps.SegmentWalks.{AreHopsBeyond, IsBehind};
+ghost use Rattle.std.specs.Prelude.{◌≡◌, ◌<◌, ◌↔◌, IsTrue, MatchOption, Some};
+ghost use Rattle.walk_core.specs.steps.SegmentWalks.{IsBehind};
 
 use crate::OutOfMemory;
-use crate::beyond::{Aim, is_at, walks_at};
+use crate::beyond::walks_at;
+use crate::exits::{TwoExits, push_exits, two_exits};
 use crate::number_lists::NumberLists;
 use crate::outlets::{Outlet, is_lone, only_lan};
 use crate::rows::{Distances, distance_between};
@@ -12,6 +12,13 @@ use crate::union::{add_behind, put_in_order};
 use crate::walks::LeastWalks;
 use std::alloc::Global;
 use std::marker::Model;
+
+/// A vertex that is looked for, and how far away.
+#[derive(Clone, Copy, Debug)]
+struct Aim {
+    vertex: u32,
+    distance: u64,
+}
 
 /// Segments, how far their vertices are from each other, and the walks that begin on LANs: what first hops are read from.
 #[derive(Drop)]
@@ -40,6 +47,7 @@ impl<'a> Ways<'a> {
     ghost use Rattle.walk_core.specs.Segments.{SendsAcross};
     ghost use Rattle.walk_core.specs.Walks.{FirstHop};
     ghost use Rattle.walk_core.specs.steps.Adding.{AddsNumbers};
+    ghost use Rattle.walk_core.specs.steps.Exits.{HasTwoExits};
     ghost use Rattle.walk_core.specs.steps.FirstHops.{ListFirstHops};
     ghost use Rattle.walk_core.specs.steps.Flooding.{segment_at};
     ghost use Rattle.walk_core.specs.steps.SegmentWalks.{AreOutlets, AreWalksFrom, EndsAlone, GoesOver, IsEndAt, IsLinkEnd, IsLan, IsMesh, IsNoNearer};
@@ -114,6 +122,9 @@ impl<'a> Ways<'a> {
         if let Some(outlet) = only_lan(outlets) {
             return self.hops_over_lan(alloc, outlet, root);
         }
+        if let Some(exits) = two_exits(self.rows, outlets, root) {
+            return self.hops_over_exits(alloc, exits, root);
+        }
         let mut hops = NumberLists::with_room(alloc, count as usize)?;
         let own = self.row(root);
         let mut found = Vec::new(alloc);
@@ -124,7 +135,7 @@ impl<'a> Ways<'a> {
         Ok(hops)
     }
 
-    /// The first hops from a root whose only port is on a LAN: those of the walks that begin there.
+    /// The first hops from a root whose only port is on a LAN: those of the walks that begin there, but for the root.
     fn hops_over_lan(
         &self,
         alloc: Global,
@@ -138,12 +149,27 @@ impl<'a> Ways<'a> {
         ensures exact { IfOk result (ListFirstHops (SendsAcross self.now.segments) root) }
         ensures ascending { IfOk result AreAscending }
     {
-        let count = self.count();
-        let own = self.row(root);
         let walks = self.walks(outlet.place);
+        walks.hops_without(alloc, root)
+    }
+
+    /// The first hops from a root of two links.
+    fn hops_over_exits(
+        &self,
+        alloc: Global,
+        exits: TwoExits<'_>,
+        root: u32,
+    ) -> Result<NumberLists, OutOfMemory>
+        requires mesh { IsMesh self.now }
+        requires root { root < self.now.count }
+        requires exits { HasTwoExits self.now root exits }
+        ensures exact { IfOk result (ListFirstHops (SendsAcross self.now.segments) root) }
+        ensures ascending { IfOk result AreAscending }
+    {
+        let count = self.count();
         let mut hops = NumberLists::with_room(alloc, count as usize)?;
         for v in 0..count {
-            hops.push(hops_beyond(own, walks, root, v))?;
+            push_exits(&mut hops, exits, v)?;
         }
         Ok(hops)
     }
@@ -226,17 +252,6 @@ impl<'a> Ways<'a> {
     }
 }
 
-/// The first hops from a root towards v, which are those of the walks that begin on its LAN.
-fn hops_beyond<'b>(own: &Distances, walks: &'b LeastWalks, root: u32, v: u32) -> &'b [u32]
-    ensures exact { AreHopsBeyond own.now walks.now root v result.now }
-    ensures ascending { IsStrictlyIncreasing result.now }
-{
-    match own.at(v) {
-        Some(_) if v != root => walks.hops_to(v),
-        _ => &[],
-    }
-}
-
 /// What is left behind a cost, and `None` where it costs more than that.
 fn behind(aim: Aim, cost: u32) -> Option<Aim>
     ensures { MatchOption result (aim.distance < cost) (IsBehind aim cost) }
@@ -248,4 +263,14 @@ fn behind(aim: Aim, cost: u32) -> Option<Aim>
         vertex: aim.vertex,
         distance: aim.distance - u64::from(cost),
     })
+}
+
+/// Whether there is a distance, and this is it.
+fn is_at(distance: Option<u64>, this: u64) -> bool
+    ensures { IsTrue result ↔ (distance ≡ Some this) }
+{
+    match distance {
+        Some(distance) => distance == this,
+        None => false,
+    }
 }

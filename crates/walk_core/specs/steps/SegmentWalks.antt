@@ -1,12 +1,12 @@
 -- Least walks that begin on a segment, and the first hops of its vertices by them.
-use Rattle.std.specs.Prelude.{◌≡◌, ◌≢◌, ℕ, ◌+◌, ◌<◌, ◌≤◌, ◌↔◌, ◌⊎◌, List, [], length, Option, Some, None, Contains, Any, MatchOption, slice_index_or}
+use Rattle.std.specs.Prelude.{◌≡◌, ℕ, ◌+◌, ◌<◌, ◌≤◌, ◌↔◌, ◌⊎◌, ◌∷◌, ◌++◌, List, [], length, Option, Some, None, Contains, Any, MatchOption, slice_index_or}
 use Rattle.walk_core.specs.steps.Adding.{SomeLeadsTo}
 use Rattle.walk_core.specs.steps.Cheapest.{IsCheapestCost}
-use Rattle.walk_core.specs.Distances.{AreDistanceRows, distance_at, distance_between}
+use Rattle.walk_core.specs.Distances.{AreDistanceRows, distance_between}
 use Rattle.walk_core.specs.steps.Flooding.{segment_at}
-use Rattle.walk_core.specs.Reach.{Reach, distance_of, listed_hops_of, HasHop}
+use Rattle.walk_core.specs.Reach.{Reach, distance_of, listed_hops_of}
 use Rattle.walk_core.specs.Segments.{AreSegments, SendsAcross}
-use Rattle.walk_core.specs.declared.beyond.Aim.{Aim}
+use Rattle.walk_core.specs.declared.ways.Aim.{Aim}
 use Rattle.walk_core.specs.declared.outlets.Outlet.{Outlet}
 use Rattle.walk_core.specs.declared.segment.Port.{Port}
 
@@ -23,20 +23,33 @@ pub record IsEnd (rows : List (List (Option ℕ))) (aim : Aim) (port : Port) (h 
 abbrev pub IsEndAt : List (List (Option ℕ)) → List Port → Aim → ℕ → Type 0
 IsEndAt rows ports aim h = SomeLeadsTo (IsEnd rows aim) ports h
 
+-- the vertices of the ports from which v is at this distance, and none where it has none
+pub record AreEnds (rows : List (List (Option ℕ))) (ports : List Port) (v : ℕ) (distance : Option ℕ) (ends : List ℕ) : Type 0 where
+  pub some : (d h : ℕ) → distance ≡ Some d → Contains ends h ↔ IsEndAt rows ports (record { vertex = v; distance = d }) h
+  pub none : distance ≡ None → ends ≡ []
+
+-- how far the nearest ones of some vertices are from what is looked for, and which are
+pub record Nearest : Type 0 where
+  pub distance : Option ℕ
+  pub ends : List ℕ
+
+-- one more vertex, which is at this distance, joins the nearest ones so far, takes their place, or neither
+pub data JoinsNearest (vertex : ℕ) (distance : Option ℕ) (before : Nearest) (ends : List ℕ) : Type 0 where
+  nowhere : distance ≡ None → ends ≡ before.ends → JoinsNearest vertex distance before ends
+  farther : (n d : ℕ) → distance ≡ Some d → before.distance ≡ Some n → n < d → ends ≡ before.ends → JoinsNearest vertex distance before ends
+  as_near : (d : ℕ) → distance ≡ Some d → before.distance ≡ Some d → ends ≡ before.ends ++ vertex ∷ [] → JoinsNearest vertex distance before ends
+  first : (d : ℕ) → distance ≡ Some d → before.distance ≡ None → ends ≡ vertex ∷ [] → JoinsNearest vertex distance before ends
+  nearer : (n d : ℕ) → distance ≡ Some d → before.distance ≡ Some n → d < n → ends ≡ vertex ∷ [] → JoinsNearest vertex distance before ends
+
 -- what is known of the walks that begin on a segment: how far the nearest of its vertices is from v, and which are
 pub record AreWalksFrom (rows : List (List (Option ℕ))) (ports : List Port) (count : ℕ) (reach : Reach) : Type 0 where
   pub distances : (v : ℕ) → v < count → IsCheapestCost (beyond_port rows v) ports (distance_of reach v)
-  pub hops : (v d h : ℕ) → v < count → distance_of reach v ≡ Some d → HasHop reach v h ↔ IsEndAt rows ports (record { vertex = v; distance = d }) h
+  pub ends : (v : ℕ) → v < count → AreEnds rows ports v (distance_of reach v) (listed_hops_of reach v)
+  pub within : length reach.hops ≤ count
 
 -- what is known of the walks from the segment of this place
 abbrev pub reach_at : List Reach → ℕ → Reach
 reach_at beyond place = slice_index_or beyond place (record { distances = []; hops = [] })
-
--- the hops of a vertex u of a LAN towards v are those of the walks that begin there, but for u itself and where none leads
-pub record AreHopsBeyond (own : List (Option ℕ)) (reach : Reach) (u v : ℕ) (hops : List ℕ) : Type 0 where
-  pub here : v ≡ u → hops ≡ []
-  pub unreached : distance_at own v ≡ None → hops ≡ []
-  pub beyond : (d : ℕ) → v ≢ u → distance_at own v ≡ Some d → hops ≡ listed_hops_of reach v
 
 -- a segment of more than two ports
 abbrev pub IsLan : List Port → Type 0

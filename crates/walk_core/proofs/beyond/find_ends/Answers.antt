@@ -1,16 +1,20 @@
-use Rattle.std.proofs.Common.{◌≡◌, ℕ, List, Some, sym, subst, ◌∙◌}
-use Rattle.walk_core.specs.steps.Adding.{AddsNumbers}
-use Rattle.walk_core.specs.steps.SegmentWalks.{IsEndAt}
-use Rattle.walk_core.proofs.AddingLaws.{adds_to_none}
+use Rattle.std.proofs.Common.{refl}
+use Rattle.walk_core.proofs.NearestLaws.{nearest_of_all, nearest_step, none_nearest}
 use Rattle.walk_core.proofs.beyond.find_ends.Goals as goal
 
-pub returns-clause-exact : goal.returns-clause-exact
-returns-clause-exact c d h is =
-    let new : List ℕ = c.add_ends.new.found.items in
-    let P : ℕ → ℕ → Type 0 = λ n. IsEndAt c.args.rows.now c.args.ports.now (record { vertex = c.args.v; distance = n }) in
-    let same : c.in-Some.distance ≡ d = let k : Some c.in-Some.distance ≡ Some d = sym c.in-Some.is ∙ is in cc in
-    let adds : AddsNumbers (P d) c.clear.new.self.items new = subst (λ (n : ℕ). AddsNumbers (P n) c.clear.new.self.items new) same c.in_ok-add_ends.ensures in
-    let are = adds_to_none (P d) c.clear.new.self.items new c.clear.ensures.items adds h in (
-      λ has. are.0 ((c.put_in_order.ensures.kept h).0 has),
-      λ end. (c.put_in_order.ensures.kept h).1 (are.1 end),
-    )
+pub loop-port-init : goal.loop-port-init
+loop-port-init c = none_nearest c.args.rows.now c.args.v _ refl c.clear.ensures.items
+
+pub loop-port-preserved : goal.loop-port-preserved
+loop-port-preserved c =
+    nearest_step c.args.rows.now c.args.ports.now c.loop-port.port-index _ c.args.v _ c.distance_between-distance.result c.least_of-nearest.result
+    c.join_nearest.new.ends.items c.loop-port-test.true c.distance_between-distance.ensures c.least_of-nearest.ensures c.in_ok-join_nearest.ensures
+    c.loop-port.invariant
+
+pub returns-clause-nearest : goal.returns-clause-nearest
+returns-clause-nearest c =
+    (nearest_of_all c.args.rows.now c.args.ports.now c.loop-port.port-index c.args.v _ c.loop-port-test.false c.loop-port.invariant).cheapest
+
+pub returns-clause-ends : goal.returns-clause-ends
+returns-clause-ends c =
+    (nearest_of_all c.args.rows.now c.args.ports.now c.loop-port.port-index c.args.v _ c.loop-port-test.false c.loop-port.invariant).ends

@@ -1,5 +1,6 @@
 use Rattle.std.proofs.Common.{◌≡◌, ◌++◌, ◌∷◌, [], ◌+◌, ℕ, List, Option, ap, sym, subst, ◌∙◌, arith}
 use Rattle.walk_core.specs.steps.SegmentWalks.{AreWalksFrom}
+use Rattle.walk_core.proofs.NearestLaws.{ends_ordered}
 use Rattle.walk_core.proofs.SegmentSteps.{KnowsBelow, knows_more}
 use Rattle.walk_core.proofs.beyond.walks_beyond.Goals as goal
 
@@ -10,14 +11,15 @@ loop-v-preserved c =
     let v : ℕ = c.loop-v.v in
     let distances : List (Option ℕ) = c.loop-v.distances.items in
     let hops : List (List ℕ) = c.loop-v.hops in
-    let d : Option ℕ = c.nearest-distance.result in
-    let ends : List ℕ = c.find_ends.new.ends.items in
+    let d : Option ℕ = c.in_ok-distance.distance in
+    let ends : List ℕ = c.put_in_order.new.numbers.items in
     let far : c.push.new.self.items ≡ distances ++ d ∷ [] = c.in_ok-push.ensures.items in
     let lists : c.push-in-loop-v.new.self ≡ hops ++ ends ∷ [] = c.in_ok-push-2.ensures ∙ ap (λ (l : List ℕ). hops ++ l ∷ []) c.as_slice.ensures.value in
     subst (λ (l : List (Option ℕ)). KnowsBelow rows ports (v + 1) l c.push-in-loop-v.new.self) (sym far)
     (subst (λ (l : List (List ℕ)). KnowsBelow rows ports (v + 1) (distances ++ d ∷ []) l) (sym lists)
-    (knows_more rows ports v distances hops d ends c.loop-v.invariant c.nearest-distance.ensures c.in_ok-find_ends.ensures.exact
-    c.in_ok-find_ends.ensures.ascending))
+    (knows_more rows ports v distances hops d ends c.loop-v.invariant c.in_ok-distance.ensures.nearest
+    (ends_ordered rows ports v d c.find_ends.new.ends.items ends c.put_in_order.ensures.kept c.in_ok-distance.ensures.ends)
+    c.put_in_order.ensures.ascending))
 
 pub returns : goal.returns
 returns c =
@@ -26,5 +28,6 @@ returns c =
     let P : List (Option ℕ) → Type 0 = λ ds. AreWalksFrom c.args.rows.now c.args.ports.now c.args.count (record { distances = ds; hops = c.loop-v.hops }) in
     λ lan. subst P (sym c.from_vec.ensures) (record {
       distances = λ w below. knows.nearest w (omega (arith, all, below));
-      hops = λ w d h below. knows.lists w (omega (arith, all, below)) d h;
+      ends = λ w below. knows.lists w (omega (arith, all, below));
+      within = omega (arith, knows.many, all);
     })

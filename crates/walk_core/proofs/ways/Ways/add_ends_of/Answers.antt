@@ -20,8 +20,8 @@ returns-in_ok-add_behind c =
     c.in_ok-add_behind.ensures.added ∙ ap (λ (l : List ℕ). old ++ l) c.hops_to.ensures.hops in
     subst (λ (l : List ℕ). AddsNumbers P old l) (sym grown)
     (adds_same (λ h. HasHop reach v h) P old (old ++ listed_hops_of reach v)
-    (λ h has. (from.hops v c.args.rest.distance h c.requires.vertex near).0 has)
-    (λ h end. (from.hops v c.args.rest.distance h c.requires.vertex near).1 end)
+    (λ h has. ((from.ends v c.requires.vertex).some c.args.rest.distance h near).0 has)
+    (λ h end. ((from.ends v c.requires.vertex).some c.args.rest.distance h near).1 end)
     (adds_list old (listed_hops_of reach v)))
 
 pub returns-else-is_at : goal.returns-else-is_at

@@ -1,6 +1,6 @@
 use Rattle.std.proofs.Common.{◌↔◌, ℕ, List, MatchOption, Option, subst}
 use Rattle.std.proofs.lemmas.Result.{on_ok_weaker}
-use Rattle.walk_core.specs.declared.beyond.Aim.{Aim}
+use Rattle.walk_core.specs.declared.ways.Aim.{Aim}
 use Rattle.walk_core.specs.declared.segment.Port.{Port}
 use Rattle.walk_core.specs.steps.Flooding.{segment_at}
 use Rattle.walk_core.specs.steps.SegmentWalks.{IsBehind, IsEndAt, IsLinkEnd, IsLan, Mesh}
