@@ -1,10 +1,10 @@
 -- Prefixes that are connected at the same routers and of which the same is offered, up to constants, have the same entries.
-use Rattle.std.proofs.Common.{◌≡◌, ◌≢◌, ℕ, ◌+◌, ◌<◌, ◌↔◌, inl, inr, List, [], ◌∷◌, ◌++◌, length, length-append, All, get_or, slice_get, Option, None, Some, sym, ap, subst, ◌∙◌, arith}
+use Rattle.std.proofs.Common.{◌≡◌, ◌≢◌, ℕ, ◌+◌, ◌<◌, ◌↔◌, inl, inr, List, [], ◌∷◌, ◌++◌, length, All, get_or, Option, None, Some, sym, ap, subst, ◌∙◌, arith}
 use Rattle.std.specs.Option.{IfSome}
 use Rattle.std.proofs.lemmas.Bool.{cases_lt}
 use Rattle.std.specs.List.{Contains}
-use Rattle.std.proofs.lemmas.List.{get_or-map, get_or_append_left, get_or_past, get_or_push}
-use Rattle.std.proofs.lemmas.Option.{get_or_from_slice_get, none-some, slice_get-get_or, slice_get_within}
+use Rattle.std.proofs.lemmas.List.{get_or_past}
+use Rattle.std.proofs.lemmas.Option.{none-some, slice_get-get_or}
 use Rattle.net_addr.specs.Addresses.{Block, default_prefix}
 use Rattle.net_model.specs.Network.{Network, Connected, Adjacent}
 use Rattle.net_model.specs.declared.zone.Zone.TheVariants.{One as ZoneOne, Two as ZoneTwo}
@@ -22,6 +22,7 @@ use Rattle.route_tables.proofs.BestRoutes.{hops_same}
 use Rattle.isis_routes.specs.steps.Alike.{AreAlikeDestinations, AreEarlierAlike, IsEarlierAlike}
 use Rattle.isis_routes.specs.steps.Destinations.{HasAnnouncements, isis_prefixes}
 use Rattle.isis_routes.specs.declared.destinations.Destination.{Destination}
+use Rattle.isis_routes.proofs.DestinationFacts.{at_place, each_pushed, pushed_count}
 
 -- two prefixes are connected at the same routers, neither is that of all addresses, and what is offered and announced of
 -- one is that of the other, up to constants
@@ -30,8 +31,8 @@ pub record AreAlikeIn (net : Network) (p q : Block) : Type 0 where
   pub one_only : p ≢ default_prefix
   pub other_only : q ≢ default_prefix
   pub one : AskAlike (OffersLevelOne net p) (OffersLevelOne net q)
-  pub two : AskAlike (LevelTwoAnnouncement net p) (LevelTwoAnnouncement net q)
-  pub down : AskAlike (DownAnnouncement net p) (DownAnnouncement net q)
+  pub two : (u : ℕ) → AskAlike (OfOthers (LevelTwoAnnouncement net p) u) (OfOthers (LevelTwoAnnouncement net q) u)
+  pub down : (u : ℕ) → AskAlike (OfOthers (DownAnnouncement net p) u) (OfOthers (DownAnnouncement net q) u)
 
 pub alike_back : (net : Network) (p q : Block) → AreAlikeIn net p q → AreAlikeIn net q p
 alike_back net p q alike = record {
@@ -39,8 +40,8 @@ alike_back net p q alike = record {
   one_only = alike.other_only;
   other_only = alike.one_only;
   one = alike_turned alike.one;
-  two = alike_turned alike.two;
-  down = alike_turned alike.down;
+  two = λ u. alike_turned (alike.two u);
+  down = λ u. alike_turned (alike.down u);
 }
 
 alike_others : (one other : Offers) (u : ℕ) → AskAlike one other → AskAlike (OfOthers one u) (OfOthers other u)
@@ -51,40 +52,27 @@ alike_others one other u alike =
 
 one_like : (net : Network) (p q : Block) (u : ℕ) → AreAlikeIn net p q → HasLevelOneRoute net p u → HasLevelOneRoute net q u
 one_like net p q u alike has =
-    let like = alike_cost (Adjacent net ZoneOne) u (OffersLevelOne net p) (OffersLevelOne net q) alike.one has.cost has.costs.best in
+    let like = alike_cost (Adjacent net ZoneOne) u _ _ alike.one has.cost has.costs.best in
     record { cost = like.0; costs = record { runs = has.costs.runs; best = like.1 } }
 
 two_like : (net : Network) (p q : Block) (u : ℕ) → AreAlikeIn net p q → HasLevelTwoRoute net p u → HasLevelTwoRoute net q u
 two_like net p q u alike has =
-    let like = alike_cost (Adjacent net ZoneTwo) u (OfOthers (LevelTwoAnnouncement net p) u) (OfOthers (LevelTwoAnnouncement net q) u)
-    (alike_others (LevelTwoAnnouncement net p) (LevelTwoAnnouncement net q) u alike.two) has.cost has.costs.best in
+    let like = alike_cost (Adjacent net ZoneTwo) u _ _ (alike.two u) has.cost has.costs.best in
     record { cost = like.0; costs = record { runs = has.costs.runs; best = like.1 } }
 
 down_like : (net : Network) (p q : Block) (u : ℕ) → AreAlikeIn net p q → HasDownRoute net p u → HasDownRoute net q u
 down_like net p q u alike has =
-    let like = alike_cost (Adjacent net ZoneOne) u (OfOthers (DownAnnouncement net p) u) (OfOthers (DownAnnouncement net q) u)
-    (alike_others (DownAnnouncement net p) (DownAnnouncement net q) u alike.down) has.cost has.costs.best in
+    let like = alike_cost (Adjacent net ZoneOne) u _ _ (alike.down u) has.cost has.costs.best in
     record { cost = like.0; costs = record { runs = has.costs.runs; best = like.1 } }
 
 one_hop_like : (net : Network) (p q : Block) (u h : ℕ) → AreAlikeIn net p q → LevelOneHop net p u h → LevelOneHop net q u h
-one_hop_like net p q u h alike hop = record {
-  runs = hop.runs;
-  best = alike_hop (Adjacent net ZoneOne) u (OffersLevelOne net p) (OffersLevelOne net q) alike.one h hop.best;
-}
+one_hop_like net p q u h alike hop = record { runs = hop.runs; best = alike_hop (Adjacent net ZoneOne) u _ _ alike.one h hop.best }
 
 two_hop_like : (net : Network) (p q : Block) (u h : ℕ) → AreAlikeIn net p q → LevelTwoHop net p u h → LevelTwoHop net q u h
-two_hop_like net p q u h alike hop = record {
-  runs = hop.runs;
-  best = alike_hop (Adjacent net ZoneTwo) u (OfOthers (LevelTwoAnnouncement net p) u) (OfOthers (LevelTwoAnnouncement net q) u)
-      (alike_others (LevelTwoAnnouncement net p) (LevelTwoAnnouncement net q) u alike.two) h hop.best;
-}
+two_hop_like net p q u h alike hop = record { runs = hop.runs; best = alike_hop (Adjacent net ZoneTwo) u _ _ (alike.two u) h hop.best }
 
 down_hop_like : (net : Network) (p q : Block) (u h : ℕ) → AreAlikeIn net p q → DownHop net p u h → DownHop net q u h
-down_hop_like net p q u h alike hop = record {
-  runs = hop.runs;
-  best = alike_hop (Adjacent net ZoneOne) u (OfOthers (DownAnnouncement net p) u) (OfOthers (DownAnnouncement net q) u)
-      (alike_others (DownAnnouncement net p) (DownAnnouncement net q) u alike.down) h hop.best;
-}
+down_hop_like net p q u h alike hop = record { runs = hop.runs; best = alike_hop (Adjacent net ZoneOne) u _ _ (alike.down u) h hop.best }
 
 forwards_like : (one other : ℕ → Type 0) (e : Entry) → ((h : ℕ) → one h ↔ other h) → ForwardsTo one e → ForwardsTo other e
 forwards_like one other Discard same forwards = forwards
@@ -122,21 +110,11 @@ alike_destinations net one other has_one has_other alike = record {
   other_only = alike.other_part;
   one = alike_lists (OffersLevelOne net one.one.dest) (OffersLevelOne net other.one.dest) one.one.offers.items other.one.offers.items
       has_one.one.offers has_other.one.offers alike.level_one;
-  two = alike_lists (LevelTwoAnnouncement net one.one.dest) (LevelTwoAnnouncement net other.one.dest) one.two.items other.two.items
-      has_one.two has_other.two alike.level_two;
-  down = alike_lists (DownAnnouncement net one.one.dest) (DownAnnouncement net other.one.dest) one.down.items other.down.items
-      has_one.down has_other.down alike.down;
+  two = λ u. alike_others (LevelTwoAnnouncement net one.one.dest) (LevelTwoAnnouncement net other.one.dest) u
+      (alike_lists _ _ one.two.items other.two.items has_one.two has_other.two alike.level_two);
+  down = λ u. alike_others (DownAnnouncement net one.one.dest) (DownAnnouncement net other.one.dest) u
+      (alike_lists _ _ one.down.items other.down.items has_one.down has_other.down alike.down);
 }
-
--- what holds of all destinations holds of one of them, whose prefix is that at its place
-at_place : (net : Network) (all : List Destination) (k : ℕ) (d : Destination) → All (HasAnnouncements net) all → slice_get all k ≡ Some d →
-    HasAnnouncements net d × (prefix_at (isis_prefixes all) k ≡ d.one.dest)
-at_place net all k d every here =
-    let within : k < length all = slice_get_within all k d here in
-    let read : get_or all k d ≡ d = get_or_from_slice_get all k d d here in (
-      subst (HasAnnouncements net) read (every k d within),
-      get_or-map (λ (x : Destination). x.one.dest) all k d default_prefix within ∙ ap (λ (x : Destination). x.one.dest) read,
-    )
 
 -- a destination and an earlier one that is alike have the same entries
 pub earlier_entries : (net : Network) (all : List Destination) (place earlier : ℕ) → All (HasAnnouncements net) all → IsEarlierAlike all place earlier →
@@ -154,30 +132,15 @@ pub named_none : (all : List Destination) (named : List (Option ℕ)) → named 
 named_none all named empty place earlier same =
     absurd (none-some earlier (subst (λ (l : List (Option ℕ)). get_or l place None ≡ Some earlier) empty same))
 
-pub named_count : (named new : List (Option ℕ)) (n : ℕ) (next : Option ℕ) → length named ≡ n → new ≡ named ++ next ∷ [] → length new ≡ n + 1
-named_count named new n next long pushed =
-    let more : length (named ++ next ∷ []) ≡ length named + 1 = length-append named (next ∷ []) in
-    ap (λ (l : List (Option ℕ)). length l) pushed ∙ omega (arith, more, long)
-
 pub named_more : (all : List Destination) (named new : List (Option ℕ)) (n : ℕ) (next : Option ℕ) → length named ≡ n → new ≡ named ++ next ∷ [] →
     AreEarlierAlike all named → IfSome next (IsEarlierAlike all n) → AreEarlierAlike all new
 named_more all named new n next long pushed before here place earlier same =
-    let at : get_or (named ++ next ∷ []) place None ≡ Some earlier =
-    subst (λ (l : List (Option ℕ)). get_or l place None ≡ Some earlier) pushed same in
-    elim (cases_lt place n) [
-      | inl less ↦ before place earlier (sym (get_or_append_left named (next ∷ []) None place (omega arith)) ∙ at)
-      | inr more ↦
-          elim (cases_lt n place) [
-            | inl past ↦
-                let end : length (named ++ next ∷ []) ≡ length named + 1 = length-append named (next ∷ []) in
-                absurd (none-some earlier (sym (get_or_past (named ++ next ∷ []) place None (omega arith)) ∙ at))
-            | inr last ↦
-                let same_place : place ≡ n = omega arith in
-                let is : next ≡ Some earlier =
-                sym (get_or_push named next None n long) ∙ ap (λ (k : ℕ). get_or (named ++ next ∷ []) k None) (sym same_place) ∙ at in
-                subst (λ (k : ℕ). IsEarlierAlike all k earlier) (sym same_place)
-                (subst (λ (o : Option ℕ). IfSome o (IsEarlierAlike all n)) is here)
-          ]
+    let more : length new ≡ n + 1 = pushed_count named new n next long pushed in
+    elim (cases_lt place (n + 1)) [
+      | inl within ↦
+          each_pushed (λ k o. (e : ℕ) → o ≡ Some e → IsEarlierAlike all k e) named new n next None long pushed (λ k _. before k)
+          (λ e is. subst (λ (o : Option ℕ). IfSome o (IsEarlierAlike all n)) is here) place within earlier same
+      | inr past ↦ absurd (none-some earlier (sym (get_or_past new place None (omega (arith, more, past))) ∙ same))
     ]
 
 -- an earlier destination that is alike

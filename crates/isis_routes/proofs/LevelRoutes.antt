@@ -1,27 +1,26 @@
 -- Costs and routes over the least walks of a level.
-use Rattle.std.proofs.Common.{◌≡◌, ℕ, ◌<◌, ◌↔◌, List, [], length, get_or, Option, Some, None, MatchOption, Result, IfOk, refl, sym, subst, arith}
-use Rattle.std.specs.Option.{IfSome}
-use Rattle.std.proofs.lemmas.Option.{IfSome_then, slice_get-get_or}
-use Rattle.std.proofs.lemmas.Result.{IfOk-weaker}
+use Rattle.std.proofs.Common.{◌≡◌, ℕ, ◌<◌, ◌↔◌, List, [], length, get_or, Option, Some, None, MatchOption, refl, sym, subst, arith}
+use Rattle.std.proofs.lemmas.Option.{slice_get-get_or}
 use Rattle.net_model.proofs.NetworkFacts.{Adjacent-to_within}
 use Rattle.net_model.specs.Network.{Network, Adjacent}
 use Rattle.net_model.specs.declared.zone.Zone.{Zone}
 use Rattle.net_model.specs.declared.zone.Zone.TheVariants.{One as ZoneOne, Two as ZoneTwo}
+use Rattle.walk_core.specs.Walks.{Arcs}
 use Rattle.walk_core.specs.Offers.{BestCost}
 use Rattle.walk_core.specs.Reach.{Reach, AreLeastWalks, AreNear}
 use Rattle.walk_core.specs.BestOffers.{ListsOffer, AreInRange, NoneTotals, IsBestTotal}
 use Rattle.walk_core.specs.declared.offers.Offer.{Offer}
 use Rattle.walk_core.proofs.OfferLaws.{best_total_is_best_cost, none_totals_no_best}
 use Rattle.zone_graph.specs.Walks.{AreZoneWalks}
-use Rattle.route_tables.specs.BestRoutes.{AreBestHops, IsBestRoute}
+use Rattle.route_tables.specs.BestRoutes.{AreBestHops}
 use Rattle.route_tables.specs.Routings.{ForwardsBy, IsRouteFor}
 use Rattle.route_tables.specs.declared.route.Route.{Route}
-use Rattle.route_tables.specs.declared.route.Route.TheVariants.{Towards}
-use Rattle.route_tables.specs.declared.route.Target.{Target}
 use Rattle.route_tables.proofs.BestRoutes.{best_cost_is, best_hops_are, best_route_is, offers_in_range}
+use Rattle.isis_routes.specs.steps.Domain.{IsisDomain}
 use Rattle.isis_routes.specs.steps.LevelReach.{level_reach}
 use Rattle.isis_routes.specs.steps.Levels.{zone_in, zone_number}
 use Rattle.isis_routes.specs.steps.Offered.{AreSmall}
+use Rattle.isis_routes.specs.steps.Routes.{IsBestIn}
 use Rattle.isis_routes.specs.steps.Routing.{AreLevelWalks, HasBest, IsRouteToBest}
 use Rattle.isis_routes.specs.declared.level.Level.{Level}
 use Rattle.isis_routes.specs.declared.level.Level.TheVariants.{One, Two}
@@ -51,13 +50,11 @@ below_two One = omega arith
 below_two Two = omega arith
 
 -- offers that aren't large are in range
-pub small_in_range : (net : Network) (level : Level) (walks : LevelWalks) (u : ℕ) (reach : Reach) (offers : List Offer) → AreLevelWalks net walks →
-    u < length net →
-    reach ≡ level_reach walks u (zone_number level) → AreSmall offers → AreInRange reach offers
-small_in_range net level walks u reach offers are within is small =
-    subst (λ (r : Reach). AreInRange r offers) (sym is)
-    (offers_in_range (level_reach walks u (zone_number level)) (ListsOffer offers) offers (reach_in net level walks u are within).near
-    (λ at asks. (λ l. l, λ l. l)) small)
+pub small_in_range : (net : Network) (level : Level) (walks : LevelWalks) (u : ℕ) (offers : List Offer) → AreLevelWalks net walks → u < length net →
+    AreSmall offers → AreInRange (level_reach walks u (zone_number level)) offers
+small_in_range net level walks u offers are within small =
+    offers_in_range (level_reach walks u (zone_number level)) (ListsOffer offers) offers (reach_in net level walks u are within).near
+    (λ at asks. (λ l. l, λ l. l)) small
 
 -- the best total is the best cost of the listed offers
 pub listed_cost : (net : Network) (level : Level) (walks : LevelWalks) (u : ℕ) (reach : Reach) (offers : List Offer) → AreLevelWalks net walks →
@@ -70,50 +67,28 @@ listed_cost net level walks u reach offers are within is found best =
     (λ at asks. (λ l. l, λ l. l)) found best
 
 -- the hops towards the best total are those of the best of the listed offers
-listed_hops : (net : Network) (zone : Zone) (u n : ℕ) (reach : Reach) (offers : List Offer) → AreLeastWalks (Adjacent net zone) u reach → n ≡ length net →
-    (hops : Option (List ℕ)) → MatchOption hops (NoneTotals reach offers) (AreBestHops reach offers n) →
+listed_hops : (net : Network) (zone : Zone) (u : ℕ) (reach : Reach) (offers : List Offer) → AreLeastWalks (Adjacent net zone) u reach →
+    (hops : Option (List ℕ)) → MatchOption hops (NoneTotals reach offers) (AreBestHops reach offers (length net)) →
     MatchOption hops (HasBest (Adjacent net zone) (ListsOffer offers) u → ⊥) (IsRouteToBest (Adjacent net zone) (ListsOffer offers) u)
-listed_hops net zone u n reach offers walks count None none = λ has.
+listed_hops net zone u reach offers walks None none = λ has.
     none_totals_no_best (Adjacent net zone) u reach (ListsOffer offers) offers walks (λ at asks. (λ l. l, λ l. l)) none has.cost has.best
-listed_hops net zone u n reach offers walks count (Some hops) best = record {
+listed_hops net zone u reach offers walks (Some hops) best = record {
   is = record {
     cost = best.cost;
     best = (best_total_is_best_cost (Adjacent net zone) u reach (ListsOffer offers) offers best.cost walks (λ at asks. (λ l. l, λ l. l))).0 best.best;
   };
-  hops_are = best_hops_are (Adjacent net zone) u reach (ListsOffer offers) offers n hops walks (λ at asks. (λ l. l, λ l. l))
-      (λ h c over. subst (λ (m : ℕ). h < m) (sym count) (Adjacent-to_within net zone u h c over)) best;
+  hops_are = best_hops_are (Adjacent net zone) u reach (ListsOffer offers) offers (length net) hops walks (λ at asks. (λ l. l, λ l. l))
+      (λ h c over. Adjacent-to_within net zone u h c over) best;
 }
 
 -- and so is the route to it
-listed_one : (net : Network) (level : Level) (walks : LevelWalks) (u n : ℕ) (reach : Reach) (offers : List Offer) → AreLevelWalks net walks → u < length net →
-    n ≡ length net → reach ≡ level_reach walks u (zone_number level) → (found : Option Route) →
-    MatchOption found (NoneTotals reach offers) (IsBestRoute reach offers (zone_number level) n) →
-    MatchOption found (HasBest (Adjacent net (zone_in level)) (ListsOffer offers) u → ⊥)
-    (IsRouteFor (level_reach walks u) 2 n (ForwardsBy (IsRouteToBest (Adjacent net (zone_in level)) (ListsOffer offers) u)))
-listed_one net level walks u n reach offers are within count is found best =
-    best_route_is (level_reach walks u) 2 n (zone_number level) reach offers (HasBest (Adjacent net (zone_in level)) (ListsOffer offers) u → ⊥)
-    (IsRouteToBest (Adjacent net (zone_in level)) (ListsOffer offers) u) (below_two level) (sym is)
-    (listed_hops net (zone_in level) u n reach offers
-    (subst (AreLeastWalks (Adjacent net (zone_in level)) u) (sym is) (reach_in net level walks u are within).least) count) found best
-
-pub listed_route : {E : Type 0} (net : Network) (level : Level) (walks : LevelWalks) (u n : ℕ) (reach : Reach) (offers : List Offer)
-    (r : Result (Option Route) E) → AreLevelWalks net walks → u < length net → n ≡ length net → reach ≡ level_reach walks u (zone_number level) →
-    IfOk r (λ found. MatchOption found (NoneTotals reach offers) (IsBestRoute reach offers (zone_number level) n)) →
-    IfOk r (λ found. MatchOption found (HasBest (Adjacent net (zone_in level)) (ListsOffer offers) u → ⊥)
-    (IsRouteFor (level_reach walks u) 2 (length net) (ForwardsBy (IsRouteToBest (Adjacent net (zone_in level)) (ListsOffer offers) u))))
-listed_route net level walks u n reach offers r are within count is found =
-    let none : Type 0 = HasBest (Adjacent net (zone_in level)) (ListsOffer offers) u → ⊥ in
-    let some : List ℕ → Type 0 = IsRouteToBest (Adjacent net (zone_in level)) (ListsOffer offers) u in
-    subst (λ (m : ℕ). IfOk r (λ found. MatchOption found none (IsRouteFor (level_reach walks u) 2 m (ForwardsBy some)))) count
-    (IfOk-weaker r
-    (λ found. MatchOption found (NoneTotals reach offers) (IsBestRoute reach offers (zone_number level) n))
-    (λ found. MatchOption found none (IsRouteFor (level_reach walks u) 2 n (ForwardsBy some)))
-    (listed_one net level walks u n reach offers are within count is) found)
-
-pub listed_target : (net : Network) (level : Level) (walks : LevelWalks) (u : ℕ) (reach : Reach) (offers : List Offer) (found : Option Target) →
-    AreLevelWalks net walks → u < length net → reach ≡ level_reach walks u (zone_number level) →
-    IfSome found (λ target. IsBestRoute reach offers (zone_number level) (length net) (Towards target)) →
-    IfSome found (λ target. IsRouteFor (level_reach walks u) 2 (length net)
-    (ForwardsBy (IsRouteToBest (Adjacent net (zone_in level)) (ListsOffer offers) u)) (Towards target))
-listed_target net level walks u reach offers found are within is best =
-    IfSome_then found best (λ target here. listed_one net level walks u (length net) reach offers are within refl is (Some (Towards target)) here)
+pub listed_route : (domain : IsisDomain) (level : Level) (u : ℕ) (offers : List Offer) → AreLevelWalks domain.net domain.walks → u < length domain.net →
+    (found : Option Route) → IsBestIn domain level u offers found →
+    MatchOption found (HasBest (Adjacent domain.net (zone_in level)) (ListsOffer offers) u → ⊥)
+    (IsRouteFor (level_reach domain.walks u) 2 (length domain.net) (ForwardsBy (IsRouteToBest (Adjacent domain.net (zone_in level)) (ListsOffer offers) u)))
+listed_route domain level u offers are within found best =
+    let reach : Reach = level_reach domain.walks u (zone_number level) in
+    let arc : Arcs = Adjacent domain.net (zone_in level) in
+    best_route_is (level_reach domain.walks u) 2 (length domain.net) (zone_number level) reach offers (HasBest arc (ListsOffer offers) u → ⊥)
+    (IsRouteToBest arc (ListsOffer offers) u) (below_two level) refl
+    (listed_hops domain.net (zone_in level) u reach offers (reach_in domain.net level domain.walks u are within).least) found best

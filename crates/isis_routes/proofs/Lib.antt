@@ -12,3 +12,5 @@ mod ProtocolFacts
 mod HomeFacts
 mod RunFacts
 mod AlikeFacts
+mod LeadFacts
+mod LaneFacts

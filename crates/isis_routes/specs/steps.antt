@@ -9,4 +9,5 @@ pub mod Domain
 pub mod Routes
 pub mod Destinations
 pub mod Alike
+pub mod Lanes
 pub mod Isis

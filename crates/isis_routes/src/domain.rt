@@ -1,16 +1,16 @@
-ghost use Rattle.std.specs.Prelude.{◌≡◌, ◌<◌, ◌↔◌, ℕ, length, Some, IfOk, IfSome, IsTrue, MatchOption};
+ghost use Rattle.std.specs.Prelude.{◌≡◌, ◌<◌, ◌↔◌, ℕ, length, Some, IfOk, IfSome, IsTrue};
 ghost use Rattle.net_model.specs.Network.{Adjacent};
-ghost use Rattle.walk_core.specs.BestOffers.{ListsOffer};
+ghost use Rattle.walk_core.specs.BestOffers.{AreInRange, ListsOffer};
 ghost use Rattle.walk_core.specs.Offers.{BestCost};
 ghost use Rattle.igp_theory.specs.Isis.{Leaks, OffersDefault, RunsLevelOne, RunsLevelTwo};
 ghost use Rattle.route_tables.specs.Lists.{Exactly};
-ghost use Rattle.route_tables.specs.Routings.{ForwardsBy, IsRouteFor};
 ghost use Rattle.route_tables.specs.declared.route.Route.TheVariants.{Towards};
 ghost use Rattle.isis_routes.specs.steps.Domain.{IsKnown};
 ghost use Rattle.isis_routes.specs.steps.LevelReach.{level_reach};
-ghost use Rattle.isis_routes.specs.steps.Levels.{zone_in};
+ghost use Rattle.isis_routes.specs.steps.Levels.{zone_in, zone_number};
 ghost use Rattle.isis_routes.specs.steps.Offered.{AreSmall, HoldsOffers};
-ghost use Rattle.isis_routes.specs.steps.Routing.{HasBest, IsRouteToBest, RunsBothLevels};
+ghost use Rattle.isis_routes.specs.steps.Routes.{IsBestIn};
+ghost use Rattle.isis_routes.specs.steps.Routing.{RunsBothLevels};
 
 use crate::OutOfMemory;
 use crate::attached::attached_routers;
@@ -137,11 +137,8 @@ impl<'a> Domain<'a> {
         router: u32,
     ) -> Result<Option<Route>, OutOfMemory>
         requires router { router < length self.now.net }
-        requires small { AreSmall offers.now }
-        ensures { IfOk result (λ found. MatchOption found
-            (HasBest (Adjacent self.now.net (zone_in level)) (ListsOffer offers.now) router → ⊥)
-            (IsRouteFor (level_reach self.now.walks router) 2 (length self.now.net)
-            (ForwardsBy (IsRouteToBest (Adjacent self.now.net (zone_in level)) (ListsOffer offers.now) router)))) }
+        requires range { AreInRange (level_reach self.now.walks router (zone_number level)) offers.now }
+        ensures { IfOk result (IsBestIn self.now level router offers.now) }
     {
         let number = level.zone();
         let walks = self.walks(router, number);
@@ -152,9 +149,8 @@ impl<'a> Domain<'a> {
     #[inline(always)]
     pub fn best_target(&self, level: Level, offers: &[Offer], router: u32) -> Option<Target>
         requires router { router < length self.now.net }
-        requires small { AreSmall offers.now }
-        ensures { IfSome result (λ target. IsRouteFor (level_reach self.now.walks router) 2 (length self.now.net)
-            (ForwardsBy (IsRouteToBest (Adjacent self.now.net (zone_in level)) (ListsOffer offers.now) router)) (Towards target)) }
+        requires range { AreInRange (level_reach self.now.walks router (zone_number level)) offers.now }
+        ensures { IfSome result (λ target. IsBestIn self.now level router offers.now (Some (Towards target))) }
     {
         let number = level.zone();
         let walks = self.walks(router, number);

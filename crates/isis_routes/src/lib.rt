@@ -10,12 +10,13 @@
 //! 4. `announcements.rt`: what is announced into level 2 (RFC 1195, section 3.2).
 //! 5. `leaked.rt`: what is announced into level 1, marked down (RFC 5302).
 //! 6. `alike.rt`: prefixes with the same routes.
-//! 7. `segments.rt`: who is adjacent to whom.
-//! 8. `entry.rt`: the level 1 route, else the level 2 route, else the down route, else the default; `target.rt`: where
+//! 7. `lanes.rt`: what decides the routes of all routers that run level 2, and of all that run level 1 alone.
+//! 8. `segments.rt`: who is adjacent to whom.
+//! 9. `entry.rt`: the level 1 route, else the level 2 route, else the down route, else the default; `target.rt`: where
 //!    the first two lead, where that is known without hops of their own.
 //!
-//! Steps 2 to 6 take time of the connected prefixes of all routers, and of prefixes times the routers that run both
-//! levels; step 8 of routers times prefixes that aren't alike times the offers of a prefix.
+//! Steps 2 to 7 take time of the connected prefixes of all routers, and of prefixes times the routers that run both
+//! levels; step 9 of routers times prefixes that aren't alike, and that no lane decides, times the offers of a prefix.
 #![tactic(auto)]
 
 mod alike;
@@ -26,6 +27,7 @@ mod destinations;
 mod domain;
 mod entry;
 mod homes;
+mod lanes;
 mod leaked;
 mod level;
 mod level_one;

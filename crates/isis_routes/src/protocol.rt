@@ -1,28 +1,34 @@
 ghost use Rattle.std.specs.Prelude.{◌≡◌, ◌<◌, length, IfOk};
 ghost use Rattle.route_tables.specs.Prefixes.{prefix_at};
-ghost use Rattle.isis_routes.specs.steps.Destinations.{HasAnnouncements, isis_prefixes};
+ghost use Rattle.isis_routes.specs.steps.Destinations.{AreIsisDestinations, HasAnnouncements, isis_prefixes};
+ghost use Rattle.isis_routes.specs.steps.Lanes.{AreDecisions};
 
 use crate::OutOfMemory;
 use crate::alike::{earlier_alike, named_at};
 use crate::destinations::{Destination, destinations};
 use crate::domain::Domain;
 use crate::entry::route_of;
+use crate::lanes::{decisions, lane_level};
+use crate::level::Level;
 use crate::segments::level_segments;
 use crate::target::target_of;
 use net_addr::Prefix;
 use net_model::Net;
-use route_tables::{Protocol, Route, Target};
+use route_tables::{Decision, Lane, Protocol, Route, Target};
 use std::alloc::Global;
 use std::marker::Model;
 use walk_core::{LeastWalks, Segment};
 
-/// IS-IS on a network: what its routers know, also of each prefix that may have entries, and for each an earlier one
-/// with the same routes, where one is known.
+/// IS-IS on a network: what its routers know, also of each prefix that may have entries, for each an earlier one with the
+/// same routes, where one is known, and what decides the routes of routers that run level 1 alone, and of those that run
+/// level 2.
 #[derive(Drop)]
 pub struct Isis<'a> {
     domain: Domain<'a>,
     destinations: Vec<Destination>,
     earlier: Vec<Option<usize>>,
+    lane_one: Vec<Decision>,
+    lane_two: Vec<Decision>,
 }
 
 impl<'a> Model for Isis<'a> {
@@ -32,7 +38,8 @@ impl<'a> Model for Isis<'a> {
 
     ghost view = { λ x. record { domain = x.domain; destinations = x.destinations.items } };
 
-    ghost invariant = { λ x. IsIsis (record { domain = x.domain; destinations = x.destinations.items }) x.earlier.items };
+    ghost invariant = { λ x. IsIsis (record { domain = x.domain; destinations = x.destinations.items })
+        (record { earlier = x.earlier.items; one = x.lane_one.items; two = x.lane_two.items }) };
 }
 
 impl<'a> Isis<'a> {
@@ -43,10 +50,14 @@ impl<'a> Isis<'a> {
         let domain = Domain::build(alloc, net)?;
         let destinations = destinations(alloc, &domain)?;
         let earlier = earlier_alike(alloc, destinations.as_slice(), net.routers())?;
+        let lane_one = decisions(alloc, destinations.as_slice(), Level::One)?;
+        let lane_two = decisions(alloc, destinations.as_slice(), Level::Two)?;
         Ok(Isis {
             domain,
             destinations,
             earlier,
+            lane_one,
+            lane_two,
         })
     }
 
@@ -57,13 +68,32 @@ impl<'a> Isis<'a> {
         &self.domain
     }
 
+    /// What is known of each prefix.
+    fn known(&self) -> &[Destination]
+        ensures is { result.now ≡ self.now.destinations }
+        ensures known { AreIsisDestinations self.now.domain.net self.now.destinations }
+    {
+        self.destinations.as_slice()
+    }
+
     /// What is known of the prefix of this number.
     fn destination(&self, place: usize) -> &Destination
         requires { place < length (isis_prefixes self.now.destinations) }
         ensures announced { HasAnnouncements self.now.domain.net result.now }
         ensures dest { result.now.one.dest ≡ prefix_at (isis_prefixes self.now.destinations) place }
     {
-        &self.destinations[place]
+        &self.known()[place]
+    }
+
+    /// What decides the routes of the routers in the lane of a level, prefix by prefix.
+    fn decisions(&self, level: Level) -> &[Decision]
+        ensures known { AreIsisDestinations self.now.domain.net self.now.destinations }
+        ensures decisions { AreDecisions level self.now.destinations result.now }
+    {
+        match level {
+            Level::One => self.lane_one.as_slice(),
+            Level::Two => self.lane_two.as_slice(),
+        }
     }
 }
 
@@ -89,7 +119,7 @@ impl<'a> Protocol for Isis<'a> {
     }
 
     fn candidates(&self) -> usize {
-        self.destinations.len()
+        self.known().len()
     }
 
     fn candidate(&self, place: usize) -> Prefix {
@@ -98,6 +128,14 @@ impl<'a> Protocol for Isis<'a> {
 
     fn alike(&self, place: usize) -> Option<usize> {
         named_at(self.earlier.as_slice(), place)
+    }
+
+    fn lane(&self, router: u32) -> Option<Lane<'_>> {
+        let level = lane_level(self.domain(), router)?;
+        Some(Lane {
+            zone: level.zone(),
+            decisions: self.decisions(level),
+        })
     }
 
     fn route(

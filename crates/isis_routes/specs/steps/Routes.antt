@@ -1,12 +1,23 @@
 -- Routes of a router for a prefix.
-use Rattle.std.specs.Prelude.{ℕ, length}
+use Rattle.std.specs.Prelude.{ℕ, List, length, Option, MatchOption}
 use Rattle.net_addr.specs.Addresses.{Block}
+use Rattle.walk_core.specs.BestOffers.{NoneTotals}
+use Rattle.walk_core.specs.declared.offers.Offer.{Offer}
 use Rattle.igp_theory.specs.Isis.{IsisEntry}
+use Rattle.route_tables.specs.BestRoutes.{IsBestRoute}
 use Rattle.route_tables.specs.Routings.{IsRouteFor}
 use Rattle.route_tables.specs.declared.route.Route.{Route}
 use Rattle.isis_routes.specs.steps.Domain.{IsisDomain}
 use Rattle.isis_routes.specs.steps.LevelReach.{level_reach}
+use Rattle.isis_routes.specs.steps.Levels.{zone_number}
+use Rattle.isis_routes.specs.declared.level.Level.{Level}
 
 -- the route makes router u's entry for p
 abbrev pub IsIsisRoute : IsisDomain → ℕ → Block → Route → Type 0
 IsIsisRoute domain u p route = IsRouteFor (level_reach domain.walks u) 2 (length domain.net) (IsisEntry domain.net u p) route
+
+-- over a level's least walks from router u this is the route to the best of the offers, and none where none is reached
+abbrev pub IsBestIn : IsisDomain → Level → ℕ → List Offer → Option Route → Type 0
+IsBestIn domain level u offers found =
+    MatchOption found (NoneTotals (level_reach domain.walks u (zone_number level)) offers)
+    (IsBestRoute (level_reach domain.walks u (zone_number level)) offers (zone_number level) (length domain.net))

@@ -1,5 +1,6 @@
 use Rattle.std.proofs.Common.{ℕ, List, Option, length, ap}
-use Rattle.isis_routes.proofs.AlikeFacts.{named_count, named_more, named_none}
+use Rattle.isis_routes.proofs.AlikeFacts.{named_more, named_none}
+use Rattle.isis_routes.proofs.DestinationFacts.{pushed_count}
 use Rattle.isis_routes.proofs.alike.earlier_alike.Goals as goal
 
 pub loop-place-init : goal.loop-place-init
@@ -10,7 +11,7 @@ loop-place-init c = record {
 
 pub loop-place-preserved : goal.loop-place-preserved
 loop-place-preserved c = record {
-  count = named_count c.loop-place.all.items c.push.new.self.items c.loop-place.place c.alike_before.result c.loop-place.invariant.count
+  count = pushed_count c.loop-place.all.items c.push.new.self.items c.loop-place.place c.alike_before.result c.loop-place.invariant.count
       c.in_ok-push.ensures.items;
   alike = named_more c.args.destinations.now c.loop-place.all.items c.push.new.self.items c.loop-place.place c.alike_before.result
       c.loop-place.invariant.count c.in_ok-push.ensures.items c.loop-place.invariant.alike c.alike_before.ensures;

@@ -1,34 +1,16 @@
-use Rattle.std.proofs.Common.{List, length, refl, sym, subst}
-use Rattle.net_model.specs.Network.{Adjacent}
-use Rattle.net_model.specs.declared.zone.Zone.TheVariants.{One as ZoneOne}
-use Rattle.walk_core.specs.declared.offers.Offer.{Offer}
-use Rattle.igp_theory.specs.Ospf.{OfOthers}
-use Rattle.igp_theory.specs.Isis.{DownAnnouncement, HasDownRoute, IsisEntry}
-use Rattle.isis_routes.specs.steps.LevelReach.{level_reach}
-use Rattle.isis_routes.specs.steps.Offered.{HoldsOffers}
-use Rattle.isis_routes.proofs.Announced.{others_hold}
-use Rattle.isis_routes.proofs.BestRoutes.{route_found}
-use Rattle.isis_routes.proofs.CostBounds.{leaked_small}
-use Rattle.isis_routes.proofs.EntryFacts.{entry_by_down}
+use Rattle.std.proofs.Common.{refl}
+use Rattle.isis_routes.proofs.LeadFacts.{as_good, down_leads, route_by}
 use Rattle.isis_routes.proofs.entry.down_route.Goals as goal
 
-pub best_route-requires-clause-small : goal.best_route-requires-clause-small
-best_route-requires-clause-small c =
-    let d = c.args.destination.now in
-    leaked_small c.args.domain.now.net d.one.dest c.args.domain.now.walks d.down.items c.as_slice.result.now c.if-not-runs_level_one.ensures.known.network
-    c.if-not-runs_level_one.ensures.known.walks c.requires.announced.down c.as_slice.ensures.value
+pub best_route-requires-clause-range : goal.best_route-requires-clause-range
+best_route-requires-clause-range c =
+    (down_leads c.args.domain.now c.args.router c.args.destination.now c.as_slice.result.now c.if-not-runs_level_one.ensures.known c.requires.announced
+    c.requires.router c.requires.away c.requires.without_level_one c.requires.without_level_two (c.if-not-runs_level_one.ensures.runs.0 refl)
+    (as_good c.as_slice.ensures.value)).range
 
 pub returns : goal.returns
 returns c =
-    let net = c.args.domain.now.net in
-    let u = c.args.router in
-    let p = c.args.destination.now.one.dest in
-    let others : HoldsOffers (OfOthers (DownAnnouncement net p) u) c.as_slice.result.now =
-    others_hold (DownAnnouncement net p) c.as_slice.result.now u
-    (subst (λ (l : List Offer). HoldsOffers (DownAnnouncement net p) l) (sym c.as_slice.ensures.value) c.requires.announced.down)
-    (λ k down. c.requires.without_level_two (record { cost = k; costs = down.costs })) in
-    route_found (Adjacent net ZoneOne) (OfOthers (DownAnnouncement net p) u) c.as_slice.result.now u (level_reach c.args.domain.now.walks u) (length net)
-    (HasDownRoute net p u → ⊥) (IsisEntry net u p) c.best_route.result others
-    (λ none has. none (record { cost = has.cost; best = has.costs.best }))
-    (λ hops. entry_by_down net u p hops c.requires.away c.requires.without_level_one c.requires.without_level_two
-    (c.if-not-runs_level_one.ensures.runs.0 refl)) c.best_route.ensures
+    route_by c.best_route.result
+    (down_leads c.args.domain.now c.args.router c.args.destination.now c.as_slice.result.now c.if-not-runs_level_one.ensures.known c.requires.announced
+    c.requires.router c.requires.away c.requires.without_level_one c.requires.without_level_two (c.if-not-runs_level_one.ensures.runs.0 refl)
+    (as_good c.as_slice.ensures.value)) c.best_route.ensures

@@ -1,33 +1,15 @@
-use Rattle.std.proofs.Common.{List, length, refl, sym, subst}
-use Rattle.net_model.specs.Network.{Adjacent}
-use Rattle.net_model.specs.declared.zone.Zone.TheVariants.{Two as ZoneTwo}
-use Rattle.walk_core.specs.declared.offers.Offer.{Offer}
-use Rattle.igp_theory.specs.Ospf.{OfOthers}
-use Rattle.igp_theory.specs.Isis.{LevelTwoAnnouncement, HasLevelTwoRoute, IsisEntry}
-use Rattle.isis_routes.specs.steps.LevelReach.{level_reach}
-use Rattle.isis_routes.specs.steps.Offered.{HoldsOffers}
-use Rattle.isis_routes.proofs.Announced.{announces_nothing, others_hold}
-use Rattle.isis_routes.proofs.BestRoutes.{route_found}
-use Rattle.isis_routes.proofs.CostBounds.{announced_small}
-use Rattle.isis_routes.proofs.EntryFacts.{entry_by_two}
+use Rattle.std.proofs.Common.{refl}
+use Rattle.isis_routes.proofs.LeadFacts.{as_good, route_by, two_leads}
 use Rattle.isis_routes.proofs.entry.level_two_route.Goals as goal
 
-pub best_route-requires-clause-small : goal.best_route-requires-clause-small
-best_route-requires-clause-small c =
-    let d = c.args.destination.now in
-    announced_small c.args.domain.now.net d.one.dest c.args.domain.now.walks.one d.two.items c.as_slice.result.now
-    c.if-not-runs_level_two.ensures.known.network c.if-not-runs_level_two.ensures.known.walks.one c.requires.announced.two c.as_slice.ensures.value
+pub best_route-requires-clause-range : goal.best_route-requires-clause-range
+best_route-requires-clause-range c =
+    (two_leads c.args.domain.now c.args.router c.args.destination.now c.as_slice.result.now c.if-not-runs_level_two.ensures.known c.requires.announced
+    c.requires.router c.requires.away c.requires.without_level_one (c.if-not-runs_level_two.ensures.runs.0 refl) (as_good c.as_slice.ensures.value)).range
 
 pub returns : goal.returns
 returns c =
-    let net = c.args.domain.now.net in
-    let u = c.args.router in
-    let p = c.args.destination.now.one.dest in
-    let others : HoldsOffers (OfOthers (LevelTwoAnnouncement net p) u) c.as_slice.result.now =
-    others_hold (LevelTwoAnnouncement net p) c.as_slice.result.now u
-    (subst (λ (l : List Offer). HoldsOffers (LevelTwoAnnouncement net p) l) (sym c.as_slice.ensures.value) c.requires.announced.two)
-    (λ k announces. announces_nothing net p u k c.requires.away c.requires.without_level_one announces) in
-    route_found (Adjacent net ZoneTwo) (OfOthers (LevelTwoAnnouncement net p) u) c.as_slice.result.now u (level_reach c.args.domain.now.walks u) (length net)
-    (HasLevelTwoRoute net p u → ⊥) (IsisEntry net u p) c.best_route.result others
-    (λ none has. none (record { cost = has.cost; best = has.costs.best }))
-    (λ hops. entry_by_two net u p hops c.requires.away c.requires.without_level_one (c.if-not-runs_level_two.ensures.runs.0 refl)) c.best_route.ensures
+    route_by c.best_route.result
+    (two_leads c.args.domain.now c.args.router c.args.destination.now c.as_slice.result.now c.if-not-runs_level_two.ensures.known c.requires.announced
+    c.requires.router c.requires.away c.requires.without_level_one (c.if-not-runs_level_two.ensures.runs.0 refl) (as_good c.as_slice.ensures.value))
+    c.best_route.ensures

@@ -1,23 +1,13 @@
-use Rattle.std.proofs.Common.{◌∙◌, ℕ, length, ap, subst}
+use Rattle.std.proofs.Common.{ℕ, length, subst}
 use Rattle.std.specs.Option.{IfSome}
-use Rattle.route_tables.specs.BestRoutes.{IsBestRoute}
-use Rattle.route_tables.specs.declared.route.Route.TheVariants.{Towards}
+use Rattle.walk_core.specs.Reach.{Reach}
+use Rattle.route_tables.specs.BestRoutes.{IsBestTarget}
 use Rattle.isis_routes.specs.steps.LevelReach.{level_reach}
-use Rattle.isis_routes.proofs.LevelRoutes.{listed_target, small_in_range}
 use Rattle.isis_routes.proofs.domain.Domain.best_target.Goals as goal
-
-pub best_target-requires : goal.best_target-requires
-best_target-requires c =
-    small_in_range c.args.self.now.net c.args.level c.args.self.now.walks c.args.router c.walks-walks.result.now c.args.offers.now
-    c.walks-walks.ensures.known.walks c.requires.router
-    (c.walks-walks.ensures.reach ∙ ap (level_reach c.args.self.now.walks c.args.router) c.zone-number.ensures) c.requires.small
 
 pub returns : goal.returns
 returns c =
-    let net = c.args.self.now.net in
-    let reach = c.walks-walks.result.now in
-    let offers = c.args.offers.now in
-    listed_target net c.args.level c.args.self.now.walks c.args.router reach offers c.best_target.result c.walks-walks.ensures.known.walks c.requires.router
-    (c.walks-walks.ensures.reach ∙ ap (level_reach c.args.self.now.walks c.args.router) c.zone-number.ensures)
-    (subst (λ (zone : ℕ). IfSome c.best_target.result (λ target. IsBestRoute reach offers zone (length net) (Towards target)))
-    c.zone-number.ensures (c.best_target.ensures (length net)))
+    let n = length c.args.self.now.net in
+    let Goal : Reach → ℕ → Type 0 = λ r zone. IfSome c.best_target.result (IsBestTarget r c.args.offers.now zone n) in
+    subst (λ (zone : ℕ). Goal (level_reach c.args.self.now.walks c.args.router zone) zone) c.zone-number.ensures
+    (subst (λ (r : Reach). Goal r c.zone-number.result) c.walks-walks.ensures.reach (c.best_target.ensures n))

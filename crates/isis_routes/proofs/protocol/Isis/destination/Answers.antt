@@ -1,20 +1,18 @@
-use Rattle.std.proofs.Common.{◌≡◌, ◌<◌, length, sym, subst}
-use Rattle.route_tables.specs.Prefixes.{prefix_at}
+use Rattle.std.proofs.Common.{◌≡◌, List, get_or, subst}
 use Rattle.route_tables.proofs.DestinationLists.{element_at, prefix_is}
-use Rattle.isis_routes.specs.steps.Destinations.{HasAnnouncements, isis_prefixes}
-use Rattle.isis_routes.specs.steps.Isis.{IsisNetwork}
+use Rattle.isis_routes.specs.steps.Destinations.{HasAnnouncements}
 use Rattle.isis_routes.specs.declared.destinations.Destination.{Destination}
 use Rattle.isis_routes.proofs.protocol.Isis.destination.Goals as goal
 
 pub returns-clause-announced : goal.returns-clause-announced
 returns-clause-announced c =
-    subst (λ (isis : IsisNetwork). HasAnnouncements isis.domain.net c.index.result.now) c.self.view_is
-    (element_at (λ (d : Destination). d.one.dest) (HasAnnouncements c.self.inside.domain.net) c.self.inside.destinations.items c.args.place
-    c.index.result.now c.self.invariant.known.announced
-    (subst (λ (isis : IsisNetwork). c.args.place < length (isis_prefixes isis.destinations)) (sym c.self.view_is) c.requires) c.index.ensures)
+    let d : Destination = c.index-known-place.result in
+    element_at (λ (x : Destination). x.one.dest) (HasAnnouncements c.args.self.now.domain.net) c.args.self.now.destinations c.args.place d
+    c.known.ensures.known.announced c.requires
+    (subst (λ (l : List Destination). d ≡ get_or l c.args.place d) c.known.ensures.is c.index-known-place.is)
 
 pub returns-clause-dest : goal.returns-clause-dest
 returns-clause-dest c =
-    subst (λ (isis : IsisNetwork). c.index.result.now.one.dest ≡ prefix_at (isis_prefixes isis.destinations) c.args.place) c.self.view_is
-    (prefix_is (λ (d : Destination). d.one.dest) c.self.inside.destinations.items c.args.place c.index.result.now
-    (subst (λ (isis : IsisNetwork). c.args.place < length (isis_prefixes isis.destinations)) (sym c.self.view_is) c.requires) c.index.ensures)
+    let d : Destination = c.index-known-place.result in
+    prefix_is (λ (x : Destination). x.one.dest) c.args.self.now.destinations c.args.place d c.requires
+    (subst (λ (l : List Destination). d ≡ get_or l c.args.place d) c.known.ensures.is c.index-known-place.is)

@@ -1,0 +1,124 @@
+-- What decides the routes of the routers of a lane.
+use Rattle.std.proofs.Common.{◌≡◌, ◌≢◌, ℕ, ◌+◌, ◌<◌, ◌≤◌, inl, inr, ⊎_elim, List, [], ◌∷◌, ◌++◌, length, get_or, Some, refl, sym, ap, subst, ◌∙◌, arith}
+use Rattle.std.specs.List.{All}
+use Rattle.std.proofs.lemmas.List.{length-map, take_all, take_more}
+use Rattle.std.proofs.lemmas.List.Elements.{All-contains, Contains-push_cases}
+use Rattle.std.proofs.lemmas.Option.{slice_get_cases}
+use Rattle.net_addr.specs.Addresses.{Block}
+use Rattle.net_model.specs.Network.{Connected}
+use Rattle.walk_core.specs.declared.offers.Offer.{Offer}
+use Rattle.route_core.specs.declared.entry.Entry.{Entry}
+use Rattle.igp_theory.specs.Isis.{HasDownRoute, HasLevelOneRoute, HasLevelTwoRoute, IsisEntry}
+use Rattle.route_tables.specs.Lanes.{DecidesRoute, LeadToBest}
+use Rattle.route_tables.specs.Prefixes.{prefix_at}
+use Rattle.route_tables.specs.declared.lane.Decision.{Decision}
+use Rattle.route_tables.specs.declared.lane.Decision.TheVariants.{Nothing, One as OneOffer, Two as TwoOffers, Unknown}
+use Rattle.route_tables.specs.declared.route.Route.TheVariants.{Towards}
+use Rattle.route_tables.proofs.ListFacts.{any_cases}
+use Rattle.isis_routes.specs.steps.Destinations.{HasAnnouncements, isis_prefixes}
+use Rattle.isis_routes.specs.steps.Domain.{IsisDomain, IsKnown}
+use Rattle.isis_routes.specs.steps.Homes.{AreRoutersAt}
+use Rattle.isis_routes.specs.steps.Lanes.{AreDecisions, DecidesIn, IsDecisionAmong, IsDecisionBy, IsDecisionOf, IsInLane, MakesOne, made_at_homes, left_open, of_one, of_down, of_two, of_none}
+use Rattle.isis_routes.specs.steps.LevelReach.{level_reach}
+use Rattle.isis_routes.specs.steps.Levels.{zone_number}
+use Rattle.isis_routes.specs.steps.Offered.{AreSmall}
+use Rattle.isis_routes.specs.steps.Routes.{IsIsisRoute}
+use Rattle.isis_routes.specs.declared.destinations.Destination.{Destination}
+use Rattle.isis_routes.specs.declared.level.Level.{Level}
+use Rattle.isis_routes.specs.declared.level.Level.TheVariants.{One, Two}
+use Rattle.isis_routes.proofs.DestinationFacts.{at_place}
+use Rattle.isis_routes.proofs.EntryFacts.{unoffered}
+use Rattle.isis_routes.proofs.LeadFacts.{AreAsGood, LeadIn, as_good, down_leads, one_leads, two_leads}
+
+-- Decisions
+
+-- none of the offers is the router's, where its number isn't that of their routers
+not_first : (u : ℕ) (o : Offer) → u ≢ o.at → MakesOne (o ∷ []) u → ⊥
+not_first u o other makes =
+    ⊎_elim (λ none. omega (arith, none.2)) (λ same. other (sym same)) (any_cases (λ (x : Offer). x.at ≡ u) [] o makes.made)
+
+not_second : (u : ℕ) (one o : Offer) → u ≢ one.at → u ≢ o.at → MakesOne (one ∷ o ∷ []) u → ⊥
+not_second u one o first other makes =
+    ⊎_elim (λ any. not_first u one first (record { made = any })) (λ same. other (sym same)) (any_cases (λ (x : Offer). x.at ≡ u) (one ∷ []) o makes.made)
+
+free_is_small : (at : ℕ) → AreSmall (record { at = at; asks = 0 } ∷ [])
+free_is_small at a k l =
+    ⊎_elim (λ none. omega (arith, none.1)) (λ same. let is : 0 ≡ k = ap (λ (o : Offer). o.asks) same ∙ l.asked in omega (arith, is))
+    (Contains-push_cases [] (record { at = at; asks = 0 }) l.offer l.among)
+
+-- what one offer asks doesn't tell where it leads
+free_is_good : (at asks : ℕ) → AreAsGood (record { at = at; asks = 0 } ∷ []) (record { at = at; asks = asks } ∷ [])
+free_is_good at asks =
+    let sum : asks ≡ 0 + asks = omega arith in
+    record { alike = record { more = asks; dearer = inl (ap (λ (k : ℕ). record { at = at; asks = k } ∷ []) sum) }; small = λ _. free_is_small at }
+
+-- offers that are as good as all of them lead a router that makes none
+abbrev LeadsElsewhere : ℕ → List Offer → (List Offer → Type 0) → Type 0
+LeadsElsewhere u offers lead = (MakesOne offers u → ⊥) → (given : List Offer) → AreAsGood given offers → lead given
+
+decided : (u : ℕ) (offers : List Offer) (entry : Entry → Type 0) (lead : List Offer → Type 0) (decision : Decision) → LeadsElsewhere u offers lead →
+    IsDecisionAmong offers decision → DecidesRoute u entry lead decision
+decided u offers entry lead Nothing law is = absurd is
+decided u offers entry lead (OneOffer at) law (asks, is) = λ other.
+    subst (λ (l : List Offer). LeadsElsewhere u l lead) is law (not_first u (record { at = at; asks = asks }) other)
+    (record { at = at; asks = 0 } ∷ []) (free_is_good at asks)
+decided u offers entry lead (TwoOffers one two) law is = λ first second.
+    subst (λ (l : List Offer). LeadsElsewhere u l lead) is law (not_second u one two first second) (one ∷ two ∷ []) (as_good refl)
+decided u offers entry lead Unknown law is = tt
+
+-- a decision by offers, one of which is made at each home
+decided_by : (domain : IsisDomain) (level : Level) (u : ℕ) (p : Block) (none : Type 0) (homes : List ℕ) (offers : List Offer) (decision : Decision) →
+    AreRoutersAt domain.net p homes → IsDecisionBy homes offers decision →
+    ((Connected domain.net u p → ⊥) → (given : List Offer) → AreAsGood given offers → LeadIn domain level u p none given) →
+    DecidesIn domain (zone_number level) u p decision
+decided_by domain level u p none homes offers decision are (left_open is) law = subst (DecidesIn domain (zone_number level) u p) (sym is) tt
+decided_by domain level u p none homes offers decision are (made_at_homes at_home is) law =
+    decided u offers (IsisEntry domain.net u p)
+    (LeadToBest (level_reach domain.walks u (zone_number level)) (zone_number level) (length domain.net) (IsIsisRoute domain u p)) decision
+    (λ none_made given good.
+    let lead = law (λ connected. none_made (All-contains (MakesOne offers) homes u at_home ((are u).1 connected))) given good in
+    record { range = lead.range; leads = λ target best. lead.route (Some (Towards target)) best }) is
+
+-- a destination's decision decides the routes of the routers of the lane
+pub lane_decides : (domain : IsisDomain) (level : Level) (u : ℕ) (d : Destination) (decision : Decision) → IsKnown domain → HasAnnouncements domain.net d →
+    u < length domain.net → IsInLane domain.net level u → IsDecisionOf level d decision → DecidesIn domain (zone_number level) u d.one.dest decision
+lane_decides domain One u d decision known has within lane (of_one _ by) =
+    decided_by domain One u d.one.dest (HasLevelOneRoute domain.net d.one.dest u → ⊥) d.one.homes.items d.one.offers.items decision has.one.homes by
+    (λ away given good. one_leads domain u d given known has within away lane.0 good)
+lane_decides domain One u d decision known has within lane (of_down _ empty by) =
+    decided_by domain One u d.one.dest (HasDownRoute domain.net d.one.dest u → ⊥) d.one.homes.items d.down.items decision has.one.homes by
+    (λ away given good. down_leads domain u d given known has within away (unoffered domain.net d.one.dest u d.one.offers.items has.one.offers empty)
+    (λ route. lane.1 route.costs.runs) lane.0 good)
+lane_decides domain Two u d decision known has within lane (of_two _ empty by) =
+    decided_by domain Two u d.one.dest (HasLevelTwoRoute domain.net d.one.dest u → ⊥) d.one.homes.items d.two.items decision has.one.homes by
+    (λ away given good. two_leads domain u d given known has within away (unoffered domain.net d.one.dest u d.one.offers.items has.one.offers empty) lane good)
+lane_decides domain One u d decision is has within lane (of_two wrong empty by) = absurd (let no : One ≡ Two = wrong in cc)
+lane_decides domain Two u d decision is has within lane (of_one wrong by) = absurd (let no : Two ≡ One = wrong in cc)
+lane_decides domain Two u d decision is has within lane (of_down wrong empty by) = absurd (let no : Two ≡ One = wrong in cc)
+lane_decides domain level u d decision is has within lane (of_none open_is) =
+    subst (DecidesIn domain (zone_number level) u d.one.dest) (sym open_is) tt
+
+-- and so does that at its place
+pub lane_at : (domain : IsisDomain) (level : Level) (all : List Destination) (decisions : List Decision) → IsKnown domain →
+    All (HasAnnouncements domain.net) all → AreDecisions level all decisions → (u place : ℕ) → u < length domain.net → IsInLane domain.net level u →
+    place < length (isis_prefixes all) → DecidesIn domain (zone_number level) u (prefix_at (isis_prefixes all) place) (get_or decisions place Unknown)
+lane_at domain level all decisions known has are u place within lane below =
+    let count = length-map all (λ (d : Destination). d.one.dest) in
+    elim (slice_get_cases all place).1 [
+      | inl (d, inside, here, read) ↦
+          let at = at_place domain.net all place d has here in
+          subst (λ (p : Block). DecidesIn domain (zone_number level) u p (get_or decisions place Unknown)) (sym at.1)
+          (lane_decides domain level u d (get_or decisions place Unknown) known at.0 within lane (are.each place d here))
+      | inr (past, none) ↦ absurd (omega (arith, below, count, past))
+    ]
+
+-- Decisions in the making
+
+-- one or two offers, read by their places
+pub only_one : (offers : List Offer) (d : Offer) → 1 ≤ length offers → length offers < 2 → offers ≡ get_or offers 0 d ∷ []
+only_one offers d some few = sym (take_all 1 offers (omega (arith, few))) ∙ take_more offers 0 d (omega (arith, some))
+
+pub only_two : (offers : List Offer) (d : Offer) → 2 ≤ length offers → length offers < 3 → offers ≡ get_or offers 0 d ∷ get_or offers 1 d ∷ []
+only_two offers d some few =
+    sym (take_all 2 offers (omega (arith, few))) ∙ take_more offers 1 d (omega (arith, some)) ∙
+    ap (λ (l : List Offer). l ++ get_or offers 1 d ∷ []) (take_more offers 0 d (omega (arith, some)))

@@ -1,0 +1,133 @@
+-- Lists of offers whose best is the route of the definitions.
+use Rattle.std.proofs.Common.{◌≡◌, ℕ, ◌+◌, ◌<◌, inl, List, [], ◌∷◌, length, map, Option, Some, None, MatchOption, Result, IfOk, refl, sym, ap, subst, ◌∙◌, arith}
+use Rattle.std.specs.Option.{IfSome}
+use Rattle.std.proofs.lemmas.Option.{IfSome_then}
+use Rattle.std.proofs.lemmas.Result.{IfOk-weaker}
+use Rattle.net_addr.specs.Addresses.{Block, default_prefix}
+use Rattle.net_model.specs.Network.{Network, Connected, Adjacent}
+use Rattle.walk_core.specs.Offers.{Offers}
+use Rattle.walk_core.specs.BestOffers.{AreInRange, ListsOffer}
+use Rattle.walk_core.specs.declared.offers.Offer.{Offer}
+use Rattle.route_core.specs.declared.entry.Entry.TheVariants.{Via}
+use Rattle.igp_theory.specs.Ospf.{OfOthers}
+use Rattle.igp_theory.specs.Isis.{DownAnnouncement, HasDownRoute, HasLevelOneRoute, HasLevelTwoRoute, IsisEntry, LevelTwoAnnouncement, OffersDefault, OffersLevelOne, RunsLevelOne, RunsLevelTwo}
+use Rattle.route_tables.specs.AlikeOffers.{AreAlikeOffers, dearer_by}
+use Rattle.route_tables.specs.Routings.{ForwardsBy, IsRouteFor}
+use Rattle.route_tables.specs.declared.route.Route.{Route}
+use Rattle.route_tables.specs.declared.route.Route.TheVariants.{Towards}
+use Rattle.route_tables.specs.declared.route.Target.{Target}
+use Rattle.route_tables.proofs.AlikeRoutes.{AskAlike, alike_lists, alike_turned}
+use Rattle.route_tables.proofs.BestRoutes.{route_by_hops}
+use Rattle.isis_routes.specs.steps.Destinations.{HasAnnouncements}
+use Rattle.isis_routes.specs.steps.Domain.{IsisDomain, IsKnown}
+use Rattle.isis_routes.specs.steps.LevelReach.{level_reach}
+use Rattle.isis_routes.specs.steps.Levels.{zone_in, zone_number}
+use Rattle.isis_routes.specs.steps.Offered.{AreSmall, HoldsOffers}
+use Rattle.isis_routes.specs.steps.Routes.{IsBestIn, IsIsisRoute}
+use Rattle.isis_routes.specs.steps.Routing.{HasBest, IsRouteToBest, NoDefaultRoute}
+use Rattle.isis_routes.specs.declared.destinations.Destination.{Destination}
+use Rattle.isis_routes.specs.declared.level.Level.{Level}
+use Rattle.isis_routes.specs.declared.level.Level.TheVariants.{One, Two}
+use Rattle.isis_routes.proofs.Announced.{announces_nothing, others_hold}
+use Rattle.isis_routes.proofs.BestRoutes.{like_best, like_route}
+use Rattle.isis_routes.proofs.CostBounds.{announced_small, default_small, leaked_small, level_one_small}
+use Rattle.isis_routes.proofs.EntryFacts.{entry_by_default, entry_by_down, entry_by_one, entry_by_two}
+use Rattle.isis_routes.proofs.LevelRoutes.{listed_route, small_in_range}
+
+-- the offers given ask what all do, up to a constant, and aren't large where these aren't
+pub record AreAsGood (given all : List Offer) : Type 0 where
+  pub alike : AreAlikeOffers given all
+  pub small : AreSmall all → AreSmall given
+
+same_dearer : (offers : List Offer) → offers ≡ map (dearer_by 0) offers
+same_dearer [] = refl
+same_dearer (o ∷ rest) =
+    let sum : o.asks ≡ o.asks + 0 = omega arith in
+    ap (λ (k : ℕ). record { at = o.at; asks = k } ∷ rest) sum ∙ ap (λ (l : List Offer). dearer_by 0 o ∷ l) (same_dearer rest)
+
+pub as_good : {given all : List Offer} → given ≡ all → AreAsGood given all
+as_good {given} {all} same =
+    subst (λ (l : List Offer). AreAsGood l all) (sym same) (record { alike = record { more = 0; dearer = inl (same_dearer all) }; small = λ s. s })
+
+-- over a level's least walks the best of the offers is router u's route for p, and where none of them is reached, this is so
+pub record LeadIn (domain : IsisDomain) (level : Level) (u : ℕ) (p : Block) (none : Type 0) (offers : List Offer) : Type 0 where
+  pub range : AreInRange (level_reach domain.walks u (zone_number level)) offers
+  pub route : (found : Option Route) → IsBestIn domain level u offers found → MatchOption found none (IsIsisRoute domain u p)
+
+pub route_by : {E : Type 0} {domain : IsisDomain} {level : Level} {u : ℕ} {p : Block} {none : Type 0} {offers : List Offer} (r : Result (Option Route) E) →
+    LeadIn domain level u p none offers → IfOk r (IsBestIn domain level u offers) → IfOk r (λ found. MatchOption found none (IsIsisRoute domain u p))
+route_by {E} {domain} {level} {u} {p} {none} {offers} r lead best =
+    IfOk-weaker r (IsBestIn domain level u offers) (λ found. MatchOption found none (IsIsisRoute domain u p)) lead.route best
+
+pub target_by : {domain : IsisDomain} {level : Level} {u : ℕ} {p : Block} {none : Type 0} {offers : List Offer} (found : Option Target) →
+    LeadIn domain level u p none offers → IfSome found (λ target. IsBestIn domain level u offers (Some (Towards target))) →
+    IfSome found (λ target. IsIsisRoute domain u p (Towards target))
+target_by found lead best = IfSome_then found best (λ target is. lead.route (Some (Towards target)) is)
+
+-- the offers are up to a constant those whose best makes the entry
+leads : (domain : IsisDomain) (level : Level) (u : ℕ) (p : Block) (offer : Offers) (given all : List Offer) (none : Type 0) → IsKnown domain →
+    u < length domain.net → HoldsOffers offer all → AreSmall all → AreAsGood given all →
+    ((HasBest (Adjacent domain.net (zone_in level)) offer u → ⊥) → none) →
+    ((hops : List ℕ) → IsRouteToBest (Adjacent domain.net (zone_in level)) offer u hops → IsisEntry domain.net u p (Via hops)) →
+    LeadIn domain level u p none given
+leads domain level u p offer given all none known within are small good without by = record {
+  range = small_in_range domain.net level domain.walks u given known.walks within (good.small small);
+  route = λ found best. go found (listed_route domain level u given known.walks within found best);
+}
+  where
+    alike : AskAlike (ListsOffer given) offer
+    alike = alike_lists (ListsOffer given) offer given all (λ at asks. (λ l. l, λ l. l)) are good.alike
+
+    go : (found : Option Route) → MatchOption found (HasBest (Adjacent domain.net (zone_in level)) (ListsOffer given) u → ⊥)
+        (IsRouteFor (level_reach domain.walks u) 2 (length domain.net)
+        (ForwardsBy (IsRouteToBest (Adjacent domain.net (zone_in level)) (ListsOffer given) u))) → MatchOption found none (IsIsisRoute domain u p)
+    go None wrong = without (λ has. wrong (like_best (Adjacent domain.net (zone_in level)) offer (ListsOffer given) u (alike_turned alike) has))
+    go (Some route) is =
+        route_by_hops (level_reach domain.walks u) 2 (length domain.net) (IsRouteToBest (Adjacent domain.net (zone_in level)) (ListsOffer given) u)
+        (IsisEntry domain.net u p) route
+        (λ hops to. by hops (like_route (Adjacent domain.net (zone_in level)) (ListsOffer given) offer u hops alike to)) is
+
+-- The offers of a destination
+
+pub one_leads : (domain : IsisDomain) (u : ℕ) (d : Destination) (given : List Offer) → IsKnown domain → HasAnnouncements domain.net d →
+    u < length domain.net → (Connected domain.net u d.one.dest → ⊥) → RunsLevelOne domain.net u → AreAsGood given d.one.offers.items →
+    LeadIn domain One u d.one.dest (HasLevelOneRoute domain.net d.one.dest u → ⊥) given
+one_leads domain u d given known has within away runs good =
+    let net : Network = domain.net in
+    let p : Block = d.one.dest in
+    leads domain One u p (OffersLevelOne net p) given d.one.offers.items (HasLevelOneRoute net p u → ⊥) known within has.one.offers
+    (level_one_small net p d.one.offers.items d.one.offers.items known.network has.one.offers refl) good
+    (λ none route. none (record { cost = route.cost; best = route.costs.best })) (λ hops. entry_by_one net u p hops away runs)
+
+pub two_leads : (domain : IsisDomain) (u : ℕ) (d : Destination) (given : List Offer) → IsKnown domain → HasAnnouncements domain.net d →
+    u < length domain.net → (Connected domain.net u d.one.dest → ⊥) → (HasLevelOneRoute domain.net d.one.dest u → ⊥) → RunsLevelTwo domain.net u →
+    AreAsGood given d.two.items → LeadIn domain Two u d.one.dest (HasLevelTwoRoute domain.net d.one.dest u → ⊥) given
+two_leads domain u d given known has within away no_one runs good =
+    let net : Network = domain.net in
+    let p : Block = d.one.dest in
+    leads domain Two u p (OfOthers (LevelTwoAnnouncement net p) u) given d.two.items (HasLevelTwoRoute net p u → ⊥) known within
+    (others_hold (LevelTwoAnnouncement net p) d.two.items u has.two (λ k announces. announces_nothing net p u k away no_one announces))
+    (announced_small net p domain.walks.one d.two.items d.two.items known.network known.walks.one has.two refl) good
+    (λ none route. none (record { cost = route.cost; best = route.costs.best })) (λ hops. entry_by_two net u p hops away no_one runs)
+
+pub down_leads : (domain : IsisDomain) (u : ℕ) (d : Destination) (given : List Offer) → IsKnown domain → HasAnnouncements domain.net d →
+    u < length domain.net → (Connected domain.net u d.one.dest → ⊥) → (HasLevelOneRoute domain.net d.one.dest u → ⊥) →
+    (HasLevelTwoRoute domain.net d.one.dest u → ⊥) → RunsLevelOne domain.net u → AreAsGood given d.down.items →
+    LeadIn domain One u d.one.dest (HasDownRoute domain.net d.one.dest u → ⊥) given
+down_leads domain u d given known has within away no_one no_two runs good =
+    let net : Network = domain.net in
+    let p : Block = d.one.dest in
+    leads domain One u p (OfOthers (DownAnnouncement net p) u) given d.down.items (HasDownRoute net p u → ⊥) known within
+    (others_hold (DownAnnouncement net p) d.down.items u has.down (λ k down. no_two (record { cost = k; costs = down.costs })))
+    (leaked_small net p domain.walks d.down.items d.down.items known.network known.walks has.down refl) good
+    (λ none route. none (record { cost = route.cost; best = route.costs.best })) (λ hops. entry_by_down net u p hops away no_one no_two runs)
+
+-- the attached routers
+pub default_leads : (domain : IsisDomain) (u : ℕ) (p : Block) (attached : List Offer) → IsKnown domain → HoldsOffers (OffersDefault domain.net) attached →
+    u < length domain.net → (Connected domain.net u p → ⊥) → (HasLevelOneRoute domain.net p u → ⊥) → (HasLevelTwoRoute domain.net p u → ⊥) →
+    (HasDownRoute domain.net p u → ⊥) → p ≡ default_prefix → RunsLevelOne domain.net u → (RunsLevelTwo domain.net u → ⊥) →
+    LeadIn domain One u p (NoDefaultRoute domain.net p u) attached
+default_leads domain u p attached known are within away no_one no_two no_down all runs alone =
+    leads domain One u p (OffersDefault domain.net) attached attached (NoDefaultRoute domain.net p u) known within are
+    (default_small domain.net attached attached are refl) (as_good refl) (λ none k is costs. none (record { cost = k; best = costs.best }))
+    (λ hops. entry_by_default domain.net u p hops away no_one no_two no_down all runs alone)

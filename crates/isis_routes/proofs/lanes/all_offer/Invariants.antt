@@ -1,0 +1,6 @@
+use Rattle.std.specs.List.{AllWithin}
+use Rattle.isis_routes.specs.steps.Lanes.{MakesOne}
+use Rattle.isis_routes.proofs.lanes.all_offer.Given as goal
+
+abbrev pub invariant-loop-router : goal.invariant-loop-router
+invariant-loop-router l = AllWithin (MakesOne l.offers) l.routers 0 l.router-index

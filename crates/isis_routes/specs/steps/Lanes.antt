@@ -1,0 +1,54 @@
+-- What decides the routes of all routers that take theirs from the same level first.
+use Rattle.std.specs.Prelude.{◌≡◌, ◌∷◌, ℕ, List, [], Any, All, length, slice_get, slice_index_or, Some}
+use Rattle.net_addr.specs.Addresses.{Block}
+use Rattle.net_model.specs.Network.{Network}
+use Rattle.walk_core.specs.declared.offers.Offer.{Offer}
+use Rattle.igp_theory.specs.Isis.{IsisEntry, RunsLevelOne, RunsLevelTwo}
+use Rattle.route_tables.specs.Lanes.{DecidesRoute, LeadToBest}
+use Rattle.route_tables.specs.declared.lane.Decision.{Decision}
+use Rattle.route_tables.specs.declared.lane.Decision.TheVariants.{Nothing, One as OneOffer, Two as TwoOffers, Unknown}
+use Rattle.isis_routes.specs.steps.Domain.{IsisDomain}
+use Rattle.isis_routes.specs.steps.LevelReach.{level_reach}
+use Rattle.isis_routes.specs.steps.Routes.{IsIsisRoute}
+use Rattle.isis_routes.specs.declared.destinations.Destination.{Destination}
+use Rattle.isis_routes.specs.declared.level.Level.{Level}
+use Rattle.isis_routes.specs.declared.level.Level.TheVariants.{One, Two}
+
+-- router u is in the lane of level 2 where it runs that, in the lane of level 1 where it runs that alone
+abbrev pub IsInLane : Network → Level → ℕ → Type 0
+IsInLane net One u = RunsLevelOne net u × (RunsLevelTwo net u → ⊥)
+IsInLane net Two u = RunsLevelTwo net u
+
+-- over a zone's least walks this decides router u's route for p
+abbrev pub DecidesIn : IsisDomain → ℕ → ℕ → Block → Decision → Type 0
+DecidesIn domain zone u p decision =
+    DecidesRoute u (IsisEntry domain.net u p) (LeadToBest (level_reach domain.walks u zone) zone (length domain.net) (IsIsisRoute domain u p)) decision
+
+-- the decision names all of the offers
+abbrev pub IsDecisionAmong : List Offer → Decision → Type 0
+IsDecisionAmong offers Nothing = ⊥
+IsDecisionAmong offers (OneOffer at) = (asks : ℕ) × (offers ≡ record { at = at; asks = asks } ∷ [])
+IsDecisionAmong offers (TwoOffers one other) = offers ≡ one ∷ other ∷ []
+IsDecisionAmong offers Unknown = ⊥
+
+-- router u makes one of the offers
+pub record MakesOne (offers : List Offer) (u : ℕ) : Type 0 where
+  pub made : Any (λ (o : Offer). o.at ≡ u) offers
+
+-- it does, and each home makes one of them; else it isn't known
+pub data IsDecisionBy (homes : List ℕ) (offers : List Offer) (decision : Decision) : Type 0 where
+  made_at_homes : All (MakesOne offers) homes → IsDecisionAmong offers decision → IsDecisionBy homes offers decision
+  left_open : decision ≡ Unknown → IsDecisionBy homes offers decision
+
+-- what decides for a destination: in level 1 what it offers, or where it offers nothing what is leaked; in level 2 what is
+-- announced there, where level 1 offers nothing
+pub data IsDecisionOf (level : Level) (d : Destination) (decision : Decision) : Type 0 where
+  of_one : level ≡ One → IsDecisionBy d.one.homes.items d.one.offers.items decision → IsDecisionOf level d decision
+  of_down : level ≡ One → length d.one.offers.items ≡ 0 → IsDecisionBy d.one.homes.items d.down.items decision → IsDecisionOf level d decision
+  of_two : level ≡ Two → length d.one.offers.items ≡ 0 → IsDecisionBy d.one.homes.items d.two.items decision → IsDecisionOf level d decision
+  of_none : decision ≡ Unknown → IsDecisionOf level d decision
+
+-- each destination has its decision
+pub record AreDecisions (level : Level) (destinations : List Destination) (decisions : List Decision) : Type 0 where
+  pub count : length decisions ≡ length destinations
+  pub each : (place : ℕ) (d : Destination) → slice_get destinations place ≡ Some d → IsDecisionOf level d (slice_index_or decisions place Unknown)

@@ -1,0 +1,105 @@
+ghost use Rattle.std.specs.Prelude.{◌<◌, ◌↔◌, All, IfOk, IfSome, IsTrue, length};
+ghost use Rattle.isis_routes.specs.steps.Domain.{IsKnown};
+ghost use Rattle.isis_routes.specs.steps.Lanes.{AreDecisions, IsDecisionBy, IsDecisionOf, IsInLane, MakesOne};
+ghost use Rattle.isis_routes.specs.declared.level.Level.TheVariants.{One, Two};
+
+use crate::OutOfMemory;
+use crate::destinations::Destination;
+use crate::domain::Domain;
+use crate::level::Level;
+use route_tables::Decision;
+use std::alloc::Global;
+use walk_core::Offer;
+
+/// The level whose lane a router is in: level 2 where the router runs it, else level 1.
+pub fn lane_level(domain: &Domain<'_>, router: u32) -> Option<Level>
+    requires { router < length domain.now.net }
+    ensures known { IsKnown domain.now }
+    ensures lane { IfSome result (λ level. IsInLane domain.now.net level router) }
+{
+    if domain.runs_level_two(router) {
+        return Some(Level::Two);
+    }
+    if domain.runs_level_one(router) {
+        return Some(Level::One);
+    }
+    None
+}
+
+/// What decides the routes of the routers in the lane of a level, destination by destination.
+pub fn decisions(
+    alloc: Global,
+    destinations: &[Destination],
+    level: Level,
+) -> Result<Vec<Decision>, OutOfMemory>
+    ensures { IfOk result (λ all. AreDecisions level destinations.now all.items) }
+{
+    let mut all = Vec::new(alloc);
+    for destination in destinations {
+        all.push(decision_of(destination, level))?;
+    }
+    Ok(all)
+}
+
+/// What decides the routes of the routers in the lane of a level for a destination.
+fn decision_of(destination: &Destination, level: Level) -> Decision
+    ensures { IsDecisionOf level destination.now result }
+{
+    match level {
+        Level::One => level_one_decision(destination),
+        Level::Two => level_two_decision(destination),
+    }
+}
+
+/// What decides the routes of routers that run level 1 alone: the level 1 offers, and where there are none what is leaked.
+fn level_one_decision(destination: &Destination) -> Decision
+    ensures { IsDecisionOf One destination.now result }
+{
+    let homes = destination.one.homes.as_slice();
+    let offers = destination.one.offers.as_slice();
+    if offers.is_empty() {
+        return decision_by(homes, destination.down.as_slice());
+    }
+    decision_by(homes, offers)
+}
+
+/// What decides the routes of routers that run level 2: what is announced there, where level 1 offers nothing, since a
+/// level 1 route comes first.
+fn level_two_decision(destination: &Destination) -> Decision
+    ensures { IsDecisionOf Two destination.now result }
+{
+    if !destination.one.offers.as_slice().is_empty() {
+        return Decision::Unknown;
+    }
+    decision_by(destination.one.homes.as_slice(), destination.two.as_slice())
+}
+
+/// The decision of one or two offers, where each router at which the prefix is connected makes one.
+fn decision_by(homes: &[u32], offers: &[Offer]) -> Decision
+    ensures { IsDecisionBy homes.now offers.now result }
+{
+    match offers {
+        [offer] if all_offer(homes, offers) => Decision::One(offer.at),
+        [one, other] if all_offer(homes, offers) => Decision::Two(*one, *other),
+        _ => Decision::Unknown,
+    }
+}
+
+/// Whether each of these routers makes one of the offers.
+fn all_offer(routers: &[u32], offers: &[Offer]) -> bool
+    ensures { IsTrue result → All (MakesOne offers.now) routers.now }
+{
+    for router in routers {
+        if !makes_one(*router, offers) {
+            return false;
+        }
+    }
+    true
+}
+
+/// Whether the router makes one of the offers.
+fn makes_one(router: u32, offers: &[Offer]) -> bool
+    ensures { IsTrue result ↔ MakesOne offers.now router }
+{
+    offers.iter().any(|offer| offer.at == router)
+}
