@@ -1,7 +1,7 @@
 -- Areas: which there are, who is in them, who is a border router and who listens to whom.
 use Rattle.std.proofs.Common.{◌≡◌, ◌≢◌, ℕ, ◌+◌, ◌<◌, ◌↔◌, inl, inr, ⊎_elim, List, [], ◌∷◌, ◌++◌, length, Option, Some, None, MatchOption, Bool, true, false}
 use Rattle.std.proofs.Common.{not, ◌==◌, IsTrue, refl, sym, ap, subst, ◌∙◌, arith, get_or, length-append}
-use Rattle.std.proofs.lemmas.List.{get_or_append_left, get_or_default, get_or_push}
+use Rattle.std.proofs.lemmas.List.{get_or_default}
 use Rattle.std.specs.List.{Contains, Any}
 use Rattle.std.proofs.lemmas.Bool.{eqb-true, eqb-false, cases_eq, cases_lt, false≢true}
 use Rattle.std.proofs.lemmas.Option.{none-some, same_Some}
@@ -17,8 +17,9 @@ use Rattle.walk_core.specs.Reach.{Reach}
 use Rattle.zone_graph.specs.Walks.{AreZoneWalks}
 use Rattle.igp_theory.specs.Ospf.{ListensTo, backbone, one_area}
 use Rattle.ospf_routes.specs.steps.Areas.{RunsOther, HasArea, IsAreaAt, AreNumbered, AreAreas, AreListeners, IsListener, IsListenerAt, IsReach}
-use Rattle.ospf_routes.specs.steps.Members.{AreMembersBelow, IsMember}
-use Rattle.ospf_routes.specs.Lists.{Adds}
+use Rattle.ospf_routes.specs.steps.Members.{AreMembersBelow, IsBorderIn, IsMember}
+use Rattle.ospf_routes.proofs.MemberFacts.{each_next}
+use Rattle.ospf_routes.specs.Lists.{Adds, Exactly}
 use Rattle.ospf_routes.specs.declared.areas.AreaWalks.{AreaWalks}
 use Rattle.route_tables.proofs.ListFacts.{any_of, any_in}
 use Rattle.std.specs.List.{slice_get}
@@ -46,11 +47,12 @@ has_area_left : (areas : List AreaWalks) (a : AreaWalks) (n : ℕ) → HasArea a
 has_area_left areas a n has = record { area = has.area; among = Contains-append_left areas (a ∷ []) has.area has.among; number = has.number }
 
 pub numbered_more : (net : Network) (numbers : List ℕ) (areas : List AreaWalks) (a : AreaWalks) → AreNumbered net numbers areas →
-    AreZoneWalks net (Area a.number) a.walks → AreMembersBelow net a.number (length net) a.members →
+    AreZoneWalks net (Area a.number) a.walks → AreMembersBelow net a.number (length net) a.members → Exactly (IsBorderIn net a.number) a.borders →
     AreNumbered net (numbers ++ a.number ∷ []) (areas ++ a ∷ [])
-numbered_more net numbers areas a before walks members = record {
+numbered_more net numbers areas a before walks members borders = record {
   walks = All-push (λ (x : AreaWalks). AreZoneWalks net (Area x.number) x.walks) areas a before.walks walks;
   members = All-push (λ (x : AreaWalks). AreMembersBelow net x.number (length net) x.members) areas a before.members members;
+  borders = All-push (λ (x : AreaWalks). Exactly (IsBorderIn net x.number) x.borders) areas a before.borders borders;
   every = λ n has. ⊎_elim
       (λ earlier. has_area_left areas a n (before.every n earlier))
       (λ same. record { area = a; among = Contains-push areas a; number = same })
@@ -63,6 +65,7 @@ areas_of_numbers net numbers given areas network same zero every are = record {
   network = network;
   walks = are.walks;
   members = are.members;
+  borders = are.borders;
   backbone = are.every 0 (subst (λ (l : List ℕ). Contains l 0) (sym same) zero);
   every = λ u n inside. are.every n (subst (λ (l : List ℕ). Contains l n) (sym same) (every u n inside));
 }
@@ -153,7 +156,7 @@ listened_place_is net areas u n None are listens none some = absurd (none (liste
 listened_place_is net areas u n (Some zone) are listens none at = record { area = n; listens = listens; at = at }
 
 -- the area at a place, as it is read
-number_at : (areas : List AreaWalks) (n zone : ℕ) (d : AreaWalks) → IsAreaAt areas n zone → (get_or areas zone d).number ≡ n
+pub number_at : (areas : List AreaWalks) (n zone : ℕ) (d : AreaWalks) → IsAreaAt areas n zone → (get_or areas zone d).number ≡ n
 number_at areas n zone d at = ap (λ (x : AreaWalks). x.number) (get_or_default areas zone d at.area at.within ∙ sym at.here) ∙ at.number
 
 -- as many walks as routers
@@ -180,13 +183,7 @@ pub listeners_more : (net : Network) (areas : List AreaWalks) (n : ℕ) (all : L
     IsListenerAt net areas n next → AreListeners net areas (n + 1) (all ++ next ∷ [])
 listeners_more net areas n all next are is = record {
   count = let long = length-append all (next ∷ []) in omega (arith, are.count);
-  each = λ u below. elim (cases_lt u n) [
-    | inl less ↦ subst (IsListenerAt net areas u) (sym (get_or_append_left all (next ∷ []) None u (omega (arith, are.count)))) (are.each u less)
-    | inr past ↦
-        let same : n ≡ u = omega arith in
-        subst (λ (k : ℕ). IsListenerAt net areas k (get_or (all ++ next ∷ []) k None)) same
-        (subst (IsListenerAt net areas n) (sym (get_or_push all next None n are.count)) is)
-  ];
+  each = each_next (IsListenerAt net areas) all n next None are.count are.each is;
 }
 
 -- the listener of a router, as it is read

@@ -1,5 +1,5 @@
 -- What border routers give, by the list of them.
-use Rattle.std.proofs.Common.{◌≡◌, ℕ, ◌<◌, ◌≤◌, List, [], length, take, get_or, refl, subst}
+use Rattle.std.proofs.Common.{◌≡◌, ℕ, ◌<◌, ◌≤◌, List, [], length, take, get_or, refl, sym, subst}
 use Rattle.std.specs.List.{Any}
 use Rattle.std.proofs.lemmas.List.Elements.{Contains-get_or}
 use Rattle.net_model.proofs.NetworkFacts.{InArea-within}
@@ -7,6 +7,7 @@ use Rattle.net_model.specs.Network.{Network, IsBorderRouter}
 use Rattle.route_tables.proofs.ListFacts.{AnyBelow, adds_end, adds_same, any_in, any_of, exactly_added}
 use Rattle.ospf_routes.specs.steps.AreaReach.{IsThisBorder}
 use Rattle.ospf_routes.specs.Lists.{Adds, Exactly}
+use Rattle.ospf_routes.specs.steps.Members.{IsBorderIn, IsThisBorderIn}
 
 -- a border router is a router
 pub border_is_router : (net : Network) (b : ℕ) → IsBorderRouter net b → b < length net
@@ -37,3 +38,19 @@ exactly_by_borders net borders gives wanted old new i are empty past adds there 
 pub border_below_count : (net : Network) (n : ℕ) → length net ≡ n → (v : ℕ) → IsBorderRouter net v → AnyBelow (IsThisBorder net) n v
 border_below_count net n count v border =
     record { source = v; below = subst (λ m. v < m) count (border_is_router net v border); given = record { this = refl; border = border } }
+
+-- and a border router in an area
+pub inner_below_count : (net : Network) (area n : ℕ) → length net ≡ n → (v : ℕ) → IsBorderIn net area v → AnyBelow (IsThisBorderIn net area) n v
+inner_below_count net area n count v is =
+    record { source = v; below = subst (λ m. v < m) count (border_is_router net v is.border); given = record { this = refl; is = is } }
+
+-- the border routers of an area, one by one
+pub inner_at : (net : Network) (area : ℕ) (borders given : List ℕ) (i d : ℕ) → Exactly (IsBorderIn net area) borders → given ≡ borders →
+    i < length given → IsBorderIn net area (get_or given i d)
+inner_at net area borders given i d are same within =
+    (subst (Exactly (IsBorderIn net area)) (sym same) are (get_or given i d)).0 (Contains-get_or given i d within)
+
+pub inner_is_router : (net : Network) (area : ℕ) (borders given : List ℕ) (i d : ℕ) → Exactly (IsBorderIn net area) borders → given ≡ borders →
+    i < length given → get_or given i d < length net
+inner_is_router net area borders given i d are same within =
+    border_is_router net (get_or given i d) (inner_at net area borders given i d are same within).border

@@ -1,19 +1,26 @@
 -- The entries of a router, by its routes.
-use Rattle.std.proofs.Common.{◌≡◌, ℕ, List, Option, None, Some, MatchOption, length, subst}
+use Rattle.std.proofs.Common.{◌≡◌, ℕ, List, Option, None, Some, MatchOption, length, refl, subst}
 use Rattle.net_addr.specs.Addresses.{Block}
 use Rattle.net_model.specs.Network.{Network, Connected}
 use Rattle.route_core.specs.declared.entry.Entry.{Entry}
-use Rattle.igp_theory.specs.Ospf.{IsIntraArea, IsActiveRange, SummarizesSubnet, SummarizesRange, BackboneSummary, BorderCost, AreaSummary, Summary}
+use Rattle.route_core.specs.declared.entry.Entry.TheVariants.{Via}
+use Rattle.walk_core.specs.BestOffers.{AreInRange, NoneTotals}
+use Rattle.walk_core.specs.declared.offers.Offer.{Offer}
+use Rattle.ospf_routes.specs.steps.Areas.{AreAreas, IsReach}
+use Rattle.ospf_routes.specs.steps.Offered.{AreOffers}
+use Rattle.ospf_routes.specs.steps.Summarized.{IsHeard}
+use Rattle.ospf_routes.proofs.CostBounds.{in_range, summary_is_small}
+use Rattle.ospf_routes.proofs.RouteFacts.{listened_route_is}
+use Rattle.igp_theory.specs.Ospf.{ListensTo, IsIntraArea, IsActiveRange, SummarizesSubnet, SummarizesRange, BackboneSummary, BorderCost, AreaSummary, Summary}
 use Rattle.igp_theory.specs.Ospf.{into_backbone, into_area, InterAreaCost, OspfEntry, intra_area, discard, inter_area}
 use Rattle.walk_core.specs.Reach.{Reach}
-use Rattle.route_tables.specs.Routings.{ForwardsBy, IsRouteFor}
 use Rattle.route_tables.specs.declared.route.Route.{Route}
 use Rattle.route_tables.proofs.BestRoutes.{best_route_makes, route_by_hops}
 use Rattle.route_tables.proofs.ListFacts.{any_of}
 use Rattle.ospf_routes.specs.declared.areas.AreaWalks.{AreaWalks}
 use Rattle.ospf_routes.specs.declared.entry.Asked.{Asked}
 use Rattle.ospf_routes.specs.declared.entry.Deciding.{Deciding}
-use Rattle.ospf_routes.specs.steps.Asked.{IsDeciding, IsRouteTowards}
+use Rattle.ospf_routes.specs.steps.Asked.{HasNoEntry, IsDeciding, IsFoundRoute, IsRoute, IsRouteTowards}
 use Rattle.ospf_routes.specs.steps.AreaReach.{area_reach}
 use Rattle.route_tables.specs.BestRoutes.{AreBestHops, IsBestRoute}
 use Rattle.route_tables.specs.declared.route.Route.TheVariants.{Towards}
@@ -39,6 +46,21 @@ inter_cost_of net u p cost no_intra no_range costs = record {
   best = costs.best;
 }
 
+-- what is announced into an area is in range over the walks there
+pub heard_in_range : (net : Network) (areas : List AreaWalks) (n : ℕ) (p : Block) (reach : Reach) (offers given : List Offer) → AreAreas net areas →
+    {u : ℕ} → IsReach net n u reach → AreOffers (IsHeard net p n) offers → given ≡ offers → AreInRange reach given
+heard_in_range net areas n p reach offers given are walks heard same =
+    in_range reach (IsHeard net p n) offers given walks.near heard same (λ at asks r. summary_is_small net areas n p at asks are r.summary)
+
+-- the hops towards the best of the summaries that a router listens to make its entry
+pub listened_entry : (net : Network) (n : ℕ) (p : Block) (u : ℕ) (reach : Reach) (offers given : List Offer) → (IsIntraArea net p u → ⊥) →
+    (IsActiveRange net p u → ⊥) → ListensTo net u n → IsReach net n u reach → AreOffers (IsHeard net p n) offers → given ≡ offers →
+    (Connected net u p → ⊥) → (hops : List ℕ) → AreBestHops reach given (length net) hops → OspfEntry net u p (Via hops)
+listened_entry net n p u reach offers given no_intra no_range listens walks heard same away hops best =
+    let route : IsListenedRoute net p u hops =
+    listened_route_is net n p u reach offers given no_intra no_range listens walks heard same (length net) refl (Some hops) best in
+    inter_area away route.cost (inter_cost_of net u p route.cost no_intra no_range route.costs) route.hops_are
+
 -- without a route there is no entry
 pub no_route_no_entry : (net : Network) (u : ℕ) (p : Block) → (IsIntraArea net p u → ⊥) → (IsActiveRange net p u → ⊥) →
     ((cost : ℕ) → ListenedCost net p u cost → ⊥) → (e : Entry) → OspfEntry net u p e → ⊥
@@ -46,16 +68,6 @@ no_route_no_entry net u p no_intra no_range none e (intra_area _ is _) = no_intr
 no_route_no_entry net u p no_intra no_range none e (discard _ _ is _) = no_range is
 no_route_no_entry net u p no_intra no_range none e (inter_area _ cost costs _) = none cost
     (record { area = costs.area; listens = costs.listens; best = costs.best })
-
--- where there is neither an intra-area route nor a discard, the inter-area route makes the entry
-pub inter_entries : (net : Network) (u : ℕ) (p : Block) (reach : ℕ → Reach) (zones : ℕ) (found : Option Route) → (Connected net u p → ⊥) →
-    (IsIntraArea net p u → ⊥) → (IsActiveRange net p u → ⊥) →
-    MatchOption found ((cost : ℕ) → ListenedCost net p u cost → ⊥) (IsRouteFor reach zones (length net) (ForwardsBy (IsListenedRoute net p u))) →
-    MatchOption found ((e : Entry) → OspfEntry net u p e → ⊥) (IsRouteFor reach zones (length net) (OspfEntry net u p))
-inter_entries net u p reach zones None away no_intra no_range none = no_route_no_entry net u p no_intra no_range none
-inter_entries net u p reach zones (Some route) away no_intra no_range is =
-    route_by_hops reach zones (length net) (IsListenedRoute net p u) (OspfEntry net u p) route
-    (λ hops by. inter_area away by.cost (inter_cost_of net u p by.cost no_intra no_range by.costs) by.hops_are) is
 
 -- what holds of what is asked holds of the network's own
 pub asked_as : (P : Network → List AreaWalks → ℕ → Block → Type 0) (asked : Asked) (net : Network) (areas : List AreaWalks) (u : ℕ) (p : Block) →
@@ -69,17 +81,36 @@ asked_as P asked net areas u p nets lists routers dests is =
 
 -- Deciding offers
 
--- the first hops of the route to deciding offers are those of the entry
+-- a route to the best of deciding offers makes the entry
+pub decided_route : (asked : Asked) (d : Deciding) (n : ℕ) (route : Route) → IsDeciding asked d →
+    (Connected asked.net.now asked.router asked.destination.now.dest → ⊥) → n ≡ length asked.net.now →
+    IsBestRoute d.walks.now d.offers.now d.zone n route → IsRoute asked route
+decided_route asked d n route decides away count is =
+    let net : Network = asked.net.now in
+    let reach : ℕ → Reach = area_reach asked.areas.now asked.router in
+    route_by_hops reach (length asked.areas.now) (length net) (AreBestHops d.walks.now d.offers.now (length net))
+    (OspfEntry net asked.router asked.destination.now.dest) route (decides.entry away)
+    (best_route_makes reach (length asked.areas.now) (length net) d.zone d.walks.now d.offers.now route decides.zone decides.same
+    (subst (λ (m : ℕ). IsBestRoute d.walks.now d.offers.now d.zone m route) count is))
+
+pub decided_found : (asked : Asked) (d : Deciding) (n : ℕ) (found : Option Route) → IsDeciding asked d →
+    (Connected asked.net.now asked.router asked.destination.now.dest → ⊥) → n ≡ length asked.net.now →
+    MatchOption found (NoneTotals d.walks.now d.offers.now) (IsBestRoute d.walks.now d.offers.now d.zone n) →
+    MatchOption found (NoneTotals d.walks.now d.offers.now) (IsRoute asked)
+decided_found asked d n None decides away count none = none
+decided_found asked d n (Some route) decides away count is = decided_route asked d n route decides away count is
+
 pub decided_target : (asked : Asked) (d : Deciding) (found : Option Target) → IsDeciding asked d →
     (Connected asked.net.now asked.router asked.destination.now.dest → ⊥) →
     IfSome found (λ t. IsBestRoute d.walks.now d.offers.now d.zone (length asked.net.now) (Towards t)) → IfSome found (IsRouteTowards asked)
 decided_target asked d None decides away none = tt
-decided_target asked d (Some t) decides away is =
-    let net : Network = asked.net.now in
-    let reach : ℕ → Reach = area_reach asked.areas.now asked.router in
-    route_by_hops reach (length asked.areas.now) (length net) (AreBestHops d.walks.now d.offers.now (length net))
-    (OspfEntry net asked.router asked.destination.now.dest) (Towards t) (λ hops best. decides.entry away hops best)
-    (best_route_makes reach (length asked.areas.now) (length net) d.zone d.walks.now d.offers.now (Towards t) decides.zone decides.same is)
+decided_target asked d (Some t) decides away is = decided_route asked d (length asked.net.now) (Towards t) decides away refl is
+
+-- where none of them is reached there is no entry
+pub found_by : (asked : Asked) (none : Type 0) (found : Option Route) → (none → HasNoEntry asked) → MatchOption found none (IsRoute asked) →
+    IsFoundRoute asked found
+found_by asked none None no_entry is = no_entry is
+found_by asked none (Some route) no_entry is = is
 
 -- Every prefix with an entry is a candidate
 

@@ -15,3 +15,4 @@ mod ZoneRoutes
 mod TwinLaws
 mod TwinFacts
 mod BorderLists
+mod LaneLaws

@@ -10,6 +10,7 @@ use Rattle.std.specs.Option.{IsSome}
 use Rattle.net_addr.specs.Addresses.{Block, Covers}
 use Rattle.net_model.proofs.Adjacency.{HasConfiguration-unique}
 use Rattle.net_model.proofs.Members.{Contains-map}
+use Rattle.net_model.proofs.NetworkFacts.{InArea-within}
 use Rattle.net_model.specs.Configuration.{Configuration}
 use Rattle.net_model.specs.Network.{Network, HasConfiguration}
 use Rattle.net_model.specs.declared.area.Range.{Range}
@@ -17,7 +18,7 @@ use Rattle.igp_theory.specs.Ospf.{IntraAreaCost, HasRange, IsComponent, IsActive
 use Rattle.ospf_routes.specs.steps.Candidates.{IsOspfCandidate, subnet}
 use Rattle.ospf_routes.specs.steps.Destinations.{ospf_prefixes}
 use Rattle.ospf_routes.specs.Lists.{Exactly, Adds}
-use Rattle.ospf_routes.specs.steps.Ranges.{IsLonger, HasComponentCost, IsComponentOfSome, IsPicked, IsActiveAt, HasActive, AreActiveRanges, AreRangesBelow}
+use Rattle.ospf_routes.specs.steps.Ranges.{IsLonger, HasComponentCost, IsComponentOfSome, IsPicked, IsActiveAt, HasActive, AreActiveRanges, AreRangesBelow, HoldRanges}
 use Rattle.ospf_routes.specs.declared.intra_area.Destination.{Destination}
 use Rattle.ospf_routes.specs.declared.ranges.ActiveRange.{ActiveRange}
 use Rattle.route_tables.proofs.ListFacts.{any_of, any_in, exactly_same, each_more}
@@ -230,3 +231,13 @@ pub component_of_some : (net : Network) (b : ℕ) (config : Configuration) (give
 component_of_some net b config given p router are none is =
     let among : Contains given is.range = range_among net b config given is.range router are is.component.range in
     All-contains (λ (r : Range). (c : ℕ) → IsComponent net b r p c → ⊥) given is.range none among is.cost is.component
+
+-- lists that hold the prefixes of all routers' active ranges
+pub hold_ranges : (ranges : List (List ActiveRange)) (old new : List Block) → old ≡ [] →
+    Adds old new (λ p. Any (λ (actives : List ActiveRange). Any (λ (a : ActiveRange). a.range.dest ≡ p) actives) ranges) → (net : Network) →
+    AreRangesBelow net (length net) ranges → HoldRanges net new
+hold_ranges ranges old new empty adds net are p u is =
+    let within : u < length net = InArea-within net u is.active.component.range.border.one is.active.component.range.border.in_one in
+    let count : length ranges ≡ length net = are.count in
+    (adds p).1 (inr (any_of (λ (actives : List ActiveRange). Any (λ (a : ActiveRange). a.range.dest ≡ p) actives) ranges (get_or ranges u [])
+    (Contains-get_or ranges u [] (omega arith)) ((active_range_is net u p (get_or ranges u []) (are.each u within)).1 is)))

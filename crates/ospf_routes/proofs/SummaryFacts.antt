@@ -1,6 +1,6 @@
 -- What border routers summarize of a prefix, and announce into each area.
 use Rattle.std.proofs.Common.{◌≡◌, ◌≢◌, ℕ, ◌<◌, ◌↔◌, ◌⊎◌, inl, inr, ⊎_elim, List, [], ◌∷◌, length, get_or, Option, Some, None, MatchOption, refl, sym, ap}
-use Rattle.std.proofs.Common.{subst, ◌∙◌, arith}
+use Rattle.std.proofs.Common.{subst, ◌∙◌}
 use Rattle.std.specs.List.{Contains, Any, All}
 use Rattle.std.proofs.lemmas.Option.{none-some, same_Some}
 use Rattle.std.proofs.lemmas.List.Elements.{Contains-get_or}
@@ -22,15 +22,16 @@ use Rattle.igp_theory.specs.Ospf.{Summary, into_backbone, into_area, OfOthers, L
 use Rattle.ospf_routes.specs.steps.Areas.{IsReach}
 use Rattle.ospf_routes.specs.steps.Destinations.{IsDestination}
 use Rattle.ospf_routes.specs.Lists.{Exactly, Adds}
+use Rattle.ospf_routes.specs.steps.Members.{IsBorderIn}
 use Rattle.ospf_routes.specs.steps.Offered.{AreOffers, OutsideOf}
 use Rattle.ospf_routes.specs.steps.Ranges.{IsComponentOfSome, AreActiveRanges}
 use Rattle.ospf_routes.specs.steps.Summarized.{IsSubnetSummary, SummarizedSubnet, IsRangeRoute, SummarizedRange, SummarizedFrom, AreSummarized, OutsideSummary}
-use Rattle.ospf_routes.specs.steps.Summarized.{Announces, IsBackboneRoute, IsBorderRoute, IsHeard, IsOutgoing, IsAlone, IsDefault, RouterDefault, HasDefault}
+use Rattle.ospf_routes.specs.steps.Summarized.{Announces, IsPassedOn, IsHeard, IsOutgoing, IsAlone, IsDefault, RouterDefault, HasDefault}
 use Rattle.ospf_routes.specs.declared.intra_area.AreaOffers.{AreaOffers}
 use Rattle.ospf_routes.specs.declared.intra_area.Destination.{Destination}
 use Rattle.ospf_routes.specs.declared.ranges.ActiveRange.{ActiveRange}
 use Rattle.ospf_routes.specs.declared.area_route.AreaRoute.{AreaRoute}
-use Rattle.route_tables.proofs.ListFacts.{AnyBelow, iff_then, any_of, any_in, exactly_same, exactly_added, adds_same, adds_both}
+use Rattle.route_tables.proofs.ListFacts.{iff_then, any_of, any_in, exactly_same, exactly_added, adds_same, adds_both}
 use Rattle.route_tables.proofs.BestRoutes.{best_cost_is}
 use Rattle.ospf_routes.proofs.BorderLists.{border_is_router}
 use Rattle.ospf_routes.proofs.CostBounds.{lists_from}
@@ -147,19 +148,6 @@ outside_is net n p routes are o = (
       let going = outgoing_of net n p o.at o.asks out in
       let r : AreaRoute = record { area = going.area; at = o.at; asks = o.asks } in
       any_of (λ (x : AreaRoute). OutsideOf n x o) routes r ((are r).1 going.from) (record { other = going.other; at = refl; asks = refl }),
-)
-
-reached_is : (net : Network) (n : ℕ) (p : Block) (borders : List AreaRoute) → n ≢ 0 → Exactly (IsBackboneRoute net p) borders → (o : Offer) →
-    Any (λ (r : AreaRoute). OutsideOf n r o) borders ↔ BorderCost net p o.at o.asks
-reached_is net n p borders apart are o = (
-  λ any.
-      let f = any_in (λ (r : AreaRoute). OutsideOf n r o) borders any in
-      subst (λ (c : ℕ). BorderCost net p o.at c) (sym f.holds.asks)
-      (subst (λ (b : ℕ). BorderCost net p b f.item.asks) (sym f.holds.at) ((are f.item).0 f.among).costs),
-  λ costs.
-      let r : AreaRoute = record { area = 0; at = o.at; asks = o.asks } in
-      any_of (λ (x : AreaRoute). OutsideOf n x o) borders r ((are r).1 (record { area = refl; costs = costs }))
-      (record { other = λ same. apart (sym same); at = refl; asks = refl }),
 )
 
 outgoing_is : (net : Network) (n : ℕ) (routes : List AreaRoute) (o : Offer) (Out : Type 0) → Any (λ (r : AreaRoute). OutsideOf n r o) routes ↔ Out →
@@ -330,22 +318,6 @@ border_cost_is net p u reach given border is are found best cost =
       λ is. record { border = border; no_intra = is.1; no_range = is.2; best = (others is.1 is.2).1 (listed.0 is.0) },
     )
 
--- the route of border router u
-abbrev pub BorderOfRouter : Network → Block → ℕ → AreaRoute → Type 0
-BorderOfRouter net p u r = (r.at ≡ u) × IsBackboneRoute net p r
-
-pub border_of_router : (net : Network) (p : Block) (u : ℕ) (cost : Option ℕ) (one : Option AreaRoute) →
-    ((c : ℕ) → (cost ≡ Some c) ↔ BorderCost net p u c) → ((r : AreaRoute) → (one ≡ Some r) ↔ IsBorderRoute u cost r) →
-    (r : AreaRoute) → (one ≡ Some r) ↔ BorderOfRouter net p u r
-border_of_router net p u cost one costs routes r = (
-  λ same.
-      let is = (routes r).0 same in
-      (is.at, record { area = is.area; costs = subst (λ (k : ℕ). BorderCost net p k r.asks) (sym is.at) ((costs r.asks).0 is.costs) }),
-  λ both.
-      let here = subst (λ (k : ℕ). BorderCost net p k r.asks) both.0 both.1.costs in
-      (routes r).1 (record { area = both.1.area; at = both.0; costs = (costs r.asks).1 here }),
-)
-
 -- Into an area other than the backbone
 
 -- routes of border routers are of routers
@@ -369,48 +341,54 @@ heard_in_backbone net n p routes none first zero are empty adds =
       ),
     )))
 
-pub heard_in_area : (net : Network) (n : ℕ) (p : Block) (routes borders : List AreaRoute) (none first second third : List Offer) → n ≢ 0 →
-    AreSummarized net p routes → Exactly (IsBackboneRoute net p) borders → none ≡ [] → Adds none first (λ o. Any (IsOutgoing net n o) routes) →
-    Adds first second (λ o. Any (IsOutgoing net n o) borders) → Adds second third (HasDefault net n p) → AreOffers (IsHeard net p n) third
-heard_in_area net n p routes borders none first second third apart are_outside are_borders empty one two three =
+-- what the border routers of the area give one by one is all that is reached
+pub reached_of_borders : (net : Network) (n : ℕ) (p : Block) (borders given : List ℕ) (old new : List Offer) → Exactly (IsBorderIn net n) borders →
+    given ≡ borders → Adds old new (λ o. Any (λ (b : ℕ). (o.at ≡ b) × IsPassedOn net n p o) given) → Adds old new (IsPassedOn net n p)
+reached_of_borders net n p borders given old new are same adds =
+    adds_same old new (λ o. Any (λ (b : ℕ). (o.at ≡ b) × IsPassedOn net n p o) given) (IsPassedOn net n p) adds (λ o. (
+      λ any. (any_in (λ (b : ℕ). (o.at ≡ b) × IsPassedOn net n p o) given any).holds.1,
+      λ is. any_of (λ (b : ℕ). (o.at ≡ b) × IsPassedOn net n p o) given o.at
+          ((subst (Exactly (IsBorderIn net n)) (sym same) are o.at).1 (record { inside = is.inside; border = is.costs.border })) (refl, is),
+    ))
+
+pub heard_in_area : (net : Network) (n : ℕ) (p : Block) (routes : List AreaRoute) (none first second third : List Offer) → n ≢ 0 →
+    AreSummarized net p routes → none ≡ [] → Adds none first (λ o. Any (IsOutgoing net n o) routes) →
+    Adds first second (IsPassedOn net n p) → Adds second third (HasDefault net n p) → AreOffers (IsHeard net p n) third
+heard_in_area net n p routes none first second third apart are_outside empty one two three =
     let Outside : Offer → Type 0 = λ o. Any (IsOutgoing net n o) routes in
-    let Borders : Offer → Type 0 = λ o. Any (IsOutgoing net n o) borders in
-    let Both : Offer → Type 0 = λ o. Outside o ⊎ Borders o in
+    let Reached : Offer → Type 0 = IsPassedOn net n p in
+    let Both : Offer → Type 0 = λ o. Outside o ⊎ Reached o in
     let All_of : Offer → Type 0 = λ o. Both o ⊎ HasDefault net n p o in
     exactly_added none third (λ (o : Offer). IsHeard net p n o.at o.asks) empty
     (adds_same none third All_of (λ (o : Offer). IsHeard net p n o.at o.asks)
     (adds_both none second third Both (HasDefault net n p) All_of
-    (adds_both none first second Outside Borders Both one two (λ o. (λ x. x, λ x. x))) three (λ o. (λ x. x, λ x. x)))
+    (adds_both none first second Outside Reached Both one two (λ o. (λ x. x, λ x. x))) three (λ o. (λ x. x, λ x. x)))
     (λ o. (there o, λ heard. back o heard.inside (of_area net p n o.at o.asks apart heard.summary))))
   where
     outside_out : (o : Offer) → Any (IsOutgoing net n o) routes ↔ (Announces net n o.at × OutsideSummary net n p o.at o.asks)
     outside_out o = outgoing_is net n routes o (OutsideSummary net n p o.at o.asks) (outside_is net n p routes are_outside o)
 
-    border_out : (o : Offer) → Any (IsOutgoing net n o) borders ↔ (Announces net n o.at × BorderCost net p o.at o.asks)
-    border_out o = outgoing_is net n borders o (BorderCost net p o.at o.asks) (reached_is net n p borders apart are_borders o)
-
     from_outside : (o : Offer) → (IsTotallyStubby net o.at n → ⊥) → OutsideSummary net n p o.at o.asks → AreaSummary net n p o.at o.asks
     from_outside o allowed (OutsideSummary.of_subnet s) = AreaSummary.of_subnet allowed s
     from_outside o allowed (OutsideSummary.of_range s) = AreaSummary.of_range allowed s
 
-    there : (o : Offer) → (Any (IsOutgoing net n o) routes ⊎ Any (IsOutgoing net n o) borders) ⊎ HasDefault net n p o → IsHeard net p n o.at o.asks
+    there : (o : Offer) → (Any (IsOutgoing net n o) routes ⊎ IsPassedOn net n p o) ⊎ HasDefault net n p o → IsHeard net p n o.at o.asks
     there o (inl (inl any)) = let both = (outside_out o).0 any in
         record { inside = both.0.inside; summary = into_area apart (from_outside o (both.0.summaries apart) both.1) }
-    there o (inl (inr any)) = let both = (border_out o).0 any in
-        record { inside = both.0.inside; summary = into_area apart (AreaSummary.of_route (both.0.summaries apart) both.1) }
+    there o (inl (inr reached)) =
+        record { inside = reached.inside; summary = into_area apart (AreaSummary.of_route reached.allowed reached.costs) }
     there o (inr has) = record {
       inside = has.default.inside;
       summary = into_area apart (AreaSummary.of_stub has.default.border has.all has.default.stub has.default.has has.default.costs);
     }
 
     back : (o : Offer) → InArea net o.at n → AreaSummary net n p o.at o.asks →
-        (Any (IsOutgoing net n o) routes ⊎ Any (IsOutgoing net n o) borders) ⊎ HasDefault net n p o
+        (Any (IsOutgoing net n o) routes ⊎ IsPassedOn net n p o) ⊎ HasDefault net n p o
     back o inside (AreaSummary.of_subnet allowed s) = inl
         (inl ((outside_out o).1 (record { inside = inside; summaries = λ _. allowed }, OutsideSummary.of_subnet s)))
     back o inside (AreaSummary.of_range allowed s) = inl
         (inl ((outside_out o).1 (record { inside = inside; summaries = λ _. allowed }, OutsideSummary.of_range s)))
-    back o inside (AreaSummary.of_route allowed s) = inl
-        (inr ((border_out o).1 (record { inside = inside; summaries = λ _. allowed }, s)))
+    back o inside (AreaSummary.of_route allowed s) = inl (inr (record { inside = inside; allowed = allowed; costs = s }))
     back o inside (AreaSummary.of_stub border all s has is) = inr
         (record { all = all; default = record { at = refl; inside = inside; border = border; stub = s; has = has; costs = is } })
 
@@ -454,13 +432,13 @@ router_default_is net n b config given inside border router are o = (
       (record { area = is.has.area; at = is.at; costs = sym is.costs }),
 )
 
-pub defaults_are : (net : Network) (n : ℕ) (p : Block) (m : ℕ) (old new : List Offer) → length net ≡ m → p ≡ default_prefix →
-    Adds old new (AnyBelow (RouterDefault net n) m) → Adds old new (HasDefault net n p)
-defaults_are net n p m old new count all adds =
-    adds_same old new (AnyBelow (RouterDefault net n) m) (HasDefault net n p) adds
-    (λ o. (
-      λ any. record { all = all; default = subst (λ (b : ℕ). RouterDefault net n b o) (sym any.given.at) any.given },
-      λ has.
-          let within : o.at < length net = border_is_router net o.at has.default.border in
-          record { source = o.at; below = omega arith; given = has.default },
+pub defaults_are : (net : Network) (n : ℕ) (p : Block) (borders given : List ℕ) (old new : List Offer) → Exactly (IsBorderIn net n) borders →
+    given ≡ borders → p ≡ default_prefix → Adds old new (λ o. Any (λ (b : ℕ). RouterDefault net n b o) given) → Adds old new (HasDefault net n p)
+defaults_are net n p borders given old new are same all adds =
+    adds_same old new (λ o. Any (λ (b : ℕ). RouterDefault net n b o) given) (HasDefault net n p) adds (λ o. (
+      λ any.
+          let f = any_in (λ (b : ℕ). RouterDefault net n b o) given any in
+          record { all = all; default = subst (λ (b : ℕ). RouterDefault net n b o) (sym f.holds.at) f.holds },
+      λ has. any_of (λ (b : ℕ). RouterDefault net n b o) given o.at
+          ((subst (Exactly (IsBorderIn net n)) (sym same) are o.at).1 (record { inside = has.default.inside; border = has.default.border })) has.default,
     ))

@@ -14,32 +14,31 @@ use Rattle.route_tables.specs.Prefixes.{prefix_at}
 use Rattle.route_tables.proofs.DestinationLists.{element_at, prefix_is}
 use Rattle.ospf_routes.specs.steps.Destinations.{IsDestinationIn, ospf_prefixes}
 use Rattle.ospf_routes.specs.steps.Domain.{IsOspfDomain}
-use Rattle.ospf_routes.specs.steps.Ranges.{AreRangesBelow}
+use Rattle.ospf_routes.specs.steps.Ranges.{HoldRanges}
 use Rattle.ospf_routes.specs.steps.Summarized.{AreAllSummaries, AreSummaries}
 use Rattle.ospf_routes.specs.steps.Twins.{AreKnownBelow, AreTwins, AreTwinsAt}
 use Rattle.ospf_routes.specs.declared.areas.AreaWalks.{AreaWalks}
 use Rattle.ospf_routes.specs.declared.domain.Domain.{Domain}
 use Rattle.ospf_routes.specs.declared.intra_area.Destination.{Destination}
-use Rattle.ospf_routes.specs.declared.ranges.ActiveRange.{ActiveRange}
 use Rattle.ospf_routes.specs.declared.announcements.Summaries.{Summaries}
 use Rattle.ospf_routes.proofs.DestinationFacts.{same_key}
 use Rattle.ospf_routes.proofs.TwinLaws.{is_twin_prefix, twin_destinations_back, twins_are_alike}
 
 -- twin destinations have the same entries
-pub twin_at : (net : Network) (domain : Domain) (ranges : List (List ActiveRange)) (ss : List Summaries) (one other : ℕ) → IsOspfDomain net domain →
-    AreRangesBelow net (length net) ranges → AreAllSummaries net domain ss → one < length domain.destinations.items →
-    other < length domain.destinations.items → AreTwinsAt domain.destinations.items ss ranges one other →
+pub twin_at : (net : Network) (domain : Domain) (ranged : List Block) (ss : List Summaries) (one other : ℕ) → IsOspfDomain net domain →
+    HoldRanges net ranged → AreAllSummaries net domain ss → one < length domain.destinations.items →
+    other < length domain.destinations.items → AreTwinsAt domain.destinations.items ss ranged one other →
     AreAlikePrefixes (length net) (OspfEntry net) (prefix_at (ospf_prefixes domain.destinations.items) one)
     (prefix_at (ospf_prefixes domain.destinations.items) other)
-twin_at net domain ranges ss one other is ranges_are announced within_one within_other at =
+twin_at net domain ranged ss one other is hold announced within_one within_other at =
     subst (λ (p : Block). AreAlikePrefixes (length net) (OspfEntry net) p (prefix_at (ospf_prefixes ds) other))
     (prefix_is (λ (d : Destination). d.dest) ds one at.d (inside one within_one) at.d_at)
     (subst (λ (q : Block). AreAlikePrefixes (length net) (OspfEntry net) at.d.dest q)
     (prefix_is (λ (d : Destination). d.dest) ds other at.e (inside other within_other) at.e_at)
     (twins_are_alike net at.d.dest at.e.dest
-    (is_twin_prefix net areas ranges at.d at.e at.s at.t is.areas ranges_are is_d.is is_e.is is_s is_t dest_s dest_t at.twins)
-    (is_twin_prefix net areas ranges at.e at.d at.t at.s is.areas ranges_are is_e.is is_d.is is_t is_s dest_t dest_s
-    (twin_destinations_back ranges at.d at.e at.s at.t at.twins))))
+    (is_twin_prefix net areas ranged at.d at.e at.s at.t is.areas hold is_d.is is_e.is is_s is_t dest_s dest_t at.twins)
+    (is_twin_prefix net areas ranged at.e at.d at.t at.s is.areas hold is_e.is is_d.is is_t is_s dest_t dest_s
+    (twin_destinations_back ranged at.d at.e at.s at.t at.twins))))
   where
     ds : List Destination
     ds = domain.destinations.items
@@ -72,21 +71,21 @@ twin_at net domain ranges ss one other is ranges_are announced within_one within
     dest_t = same_key (λ (s : Summaries). s.dest) (λ (d : Destination). d.dest) ss ds other at.t at.e announced.dests within_other at.t_at at.e_at
 
 -- so the one that is found has the same entries
-pub twin_found : (net : Network) (domain : Domain) (ranges : List (List ActiveRange)) (ss : List Summaries) (given : List Destination) (place : ℕ)
-    (found : Option ℕ) → IsOspfDomain net domain → AreRangesBelow net (length net) ranges → AreAllSummaries net domain ss →
+pub twin_found : (net : Network) (domain : Domain) (ranged : List Block) (ss : List Summaries) (given : List Destination) (place : ℕ)
+    (found : Option ℕ) → IsOspfDomain net domain → HoldRanges net ranged → AreAllSummaries net domain ss →
     given ≡ domain.destinations.items → place < length domain.destinations.items → IfSome found (λ one. one < place) →
-    IfSome found (λ one. AreTwinsAt given ss ranges one place) → (earlier : ℕ) → found ≡ Some earlier →
+    IfSome found (λ one. AreTwinsAt given ss ranged one place) → (earlier : ℕ) → found ≡ Some earlier →
     (earlier < place) × AreAlikePrefixes (length net) (OspfEntry net) (prefix_at (ospf_prefixes domain.destinations.items) earlier)
     (prefix_at (ospf_prefixes domain.destinations.items) place)
-twin_found net domain ranges ss given place None is ranges_are announced same within below at earlier wrong = absurd (none-some earlier wrong)
-twin_found net domain ranges ss given place (Some one) is ranges_are announced same within below at earlier found =
+twin_found net domain ranged ss given place None is hold announced same within below at earlier wrong = absurd (none-some earlier wrong)
+twin_found net domain ranged ss given place (Some one) is hold announced same within below at earlier found =
     let ds : List Destination = domain.destinations.items in
     let before : one < place = below in
     subst (λ (k : ℕ). (k < place) × AreAlikePrefixes (length net) (OspfEntry net) (prefix_at (ospf_prefixes ds) k) (prefix_at (ospf_prefixes ds) place))
     (same_Some one earlier found) (
       before,
-      twin_at net domain ranges ss one place is ranges_are announced (omega arith) within
-          (subst (λ (l : List Destination). AreTwinsAt l ss ranges one place) same at),
+      twin_at net domain ranged ss one place is hold announced (omega arith) within
+          (subst (λ (l : List Destination). AreTwinsAt l ss ranged one place) same at),
     )
 
 -- Place by place

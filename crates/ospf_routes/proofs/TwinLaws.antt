@@ -1,6 +1,6 @@
 -- Prefixes that are connected at the same routers and offered and announced alike have the same entries.
-use Rattle.std.proofs.Common.{◌≡◌, ℕ, ◌<◌, ◌↔◌, ◌⊎◌, inl, inr, List, [], length, get_or, refl, sym, subst, ◌∙◌, arith}
-use Rattle.std.specs.List.{All, Any}
+use Rattle.std.proofs.Common.{◌≡◌, ℕ, ◌↔◌, ◌⊎◌, inl, inr, List, length, get_or, refl, sym, subst, ◌∙◌, arith}
+use Rattle.std.specs.List.{All}
 use Rattle.std.proofs.lemmas.List.Elements.{All-contains, Contains-get_or}
 use Rattle.net_addr.specs.Addresses.{Block}
 use Rattle.net_model.specs.Network.{Network, Connected, Adjacent}
@@ -17,19 +17,15 @@ use Rattle.route_tables.proofs.BestRoutes.{hops_same}
 use Rattle.ospf_routes.specs.steps.Areas.{AreAreas}
 use Rattle.ospf_routes.specs.steps.Destinations.{HasAreaPart, IsDestination}
 use Rattle.ospf_routes.specs.steps.Offered.{AreOffers}
-use Rattle.ospf_routes.specs.steps.Ranges.{AreRangesBelow}
+use Rattle.ospf_routes.specs.steps.Ranges.{HoldRanges}
 use Rattle.ospf_routes.specs.steps.Summarized.{AreSummaries, IsHeard}
 use Rattle.ospf_routes.specs.steps.Twins.{IsTwinPart, AreTwinParts, AreTwinDestinations}
 use Rattle.ospf_routes.specs.declared.areas.AreaWalks.{AreaWalks}
 use Rattle.ospf_routes.specs.declared.intra_area.AreaOffers.{AreaOffers}
 use Rattle.ospf_routes.specs.declared.intra_area.Destination.{Destination}
-use Rattle.ospf_routes.specs.declared.ranges.ActiveRange.{ActiveRange}
 use Rattle.ospf_routes.specs.declared.announcements.Summaries.{Summaries}
-use Rattle.route_tables.proofs.ListFacts.{any_of}
 use Rattle.ospf_routes.proofs.AreaFacts.{listened_area}
-use Rattle.ospf_routes.proofs.BorderLists.{border_is_router}
 use Rattle.ospf_routes.proofs.CostBounds.{lists_from}
-use Rattle.ospf_routes.proofs.RangeFacts.{active_range_is}
 use Rattle.ospf_routes.proofs.RouteFacts.{announced_part}
 use Rattle.ospf_routes.proofs.SummaryFacts.{listened_cost, listened_hop}
 
@@ -151,9 +147,9 @@ twin_parts_back xs ys twins = record {
 
 -- Destinations
 
-pub twin_destinations_back : (ranges : List (List ActiveRange)) (d e : Destination) (s t : Summaries) → AreTwinDestinations ranges d e s t →
-    AreTwinDestinations ranges e d t s
-twin_destinations_back ranges d e s t twins = record {
+pub twin_destinations_back : (ranged : List Block) (d e : Destination) (s t : Summaries) → AreTwinDestinations ranged d e s t →
+    AreTwinDestinations ranged e d t s
+twin_destinations_back ranged d e s t twins = record {
   homes = λ u. ((twins.homes u).1, (twins.homes u).0);
   parts = twin_parts_back d.parts.items e.parts.items twins.parts;
   announced = twin_parts_back s.parts.items t.parts.items twins.announced;
@@ -161,23 +157,14 @@ twin_destinations_back ranges d e s t twins = record {
   other_no_range = twins.no_range;
 }
 
--- a prefix that no router's ranges have is no active range
-no_active_range : (net : Network) (p : Block) (ranges : List (List ActiveRange)) → AreRangesBelow net (length net) ranges →
-    (Any (λ (actives : List ActiveRange). Any (λ (a : ActiveRange). a.range.dest ≡ p) actives) ranges → ⊥) → (u : ℕ) → IsActiveRange net p u → ⊥
-no_active_range net p ranges are none u is =
-    let within : u < length net = border_is_router net u is.active.component.range.border in
-    let count : length ranges ≡ length net = are.count in
-    none (any_of (λ (actives : List ActiveRange). Any (λ (a : ActiveRange). a.range.dest ≡ p) actives) ranges (get_or ranges u [])
-    (Contains-get_or ranges u [] (omega arith)) ((active_range_is net u p (get_or ranges u []) (are.each u within)).1 is))
-
 -- twin destinations are twin prefixes
-pub is_twin_prefix : (net : Network) (areas : List AreaWalks) (ranges : List (List ActiveRange)) (d e : Destination) (s t : Summaries) →
-    AreAreas net areas → AreRangesBelow net (length net) ranges → IsDestination net d → IsDestination net e → AreSummaries net areas s →
-    AreSummaries net areas t → s.dest ≡ d.dest → t.dest ≡ e.dest → AreTwinDestinations ranges d e s t → IsTwinPrefix net d.dest e.dest
-is_twin_prefix net areas ranges d e s t areas_are ranges_are is_d is_e is_s is_t dest_s dest_t twins = record {
+pub is_twin_prefix : (net : Network) (areas : List AreaWalks) (ranged : List Block) (d e : Destination) (s t : Summaries) →
+    AreAreas net areas → HoldRanges net ranged → IsDestination net d → IsDestination net e → AreSummaries net areas s →
+    AreSummaries net areas t → s.dest ≡ d.dest → t.dest ≡ e.dest → AreTwinDestinations ranged d e s t → IsTwinPrefix net d.dest e.dest
+is_twin_prefix net areas ranged d e s t areas_are hold is_d is_e is_s is_t dest_s dest_t twins = record {
   homes = λ u here. (is_d.homes u).0 ((twins.homes u).1 ((is_e.homes u).1 here));
-  no_range = no_active_range net d.dest ranges ranges_are twins.no_range;
-  other_no_range = no_active_range net e.dest ranges ranges_are twins.other_no_range;
+  no_range = λ u is. twins.no_range (hold d.dest u is);
+  other_no_range = λ u is. twins.other_no_range (hold e.dest u is);
   offered = λ n at asks is.
       alike_parts (λ m. OffersSubnet net m d.dest) (λ m. OffersSubnet net m e.dest) d.parts.items e.parts.items n is_d.exact is_e.exact twins.parts
       (is_d.every n at asks is);

@@ -4,7 +4,8 @@ use Rattle.std.proofs.Common.{arith}
 use Rattle.std.specs.List.{Contains}
 use Rattle.std.proofs.lemmas.List.{get_or_default}
 use Rattle.std.proofs.lemmas.Result.{IfOk-weaker}
-use Rattle.net_model.specs.Network.{Network, Adjacent}
+use Rattle.net_addr.specs.Addresses.{Block}
+use Rattle.net_model.specs.Network.{Network, Adjacent, InArea}
 use Rattle.net_model.specs.declared.zone.Zone.TheVariants.{Area}
 use Rattle.walk_core.specs.Offers.{BestHop}
 use Rattle.walk_core.specs.Reach.{Reach}
@@ -58,17 +59,15 @@ only_none net d part u is one among none intra =
     let here = only_area net d part intra.area best.at best.attained.asks is one among best.attained.offered in
     none intra.cost (subst (λ (n : ℕ). IntraAreaCost net n d.dest u intra.cost) here intra.costs)
 
-only_some : (net : Network) (d : Destination) (part : AreaOffers) (u : ℕ) (hops : List ℕ) → IsDestination net d → length d.parts.items ≡ 1 →
-    Contains d.parts.items part → IsAreaRoute net part.area d.dest u hops → IsIntraRoute net d.dest u hops
-only_some net d part u hops is one among route = record {
-  is = record { area = part.area; cost = route.cost; costs = route.costs };
-  hops_are = hops_same (BestHop (Adjacent net (Area part.area)) (OffersSubnet net part.area d.dest) u) (IntraAreaHop net d.dest u) hops
+-- where all hops lead through one area, the route there is the intra-area route
+pub route_of_area : (net : Network) (n : ℕ) (p : Block) (u : ℕ) (hops : List ℕ) →
+    ((h m : ℕ) → InArea net u m → BestHop (Adjacent net (Area m)) (OffersSubnet net m p) u h → m ≡ n) → IsAreaRoute net n p u hops → IsIntraRoute net p u hops
+route_of_area net n p u hops only route = record {
+  is = record { area = n; cost = route.cost; costs = route.costs };
+  hops_are = hops_same (BestHop (Adjacent net (Area n)) (OffersSubnet net n p) u) (IntraAreaHop net p u) hops
       (λ h. (
-        λ hop. record { area = part.area; inside = route.inside; best = hop },
-        λ hop.
-            let best = hop.best.best in
-            let here = only_area net d part hop.area best.at best.attained.asks is one among best.attained.offered in
-            subst (λ (n : ℕ). BestHop (Adjacent net (Area n)) (OffersSubnet net n d.dest) u h) here hop.best,
+        λ hop. record { area = n; inside = route.inside; best = hop },
+        λ hop. subst (λ (m : ℕ). BestHop (Adjacent net (Area m)) (OffersSubnet net m p) u h) (only h hop.area hop.inside hop.best) hop.best,
       ))
       route.hops_are;
 }
@@ -77,4 +76,6 @@ pub only_follows : (net : Network) (d : Destination) (part : AreaOffers) (u : �
     Contains d.parts.items part → MatchOption found ((cost : ℕ) → IntraAreaCost net part.area d.dest u cost → ⊥) (IsAreaRoute net part.area d.dest u) →
     MatchOption found (IsIntraArea net d.dest u → ⊥) (IsIntraRoute net d.dest u)
 only_follows net d part u None is one among none = only_none net d part u is one among none
-only_follows net d part u (Some hops) is one among route = only_some net d part u hops is one among route
+only_follows net d part u (Some hops) is one among route =
+    route_of_area net part.area d.dest u hops
+    (λ h m inside hop. only_area net d part m hop.best.at hop.best.attained.asks is one among hop.best.attained.offered) route

@@ -12,3 +12,4 @@ pub mod Networks
 pub mod Routing
 pub mod AreaReach
 pub mod Asked
+pub mod Lanes

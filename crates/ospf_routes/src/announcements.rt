@@ -1,18 +1,19 @@
 ghost use Rattle.std.specs.Prelude.{◌≡◌, ◌<◌, ◌↔◌, length, Some, All, Any, IfOk, IsTrue, OnOk};
+ghost use Rattle.igp_theory.specs.Ospf.{BackboneSummary};
 ghost use Rattle.walk_core.specs.declared.offers.Offer.{Offer as OfferValue};
 ghost use Rattle.ospf_routes.specs.steps.Areas.{AreAreas};
-ghost use Rattle.ospf_routes.specs.steps.Members.{AreMembersBelow};
+ghost use Rattle.ospf_routes.specs.steps.Members.{AreMembersBelow, IsBorderIn};
 ghost use Rattle.ospf_routes.specs.steps.Destinations.{IsDestinationIn};
 ghost use Rattle.net_model.specs.Network.{IsBorderRouter};
 ghost use Rattle.ospf_routes.specs.Lists.{Adds, Exactly};
 ghost use Rattle.ospf_routes.specs.steps.Offered.{AreOffers};
 ghost use Rattle.ospf_routes.specs.steps.Ranges.{AreRangesBelow};
-ghost use Rattle.ospf_routes.specs.steps.Summarized.{Announces, AreOfAreas, AreSummaries, AreSummarized, IsBackboneRoute, IsHeard, IsOutgoing, IsSummaryOf};
+ghost use Rattle.ospf_routes.specs.steps.Summarized.{Announces, AreOfAreas, AreSummaries, AreSummarized, IsHeard, IsOutgoing, IsSummaryOf};
 
 use crate::OutOfMemory;
 use crate::area_route::{AreaRoute, offers_outside, outside_offer};
 use crate::areas::AreaWalks;
-use crate::backbone_routes::border_routes;
+use crate::backbone_routes::push_reached;
 use crate::intra_area::{AreaOffers, Destination};
 use crate::ranges::ActiveRanges;
 use crate::stub_areas::{is_totally_stubby, push_defaults};
@@ -53,22 +54,14 @@ impl Summaries {
         let dest = destination.dest;
         let routes = summarized(alloc, net, areas, borders, ranges, destination)?;
         let backbone = offers_outside(alloc, routes.as_slice(), 0)?;
-        let reached = border_routes(
-            alloc,
-            net,
-            areas,
-            borders,
-            ranges,
-            destination,
-            backbone.as_slice(),
-        )?;
         let parts = area_parts(
             alloc,
             net,
             areas,
-            dest,
+            ranges,
+            destination,
             routes.as_slice(),
-            reached.as_slice(),
+            backbone.as_slice(),
         )?;
         Ok(Summaries { dest, parts })
     }
@@ -79,19 +72,31 @@ fn area_parts(
     alloc: Global,
     net: &Net,
     areas: &[AreaWalks],
-    dest: Prefix,
+    ranges: &[ActiveRanges],
+    destination: &Destination,
     routes: &[AreaRoute],
-    borders: &[AreaRoute],
+    backbone: &[Offer],
 ) -> Result<Vec<AreaOffers>, OutOfMemory>
     requires areas { AreAreas net.now areas.now }
-    requires routes { AreSummarized net.now dest routes.now }
-    requires borders { Exactly (IsBackboneRoute net.now dest) borders.now }
-    ensures exact { IfOk result (λ parts. All (IsSummaryOf net.now dest) parts.items) }
+    requires ranges { AreRangesBelow net.now (length net.now) ranges.now }
+    requires destination { IsDestinationIn net.now areas.now destination.now }
+    requires routes { AreSummarized net.now destination.now.dest routes.now }
+    requires backbone { AreOffers (BackboneSummary net.now destination.now.dest) backbone.now }
+    ensures exact { IfOk result (λ parts. All (IsSummaryOf net.now destination.now.dest) parts.items) }
     ensures placed { IfOk result (λ parts. AreOfAreas areas.now parts.items) }
 {
     let mut parts = Vec::with_capacity(alloc, areas.len())?;
     for (zone, area) in areas.iter().enumerate() {
-        let offers = summaries_into(alloc, net, area, dest, routes, borders)?;
+        let offers = summaries_into(
+            alloc,
+            net,
+            areas,
+            area,
+            ranges,
+            destination,
+            routes,
+            backbone,
+        )?;
         parts.push(AreaOffers {
             area: area.number,
             zone,
@@ -106,15 +111,21 @@ fn area_parts(
 fn summaries_into(
     alloc: Global,
     net: &Net,
+    areas: &[AreaWalks],
     area: &AreaWalks,
-    dest: Prefix,
+    ranges: &[ActiveRanges],
+    destination: &Destination,
     routes: &[AreaRoute],
-    borders: &[AreaRoute],
+    backbone: &[Offer],
 ) -> Result<Vec<Offer>, OutOfMemory>
     requires members { AreMembersBelow net.now area.now.number (length net.now) area.now.members }
-    requires routes { AreSummarized net.now dest routes.now }
-    requires borders { Exactly (IsBackboneRoute net.now dest) borders.now }
-    ensures { IfOk result (λ offers. AreOffers (IsHeard net.now dest area.now.number) offers.items) }
+    requires borders { Exactly (IsBorderIn net.now area.now.number) area.now.borders }
+    requires areas { AreAreas net.now areas.now }
+    requires ranges { AreRangesBelow net.now (length net.now) ranges.now }
+    requires destination { IsDestinationIn net.now areas.now destination.now }
+    requires routes { AreSummarized net.now destination.now.dest routes.now }
+    requires backbone { AreOffers (BackboneSummary net.now destination.now.dest) backbone.now }
+    ensures { IfOk result (λ offers. AreOffers (IsHeard net.now destination.now.dest area.now.number) offers.items) }
 {
     let mut offers = Vec::new(alloc);
     push_outside(&mut offers, net, area, routes)?;
@@ -122,8 +133,8 @@ fn summaries_into(
     if is_backbone {
         return Ok(offers);
     }
-    push_outside(&mut offers, net, area, borders)?;
-    push_defaults(&mut offers, net, area, dest)?;
+    push_reached(&mut offers, net, areas, area, ranges, destination, backbone)?;
+    push_defaults(&mut offers, net, area, destination.dest)?;
     Ok(offers)
 }
 

@@ -6,14 +6,14 @@ ghost use Rattle.ospf_routes.specs.steps.AreaReach.{IsThisBorder, area_reach};
 ghost use Rattle.ospf_routes.specs.Lists.{Adds, Exactly};
 
 use crate::OutOfMemory;
-use crate::members::Members;
+use crate::members::{Borders, Members};
 use net_model::{Interface, Net, Zone};
 use route_tables::push_option;
 use std::alloc::Global;
 use walk_core::LeastWalks;
 use zone_graph::ZoneWalks;
 
-/// An area with its least walks and its routers.
+/// An area with its least walks, its routers and its border routers.
 #[derive(Debug, Drop)]
 pub struct AreaWalks {
     /// The number of the area.
@@ -22,9 +22,11 @@ pub struct AreaWalks {
     pub walks: ZoneWalks,
     /// The routers of the area.
     pub members: Members,
+    /// The border routers of the area.
+    pub borders: Borders,
 }
 
-/// The backbone and every area that a router is in, each with its least walks and its routers.
+/// The backbone and every area that a router is in, each with its least walks, its routers and its border routers.
 pub fn all_areas(alloc: Global, net: &Net) -> Result<Vec<AreaWalks>, OutOfMemory>
     ensures { IfOk result (λ areas. AreAreas net.now areas.items) }
 {
@@ -32,16 +34,19 @@ pub fn all_areas(alloc: Global, net: &Net) -> Result<Vec<AreaWalks>, OutOfMemory
     walks_of_areas(alloc, net, numbers.as_slice())
 }
 
-/// The least walks and the routers of each of these areas.
+/// The least walks, the routers and the border routers of each of these areas.
 fn walks_of_areas(alloc: Global, net: &Net, numbers: &[u32]) -> Result<Vec<AreaWalks>, OutOfMemory>
     ensures { IfOk result (λ areas. AreNumbered net.now numbers.now areas.items) }
 {
     let mut areas = Vec::new(alloc);
     for number in numbers {
+        let members = Members::of_area(alloc, net, *number)?;
+        let borders = Borders::of_area(alloc, net, *number, &members)?;
         areas.push(AreaWalks {
             number: *number,
             walks: ZoneWalks::build(alloc, net, Zone::Area(*number))?,
-            members: Members::of_area(alloc, net, *number)?,
+            members,
+            borders,
         })?;
     }
     Ok(areas)

@@ -1,63 +1,74 @@
-ghost use Rattle.std.specs.Prelude.{◌≡◌, ◌<◌, ◌↔◌, ℕ, length, Some, IfOk};
+ghost use Rattle.std.specs.Prelude.{◌≡◌, ◌<◌, ◌↔◌, ℕ, length, Some, OnOk};
 ghost use Rattle.igp_theory.specs.Ospf.{BackboneSummary, BorderCost};
-ghost use Rattle.ospf_routes.specs.declared.area_route.AreaRoute.{AreaRoute as RouteValue};
+ghost use Rattle.walk_core.specs.declared.offers.Offer.{Offer as OfferValue};
 ghost use Rattle.ospf_routes.specs.steps.Areas.{AreAreas};
 ghost use Rattle.ospf_routes.specs.steps.Destinations.{IsDestinationIn};
 ghost use Rattle.net_model.specs.Network.{IsBorderRouter};
-ghost use Rattle.ospf_routes.specs.Lists.{Exactly};
+ghost use Rattle.ospf_routes.specs.Lists.{Adds, Exactly};
+ghost use Rattle.ospf_routes.specs.steps.Members.{IsBorderIn};
 ghost use Rattle.ospf_routes.specs.steps.Offered.{AreOffers};
 ghost use Rattle.ospf_routes.specs.steps.Ranges.{AreActiveRanges, AreRangesBelow};
-ghost use Rattle.ospf_routes.specs.steps.Summarized.{IsBackboneRoute, IsBorderRoute};
+ghost use Rattle.ospf_routes.specs.steps.Summarized.{IsPassedOn};
 
 use crate::OutOfMemory;
-use crate::area_route::AreaRoute;
 use crate::areas::{AreaWalks, reach};
 use crate::intra_area::{Destination, has_intra};
 use crate::ranges::ActiveRanges;
+use crate::stub_areas::is_totally_stubby;
 use net_model::Net;
 use route_tables::push_option;
-use std::alloc::Global;
 use walk_core::Offer;
 
-/// The prefix with its inter-area cost at each border router that has one (RFC 2328, section 16.2), as a route of the
-/// backbone.
-pub fn border_routes(
-    alloc: Global,
+/// Adds the prefix with its inter-area cost at each border router of the area that has one (RFC 2328, section 16.2), and
+/// announces more than the default route into the area.
+pub fn push_reached(
+    offers: &mut Vec<Offer>,
     net: &Net,
     areas: &[AreaWalks],
-    borders: &[u32],
+    area: &AreaWalks,
     ranges: &[ActiveRanges],
     destination: &Destination,
     backbone: &[Offer],
-) -> Result<Vec<AreaRoute>, OutOfMemory>
-    requires borders { Exactly (IsBorderRouter net.now) borders.now }
+) -> Result<(), OutOfMemory>
+    requires borders { Exactly (IsBorderIn net.now area.now.number) area.now.borders }
     requires areas { AreAreas net.now areas.now }
     requires ranges { AreRangesBelow net.now (length net.now) ranges.now }
     requires destination { IsDestinationIn net.now areas.now destination.now }
     requires backbone { AreOffers (BackboneSummary net.now destination.now.dest) backbone.now }
-    ensures { IfOk result (λ routes. Exactly (IsBackboneRoute net.now destination.now.dest) routes.items) }
+    ensures { OnOk result (Adds offers.old.items offers.new.items (IsPassedOn net.now area.now.number destination.now.dest)) }
 {
-    let mut routes = Vec::new(alloc);
-    for u in borders {
-        let active = &ranges[*u as usize];
-        let cost = border_cost(net, areas, active, destination, backbone, *u);
-        push_option(&mut routes, border_route(*u, cost))?;
+    for b in area.borders.as_slice() {
+        let active = &ranges[*b as usize];
+        let offer = reached_offer(net, areas, area.number, active, destination, backbone, *b);
+        push_option(offers, offer)?;
     }
-    Ok(routes)
+    Ok(())
 }
 
-/// The cost as a route of the backbone at router `u`.
-fn border_route(u: u32, cost: Option<u64>) -> Option<AreaRoute>
-    ensures { (r : RouteValue) → (result ≡ Some r) ↔ IsBorderRoute u cost r }
+/// The prefix with its inter-area cost at border router `b`, where it has one and announces more than the default route into
+/// the area.
+fn reached_offer(
+    net: &Net,
+    areas: &[AreaWalks],
+    area: u32,
+    ranges: &ActiveRanges,
+    destination: &Destination,
+    backbone: &[Offer],
+    b: u32,
+) -> Option<Offer>
+    requires border { IsBorderIn net.now area b }
+    requires router { b < length net.now }
+    requires areas { AreAreas net.now areas.now }
+    requires ranges { AreActiveRanges net.now b ranges.now }
+    requires destination { IsDestinationIn net.now areas.now destination.now }
+    requires backbone { AreOffers (BackboneSummary net.now destination.now.dest) backbone.now }
+    ensures { (o : OfferValue) → (result ≡ Some o) ↔ ((o.at ≡ b) × IsPassedOn net.now area destination.now.dest o) }
 {
-    match cost {
-        Some(asks) => Some(AreaRoute {
-            area: 0,
-            at: u,
-            asks,
-        }),
-        None => None,
+    if is_totally_stubby(net, b, area) {
+        return None;
     }
+    let asks = border_cost(net, areas, ranges, destination, backbone, b)?;
+    Some(Offer { at: b, asks })
 }
 
 /// The inter-area cost of the prefix at border router `u`, over what is announced into the backbone.

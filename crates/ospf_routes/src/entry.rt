@@ -1,13 +1,13 @@
 ghost use Rattle.std.specs.Prelude.{◌≡◌, ◌<◌, ℕ, length, Contains, IfOk, IfSome, IsTrue, MatchOption};
+ghost use Rattle.net_model.specs.Network.{Connected};
 ghost use Rattle.igp_theory.specs.Ospf.{IntraAreaCost, IsActiveRange, IsIntraArea};
 ghost use Rattle.walk_core.specs.BestOffers.{NoneTotals};
 ghost use Rattle.route_tables.specs.Routings.{ForwardsBy, IsRouteFor};
 ghost use Rattle.ospf_routes.specs.steps.AreaReach.{area_reach};
-ghost use Rattle.ospf_routes.specs.steps.Areas.{AreAreas, IsListenedPlace, IsListenerAt};
-ghost use Rattle.ospf_routes.specs.steps.Asked.{HasNoEntry, IsQuestion, IsDeciding, IsFoundRoute, IsRouteTowards};
+ghost use Rattle.ospf_routes.specs.steps.Areas.{AreAreas, IsListenedPlace};
+ghost use Rattle.ospf_routes.specs.steps.Asked.{HasNoEntry, IsQuestion, IsDeciding, IsFoundRoute, IsRoute, IsRouteTowards};
 ghost use Rattle.ospf_routes.specs.steps.Destinations.{IsDestinationIn};
-ghost use Rattle.ospf_routes.specs.steps.Routing.{AreAreaRoutes, IsAreaRoute, IsIntraRoute, IsListenedRoute, ListenedCost};
-ghost use Rattle.ospf_routes.specs.steps.Summarized.{AreSummaries};
+ghost use Rattle.ospf_routes.specs.steps.Routing.{AreAreaRoutes, IsAreaRoute, IsIntraRoute};
 
 use crate::OutOfMemory;
 use crate::announcements::Summaries;
@@ -214,7 +214,20 @@ fn full_route(alloc: Global, asked: Asked) -> Result<Option<Route>, OutOfMemory>
     if asked.ranges.contains(destination.dest) {
         return Ok(Some(Route::Drops));
     }
-    inter_route(alloc, net, areas, asked.listens, asked.summaries, u)
+    match asked.listens {
+        Some(zone) => route_by(alloc, asked, listened_at(asked, zone)),
+        None => Ok(None),
+    }
+}
+
+/// The route to the best of the offers that decide it.
+fn route_by(alloc: Global, asked: Asked, deciding: Deciding) -> Result<Option<Route>, OutOfMemory>
+    requires decides { IsDeciding asked deciding }
+    requires away { Connected asked.net.now asked.router asked.destination.now.dest → ⊥ }
+    ensures { IfOk result (λ found. MatchOption found (NoneTotals deciding.entry.walks.now deciding.entry.offers.now) (IsRoute asked.entry)) }
+{
+    let count = asked.net.routers();
+    best_route(alloc, deciding.walks, deciding.zone, deciding.offers, count)
 }
 
 /// The intra-area route, of all areas that the router is in (RFC 2328, section 16.1). Mostly one area alone offers a
@@ -330,54 +343,4 @@ fn area_hops(
         Some(walks) => best_hops(alloc, walks, part.offers.as_slice(), net.routers()),
         None => Ok(None),
     }
-}
-
-/// The inter-area route, over what is announced into the area that the router listens to (RFC 2328, section 16.2). The
-/// router itself announces nothing there of a prefix that has no intra-area route and is no active range of it.
-fn inter_route(
-    alloc: Global,
-    net: &Net,
-    areas: &[AreaWalks],
-    listens: Option<usize>,
-    summaries: &Summaries,
-    u: u32,
-) -> Result<Option<Route>, OutOfMemory>
-    requires router { u < length net.now }
-    requires areas { AreAreas net.now areas.now }
-    requires listens { IsListenerAt net.now areas.now u listens }
-    requires summaries { AreSummaries net.now areas.now summaries.now }
-    requires no_intra { IsIntraArea net.now summaries.now.dest u → ⊥ }
-    requires no_range { IsActiveRange net.now summaries.now.dest u → ⊥ }
-    ensures { IfOk result (λ found. MatchOption found
-        ((cost : ℕ) → ListenedCost net.now summaries.now.dest u cost → ⊥)
-        (IsRouteFor (area_reach areas.now u) (length areas.now) (length net.now) (ForwardsBy (IsListenedRoute net.now summaries.now.dest u)))) }
-{
-    match listens {
-        Some(zone) => listened_route(alloc, net, areas, summaries, zone, u),
-        None => Ok(None),
-    }
-}
-
-/// The inter-area route, over what is announced into the area at this place.
-fn listened_route(
-    alloc: Global,
-    net: &Net,
-    areas: &[AreaWalks],
-    summaries: &Summaries,
-    zone: usize,
-    u: u32,
-) -> Result<Option<Route>, OutOfMemory>
-    requires router { u < length net.now }
-    requires listens { IsListenedPlace net.now areas.now u zone }
-    requires areas { AreAreas net.now areas.now }
-    requires summaries { AreSummaries net.now areas.now summaries.now }
-    requires no_intra { IsIntraArea net.now summaries.now.dest u → ⊥ }
-    requires no_range { IsActiveRange net.now summaries.now.dest u → ⊥ }
-    ensures { IfOk result (λ found. MatchOption found
-        ((cost : ℕ) → ListenedCost net.now summaries.now.dest u cost → ⊥)
-        (IsRouteFor (area_reach areas.now u) (length areas.now) (length net.now) (ForwardsBy (IsListenedRoute net.now summaries.now.dest u)))) }
-{
-    let walks = zone_reach(net, areas, zone, u);
-    let offers = summaries.parts[zone].offers.as_slice();
-    best_route(alloc, walks, zone, offers, net.routers())
 }

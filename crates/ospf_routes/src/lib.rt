@@ -10,11 +10,12 @@
 //! 2. `ranges.rt`: the active ranges of border routers (12.4.3, 11.1), and what they cost.
 //! 3. `announcements.rt` (`Summaries::build`, 12.4.3): what the border routers of each area announce of a prefix into it.
 //!    `summarized_routes.rt` has what they summarize out of whichever area. Into the backbone there go the routes of other
-//!    areas, into every other area these too, and what border routers reach over the backbone (`backbone_routes.rt`, costs
-//!    alone, 16.2) and the defaults of stub areas (`stub_areas.rt`, 3.6).
-//! 4. `entry.rt`: the intra-area route, else a discard, else the inter-area route (16, 11.1), for which `listened_route` reads
+//!    areas, into every other area these too, and what its border routers reach over the backbone (`backbone_routes.rt`,
+//!    costs alone, 16.2) and the defaults of stub areas (`stub_areas.rt`, 3.6).
+//! 4. `entry.rt`: the intra-area route, else a discard, else the inter-area route (16, 11.1), for which `listened_at` reads
 //!    the `Summaries`; `united.rt`: several areas' hops together. Where one area at most offers a prefix, `target_of` tells at
 //!    once where the route leads: to the best of the offers that decide it, of that area or of what the router listens to.
+//!    `lanes.rt`: for routers in one area alone these offers are the same, so they are found once for each area and prefix.
 //!
 //! `twins.rt` finds prefixes that have the same routes at every router, by what is offered and announced of them. Steps 1
 //! to 3 take time of prefixes times border routers and areas; step 4 of routers times prefixes times the offers of a prefix
@@ -40,6 +41,7 @@ mod summarized_routes;
 
 // The routes of each router
 mod entry;
+mod lanes;
 mod protocol;
 mod tables;
 mod twins;

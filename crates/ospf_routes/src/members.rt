@@ -1,10 +1,12 @@
-ghost use Rattle.std.specs.Prelude.{◌≡◌, ◌<◌, ◌↔◌, length, IfOk, IsTrue};
+ghost use Rattle.std.specs.Prelude.{◌≡◌, ◌<◌, ◌↔◌, ℕ, length, Some, IfOk, IsTrue};
 ghost use Rattle.net_model.specs.Network.{InArea};
-ghost use Rattle.ospf_routes.specs.steps.Members.{AreMembersBelow, IsMember};
+ghost use Rattle.ospf_routes.specs.Lists.{Exactly};
+ghost use Rattle.ospf_routes.specs.steps.Members.{AreMembersBelow, IsBorderIn, IsMember, IsThisBorderIn};
 
 use crate::OutOfMemory;
-use crate::areas::has_area;
+use crate::areas::{has_area, is_border};
 use net_model::Net;
+use route_tables::push_option;
 use std::alloc::Global;
 use std::marker::Model;
 
@@ -48,4 +50,57 @@ fn is_inside(net: &Net, u: u32, number: u32) -> bool
     ensures { IsTrue result ↔ InArea net.now u number }
 {
     has_area(net.config(u).interfaces.as_slice(), number)
+}
+
+/// The border routers of an area, in the order of their numbers.
+#[derive(Debug, Drop)]
+pub struct Borders {
+    routers: Vec<u32>,
+}
+
+impl Model for Borders {
+    ghost use Rattle.std.specs.Prelude.{List, ℕ};
+
+    ghost Value = { List ℕ };
+
+    ghost view = { λ x. x.routers.items };
+}
+
+impl Borders {
+    /// The border routers of the area of this number.
+    pub fn of_area(
+        alloc: Global,
+        net: &Net,
+        number: u32,
+        members: &Members,
+    ) -> Result<Borders, OutOfMemory>
+        requires members { AreMembersBelow net.now number (length net.now) members.now }
+        ensures { IfOk result (Exactly (IsBorderIn net.now number)) }
+    {
+        let mut routers = Vec::new(alloc);
+        for u in 0..net.routers() {
+            push_option(&mut routers, border_inside(net, number, members, u))?;
+        }
+        Ok(Borders { routers })
+    }
+
+    /// The routers as a slice.
+    pub fn as_slice(&self) -> &[u32]
+        ensures { result.now ≡ self.now }
+    {
+        self.routers.as_slice()
+    }
+}
+
+/// The router, where it is a border router of the area.
+fn border_inside(net: &Net, number: u32, members: &Members, u: u32) -> Option<u32>
+    requires router { u < length net.now }
+    requires members { AreMembersBelow net.now number (length net.now) members.now }
+    ensures { (v : ℕ) → (result ≡ Some v) ↔ IsThisBorderIn net.now number u v }
+{
+    if members.has(u) && is_border(net, u) {
+        Some(u)
+    } else {
+        None
+    }
 }

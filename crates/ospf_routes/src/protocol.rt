@@ -10,21 +10,22 @@ ghost use Rattle.ospf_routes.specs.steps.Summarized.{AreAllSummaries};
 
 use crate::OutOfMemory;
 use crate::announcements::Summaries;
-use crate::areas::{all_listens, border_routers};
+use crate::areas::{all_listens, border_routers, is_border};
 use crate::domain::Domain;
 use crate::entry::{Asked, route_of, target_of};
+use crate::lanes::{Decisions, all_lanes};
 use crate::ranges::{ActiveRanges, all_ranges};
 use crate::segments::segments_of_areas;
 use crate::twins::all_twins;
 use net_addr::Prefix;
 use net_model::Net;
-use route_tables::{Protocol, Route, Target};
+use route_tables::{Lane, Protocol, Route, Target};
 use std::alloc::Global;
 use std::marker::Model;
 use walk_core::{LeastWalks, Segment};
 
 /// OSPF on a network, with what its routers know, the places of the areas that they listen to, the active ranges of border
-/// routers, what these announce of each prefix, and which prefixes have the same routes.
+/// routers, what these announce of each prefix, which prefixes have the same routes, and what decides them within areas.
 #[derive(Drop)]
 pub struct Ospf<'a> {
     net: &'a Net,
@@ -33,6 +34,7 @@ pub struct Ospf<'a> {
     ranges: Vec<ActiveRanges>,
     summaries: Vec<Summaries>,
     twins: Vec<Option<usize>>,
+    lanes: Vec<Decisions>,
 }
 
 impl<'a> Model for Ospf<'a> {
@@ -40,9 +42,9 @@ impl<'a> Model for Ospf<'a> {
 
     ghost Value = { OspfNetwork };
 
-    ghost view = { λ x. record { net = x.net.now; domain = x.domain; listens = x.listens.items; ranges = x.ranges.items; summaries = x.summaries.items; twins = x.twins.items } };
+    ghost view = { λ x. record { net = x.net.now; domain = x.domain; listens = x.listens.items; ranges = x.ranges.items; summaries = x.summaries.items; twins = x.twins.items; lanes = x.lanes.items } };
 
-    ghost invariant = { λ x. IsOspf (record { net = x.net.now; domain = x.domain; listens = x.listens.items; ranges = x.ranges.items; summaries = x.summaries.items; twins = x.twins.items }) };
+    ghost invariant = { λ x. IsOspf (record { net = x.net.now; domain = x.domain; listens = x.listens.items; ranges = x.ranges.items; summaries = x.summaries.items; twins = x.twins.items; lanes = x.lanes.items }) };
 }
 
 impl<'a> Ospf<'a> {
@@ -58,6 +60,13 @@ impl<'a> Ospf<'a> {
         let borders = border_routers(alloc, net)?;
         let summaries = all_summaries(alloc, net, &domain, borders.as_slice(), ranges.as_slice())?;
         let twins = all_twins(alloc, net, &domain, ranges.as_slice(), summaries.as_slice())?;
+        let lanes = all_lanes(
+            alloc,
+            net,
+            &domain,
+            listens.as_slice(),
+            summaries.as_slice(),
+        )?;
         Ok(Ospf {
             net,
             domain,
@@ -65,6 +74,7 @@ impl<'a> Ospf<'a> {
             ranges,
             summaries,
             twins,
+            lanes,
         })
     }
 
@@ -133,6 +143,17 @@ impl<'a> Protocol for Ospf<'a> {
 
     fn target(&self, place: usize, router: u32) -> Option<Target> {
         target_of(self.asked(place, router))
+    }
+
+    fn lane(&self, router: u32) -> Option<Lane<'_>> {
+        let Some(zone) = self.listens[router as usize] else {
+            return None;
+        };
+        if is_border(self.net, router) {
+            return None;
+        }
+        let decisions = self.lanes[zone].as_slice();
+        Some(Lane { zone, decisions })
     }
 
     fn route(

@@ -1,12 +1,12 @@
-ghost use Rattle.std.specs.Prelude.{◌≡◌, ◌<◌, ◌≤◌, ◌↔◌, ℕ, length, Some, All, Any, Contains, IfOk, IfNone, IfSome, IsTrue, MatchOption};
-ghost use Rattle.net_model.specs.Network.{IsBorderRouter};
+ghost use Rattle.std.specs.Prelude.{◌≡◌, ◌<◌, ◌≤◌, ◌↔◌, ℕ, length, Some, All, Any, Contains, IfOk, IfNone, IfSome, IsTrue, OnOk, MatchOption};
+ghost use Rattle.net_model.specs.Network.{IsBorderRouter, Network};
 ghost use Rattle.igp_theory.specs.Ospf.{HasRange, IsActive, IsActiveRange, IsComponent, RangeCost};
 ghost use Rattle.ospf_routes.specs.steps.Areas.{AreAreas};
 ghost use Rattle.ospf_routes.specs.steps.Destinations.{IsDestinationIn};
 ghost use Rattle.ospf_routes.specs.steps.Domain.{IsOspfDomain};
-ghost use Rattle.ospf_routes.specs.Lists.{Exactly};
+ghost use Rattle.ospf_routes.specs.Lists.{Adds, Exactly};
 ghost use Rattle.ospf_routes.specs.steps.Ranges.{AreActiveRanges, AreRangesBelow, HasComponentCost, IsActiveAt, IsComponentOfSome, IsGreatestOf, IsLeastOf};
-ghost use Rattle.ospf_routes.specs.steps.Ranges.{IsLonger, IsPicked};
+ghost use Rattle.ospf_routes.specs.steps.Ranges.{HoldRanges, IsLonger, IsPicked};
 
 use crate::OutOfMemory;
 use crate::areas::{AreaWalks, is_border};
@@ -92,6 +92,27 @@ pub fn all_ranges(
         ranges.push(ActiveRanges::of_router(alloc, net, domain, b)?)?;
     }
     Ok(ranges)
+}
+
+/// The prefixes of all active ranges.
+pub fn range_prefixes(alloc: Global, ranges: &[ActiveRanges]) -> Result<Vec<Prefix>, OutOfMemory>
+    ensures { IfOk result (λ prefixes. (net : Network) → AreRangesBelow net (length net) ranges.now → HoldRanges net prefixes.items) }
+{
+    let mut prefixes = Vec::new(alloc);
+    for actives in ranges {
+        push_prefixes(&mut prefixes, actives.as_slice())?;
+    }
+    Ok(prefixes)
+}
+
+/// Adds the prefix of each of these active ranges.
+fn push_prefixes(prefixes: &mut Vec<Prefix>, actives: &[ActiveRange]) -> Result<(), OutOfMemory>
+    ensures { OnOk result (Adds prefixes.old.items prefixes.new.items (λ p. Any (λ a. a.range.dest ≡ p) actives.now)) }
+{
+    for active in actives {
+        prefixes.push(active.range.dest)?;
+    }
+    Ok(())
 }
 
 /// The active ranges of a border router.

@@ -1,12 +1,12 @@
 ghost use Rattle.std.specs.Prelude.{◌≡◌, ◌<◌, ◌↔◌, length, Some, Any, IsTrue, OnOk};
 ghost use Rattle.igp_theory.specs.Ospf.{IsTotallyStubby};
 ghost use Rattle.walk_core.specs.declared.offers.Offer.{Offer as OfferValue};
-ghost use Rattle.ospf_routes.specs.Lists.{Adds};
-ghost use Rattle.ospf_routes.specs.steps.Members.{AreMembersBelow};
+ghost use Rattle.ospf_routes.specs.Lists.{Adds, Exactly};
+ghost use Rattle.ospf_routes.specs.steps.Members.{IsBorderIn};
 ghost use Rattle.ospf_routes.specs.steps.Summarized.{HasDefault, IsAlone, IsDefault, RouterDefault};
 
 use crate::OutOfMemory;
-use crate::areas::{AreaWalks, is_border};
+use crate::areas::AreaWalks;
 use net_addr::Prefix;
 use net_model::{Net, Stub};
 use route_tables::{is_all_addresses, push_option};
@@ -41,36 +41,30 @@ pub fn push_defaults(
     area: &AreaWalks,
     dest: Prefix,
 ) -> Result<(), OutOfMemory>
-    requires { AreMembersBelow net.now area.now.number (length net.now) area.now.members }
+    requires { Exactly (IsBorderIn net.now area.now.number) area.now.borders }
     ensures { OnOk result (Adds offers.old.items offers.new.items (λ o. HasDefault net.now area.now.number dest o)) }
 {
     if !is_all_addresses(dest) {
         return Ok(());
     }
-    for b in 0..net.routers() {
-        push_router_defaults(offers, net, area, b)?;
+    for b in area.borders.as_slice() {
+        push_router_defaults(offers, net, area.number, *b)?;
     }
     Ok(())
 }
 
-/// Adds the default route of router `b`, where it is a border router in the area.
+/// Adds the default route of router `b`, a border router in the area.
 fn push_router_defaults(
     offers: &mut Vec<Offer>,
     net: &Net,
-    area: &AreaWalks,
+    area: u32,
     b: u32,
 ) -> Result<(), OutOfMemory>
     requires router { b < length net.now }
-    requires members { AreMembersBelow net.now area.now.number (length net.now) area.now.members }
-    ensures { OnOk result (Adds offers.old.items offers.new.items (λ o. RouterDefault net.now area.now.number b o)) }
+    requires border { IsBorderIn net.now area b }
+    ensures { OnOk result (Adds offers.old.items offers.new.items (λ o. RouterDefault net.now area b o)) }
 {
-    if !area.members.has(b) {
-        return Ok(());
-    }
-    if !is_border(net, b) {
-        return Ok(());
-    }
-    push_stub_defaults(offers, net.config(b).stubs.as_slice(), area.number, b)
+    push_stub_defaults(offers, net.config(b).stubs.as_slice(), area, b)
 }
 
 /// Adds the default route of each of the stub areas that is this one.

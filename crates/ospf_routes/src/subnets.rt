@@ -123,7 +123,7 @@ fn push_subnets(all: &mut Vec<Subnet>, interfaces: &[Interface], w: u32) -> Resu
 }
 
 /// The subnet of an interface of router `w`, where that is up and has one.
-pub fn interface_subnet(interface: &Interface, w: u32) -> Option<Subnet>
+fn interface_subnet(interface: &Interface, w: u32) -> Option<Subnet>
     ensures { (s : SubnetValue) → (result ≡ Some s) ↔ IsInterfaceSubnet w interface.now s }
 {
     match interface.subnet {

@@ -9,7 +9,7 @@ use crate::OutOfMemory;
 use crate::announcements::Summaries;
 use crate::domain::Domain;
 use crate::intra_area::{AreaOffers, Destination};
-use crate::ranges::ActiveRanges;
+use crate::ranges::{ActiveRanges, range_prefixes};
 use net_addr::Prefix;
 use net_model::Net;
 use route_tables::are_alike;
@@ -31,10 +31,17 @@ pub fn all_twins(
     ensures { IfOk result (λ twins. AreTwins net.now (ospf_prefixes domain.now.destinations.items) twins.items) }
 {
     let destinations = domain.destinations.as_slice();
+    let ranged = range_prefixes(alloc, ranges)?;
     let mut latest = no_places(alloc, net.routers())?;
     let mut twins = Vec::new(alloc);
     for place in 0..destinations.len() {
-        twins.push(twin_of(destinations, ranges, summaries, latest.as_slice(), place))?;
+        twins.push(twin_of(
+            destinations,
+            ranged.as_slice(),
+            summaries,
+            latest.as_slice(),
+            place,
+        ))?;
         remember_home(&mut latest, &destinations[place], place);
     }
     Ok(twins)
@@ -43,7 +50,7 @@ pub fn all_twins(
 /// The latest destination that is connected at the same one router, where both have the same entries.
 fn twin_of(
     destinations: &[Destination],
-    ranges: &[ActiveRanges],
+    ranged: &[Prefix],
     summaries: &[Summaries],
     latest: &[Option<usize>],
     place: usize,
@@ -52,11 +59,11 @@ fn twin_of(
     requires summaries { length summaries.now ≡ length destinations.now }
     requires latest { AreKnownBelow place latest.now }
     ensures below { IfSome result (λ earlier. earlier < place) }
-    ensures twins { IfSome result (λ earlier. AreTwinsAt destinations.now summaries.now ranges.now earlier place) }
+    ensures twins { IfSome result (λ earlier. AreTwinsAt destinations.now summaries.now ranged.now earlier place) }
 {
     let home = only_home(&destinations[place])?;
     let earlier = known_at(latest, home)?;
-    if are_twins(destinations, summaries, ranges, earlier, place) {
+    if are_twins(destinations, summaries, ranged, earlier, place) {
         Some(earlier)
     } else {
         None
@@ -67,14 +74,14 @@ fn twin_of(
 fn are_twins(
     destinations: &[Destination],
     summaries: &[Summaries],
-    ranges: &[ActiveRanges],
+    ranged: &[Prefix],
     one: usize,
     other: usize,
 ) -> bool
     requires one { one < length destinations.now }
     requires other { other < length destinations.now }
     requires summaries { length summaries.now ≡ length destinations.now }
-    ensures { IsTrue result → AreTwinsAt destinations.now summaries.now ranges.now one other }
+    ensures { IsTrue result → AreTwinsAt destinations.now summaries.now ranged.now one other }
 {
     let (near, far) = (&destinations[one], &destinations[other]);
     if !have_one_home(near, far) {
@@ -86,10 +93,10 @@ fn are_twins(
     if !have_twin_announcements(&summaries[one], &summaries[other]) {
         return false;
     }
-    if is_range(ranges, near.dest) {
+    if is_ranged(ranged, near.dest) {
         return false;
     }
-    !is_range(ranges, far.dest)
+    !is_ranged(ranged, far.dest)
 }
 
 /// No place for any of so many homes.
@@ -140,11 +147,11 @@ fn have_one_home(one: &Destination, other: &Destination) -> bool
     }
 }
 
-/// Whether the prefix is that of an active range of some router.
-fn is_range(ranges: &[ActiveRanges], dest: Prefix) -> bool
-    ensures { IsTrue result ↔ Any (λ actives. Any (λ a. a.range.dest ≡ dest) actives) ranges.now }
+/// Whether the prefix is one of these.
+fn is_ranged(ranged: &[Prefix], dest: Prefix) -> bool
+    ensures { IsTrue result ↔ Contains ranged.now dest }
 {
-    ranges.iter().any(|r| r.contains(dest))
+    ranged.iter().any(|range| *range == dest)
 }
 
 /// Whether what the interfaces of each area offer of two destinations is alike.

@@ -7,7 +7,7 @@ use Rattle.ospf_routes.specs.declared.areas.AreaWalks.{AreaWalks}
 -- the least walks from router u in the area at a place
 abbrev pub area_reach : List AreaWalks → ℕ → ℕ → Reach
 area_reach areas u zone =
-    slice_index_or (slice_index_or areas zone (record { number = 0; walks = []; members = [] })).walks u (record { distances = []; hops = [] })
+    slice_index_or (slice_index_or areas zone (record { number = 0; walks = []; members = []; borders = [] })).walks u (record { distances = []; hops = [] })
 
 -- v is this router, which is a border router
 pub record IsThisBorder (net : Network) (u v : ℕ) : Type 0 where

@@ -8,7 +8,8 @@ use Rattle.net_model.specs.declared.zone.Zone.TheVariants.{Area}
 use Rattle.igp_theory.specs.Ospf.{ListensTo}
 use Rattle.walk_core.specs.Reach.{Reach, AreLeastWalks, AreNear}
 use Rattle.zone_graph.specs.Walks.{AreZoneWalks}
-use Rattle.ospf_routes.specs.steps.Members.{AreMembersBelow}
+use Rattle.ospf_routes.specs.Lists.{Exactly}
+use Rattle.ospf_routes.specs.steps.Members.{AreMembersBelow, IsBorderIn}
 use Rattle.ospf_routes.specs.declared.areas.AreaWalks.{AreaWalks}
 
 -- the interface is up and runs OSPF in another area than n
@@ -38,17 +39,23 @@ HaveWalks net areas = All (λ (a : AreaWalks). AreZoneWalks net (Area a.number) 
 abbrev pub HaveMembers : Network → List AreaWalks → Type 0
 HaveMembers net areas = All (λ (a : AreaWalks). AreMembersBelow net a.number (length net) a.members) areas
 
--- the areas of these numbers have their least walks and their routers
+-- each area has its border routers
+abbrev pub HaveBorders : Network → List AreaWalks → Type 0
+HaveBorders net areas = All (λ (a : AreaWalks). Exactly (IsBorderIn net a.number) a.borders) areas
+
+-- the areas of these numbers have their least walks, their routers and their border routers
 pub record AreNumbered (net : Network) (numbers : List ℕ) (areas : List AreaWalks) : Type 0 where
   pub walks : HaveWalks net areas
   pub members : HaveMembers net areas
+  pub borders : HaveBorders net areas
   pub every : (n : ℕ) → Contains numbers n → HasArea areas n
 
--- the areas of a network have their least walks and their routers, and are the backbone and every area that a router is in
+-- the areas of a network have their least walks, their routers and their border routers, and are the backbone and every area that a router is in
 pub record AreAreas (net : Network) (areas : List AreaWalks) : Type 0 where
   pub network : IsNetwork net
   pub walks : HaveWalks net areas
   pub members : HaveMembers net areas
+  pub borders : HaveBorders net areas
   pub backbone : HasArea areas 0
   pub every : (u n : ℕ) → InArea net u n → HasArea areas n
 

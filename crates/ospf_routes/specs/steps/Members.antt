@@ -1,6 +1,6 @@
 -- The routers of an area.
 use Rattle.std.specs.Prelude.{◌≡◌, ◌<◌, ◌↔◌, ℕ, Bool, false, List, length, IsTrue, slice_index_or}
-use Rattle.net_model.specs.Network.{Network, InArea}
+use Rattle.net_model.specs.Network.{Network, InArea, IsBorderRouter}
 
 -- router u is flagged
 abbrev pub IsMember : List Bool → ℕ → Type 0
@@ -10,3 +10,13 @@ IsMember members u = IsTrue (slice_index_or members u false)
 pub record AreMembersBelow (net : Network) (n m : ℕ) (members : List Bool) : Type 0 where
   pub count : length members ≡ m
   pub exact : (u : ℕ) → u < m → IsMember members u ↔ InArea net u n
+
+-- router u is a border router in area n
+pub record IsBorderIn (net : Network) (n u : ℕ) : Type 0 where
+  pub inside : InArea net u n
+  pub border : IsBorderRouter net u
+
+-- v is this router, which is a border router in area n
+pub record IsThisBorderIn (net : Network) (n u v : ℕ) : Type 0 where
+  pub this : v ≡ u
+  pub is : IsBorderIn net n v

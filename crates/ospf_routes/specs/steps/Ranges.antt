@@ -3,7 +3,7 @@ use Rattle.std.specs.Prelude.{◌≡◌, ◌<◌, ◌≤◌, ℕ, Bool, true, fa
 use Rattle.net_addr.specs.Addresses.{Block, Covers}
 use Rattle.net_model.specs.Network.{Network}
 use Rattle.net_model.specs.declared.area.Range.{Range}
-use Rattle.igp_theory.specs.Ospf.{IsComponent, IsActive, RangeCost}
+use Rattle.igp_theory.specs.Ospf.{IsComponent, IsActive, IsActiveRange, RangeCost}
 use Rattle.ospf_routes.specs.Lists.{Exactly}
 use Rattle.ospf_routes.specs.declared.ranges.ActiveRange.{ActiveRange}
 
@@ -55,6 +55,10 @@ pub record HasActive (actives : List ActiveRange) (r : Range) : Type 0 where
 pub record AreActiveRanges (net : Network) (b : ℕ) (actives : List ActiveRange) : Type 0 where
   pub exact : Exactly (λ (a : ActiveRange). RangeCost net b a.range a.cost) actives
   pub every : (r : Range) → IsActive net b r → HasActive actives r
+
+-- the prefix of each active range is among these
+abbrev pub HoldRanges : Network → List Block → Type 0
+HoldRanges net prefixes = (p : Block) (u : ℕ) → IsActiveRange net p u → Contains prefixes p
 
 -- these are the active ranges of the routers below n
 pub record AreRangesBelow (net : Network) (n : ℕ) (ranges : List (List ActiveRange)) : Type 0 where

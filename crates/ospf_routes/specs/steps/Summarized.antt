@@ -1,5 +1,5 @@
 -- What border routers summarize of a prefix, and announce into each area.
-use Rattle.std.specs.Prelude.{◌≡◌, ◌≢◌, ℕ, List, map, Option, Some, IsTrue, All}
+use Rattle.std.specs.Prelude.{◌≡◌, ◌≢◌, ℕ, List, map, IsTrue, All}
 use Rattle.net_addr.specs.Addresses.{Block, default_prefix}
 use Rattle.net_model.specs.Network.{Network, InArea, IsBorderRouter}
 use Rattle.net_model.specs.declared.area.Range.{Range}
@@ -63,16 +63,11 @@ pub data OutsideSummary (net : Network) (n : ℕ) (p : Block) (b cost : ℕ) : T
   of_subnet : SummarizesSubnet net n p b cost → OutsideSummary net n p b cost
   of_range : SummarizesRange net n p b cost → OutsideSummary net n p b cost
 
--- the route is that of router u in the backbone, at this cost, if there is one
-pub record IsBorderRoute (u : ℕ) (cost : Option ℕ) (r : AreaRoute) : Type 0 where
-  pub area : r.area ≡ 0
-  pub at : r.at ≡ u
-  pub costs : cost ≡ Some r.asks
-
--- a border router reaches p over the backbone at this cost, and the route is one of the backbone
-pub record IsBackboneRoute (net : Network) (p : Block) (r : AreaRoute) : Type 0 where
-  pub area : r.area ≡ 0
-  pub costs : BorderCost net p r.at r.asks
+-- the offer is what a border router in area n reaches of p over the backbone and passes on, as it announces more than the default route
+pub record IsPassedOn (net : Network) (n : ℕ) (p : Block) (o : Offer) : Type 0 where
+  pub inside : InArea net o.at n
+  pub allowed : IsTotallyStubby net o.at n → ⊥
+  pub costs : BorderCost net p o.at o.asks
 
 -- router b is in area n, and announces more than the default route into it
 pub record Announces (net : Network) (n b : ℕ) : Type 0 where

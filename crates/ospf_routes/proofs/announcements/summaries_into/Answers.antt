@@ -1,24 +1,20 @@
 use Rattle.ospf_routes.proofs.SummaryFacts.{heard_in_area, heard_in_backbone, routes_of_routers, summarized_at}
-use Rattle.ospf_routes.specs.steps.Summarized.{IsBackboneRoute, SummarizedFrom}
+use Rattle.ospf_routes.specs.steps.Summarized.{SummarizedFrom}
 use Rattle.ospf_routes.specs.declared.area_route.AreaRoute.{AreaRoute}
 use Rattle.ospf_routes.proofs.announcements.summaries_into.Goals as goal
 
 pub push_outside-requires-clause-routers : goal.push_outside-requires-clause-routers
 push_outside-requires-clause-routers c =
-    routes_of_routers c.args.net.now (λ (r : AreaRoute). SummarizedFrom c.args.net.now c.args.dest r.at r) c.args.routes.now c.requires.routes
-    (λ r from. (summarized_at c.args.net.now c.args.dest r.at r from).1)
-
-pub push_outside-requires-2-clause-routers : goal.push_outside-requires-2-clause-routers
-push_outside-requires-2-clause-routers c =
-    routes_of_routers c.args.net.now (IsBackboneRoute c.args.net.now c.args.dest) c.args.borders.now c.requires.borders (λ r is. is.costs.border)
+    routes_of_routers c.args.net.now (λ (r : AreaRoute). SummarizedFrom c.args.net.now c.args.destination.now.dest r.at r) c.args.routes.now c.requires.routes
+    (λ r from. (summarized_at c.args.net.now c.args.destination.now.dest r.at r from).1)
 
 pub returns-then-is_backbone : goal.returns-then-is_backbone
 returns-then-is_backbone c =
-    heard_in_backbone c.args.net.now c.args.area.now.number c.args.dest c.args.routes.now c.new-offers.result.items c.push_outside.new.offers.items
-    c.if-is_backbone.true c.requires.routes c.new-offers.ensures.items c.in_ok-push_outside.ensures
+    heard_in_backbone c.args.net.now c.args.area.now.number c.args.destination.now.dest c.args.routes.now c.new-offers.result.items
+    c.push_outside.new.offers.items c.if-is_backbone.true c.requires.routes c.new-offers.ensures.items c.in_ok-push_outside.ensures
 
 pub returns : goal.returns
 returns c =
-    heard_in_area c.args.net.now c.args.area.now.number c.args.dest c.args.routes.now c.args.borders.now c.new-offers.result.items
-    c.push_outside.new.offers.items c.push_outside-2.new.offers.items c.push_defaults.new.offers.items c.if-is_backbone.false c.requires.routes
-    c.requires.borders c.new-offers.ensures.items c.in_ok-push_outside.ensures c.in_ok-push_outside-2.ensures c.in_ok-push_defaults.ensures
+    heard_in_area c.args.net.now c.args.area.now.number c.args.destination.now.dest c.args.routes.now c.new-offers.result.items
+    c.push_outside.new.offers.items c.push_reached.new.offers.items c.push_defaults.new.offers.items c.if-is_backbone.false c.requires.routes
+    c.new-offers.ensures.items c.in_ok-push_outside.ensures c.in_ok-push_reached.ensures c.in_ok-push_defaults.ensures

@@ -17,7 +17,7 @@ returns c = λ free. record {
     homes = c.if-not-have_one_home.ensures refl;
     parts = c.if-not-have_twin_offers.ensures refl;
     announced = c.if-not-have_twin_announcements.ensures refl;
-    no_range = λ any. false≢true (c.if-is_range.ensures.1 any);
-    other_no_range = λ any. false≢true (sym (not_true c.is_range-2.result free) ∙ c.is_range-2.ensures.1 any);
+    no_range = λ any. false≢true (c.if-is_ranged.ensures.1 any);
+    other_no_range = λ any. false≢true (sym (not_true c.is_ranged-2.result free) ∙ c.is_ranged-2.ensures.1 any);
   };
 }

@@ -4,7 +4,6 @@ use Rattle.net_addr.specs.Addresses.{Block}
 use Rattle.route_tables.specs.Prefixes.{prefix_at}
 use Rattle.route_tables.proofs.DestinationLists.{element_at, prefix_is}
 use Rattle.ospf_routes.specs.steps.Areas.{AreAreas, IsListenerAt}
-use Rattle.ospf_routes.specs.steps.Asked.{IsQuestion}
 use Rattle.ospf_routes.specs.steps.Destinations.{IsDestinationIn, ospf_prefixes}
 use Rattle.ospf_routes.specs.steps.Networks.{OspfNetwork}
 use Rattle.ospf_routes.specs.steps.Summarized.{AreSummaries}

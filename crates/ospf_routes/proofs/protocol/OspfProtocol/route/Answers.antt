@@ -1,11 +1,8 @@
-use Rattle.std.proofs.Common.{List, length, IfOk, MatchOption, ap, subst}
-use Rattle.net_addr.specs.Addresses.{Block}
-use Rattle.net_model.specs.Network.{Network}
+use Rattle.std.proofs.Common.{length, IfOk, MatchOption}
 use Rattle.route_core.specs.declared.entry.Entry.{Entry}
 use Rattle.igp_theory.specs.Ospf.{OspfEntry}
 use Rattle.route_tables.specs.Routings.{IsRouteFor}
 use Rattle.ospf_routes.specs.steps.AreaReach.{area_reach}
-use Rattle.ospf_routes.specs.declared.areas.AreaWalks.{AreaWalks}
 use Rattle.ospf_routes.proofs.EntryFacts.{asked_as}
 use Rattle.ospf_routes.proofs.protocol.OspfProtocol.route.Goals as goal
 

@@ -1,0 +1,281 @@
+-- What decides the routes of the routers that are in one area alone.
+use Rattle.std.proofs.Common.{◌≡◌, ◌≢◌, ℕ, zero, suc, ◌+◌, ◌^◌, ◌<◌, ◌≤◌, ◌⊎◌, ⊎_elim, List, [], ◌∷◌, ◌++◌, length, length-append, get_or, Option, Some, None}
+use Rattle.std.proofs.Common.{refl, sym, ap, subst, ◌∙◌, arith}
+use Rattle.std.specs.List.{All, Any, Contains}
+use Rattle.std.proofs.lemmas.List.{get_or_default, length-map}
+use Rattle.std.proofs.lemmas.Option.{none-some, same_Some, slice_get-get_or, slice_get_within}
+use Rattle.std.proofs.lemmas.List.Elements.{Contains-get_or, Contains-push, Contains-push_cases}
+use Rattle.net_addr.specs.Addresses.{Block}
+use Rattle.net_model.specs.Network.{Network, Connected, InArea, IsBorderRouter}
+use Rattle.walk_core.specs.Reach.{Reach, HasHop, distance_of}
+use Rattle.walk_core.specs.BestOffers.{AreInRange, FitsTotal, total_with}
+use Rattle.walk_core.specs.declared.offers.Offer.{Offer}
+use Rattle.route_core.specs.declared.entry.Entry.{Entry}
+use Rattle.route_core.specs.declared.entry.Entry.TheVariants.{Via}
+use Rattle.igp_theory.specs.Ospf.{IntraAreaCost, IsActiveRange, IsIntraArea, ListensTo, one_area, OspfEntry, intra_area}
+use Rattle.igp_theory.proofs.TableLaws.{listens_to_one_area}
+use Rattle.route_tables.specs.BestRoutes.{AreBestHops}
+use Rattle.route_tables.specs.Lanes.{DecidesRoute}
+use Rattle.route_tables.specs.declared.lane.Decision.{Decision}
+use Rattle.route_tables.specs.declared.lane.Decision.TheVariants.{Nothing, One, Two, Unknown}
+use Rattle.route_tables.specs.declared.route.Route.TheVariants.{Towards}
+use Rattle.route_tables.proofs.BestRoutes.{best_route_makes, route_by_hops}
+use Rattle.route_tables.proofs.ListFacts.{any_cases}
+use Rattle.ospf_routes.specs.steps.AreaReach.{area_reach}
+use Rattle.ospf_routes.specs.steps.Areas.{AreAreas, AreListeners, IsAreaAt, IsListenedPlace, IsListenerAt, IsReach}
+use Rattle.ospf_routes.specs.steps.Destinations.{HasAreaPart, IsDestination, IsDestinationIn, ospf_prefixes}
+use Rattle.ospf_routes.specs.steps.Offered.{AreOffers}
+use Rattle.ospf_routes.specs.steps.Summarized.{AreSummaries, IsHeard}
+use Rattle.ospf_routes.specs.steps.Lanes.{AreLaneDecisions, AreLanes, DecidesLane, IsInner, IsOfFew, LaneOf, LeadsLane}
+use Rattle.ospf_routes.specs.declared.announcements.Summaries.{Summaries}
+use Rattle.ospf_routes.proofs.MemberFacts.{each_next}
+use Rattle.route_tables.specs.Prefixes.{prefix_at}
+use Rattle.ospf_routes.specs.declared.areas.AreaWalks.{AreaWalks}
+use Rattle.ospf_routes.specs.declared.domain.Domain.{Domain}
+use Rattle.ospf_routes.specs.declared.intra_area.AreaOffers.{AreaOffers}
+use Rattle.ospf_routes.specs.declared.intra_area.Destination.{Destination}
+use Rattle.ospf_routes.proofs.AreaFacts.{number_at, reach_is, reach_within}
+use Rattle.ospf_routes.proofs.IntraFacts.{no_intra_given, part_in_range, part_is}
+use Rattle.ospf_routes.proofs.EntryFacts.{heard_in_range, listened_entry, no_route_no_entry}
+use Rattle.ospf_routes.proofs.RouteFacts.{area_route_is, listened_route_is, summary_part_is}
+use Rattle.ospf_routes.proofs.ZoneRoutes.{route_of_area}
+
+-- The router
+
+-- its walks in the area at a place
+pub reach_at : (net : Network) (areas : List AreaWalks) (n u zone : ℕ) → AreAreas net areas → IsAreaAt areas n zone → u < length net →
+    IsReach net n u (area_reach areas u zone)
+reach_at net areas n u zone are at below =
+    let none : AreaWalks = record { number = 0; walks = []; members = []; borders = [] } in
+    reach_is net areas n u zone none (area_reach areas u zone) are at
+    (slice_get-get_or (get_or areas zone none).walks u (record { distances = []; hops = [] }) (reach_within net areas u zone none are at.within below))
+
+-- the area that it is in
+pub inner_place : (net : Network) (areas : List AreaWalks) (listens : List (Option ℕ)) (zone u : ℕ) → AreListeners net areas (length net) listens →
+    u < length net → IsInner net listens zone u → IsListenedPlace net areas u zone
+inner_place net areas listens zone u are below inner = subst (IsListenerAt net areas u) inner.at (are.each u below)
+
+-- which is the only one
+pub only_inside : (net : Network) (u n m : ℕ) → (IsBorderRouter net u → ⊥) → ListensTo net u n → InArea net u m → m ≡ n
+only_inside net u n m alone listens inside = listens_to_one_area (one_area alone inside) listens
+
+-- A single offer leads to the same vertex whatever it asks
+
+in_one : {X : Type 0} (x y : X) → Contains (x ∷ []) y → x ≡ y
+in_one x y has = ⊎_elim (λ none. absurd (omega (arith, none.1))) (λ same. same) (Contains-push_cases [] x y has)
+
+all_one : {X : Type 0} (P : X → Type 0) (x : X) → P x → All P (x ∷ [])
+all_one P x is zero d below = is
+all_one P x is (suc k) d below = absurd (omega (arith, below))
+
+abbrev free : ℕ → Offer
+free at = record { at = at; asks = 0 }
+
+dearer_total : (distance : Option ℕ) (asks cost : ℕ) → total_with distance 0 ≡ Some cost → total_with distance asks ≡ Some (cost + asks)
+dearer_total None asks cost is = absurd (none-some cost is)
+dearer_total (Some d) asks cost is = let same : d + 0 ≡ cost = same_Some (d + 0) cost is in ap Some (omega (arith, same))
+
+freer_total : (distance : Option ℕ) (asks cost total : ℕ) → total_with distance 0 ≡ Some cost → total_with distance asks ≡ Some total → total ≡ cost + asks
+freer_total None asks cost total is other = absurd (none-some cost is)
+freer_total (Some d) asks cost total is other =
+    let one : d + 0 ≡ cost = same_Some (d + 0) cost is in
+    let two : d + asks ≡ total = same_Some (d + asks) total other in
+    omega (arith, one, two)
+
+free_hops : (reach : Reach) (o : Offer) (n : ℕ) (hops : List ℕ) → AreBestHops reach (free o.at ∷ []) n hops → AreBestHops reach (o ∷ []) n hops
+free_hops reach o n hops best =
+    record {
+      cost = best.cost + o.asks;
+      best = record {
+        attained = record { offer = o; among = Contains-push [] o; total = dearer_total (distance_of reach o.at) o.asks best.cost here };
+        least = λ other has.
+            let same : other ≡ best.cost + o.asks = freer_total (distance_of reach o.at) o.asks best.cost other here
+            (subst (λ (x : Offer). total_with (distance_of reach x.at) x.asks ≡ Some other) (sym (in_one o has.offer has.among)) has.total) in
+            omega (arith, same);
+      };
+      towards = record {
+        ascending = best.towards.ascending;
+        exact = λ h. (
+          λ inside. let is = (best.towards.exact h).0 inside in (
+            is.0,
+            record {
+              offer = o;
+              among = Contains-push [] o;
+              total = dearer_total (distance_of reach o.at) o.asks best.cost here;
+              hop = subst (λ (x : Offer). HasHop reach x.at h) (sym (in_one (free o.at) is.1.offer is.1.among)) is.1.hop;
+            },
+          ),
+          λ is. (best.towards.exact h).1 (
+            is.0,
+            record {
+              offer = free o.at;
+              among = Contains-push [] (free o.at);
+              total = here;
+              hop = subst (λ (x : Offer). HasHop reach x.at h) (sym (in_one o is.1.offer is.1.among)) is.1.hop;
+            },
+          ),
+        );
+      };
+    }
+  where
+    here : total_with (distance_of reach o.at) 0 ≡ Some best.cost
+    here = subst (λ (x : Offer). total_with (distance_of reach x.at) x.asks ≡ Some best.cost)
+        (sym (in_one (free o.at) best.best.attained.offer best.best.attained.among)) best.best.attained.total
+
+-- Decisions
+
+pub one_alone : (offers : List Offer) (o : Offer) → 1 ≤ length offers → length offers < 2 → offers ≡ get_or offers 0 o ∷ []
+one_alone [] o some few = absurd (omega (arith, some))
+one_alone (x ∷ []) o some few = refl
+one_alone (x ∷ y ∷ rest) o some few = absurd (omega (arith, few))
+
+-- offers of which the best make the entries lead there
+leads_by : (l : LaneOf) (u : ℕ) (p : Block) (offers : List Offer) → l.zone < length l.areas → AreInRange (area_reach l.areas u l.zone) offers →
+    ((hops : List ℕ) → AreBestHops (area_reach l.areas u l.zone) offers (length l.net) hops → OspfEntry l.net u p (Via hops)) → LeadsLane l u p offers
+leads_by l u p offers within range by =
+    let reach : ℕ → Reach = area_reach l.areas u in
+    let zones : ℕ = length l.areas in
+    let n : ℕ = length l.net in
+    record {
+      range = range;
+      leads = λ t is. route_by_hops reach zones n (AreBestHops (reach l.zone) offers n) (OspfEntry l.net u p) (Towards t) by
+          (best_route_makes reach zones n l.zone (reach l.zone) offers (Towards t) within refl is);
+    }
+
+free_leads : (l : LaneOf) (u : ℕ) (p : Block) (o : Offer) → LeadsLane l u p (o ∷ []) → LeadsLane l u p (free o.at ∷ [])
+free_leads l u p o lead =
+    let reach : Reach = area_reach l.areas u l.zone in
+    record {
+      range = all_one (FitsTotal reach) (free o.at) (λ d is. let fits : d + o.asks < 2 ^ 64 = lead.range 0 o (omega arith) d is in omega (arith, fits));
+      leads = λ t is. lead.leads t
+          (record { zone_is = is.zone_is; reached = is.reached; best = λ hops are. free_hops reach o (length l.net) hops (is.best hops are) });
+    }
+
+-- none of the offers is the router's, where its number isn't that of their routers
+not_first : (u : ℕ) (o : Offer) → u ≢ o.at → Any (λ (x : Offer). x.at ≡ u) (o ∷ []) → ⊥
+not_first u o other any = ⊎_elim (λ none. omega (arith, none.2)) (λ same. other (sym same)) (any_cases (λ (x : Offer). x.at ≡ u) [] o any)
+
+not_second : (u : ℕ) (one two : Offer) → u ≢ one.at → u ≢ two.at → Any (λ (x : Offer). x.at ≡ u) (one ∷ two ∷ []) → ⊥
+not_second u one two first second any =
+    ⊎_elim (λ earlier. not_first u one first earlier) (λ same. second (sym same)) (any_cases (λ (x : Offer). x.at ≡ u) (one ∷ []) two any)
+
+-- one or two offers decide, unless the prefix is connected at a router that makes none
+few_decide : (l : LaneOf) (u : ℕ) (p : Block) (offers : List Offer) (d : Decision) → IsOfFew offers d →
+    (Connected l.net u p → (d ≡ Unknown) ⊎ Any (λ (o : Offer). o.at ≡ u) offers) → ((Connected l.net u p → ⊥) → LeadsLane l u p offers) →
+    DecidesRoute u (OspfEntry l.net u p) (LeadsLane l u p) d
+few_decide l u p offers Nothing few told lead = absurd few
+few_decide l u p offers (One at) (asks, same) told lead = λ other.
+    let o : Offer = record { at = at; asks = asks } in
+    free_leads l u p o (subst (LeadsLane l u p) same (lead (λ is.
+    ⊎_elim (λ (wrong : One at ≡ Unknown). cc) (λ any. not_first u o other (subst (Any (λ (x : Offer). x.at ≡ u)) same any)) (told is))))
+few_decide l u p offers (Two one two) same told lead = λ first second.
+    subst (LeadsLane l u p) same (lead (λ is.
+    ⊎_elim (λ (wrong : Two one two ≡ Unknown). cc) (λ any. not_second u one two first second (subst (Any (λ (x : Offer). x.at ≡ u)) same any)) (told is)))
+few_decide l u p offers Unknown few told lead = tt
+
+-- what is offered in the area decides
+pub inside_decides : (l : LaneOf) (u : ℕ) (d : Destination) (part : AreaOffers) (given : List Offer) (decision : Decision) → AreAreas l.net l.areas →
+    IsDestinationIn l.net l.areas d → u < length l.net → ListensTo l.net u part.area → (IsBorderRouter l.net u → ⊥) →
+    Contains d.parts.items part → IsAreaAt l.areas part.area l.zone → given ≡ part.offers.items → IsOfFew given decision →
+    (Connected l.net u d.dest → (decision ≡ Unknown) ⊎ Any (λ (o : Offer). o.at ≡ u) given) →
+    DecidesRoute u (OspfEntry l.net u d.dest) (LeadsLane l u d.dest) decision
+inside_decides l u d part given decision are is below listens alone among at same few told =
+    let net : Network = l.net in
+    let reach : Reach = area_reach l.areas u l.zone in
+    let walks : IsReach net part.area u reach = reach_at net l.areas part.area u l.zone are at below in
+    few_decide l u d.dest given decision few told (λ away.
+    leads_by l u d.dest given at.within
+    (subst (AreInRange reach) (sym same) (part_in_range net l.areas d part u reach are.network is among walks))
+    (λ hops best.
+    let route = route_of_area net part.area d.dest u hops (λ h m inside hop. only_inside net u part.area m alone listens inside)
+    (area_route_is net part.area d.dest u reach part.offers.items given walks (part_is net d part is.is among) same (length net) refl (Some hops) best) in
+    intra_area away route.is route.hops_are))
+
+-- the router has no intra-area route, and listens to these offers
+pub record IsOutside (l : LaneOf) (u : ℕ) (p : Block) (offers : List Offer) : Type 0 where
+  pub below : u < length l.net
+  pub place : IsListenedPlace l.net l.areas u l.zone
+  pub no_range : IsActiveRange l.net p u → ⊥
+  pub no_intra : IsIntraArea l.net p u → ⊥
+  pub heard : AreOffers (IsHeard l.net p place.area) offers
+
+-- which is so where nothing is offered in its area
+pub outside_at : (l : LaneOf) (d : Destination) (s : Summaries) (none : AreaWalks) (given : List AreaOffers) (part : AreaOffers) →
+    AreListeners l.net l.areas (length l.net) l.listens → IsDestination l.net d → AreSummaries l.net l.areas s → s.dest ≡ d.dest →
+    given ≡ d.parts.items → (HasAreaPart given (get_or l.areas l.zone none).number → ⊥) → part ≡ get_or s.parts.items l.zone part →
+    (u : ℕ) → u < length l.net → IsInner l.net l.listens l.zone u → IsOutside l u d.dest part.offers.items
+outside_at l d s none given part listeners is announced dest same no_part part_is u below inner =
+    let net : Network = l.net in
+    let place = inner_place net l.areas l.listens l.zone u listeners below inner in
+    let number : ℕ = (get_or l.areas l.zone none).number in
+    let here : number ≡ place.area = number_at l.areas place.area l.zone none place.at in
+    record {
+      below = below;
+      place = place;
+      no_range = λ active. inner.alone active.active.component.range.border;
+      no_intra = λ intra. no_intra_given net d given number u is same no_part intra.cost
+          (subst (λ (m : ℕ). IntraAreaCost net m d.dest u intra.cost)
+          (only_inside net u place.area intra.area inner.alone place.listens intra.costs.inside ∙ sym here) intra.costs);
+      heard = subst (λ (q : Block). AreOffers (IsHeard net q place.area) part.offers.items) dest
+          (summary_part_is net l.areas s part place.area l.zone announced part_is place.at);
+    }
+
+-- then what is announced into the area decides
+pub outside_decides : (l : LaneOf) (u : ℕ) (p : Block) (offers given : List Offer) (decision : Decision) → AreAreas l.net l.areas →
+    IsOutside l u p offers → given ≡ offers → IsOfFew given decision →
+    (Connected l.net u p → (decision ≡ Unknown) ⊎ Any (λ (o : Offer). o.at ≡ u) given) →
+    DecidesRoute u (OspfEntry l.net u p) (LeadsLane l u p) decision
+outside_decides l u p offers given decision are out same few told =
+    let reach : Reach = area_reach l.areas u l.zone in
+    let n : ℕ = out.place.area in
+    let walks : IsReach l.net n u reach = reach_at l.net l.areas n u l.zone are out.place.at out.below in
+    few_decide l u p given decision few told (λ away.
+    leads_by l u p given out.place.at.within (heard_in_range l.net l.areas n p reach offers given are walks out.heard same)
+    (listened_entry l.net n p u reach offers given out.no_intra out.no_range out.place.listens walks out.heard same away))
+
+-- also that nothing is
+pub nothing_decides : (l : LaneOf) (u : ℕ) (p : Block) (offers given : List Offer) → AreAreas l.net l.areas → IsOutside l u p offers → given ≡ offers →
+    length given ≡ 0 → (e : Entry) → OspfEntry l.net u p e → ⊥
+nothing_decides l u p offers given are out same empty =
+    let reach : Reach = area_reach l.areas u l.zone in
+    no_route_no_entry l.net u p out.no_intra out.no_range
+    (listened_route_is l.net out.place.area p u reach offers given out.no_intra out.no_range out.place.listens
+    (reach_at l.net l.areas out.place.area u l.zone are out.place.at out.below) out.heard same (length l.net) refl None
+    (λ cost has. omega (arith, has.among.1, empty)))
+
+-- Place by place
+
+pub homes_within : (net : Network) (d : Destination) → IsDestination net d → All (λ (u : ℕ). u < length net) d.homes.items
+homes_within net d is k e below =
+    let connected = (is.homes (get_or d.homes.items k e)).0 (Contains-get_or d.homes.items k e below) in
+    slice_get_within net (get_or d.homes.items k e) connected.up.config connected.up.router
+
+pub decisions_more : (l : LaneOf) (dests : List Block) (n : ℕ) (all : List Decision) (next : Decision) → AreLaneDecisions l dests n all →
+    DecidesLane l (prefix_at dests n) next → AreLaneDecisions l dests (n + 1) (all ++ next ∷ [])
+decisions_more l dests n all next are is = record {
+  count = let long = length-append all (next ∷ []) in omega (arith, are.count);
+  each = each_next (λ (k : ℕ). DecidesLane l (prefix_at dests k)) all n next Unknown are.count are.each is;
+}
+
+-- what is read for a router that is in one area alone
+pub record IsLaneFor (l : LaneOf) (u : ℕ) (dests : List Block) (decisions : List Decision) : Type 0 where
+  pub count : length decisions ≡ length dests
+  pub decides : (place : ℕ) → place < length dests →
+      DecidesRoute u (OspfEntry l.net u (prefix_at dests place)) (LeadsLane l u (prefix_at dests place)) (get_or decisions place Unknown)
+
+pub lane_for : (net : Network) (domain : Domain) (listens : List (Option ℕ)) (lanes : List (List Decision)) (u zone : ℕ) (heard : Option ℕ)
+    (here given : List Decision) → AreListeners net domain.areas.items (length net) listens → AreLanes net domain listens lanes → u < length net →
+    (IsBorderRouter net u → ⊥) → heard ≡ get_or listens u heard → heard ≡ Some zone → here ≡ get_or lanes zone here → given ≡ here →
+    IsLaneFor (record { net = net; areas = domain.areas.items; listens = listens; zone = zone }) u (ospf_prefixes domain.destinations.items) given
+lane_for net domain listens lanes u zone heard here given listeners are below alone heard_is some here_is same =
+    let inner : IsInner net listens zone u =
+    record { at = get_or_default listens u None heard (omega (arith, below, listeners.count)) ∙ sym heard_is ∙ some; alone = alone } in
+    let within = (inner_place net domain.areas.items listens zone u listeners below inner).at.within in
+    let read : get_or lanes zone [] ≡ given = get_or_default lanes zone [] here (omega (arith, within, are.count)) ∙ sym here_is ∙ sym same in
+    let l : LaneOf = record { net = net; areas = domain.areas.items; listens = listens; zone = zone } in
+    let dests : List Block = ospf_prefixes domain.destinations.items in
+    let long : length dests ≡ length domain.destinations.items = length-map domain.destinations.items (λ (d : Destination). d.dest) in
+    let all : AreLaneDecisions l dests (length dests) given =
+    subst (AreLaneDecisions l dests (length dests)) read
+    (subst (λ (n : ℕ). AreLaneDecisions l dests n (get_or lanes zone [])) (sym long) (are.each zone within)) in
+    record { count = all.count; decides = λ place inside. all.each place inside u below inner }

@@ -1,0 +1,26 @@
+use Rattle.std.proofs.Common.{◌≡◌, ℕ, Some, refl, sym, ap, subst}
+use Rattle.std.proofs.lemmas.Bool.{false≢true}
+use Rattle.std.proofs.lemmas.Option.{same_Some}
+use Rattle.igp_theory.specs.Ospf.{BorderCost}
+use Rattle.walk_core.specs.declared.offers.Offer.{Offer}
+use Rattle.ospf_routes.specs.steps.Summarized.{IsPassedOn}
+use Rattle.ospf_routes.proofs.backbone_routes.reached_offer.Goals as goal
+
+pub returns : goal.returns
+returns c o =
+    let net = c.args.net.now in
+    let p = c.args.destination.now.dest in
+    let one : Offer = record { at = c.args.b; asks = c.in_ok-asks.asks } in (
+      λ same. subst (λ (x : Offer). (x.at ≡ c.args.b) × IsPassedOn net c.args.area p x) (same_Some one o same) (
+        refl,
+        record {
+          inside = c.requires.border.inside;
+          allowed = λ stubby. false≢true (c.if-is_totally_stubby.ensures.1 stubby);
+          costs = (c.in_ok-asks.ensures c.in_ok-asks.asks).0 refl;
+        },
+      ),
+      λ both.
+          let costs = subst (λ (b : ℕ). BorderCost net p b o.asks) both.0 both.1.costs in
+          let asks = same_Some c.in_ok-asks.asks o.asks ((c.in_ok-asks.ensures o.asks).1 costs) in
+          ap Some (λ i. record { at = (sym both.0) i; asks = asks i }),
+    )
