@@ -1,6 +1,6 @@
 -- Why intervals between cuts tell classes apart, and why numbers by the longest prefix number the classes.
 use Rattle.std.proofs.Common.{◌≡◌, ◌≢◌, ℕ, zero, suc, ◌+◌, ◌^◌, ◌<◌, ◌≤◌, List, length, get_or, inl, inr, Some, All, AllPairs, Contains, slice_get}
-use Rattle.std.proofs.Common.{⊎_elim, arith, sym, subst, ◌∙◌}
+use Rattle.std.proofs.Common.{⊎_elim, ap, arith, sym, subst, ◌∙◌}
 use Rattle.std.proofs.lemmas.Bool.{cases_lt}
 use Rattle.std.proofs.lemmas.List.{get_or_default}
 use Rattle.std.proofs.lemmas.List.Elements.{All-contains}
@@ -12,7 +12,8 @@ use Rattle.net_addr.specs.LongestMatches.{IsLongestMatch}
 use Rattle.net_addr.proofs.LongestMatchLaws.{IsLongestMatch-alike, one_longest_match}
 use Rattle.net_addr.proofs.Blocks.{Covers-common, ContainsAddress-covers}
 use Rattle.net_addr.proofs.BoundaryFacts.{ContainsAddress-alike}
-use Rattle.prefix_atoms.specs.Classes.{AreSamples, Classes}
+use Rattle.prefix_atoms.specs.Classes.{AreSamples, Classes, IsClassing}
+use Rattle.prefix_atoms.specs.Nested.{AreNested, AreTops}
 use Rattle.prefix_atoms.specs.Lists.{AreCuts}
 use Rattle.prefix_atoms.specs.Longest.{AreKeys, IsKey}
 use Rattle.prefix_atoms.specs.Numbers.{IsNumbering, NumbersClasses, ArePicked, InInterval, TellClasses}
@@ -99,7 +100,7 @@ key_alike prefixes a b key blocks one two p member = elim one [
         ContainsAddress-covers p q b block (Covers-common p q a block (longest.longest p member inside) inside longest.contains) at_b
 
 -- no prefix of a list without repeats stands at two places
-one_place : (prefixes : List Block) (i j : ℕ) (p : Block) → AllPairs (λ p q. p ≢ q) prefixes → slice_get prefixes i ≡ Some p →
+pub one_place : (prefixes : List Block) (i j : ℕ) (p : Block) → AllPairs (λ p q. p ≢ q) prefixes → slice_get prefixes i ≡ Some p →
     slice_get prefixes j ≡ Some p → i ≡ j
 one_place prefixes i j p apart at_i at_j =
     let is_i : get_or prefixes i p ≡ p = get_or_from_slice_get prefixes i p p at_i in
@@ -270,6 +271,16 @@ intervals_tell {prefixes} {cuts} {numbers} {firsts} {samples} c same_prefixes sa
                 (subst (λ (xs : List ℕ). SameBlocksContain prefixes (get_or xs (get_or numbers i 0) 0) a) (sym same_samples) told.1);
           };
     }
+
+-- and make classes, with the parents of their prefixes, their longest prefixes and their targets
+pub classing_from : (c : Classes) (p1 p2 : List Block) (s1 s2 : List ℕ) → p1 ≡ c.prefixes → p2 ≡ c.prefixes → s1 ≡ c.samples → s2 ≡ c.samples
+    → AreSamples c.prefixes c.samples → AreNested p1 c.parents → AreTops p2 s1 c.tops → length c.targets ≡ length s2 → IsClassing c
+classing_from c p1 p2 s1 s2 same1 same2 same3 same4 samples nested tops targets = record {
+  samples = samples;
+  nested = subst (λ (ps : List Block). AreNested ps c.parents) same1 nested;
+  tops = subst (λ (ps : List Block). AreTops ps c.samples c.tops) same2 (subst (λ (xs : List ℕ). AreTops p2 xs c.tops) same3 tops);
+  targets = targets ∙ ap length same4;
+}
 
 -- the steps, each over slices of its own
 pub made_from : (prefixes p1 p2 : List Block) (cuts c1 c2 numbers firsts f1 samples : List ℕ) → p1 ≡ prefixes → p2 ≡ prefixes → c1 ≡ cuts →

@@ -1,6 +1,5 @@
 -- What a list of prefixes has that gained others.
-use Rattle.std.proofs.Common.{◌≡◌, ℕ, ◌+◌, inl, inr, List, [], ◌∷◌, ◌++◌, take, Some, slice_get, Contains, ⊎_elim, sym, ap, subst, ◌∙◌, add-one}
-use Rattle.std.proofs.lemmas.List.{map-append}
+use Rattle.std.proofs.Common.{◌≡◌, ℕ, ◌+◌, inl, inr, List, [], ◌∷◌, ◌++◌, take, Some, slice_get, Contains, ⊎_elim, sym, subst, add-one}
 use Rattle.std.proofs.lemmas.List.Elements.{Contains-append_left, Contains-append_right, Contains-append_cases}
 use Rattle.net_addr.specs.Addresses.{Block}
 use Rattle.net_model.proofs.Members.{Contains-none, Contains-cases}
@@ -44,13 +43,11 @@ gains_both xs ys zs one two first second p = (
       h),
 )
 
--- the next entry's prefix
-pub table_gains : (entries : List (Block × Entry)) (i : ℕ) (q : Block) (e : Entry) (xs ys zs : List Block) → slice_get entries i ≡ Some (q, e)
-    → GainsPrefixes xs ys (table_prefixes (take i entries)) → GainsPrefixes ys zs (q ∷ []) → GainsPrefixes xs zs (table_prefixes (take (i + 1) entries))
-table_gains entries i q e xs ys zs at before next =
-    subst (GainsPrefixes xs zs)
-    (sym (ap table_prefixes (take_place entries i (q, e) at) ∙ map-append (λ (x : Block × Entry). x.0) (take i entries) ((q, e) ∷ [])))
-    (gains_both xs ys zs (table_prefixes (take i entries)) (q ∷ []) before next)
+-- the next prefix of a list
+pub next_gains : (own : List Block) (i : ℕ) (q : Block) (xs ys zs : List Block) → slice_get own i ≡ Some q → GainsPrefixes xs ys (take i own)
+    → GainsPrefixes ys zs (q ∷ []) → GainsPrefixes xs zs (take (i + 1) own)
+next_gains own i q xs ys zs at before next =
+    subst (GainsPrefixes xs zs) (sym (take_place own i q at)) (gains_both xs ys zs (take i own) (q ∷ []) before next)
 
 -- the prefixes of the next router's table
 pub source_gains : (table : ℕ → List (Block × Entry)) (n : ℕ) (entries : List (Block × Entry)) (xs ys zs : List Block) → entries ≡ table n

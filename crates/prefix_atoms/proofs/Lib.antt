@@ -1,6 +1,6 @@
 mod Ascending
 mod Repeats
-mod Collected
+pub mod Collected
 mod Gained
 pub mod ClassLaws
 pub mod ClassFacts
@@ -9,3 +9,6 @@ pub mod NumberSteps
 mod CutSteps
 mod Occurrences
 mod PickSteps
+pub mod NestedLaws
+pub mod RowFacts
+pub mod Pushed

@@ -5,18 +5,18 @@ use Rattle.std.proofs.Common.{get_or-set_same, eqb-true, eq-eqb}
 use Rattle.std.proofs.lemmas.Bool.{cases_lt}
 use Rattle.std.proofs.lemmas.List.{length-take-le, length-map, length-set, get_or-map}
 use Rattle.std.proofs.lemmas.List.Elements.{All-push, Contains-push_cases}
-use Rattle.std.proofs.lemmas.Option.{slice_get_within}
+use Rattle.std.proofs.lemmas.Option.{slice_get_within, get_or_from_slice_get}
 use Rattle.std.specs.List.Sorted.{IsStrictlyIncreasing}
 use Rattle.net_addr.specs.Addresses.{Block, ContainsAddress, IsBlock}
 use Rattle.net_addr.specs.Boundaries.{last_address}
 use Rattle.net_addr.proofs.Blocks.{block_size, ContainsAddress-bounds, ContainsAddress-between}
 use Rattle.net_addr.proofs.BoundaryFacts.{last_address-after}
-use Rattle.net_addr.specs.LongestMatches.{IsBestMatch}
+use Rattle.net_addr.specs.LongestMatches.{IsBestMatch, LongestAt}
 use Rattle.net_addr.proofs.LongestMatchLaws.{slice_get-push_old, slice_get-push_new}
-use Rattle.route_core.specs.declared.row.Row.{Row}
 use Rattle.route_core.proofs.TableLaws.{Contains-from_place}
 use Rattle.prefix_atoms.specs.Lists.{AreTargets, IsPlaceOf}
-use Rattle.prefix_atoms.specs.Longest.{AreLongestKept, AreKeys, IsKept, IsKey, TakesRow, key_of, nothing}
+use Rattle.prefix_atoms.specs.Longest.{AreLongestKept, AreKeys, IsFoundAt, IsKept, IsKey, TakesPrefix, key_of, nothing, top_of}
+use Rattle.prefix_atoms.specs.Nested.{AreTops, IsTop}
 use Rattle.prefix_atoms.specs.declared.longest.Longest.{Longest}
 use Rattle.prefix_atoms.proofs.Ascending.{at_most_later}
 use Rattle.prefix_atoms.proofs.Collected.{take_place}
@@ -154,6 +154,19 @@ painted_more p found after i new block painted within low number size longer ear
       rest = λ j l m. subst (IsKept p.prefixes p.numbers (get_or p.addresses j 0)) (other j (omega arith)) (painted.rest j (omega arith) m);
     }
 
+-- a prefix that is kept under its place is the longest match
+found_longest : (prefixes : List Block) (a : ℕ) (found : Longest) → IsKept prefixes (λ place. place) a found
+    → IsFoundAt prefixes (λ place. place) a found → LongestAt prefixes a found.number
+found_longest prefixes a found is here = record {
+  prefix = here.prefix;
+  stands = subst (λ (n : ℕ). slice_get prefixes n ≡ Some here.prefix) here.number_is here.stands;
+  match = record {
+    is_offered = Contains-from_place prefixes here.place here.prefix here.stands;
+    contains = here.contains;
+    longest = λ q has inside. let short : q.len < found.size = is.covers q has inside in omega (arith, here.size_is);
+  };
+}
+
 -- what is kept under its place gives the key
 key_kept : (prefixes : List Block) (a : ℕ) (found : Longest) → IsKept prefixes (λ place. place) a found
     → IsKey prefixes a (key_of (length prefixes) found)
@@ -165,15 +178,7 @@ key_kept prefixes a found is = by_size (found.size == 0) refl
         inl (refl, λ q has inside. let short : q.len < found.size = is.covers q has inside in absurd (omega arith))
     by_size false at = elim is.there [
       | inl none ↦ absurd (let most : (found.size == 0) ≡ true = eq-eqb found.size 0 none in let no : ⊥ = cc in no)
-      | inr here ↦ inr (record {
-        prefix = here.prefix;
-        stands = subst (λ (n : ℕ). slice_get prefixes n ≡ Some here.prefix) here.number_is here.stands;
-        match = record {
-          is_offered = Contains-from_place prefixes here.place here.prefix here.stands;
-          contains = here.contains;
-          longest = λ q has inside. let short : q.len < found.size = is.covers q has inside in omega (arith, here.size_is);
-        };
-      })
+      | inr here ↦ inr (found_longest prefixes a found is here)
     ]
 
 pub keys_kept : (prefixes : List Block) (addresses keys : List ℕ) (found : List Longest) → AreLongestKept prefixes (λ place. place) addresses found
@@ -184,6 +189,19 @@ keys_kept prefixes addresses keys found are same = record {
       (sym (ap (λ (ks : List ℕ). get_or ks i 0) same ∙ get_or-map (key_of (length prefixes)) found i nothing 0 (omega (arith, are.count))))
       (key_kept prefixes (get_or addresses i 0) (get_or found i nothing) (are.each i l));
 }
+
+-- what is kept under its place gives the top
+top_kept : (prefixes : List Block) (a : ℕ) (found : Longest) → IsKept prefixes (λ place. place) a found → IsTop prefixes a (top_of found)
+top_kept prefixes a found is = by_size (found.size == 0) refl
+  where
+    by_size : (none : Bool) → (found.size == 0) ≡ none → IsTop prefixes a (if none then None else Some found.number)
+    by_size true at =
+        let zero : found.size ≡ 0 = eqb-true found.size 0 at in
+        λ q has inside. let short : q.len < found.size = is.covers q has inside in absurd (omega arith)
+    by_size false at = elim is.there [
+      | inl none ↦ absurd (let most : (found.size == 0) ≡ true = eq-eqb found.size 0 none in let no : ⊥ = cc in no)
+      | inr here ↦ found_longest prefixes a found is here
+    ]
 
 -- the prefix at the place of the key is the longest match
 key_longest : (prefixes : List Block) (a key : ℕ) → IsKey prefixes a key → IsBestMatch (Contains prefixes) a (slice_get prefixes key)
@@ -196,6 +214,19 @@ key_longest prefixes a key is = elim is [
     past [] = refl
     past (x ∷ xs) = past xs
 
+pub tops_kept : (prefixes : List Block) (addresses : List ℕ) (found : List Longest) (tops : List (Option ℕ))
+    → AreLongestKept prefixes (λ place. place) addresses found → tops ≡ map top_of found → AreTops prefixes addresses tops
+tops_kept prefixes addresses found tops are same = record {
+  count = ap length same ∙ length-map found top_of ∙ are.count;
+  each = λ k top at.
+      let within : k < length tops = slice_get_within tops k top at in
+      let long : length tops ≡ length found = ap length same ∙ length-map found top_of in
+      let is : get_or tops k None ≡ top_of (get_or found k nothing) =
+      ap (λ (ts : List (Option ℕ)). get_or ts k None) same ∙ get_or-map top_of found k nothing None (omega arith) in
+      subst (IsTop prefixes (get_or addresses k 0)) (sym is ∙ get_or_from_slice_get tops k top None at)
+      (top_kept prefixes (get_or addresses k 0) (get_or found k nothing) (are.each k (omega (arith, are.count))));
+}
+
 pub targets_found : (prefixes : List Block) (addresses keys : List ℕ) (targets : List (Option Block)) → AreKeys prefixes addresses keys
     → targets ≡ map (slice_get prefixes) keys → AreTargets prefixes addresses targets
 targets_found prefixes addresses keys targets are same = record {
@@ -206,12 +237,12 @@ targets_found prefixes addresses keys targets are same = record {
 }
 
 -- what is kept of the prefixes of a list before a place, once the row at the place is taken
-pub kept_next : (prefixes : List Block) (numbers : ℕ → ℕ) (place : ℕ) (row : Row) (addresses : List ℕ) (old new : List Longest)
-    → slice_get prefixes place ≡ Some row.dest → numbers place ≡ row.number → TakesRow row addresses old new
+pub kept_next : (prefixes : List Block) (numbers : ℕ → ℕ) (place : ℕ) (next : Block) (number : ℕ) (addresses : List ℕ) (old new : List Longest)
+    → slice_get prefixes place ≡ Some next → numbers place ≡ number → TakesPrefix next number addresses old new
     → AreLongestKept (take place prefixes) numbers addresses old → AreLongestKept (take (place + 1) prefixes) numbers addresses new
-kept_next prefixes numbers place row addresses old new at is takes are =
-    let within : place < length prefixes = slice_get_within prefixes place row.dest at in
-    subst (λ (ps : List Block). AreLongestKept ps numbers addresses new) (sym (take_place prefixes place row.dest at))
+kept_next prefixes numbers place next number addresses old new at is takes are =
+    let within : place < length prefixes = slice_get_within prefixes place next at in
+    subst (λ (ps : List Block). AreLongestKept ps numbers addresses new) (sym (take_place prefixes place next at))
     (takes (take place prefixes) numbers (ap numbers (length-take-le place prefixes (omega arith)) ∙ is) are)
 
 -- the next prefix is a block too

@@ -1,21 +1,24 @@
 -- What a list has after a sort and the removal of repeats.
-use Rattle.std.proofs.Common.{◌≡◌, ◌≢◌, ℕ, Bool, true, ◌&&◌, ◌==◌, false, List, get_or, Ordering, Contains, AllPairs, IsPermutation, eqb, eqb-true, refl, sym}
-use Rattle.std.proofs.Common.{subst, ◌↔◌, ◌∙◌, ap, length, Result, Ok, Err, IfOk, IfSome, Some, slice_get}
+use Rattle.std.proofs.Common.{◌≡◌, ℕ, ◌+◌, ◌<◌, ◌≤◌, inl, inr, ⊎_elim, arith, Bool, true, ◌&&◌, ◌==◌, false, List, get_or, Ordering, Contains, IsPermutation, eqb, eqb-true, refl, sym}
+use Rattle.std.proofs.Common.{subst, ◌↔◌, ◌∙◌, ap, length, Result, Ok, Err, IfOk, IfNone, IfSome, Some, slice_get}
 use Rattle.std.specs.List.{HoldsAt}
-use Rattle.std.specs.List.Sorted.{IsSearchInRange}
+use Rattle.std.specs.List.Sorted.{IsBinarySearchResult, IsSearchInRange}
+use Rattle.std.proofs.lemmas.Bool.{cases_lt}
 use Rattle.std.specs.Result.{result_ok}
-use Rattle.std.specs.Ordering.{is_eq}
+use Rattle.std.specs.Ordering.{is_eq, is_lt}
 use Rattle.std.proofs.lemmas.Option.{slice_get-get_or}
 use Rattle.std.specs.Cmp.{IsTotalOrder, IsEquivalence, and_equiv, on_equiv, on_total, then_total, both_tied, tied_itself, nat_cmp_total, nat_eq_equiv}
 use Rattle.std.specs.Cmp.{unsigned_ties}
+use Rattle.std.specs.Cmp.{ranked}
 use Rattle.std.specs.Ordering.{nat_cmp, ordering_then, eq_by_cmp}
-use Rattle.std.specs.declared.cmp.Ordering.TheVariants.{Less, Equal}
+use Rattle.std.specs.declared.cmp.Ordering.TheVariants.{Less, Equal, Greater}
 use Rattle.std.specs.List.{dedup}
 use Rattle.std.specs.List.Sorted.{IsSorted, IsStrictlySortedBy, IsStrictlyIncreasing}
-use Rattle.std.proofs.lemmas.List.Sorted.{Contains-permutation, IsPermutation-sym}
+use Rattle.std.proofs.lemmas.List.Sorted.{Contains-permutation, IsPermutation-sym, searchable_from_sorted}
 use Rattle.std.proofs.lemmas.List.Kept.{Contains-dedup, Contains-dedup_nat, Contains-from_dedup, IsStrictlySortedBy-dedup}
 use Rattle.std.proofs.lemmas.Map.Keys.{Less-from_sorted, IsStrictlyIncreasing-dedup}
 use Rattle.net_addr.specs.Addresses.{Block}
+use Rattle.prefix_atoms.specs.Nested.{StandsBefore, AreAscendingPrefixes}
 
 -- the order of prefixes, and their equality, as they are derived
 abbrev block_cmp : Block → Block → Ordering
@@ -60,18 +63,50 @@ same_prefixes xs ys zs p moved is = (
   λ c. subst (λ l. Contains l p) (sym is) (Contains-dedup block_equiv block_same ys p (Contains-permutation xs ys p moved c)),
 )
 
-apart_from_sorted : (zs : List Block) → IsStrictlySortedBy block_cmp zs → AllPairs (λ (p q : Block). p ≢ q) zs
-apart_from_sorted zs up i j d l h e =
-    let less = Less-from_sorted block_cmp zs i j d up l h in
-    let tied = tied_itself block_total (get_or zs i d) in
-    let P : Block → Type 0 = λ z. block_cmp (get_or zs i d) z ≡ Less in
-    let itself = subst P (sym e) less in
-    cc
+-- what the order says of two prefixes
+less_stands : (x y : Block) → block_cmp x y ≡ Less → StandsBefore x y
+less_stands x y less = by_base (nat_cmp x.base y.base) refl less
+  where
+    by_base : (o : Ordering) → o ≡ nat_cmp x.base y.base → ordering_then o (nat_cmp x.len y.len) ≡ Less → StandsBefore x y
+    by_base Less at rest = inl (ranked x.base y.base Less at)
+    by_base Equal at rest = inr (ranked x.base y.base Equal at, ranked x.len y.len Less (sym rest))
+    by_base Greater at rest = cc
 
--- and no two of them are alike
-pub prefixes_apart : (ys zs : List Block) → IsSorted block_cmp ys → zs ≡ dedup block_eq ys → AllPairs (λ (p q : Block). p ≢ q) zs
-prefixes_apart ys zs up is i j d l h e =
-    apart_from_sorted zs (subst (IsStrictlySortedBy block_cmp) (sym is) (IsStrictlySortedBy-dedup block_total block_ties ys up)) i j d l h e
+-- and they ascend
+pub prefixes_ascend : (ys zs : List Block) → IsSorted block_cmp ys → zs ≡ dedup block_eq ys → AreAscendingPrefixes zs
+prefixes_ascend ys zs up is i j d l h =
+    less_stands (get_or zs i d) (get_or zs j d) (Less-from_sorted block_cmp zs i j d
+    (subst (IsStrictlySortedBy block_cmp) (sym is) (IsStrictlySortedBy-dedup block_total block_ties ys up)) l h)
+
+-- of two prefixes one stands before the other
+one_way : (p q : Block) → StandsBefore p q → StandsBefore q p → ⊥
+one_way p q first second = elim first [
+  | inl l ↦ elim second [ inl m ↦ omega (arith, l, m) | inr m ↦ omega (arith, l, m.0) ]
+  | inr l ↦ elim second [ inl m ↦ omega (arith, l.0, m) | inr m ↦ omega (arith, l.1, m.1) ]
+]
+
+-- so a search in them is answered
+ascending_sorted : (xs : List Block) → AreAscendingPrefixes xs → IsSorted block_cmp xs
+ascending_sorted xs up k d low l = by_order (block_cmp (get_or xs (k + 1) d) (get_or xs k d)) refl
+  where
+    by_order : (o : Ordering) → block_cmp (get_or xs (k + 1) d) (get_or xs k d) ≡ o → is_lt o ≡ false
+    by_order Less at = absurd (one_way (get_or xs k d) (get_or xs (k + 1) d) (up k (k + 1) d (omega arith) l)
+        (less_stands (get_or xs (k + 1) d) (get_or xs k d) at))
+    by_order Equal at = refl
+    by_order Greater at = refl
+
+-- where a search in an ascending list found none, the prefix isn't in the list
+pub prefix_missed : (xs : List Block) (p : Block) (r : Result ℕ ℕ) → IsBinarySearchResult (λ (q : Block). block_cmp q p) xs r → AreAscendingPrefixes xs
+    → IfNone (result_ok r) (¬ Contains xs p)
+prefix_missed xs p (Ok place) position up = tt
+prefix_missed xs p (Err place) position up = λ has.
+    let point = position (searchable_from_sorted block_total (λ (q : Block). q) xs p (ascending_sorted xs up)) in
+    let tied : block_cmp (get_or xs has.0 p) p ≡ Equal =
+    subst (λ (q : Block). block_cmp q p ≡ Equal) (sym has.2) (tied_itself block_total p) in
+    ⊎_elim
+    (λ (l : has.0 < place). let less : block_cmp (get_or xs has.0 p) p ≡ Less = point.0 has.0 p (omega arith) l in let none : ⊥ = cc in none)
+    (λ (l : place ≤ has.0). let more : block_cmp (get_or xs has.0 p) p ≡ Greater = point.1 has.0 p l has.1 in let none : ⊥ = cc in none)
+    (cases_lt has.0 place)
 
 pub same_numbers : (xs ys zs : List ℕ) (n : ℕ) → IsPermutation xs ys → zs ≡ dedup eqb ys → Contains zs n ↔ Contains xs n
 same_numbers xs ys zs n moved is = (

@@ -11,6 +11,7 @@ use Rattle.route_core.specs.declared.entry.Entry.{Entry}
 use Rattle.igp_theory.specs.Forwarding.{IsTarget}
 use Rattle.igp_theory.specs.Migrations.{Migration}
 use Rattle.igp_theory.specs.Routes.{Tables}
+use Rattle.prefix_atoms.specs.Nested.{AreNested, AreTops}
 
 -- the tables of one source as a relation: router u, one of so many, has this entry for this prefix
 abbrev pub SourceEntry : ℕ → (ℕ → List (Block × Entry)) → Tables
@@ -39,10 +40,13 @@ pub record AreSamples (prefixes : List Block) (samples : List ℕ) : Type 0 wher
   pub least : (k a : ℕ) → k < length samples → a < slice_index samples k → SameBlocksContain prefixes (slice_index samples k) a → ⊥
   pub all : (a : ℕ) → a < 2 ^ 32 → (k : ℕ) × (k < length samples) × SameBlocksContain prefixes (slice_index samples k) a
 
--- classes of addresses: the prefixes that tell them apart, their samples, and the target of each
+-- classes of addresses: the prefixes that tell them apart, each with the place of its parent, their samples, and for each
+-- class the place of its longest prefix and its target
 pub record Classes : Type 0 where
   pub prefixes : List Block
+  pub parents : List (Option ℕ)
   pub samples : List ℕ
+  pub tops : List (Option ℕ)
   pub targets : List (Option Block)
 
 -- address a is in class k: the same prefixes contain a and the class's sample
@@ -59,6 +63,8 @@ HasTarget net a (Some p) = IsTarget net a p
 -- what every value of classes keeps
 pub record IsClassing (c : Classes) : Type 0 where
   pub samples : AreSamples c.prefixes c.samples
+  pub nested : AreNested c.prefixes c.parents
+  pub tops : AreTops c.prefixes c.samples c.tops
   pub targets : length c.targets ≡ length c.samples
 
 -- the classes of a migration: their prefixes are those that occur, and all addresses of a

@@ -1,10 +1,11 @@
-ghost use Rattle.std.specs.Prelude.{◌≡◌, ◌≢◌, ◌<◌, ◌≤◌, ◌^◌, ◌+◌, All, AllPairs, IfOk, OnOk, List, length, map, slice_get, slice_index, Some};
+ghost use Rattle.std.specs.Prelude.{◌≡◌, ◌<◌, ◌≤◌, ◌^◌, ◌+◌, All, IfOk, OnOk, List, length, map, slice_get, slice_index, Some};
 ghost use Rattle.std.specs.List.Sorted.{IsStrictlyIncreasing};
 ghost use Rattle.net_addr.specs.Addresses.{IsBlock};
 ghost use Rattle.igp_theory.specs.Migrations.{migration};
 ghost use Rattle.prefix_atoms.specs.Classes.{AreClasses, IsClassing, IsInClass, SourceEntry};
 ghost use Rattle.prefix_atoms.specs.Lists.{AreClassesOf, AreTargets};
-ghost use Rattle.prefix_atoms.specs.Longest.{AreKeys, key_of};
+ghost use Rattle.prefix_atoms.specs.Longest.{AreKeys, key_of, top_of};
+ghost use Rattle.prefix_atoms.specs.Nested.{AreAscendingPrefixes, AreTops};
 ghost use Rattle.prefix_atoms.specs.Numbers.{ArePicked, InInterval, NumbersClasses};
 
 use crate::collect::{add_net, add_source, originated_prefixes};
@@ -12,6 +13,7 @@ use crate::cuts::cuts_of;
 use crate::distinct::keep_distinct_prefixes;
 use crate::longest::{Longest, NOTHING, longest_in_prefixes};
 use crate::number::{Numbering, number};
+use crate::parents::parents_of;
 use net_addr::Prefix;
 use net_model::Net;
 use route_core::RouteSource;
@@ -24,8 +26,13 @@ use std::marker::Model;
 /// classes are numbered from 0 by their least addresses.
 #[derive(Debug, Drop)]
 pub struct Atoms {
+    /// The prefixes that occur, in ascending order.
     prefixes: Vec<Prefix>,
+    /// The place of the parent of each: the longest shorter prefix that contains it.
+    parents: Vec<Option<u32>>,
     samples: Vec<u32>,
+    /// For each class the place of its longest prefix.
+    tops: Vec<Option<u32>>,
     targets: Vec<Option<Prefix>>,
     starts: Vec<u32>,
     numbers: Vec<u32>,
@@ -56,11 +63,38 @@ impl Atoms {
         let mut prefixes = Vec::new(alloc);
         add_net(&mut prefixes, net)?;
         keep_distinct_prefixes(&mut prefixes);
-        add_source(&mut prefixes, old)?;
-        add_source(&mut prefixes, new)?;
+        add_source(alloc, &mut prefixes, old)?;
+        add_source(alloc, &mut prefixes, new)?;
         keep_distinct_prefixes(&mut prefixes);
         let originated = originated_prefixes(alloc, net)?;
         classes_of(alloc, prefixes, originated.as_slice())
+    }
+
+    /// The prefixes, in ascending order, each once.
+    pub fn prefixes(&self) -> &[Prefix]
+        ensures prefixes { result.now ≡ self.now.prefixes }
+        ensures classing { IsClassing self.now }
+    {
+        self.prefixes.as_slice()
+    }
+
+    /// The parent of each prefix, by its place: the longest shorter prefix that contains it.
+    ///
+    /// So the prefixes that contain an address are the longest one of its class, the parent of that, the parent of that
+    /// parent and so on, each shorter than the one before.
+    pub fn parents(&self) -> &[Option<u32>]
+        ensures parents { result.now ≡ self.now.parents }
+        ensures classing { IsClassing self.now }
+    {
+        self.parents.as_slice()
+    }
+
+    /// The longest prefix of each class, by its place.
+    pub fn tops(&self) -> &[Option<u32>]
+        ensures tops { result.now ≡ self.now.tops }
+        ensures classing { IsClassing self.now }
+    {
+        self.tops.as_slice()
     }
 
     /// How many classes there are.
@@ -110,16 +144,20 @@ fn classes_of(
     prefixes: Vec<Prefix>,
     originated: &[Prefix],
 ) -> Result<Atoms, OutOfMemory>
-    requires { AllPairs (λ p q. p ≢ q) prefixes.items }
+    requires { AreAscendingPrefixes prefixes.items }
     ensures { IfOk result (λ atoms. AreClassesOf prefixes.items originated.now atoms) }
 {
     let starts = cuts_of(alloc, prefixes.as_slice())?;
     let Numbering { numbers, firsts } = number_cuts(alloc, prefixes.as_slice(), starts.as_slice())?;
     let samples = picked(alloc, starts.as_slice(), firsts.as_slice())?;
+    let parents = parents_of(alloc, prefixes.as_slice())?;
+    let tops = tops_of(alloc, prefixes.as_slice(), samples.as_slice())?;
     let targets = targets_of(alloc, originated, samples.as_slice())?;
     Ok(Atoms {
         prefixes,
+        parents,
         samples,
+        tops,
         targets,
         starts,
         numbers,
@@ -128,8 +166,8 @@ fn classes_of(
 
 /// Numbers cuts by their classes: cuts in one class have one longest prefix.
 fn number_cuts(alloc: Global, prefixes: &[Prefix], cuts: &[u32]) -> Result<Numbering, OutOfMemory>
-    requires apart { AllPairs (λ p q. p ≢ q) prefixes.now }
-    requires ascending { IsStrictlyIncreasing cuts.now }
+    requires prefixes { AreAscendingPrefixes prefixes.now }
+    requires cuts { IsStrictlyIncreasing cuts.now }
     ensures { IfOk result (λ n. NumbersClasses prefixes.now cuts.now n.numbers.items n.firsts.items) }
 {
     let keys = keys_of(alloc, prefixes, cuts)?;
@@ -162,6 +200,38 @@ fn key_of(found: Longest, none: usize) -> usize
         none
     } else {
         found.number as usize
+    }
+}
+
+/// For each address the place of the longest of the prefixes that contain it.
+fn tops_of(
+    alloc: Global,
+    prefixes: &[Prefix],
+    addresses: &[u32],
+) -> Result<Vec<Option<u32>>, OutOfMemory>
+    requires { IsStrictlyIncreasing addresses.now }
+    ensures { IfOk result (λ v. AreTops prefixes.now addresses.now v.items) }
+{
+    let mut found = vec![in alloc; NOTHING; addresses.len()]?;
+    longest_in_prefixes(prefixes, addresses, &mut found)?;
+    places_of(alloc, found.as_slice())
+}
+
+/// The number of each that is found.
+fn places_of(alloc: Global, found: &[Longest]) -> Result<Vec<Option<u32>>, OutOfMemory>
+    ensures { IfOk result (λ v. v.items ≡ map top_of found.now) }
+{
+    found.iter().map(|one| top_of(*one)).collect(alloc)
+}
+
+/// The number that is found.
+fn top_of(found: Longest) -> Option<u32>
+    ensures { result ≡ top_of found }
+{
+    if found.size == 0 {
+        None
+    } else {
+        Some(found.number)
     }
 }
 

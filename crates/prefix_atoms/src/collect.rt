@@ -2,12 +2,12 @@ ghost use Rattle.std.specs.Prelude.{◌≡◌, ◌++◌, ◌∷◌, [], IfOk, On
 ghost use Rattle.std.specs.List.{cons_option, filter_map};
 ghost use Rattle.net_model.specs.DestLists.{all_dests, subnet_if_up};
 ghost use Rattle.prefix_atoms.specs.Lists.{GainsPrefixes, all_originated, originated_subnet, source_prefixes};
-ghost use Rattle.route_core.specs.Tables.{table_prefixes};
+ghost use Rattle.route_core.specs.Rows.{ArePlacesBelow, row_prefixes};
 
-use crate::near::prefix_near;
+use crate::guesses::Guesses;
 use net_addr::Prefix;
 use net_model::{Interface, Net, Range};
-use route_core::{RouteSource, Table};
+use route_core::{RouteSource, TableParts};
 use std::alloc::{AllocError as OutOfMemory, Global};
 
 /// The subnets that can be targets: those of interfaces that are up and run a protocol.
@@ -36,40 +36,53 @@ pub fn add_net(prefixes: &mut Vec<Prefix>, net: &Net) -> Result<(), OutOfMemory>
 
 /// Adds the prefixes of all tables of a source. Those that are found among the prefixes, which ascend at first, aren't
 /// added once more.
-pub fn add_source<S: RouteSource>(prefixes: &mut Vec<Prefix>, source: &S) -> Result<(), OutOfMemory>
+pub fn add_source<S: RouteSource>(
+    alloc: Global,
+    prefixes: &mut Vec<Prefix>,
+    source: &S,
+) -> Result<(), OutOfMemory>
     ensures { OnOk result (GainsPrefixes prefixes.old.items prefixes.new.items (source_prefixes (S.table source.now) (S.routers source.now))) }
 {
+    let mut places = Guesses::new(alloc);
     for router in 0..source.routers() {
-        add_table(prefixes, source.table(router))?;
+        let table = source.table(router).parts();
+        add_table(prefixes, &mut places, table)?;
     }
     Ok(())
 }
 
-/// Adds the prefixes of a table.
-fn add_table(prefixes: &mut Vec<Prefix>, table: &Table) -> Result<(), OutOfMemory>
-    ensures { OnOk result (GainsPrefixes prefixes.old.items prefixes.new.items (table_prefixes table.now)) }
+/// Adds the prefixes of a table's rows.
+fn add_table(
+    prefixes: &mut Vec<Prefix>,
+    places: &mut Guesses,
+    table: TableParts<'_>,
+) -> Result<(), OutOfMemory>
+    requires { ArePlacesBelow table.prefixes.now table.rows.now }
+    ensures { OnOk result (GainsPrefixes prefixes.old.items prefixes.new.items (row_prefixes table.entry.prefixes.now table.entry.rows.now)) }
 {
-    let mut near = 0;
-    for place in 0..table.len() {
-        let dest = table.dest(place);
-        near = add_unless_found(prefixes, dest, near)?;
+    places.make_room(table.prefixes.len())?;
+    for row in table.rows {
+        let prefix = table.prefixes[row.place as usize];
+        add_unless_found(prefixes, places, prefix, row.place)?;
     }
     Ok(())
 }
 
-/// Adds a prefix unless it is found, first at the places from `near` on, and says where the next one may stand.
+/// Adds a prefix, which its table has at this place, unless it is found.
+#[inline(always)]
 fn add_unless_found(
     prefixes: &mut Vec<Prefix>,
+    places: &mut Guesses,
     prefix: Prefix,
-    near: usize,
-) -> Result<usize, OutOfMemory>
+    place: u32,
+) -> Result<(), OutOfMemory>
     ensures { OnOk result (GainsPrefixes prefixes.old.items prefixes.new.items (prefix ∷ [])) }
 {
-    match prefix_near(prefixes.as_slice(), prefix, near) {
-        Some(place) => Ok(place + 1),
+    match places.find(prefixes.as_slice(), prefix, place) {
+        Some(_) => Ok(()),
         None => {
-            prefixes.push(prefix)?;
-            Ok(near)
+            places.keep(place, Some(prefixes.len()));
+            Ok(prefixes.push(prefix)?)
         }
     }
 }

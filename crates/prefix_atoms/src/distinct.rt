@@ -1,13 +1,14 @@
-ghost use Rattle.std.specs.Prelude.{◌≡◌, ◌≢◌, ◌↔◌, ◌<◌, ◌^◌, ℕ, All, AllPairs, Contains};
+ghost use Rattle.std.specs.Prelude.{◌↔◌, ◌<◌, ◌^◌, ℕ, All, Contains};
 ghost use Rattle.std.specs.List.Sorted.{IsStrictlyIncreasing};
 ghost use Rattle.net_addr.specs.Addresses.{Block};
+ghost use Rattle.prefix_atoms.specs.Nested.{AreAscendingPrefixes};
 
 use net_addr::Prefix;
 
-/// Leaves each prefix of a list once.
+/// Leaves each prefix of a list once, in ascending order.
 pub fn keep_distinct_prefixes(prefixes: &mut Vec<Prefix>)
     ensures same { (p : Block) → Contains prefixes.new.items p ↔ Contains prefixes.old.items p }
-    ensures apart { AllPairs (λ p q. p ≢ q) prefixes.new.items }
+    ensures ascending { AreAscendingPrefixes prefixes.new.items }
 {
     prefixes.sort_unstable();
     prefixes.dedup();

@@ -1,12 +1,10 @@
 ghost use Rattle.std.specs.Prelude.{◌≡◌, ◌<◌, ◌≤◌, All, OnOk, length, replicate, slice_index_or, slice_set};
 ghost use Rattle.std.specs.List.Sorted.{IsStrictlyIncreasing};
 ghost use Rattle.net_addr.specs.Addresses.{IsBlock};
-ghost use Rattle.route_core.specs.Rows.{row_prefixes};
-ghost use Rattle.prefix_atoms.specs.Longest.{AreLongestKept, TakesRow, nothing, number_at};
+ghost use Rattle.prefix_atoms.specs.Longest.{AreLongestKept, TakesPrefix, nothing};
 
 use crate::near::number_near;
 use net_addr::Prefix;
-use route_core::Row;
 use std::alloc::AllocError as OutOfMemory;
 
 /// The longest prefix that is found for an address. It has 8 bytes, since there is one for each address.
@@ -15,7 +13,7 @@ pub struct Longest {
     /// The number that the prefix is kept under.
     pub number: u32,
     /// One more than its length, 0 where none is found.
-    pub size: u8,
+    pub size: u32,
 }
 
 /// No prefix is found.
@@ -42,27 +40,9 @@ pub fn longest_in_prefixes(
     forget(found);
     let mut near = 0;
     for place in 0..count {
-        let row = Row {
-            dest: prefixes[place as usize],
-            number: place,
-        };
-        near = take_row(row, addresses, near, found);
+        near = take_prefix(prefixes[place as usize], place, addresses, near, found);
     }
     Ok(())
-}
-
-/// Finds the longest of the prefixes of a table's rows, and keeps it under the number of its row's entry.
-pub fn longest_in_rows(rows: &[Row], addresses: &[u32], found: &mut Vec<Longest>)
-    requires ascending { IsStrictlyIncreasing addresses.now }
-    requires count { length found.old.items ≡ length addresses.now }
-    ensures longest { AreLongestKept (row_prefixes rows.now) (number_at rows.now) addresses.now found.new.items }
-    ensures blocks { All IsBlock (row_prefixes rows.now) }
-{
-    forget(found);
-    let mut near = 0;
-    for row in rows {
-        near = take_row(*row, addresses, near, found);
-    }
 }
 
 /// Nothing is found for any address.
@@ -72,20 +52,26 @@ fn forget(found: &mut Vec<Longest>)
     found.fill(NOTHING);
 }
 
-/// Gives the addresses of a row's prefix that prefix under the row's number, where it is longer than the one found before,
-/// and says where they end. They are first looked for at the places from `near` on.
+/// Gives the addresses of a prefix that prefix under this number, where it is longer than the one found before, and says
+/// where they end. They are first looked for at the places from `near` on.
 #[inline(always)]
-fn take_row(row: Row, addresses: &[u32], near: usize, found: &mut Vec<Longest>) -> usize
+fn take_prefix(
+    prefix: Prefix,
+    number: u32,
+    addresses: &[u32],
+    near: usize,
+    found: &mut Vec<Longest>,
+) -> usize
     requires ascending { IsStrictlyIncreasing addresses.now }
     requires count { length found.old.items ≡ length addresses.now }
-    ensures longest { TakesRow row addresses.now found.old.items found.new.items }
-    ensures block { IsBlock row.dest }
+    ensures longest { TakesPrefix prefix number addresses.now found.old.items found.new.items }
+    ensures block { IsBlock prefix }
 {
-    let base = row.dest.base();
-    let last = row.dest.last();
+    let base = prefix.base();
+    let last = prefix.last();
     let next = Longest {
-        number: row.number,
-        size: row.dest.len() + 1,
+        number,
+        size: u32::from(prefix.len()) + 1,
     };
     let start = number_near(addresses, base, near);
     for i in start..addresses.len() {

@@ -1,8 +1,5 @@
-ghost use Rattle.std.specs.Prelude.{◌≡◌, IfSome, Some, slice_get};
 ghost use Rattle.std.specs.List.Sorted.{IsStrictlyIncreasing};
 ghost use Rattle.prefix_atoms.specs.Lists.{IsPlaceOf};
-
-use net_addr::Prefix;
 
 /// How many places are looked at one after another before a search over the whole list.
 const NEAR: usize = 8;
@@ -43,30 +40,4 @@ fn place_of(numbers: &[u32], x: u32) -> usize
         Ok(place) => place,
         Err(place) => place,
     }
-}
-
-/// Where a prefix stands in a list: first looked for at the places from `from` on, and then as if the list ascended.
-/// In a list that doesn't ascend some are missed.
-#[inline(always)]
-pub fn prefix_near(prefixes: &[Prefix], prefix: Prefix, from: usize) -> Option<usize>
-    ensures { IfSome result (λ place. slice_get prefixes.now place ≡ Some prefix) }
-{
-    if from < prefixes.len() && prefixes[from] == prefix {
-        return Some(from);
-    }
-    prefix_behind(prefixes, prefix, from)
-}
-
-/// The same, where it is mostly further on.
-#[inline(never)]
-fn prefix_behind(prefixes: &[Prefix], prefix: Prefix, from: usize) -> Option<usize>
-    ensures { IfSome result (λ place. slice_get prefixes.now place ≡ Some prefix) }
-{
-    let end = from.saturating_add(NEAR).min(prefixes.len());
-    for place in from..end {
-        if prefixes[place] == prefix {
-            return Some(place);
-        }
-    }
-    prefixes.binary_search(&prefix).ok()
 }

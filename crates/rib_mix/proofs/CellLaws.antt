@@ -5,7 +5,6 @@ use Rattle.std.proofs.lemmas.Option.{same_Some, slice_get_within}
 use Rattle.net_addr.specs.Addresses.{Block, ContainsAddress}
 use Rattle.net_model.specs.Configuration.{Configuration}
 use Rattle.net_model.specs.Network.{HasConfiguration}
-use Rattle.route_core.specs.Rows.{AreTableRows}
 use Rattle.route_core.specs.Tables.{IsListed}
 use Rattle.route_core.specs.declared.table.TableParts.{TableParts}
 use Rattle.route_core.specs.declared.entry.Entry.{Entry}
@@ -17,7 +16,7 @@ use Rattle.prefix_atoms.specs.Longest.{nothing}
 use Rattle.prefix_atoms.specs.declared.longest.Longest.{Longest}
 use Rattle.rib_mix.specs.steps.Candidates.{choice_at, connected_of, entry_of, old_of}
 use Rattle.rib_mix.specs.Cells.{IsCell, IsCellOf, IsUsable, IsUse, IsKeptUse, chosen_use, use_in, use_of}
-use Rattle.rib_mix.specs.Sites.{AreFound, CountsAt, HasOspfDistance, IsFoundIn, IsLawfulSite, Kind, Site, UsesAt, table_of}
+use Rattle.rib_mix.specs.Sites.{AreFound, CountsAt, HasOspfDistance, HasTableRows, IsFoundIn, IsLawfulSite, Kind, Site, UsesAt, table_of}
 use Rattle.rib_mix.specs.declared.candidate.Candidate.{Candidate}
 use Rattle.rib_mix.specs.declared.candidate.Choice.{Choice}
 use Rattle.rib_mix.specs.declared.candidate.Choice.TheVariants as choice
@@ -82,7 +81,7 @@ connected_covers s phase table found are = record {
 
 -- the longest entry of a table is the best of a kind that has the table's entries, at one distance
 entry_covers : (s : Site) (kind : Kind) (parts : TableParts) (distance : ℕ) (wrap : Entry → Usable) (table : ℕ → Used) (found : Longest)
-    → AreTableRows parts.entries.now parts.rows.now → IsFoundIn parts s.a found
+    → HasTableRows parts → IsFoundIn parts s.a found
     → ((q : Block) (e : Entry) → IsListed (table_of parts) q e → kind q distance (wrap e))
     → ((q : Block) (d : ℕ) (x : Usable) → kind q d x → ((e : Entry) × IsListed (table_of parts) q e) × (d ≡ distance))
     → ((n : ℕ) (e : Entry) → slice_get parts.entries.now n ≡ Some e → IsUsable s.tables.old.entries.now s.tables.new.entries.now (table n) (wrap e))

@@ -1,56 +1,62 @@
 -- The rows of a table: what lawful tables keep, and the entry of a row that is found.
-use Rattle.std.proofs.Common.{◌≡◌, ℕ, ◌<◌, List, length, map, get_or, Some, All, Contains, slice_get, ap, sym, subst, ◌∙◌}
+use Rattle.std.proofs.Common.{◌≡◌, ℕ, ◌<◌, List, length, map, get_or, Some, All, Contains, slice_get, ap, refl, sym, subst, ◌∙◌}
 use Rattle.std.proofs.lemmas.List.{length-map}
 use Rattle.std.proofs.lemmas.Option.{same_Some, slice_get-get_or, slice_get-map, slice_get_within, get_or_from_slice_get}
 use Rattle.std.specs.Option.{option_map}
 use Rattle.net_addr.specs.Addresses.{Block, IsBlock}
-use Rattle.route_core.specs.Rows.{AreTableRows, listed_row, row_prefixes}
-use Rattle.route_core.specs.Tables.{IsListed}
+use Rattle.route_core.specs.Rows.{listed_row, row_prefix}
+use Rattle.route_core.specs.Tables.{IsListed, table_prefixes}
 use Rattle.route_core.specs.declared.entry.Entry.{Entry}
 use Rattle.route_core.specs.declared.entry.Entry.TheVariants.{Discard}
 use Rattle.route_core.specs.declared.row.Row.{Row}
 use Rattle.route_core.specs.declared.table.TableParts.{TableParts}
-use Rattle.route_core.proofs.RowLaws.{prefixes_of_rows}
+use Rattle.route_core.proofs.RowLaws.{prefixes_of_table}
 use Rattle.route_core.proofs.TableLaws.{Contains-from_place, prefix_of_entry}
 use Rattle.prefix_atoms.specs.Longest.{IsFoundAt, number_at}
 use Rattle.prefix_atoms.specs.declared.longest.Longest.{Longest}
-use Rattle.rib_mix.specs.Sites.{IsLawfulTable, table_of}
-use Rattle.rib_mix.proofs.RowSteps.{at_place, lawful_from}
+use Rattle.rib_mix.specs.Sites.{HasTableRows, IsLawfulTable, prefixes_in, table_of}
+use Rattle.prefix_atoms.proofs.Pushed.{at_place}
+use Rattle.rib_mix.proofs.RowSteps.{lawful_from}
+
+-- the prefixes of the rows are those of the entries
+pub rows_prefixes : (parts : TableParts) → prefixes_in parts ≡ table_prefixes (table_of parts)
+rows_prefixes parts =
+    prefixes_of_table parts.prefixes.now parts.prefixes.now parts.entries.now parts.rows.now parts.rows.now (table_of parts) refl refl refl
 
 -- what the rows of a table keep, whose prefixes are blocks
-pub lawful_table : (parts : TableParts) → AreTableRows parts.entries.now parts.rows.now → All IsBlock (row_prefixes parts.rows.now)
+pub lawful_table : (parts : TableParts) → HasTableRows parts → All IsBlock (prefixes_in parts)
     → IsLawfulTable (table_of parts)
 lawful_table parts rows blocks =
-    lawful_from (table_of parts) (subst (All IsBlock) (prefixes_of_rows parts.entries.now parts.rows.now) blocks) rows.distinct
+    lawful_from (table_of parts) (subst (All IsBlock) (rows_prefixes parts) blocks) rows.distinct
 
 -- the prefixes that a table has entries for are those of its rows
-pub prefix_listed : (parts : TableParts) (p : Block) → (e : Entry) × IsListed (table_of parts) p e → Contains (row_prefixes parts.rows.now) p
+pub prefix_listed : (parts : TableParts) (p : Block) → (e : Entry) × IsListed (table_of parts) p e → Contains (prefixes_in parts) p
 prefix_listed parts p listed =
-    subst (λ (ps : List Block). Contains ps p) (sym (prefixes_of_rows parts.entries.now parts.rows.now))
+    subst (λ (ps : List Block). Contains ps p) (sym (rows_prefixes parts))
     (prefix_of_entry (table_of parts) p listed.0 listed.1)
 
 -- the entry of the row that is found is kept under its number
-pub entry_kept : (parts : TableParts) (a : ℕ) (found : Longest) → AreTableRows parts.entries.now parts.rows.now
-    → (at : IsFoundAt (row_prefixes parts.rows.now) (number_at parts.rows.now) a found)
+pub entry_kept : (parts : TableParts) (a : ℕ) (found : Longest) → HasTableRows parts
+    → (at : IsFoundAt (prefixes_in parts) (number_at parts.rows.now) a found)
     → (e : Entry) × (slice_get parts.entries.now found.number ≡ Some e) × IsListed (table_of parts) at.prefix e
 entry_kept parts a found rows at =
     let list : List Row = parts.rows.now in
     let place : ℕ = at.place in
-    let many : place < length list = subst (λ (n : ℕ). place < n) (length-map list (λ (row : Row). row.dest))
-    (slice_get_within (row_prefixes list) place at.prefix at.stands) in
+    let many : place < length list = subst (λ (n : ℕ). place < n) (length-map list (row_prefix parts.prefixes.now))
+    (slice_get_within (prefixes_in parts) place at.prefix at.stands) in
     let row : (row : Row) × (slice_get list place ≡ Some row) = at_place list place many in
-    let dest : row.0.dest ≡ at.prefix =
-    same_Some row.0.dest at.prefix
-    (sym (slice_get-map (λ (r : Row). r.dest) list place ∙ ap (option_map (λ (r : Row). r.dest)) row.1) ∙ at.stands) in
+    let dest : row_prefix parts.prefixes.now row.0 ≡ at.prefix =
+    same_Some (row_prefix parts.prefixes.now row.0) at.prefix
+    (sym (slice_get-map (row_prefix parts.prefixes.now) list place ∙ ap (option_map (row_prefix parts.prefixes.now)) row.1) ∙ at.stands) in
     let number : row.0.number ≡ found.number =
     sym (get_or_from_slice_get (map (λ (r : Row). r.number) list) place row.0.number 0
     (slice_get-map (λ (r : Row). r.number) list place ∙ ap (option_map (λ (r : Row). r.number)) row.1)) ∙ at.number_is in
     let below : row.0.number < length parts.entries.now =
     subst (λ (r : Row). r.number < length parts.entries.now) (get_or_from_slice_get list place row.0 row.0 row.1) (rows.numbers place row.0 many) in
     let entry : Entry = get_or parts.entries.now row.0.number Discard in
-    let listed : IsListed (table_of parts) row.0.dest entry =
-    Contains-from_place (table_of parts) place (row.0.dest, entry)
-    (slice_get-map (listed_row parts.entries.now) list place ∙ ap (option_map (listed_row parts.entries.now)) row.1) in (
+    let listed : IsListed (table_of parts) (row_prefix parts.prefixes.now row.0) entry =
+    Contains-from_place (table_of parts) place (row_prefix parts.prefixes.now row.0, entry)
+    (slice_get-map (listed_row parts.prefixes.now parts.entries.now) list place ∙ ap (option_map (listed_row parts.prefixes.now parts.entries.now)) row.1) in (
       entry,
       subst (λ (n : ℕ). slice_get parts.entries.now n ≡ Some entry) number (slice_get-get_or parts.entries.now row.0.number Discard below),
       subst (λ (p : Block). IsListed (table_of parts) p entry) dest listed,

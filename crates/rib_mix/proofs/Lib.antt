@@ -8,3 +8,5 @@ mod FoundFacts
 mod SubnetFacts
 mod RowSteps
 mod RowLaws
+mod MarkLaws
+mod ClimbLaws

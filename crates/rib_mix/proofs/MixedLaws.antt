@@ -1,18 +1,22 @@
 -- What mixed forwarding keeps of each router, as it is made and as it is read.
-use Rattle.std.proofs.Common.{◌≡◌, ℕ, ◌<◌, List, length, get_or, Some, slice_get, arith, refl, sym, subst}
-use Rattle.std.proofs.lemmas.Option.{slice_get_read, get_or_from_slice_get}
+use Rattle.std.proofs.Common.{◌≡◌, ℕ, ◌<◌, List, length, get_or, Contains, Some, slice_get, arith, refl, sym, subst}
+use Rattle.std.proofs.lemmas.Option.{slice_get_read, slice_get_within, get_or_from_slice_get}
 use Rattle.net_addr.specs.Addresses.{Block}
+use Rattle.route_core.specs.Tables.{IsListed}
 use Rattle.route_core.specs.declared.entry.Entry.{Entry}
+use Rattle.route_core.specs.declared.table.TableParts.{TableParts}
+use Rattle.route_core.proofs.TableLaws.{entry_of_prefix}
 use Rattle.igp_theory.specs.Migrations.{migration}
-use Rattle.prefix_atoms.specs.Classes.{AreClasses, SourceEntry}
+use Rattle.prefix_atoms.specs.Classes.{AreClasses, Classes, SourceEntry, connected_occurs, old_occurs, new_occurs}
 use Rattle.rib_mix.specs.Cells.{IsCell}
 use Rattle.rib_mix.specs.Mixture.{Mixture}
-use Rattle.rib_mix.specs.Rows.{AreAllSubnets, AreRows, IsMixed, MixedParts}
-use Rattle.rib_mix.specs.Sites.{AreTablesInParts, AreTablesOf}
+use Rattle.rib_mix.specs.Rows.{AllOccur, AreAllSubnets, AreRows, Ground, IsMixed, MixedParts}
+use Rattle.rib_mix.specs.Sites.{AreTablesInParts, AreTablesOf, prefixes_in, table_of}
 use Rattle.rib_mix.specs.declared.both_tables.BothTables.{BothTables}
 use Rattle.rib_mix.specs.declared.cell.Cell.{Cell}
+use Rattle.rib_mix.proofs.FoundFacts.{rows_prefixes}
 use Rattle.rib_mix.proofs.ClassUses.{IsPlace, Place, sample}
-use Rattle.rib_mix.proofs.RowSteps.{at_place}
+use Rattle.prefix_atoms.proofs.Pushed.{at_place}
 
 pub in_parts : (old new : ℕ → List (Block × Entry)) (routers : ℕ) (tables : List BothTables) → AreTablesOf old new routers tables
     → AreTablesInParts routers tables
@@ -21,6 +25,27 @@ in_parts old new routers tables are = record {
   olds = λ u both at. (are.olds u both at).rows;
   news = λ u both at. (are.news u both at).rows;
 }
+
+-- the prefixes of all routers are those that occur
+pub all_occur : (old new : ℕ → List (Block × Entry)) (o n : ℕ) (g : Ground) (classes : Classes) → n ≡ o
+    → AreClasses (migration g.net (SourceEntry o old) (SourceEntry n new)) classes → AreTablesOf old new o g.tables → AllOccur classes.prefixes g
+all_occur old new o n g classes same are tables = record {
+  connected = λ u p c. (are.occur p).1 (connected_occurs u c);
+  olds = λ u both at p has.
+      let within : u < o = omega (arith, slice_get_within g.tables u both at, tables.count) in
+      let e = listed_in both.old (old u) p (tables.olds u both at).listed has in
+      (are.occur p).1 (old_occurs u e.0 (within, e.1));
+  news = λ u both at p has.
+      let within : u < n = omega (arith, slice_get_within g.tables u both at, tables.count) in
+      let e = listed_in both.new (new u) p (tables.news u both at).listed has in
+      (are.occur p).1 (new_occurs u e.0 (within, e.1));
+}
+  where
+    listed_in : (parts : TableParts) (table : List (Block × Entry)) (p : Block) → table_of parts ≡ table → Contains (prefixes_in parts) p
+        → (e : Entry) × IsListed table p e
+    listed_in parts table p is has =
+        let one = entry_of_prefix (table_of parts) p (subst (λ (ps : List Block). Contains ps p) (rows_prefixes parts) has) in
+        (one.0, subst (λ (t : List (Block × Entry)). IsListed t p one.0) is one.1)
 
 -- what is made of a network and two sources with its routers is what mixed forwarding keeps
 pub mixed_made : (old new : ℕ → List (Block × Entry)) (o n : ℕ) (kept : MixedParts) → o ≡ length kept.ground.net → n ≡ length kept.ground.net

@@ -1,15 +1,19 @@
--- What is found for a router and some addresses says what the router uses for them.
-use Rattle.std.proofs.Common.{ℕ, ◌<◌, List, length, get_or, arith}
-use Rattle.std.proofs.lemmas.Option.{slice_get_within}
-use Rattle.net_addr.specs.Addresses.{Block}
+-- What is found for a router and each class says what the router uses for it.
+use Rattle.std.proofs.Common.{ℕ, ◌<◌, List, All, Option, None, length, get_or, arith, ◌∙◌}
+use Rattle.std.proofs.lemmas.List.{get_or_default}
+use Rattle.std.proofs.lemmas.List.Elements.{All-contains}
+use Rattle.std.proofs.lemmas.Option.{slice_get_within, slice_get-get_or}
+use Rattle.net_addr.specs.Addresses.{Block, IsBlock}
 use Rattle.net_model.specs.Refusals.{IsNetwork}
-use Rattle.route_core.specs.Rows.{AreTableRows}
-use Rattle.rib_mix.specs.steps.Finds.{AreFinds, IsFoundRow, found_at}
-use Rattle.rib_mix.specs.Rows.{AreSubnets, Ground, IsRow, site}
-use Rattle.rib_mix.specs.Sites.{HasOspfDistance, Site}
+use Rattle.prefix_atoms.specs.Classes.{Classes, IsClassing}
+use Rattle.prefix_atoms.specs.Longest.{number_at}
+use Rattle.prefix_atoms.specs.Nested.{IsTop}
+use Rattle.rib_mix.specs.steps.Marks.{AreOwnAmong, AreOwnMarks, IsFoundRow}
+use Rattle.rib_mix.specs.Rows.{AreAmong, AreSubnets, Ground, IsRow, site}
+use Rattle.rib_mix.specs.Sites.{HasOspfDistance, HasTableRows, Site, prefixes_in}
 use Rattle.rib_mix.specs.declared.both_tables.BothTables.{BothTables}
 use Rattle.rib_mix.specs.declared.cell.Cell.{Cell}
-use Rattle.rib_mix.specs.declared.finds.Finds.{Finds}
+use Rattle.rib_mix.specs.declared.marks.Marks.{Marks}
 use Rattle.rib_mix.proofs.CellLaws.{cell_found}
 use Rattle.rib_mix.proofs.FoundFacts.{lawful_table}
 
@@ -17,23 +21,33 @@ use Rattle.rib_mix.proofs.FoundFacts.{lawful_table}
 pub record IsKnown (s : Site) (ospf : ℕ) (subnets : List Block) : Type 0 where
   pub network : IsNetwork s.net
   pub distance : HasOspfDistance s.net s.u ospf
-  pub old : AreTableRows s.tables.old.entries.now s.tables.old.rows.now
-  pub new : AreTableRows s.tables.new.entries.now s.tables.new.rows.now
+  pub old : HasTableRows s.tables.old
+  pub new : HasTableRows s.tables.new
   pub subnets_are : AreSubnets s.net s.u subnets
 
-pub row_found : (g : Ground) (u ospf : ℕ) (both : BothTables) (subnets : List Block) (addresses : List ℕ) (finds : Finds) (row : List Cell)
-    → IsKnown (site g u both 0) ospf subnets → AreFinds subnets both addresses finds → IsFoundRow finds (length addresses) ospf row
-    → IsRow (site g u both) addresses row
-row_found g u ospf both subnets addresses finds row known are is = record {
-  count = is.count;
+-- prefixes that are among blocks are blocks
+among_blocks : (prefixes own : List Block) → All IsBlock prefixes → AreAmong prefixes own → All IsBlock own
+among_blocks prefixes own blocks among k d l =
+    All-contains IsBlock prefixes (get_or own k d) blocks (among (get_or own k d) (k, l, get_or_default own k (get_or own k d) d l))
+
+pub row_found : (g : Ground) (u ospf : ℕ) (both : BothTables) (subnets : List Block) (classes : Classes) (marks : Marks) (row : List Cell)
+    → IsKnown (site g u both 0) ospf subnets → IsClassing classes → AreOwnAmong classes.prefixes subnets both
+    → AreOwnMarks classes.prefixes subnets both marks → IsFoundRow classes marks ospf row → IsRow (site g u both) classes.samples row
+row_found g u ospf both subnets classes marks row known classing among marked is = record {
+  count = is.count ∙ classing.tops.count;
   each = λ k cell at.
       let here : k < length row = slice_get_within row k cell at in
-      let within : k < length addresses = omega (arith, is.count) in
-      cell_found (site g u both (get_or addresses k 0)) ospf (found_at finds k) cell
+      let one = is.each k cell at in
+      let a : ℕ = get_or classes.samples k 0 in
+      let top : Option ℕ = get_or classes.tops k None in
+      let is_top : IsTop classes.prefixes a top = classing.tops.each k top (slice_get-get_or classes.tops k None (omega (arith, is.count))) in
+      cell_found (site g u both a) ospf one.found cell
       (record {
         network = known.network;
-        old = lawful_table both.old known.old are.old.blocks;
-        new = lawful_table both.new known.new are.new.blocks;
+        old = lawful_table both.old known.old
+            (among_blocks classes.prefixes (prefixes_in both.old) classing.nested.blocks among.old.among);
+        new = lawful_table both.new known.new
+            (among_blocks classes.prefixes (prefixes_in both.new) classing.nested.blocks among.new.among);
         old_rows = known.old;
         new_rows = known.new;
       })
@@ -41,9 +55,9 @@ row_found g u ospf both subnets addresses finds row known are is = record {
       (record {
         subnets = subnets;
         subnets_are = known.subnets_are;
-        connected = are.connected.each k within;
-        old = are.old.longest.each k within;
-        new = are.new.longest.each k within;
+        connected = one.above.connected subnets (λ _. 0) a among.connected marked.connected is_top;
+        old = one.above.old (prefixes_in both.old) (number_at both.old.rows.now) a among.old.among marked.old is_top;
+        new = one.above.new (prefixes_in both.new) (number_at both.new.rows.now) a among.new.among marked.new is_top;
       })
-      (is.each k cell at);
+      one.cell_is;
 }

@@ -25,7 +25,15 @@ pub record Site : Type 0 where
 
 -- the entries of a table in its parts
 abbrev pub table_of : TableParts → List (Block × Entry)
-table_of parts = listed_rows parts.entries.now parts.rows.now
+table_of parts = listed_rows parts.prefixes.now parts.entries.now parts.rows.now
+
+-- its prefixes, by its rows
+abbrev pub prefixes_in : TableParts → List Block
+prefixes_in parts = row_prefixes parts.prefixes.now parts.rows.now
+
+-- the rows are those of a table
+abbrev pub HasTableRows : TableParts → Type 0
+HasTableRows parts = AreTableRows parts.prefixes.now parts.entries.now parts.rows.now
 
 -- a kind of entries: by their prefix, distance and what is used
 abbrev pub Kind : Type 1
@@ -44,13 +52,13 @@ UsesAt s phase = Uses (own_migration s) s.u phase s.a
 
 -- the longest entry of a table, by its number
 abbrev pub IsFoundIn : TableParts → ℕ → Longest → Type 0
-IsFoundIn parts a found = IsKept (row_prefixes parts.rows.now) (number_at parts.rows.now) a found
+IsFoundIn parts a found = IsKept (prefixes_in parts) (number_at parts.rows.now) a found
 
 -- what is found there, of these connected prefixes and of both tables
 pub record AreFound (s : Site) (found : Found) : Type 0 where
   pub subnets : List Block
   pub subnets_are : (p : Block) → Contains subnets p ↔ Connected s.net s.u p
-  pub connected : IsKept subnets (λ place. place) s.a found.connected
+  pub connected : IsKept subnets (λ _. 0) s.a found.connected
   pub old : IsFoundIn s.tables.old s.a found.old
   pub new : IsFoundIn s.tables.new s.a found.new
 
@@ -70,8 +78,8 @@ pub record IsLawfulSite (s : Site) : Type 0 where
   pub network : IsNetwork s.net
   pub old : IsLawfulTable (table_of s.tables.old)
   pub new : IsLawfulTable (table_of s.tables.new)
-  pub old_rows : AreTableRows s.tables.old.entries.now s.tables.old.rows.now
-  pub new_rows : AreTableRows s.tables.new.entries.now s.tables.new.rows.now
+  pub old_rows : HasTableRows s.tables.old
+  pub new_rows : HasTableRows s.tables.new
 
 -- both tables of each of so many routers, in their parts
 pub record AreTablesOf (old new : ℕ → List (Block × Entry)) (routers : ℕ) (tables : List BothTables) : Type 0 where
@@ -82,5 +90,5 @@ pub record AreTablesOf (old new : ℕ → List (Block × Entry)) (routers : ℕ)
 -- as many, each the parts of some tables
 pub record AreTablesInParts (routers : ℕ) (tables : List BothTables) : Type 0 where
   pub count : length tables ≡ routers
-  pub olds : (u : ℕ) (both : BothTables) → slice_get tables u ≡ Some both → AreTableRows both.old.entries.now both.old.rows.now
-  pub news : (u : ℕ) (both : BothTables) → slice_get tables u ≡ Some both → AreTableRows both.new.entries.now both.new.rows.now
+  pub olds : (u : ℕ) (both : BothTables) → slice_get tables u ≡ Some both → HasTableRows both.old
+  pub news : (u : ℕ) (both : BothTables) → slice_get tables u ≡ Some both → HasTableRows both.new

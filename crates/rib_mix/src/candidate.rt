@@ -19,7 +19,7 @@ pub enum Choice {
 #[derive(Clone, Copy, Debug)]
 pub struct Candidate {
     /// One more than the length of its prefix, 0 where there is nothing.
-    pub size: u8,
+    pub size: u32,
     /// Its administrative distance.
     pub distance: u8,
     /// What is chosen by it.
@@ -64,7 +64,7 @@ pub fn old_candidate(found: Longest, ospf: u8) -> Candidate
 }
 
 /// This choice, and nothing where nothing is found.
-fn choice_at(choice: Choice, size: u8) -> Choice
+fn choice_at(choice: Choice, size: u32) -> Choice
     ensures { result ≡ choice_at choice size }
 {
     if size == 0 { Choice::Nothing } else { choice }

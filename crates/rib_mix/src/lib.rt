@@ -7,7 +7,8 @@
 //! |---|---|
 //! | `mixed`, `next` | mixed forwarding over a network and two sources of tables, and what a router does |
 //! | `both_tables`, `subnets` | of each router: its tables in their parts, and its connected prefixes |
-//! | `found`, `finds`, `candidate`, `used` | the longest entries for addresses, the best of what counts in a phase, and what is used |
+//! | `marks`, `found` | what a router has for each prefix, and what is found of that for an address on the way up from its longest prefix |
+//! | `candidate`, `used` | the best of what counts in a phase, and what is used |
 //! | `cell`, `cells`, `row` | what a router uses in each phase: for an address, and for each class |
 //! | `law` | that what a router does is what the definitions call its steps |
 //!
@@ -24,8 +25,8 @@ mod both_tables;
 mod candidate;
 mod cell;
 mod cells;
-mod finds;
 mod found;
+mod marks;
 mod row;
 mod subnets;
 mod used;

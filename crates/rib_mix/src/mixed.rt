@@ -1,6 +1,5 @@
 ghost use Rattle.std.specs.Prelude.{◌≡◌, ◌<◌, ◌↔◌, IfOk, IsTrue, length};
 ghost use Rattle.std.specs.Bool.{OnTrue};
-ghost use Rattle.std.specs.List.Sorted.{IsStrictlyIncreasing};
 ghost use Rattle.net_model.specs.Network.{Connected};
 ghost use Rattle.net_model.specs.Refusals.{IsNetwork};
 ghost use Rattle.igp_theory.specs.Migrations.{migration};
@@ -8,12 +7,12 @@ ghost use Rattle.prefix_atoms.specs.Classes.{AreClasses, SourceEntry};
 ghost use Rattle.rib_mix.specs.Answers.{IsAlikeAt, IsNextAtAnEnd, IsNextOf, ShowsEntry};
 ghost use Rattle.rib_mix.specs.Mixture.{migration_of};
 ghost use Rattle.rib_mix.specs.Cells.{IsKeptUse, ShowsUse};
-ghost use Rattle.rib_mix.specs.Rows.{AreAllSubnets, AreRows};
+ghost use Rattle.rib_mix.specs.Rows.{AllOccur, AreAllSubnets, AreRows};
 ghost use Rattle.rib_mix.specs.Sites.{AreTablesInParts, HasOspfDistance};
 
 use crate::both_tables::{BothTables, tables_of};
 use crate::cells::{Cells, is_same};
-use crate::finds::Finds;
+use crate::marks::Marks;
 use crate::next::Next;
 use crate::row::row_of;
 use crate::subnets::Subnets;
@@ -75,8 +74,7 @@ impl<'a, O: RouteSource, N: RouteSource> Mixed<'a, O, N> {
         let atoms = Atoms::build(alloc, net, old, new)?;
         let subnets = all_subnets(alloc, net)?;
         let tables = tables_of(alloc, old, new)?;
-        let samples = atoms.samples();
-        let rows = rows_of(alloc, net, subnets.as_slice(), tables.as_slice(), samples)?;
+        let rows = rows_of(alloc, net, subnets.as_slice(), tables.as_slice(), &atoms)?;
         Ok(Mixed {
             net,
             old,
@@ -153,26 +151,27 @@ fn all_subnets(alloc: Global, net: &Net) -> Result<Vec<Subnets>, OutOfMemory>
     Ok(all)
 }
 
-/// What each router of a network uses for each of some ascending addresses.
+/// What each router of a network uses for each class of addresses.
 fn rows_of(
     alloc: Global,
     net: &Net,
     subnets: &[Subnets],
     tables: &[BothTables<'_>],
-    addresses: &[u32],
+    atoms: &Atoms,
 ) -> Result<Vec<Cells>, OutOfMemory>
     requires tables { AreTablesInParts (length net.now) tables.now }
-    requires ascending { IsStrictlyIncreasing addresses.now }
     requires subnets { AreAllSubnets net.now subnets.now }
-    ensures { IfOk result (λ rows. AreRows (record { net = net.now; tables = tables.now }) addresses.now rows.items) }
+    requires occur { AllOccur atoms.now.prefixes (record { net = net.now; tables = tables.now }) }
+    ensures { IfOk result (λ rows. AreRows (record { net = net.now; tables = tables.now }) atoms.now.samples rows.items) }
 {
-    let mut finds = Finds::with_places(alloc, addresses.len())?;
+    let prefixes = atoms.prefixes();
+    let mut marks = Marks::with_places(alloc, prefixes.len())?;
     let mut rows = Vec::with_capacity(alloc, net.routers() as usize)?;
     for router in 0..net.routers() {
         let subnets = &subnets[router as usize];
         let both = tables[router as usize];
-        finds.find(subnets.as_slice(), both, addresses)?;
-        let row = row_of(alloc, &finds, addresses.len(), ospf_distance(net, router))?;
+        marks.mark(prefixes, subnets.as_slice(), both)?;
+        let row = row_of(alloc, atoms, &marks, ospf_distance(net, router))?;
         rows.push(row)?;
     }
     Ok(rows)

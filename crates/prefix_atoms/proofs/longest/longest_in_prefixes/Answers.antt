@@ -10,7 +10,8 @@ loop-place-preserved c =
     slice_get_read c.args.prefixes.now (length c.args.prefixes.now) c.loop-place.place c.index-prefixes-place.result refl within
     c.index-prefixes-place.is in
     record {
-      longest = kept_next c.args.prefixes.now (λ place. place) c.loop-place.place (record { dest = c.index-prefixes-place.result; number = c.loop-place.place })
-          c.args.addresses.now _ _ at refl c.take_row-near.ensures.longest c.loop-place.invariant.longest;
-      blocks = blocks_next c.args.prefixes.now c.loop-place.place c.index-prefixes-place.result at c.loop-place.invariant.blocks c.take_row-near.ensures.block;
+      longest = kept_next c.args.prefixes.now (λ place. place) c.loop-place.place c.index-prefixes-place.result c.loop-place.place
+          c.args.addresses.now _ _ at refl c.take_prefix-near.ensures.longest c.loop-place.invariant.longest;
+      blocks = blocks_next c.args.prefixes.now c.loop-place.place c.index-prefixes-place.result at c.loop-place.invariant.blocks
+          c.take_prefix-near.ensures.block;
     }

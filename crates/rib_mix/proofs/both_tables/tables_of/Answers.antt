@@ -1,7 +1,7 @@
 use Rattle.std.proofs.Common.{ℕ, subst}
 use Rattle.route_core.specs.Rows.{AreTableParts}
 use Rattle.rib_mix.specs.declared.both_tables.BothTables.{BothTables}
-use Rattle.rib_mix.proofs.RowSteps.{count_more, each_more}
+use Rattle.prefix_atoms.proofs.Pushed.{count_more, each_more}
 use Rattle.rib_mix.proofs.both_tables.tables_of.Goals as goal
 
 pub loop-router-preserved : goal.loop-router-preserved

@@ -1,7 +1,7 @@
 use Rattle.std.proofs.Common.{ℕ, List, arith}
 use Rattle.net_addr.specs.Addresses.{Block}
 use Rattle.rib_mix.specs.Rows.{AreSubnets}
-use Rattle.rib_mix.proofs.RowSteps.{count_more, each_more}
+use Rattle.prefix_atoms.proofs.Pushed.{count_more, each_more}
 use Rattle.rib_mix.proofs.mixed.all_subnets.Goals as goal
 
 pub loop-router-preserved : goal.loop-router-preserved
