@@ -18,7 +18,7 @@ use Rattle.igp_theory.proofs.LoopLaws.{old_or_new_step}
 use Rattle.igp_theory.proofs.SameTables.{follows_over}
 use Rattle.order_core.specs.Marks.{IsMarked}
 use Rattle.rib_mix.specs.Answers.{IsAlikeAt}
-use Rattle.loop_finder.specs.steps.Ends.{ReadHops, AreNoHops, EndStep, HasBothSteps, ends_of, hops_at}
+use Rattle.loop_finder.specs.steps.Ends.{ReadHops, AreNoHops, EndStep, HasBothSteps, hops_at}
 use Rattle.loop_finder.specs.steps.Making.{IsHopsOf, IsMaking, IsRead, IsReadAt, IsSameAt}
 use Rattle.loop_finder.specs.steps.PartRows.{AreKept, HasHops, HasMarked, HaveHops, IsRowOf, AreFirstRows}
 use Rattle.loop_finder.specs.Parts.{PhaseHops, hops_of, no_hops, StepsOf, StepsEver, HasStepOf, AllMove, HaveReturning, IsPart, AreAllBut, AddsUnless}
@@ -84,33 +84,34 @@ inside lists u h among = elim (cases_lt u (length lists)) [
   | inr past ↦ absurd (Contains-none h (subst (λ (hops : List ℕ). Contains hops h) (get_or_past lists u [] past) among))
 ]
 
+-- so no others step on
+pub steps_within : (lists : ReadHops) (n x y : ℕ) → length lists.olds ≡ n → length lists.news ≡ n → EndStep lists x y → x < n
+steps_within lists n x y olds news (inl among) = omega (arith, inside lists.olds x y among, olds)
+steps_within lists n x y olds news (inr among) = omega (arith, inside lists.news x y among, news)
+
 -- where a walk passes none of the routers that changed, it was one before
 pub returns_again : (one other : ReadHops) (n : ℕ) (changed : List ℕ) (before marks : List Bool) → length other.olds ≡ n → length other.news ≡ n
-    → AreAllBut (IsSameAt one other) n changed → MarksReturns (EndStep (ends_of one n)) before
-    → MarksAgain (EndStep (ends_of other n)) changed before marks → MarksReturns (EndStep (ends_of other n)) marks
+    → AreAllBut (IsSameAt one other) n changed → MarksReturns (EndStep one) before
+    → MarksAgain (EndStep other) changed before marks → MarksReturns (EndStep other) marks
 returns_again one other n changed before marks olds news same returns again u h hops follows = elim (again u h hops follows) [
   | inl marked ↦ marked
   | inr stays ↦ stays.0 (returns u h hops (follows_over (λ x y steps. over x y steps.0 steps.1) u (h ∷ hops) u stays.1))
 ]
   where
-    was : (x y : ℕ) → IsSameAt one other x → EndStep (ends_of other n) x y → EndStep (ends_of one n) x y
+    was : (x y : ℕ) → IsSameAt one other x → EndStep other x y → EndStep one x y
     was x y is (inl among) = inl (subst (λ (xs : List ℕ). Contains xs y) (sym is.olds) among)
     was x y is (inr among) = inr (subst (λ (xs : List ℕ). Contains xs y) (sym is.news) among)
 
-    there : (x y : ℕ) → EndStep (ends_of other n) x y → x < n
-    there x y (inl among) = omega (arith, inside other.olds x y among, olds)
-    there x y (inr among) = omega (arith, inside other.news x y among, news)
-
-    over : (x y : ℕ) → EndStep (ends_of other n) x y → (¬ Contains changed x) → EndStep (ends_of one n) x y
-    over x y steps apart = elim (same.whole x (there x y steps)) [
+    over : (x y : ℕ) → EndStep other x y → (¬ Contains changed x) → EndStep one x y
+    over x y steps apart = elim (same.whole x (steps_within other n x y olds news steps)) [
       | inl among ↦ absurd (apart among)
       | inr is ↦ was x y is steps
     ]
 
 -- where none changed, the same routers are returned to
 pub returns_still : (one other : ReadHops) (n : ℕ) (changed : List ℕ) (marks : List Bool) → length changed ≡ 0 → length other.olds ≡ n
-    → length other.news ≡ n → AreAllBut (IsSameAt one other) n changed → MarksReturns (EndStep (ends_of one n)) marks
-    → MarksReturns (EndStep (ends_of other n)) marks
+    → length other.news ≡ n → AreAllBut (IsSameAt one other) n changed → MarksReturns (EndStep one) marks
+    → MarksReturns (EndStep other) marks
 returns_still one other n changed marks none olds news same returns =
     returns_again one other n changed marks marks olds news same returns (λ u h hops follows. inr (
       (λ marked. marked),
@@ -137,7 +138,7 @@ all_move_from m atom p lists network target read each u must = elim (each u must
     }
 
 -- a step of both networks is one of what was read
-over_read : (m : Mix) (atom : ℕ) (lists : ReadHops) (x y : ℕ) → IsRead m atom lists → StepsEver m atom x y → EndStep (ends_of lists (length m.net)) x y
+over_read : (m : Mix) (atom : ℕ) (lists : ReadHops) (x y : ℕ) → IsRead m atom lists → StepsEver m atom x y → EndStep lists x y
 over_read m atom lists x y read (inl one) =
     inl ((steps_to_those m atom x Old (hops_at lists.olds x) read.class read.address (read.each x one.must.router).olds one.must y).1 one)
 over_read m atom lists x y read (inr other) =
@@ -190,11 +191,18 @@ row_none m atom marks u row none never = record {
 }
 
 -- a row with the marked ones of a router's hops has all of these
-pub row_has : (m : Mix) (atom : ℕ) (marks : List Bool) (u : ℕ) (row own : PhaseHops) → IsRowOf m atom marks u own
-    → HasMarked marks row.old own.old → HasMarked marks row.middle own.middle → HasMarked marks row.new own.new → HasHops m atom marks u row
-row_has m atom marks u row own is olds middles news Old h steps here there = olds h (is.all Old h steps here there) there
-row_has m atom marks u row own is olds middles news Middle h steps here there = middles h (is.all Middle h steps here there) there
-row_has m atom marks u row own is olds middles news New h steps here there = news h (is.all New h steps here there) there
+pub row_has : (m : Mix) (atom : ℕ) (marks : List Bool) (u : ℕ) (row own : PhaseHops) → atom < length m.classes.samples → sample_of m.classes atom < 2 ^ 32
+    → ((phase : Phase) → IsHopsOf m atom u phase (hops_of own phase)) → HasMarked marks row.old own.old → HasMarked marks row.middle own.middle
+    → HasMarked marks row.new own.new → HasHops m atom marks u row
+row_has m atom marks u row own within address are olds middles news = all
+  where
+    among : (phase : Phase) (h : ℕ) → StepsOf m atom u phase h → Contains (hops_of own phase) h
+    among phase h steps = (steps_to_those m atom u phase (hops_of own phase) within address (are phase) steps.must h).1 steps
+
+    all : HasHops m atom marks u row
+    all Old h steps here there = olds h (among Old h steps) there
+    all Middle h steps here there = middles h (among Middle h steps) there
+    all New h steps here there = news h (among New h steps) there
 
 -- what holds of n elements and of one more
 pub each_more : {X : Type 0} (Is : ℕ → X → Type 0) (xs longer : List X) (x d : X) (n : ℕ) → longer ≡ xs ++ x ∷ [] → length xs ≡ n

@@ -44,49 +44,24 @@ impl<'m> EndLists<'m> {
         requires { router < length self.now.olds }
         ensures { OnTrue result (HasBothSteps self.now router) }
     {
-        self.at(router).moves()
-    }
-
-    /// Puts hops in the place of a router's, and adds it to those changed where they aren't the same.
-    fn set(
-        &mut self,
-        router: u32,
-        ends: Ends<'m>,
-        changed: &mut Vec<u32>,
-    ) -> Result<(), OutOfMemory>
-        requires olds { router < length self.old.olds }
-        requires news { router < length self.old.news }
-        ensures olds { OnOk result (hops_at self.new.olds router ≡ old_hops ends.entry) }
-        ensures news { OnOk result (hops_at self.new.news router ≡ new_hops ends.entry) }
-        ensures olds_many { OnOk result (length self.new.olds ≡ length self.old.olds) }
-        ensures news_many { OnOk result (length self.new.news ≡ length self.old.news) }
-        ensures others { OnOk result ((u : ℕ) → ¬ (u ≡ router) → IsSameAt self.old self.new u) }
-        ensures changed { OnOk result (AddsUnless (IsSameAt self.old self.new router) router changed.old.items changed.new.items) }
-    {
-        if self.has(router, &ends) {
-            return Ok(());
-        }
-        self.put(router, ends);
-        changed.push(router)?;
-        Ok(())
-    }
-
-    /// Whether these are the hops of a router.
-    fn has(&self, router: u32, ends: &Ends<'_>) -> bool
-        requires { router < length self.now.olds }
-        ensures olds { OnTrue result (hops_at self.now.olds router ≡ old_hops ends.now) }
-        ensures news { OnTrue result (hops_at self.now.news router ≡ new_hops ends.now) }
-    {
-        self.at(router).is_same(ends)
+        self.at(router as usize).moves()
     }
 
     /// What was read of a router.
-    pub fn at(&self, router: u32) -> &Ends<'m>
+    pub fn at(&self, router: usize) -> &Ends<'m>
         requires { router < length self.now.olds }
         ensures olds { hops_at self.now.olds router ≡ old_hops result.now }
         ensures news { hops_at self.now.news router ≡ new_hops result.now }
     {
-        &self.all[router as usize]
+        &self.all[router]
+    }
+
+    /// The same, where the router is there.
+    pub fn get(&self, router: u32) -> Option<&Ends<'m>> {
+        if router as usize >= self.all.len() {
+            return None;
+        }
+        Some(&self.all[router as usize])
     }
 
     /// Puts hops in the place of a router's.
@@ -99,15 +74,16 @@ impl<'m> EndLists<'m> {
     }
 }
 
-/// Reads a class, and finds the routers of which not the same was read before. Only those are read that don't do the same
-/// as for the class that is known.
+/// Reads a class, and tells the routers that are read: those that don't do the same as for the class that is known.
 pub fn read_class<'m, O: RouteSource, N: RouteSource>(
     mixed: &'m Mixed<'_, O, N>,
+    routers: u32,
     atom: u32,
     known: Option<u32>,
     lists: &mut EndLists<'m>,
     changed: &mut Vec<u32>,
 ) -> Result<(), OutOfMemory>
+    requires routers { routers ≡ length mixed.now.net }
     requires atom { atom < length mixed.now.classes.samples }
     requires address { sample_of mixed.now.classes atom < 2 ^ 32 }
     requires olds { length lists.old.olds ≡ length mixed.now.net }
@@ -117,13 +93,13 @@ pub fn read_class<'m, O: RouteSource, N: RouteSource>(
     ensures changed { OnOk result (AreAllBut (IsSameAt lists.old lists.new) (length mixed.now.net) changed.new.items) }
 {
     changed.clear();
-    for router in 0..mixed.net().routers() {
+    for router in 0..routers {
         read_router(mixed, atom, known, router, lists, changed)?;
     }
     Ok(())
 }
 
-/// Reads a router, and adds it to those changed where not the same was read before.
+/// Reads a router and adds it to those changed, unless it does the same as for the class that is known.
 fn read_router<'m, O: RouteSource, N: RouteSource>(
     mixed: &'m Mixed<'_, O, N>,
     atom: u32,
@@ -149,7 +125,9 @@ fn read_router<'m, O: RouteSource, N: RouteSource>(
     }
     let olds = next_hops(mixed, atom, Phase::Old, router);
     let news = next_hops(mixed, atom, Phase::New, router);
-    lists.set(router, Ends::new(olds, news), changed)
+    lists.put(router, Ends::new(olds, news));
+    changed.push(router)?;
+    Ok(())
 }
 
 /// Whether a class is known for whose packets a router does the same.

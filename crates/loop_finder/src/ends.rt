@@ -1,8 +1,6 @@
-ghost use Rattle.std.specs.Prelude.{◌≡◌, ◌<◌, ◌↔◌, ◌⊎◌, ℕ, Contains, length, slice_index_or};
+ghost use Rattle.std.specs.Prelude.{◌≡◌, ◌<◌, length, slice_index_or};
 ghost use Rattle.std.specs.Bool.{OnTrue};
-ghost use Rattle.loop_finder.specs.steps.EndPairs.{IsOneHop, IsSamePair, new_hops, old_hops};
-
-use std::slice;
+ghost use Rattle.loop_finder.specs.steps.EndPairs.{IsOneHop, new_hops, old_hops};
 
 /// The hops of a router in both networks. One hop alone is told itself, so that it isn't looked up again.
 #[derive(Clone, Copy)]
@@ -25,17 +23,6 @@ impl<'m> Ends<'m> {
         Ends::Each(olds, news)
     }
 
-    /// The hops in either network, in two lists.
-    pub fn hops(&self) -> (&[u32], &[u32])
-        ensures { (h : ℕ) → (Contains result.0.now h ⊎ Contains result.1.now h)
-            ↔ (Contains (old_hops self.now) h ⊎ Contains (new_hops self.now) h) }
-    {
-        match self {
-            Ends::One(hop) => (slice::from_ref(hop), &[]),
-            Ends::Each(olds, news) => (olds, news),
-        }
-    }
-
     /// Whether there is a hop in both.
     pub fn moves(&self) -> bool
         ensures { OnTrue result ((0 < length (old_hops self.now)) × (0 < length (new_hops self.now))) }
@@ -43,19 +30,6 @@ impl<'m> Ends<'m> {
         match self {
             Ends::One(_) => true,
             Ends::Each(olds, news) => !olds.is_empty() && !news.is_empty(),
-        }
-    }
-
-    /// Whether these are another's hops.
-    pub fn is_same(&self, other: &Ends<'_>) -> bool
-        ensures { OnTrue result (IsSamePair self.now other.now) }
-    {
-        match (self, other) {
-            (Ends::One(hop), Ends::One(own)) => hop == own,
-            (Ends::Each(olds, news), Ends::Each(own_olds, own_news)) => {
-                *olds == *own_olds && *news == *own_news
-            }
-            _ => false,
         }
     }
 }

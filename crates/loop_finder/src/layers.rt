@@ -1,5 +1,6 @@
-use crate::graph::StepGraph;
-use crate::live::{is_marked, none_marked};
+use crate::end_lists::EndLists;
+use crate::ends::Ends;
+use crate::live::none_marked;
 use rib_mix::OutOfMemory;
 use std::alloc::Global;
 
@@ -19,9 +20,18 @@ pub struct Layers {
     visits: Vec<Visit>,
     /// The number of the router that is reached next. These fall, and are above all layers.
     number: u32,
+    /// The layer that is given next.
+    next: u32,
+}
+
+/// A search from one router on.
+#[derive(Drop)]
+struct Search<'s> {
+    numbers: &'s mut [u32],
+    visits: &'s mut [Visit],
+    number: u32,
     /// The router reached last of those that have no layer yet.
     open: u32,
-    /// The layer that is given next.
     next: u32,
 }
 
@@ -57,7 +67,6 @@ impl Layers {
             numbers: vec![in alloc; 0; each]?,
             visits: vec![in alloc; NO_VISIT; each]?,
             number: 0,
-            open: 0,
             next: 0,
         })
     }
@@ -69,67 +78,92 @@ impl Layers {
 
     /// Chooses the layers of some routers, of those marked, and of all to which steps lead from them; the others have none.
     /// Takes time of their steps and of all routers, and no memory.
-    pub fn choose<G: StepGraph>(&mut self, graph: &G, roots: &[u32], marks: &[bool]) {
+    pub fn choose(&mut self, lists: &EndLists<'_>, roots: &[u32], marks: &[bool]) {
         self.numbers.fill(NO_LAYER);
         self.number = NO_LAYER - 1;
         self.next = 0;
         for root in roots {
-            self.search_once(graph, *root);
+            self.search_once(lists, *root);
         }
         if !none_marked(marks) {
-            self.search_marked(graph, marks);
+            self.search_marked(lists, marks);
         }
     }
 
     /// Searches all that can be reached from marked routers and isn't reached yet.
-    fn search_marked<G: StepGraph>(&mut self, graph: &G, marks: &[bool]) {
-        for router in 0..graph.size() {
-            if is_marked(marks, router) {
-                self.search_once(graph, router);
+    #[inline(never)]
+    fn search_marked(&mut self, lists: &EndLists<'_>, marks: &[bool]) {
+        let mut router = 0u32;
+        for mark in marks {
+            if *mark {
+                self.search_once(lists, router);
             }
+            router = router.saturating_add(1);
         }
     }
 
-    /// Searches all that can be reached from a router, where it isn't reached yet.
+    /// Searches all that can be reached from a router, where it isn't reached yet. Mostly it steps to routers that have layers.
     #[inline(always)]
-    fn search_once<G: StepGraph>(&mut self, graph: &G, router: u32) {
-        if number_of(self.numbers.as_slice(), router) != NO_LAYER || router >= graph.size() {
+    fn search_once(&mut self, lists: &EndLists<'_>, router: u32) {
+        let numbers = self.numbers.as_mut_slice();
+        if number_of(numbers, router) != NO_LAYER {
             return;
         }
-        let (hops, others) = graph.hops(router);
-        if self.are_layered(hops) && self.are_layered(others) {
-            self.set(router, self.next);
-            self.next = self.next.saturating_add(1);
+        if !leads_to_layers(lists, router, numbers) {
+            self.search_from(lists, router);
             return;
         }
-        self.search_from(graph, router);
-    }
-
-    /// Whether all of some routers have layers, between searches.
-    #[inline(always)]
-    fn are_layered(&self, routers: &[u32]) -> bool {
-        for router in routers {
-            if number_of(self.numbers.as_slice(), *router) == NO_LAYER {
-                return false;
-            }
-        }
-        true
+        set_number(numbers, router, self.next);
+        self.next = self.next.saturating_add(1);
     }
 
     /// Searches all that can be reached from a router and isn't reached yet: each router is reached once, and left once.
     #[inline(never)]
-    fn search_from<G: StepGraph>(&mut self, graph: &G, root: u32) {
+    fn search_from(&mut self, lists: &EndLists<'_>, root: u32) {
+        let mut search = Search {
+            numbers: self.numbers.as_mut_slice(),
+            visits: self.visits.as_mut_slice(),
+            number: self.number,
+            open: root,
+            next: self.next,
+        };
+        search.run(lists, root);
+        let (number, next) = (search.number, search.next);
+        self.number = number;
+        self.next = next;
+    }
+}
+
+impl<'s> Search<'s> {
+    /// Searches from a router that isn't reached yet.
+    #[inline(always)]
+    fn run(&mut self, lists: &EndLists<'_>, root: u32) {
+        if self.closes_chain(lists, root) {
+            return;
+        }
         self.reach(root, root);
         let mut router = root;
-        for _ in 0..2 * u64::from(graph.size()) {
-            match self.next_router(graph, router) {
+        for _ in 0..self.visits.len().saturating_mul(2) {
+            match self.next_router(lists, router) {
                 Some(next) => router = next,
                 None => return,
             }
         }
     }
 
+    /// Gives layers to a router and those after it, where each steps to the next one alone and the last to routers that have layers.
+    fn closes_chain(&mut self, lists: &EndLists<'_>, router: u32) -> bool {
+        let next = self.next;
+        let Some(many) = chain_length(lists, router, self.numbers, next) else {
+            return false;
+        };
+        self.next = next.saturating_add(many);
+        give_layers(lists, router, many, next.saturating_add(many), self.numbers);
+        true
+    }
+
     /// Reaches a router from another, or from itself.
+    #[inline(always)]
     fn reach(&mut self, router: u32, from: u32) {
         if let Some(visit) = self.visits.get_mut(router as usize) {
             *visit = Visit {
@@ -140,28 +174,48 @@ impl Layers {
             };
             self.open = router;
         }
-        self.set(router, self.number);
+        set_number(self.numbers, router, self.number);
         self.number = self.number.saturating_sub(1);
-    }
-
-    /// Sets the number of a router.
-    fn set(&mut self, router: u32, number: u32) {
-        if let Some(own) = self.numbers.get_mut(router as usize) {
-            *own = number;
-        }
     }
 
     /// The router at which the search goes on after another: one that this steps to and that isn't reached, else the one from
     /// which it was reached; none where it was reached from itself.
-    fn next_router<G: StepGraph>(&mut self, graph: &G, router: u32) -> Option<u32> {
+    #[inline(always)]
+    fn next_router(&mut self, lists: &EndLists<'_>, router: u32) -> Option<u32> {
         let visit = self.visits.get(router as usize).copied()?;
-        if router >= graph.size() {
-            return None;
+        match lists.get(router)? {
+            Ends::One(hop) => self.after_one(router, visit, *hop),
+            Ends::Each(olds, news) => self.after_each(lists, router, visit, (olds, news)),
         }
-        let steps = graph.hops(router);
-        match follow(steps, visit.followed, router, self.numbers.as_mut_slice()) {
+    }
+
+    /// The same, where the router steps to one alone.
+    #[inline(always)]
+    fn after_one(&mut self, router: u32, visit: Visit, hop: u32) -> Option<u32> {
+        let number = number_of(self.numbers, hop);
+        if number == NO_LAYER {
+            self.reach(hop, router);
+            return Some(hop);
+        }
+        raise(self.numbers, router, number);
+        self.go_back(router, visit)
+    }
+
+    /// The same, where it has steps in two lists.
+    #[inline(always)]
+    fn after_each(
+        &mut self,
+        lists: &EndLists<'_>,
+        router: u32,
+        visit: Visit,
+        steps: (&[u32], &[u32]),
+    ) -> Option<u32> {
+        match follow(steps, visit.followed, router, self.numbers) {
             Some((hop, place)) => {
                 self.keep(router, place);
+                if self.closes_chain(lists, hop) {
+                    return Some(router);
+                }
                 self.reach(hop, router);
                 Some(hop)
             }
@@ -170,6 +224,7 @@ impl Layers {
     }
 
     /// Keeps how many steps of a router were followed.
+    #[inline(always)]
     fn keep(&mut self, router: u32, followed: usize) {
         if let Some(visit) = self.visits.get_mut(router as usize) {
             visit.followed = followed;
@@ -178,8 +233,9 @@ impl Layers {
 
     /// Goes back to the router from which a router was reached, all of whose steps were followed. A router that leads to none
     /// reached before it closes a strongly connected part.
+    #[inline(always)]
     fn go_back(&mut self, router: u32, visit: Visit) -> Option<u32> {
-        if number_of(self.numbers.as_slice(), router) == visit.number {
+        if number_of(self.numbers, router) == visit.number {
             self.give_layer(router);
         }
         if visit.from == router {
@@ -189,6 +245,7 @@ impl Layers {
     }
 
     /// Gives the next layer to a router and to those that were reached after it and have none.
+    #[inline(always)]
     fn give_layer(&mut self, router: u32) {
         for _ in 0..self.numbers.len() {
             if self.close_last() == router {
@@ -199,14 +256,77 @@ impl Layers {
     }
 
     /// Gives the next layer to the router that was reached last of those that have none, and tells it.
+    #[inline(always)]
     fn close_last(&mut self) -> u32 {
         let router = self.open;
-        self.set(router, self.next);
+        set_number(self.numbers, router, self.next);
         if let Some(visit) = self.visits.get(router as usize) {
             self.open = visit.before;
         }
         router
     }
+}
+
+/// How many routers there are from one without layer on, where each steps to the next one alone and the last to routers that
+/// have layers, all below this one; none where that isn't so.
+fn chain_length(lists: &EndLists<'_>, first: u32, numbers: &[u32], next: u32) -> Option<u32> {
+    let mut router = first;
+    let mut many = 1u32;
+    for _ in 0..numbers.len() {
+        let ends = lists.get(router)?;
+        if let Some(hop) = unreached_hop(ends, numbers) {
+            router = hop;
+            many = many.saturating_add(1);
+        } else if leads_below(ends, numbers, next) {
+            return Some(many);
+        } else {
+            return None;
+        }
+    }
+    None
+}
+
+/// The only hop, where it isn't reached yet.
+#[inline(always)]
+fn unreached_hop(ends: &Ends<'_>, numbers: &[u32]) -> Option<u32> {
+    match ends {
+        Ends::One(hop) if number_of(numbers, *hop) == NO_LAYER => Some(*hop),
+        _ => None,
+    }
+}
+
+/// Whether all hops have layers, below this one.
+#[inline(always)]
+fn leads_below(ends: &Ends<'_>, numbers: &[u32], next: u32) -> bool {
+    match ends {
+        Ends::One(hop) => number_of(numbers, *hop) < next,
+        Ends::Each(olds, news) => {
+            are_below(olds, numbers, next) && are_below(news, numbers, next)
+        }
+    }
+}
+
+/// Gives so many routers, each of which is the only one that the one before steps to, the layers below one, falling.
+fn give_layers(lists: &EndLists<'_>, first: u32, many: u32, next: u32, numbers: &mut [u32]) {
+    let mut router = first;
+    let mut number = next;
+    for _ in 0..many {
+        number = number.saturating_sub(1);
+        set_number(numbers, router, number);
+        if let Some(Ends::One(hop)) = lists.get(router) {
+            router = *hop;
+        }
+    }
+}
+
+/// Whether all of some routers have layers, below this one.
+fn are_below(routers: &[u32], numbers: &[u32], next: u32) -> bool {
+    for router in routers {
+        if number_of(numbers, *router) >= next {
+            return false;
+        }
+    }
+    true
 }
 
 /// Follows the steps of a router, in two lists, from a place on to the first that leads to one that isn't reached, which it tells with
@@ -229,9 +349,7 @@ fn follow(
         }
         highest = highest.max(number);
     }
-    if let Some(own) = numbers.get_mut(router as usize) {
-        *own = highest;
-    }
+    set_number(numbers, router, highest);
     reached
 }
 
@@ -243,6 +361,41 @@ fn hop_at(hops: &[u32], others: &[u32], place: usize) -> u32 {
             .get(place.saturating_sub(hops.len()))
             .copied()
             .unwrap_or(0),
+    }
+}
+
+/// Whether a router is there, and all routers that it steps to have layers, between searches.
+#[inline(always)]
+fn leads_to_layers(lists: &EndLists<'_>, router: u32, numbers: &[u32]) -> bool {
+    match lists.get(router) {
+        Some(Ends::One(hop)) => number_of(numbers, *hop) != NO_LAYER,
+        Some(Ends::Each(olds, news)) => are_layered(olds, numbers) && are_layered(news, numbers),
+        None => false,
+    }
+}
+
+/// Whether all of some routers have layers, between searches.
+#[inline(always)]
+fn are_layered(routers: &[u32], numbers: &[u32]) -> bool {
+    for router in routers {
+        if number_of(numbers, *router) == NO_LAYER {
+            return false;
+        }
+    }
+    true
+}
+
+/// Sets the number of a router.
+fn set_number(numbers: &mut [u32], router: u32, number: u32) {
+    if let Some(own) = numbers.get_mut(router as usize) {
+        *own = number;
+    }
+}
+
+/// Raises the number of a router to another, where it's lower.
+fn raise(numbers: &mut [u32], router: u32, number: u32) {
+    if let Some(own) = numbers.get_mut(router as usize) {
+        *own = (*own).max(number);
     }
 }
 

@@ -8,7 +8,7 @@
 //! | File | What it holds |
 //! |---|---|
 //! | `finder`, `fault`, `room` | the finder, what it finds, and its room to work in |
-//! | `ends`, `end_lists`, `end_steps`, `class_hops`, `graph` | the hops of a class in both networks, and where they changed |
+//! | `ends`, `end_lists`, `class_hops`, `graph` | the hops of a class in both networks, and where they changed |
 //! | `layers`, `level_marks`, `parts`, `part` | where a walk may return, by one search for strongly connected parts, and the parts |
 //! | `watch`, `known` | which parts a change of a router concerns, and what is known of the latest order |
 //! | `order_fault`, `change`, `follow`, `returns` | orders: after a change only walks through the router changed |
@@ -28,7 +28,6 @@ mod room;
 // the hops of a class in both networks
 mod class_hops;
 mod end_lists;
-mod end_steps;
 mod ends;
 mod graph;
 

@@ -176,18 +176,16 @@ impl<'m> Part<'m> {
         &self,
         mixed: &Mixed<'_, O, N>,
         atom: u32,
-        target: Prefix,
         marks: &[bool],
         digest: u64,
     ) -> bool
         requires rows { length self.now.rows ≡ length mixed.now.net }
         requires atom { atom < length mixed.now.classes.samples }
         requires address { sample_of mixed.now.classes atom < 2 ^ 32 }
-        requires target { IsTargetIn mixed.now.net (sample_of mixed.now.classes atom) target }
         requires marks { length marks.now ≡ length mixed.now.net }
         ensures { OnTrue result (HaveHops (mix_of O.table N.table mixed.now) atom marks.now self.now.rows) }
     {
-        self.digest == digest && have_hops(mixed, atom, target, marks, self.rows.as_slice())
+        self.digest == digest && have_hops(mixed, atom, marks, self.rows.as_slice())
     }
 }
 
@@ -195,19 +193,17 @@ impl<'m> Part<'m> {
 fn have_hops<O: RouteSource, N: RouteSource>(
     mixed: &Mixed<'_, O, N>,
     atom: u32,
-    target: Prefix,
     marks: &[bool],
     rows: &[Row<'_>],
 ) -> bool
     requires rows { length rows.now ≡ length mixed.now.net }
     requires atom { atom < length mixed.now.classes.samples }
     requires address { sample_of mixed.now.classes atom < 2 ^ 32 }
-    requires target { IsTargetIn mixed.now.net (sample_of mixed.now.classes atom) target }
     requires marks { length marks.now ≡ length mixed.now.net }
     ensures { OnTrue result (HaveHops (mix_of O.table N.table mixed.now) atom marks.now rows.now) }
 {
     for router in 0..mixed.net().routers() {
-        if !has_hops(mixed, atom, target, router, marks, &rows[router as usize]) {
+        if !has_hops(mixed, atom, router, marks, &rows[router as usize]) {
             return false;
         }
     }
@@ -218,21 +214,40 @@ fn have_hops<O: RouteSource, N: RouteSource>(
 fn has_hops<O: RouteSource, N: RouteSource>(
     mixed: &Mixed<'_, O, N>,
     atom: u32,
-    target: Prefix,
     router: u32,
     marks: &[bool],
     row: &Row<'_>,
 ) -> bool
     requires atom { atom < length mixed.now.classes.samples }
     requires address { sample_of mixed.now.classes atom < 2 ^ 32 }
-    requires target { IsTargetIn mixed.now.net (sample_of mixed.now.classes atom) target }
     requires router { router < length mixed.now.net }
     ensures { OnTrue result (HasHops (mix_of O.table N.table mixed.now) atom marks.now router row.now) }
 {
     if !is_marked(marks, router) {
         return true;
     }
-    let own = row_of(mixed, atom, target, router, marks);
+    has_marked_hops(mixed, atom, router, marks, row)
+}
+
+/// Whether a row has all hops of a router to marked ones.
+#[inline(never)]
+fn has_marked_hops<O: RouteSource, N: RouteSource>(
+    mixed: &Mixed<'_, O, N>,
+    atom: u32,
+    router: u32,
+    marks: &[bool],
+    row: &Row<'_>,
+) -> bool
+    requires atom { atom < length mixed.now.classes.samples }
+    requires address { sample_of mixed.now.classes atom < 2 ^ 32 }
+    requires router { router < length mixed.now.net }
+    ensures { OnTrue result (HasHops (mix_of O.table N.table mixed.now) atom marks.now router row.now) }
+{
+    let own = Row {
+        old: next_hops(mixed, atom, Phase::Old, router),
+        middle: next_hops(mixed, atom, Phase::Middle, router),
+        new: next_hops(mixed, atom, Phase::New, router),
+    };
     row.has_all(&own, marks)
 }
 

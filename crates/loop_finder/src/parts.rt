@@ -8,7 +8,6 @@ ghost use Rattle.loop_finder.specs.ClassSteps.{mix_of, sample_of};
 
 use crate::class_fault::class_target;
 use crate::end_lists::{EndLists, read_class};
-use crate::end_steps::EndSteps;
 use crate::layers::Layers;
 use crate::level_marks::mark_returns;
 use crate::live::none_marked;
@@ -25,7 +24,7 @@ pub struct Making<'m> {
     pub known: Option<u32>,
     /// What was read of it.
     pub lists: EndLists<'m>,
-    /// The routers of which not the same was read as of the class before.
+    /// The routers that were read anew for it: what they do isn't known to be the same as for the class before.
     pub changed: Vec<u32>,
     /// For each router whether a walk over the class's steps may return to it.
     pub marks: Vec<bool>,
@@ -65,14 +64,21 @@ impl<'m> Making<'m> {
         ensures known { OnOk result (self.new.known ≡ Some atom) }
         ensures read { OnOk result (IsRead (mix_of O.table N.table mixed.now) atom self.new.lists) }
     {
-        read_class(mixed, atom, self.known, &mut self.lists, &mut self.changed)?;
+        let known = self.known;
+        read_class(
+            mixed,
+            routers,
+            atom,
+            known,
+            &mut self.lists,
+            &mut self.changed,
+        )?;
         self.known = Some(atom);
         let changed = self.changed.as_slice();
         if changed.is_empty() {
             return Ok(());
         }
-        let ends = EndSteps::new(&self.lists, routers);
-        mark_returns(&ends, changed, &mut self.layers, &mut self.marks);
+        mark_returns(&self.lists, changed, &mut self.layers, &mut self.marks);
         Ok(())
     }
 }
@@ -137,7 +143,7 @@ fn add_known<'m, O: RouteSource, N: RouteSource>(
     ensures { OnOk result (AreParts (mix_of O.table N.table mixed.now) parts.new.items (atom + 1)) }
 {
     let moves = all_move(mixed, atom, target, making);
-    if moves && is_covered(mixed, atom, target, making, parts.as_slice()) {
+    if moves && is_covered(mixed, atom, making, parts.as_slice()) {
         return Ok(());
     }
     let marks = making.marks.as_slice();
@@ -171,13 +177,11 @@ fn all_move<O: RouteSource, N: RouteSource>(
 fn is_covered<O: RouteSource, N: RouteSource>(
     mixed: &Mixed<'_, O, N>,
     atom: u32,
-    target: Prefix,
     making: &Making<'_>,
     parts: &[Part<'_>],
 ) -> bool
     requires atom { atom < length mixed.now.classes.samples }
     requires address { sample_of mixed.now.classes atom < 2 ^ 32 }
-    requires target { IsTargetIn mixed.now.net (sample_of mixed.now.classes atom) target }
     requires making { IsMaking (length mixed.now.net) making.now }
     requires read { IsRead (mix_of O.table N.table mixed.now) atom making.now.lists }
     requires all { AllMove (mix_of O.table N.table mixed.now) atom }
@@ -188,27 +192,25 @@ fn is_covered<O: RouteSource, N: RouteSource>(
     if none_marked(marks) {
         return true;
     }
-    has_earlier(mixed, atom, target, marks, digest_of(marks), parts)
+    has_earlier(mixed, atom, marks, digest_of(marks), parts)
 }
 
 /// Whether one of some parts has the hops of a class between marked routers, of which this is the digest.
 fn has_earlier<O: RouteSource, N: RouteSource>(
     mixed: &Mixed<'_, O, N>,
     atom: u32,
-    target: Prefix,
     marks: &[bool],
     digest: u64,
     parts: &[Part<'_>],
 ) -> bool
     requires atom { atom < length mixed.now.classes.samples }
     requires address { sample_of mixed.now.classes atom < 2 ^ 32 }
-    requires target { IsTargetIn mixed.now.net (sample_of mixed.now.classes atom) target }
     requires marks { length marks.now ≡ length mixed.now.net }
     requires parts { All (λ part. length part.rows ≡ length mixed.now.net) parts.now }
     ensures { OnTrue result (HasEarlierHops (mix_of O.table N.table mixed.now) atom marks.now parts.now) }
 {
     for part in parts {
-        if part.has_hops_of(mixed, atom, target, marks, digest) {
+        if part.has_hops_of(mixed, atom, marks, digest) {
             return true;
         }
     }

@@ -11,11 +11,6 @@ abbrev pub new_hops : Ends → List ℕ
 new_hops (One hop) = hop ∷ []
 new_hops (Each olds news) = news.now
 
--- the same hops
-pub record IsSamePair (one other : Ends) : Type 0 where
-  pub olds : old_hops one ≡ old_hops other
-  pub news : new_hops one ≡ new_hops other
-
 -- the same hop alone, in two lists
 pub record IsOneHop (olds news : List ℕ) (hop : ℕ) : Type 0 where
   pub in_old : olds ≡ hop ∷ []

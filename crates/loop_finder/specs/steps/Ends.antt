@@ -19,21 +19,6 @@ pub record AreNoHops (n : ℕ) (lists : List (List ℕ)) : Type 0 where
   pub many : length lists ≡ n
   pub none : (u h : ℕ) → ¬ Contains (hops_at lists u) h
 
--- the hops of so many routers in Old and in New
-pub record EndHops : Type 0 where
-  pub olds : List (List ℕ)
-  pub news : List (List ℕ)
-  pub routers : ℕ
-
--- those of n routers
-abbrev pub ends_of : ReadHops → ℕ → EndHops
-ends_of lists n = record { olds = lists.olds; news = lists.news; routers = n }
-
--- they are those of so many routers
-pub record IsEndHops (e : EndHops) : Type 0 where
-  pub olds_many : length e.olds ≡ e.routers
-  pub news_many : length e.news ≡ e.routers
-
 -- a router steps to another in Old or in New
-abbrev pub EndStep : EndHops → ℕ → ℕ → Type 0
-EndStep e u h = Contains (hops_at e.olds u) h ⊎ Contains (hops_at e.news u) h
+abbrev pub EndStep : ReadHops → ℕ → ℕ → Type 0
+EndStep lists u h = Contains (hops_at lists.olds u) h ⊎ Contains (hops_at lists.news u) h

@@ -4,7 +4,7 @@ use Rattle.igp_theory.specs.declared.phase.Phase.{Phase}
 use Rattle.igp_theory.specs.declared.phase.Phase.TheVariants.{Old, New}
 use Rattle.rib_mix.specs.Answers.{IsAlikeAt, IsNextOf, NextLeadsTo}
 use Rattle.rib_mix.specs.declared.next.Next.{Next}
-use Rattle.loop_finder.specs.steps.Ends.{ReadHops, EndStep, AreNoHops, ends_of, hops_at}
+use Rattle.loop_finder.specs.steps.Ends.{ReadHops, EndStep, AreNoHops, hops_at}
 use Rattle.loop_finder.specs.Returns.{MarksReturns}
 use Rattle.loop_finder.specs.ClassSteps.{sample_of, Mix, migration_in}
 use Rattle.loop_finder.specs.declared.parts.Making.{Making}
@@ -53,4 +53,4 @@ pub record IsMaking (n : ℕ) (making : Making) : Type 0 where
   pub olds_many : length making.lists.olds ≡ n
   pub news_many : length making.lists.news ≡ n
   pub marks_many : vec_len making.marks ≡ n
-  pub returns : MarksReturns (EndStep (ends_of making.lists n)) making.marks.items
+  pub returns : MarksReturns (EndStep making.lists) making.marks.items

@@ -1,5 +1,4 @@
-use Rattle.std.proofs.Common.{◌≡◌, length, arith, refl, ap, ◌∙◌, below_more}
-use Rattle.net_model.specs.Network.{Network}
+use Rattle.std.proofs.Common.{arith, refl, ◌∙◌, below_more}
 use Rattle.loop_finder.specs.steps.Making.{IsReadAt, IsSameAt}
 use Rattle.loop_finder.proofs.PartRows.{AreAllBut-none, changed_more, known_at, known_class, read_same, same_twice}
 use Rattle.loop_finder.specs.ClassSteps.{mix_of}
@@ -20,10 +19,8 @@ read_router-requires-clause-class g c = known_class (mix_of g.O.RouteSource.tabl
 
 pub read_router-requires-clause-known : goal.read_router-requires-clause-known
 read_router-requires-clause-known g c =
-    let many : c.routers-router-end.result ≡ length c.args.mixed.now.net =
-    c.routers-router-end.ensures.count ∙ ap (λ (n : Network). length n) c.net.ensures in
     known_at (mix_of g.O.RouteSource.table g.N.RouteSource.table c.args.mixed.now) c.args.known c.args.lists.now c.loop-router.lists c.loop-router.router
-    c.requires.known (omega (arith, many, c.loop-router-test.true)) (c.loop-router.invariant.rest c.loop-router.router (omega arith))
+    c.requires.known (omega (arith, c.requires.routers, c.loop-router-test.true)) (c.loop-router.invariant.rest c.loop-router.router (omega arith))
 
 pub loop-router-preserved : goal.loop-router-preserved
 loop-router-preserved g c = record {

@@ -1,6 +1,6 @@
 use Rattle.std.proofs.Common.{◌≡◌, ℕ, Bool, List, length, ap, arith, eqb-true, ◌∙◌, sym, subst}
 use Rattle.std.proofs.lemmas.List.{with_items_is}
-use Rattle.loop_finder.specs.steps.Ends.{EndHops, EndStep, ends_of}
+use Rattle.loop_finder.specs.steps.Ends.{EndStep}
 use Rattle.loop_finder.specs.Returns.{MarksAgain, MarksReturns}
 use Rattle.loop_finder.proofs.PartRows.{returns_again, returns_still}
 use Rattle.loop_finder.proofs.parts.Making.read.Goals as goal
@@ -23,17 +23,13 @@ returns-clause-making g c = record {
   olds_many = c.in_ok-read_class.ensures.read.olds_many;
   news_many = c.in_ok-read_class.ensures.read.news_many;
   marks_many = c.requires.making.marks_many;
-  returns = subst (λ (marks : List Bool). MarksReturns (EndStep (ends_of c.read_class.new.lists (length c.args.mixed.now.net))) marks)
+  returns = subst (λ (marks : List Bool). MarksReturns (EndStep c.read_class.new.lists) marks)
       (sym (with_items_is c.args.self.now.marks c.mark_returns.new.marks (omega (arith, c.mark_returns.auto.marks, c.deref_mut.ensures.len))))
       (returns_again c.args.self.now.lists c.read_class.new.lists (length c.args.mixed.now.net) c.read_class.new.changed.items
       c.args.self.now.marks.items c.mark_returns.new.marks c.in_ok-read_class.ensures.read.olds_many c.in_ok-read_class.ensures.read.news_many
       c.in_ok-read_class.ensures.changed c.requires.making.returns
-      (subst (λ (e : EndHops). MarksAgain (EndStep e) c.read_class.new.changed.items c.args.self.now.marks.items c.mark_returns.new.marks) are
-      (subst (λ (xs : List ℕ). MarksAgain (EndStep c.new-ends.result) xs c.args.self.now.marks.items c.mark_returns.new.marks)
+      (subst (λ (xs : List ℕ). MarksAgain (EndStep c.read_class.new.lists) xs c.args.self.now.marks.items c.mark_returns.new.marks)
       c.as_slice-changed.ensures.value
-      (subst (λ (marks : List Bool). MarksAgain (EndStep c.new-ends.result) c.as_slice-changed.result.now marks c.mark_returns.new.marks)
-      c.deref_mut.ensures.value c.mark_returns.ensures))));
+      (subst (λ (marks : List Bool). MarksAgain (EndStep c.read_class.new.lists) c.as_slice-changed.result.now marks c.mark_returns.new.marks)
+      c.deref_mut.ensures.value c.mark_returns.ensures)));
 }
-  where
-    are : c.new-ends.result ≡ ends_of c.read_class.new.lists (length c.args.mixed.now.net)
-    are = c.new-ends.ensures ∙ ap (ends_of c.read_class.new.lists) c.requires.routers
