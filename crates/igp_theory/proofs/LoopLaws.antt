@@ -1,7 +1,8 @@
 -- Loops state by state: where they arise, and that an unsound state between sound ends has one with both tags.
 use Rattle.std.proofs.Common.{◌≡◌, ◌≢◌, ℕ, ◌^◌, ◌<◌, ◌≤◌, ◌⊎◌, inl, inr, Bool, true, false, cond, List, [], ◌∷◌}
-use Rattle.std.proofs.Common.{length, filter, Contains, AllPairs, refl, sym, ap, ◌∙◌, subst, arith}
+use Rattle.std.proofs.Common.{length, filter, All, Contains, AllPairs, refl, sym, ap, ◌∙◌, subst, arith}
 use Rattle.std.proofs.lemmas.Bool.{cases_lt, false≢true}
+use Rattle.std.proofs.lemmas.List.Elements.{All-contains_itself, All-weaker}
 use Rattle.order_core.specs.Turns.{is_old, is_new, routers_of, old_routers, new_routers, HasBothTags}
 use Rattle.order_core.specs.declared.turn.Tag.{Tag}
 use Rattle.order_core.specs.declared.turn.Tag.TheVariants as tag
@@ -132,6 +133,12 @@ pub tag_inside : (move : Migration) (u a h : ℕ) (t : Tag) →
 tag_inside move u a h tag.Old is = is.0.must.router
 tag_inside move u a h tag.New is = is.1.must.router
 tag_inside move u a h tag.Both is = is.0.must.router
+
+pub loop_inside : (move : Migration) (a : ℕ) (turns : List Turn) → IsLoop move a turns → All (λ (t : Turn). t.router < length move.net) turns
+loop_inside move a turns is =
+    All-weaker (Contains turns) (λ (t : Turn). t.router < length move.net)
+    (λ t among. let at = around_at (IsTagTo move a) turns t is.tags among in tag_inside move t.router a at.0.router t.tag at.1.steps) turns
+    (All-contains_itself turns)
 
 -- Where loops arise
 

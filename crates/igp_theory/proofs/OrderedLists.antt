@@ -1,5 +1,7 @@
 -- Lists whose elements stand in a relation to all later ones, and what they contain.
-use Rattle.std.proofs.Common.{◌≡◌, ℕ, zero, suc, ◌<◌, inl, inr, List, [], ◌∷◌, ◌++◌, length, get_or, Contains, arith, refl, subst}
+use Rattle.std.proofs.Common.{◌≡◌, ℕ, zero, suc, ◌+◌, ◌-◌, ◌<◌, inl, inr, List, [], ◌∷◌, ◌++◌, length, take, get_or, Contains, arith, refl, sym, ap, ◌∙◌, subst}
+use Rattle.std.proofs.Math.Seq.{take-append_seam, take-append-add}
+use Rattle.std.proofs.lemmas.List.{append_cancel_left}
 use Rattle.std.specs.List.{AllPairs}
 use Rattle.net_model.proofs.Members.{Contains-none, Contains-first, Contains-rest, Contains-cases}
 use Rattle.std.proofs.lemmas.List.Elements.{Contains-append_right, Contains-append_cases}
@@ -61,3 +63,20 @@ pairs_across R (z ∷ xs) ys pairs x y left right = elim (Contains-cases z xs x 
 
 pub pairs_weaker : {X : Type 0} (R S : X → X → Type 0) → ((x y : X) → R x y → S x y) → (xs : List X) → AllPairs R xs → AllPairs S xs
 pairs_weaker R S over xs pairs i j d before within = over (get_or xs i d) (get_or xs j d) (pairs i j d before within)
+
+-- Fronts of one list
+
+-- of two fronts the longer one goes on as the list
+pub longer : {X : Type 0} (before : List X) (x : X) (after others rest : List X) → before ++ x ∷ after ≡ others ++ rest →
+    length before < length others → others ≡ before ++ x ∷ take (length others - length before - 1) after
+longer before x after others rest same lower =
+    let more : ℕ = length others - length before - 1 in
+    let long : length others ≡ length before + suc more = omega (arith, lower) in
+    sym (take-append_seam others rest) ∙ ap (take (length others)) (sym same) ∙ ap (λ k. take k (before ++ x ∷ after)) long
+    ∙ take-append-add before (x ∷ after) (suc more)
+
+-- fronts of one length are one, and so is what follows them
+pub same_front : {X : Type 0} (b1 b2 r1 r2 : List X) → b1 ++ r1 ≡ b2 ++ r2 → length b1 ≡ length b2 → (b1 ≡ b2) × (r1 ≡ r2)
+same_front b1 b2 r1 r2 e long =
+    let fronts : b1 ≡ b2 = sym (take-append_seam b1 r1) ∙ ap (take (length b1)) e ∙ ap (λ k. take k (b2 ++ r2)) long ∙ take-append_seam b2 r2 in
+    (fronts, append_cancel_left b2 r1 r2 (ap (λ l. l ++ r1) (sym fronts) ∙ e))

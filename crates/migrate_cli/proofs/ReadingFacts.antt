@@ -41,10 +41,6 @@ AreWithin-more files texts file text within short together = record {
   together = let e = total_of-more files texts file text within.each in omega (arith, e, together);
 }
 
--- no files are within the limits
-pub AreWithin-none : AreWithin [] []
-AreWithin-none = record { each = tt; together = lit≤ tt }
-
 -- the first of some texts that are short enough are
 front_short : (content : Contents) (files more : List File) (texts others : List (List ℕ)) → AreRead content files texts →
     AreShort (files ++ more) (texts ++ others)

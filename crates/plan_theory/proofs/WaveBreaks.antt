@@ -1,29 +1,14 @@
 -- Between sound ends what is told of a wave list that isn't seamless is a loop that breaks its ranking.
 use Rattle.std.proofs.Common.{◌≡◌, ℕ, ◌<◌, List, length, Contains, arith, subst}
-use Rattle.std.specs.List.{All}
-use Rattle.std.proofs.lemmas.List.Elements.{All-contains_itself, All-weaker}
 use Rattle.order_core.specs.declared.turn.Turn.{Turn}
 use Rattle.igp_theory.specs.LoopLaws.{AreSoundEnds, IsLoopOfWave}
 use Rattle.igp_theory.specs.Loops.{missing, loop, IsLoop}
 use Rattle.igp_theory.specs.Migrations.{Migration}
 use Rattle.igp_theory.specs.WaveFaults.{IsWavesFault}
-use Rattle.igp_theory.proofs.LoopLaws.{tag_inside}
+use Rattle.igp_theory.proofs.LoopLaws.{loop_inside}
 use Rattle.igp_theory.proofs.LoopWaves.{wave_fault_between_ends}
-use Rattle.igp_theory.proofs.Rings.{around_at}
-use Rattle.igp_theory.proofs.Tags.{IsTagTo}
 use Rattle.order_search.specs.Meanings.{Break}
 use Rattle.plan_theory.specs.WavesMeaning.{IsPickedFault}
-
--- the routers of a loop are those of the network
-loop_inside : (move : Migration) (a : ℕ) (turns : List Turn) → IsLoop move a turns →
-    All (λ (t : Turn). t.router < length move.net) turns
-loop_inside move a turns is =
-    All-weaker (Contains turns) (λ (t : Turn). t.router < length move.net) (λ t among. inside t among) turns (All-contains_itself turns)
-  where
-    inside : (t : Turn) → Contains turns t → t.router < length move.net
-    inside t among =
-        let at = around_at (IsTagTo move a) turns t is.tags among in
-        tag_inside move t.router a at.0.router t.tag at.1.steps
 
 -- the loop of a wave breaks its wave list
 breaks_of_wave : (move : Migration) (ranks : List ℕ) (w a : ℕ) (turns : List Turn) → IsWavesFault move ranks w (loop a turns) →

@@ -1,11 +1,9 @@
 -- The nodes of a tree whose branches are loops of a network: they are of its routers, and they read back.
 use Rattle.std.proofs.Common.{ℕ, ◌<◌, ◌≤◌, List, [], ◌∷◌, ◌++◌, length, All, Contains, arith, ap, subst, sym}
-use Rattle.std.proofs.lemmas.List.Elements.{All-append, All-cons, All-contains, All-contains_itself, All-head, All-map, All-nil, All-push, All-tail, All-weaker}
+use Rattle.std.proofs.lemmas.List.Elements.{All-append, All-cons, All-contains, All-head, All-map, All-nil, All-push, All-tail, All-weaker}
 use Rattle.igp_theory.specs.Loops.{IsLoop}
 use Rattle.igp_theory.specs.Migrations.{Migration}
-use Rattle.igp_theory.proofs.LoopLaws.{tag_inside}
-use Rattle.igp_theory.proofs.Rings.{around_at}
-use Rattle.igp_theory.proofs.Tags.{IsTagTo}
+use Rattle.igp_theory.proofs.LoopLaws.{loop_inside}
 use Rattle.order_core.specs.Pairs.{Pair, AreBelow, IsPath}
 use Rattle.order_core.specs.Turns.{child_pairs}
 use Rattle.order_core.specs.declared.turn.Turn.{Turn}
@@ -25,14 +23,6 @@ Fill-each P Q R each (place ∷ places) left (node ∷ nodes) fill here =
     let both = each place node (All-head Q place places here) fill.0 in
     let rest = All-append Q (places_below place node) places both.1 (All-tail Q place places here) in
     All-cons R node nodes both.0 (Fill-each P Q R each (places_below place node ++ places) left nodes fill.1 rest)
-
--- The routers of a loop
-
-loop_below : (move : Migration) (a : ℕ) (turns : List Turn) → IsLoop move a turns → All (λ (t : Turn). t.router < length move.net) turns
-loop_below move a turns is =
-    All-weaker (Contains turns) (λ (t : Turn). t.router < length move.net)
-    (λ t among. let at = around_at (IsTagTo move a) turns t is.tags among in tag_inside move t.router a at.0.router t.tag at.1.steps) turns
-    (All-contains_itself turns)
 
 -- The routers of a cycle
 
@@ -65,7 +55,7 @@ module _ (move : Migration) where
   node_printable : (place : Place) (node : Node) → AreBelow (length move.net) place → IsTreeNode (IsLoop move) place node →
       IsPrintableNode (length move.net) node × All (AreBelow (length move.net)) (places_below place node)
   node_printable place (Branch a turns) below is =
-      let routers = loop_below move a turns is.0 in
+      let routers = loop_inside move a turns is.0 in
       let pairs = children_below (length move.net) turns routers in
       let more : (p : Pair) → (p.0 < length move.net) × (p.1 < length move.net) → AreBelow (length move.net) (place ++ p ∷ []) = λ p fine.
       All-push (λ (q : Pair). (q.0 < length move.net) × (q.1 < length move.net)) place p below fine in (

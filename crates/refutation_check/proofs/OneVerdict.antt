@@ -5,11 +5,11 @@ use Rattle.std.specs.List.{AllZip}
 use Rattle.std.proofs.lemmas.Bool.{cases_lt}
 use Rattle.std.proofs.lemmas.List.{append-nil, append_cancel_left}
 use Rattle.std.proofs.lemmas.List.Elements.{All-head, All-tail}
-use Rattle.std.proofs.Math.Seq.{take-append_seam, take-append-add}
 use Rattle.net_addr.specs.Addresses.{Block}
 use Rattle.net_addr.specs.Lines.{line_texts}
 use Rattle.net_model.specs.Network.{Connected}
 use Rattle.net_model.specs.Refusals.{IsNetwork}
+use Rattle.igp_theory.proofs.OrderedLists.{longer, same_front}
 use Rattle.igp_theory.specs.Forwarding.{MustForward, Steps}
 use Rattle.igp_theory.specs.Loops.{IsLoop, IsTag, IsTagOf}
 use Rattle.igp_theory.specs.Migrations.{Migration}
@@ -32,23 +32,6 @@ use Rattle.refutation_check.specs.steps.Rings.{next_at}
 use Rattle.refutation_check.proofs.BranchFacts.{one_target}
 use Rattle.refutation_check.proofs.RingPlaces.{around_at, round_from}
 use Rattle.refutation_check.proofs.SaidNodes.{form_of, one_node, one_zip, later_words}
-
--- Lists of lines
-
--- of two fronts of a list the longer one goes on as the list
-longer : (before : List (List ℕ)) (line : List ℕ) (after others rest : List (List ℕ)) → before ++ line ∷ after ≡ others ++ rest →
-    length before < length others → others ≡ before ++ line ∷ take (length others - length before - 1) after
-longer before line after others rest same lower =
-    let more : ℕ = length others - length before - 1 in
-    let long : length others ≡ length before + suc more = omega (arith, lower) in
-    sym (take-append_seam others rest) ∙ ap (take (length others)) (sym same) ∙ ap (λ k. take k (before ++ line ∷ after)) long
-    ∙ take-append-add before (line ∷ after) (suc more)
-
--- fronts of one length are one, and so is what follows them
-same_front : (b1 b2 r1 r2 : List (List ℕ)) → b1 ++ r1 ≡ b2 ++ r2 → length b1 ≡ length b2 → (b1 ≡ b2) × (r1 ≡ r2)
-same_front b1 b2 r1 r2 e long =
-    let fronts : b1 ≡ b2 = sym (take-append_seam b1 r1) ∙ ap (take (length b1)) e ∙ ap (λ k. take k (b2 ++ r2)) long ∙ take-append_seam b2 r2 in
-    (fronts, append_cancel_left b2 r1 r2 (ap (λ l. l ++ r1) (sym fronts) ∙ e))
 
 -- Places
 

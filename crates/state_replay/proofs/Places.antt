@@ -5,11 +5,11 @@ use Rattle.std.specs.List.{AllZip}
 use Rattle.std.proofs.lemmas.Bool.{cases_order}
 use Rattle.std.proofs.lemmas.List.{same_lists, get_or_default}
 use Rattle.std.proofs.lemmas.Slice.Zip.{all_zipped_more, AllZip-long}
-use Rattle.std.proofs.Math.Seq.{take-append_seam, take-append-add}
 use Rattle.net_addr.specs.Lines.{line_texts}
 use Rattle.net_model.specs.Network.{Network}
 use Rattle.net_model.specs.Refusals.{NamesAscend}
 use Rattle.order_core.specs.Rankings.{IsRanking}
+use Rattle.igp_theory.proofs.OrderedLists.{longer, same_front}
 use Rattle.igp_theory.specs.States.{changes_on}
 use Rattle.igp_theory.specs.Waves.{Change, changed}
 use Rattle.state_replay.specs.Journals.{journal_header, BeginRun, AreChangeCounts, TellsChange, Progress, progress, AreReplayed, HasReached, HasMisfit}
@@ -129,15 +129,6 @@ next_told net ascending (l ∷ before) line after (c ∷ changes) (d ∷ more) h
       told = is.told;
     }
 
--- of two fronts of a list the longer one goes on as the list
-longer : (before : List (List ℕ)) (line : List ℕ) (after others rest : List (List ℕ)) → before ++ line ∷ after ≡ others ++ rest →
-    length before < length others → others ≡ before ++ line ∷ take (length others - length before - 1) after
-longer before line after others rest same lower =
-    let more : ℕ = length others - length before - 1 in
-    let long : length others ≡ length before + suc more = omega (arith, lower) in
-    sym (take-append_seam others rest) ∙ ap (take (length others)) (sym same) ∙ ap (λ k. take k (before ++ line ∷ after)) long
-    ∙ take-append-add before (line ∷ after) (suc more)
-
 module _ (net : Network) (ranks journal : List ℕ) (ascending : NamesAscend net) where
   one_reached : (k j : ℕ) (done made : List ℕ) → HasReached (progress net ranks done) journal k → HasReached (progress net ranks made) journal j →
       (Reached k ≡ Reached j) × (done ≡ made)
@@ -172,8 +163,7 @@ module _ (net : Network) (ranks journal : List ℕ) (ascending : NamesAscend net
       let all : one.before ++ one.text ∷ one.after ≡ two.before ++ two.text ∷ two.after = let e = sym one.all ∙ two.all in cc in
       elim (cases_order (length one.before) (length two.before)) [
         | inl same ↦
-            let lines : one.before ≡ two.before = sym (take-append_seam one.before (one.text ∷ one.after)) ∙ ap (take (length one.before)) all
-            ∙ ap (λ k. take k (two.before ++ two.text ∷ two.after)) same ∙ take-append_seam two.before (two.text ∷ two.after) in
+            let lines : one.before ≡ two.before = (same_front one.before two.before (one.text ∷ one.after) (two.text ∷ two.after) all same).0 in
             let changes : one.changes ≡ two.changes =
             told_list net ascending two.before one.changes two.changes (subst (λ l. AllZip (TellsChange net) l one.changes) lines one.replayed.told)
             two.replayed.told in
