@@ -2,20 +2,24 @@ ghost use Rattle.std.specs.Prelude.{◌≡◌, ◌⊎◌, MatchOption};
 ghost use Rattle.net_addr.specs.Addresses.{ContainsAddress, IsBlock};
 ghost use Rattle.net_addr.specs.LongestMatches.{IsMatch, TakesLonger};
 ghost use Rattle.route_core.specs.steps.Matches.{AreBlocks};
-ghost use Rattle.route_core.specs.Rows.{ArePlacesBelow, row_prefixes};
+ghost use Rattle.route_core.specs.Rows.{IsTable, kept_in, row_prefixes, rows_in};
 
-use crate::row::Row;
+use crate::table::TableParts;
 use net_addr::{Match, Prefix};
 
-/// The longest match of the address `a` among the prefixes of these rows.
-pub fn longest_match(prefixes: &[Prefix], rows: &[Row], a: u32) -> Option<Match>
-    requires { ArePlacesBelow prefixes.now rows.now }
-    ensures cases { IsMatch (row_prefixes prefixes.now rows.now) a result }
-    ensures blocks { AreBlocks (row_prefixes prefixes.now rows.now) a }
+/// The longest match of the address `a` among the prefixes of a table's rows.
+pub fn longest_match(parts: TableParts<'_>, a: u32) -> Option<Match>
+    requires { IsTable (kept_in parts) }
+    ensures cases { IsMatch (row_prefixes parts.entry.prefixes.now (rows_in (kept_in parts.entry))) a result }
+    ensures blocks { AreBlocks (row_prefixes parts.entry.prefixes.now (rows_in (kept_in parts.entry))) a }
 {
     let mut best = None;
-    for (place, row) in rows.iter().enumerate() {
-        best = longer(best, place, prefixes[row.place as usize], a);
+    let mut before = 0;
+    for place in 0..parts.prefixes.len() {
+        if parts.number(place).is_some() {
+            best = longer(best, before, parts.prefixes[place], a);
+            before += 1;
+        }
     }
     best
 }

@@ -1,6 +1,7 @@
 ghost use Rattle.std.specs.Prelude.{◌≡◌, ◌↔◌, ◌<◌, ℕ, List, IsTrue};
 ghost use Rattle.net_addr.specs.Addresses.{Block};
 ghost use Rattle.route_core.specs.declared.entry.Entry.{Entry};
+ghost use Rattle.route_core.specs.Rows.{listed};
 ghost use Rattle.route_core.specs.Tables.{AreTables};
 
 use crate::table::Table;
@@ -15,6 +16,9 @@ pub trait RouteSource {
     /// The entries of each router's table, in the table's order.
     ghost table: { Self → ℕ → List (Block × Entry) };
 
+    /// The prefixes that all its tables keep. A table may have entries for some of them alone.
+    ghost prefixes: { Self → List Block };
+
     /// Whether the first router has a link to the second one.
     ghost linked: { Self → ℕ → ℕ → Type 0 };
 
@@ -26,7 +30,8 @@ pub trait RouteSource {
     /// The table of a router.
     fn table(&self, router: u32) -> &Table
         requires { router < routers self.now }
-        ensures { result.now ≡ table self.now router };
+        ensures entries { listed result.now ≡ table self.now router }
+        ensures prefixes { result.now.prefixes ≡ prefixes self.now };
 
     /// Whether router `u` has a link to router `v`.
     fn linked(&self, u: u32, v: u32) -> bool

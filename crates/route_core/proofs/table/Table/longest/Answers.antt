@@ -1,49 +1,46 @@
-use Rattle.std.proofs.Common.{◌≡◌, List, Contains, subst}
+use Rattle.std.proofs.Common.{◌≡◌, List, Contains, ap, subst, ◌∙◌}
 use Rattle.std.proofs.lemmas.Option.{slice_get_within}
 use Rattle.net_addr.specs.Addresses.{Block}
 use Rattle.net_addr.specs.LongestMatches.{HasNoMatch, MatchAt}
 use Rattle.route_core.specs.steps.Matches.{AreBlocks}
-use Rattle.route_core.specs.Rows.{row_prefixes}
-use Rattle.route_core.specs.Tables.{HasDistinctPrefixes, table_prefixes}
-use Rattle.route_core.proofs.RowLaws.{if_none_by, prefixes_of_table}
+use Rattle.route_core.specs.Rows.{KeptTable, kept_in, listed, row_prefixes, rows_in}
+use Rattle.route_core.specs.Tables.{table_prefixes}
+use Rattle.route_core.proofs.RowLaws.{if_none_by, prefixes_of_rows, table_rows}
 use Rattle.route_core.proofs.TableLaws.{entry_at, longest_stands}
 use Rattle.route_core.proofs.table.Table.longest.Goals as goal
 
+-- the prefixes of the rows of the parts are those of the table
+same_prefixes : (own kept : KeptTable) → own ≡ kept → row_prefixes own.prefixes (rows_in own) ≡ table_prefixes (listed kept)
+same_prefixes own kept same = prefixes_of_rows own.prefixes own.entries (rows_in own) ∙ ap (λ (k : KeptTable). table_prefixes (listed k)) same
+
 pub returns-in_err-found-clause-none : goal.returns-in_err-found-clause-none
 returns-in_err-found-clause-none c =
-    let same : row_prefixes c.as_slice.result.now c.as_slice-2.result.now ≡ table_prefixes c.args.self.now =
-    prefixes_of_table c.as_slice.result.now c.self.inside.prefixes.value.items c.self.inside.entries.value.items c.as_slice-2.result.now
-    c.self.inside.rows.items c.args.self.now (cc) c.as_slice-2.ensures.value c.self.view_is in
-    if_none_by c.from_residual.result (HasNoMatch (Contains (table_prefixes c.args.self.now)) c.args.a)
-    (subst (λ (l : List Block). HasNoMatch (Contains l) c.args.a) same c.in_err-found.ensures.cases)
+    if_none_by c.from_residual.result (HasNoMatch (Contains (table_prefixes (listed c.args.self.now))) c.args.a)
+    (subst (λ (l : List Block). HasNoMatch (Contains l) c.args.a) (same_prefixes (kept_in c.parts.result) c.args.self.now c.parts.ensures.parts)
+    c.in_err-found.ensures.cases)
 
 pub returns-clause-found : goal.returns-clause-found
 returns-clause-found c =
-    let same : row_prefixes c.as_slice.result.now c.as_slice-2.result.now ≡ table_prefixes c.args.self.now =
-    prefixes_of_table c.as_slice.result.now c.self.inside.prefixes.value.items c.self.inside.entries.value.items c.as_slice-2.result.now
-    c.self.inside.rows.items c.args.self.now (cc) c.as_slice-2.ensures.value c.self.view_is in
-    let found : MatchAt (table_prefixes c.args.self.now) c.args.a c.in_ok-found.found =
-    subst (λ (l : List Block). MatchAt l c.args.a c.in_ok-found.found) same c.in_ok-found.ensures.cases in
+    let found : MatchAt (table_prefixes (listed c.args.self.now)) c.args.a c.in_ok-found.found =
+    subst (λ (l : List Block). MatchAt l c.args.a c.in_ok-found.found) (same_prefixes (kept_in c.parts.result) c.args.self.now c.parts.ensures.parts)
+    c.in_ok-found.ensures.cases in
     found.at
 
 pub returns-clause-only : goal.returns-clause-only
 returns-clause-only c = λ dest entry.
-    let same : row_prefixes c.as_slice.result.now c.as_slice-2.result.now ≡ table_prefixes c.args.self.now =
-    prefixes_of_table c.as_slice.result.now c.self.inside.prefixes.value.items c.self.inside.entries.value.items c.as_slice-2.result.now
-    c.self.inside.rows.items c.args.self.now (cc) c.as_slice-2.ensures.value c.self.view_is in
-    let found : MatchAt (table_prefixes c.args.self.now) c.args.a c.in_ok-found.found =
+    let same : row_prefixes c.parts.result.prefixes.now (rows_in (kept_in c.parts.result)) ≡ table_prefixes (listed c.args.self.now) =
+    same_prefixes (kept_in c.parts.result) c.args.self.now c.parts.ensures.parts in
+    let found : MatchAt (table_prefixes (listed c.args.self.now)) c.args.a c.in_ok-found.found =
     subst (λ (l : List Block). MatchAt l c.args.a c.in_ok-found.found) same c.in_ok-found.ensures.cases in
-    longest_stands c.args.self.now c.args.a c.in_ok-found.found.place dest entry
-    (subst HasDistinctPrefixes c.self.view_is c.self.invariant.distinct)
+    longest_stands (listed c.args.self.now) c.args.a c.in_ok-found.found.place dest entry
+    (table_rows c.args.self.now c.parts.ensures.table).distinct
     (subst (λ (l : List Block). AreBlocks l c.args.a) same c.longest_match.ensures.blocks)
     found.at
 
 pub returns-clause-within : goal.returns-clause-within
 returns-clause-within c =
-    let same : row_prefixes c.as_slice.result.now c.as_slice-2.result.now ≡ table_prefixes c.args.self.now =
-    prefixes_of_table c.as_slice.result.now c.self.inside.prefixes.value.items c.self.inside.entries.value.items c.as_slice-2.result.now
-    c.self.inside.rows.items c.args.self.now (cc) c.as_slice-2.ensures.value c.self.view_is in
-    let found : MatchAt (table_prefixes c.args.self.now) c.args.a c.in_ok-found.found =
-    subst (λ (l : List Block). MatchAt l c.args.a c.in_ok-found.found) same c.in_ok-found.ensures.cases in
-    let stands = entry_at c.args.self.now c.in_ok-found.found.place found.at.prefix found.at.stands in
-    slice_get_within c.args.self.now c.in_ok-found.found.place (found.at.prefix, stands.0) stands.1
+    let found : MatchAt (table_prefixes (listed c.args.self.now)) c.args.a c.in_ok-found.found =
+    subst (λ (l : List Block). MatchAt l c.args.a c.in_ok-found.found) (same_prefixes (kept_in c.parts.result) c.args.self.now c.parts.ensures.parts)
+    c.in_ok-found.ensures.cases in
+    let stands = entry_at (listed c.args.self.now) c.in_ok-found.found.place found.at.prefix found.at.stands in
+    slice_get_within (listed c.args.self.now) c.in_ok-found.found.place (found.at.prefix, stands.0) stands.1
