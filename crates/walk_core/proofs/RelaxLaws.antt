@@ -120,6 +120,10 @@ missing_after ds v x in_range =
       | inr some ↦ omega (arith, missing_changed ds v x some.0 in_range some.1)
     ]
 
+-- the cost over one more arc is less than the greatest number of 64 bits
+pub sum_fits : (ds : List (Option ℕ)) (u d c : ℕ) → HaveRoom ds → distance_at ds u ≡ Some d → c < 2 ^ 32 → d + c + 1 < 2 ^ 64
+sum_fits ds u d c room near small = let here = room.room u d near in omega (arith, room.few)
+
 -- there is room after an arc was relaxed
 pub room_after : (ds : List (Option ℕ)) (u v c d : ℕ) → HaveRoom ds → c < 2 ^ 32 → v < length ds →
     distance_at ds u ≡ Some d → d + c < weight_of (distance_at ds v) →
@@ -309,7 +313,7 @@ only_at_root n root v d in_range is =
     ]
 
 -- at first the root has room for the costs of all arcs
-pub room_at_first : (n root : ℕ) → root < n → n ≤ 2 ^ 32 →
+pub room_at_first : (n root : ℕ) → root < n → n < 2 ^ 32 →
     HaveRoom (set (replicate n None) root (Some 0))
 room_at_first n root in_range small = record {
   few = simp (length-set, length-replicate) small;

@@ -1,22 +1,23 @@
--- The distances from a vertex that reaches itself alone.
-use Rattle.std.proofs.Common.{◌≡◌, ℕ, ◌<◌, zero, suc, List, [], ◌∷◌, ◌++◌, Option, Some, None, length, length-append, replicate, refl, sym, ap}
-use Rattle.std.proofs.Common.{subst, arith}
-use Rattle.std.proofs.lemmas.List.{length-replicate}
+-- The walks from a vertex that reaches itself alone.
+use Rattle.std.proofs.Common.{◌≡◌, ◌∙◌, ℕ, ◌+◌, ◌<◌, zero, suc, List, [], ◌∷◌, ◌++◌, Option, Some, None, length, length-append, replicate, refl, sym}
+use Rattle.std.proofs.Common.{Contains, ap, get_or, inl, inr, subst, arith}
+use Rattle.std.proofs.lemmas.Bool.{cases_lt}
+use Rattle.std.proofs.lemmas.List.{get_or_default, length-replicate}
 use Rattle.walk_core.specs.declared.outlets.Outlet.{Outlet}
 use Rattle.walk_core.specs.declared.segment.Port.{Port}
 use Rattle.walk_core.specs.Distances.{distance_at, IsDistanceRow}
-use Rattle.walk_core.specs.Segments.{SendsAcross, AreSegments}
+use Rattle.walk_core.specs.Reach.{Reach, AreWalksBelow}
+use Rattle.walk_core.specs.Segments.{SendsAcross, AreSegments, IsPort}
+use Rattle.walk_core.specs.steps.Flooding.{segment_at}
 use Rattle.walk_core.specs.Walks.{Arcs}
 use Rattle.walk_core.specs.steps.Relaxing.{AreWalked, IsTightFrom}
-use Rattle.walk_core.specs.steps.SegmentWalks.{AreOutlets, HasOutlet}
+use Rattle.walk_core.specs.steps.Rows.{lone_row}
+use Rattle.walk_core.specs.steps.SegmentWalks.{AreAllOutlets, AreOutlets, HasOutlet, IsJoinedEnd}
 use Rattle.walk_core.proofs.FloodLaws.{sends_at_place, sends_below}
+use Rattle.walk_core.proofs.ReachLaws.{lists_of_all, no_hops_listed, walks_more}
 use Rattle.walk_core.proofs.RelaxLaws.{distances_from_tight}
 
--- it alone has one
-abbrev pub lone_row : ℕ → List (Option ℕ)
-lone_row root = replicate root None ++ Some 0 ∷ []
-
-lone_at_root : (root : ℕ) → distance_at (lone_row root) root ≡ Some 0
+pub lone_at_root : (root : ℕ) → distance_at (lone_row root) root ≡ Some 0
 lone_at_root zero = refl
 lone_at_root (suc root) = lone_at_root root
 
@@ -56,3 +57,33 @@ row_of_lone segments count root outlets below are listed none = record {
       start = lone_at_root root;
       walked = λ v d is. let at = lone_elsewhere root v d is in record { legs = []; leads = sym at.0; costs = sym at.1 };
     }
+
+-- the ports are of vertices before the last one that has one
+pub ports_below : (segments : List (List Port)) (count end : ℕ) (all : List (List Outlet)) → AreSegments count segments → AreAllOutlets segments count all →
+    IsJoinedEnd all end → AreSegments end segments
+ports_below segments count end all are listed is segment among port at = record {
+  vertex = elim (cases_lt port.vertex end) [
+    | inl below ↦ below
+    | inr past ↦
+        let within : among.0 < length segments = among.1 in
+        let here : segment_at segments among.0 ≡ segment = get_or_default segments among.0 [] segment within ∙ among.2 in
+        let on : Contains (segment_at segments among.0) port = subst (λ (s : List Port). Contains s port) (sym here) at in
+        let of : HasOutlet (get_or all port.vertex []) among.0 port.cost = (listed.each port.vertex fits.vertex).every among.0 within port on refl in
+        absurd (omega (arith, of.among.1, is.lone port.vertex past (omega (arith, fits.vertex, listed.long))))
+  ];
+  cost = fits.cost;
+  most = fits.most;
+}
+  where
+    fits : IsPort count port
+    fits = are segment among port at
+
+-- the walks from a vertex that reaches itself alone come behind others
+pub lone_more : (segments : List (List Port)) (count u : ℕ) (outlets : List Outlet) (walks : List Reach) → AreSegments count segments → u < count →
+    AreOutlets segments u (length segments) outlets → length outlets ≡ 0 → AreWalksBelow (SendsAcross segments) count u walks →
+    AreWalksBelow (SendsAcross segments) count (u + 1) (walks ++ record { distances = lone_row u; hops = [] } ∷ [])
+lone_more segments count u outlets walks are below listed none before =
+    let arc : Arcs = SendsAcross segments in
+    let row : IsDistanceRow arc count u (lone_row u) = row_of_lone segments count u outlets below are listed none in
+    walks_more arc count u walks (record { distances = lone_row u; hops = [] }) before row
+    (lists_of_all arc u count 0 (lone_row u) [] row (no_hops_listed arc u) (inr (no_arc segments u outlets listed none)))

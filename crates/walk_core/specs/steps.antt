@@ -1,4 +1,6 @@
 pub mod NumberLists
+pub mod Codes
+pub mod Rows
 pub mod Relaxing
 pub mod Departures
 pub mod Cheapest

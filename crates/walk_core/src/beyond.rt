@@ -2,10 +2,10 @@ ghost use Rattle.std.specs.Prelude.{◌≡◌, ◌<◌, length, IfOk, OnOk};
 ghost use Rattle.walk_core.specs.steps.Cheapest.{IsCheapestCost};
 ghost use Rattle.walk_core.specs.steps.SegmentWalks.{AreEnds, AreWalksFrom, IsLan, JoinsNearest, KnowsBeyond, beyond_port, reach_at};
 
+use crate::distance::{Distance, nearer_of};
 use crate::number_lists::NumberLists;
-use crate::offers::least_of;
 use crate::outlets::is_lan;
-use crate::rows::{Distances, distance_between};
+use crate::rows::{Distances, row_distance};
 use crate::segment::{Port, Segment, ports_at};
 use crate::union::put_in_order;
 use crate::{LeastWalks, OutOfMemory};
@@ -69,16 +69,16 @@ fn find_ends(
     ports: &[Port],
     rows: &[Distances],
     v: u32,
-) -> Result<Option<u64>, OutOfMemory>
+) -> Result<Distance, OutOfMemory>
     ensures nearest { IfOk result (IsCheapestCost (beyond_port rows.now v) ports.now) }
     ensures ends { IfOk result (λ distance. AreEnds rows.now ports.now v distance ends.new.items) }
 {
     ends.clear();
-    let mut nearest = None;
+    let mut nearest = Distance::none();
     for port in ports {
-        let distance = distance_between(rows, port.vertex, v);
-        join_nearest(ends, port.vertex, distance, nearest)?;
-        nearest = least_of(nearest, distance);
+        let distance = row_distance(rows, port.vertex, v);
+        join_nearest(ends, port.vertex, distance.get(), nearest.get())?;
+        nearest = nearer_of(nearest, distance);
     }
     Ok(nearest)
 }

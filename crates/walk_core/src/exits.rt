@@ -2,6 +2,7 @@ ghost use Rattle.std.specs.Prelude.{◌≡◌, ◌↔◌, ◌∷◌, ◌++◌, �
 ghost use Rattle.walk_core.specs.steps.Exits.{AddsHops, AreTwoExits, IsExit, LeadsOver, list_of_two};
 
 use crate::OutOfMemory;
+use crate::distance::Distance;
 use crate::number_lists::NumberLists;
 use crate::outlets::Outlet;
 use crate::relax::distance_at;
@@ -12,13 +13,13 @@ use crate::rows::Distances;
 pub struct Exit<'a> {
     to: u32,
     cost: u32,
-    row: &'a [Option<u64>],
+    row: &'a [Distance],
 }
 
 /// How far the vertices are from a root of two ports, and its links, which these are, by ascending ends.
 #[derive(Clone, Copy)]
 pub struct TwoExits<'a> {
-    own: &'a [Option<u64>],
+    own: &'a [Distance],
     one: Exit<'a>,
     other: Exit<'a>,
 }
@@ -60,7 +61,7 @@ fn exit_of<'a>(rows: &'a [Distances], outlet: Outlet) -> Option<Exit<'a>>
 }
 
 /// The row of distances from u, if it begins with vertex 0.
-fn whole_row(rows: &[Distances], u: u32) -> Option<&[Option<u64>]>
+fn whole_row(rows: &[Distances], u: u32) -> Option<&[Distance]>
     ensures { IfSome result (λ row. row.now ≡ slice_index_or rows.now u []) }
 {
     rows.get(u as usize)?.whole()

@@ -1,4 +1,4 @@
-ghost use Rattle.std.specs.Prelude.{◌≡◌, ◌<◌, ◌≤◌, ◌↔◌, ℕ, true, false, length, slice_index_or, IsTrue, Some, MatchOption, slice_set, if◌then◌else◌, IfOk};
+ghost use Rattle.std.specs.Prelude.{◌≡◌, ◌+◌, ◌^◌, ◌<◌, ◌≤◌, ◌↔◌, ℕ, true, false, length, slice_index_or, IsTrue, Some, MatchOption, slice_set, if◌then◌else◌, IfOk};
 ghost use Rattle.std.specs.Bool.{OnFalse, OnTrue};
 ghost use Rattle.walk_core.specs.steps.Cheapest.{HasCost};
 ghost use Rattle.walk_core.specs.Distances.{IsDistanceRow, distance_at};
@@ -8,6 +8,7 @@ ghost use Rattle.walk_core.specs.steps.SegmentWalks.{AreAllOutlets, AreOutlets, 
 ghost use Rattle.walk_core.specs.Segments.{AreSegments, Sends, SendsAcross};
 
 use crate::OutOfMemory;
+use crate::distance::Distance;
 use crate::outlets::{Outlet, Outlets};
 use crate::relax::relax;
 use crate::rows::Distances;
@@ -27,8 +28,8 @@ pub fn distances_over(
     requires outlets { AreAllOutlets segments.now count outlets.now }
     ensures { IfOk result (IsDistanceRow (SendsAcross segments.now) count root) }
 {
-    let mut distances = vec![in alloc; None; count as usize]?;
-    distances[root as usize] = Some(0);
+    let mut distances = vec![in alloc; Distance::none(); count as usize]?;
+    distances[root as usize] = Distance::of(0);
     let mut stale = vec![in alloc; false; count as usize]?;
     stale[root as usize] = true;
     let mut entries = vec![in alloc; None; segments.len()]?;
@@ -43,7 +44,7 @@ fn settle(
     outlets: &[Outlets],
     entries: &mut [Option<u64>],
     stale: &mut [bool],
-    distances: &mut [Option<u64>],
+    distances: &mut [Distance],
 )
     requires segments { AreSegments (length outlets.now) segments.now }
     requires outlets { AreAllOutlets segments.now (length outlets.now) outlets.now }
@@ -121,7 +122,7 @@ fn spread_stale(
     u: usize,
     entries: &mut [Option<u64>],
     stale: &mut [bool],
-    distances: &mut [Option<u64>],
+    distances: &mut [Distance],
 )
     requires vertex { u < length outlets.now }
     requires stale { slice_index_or stale.old u false ≡ true }
@@ -150,7 +151,7 @@ fn spread_from(
     u: usize,
     entries: &mut [Option<u64>],
     stale: &mut [bool],
-    distances: &mut [Option<u64>],
+    distances: &mut [Distance],
 )
     requires vertex { u < length distances.old }
     requires segments { AreSegments (length distances.old) segments.now }
@@ -165,7 +166,7 @@ fn spread_from(
     ensures marked { slice_index_or stale.old u false ≡ true → slice_index_or stale.new u false ≡ true }
     ensures left { what_is_left distances.new stale.new ≤ what_is_left distances.old stale.old }
 {
-    let Some(near) = distances[u] else {
+    let Some(near) = distances[u].get() else {
         return;
     };
     for outlet in outlets {
@@ -181,9 +182,10 @@ fn cross(
     found: u64,
     entries: &mut [Option<u64>],
     stale: &mut [bool],
-    distances: &mut [Option<u64>],
+    distances: &mut [Distance],
 )
     requires place { outlet.place < length segments.now }
+    requires fits { found + 1 < 2 ^ 64 }
     requires segments { AreSegments (length distances.old) segments.now }
     requires room { HaveRoom distances.old }
     requires marks { length stale.old ≡ length distances.old }
@@ -211,9 +213,10 @@ fn enter(
     found: u64,
     entries: &mut [Option<u64>],
     stale: &mut [bool],
-    distances: &mut [Option<u64>],
+    distances: &mut [Distance],
 )
     requires place { place < length segments.now }
+    requires fits { found + 1 < 2 ^ 64 }
     requires segments { AreSegments (length distances.old) segments.now }
     requires room { HaveRoom distances.old }
     requires marks { length stale.old ≡ length distances.old }
@@ -248,9 +251,10 @@ fn lower(
     place: usize,
     found: u64,
     stale: &mut [bool],
-    distances: &mut [Option<u64>],
+    distances: &mut [Distance],
 )
     requires place { place < length segments.now }
+    requires fits { found + 1 < 2 ^ 64 }
     requires segments { AreSegments (length distances.old) segments.now }
     requires room { HaveRoom distances.old }
     requires marks { length stale.old ≡ length distances.old }
@@ -266,8 +270,9 @@ fn lower(
 
 /// Notes that some walk to a vertex costs `found`, and marks it where none that was known cost as little: whether none
 /// did.
-fn lower_vertex(vertex: u32, found: u64, stale: &mut [bool], distances: &mut [Option<u64>]) -> bool
+fn lower_vertex(vertex: u32, found: u64, stale: &mut [bool], distances: &mut [Distance]) -> bool
     requires vertex { vertex < length distances.old }
+    requires fits { found + 1 < 2 ^ 64 }
     requires marks { vertex < length stale.old }
     ensures falls { IsTrue result ↔ (found < weight_of (distance_at distances.old vertex)) }
     ensures after { distances.new ≡

@@ -10,7 +10,8 @@
 //! |---|---|
 //! | `graph`, `segment` | the two kinds of graphs |
 //! | `walks`, `offers`, `number_lists`, `long_lists` | what is known of the walks from a root, and the best of offers |
-//! | `relax`, `rows`, `hops` | over arcs: distances by relaxing, and first hops by the distances from where arcs lead |
+//! | `distance`, `rows` | a distance in 8 bytes, and a row of those from one vertex |
+//! | `relax`, `hops` | over arcs: distances by relaxing, and first hops by the distances from where arcs lead |
 //! | `flood`, `outlets`, `over_segments` | over segments: distances, from stale vertices, and onto a LAN at once |
 //! | `beyond`, `ways` | first hops over segments: by the distances from the ends of a link, by those from a whole LAN |
 //! | `exits` | first hops from a root of two links, as most have, in one pass over three rows of distances |
@@ -20,7 +21,8 @@
 //! n, and again only at a lower cost, so that its n(n - 1) arcs aren't relaxed one by one. So all roots of n vertices
 //! with p ports take time n p where distances spread along the vertices in order, and n p once for the vertices of each
 //! LAN that are nearest to each vertex; the first hops of a root are then read, not searched. A root without a port
-//! takes no time of its own. A caller that is proved: `ZoneWalks::build` of `zone_graph`.
+//! takes no time of its own and no row, and the rows of the others end with the last vertex that has a port. A caller
+//! that is proved: `ZoneWalks::build` of `zone_graph`.
 #![tactic(auto)]
 
 // graphs
@@ -28,6 +30,7 @@ mod graph;
 mod segment;
 
 // what is known of the walks from a root
+mod distance;
 mod long_lists;
 mod number_lists;
 mod offers;

@@ -79,7 +79,7 @@ impl LeastWalks {
 }
 
 /// The least of two costs, of which either may be missing.
-pub fn least_of(one: Option<u64>, other: Option<u64>) -> Option<u64>
+fn least_of(one: Option<u64>, other: Option<u64>) -> Option<u64>
     ensures { result ≡ least_cost_of one other }
 {
     match (one, other) {

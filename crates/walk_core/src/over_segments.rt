@@ -2,7 +2,7 @@ ghost use Rattle.std.specs.Prelude.{◌≡◌, ◌<◌, [], length, slice_index_
 ghost use Rattle.walk_core.specs.Distances.{AreDistanceRows, IsDistanceRow};
 ghost use Rattle.walk_core.specs.Reach.{AreWalksBelow};
 ghost use Rattle.walk_core.specs.steps.FirstHops.{AreAllHops};
-ghost use Rattle.walk_core.specs.steps.SegmentWalks.{AreAllOutlets};
+ghost use Rattle.walk_core.specs.steps.SegmentWalks.{AreAllOutlets, IsJoinedEnd};
 ghost use Rattle.walk_core.specs.Segments.{AreSegments, SendsAcross};
 
 use crate::beyond::all_beyond;
@@ -16,7 +16,8 @@ use crate::{LeastWalks, OutOfMemory};
 use std::alloc::Global;
 use std::mem;
 
-/// The least-cost walks from every one of so many vertices over the segments that join them.
+/// The least-cost walks from every one of so many vertices over the segments that join them. Those behind the last one
+/// that has a port reach themselves alone, and no row is kept of how far they are.
 pub fn segment_walks(
     alloc: Global,
     segments: &[Segment],
@@ -26,10 +27,42 @@ pub fn segment_walks(
     ensures { IfOk result (λ all. AreWalksBelow (SendsAcross segments.now) count count all.items) }
 {
     let outlets = all_outlets(alloc, segments, count)?;
-    let mut rows = rows_over(alloc, segments, outlets.as_slice(), count)?;
+    let end = joined_end(outlets.as_slice(), count);
+    let mut all = walks_below(alloc, segments, &outlets[..end as usize], end)?;
+    all.reserve((count - end) as usize)?;
+    for root in end..count {
+        all.push(LeastWalks::of_lone(alloc, root))?;
+    }
+    Ok(all)
+}
+
+/// One past the last vertex that has a port.
+fn joined_end(outlets: &[Outlets], count: u32) -> u32
+    requires { length outlets.now ≡ count }
+    ensures { IsJoinedEnd outlets.now result }
+{
+    let mut end = count;
+    while end > 0 && is_lone(outlets[end as usize - 1].as_slice()) {
+        end -= 1;
+    }
+    end
+}
+
+/// The least-cost walks from every one of so many vertices, which have these ports.
+fn walks_below(
+    alloc: Global,
+    segments: &[Segment],
+    outlets: &[Outlets],
+    count: u32,
+) -> Result<Vec<LeastWalks>, OutOfMemory>
+    requires segments { AreSegments count segments.now }
+    requires outlets { AreAllOutlets segments.now count outlets.now }
+    ensures { IfOk result (λ all. AreWalksBelow (SendsAcross segments.now) count count all.items) }
+{
+    let mut rows = rows_over(alloc, segments, outlets, count)?;
     let beyond = all_beyond(alloc, segments, rows.as_slice(), count)?;
     let ways = Ways::new(count, segments, rows.as_slice(), beyond.as_slice());
-    let mut lists = all_hops(alloc, &ways, outlets.as_slice(), count)?;
+    let mut lists = all_hops(alloc, &ways, outlets, count)?;
     let mut all = Vec::with_capacity(alloc, count as usize)?;
     for root in 0..count {
         let hops = take_hops(alloc, &mut lists, root);
@@ -108,7 +141,7 @@ fn row_over(
     ensures { IfOk result (IsDistanceRow (SendsAcross segments.now) count root) }
 {
     if is_lone(outlets[root as usize].as_slice()) {
-        return Distances::of_lone(alloc, root);
+        return Ok(Distances::of_lone(root));
     }
     distances_over(alloc, segments, outlets, count, root)
 }

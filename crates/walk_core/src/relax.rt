@@ -3,6 +3,7 @@ ghost use Rattle.std.specs.Bool.{OnTrue, OnFalse};
 ghost use Rattle.walk_core.specs.Distances.{distance_at, AreLeastDistances};
 ghost use Rattle.walk_core.specs.steps.Relaxing.{weight_of, HaveRoom, IsTightFrom, Relaxes};
 
+use crate::distance::Distance;
 use crate::rows::Distances;
 use crate::{CostGraph, OutOfMemory};
 use std::alloc::Global;
@@ -19,22 +20,34 @@ pub fn distances_from<G: CostGraph>(
     ensures near { IfOk result (λ ds. (v d : ℕ) → distance_at ds v ≡ Some d →
         d < G.vertex_count graph.now * 2 ^ 32) }
 {
-    let mut distances = vec![in alloc; None; graph.vertices() as usize]?;
-    distances[root as usize] = Some(0);
+    let mut distances = vec![in alloc; Distance::none(); graph.vertices() as usize]?;
+    distances[root as usize] = Distance::of(0);
     while relax_all(graph, &mut distances) {}
     Ok(Distances::from_vec(distances))
 }
 
-/// The distance of v, and None where there is none.
-pub fn distance_at(distances: &[Option<u64>], v: u32) -> Option<u64>
+/// The distance of v.
+#[inline(always)]
+pub fn distance_in(distances: &[Distance], v: u32) -> Distance
     ensures { result ≡ distance_at distances.now v }
 {
-    distances.get(v as usize).copied().flatten()
+    match distances.get(v as usize) {
+        Some(distance) => *distance,
+        None => Distance::none(),
+    }
+}
+
+/// How far v is, and None where there is no distance.
+#[inline(always)]
+pub fn distance_at(distances: &[Distance], v: u32) -> Option<u64>
+    ensures { result ≡ distance_at distances.now v }
+{
+    distance_in(distances, v).get()
 }
 
 /// Relaxes every arc twice, by ascending and by descending numbers of where they begin: whether some distance fell. So
 /// distances spread along a row of vertices in one call, whichever way their numbers run.
-fn relax_all<G: CostGraph>(graph: &G, distances: &mut [Option<u64>]) -> bool
+fn relax_all<G: CostGraph>(graph: &G, distances: &mut [Distance]) -> bool
     requires vertices { length distances.old ≡ G.vertex_count graph.now }
     requires room { HaveRoom distances.old }
     ensures relaxes { Relaxes (G.has_arc graph.now) distances.old distances.new result }
@@ -50,14 +63,14 @@ fn relax_all<G: CostGraph>(graph: &G, distances: &mut [Option<u64>]) -> bool
 }
 
 /// Relaxes the arcs from u: whether some distance fell.
-fn relax_from<G: CostGraph>(graph: &G, u: u32, distances: &mut [Option<u64>]) -> bool
+fn relax_from<G: CostGraph>(graph: &G, u: u32, distances: &mut [Distance]) -> bool
     requires vertices { length distances.old ≡ G.vertex_count graph.now }
     requires vertex { u < G.vertex_count graph.now }
     requires room { HaveRoom distances.old }
     ensures relaxes { Relaxes (G.has_arc graph.now) distances.old distances.new result }
     ensures tight { OnFalse result (IsTightFrom (G.has_arc graph.now) u distances.new) }
 {
-    let Some(near) = distances[u as usize] else {
+    let Some(near) = distances[u as usize].get() else {
         return false;
     };
     let mut fell = false;
@@ -69,18 +82,19 @@ fn relax_from<G: CostGraph>(graph: &G, u: u32, distances: &mut [Option<u64>]) ->
 }
 
 /// Notes that some walk to v costs `found`: whether none that was known cost as little.
-pub fn relax(distances: &mut [Option<u64>], v: u32, found: u64) -> bool
-    requires { v < length distances.old }
+pub fn relax(distances: &mut [Distance], v: u32, found: u64) -> bool
+    requires vertex { v < length distances.old }
+    requires fits { found + 1 < 2 ^ 64 }
     ensures falls { IsTrue result ↔ (found < weight_of (distance_at distances.old v)) }
     ensures after { distances.new ≡
         (if result then slice_set distances.old v (Some found) else distances.old) }
 {
-    let falls = match distances[v as usize] {
+    let falls = match distances[v as usize].get() {
         None => true,
         Some(known) => found < known,
     };
     if falls {
-        distances[v as usize] = Some(found);
+        distances[v as usize] = Distance::of(found);
     }
     falls
 }

@@ -1,90 +1,126 @@
 ghost use Rattle.std.specs.Prelude.{◌≡◌, ◌<◌, length, IfOk};
 ghost use Rattle.walk_core.specs.Distances.{distance_at, distance_between, KnowsEnds};
+ghost use Rattle.walk_core.specs.steps.Rows.{lone_row};
 
-use crate::relax::{distance_at, distances_from};
+use crate::distance::Distance;
+use crate::relax::{distance_in, distances_from};
 use crate::{CostGraph, OutOfMemory};
 use std::alloc::Global;
 use std::marker::Model;
 
 /// The distances from one vertex, by the number of the other: the least cost of a walk there, and None where no walk
-/// leads. Those before the first one that is there take no memory.
+/// leads. Those of a vertex that reaches itself alone take no memory.
 #[derive(Debug, Drop)]
 pub struct Distances {
-    none_before: u32,
-    others: Vec<Option<u64>>,
+    kept: Kept,
+}
+
+/// How distances are kept.
+#[derive(Debug, Drop)]
+pub enum Kept {
+    /// Those of this vertex, which reaches itself alone.
+    Lone(u32),
+    /// Those of each vertex from the first on.
+    Row(Vec<Distance>),
 }
 
 impl Model for Distances {
-    ghost use Rattle.std.specs.Prelude.{List, Option, None, ℕ, ◌++◌, replicate};
+    ghost use Rattle.std.specs.Prelude.{List, Option, ℕ};
+    ghost use Rattle.walk_core.specs.steps.Rows.{kept_row};
 
     ghost Value = { List (Option ℕ) };
 
-    ghost view = { λ x. replicate x.none_before None ++ x.others.items };
+    ghost view = { λ x. kept_row x.kept };
 }
 
 impl Distances {
-    ghost use Rattle.std.specs.Prelude.{◌≡◌, ◌++◌, ◌∷◌, [], Some, None, replicate, IfOk, IfSome};
+    ghost use Rattle.std.specs.Prelude.{◌≡◌, [], IfSome};
     ghost use Rattle.walk_core.specs.Distances.{distance_at};
+    ghost use Rattle.walk_core.specs.steps.Rows.{lone_row};
 
     /// No distances.
     pub fn none(alloc: Global) -> Distances
         ensures { result ≡ [] }
     {
-        Distances {
-            none_before: 0,
-            others: Vec::new(alloc),
-        }
+        Distances::from_vec(Vec::new(alloc))
     }
 
     /// The distances of a vector.
-    pub fn from_vec(all: Vec<Option<u64>>) -> Distances
+    pub fn from_vec(all: Vec<Distance>) -> Distances
         ensures { result ≡ all.items }
     {
         Distances {
-            none_before: 0,
-            others: all,
+            kept: Kept::Row(all),
         }
     }
 
     /// The distances from a vertex that reaches itself alone.
-    pub fn of_lone(alloc: Global, root: u32) -> Result<Distances, OutOfMemory>
-        ensures { IfOk result (λ row. row ≡ replicate root None ++ Some 0 ∷ []) }
+    pub fn of_lone(root: u32) -> Distances
+        ensures { result ≡ lone_row root }
     {
-        Ok(Distances {
-            none_before: root,
-            others: vec![in alloc; Some(0)]?,
-        })
+        Distances {
+            kept: Kept::Lone(root),
+        }
     }
 
-    /// The distances as a slice, if they begin with that of vertex 0.
-    pub fn whole(&self) -> Option<&[Option<u64>]>
+    /// The distances as a slice, unless they are those of a vertex that reaches itself alone.
+    pub fn whole(&self) -> Option<&[Distance]>
         ensures { IfSome result (λ row. row.now ≡ self.now) }
     {
-        if self.none_before > 0 {
-            return None;
+        match &self.kept {
+            Kept::Lone(_) => None,
+            Kept::Row(all) => Some(all.as_slice()),
         }
-        Some(self.others.as_slice())
     }
 
-    /// The distance of v, and None where there is none.
+    /// The distance of v.
+    #[inline(always)]
+    pub fn of(&self, v: u32) -> Distance
+        ensures { result ≡ distance_at self.now v }
+    {
+        match &self.kept {
+            Kept::Lone(root) => distance_to_lone(*root, v),
+            Kept::Row(all) => distance_in(all.as_slice(), v),
+        }
+    }
+
+    /// How far v is, and None where there is no distance.
+    #[inline(always)]
     pub fn at(&self, v: u32) -> Option<u64>
         ensures { result ≡ distance_at self.now v }
     {
-        if v < self.none_before {
-            return None;
-        }
-        distance_at(self.others.as_slice(), v - self.none_before)
+        self.of(v).get()
     }
 }
 
-/// The distance from u to v by these rows, and None where there is none.
-pub fn distance_between(rows: &[Distances], u: u32, v: u32) -> Option<u64>
+/// The distance of v from a vertex that reaches itself alone.
+fn distance_to_lone(root: u32, v: u32) -> Distance
+    ensures { result ≡ distance_at (lone_row root) v }
+{
+    if v == root {
+        Distance::of(0)
+    } else {
+        Distance::none()
+    }
+}
+
+/// The distance from u to v by these rows.
+#[inline(always)]
+pub fn row_distance(rows: &[Distances], u: u32, v: u32) -> Distance
     ensures { result ≡ distance_between rows.now u v }
 {
     match rows.get(u as usize) {
-        Some(row) => row.at(v),
-        None => None,
+        Some(row) => row.of(v),
+        None => Distance::none(),
     }
+}
+
+/// How far v is from u by these rows, and None where there is no distance.
+#[inline(always)]
+pub fn distance_between(rows: &[Distances], u: u32, v: u32) -> Option<u64>
+    ensures { result ≡ distance_between rows.now u v }
+{
+    row_distance(rows, u, v).get()
 }
 
 /// The distances from each vertex that an arc from the root leads to.

@@ -89,11 +89,22 @@ impl LeastWalks {
     ghost use Rattle.std.specs.Prelude.{◌≡◌, ◌↔◌, [], IfOk, IsTrue, slice_set};
     ghost use Rattle.std.specs.List.Sorted.{IsStrictlyIncreasing};
     ghost use Rattle.walk_core.specs.Reach.{AreAscending, distance_of, listed_hops_of, HasHop};
+    ghost use Rattle.walk_core.specs.steps.Rows.{lone_row};
 
     /// Nothing known, of no vertex.
     pub(crate) fn none(alloc: Global) -> LeastWalks {
         LeastWalks {
             distances: Distances::none(alloc),
+            hops: NumberLists::none(alloc),
+        }
+    }
+
+    /// Those from a vertex that reaches itself alone.
+    pub(crate) fn of_lone(alloc: Global, root: u32) -> LeastWalks
+        ensures { result ≡ (record { distances = lone_row root; hops = [] }) }
+    {
+        LeastWalks {
+            distances: Distances::of_lone(root),
             hops: NumberLists::none(alloc),
         }
     }
@@ -107,6 +118,7 @@ impl LeastWalks {
     }
 
     /// The least cost of a walk from the root to v, and None where no walk leads there.
+    #[inline(always)]
     pub fn distance(&self, v: u32) -> Option<u64>
         ensures { result ≡ distance_of self.now v }
     {

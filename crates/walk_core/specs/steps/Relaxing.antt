@@ -33,9 +33,9 @@ missing (None ∷ rest) = 1 + missing rest
 missing (Some d ∷ rest) = missing rest
 
 -- of room for one arc a vertex every distance leaves that of one arc more than there are vertices without a
--- distance; with at most 2^32 vertices all of it is below 2^64
+-- distance; with fewer than 2^32 vertices all of it is below 2^64
 pub record HaveRoom (distances : List (Option ℕ)) : Type 0 where
-  pub few : length distances ≤ 2 ^ 32
+  pub few : length distances < 2 ^ 32
   pub room : (v d : ℕ) → distance_at distances v ≡ Some d →
       d + (missing distances + 1) * 2 ^ 32 ≤ length distances * 2 ^ 32
 

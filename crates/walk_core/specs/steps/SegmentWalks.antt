@@ -114,6 +114,11 @@ pub record AreAllOutlets (segments : List (List Port)) (n : ℕ) (all : List (Li
   pub long : length all ≡ n
   pub each : (u : ℕ) → u < n → AreOutlets segments u (length segments) (slice_index_or all u [])
 
+-- the vertices from this one on have no outlets
+pub record IsJoinedEnd (all : List (List Outlet)) (end : ℕ) : Type 0 where
+  pub within : end ≤ length all
+  pub lone : (u : ℕ) → end ≤ u → u < length all → length (slice_index_or all u []) ≡ 0
+
 -- what is left behind a cost
 pub record IsBehind (aim : Aim) (cost : ℕ) (rest : Aim) : Type 0 where
   pub vertex : rest.vertex ≡ aim.vertex

@@ -1,4 +1,4 @@
-use Rattle.std.proofs.Common.{◌≡◌, ◌∙◌, ◌++◌, Bool, ℕ, List, Option, Some, None, true, set, replicate, length, take, drop, ap, sym, subst, arith, refl}
+use Rattle.std.proofs.Common.{◌≡◌, ◌∙◌, ◌++◌, Bool, ℕ, List, Option, Some, None, true, set, replicate, length, take, drop, ap, sym, subst, arith}
 use Rattle.std.proofs.lemmas.Grind.{common_steps}
 use Rattle.walk_core.specs.Distances.{IsDistanceRow}
 use Rattle.walk_core.specs.steps.Flooding.{AreSettled}
@@ -11,8 +11,10 @@ use Rattle.walk_core.proofs.StaleLaws.{settled_at_first}
 use Rattle.walk_core.proofs.flood.distances_over.Goals as goal
 
 -- what a vector of distances was made with, and the root's own
-begun : (ds read : List (Option ℕ)) (count root : ℕ) → ds ≡ replicate count None → read ≡ set ds root (Some 0) → read ≡ set (replicate count None) root (Some 0)
-begun ds read count root first is = is ∙ ap (λ (l : List (Option ℕ)). set l root (Some 0)) first
+begun : (ds read : List (Option ℕ)) (count root : ℕ) (own : Option ℕ) → ds ≡ replicate count None → own ≡ Some 0 → read ≡ set ds root own →
+    read ≡ set (replicate count None) root (Some 0)
+begun ds read count root own first is_zero is =
+    is ∙ ap (λ (l : List (Option ℕ)). set l root own) first ∙ ap (λ (d : Option ℕ). set (replicate count None) root d) is_zero
 
 pub settle-requires-clause-segments : goal.settle-requires-clause-segments
 settle-requires-clause-segments c = subst (λ (n : ℕ). AreSegments n c.args.segments.now) (sym c.requires.outlets.long) c.requires.segments
@@ -20,19 +22,20 @@ settle-requires-clause-segments c = subst (λ (n : ℕ). AreSegments n c.args.se
 pub settle-requires-clause-room : goal.settle-requires-clause-room
 settle-requires-clause-room c =
     let first : c.in_ok-distances.distances.items ≡ replicate c.args.count None =
-    c.in_ok-distances.ensures.items_if_clones_equal (elim [ None ↦ λ h. refl | Some x ↦ λ h. absurd h ]) in
-    subst (λ (l : List (Option ℕ)). HaveRoom l) (sym (begun _ c.deref_mut-3.result.now c.args.count c.args.root first c.deref_mut-3.ensures.value))
+    c.in_ok-distances.ensures.items_if_clones_equal (λ y is. is) ∙ ap (λ (d : Option ℕ). replicate c.args.count d) c.none.ensures in
+    let begins = begun _ c.deref_mut-3.result.now c.args.count c.args.root c.of.result first c.of.ensures c.deref_mut-3.ensures.value in
+    subst (λ (l : List (Option ℕ)). HaveRoom l) (sym begins)
     (room_at_first c.args.count c.args.root c.requires.root (omega (arith, c.ranges.count.fits)))
 
 pub settle-requires-clause-settled : goal.settle-requires-clause-settled
 settle-requires-clause-settled c =
     let first : c.in_ok-distances.distances.items ≡ replicate c.args.count None =
-    c.in_ok-distances.ensures.items_if_clones_equal (elim [ None ↦ λ h. refl | Some x ↦ λ h. absurd h ]) in
+    c.in_ok-distances.ensures.items_if_clones_equal (λ y is. is) ∙ ap (λ (d : Option ℕ). replicate c.args.count d) c.none.ensures in
     let at_first : AreSettled c.args.segments.now (set (replicate c.args.count None) c.args.root (Some 0)) (set c.in_ok-stale.stale.items c.args.root true) =
     settled_at_first c.args.segments.now c.args.count c.args.root c.in_ok-stale.stale.items c.requires.root (omega (arith, c.in_ok-stale.ensures.len)) in
     subst (λ (l : List Bool). AreSettled c.args.segments.now c.deref_mut-3.result.now l) (sym c.deref_mut-2.ensures.value)
     (subst (λ (l : List (Option ℕ)). AreSettled c.args.segments.now l (set c.in_ok-stale.stale.items c.args.root true))
-    (sym (begun _ c.deref_mut-3.result.now c.args.count c.args.root first c.deref_mut-3.ensures.value)) at_first)
+    (sym (begun _ c.deref_mut-3.result.now c.args.count c.args.root c.of.result first c.of.ensures c.deref_mut-3.ensures.value)) at_first)
 
 pub returns : goal.returns
 returns c =
@@ -41,12 +44,12 @@ returns c =
     let root : ℕ = c.args.root in
     let last : List (Option ℕ) = c.settle.new.distances in
     let first : c.in_ok-distances.distances.items ≡ replicate count None =
-    c.in_ok-distances.ensures.items_if_clones_equal (elim [ None ↦ λ h. refl | Some x ↦ λ h. absurd h ]) in
-    let begins = begun _ c.deref_mut-3.result.now count root first c.deref_mut-3.ensures.value in
+    c.in_ok-distances.ensures.items_if_clones_equal (λ y is. is) ∙ ap (λ (d : Option ℕ). replicate c.args.count d) c.none.ensures in
+    let begins = begun _ c.deref_mut-3.result.now count root c.of.result first c.of.ensures c.deref_mut-3.ensures.value in
     let long : length last ≡ count = omega (arith, c.settle.auto.distances, c.deref_mut-3.ensures.len, c.in_ok-distances.ensures.len) in
     let walked : AreWalked (Sends segments) root last = c.settle.ensures.walked root
     (subst (λ (l : List (Option ℕ)). AreWalked (Sends segments) root l) (sym begins) (walked_at_first (Sends segments) count root c.requires.root)) in
-    let whole : take c.in_ok-distances.distances.len (last ++ drop (length last) (set c.in_ok-distances.distances.items root (Some 0))) ≡ last =
+    let whole : take c.in_ok-distances.distances.len (last ++ drop (length last) (set c.in_ok-distances.distances.items root c.of.result)) ≡ last =
     grind (arith, common_steps) in
     subst (λ (l : List (Option ℕ)). IsDistanceRow (SendsAcross segments) count root l) (sym (c.from_vec.ensures ∙ whole))
     (row_of_tight segments count root last c.requires.root c.requires.segments long c.settle.ensures.room walked

@@ -17,6 +17,7 @@ lower_vertex-requires c =
     c.ports_at-port-items.ensures c.loop-port-test.true c.requires.segments in
     record {
       vertex = omega (arith, below, c.loop-port.auto.distances);
+      fits = c.requires.fits;
       marks = omega (arith, below, c.loop-port.auto.stale, c.requires.marks);
     }
 

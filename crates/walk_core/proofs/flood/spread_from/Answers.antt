@@ -1,4 +1,5 @@
-use Rattle.std.proofs.Common.{◌≡◌, ℕ, ◌+◌, List, None, Option, Some, sym, subst, arith}
+use Rattle.std.proofs.Common.{◌≡◌, ℕ, ◌+◌, ◌<◌, List, None, Option, Some, get_or, length, sym, subst, ◌∙◌, arith}
+use Rattle.std.proofs.lemmas.List.{get_or_default}
 use Rattle.std.proofs.lemmas.List.Elements.{Contains-get_or}
 use borrow.Author.Count.{below_more}
 use Rattle.walk_core.specs.declared.outlets.Outlet.{Outlet}
@@ -9,9 +10,15 @@ use Rattle.walk_core.specs.steps.Flooding.{AreAllAtMost, cost_onto, segment_at}
 use Rattle.walk_core.specs.steps.SegmentWalks.{IsOutlet}
 use Rattle.walk_core.specs.Segments.{AreSegments}
 use Rattle.walk_core.proofs.FloodLaws.{entry_of_outlet, falls_none, falls_on, last_above, tight_over}
+use Rattle.walk_core.proofs.RelaxLaws.{sum_fits}
 use Rattle.walk_core.proofs.StaleLaws.{lowers_none, lowers_on, settled_on}
 use Rattle.walk_core.proofs.flood.spread_from.Invariants.{outlet_at}
 use Rattle.walk_core.proofs.flood.spread_from.Goals as goal
+
+-- the distance that was read is that of the vertex
+near_at : (ds : List (Option ℕ)) (u near : ℕ) (read got : Option ℕ) → u < length ds → read ≡ get_or ds u read → got ≡ read → got ≡ Some near →
+    distance_at ds u ≡ Some near
+near_at ds u near read got within is same some = sym (is ∙ get_or_default ds u read None within) ∙ (sym same ∙ some)
 
 pub cross-requires : goal.cross-requires
 cross-requires c =
@@ -23,9 +30,13 @@ cross-requires c =
     c.requires.outlets.each outlet (Contains-get_or c.args.outlets.now c.loop-outlet.outlet-index (record { place = 0; cost = 0; to = None })
     c.loop-outlet-test.true)
     in
-    let here : distance_at now c.args.u ≡ Some near = c.loop-outlet.invariant.lowers.near c.args.u near c.in-Some.is (omega arith) in
+    let begun : distance_at c.args.distances.now c.args.u ≡ Some near =
+    near_at c.args.distances.now c.args.u near c.index-distances-u.result c.get.result c.requires.vertex c.index-distances-u.is c.get.ensures.value c.in-Some.is
+    in
+    let here : distance_at now c.args.u ≡ Some near = c.loop-outlet.invariant.lowers.near c.args.u near begun (omega arith) in
     record {
       place = is.within;
+      fits = sum_fits now c.args.u near c.from.result c.loop-outlet.invariant.falls.room here (omega arith);
       segments = subst (λ (n : ℕ). AreSegments n segments) (sym c.loop-outlet.auto.distances) c.requires.segments;
       room = c.loop-outlet.invariant.falls.room;
       marks = omega (arith, c.loop-outlet.auto.distances, c.loop-outlet.auto.stale, c.requires.settled.long);
@@ -68,9 +79,13 @@ returns-clause-settled c =
 
 pub returns-clause-tight : goal.returns-clause-tight
 returns-clause-tight c =
+    let near : ℕ = c.in-Some.near in
+    let begun : distance_at c.args.distances.now c.args.u ≡ Some near =
+    near_at c.args.distances.now c.args.u near c.index-distances-u.result c.get.result c.requires.vertex c.index-distances-u.is c.get.ensures.value c.in-Some.is
+    in
     tight_over c.args.segments.now c.args.u c.in-Some.near c.loop-outlet.outlet-index c.args.outlets.now (record { place = 0; cost = 0; to = None })
     c.loop-outlet.distances c.loop-outlet-test.false c.requires.outlets
-    (c.loop-outlet.invariant.lowers.near c.args.u c.in-Some.near c.in-Some.is (omega arith)) c.loop-outlet.invariant.reached
+    (c.loop-outlet.invariant.lowers.near c.args.u near begun (omega arith)) c.loop-outlet.invariant.reached
 
 pub returns-clause-marked : goal.returns-clause-marked
 returns-clause-marked c is = c.loop-outlet.invariant.lowers.kept c.args.u is

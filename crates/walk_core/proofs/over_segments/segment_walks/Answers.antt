@@ -1,57 +1,39 @@
-use Rattle.std.proofs.Common.{◌+◌, ℕ, List, [], Option, length, length-set, get_or, refl, ap, sym, subst, ◌∙◌, arith}
-use Rattle.std.proofs.lemmas.Option.{slice_get_within}
-use Rattle.walk_core.specs.Distances.{IsDistanceRow}
-use Rattle.walk_core.specs.Reach.{Reach, AreAscending, AreWalksBelow}
+use Rattle.std.proofs.Common.{ℕ, ◌≤◌, ◌+◌, ◌++◌, ◌∷◌, [], List, length, ap, get_or, sym, subst, ◌∙◌, arith}
+use Rattle.walk_core.specs.Reach.{Reach, AreWalksBelow}
 use Rattle.walk_core.specs.Segments.{SendsAcross}
 use Rattle.walk_core.specs.Walks.{Arcs}
-use Rattle.walk_core.specs.declared.segment.Port.{Port}
-use Rattle.walk_core.specs.steps.FirstHops.{AreAllHops, ListFirstHops}
-use Rattle.walk_core.specs.steps.SegmentWalks.{Mesh}
-use Rattle.walk_core.proofs.ReachLaws.{rest_kept, walks_more}
+use Rattle.walk_core.specs.declared.outlets.Outlet.{Outlet}
+use Rattle.walk_core.specs.steps.SegmentWalks.{IsJoinedEnd}
+use Rattle.walk_core.proofs.RowLaws.{lone_more, ports_below}
 use Rattle.walk_core.proofs.over_segments.segment_walks.Goals as goal
+
+pub walks_below-requires-clause-segments : goal.walks_below-requires-clause-segments
+walks_below-requires-clause-segments c =
+    let all : List (List Outlet) = c.in_ok-outlets.outlets.items in
+    let end : ℕ = c.joined_end-end.result in
+    ports_below c.args.segments.now c.args.count end all c.requires c.in_ok-outlets.ensures
+    (subst (λ (l : List (List Outlet)). IsJoinedEnd l end) c.as_slice.ensures.value c.joined_end-end.ensures)
 
 pub loop-root-init : goal.loop-root-init
 loop-root-init c =
-    let arc : Arcs = SendsAcross c.args.segments.now in
-    let lists : AreAllHops arc c.args.count c.in_ok-lists.lists.items =
-    subst (λ (s : List (List Port)). AreAllHops (SendsAcross s) c.args.count c.in_ok-lists.lists.items) (ap (λ (m : Mesh). m.segments) c.new-ways.ensures)
-    c.in_ok-lists.ensures in
-    record {
-      walks = subst (λ (l : List Reach). AreWalksBelow arc c.args.count 0 l) (sym c.in_ok-all.ensures.items) (record {
-        long = refl;
-        least = λ u reach at. absurd (omega (arith, slice_get_within [] u reach at));
-        near = λ u reach at. absurd (omega (arith, slice_get_within [] u reach at));
-      });
-      long = c.in_ok-rows.ensures.long;
-      many = lists.long;
-      rows = λ u past below. c.in_ok-rows.ensures.each u below;
-      exact = λ u past below. lists.exact u below;
-      ascending = λ u past below. lists.ascending u below;
-    }
+    let end : ℕ = c.joined_end-end.result in
+    let within : end ≤ c.args.count =
+    omega (arith, c.joined_end-end.ensures.within, c.in_ok-outlets.ensures.long, ap (λ (l : List (List Outlet)). length l) c.as_slice.ensures.value) in
+    let are = c.in_ok-all.ensures in
+    subst (λ (l : List Reach). AreWalksBelow (SendsAcross c.args.segments.now) c.args.count end l) (sym c.in_ok-reserve.ensures.items)
+    (record { long = are.long; least = are.least; near = λ u reach at v d is. omega (arith, within, are.near u reach at v d is) })
 
 pub loop-root-preserved : goal.loop-root-preserved
 loop-root-preserved c =
     let arc : Arcs = SendsAcross c.args.segments.now in
-    let count : ℕ = c.args.count in
-    let root : ℕ = c.loop-root.root in
-    let rows : List (List (Option ℕ)) = c.loop-root.rows.items in
-    let lists : List (List (List ℕ)) = c.loop-root.lists.items in
-    let is = c.loop-root.invariant in
-    let reach : Reach = record { distances = c.take_row-distances.result; hops = c.take_hops-hops.result } in
-    let row : IsDistanceRow arc count root reach.distances =
-    subst (λ (l : List (Option ℕ)). IsDistanceRow arc count root l) (sym c.take_row-distances.ensures.taken)
-    (is.rows root (omega arith) c.loop-root-test.true) in
-    let hops : ListFirstHops arc root reach.hops =
-    subst (λ (l : List (List ℕ)). ListFirstHops arc root l) (sym c.take_hops-hops.ensures.taken) (is.exact root (omega arith) c.loop-root-test.true) in
-    record {
-      walks = subst (λ (l : List Reach). AreWalksBelow arc count (root + 1) l) (sym c.in_ok-push.ensures.items)
-          (walks_more arc count root c.loop-root.all.items reach is.walks row hops);
-      long = ap (λ (l : List (List (Option ℕ))). length l) c.take_row-distances.ensures.others ∙ length-set rows root [] ∙ is.long;
-      many = ap (λ (l : List (List (List ℕ))). length l) c.take_hops-hops.ensures.others ∙ length-set lists root [] ∙ is.many;
-      rows = λ u past below. subst (λ (l : List (List (Option ℕ))). IsDistanceRow arc count u (get_or l u [])) (sym c.take_row-distances.ensures.others)
-          (rest_kept (IsDistanceRow arc count) rows [] root count is.rows u past below);
-      exact = λ u past below. subst (λ (l : List (List (List ℕ))). ListFirstHops arc u (get_or l u [])) (sym c.take_hops-hops.ensures.others)
-          (rest_kept (ListFirstHops arc) lists [] root count is.exact u past below);
-      ascending = λ u past below. subst (λ (l : List (List (List ℕ))). AreAscending (get_or l u [])) (sym c.take_hops-hops.ensures.others)
-          (rest_kept (λ n l. AreAscending l) lists [] root count is.ascending u past below);
-    }
+    let u : ℕ = c.loop-root.root in
+    let all : List (List Outlet) = c.in_ok-outlets.outlets.items in
+    let walks : List Reach = c.loop-root.all.items in
+    let is : IsJoinedEnd all c.joined_end-end.result =
+    subst (λ (l : List (List Outlet)). IsJoinedEnd l c.joined_end-end.result) c.as_slice.ensures.value c.joined_end-end.ensures in
+    let past : c.joined_end-end.result ≤ u = omega (arith, c.loop-root.auto.root) in
+    subst (λ (l : List Reach). AreWalksBelow arc c.args.count (u + 1) l)
+    (sym (c.in_ok-push.ensures.items ∙ ap (λ (r : Reach). walks ++ r ∷ []) c.of_lone.ensures))
+    (lone_more c.args.segments.now c.args.count u (get_or all u []) walks c.requires c.loop-root-test.true
+    (c.in_ok-outlets.ensures.each u c.loop-root-test.true) (is.lone u past (omega (arith, c.in_ok-outlets.ensures.long, c.loop-root-test.true)))
+    c.loop-root.invariant)

@@ -1,4 +1,4 @@
-use Rattle.std.proofs.Common.{◌≡◌, ◌<◌, ◌++◌, replicate, None, Some, refl, arith, length, length-set, take, drop, ℕ, List, Option, sym, subst, ◌∙◌}
+use Rattle.std.proofs.Common.{◌≡◌, ◌<◌, ◌++◌, replicate, None, arith, length, length-set, take, drop, ℕ, List, Option, ap, sym, subst, ◌∙◌}
 use Rattle.std.proofs.lemmas.List.{length-replicate}
 use Rattle.std.proofs.lemmas.Grind.{common_steps}
 use Rattle.walk_core.specs.Distances.{AreLeastDistances}
@@ -9,15 +9,15 @@ use Rattle.walk_core.proofs.relax.distances_from.Goals as goal
 pub loop-init : goal.loop-init
 loop-init g c =
     let first : c.in_ok-distances.distances.items ≡ replicate c.vertices.result None =
-    c.in_ok-distances.ensures.items_if_clones_equal (elim [ None ↦ λ h. refl | Some x ↦ λ h. absurd h ])
+    c.in_ok-distances.ensures.items_if_clones_equal (λ y is. is) ∙ ap (λ (d : Option ℕ). replicate c.vertices.result d) c.none.ensures
     in
     let count : c.vertices.result ≡ g.G.CostGraph.vertex_count c.args.graph.now = c.vertices.ensures in
     let in_range : c.args.root < c.vertices.result = rw count c.requires in
-    rw first (record {
+    rw first (rw c.of.ensures (record {
       whole = simp (length-set, length-replicate) count;
       room = room_at_first c.vertices.result c.args.root in_range (omega arith);
       walked = walked_at_first (g.G.CostGraph.has_arc c.args.graph.now) c.vertices.result c.args.root in_range;
-    })
+    }))
 
 pub returns-clause-least : goal.returns-clause-least
 returns-clause-least g c =
