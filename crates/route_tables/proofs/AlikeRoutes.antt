@@ -1,12 +1,12 @@
 -- Alike offers have the same routes: what they ask in all differs by one constant, so the same of them are the best.
-use Rattle.std.proofs.Common.{◌≡◌, ℕ, ◌+◌, ◌<◌, ◌≤◌, ◌↔◌, ◌⊎◌, inl, inr, List, length, map, get_or, refl, sym, ap, subst, ◌∙◌, arith}
+use Rattle.std.proofs.Common.{◌≡◌, ℕ, ◌+◌, ◌≤◌, ◌↔◌, ◌⊎◌, inl, inr, List, refl, sym, ap, subst, ◌∙◌, arith}
 use Rattle.std.specs.List.{Contains}
-use Rattle.std.proofs.lemmas.List.{length-map, get_or-map, get_or_default}
 use Rattle.walk_core.specs.Walks.{Arcs}
 use Rattle.walk_core.specs.Offers.{Offers, OfferCosts, BestCost, BestHop}
 use Rattle.walk_core.specs.BestOffers.{ListsOffer}
 use Rattle.walk_core.specs.declared.offers.Offer.{Offer}
 use Rattle.route_tables.specs.AlikeOffers.{AreAlikeOffers, AreDearerBy, dearer_by}
+use Rattle.route_tables.proofs.ListFacts.{contains_map, map_source}
 
 -- the second offers are the first ones, each asking this much more
 pub record RiseBy (more : ℕ) (one other : Offers) : Type 0 where
@@ -130,27 +130,6 @@ alike_among among one other fewer others of_one of_other alike = record {
 
 -- Lists of offers
 
--- an offer of the list, dearer by this much
-dearer_listed : (more : ℕ) (offers : List Offer) (o : Offer) → Contains offers o → Contains (map (dearer_by more) offers) (dearer_by more o)
-dearer_listed more offers o among =
-    let long = length-map offers (dearer_by more) in (
-      among.0,
-      omega (arith, among.1),
-      get_or-map (dearer_by more) offers among.0 o (dearer_by more o) among.1 ∙ ap (dearer_by more) among.2,
-    )
-
--- a listed dearer offer comes from one of the list
-dearer_source : (more : ℕ) (offers : List Offer) (o : Offer) → Contains (map (dearer_by more) offers) o →
-    (source : Offer) × Contains offers source × (dearer_by more source ≡ o)
-dearer_source more offers o among =
-    let long = length-map offers (dearer_by more) in
-    let within : among.0 < length offers = omega (arith, among.1) in
-    let source : Offer = get_or offers among.0 o in (
-      source,
-      (among.0, within, get_or_default offers among.0 source o within),
-      sym (get_or-map (dearer_by more) offers among.0 o o within) ∙ among.2,
-    )
-
 rise_of_lists : (more : ℕ) (one other : Offers) (ones others : List Offer) → ((at asks : ℕ) → ListsOffer ones at asks ↔ one at asks) →
     ((at asks : ℕ) → ListsOffer others at asks ↔ other at asks) → AreDearerBy more ones others → RiseBy more one other
 rise_of_lists more one other ones others are_ones are_others dearer = record {
@@ -158,13 +137,14 @@ rise_of_lists more one other ones others are_ones are_others dearer = record {
       let listed : ListsOffer ones at asks = (are_ones at asks).1 is in
       (are_others at (asks + more)).0 (record {
         offer = dearer_by more listed.offer;
-        among = subst (λ (l : List Offer). Contains l (dearer_by more listed.offer)) (sym dearer) (dearer_listed more ones listed.offer listed.among);
+        among = subst (λ (l : List Offer). Contains l (dearer_by more listed.offer)) (sym dearer)
+            (contains_map (dearer_by more) ones listed.offer listed.among);
         made = listed.made;
         asked = ap (λ (a : ℕ). a + more) listed.asked;
       });
   back = λ at asks is.
       let listed : ListsOffer others at asks = (are_others at asks).1 is in
-      let from = dearer_source more ones listed.offer (subst (λ (l : List Offer). Contains l listed.offer) dearer listed.among) in (
+      let from = map_source (dearer_by more) ones listed.offer listed.offer (subst (λ (l : List Offer). Contains l listed.offer) dearer listed.among) in (
         from.0.asks,
         (are_ones at from.0.asks).0 (record {
           offer = from.0;

@@ -1,5 +1,5 @@
 pub mod ListFacts
-mod TableRows
+mod KeptTables
 pub mod DestinationLists
 pub mod BestRoutes
 pub mod AlikeRoutes

@@ -1,11 +1,11 @@
 -- Lists of what a relation holds of, element by element and router by router.
-use Rattle.std.proofs.Common.{◌≡◌, ℕ, ◌+◌, ◌<◌, ◌≤◌, ◌↔◌, ◌⊎◌, inl, inr, ⊎_elim, List, [], ◌∷◌, ◌++◌, length, take, get_or, Option, Some, None, true, false, refl, sym, ap, subst, ◌∙◌, arith}
+use Rattle.std.proofs.Common.{◌≡◌, ℕ, ◌+◌, ◌<◌, ◌≤◌, ◌↔◌, ◌⊎◌, inl, inr, ⊎_elim, List, [], ◌∷◌, ◌++◌, length, map, take, get_or, Option, Some, None, true, false, refl, sym, ap, subst, ◌∙◌, arith}
 use Rattle.std.specs.Option.{is_some}
 use Rattle.std.proofs.lemmas.Option.{none-some}
 use Rattle.std.specs.List.{Contains, Any, All, AllWithin}
 use Rattle.std.proofs.lemmas.Bool.{cases_lt}
-use Rattle.std.proofs.lemmas.List.{take_more, take_all, get_or_default, get_or_append_left, get_or_push}
-use Rattle.std.proofs.lemmas.List.Elements.{Contains-append_left, Contains-push, Contains-push_cases}
+use Rattle.std.proofs.lemmas.List.{take_more, take_all, get_or_default, get_or_append_left, get_or_push, get_or-map, length-map}
+use Rattle.std.proofs.lemmas.List.Elements.{Contains-append_left, Contains-get_or, Contains-push, Contains-push_cases}
 use Rattle.std.proofs.lemmas.List.Quantifiers.{Any-push}
 use Rattle.route_tables.specs.Lists.{Exactly, Adds}
 
@@ -157,18 +157,29 @@ exactly_below gives wanted old new n empty adds there back =
 pub all_at : {Y : Type 0} (P : Y → Type 0) (ys : List Y) (i : ℕ) (y : Y) → All P ys → i < length ys → y ≡ get_or ys i y → P y
 all_at P ys i y all within is = subst P (sym is) (all i y within)
 
--- Lists of lists
-
--- what holds of each list so far and of one more holds of all of them
-pub each_more : {X : Type 0} (R : ℕ → List X → Type 0) (all : List (List X)) (n : ℕ) (next : List X) → length all ≡ n →
-    ((u : ℕ) → u < n → R u (get_or all u [])) → R n next → (u : ℕ) → u < n + 1 → R u (get_or (all ++ next ∷ []) u [])
-each_more {X} R all n next long before here u below =
+-- what holds of each element so far, by its place, and of one more, holds of all of them
+pub each_more : {X : Type 0} (R : ℕ → X → Type 0) (all : List X) (n : ℕ) (next d : X) → length all ≡ n →
+    ((u : ℕ) → u < n → R u (get_or all u d)) → R n next → (u : ℕ) → u < n + 1 → R u (get_or (all ++ next ∷ []) u d)
+each_more {X} R all n next d long before here u below =
     elim (at_most u n below) [
-      | inl less ↦ subst (R u) (sym (get_or_append_left all (next ∷ []) [] u (omega arith))) (before u less)
+      | inl less ↦ subst (R u) (sym (get_or_append_left all (next ∷ []) d u (omega arith))) (before u less)
       | inr same ↦
-          let at_n : R n (get_or (all ++ next ∷ []) n []) = subst (R n) (sym (get_or_push all next [] n long)) here in
-          subst (λ (k : ℕ). R k (get_or (all ++ next ∷ []) k [])) (sym same) at_n
+          let at_n : R n (get_or (all ++ next ∷ []) n d) = subst (R n) (sym (get_or_push all next d n long)) here in
+          subst (λ (k : ℕ). R k (get_or (all ++ next ∷ []) k d)) (sym same) at_n
     ]
+
+-- What a function makes of each element
+
+pub contains_map : {X Y : Type 0} (f : X → Y) (xs : List X) (x : X) → Contains xs x → Contains (map f xs) (f x)
+contains_map f xs x (k, below, is) =
+    let long = length-map xs f in
+    (k, omega (arith, long), get_or-map f xs k x (f x) below ∙ ap f is)
+
+pub map_source : {X Y : Type 0} (f : X → Y) (xs : List X) (d : X) (y : Y) → Contains (map f xs) y → (x : X) × Contains xs x × (f x ≡ y)
+map_source f xs d y (k, below, is) =
+    let long = length-map xs f in
+    let within : k < length xs = omega (arith, long) in
+    (get_or xs k d, Contains-get_or xs k d within, sym (get_or-map f xs k d y within) ∙ is)
 
 -- what holds of each element so far and of the next
 pub within_more : {Y : Type 0} (P : Y → Type 0) (ys : List Y) (i : ℕ) (y : Y) → i < length ys → y ≡ get_or ys i y → AllWithin P ys 0 i → P y →

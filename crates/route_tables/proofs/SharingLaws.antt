@@ -1,18 +1,16 @@
 -- Tables in the making: entries that all tables share, and the numbers of those that a table knows.
-use Rattle.std.proofs.Common.{◌≡◌, ℕ, ◌<◌, ◌↔◌, ⊎_elim, List, [], ◌∷◌, ◌++◌, length, Some, None, Option, get_or, set, inl, inr, sym, ap, subst, ◌∙◌, arith, MatchOption, Result, Ok, Err, IfOk, OnOk, length-append, append_assoc}
+use Rattle.std.proofs.Common.{◌≡◌, ℕ, ◌+◌, ◌<◌, ◌↔◌, List, [], ◌∷◌, ◌++◌, length, Some, None, Option, get_or, set, inl, inr, sym, ap, subst, ◌∙◌, arith, Result, Ok, Err, IfOk, OnOk, length-append, append_assoc}
 use Rattle.std.proofs.lemmas.Bool.{cases_eq, cases_lt}
 use Rattle.std.proofs.lemmas.List.{append-nil, get_or_append_left, get_or_push, length_push, get_or-set_same, get_or-set_other, set_past}
 use Rattle.std.proofs.lemmas.Option.{same_Some}
-use Rattle.net_addr.specs.Addresses.{Block}
 use Rattle.walk_core.specs.Reach.{Reach}
 use Rattle.route_core.specs.declared.entry.Entry.{Entry}
 use Rattle.route_core.specs.declared.entry.Entry.TheVariants.{Via, Discard}
-use Rattle.route_tables.specs.Prefixes.{prefix_at}
 use Rattle.route_tables.specs.Routings.{IsEntryTo}
 use Rattle.route_tables.specs.steps.Sharing.{AreKnown, AreNumbers, AreOverOne, AreShared, HasNumber, IsNumberOf, Keeps, KeepsMore}
 use Rattle.route_tables.specs.declared.pool.Known.{Known}
 use Rattle.route_tables.specs.declared.pool.Pool.{Pool}
-use Rattle.route_tables.proofs.ListFacts.{at_most}
+use Rattle.route_tables.proofs.ListFacts.{each_more}
 
 -- Numbers of entries
 
@@ -44,32 +42,22 @@ number_alike one other entries None same none = λ e is. none e ((same e).1 is)
 number_alike one other entries (Some number) same has =
     record { below = has.below; is = (same (get_or entries number Discard)).0 has.is }
 
--- Prefix by prefix
+-- Kind by kind
 
 -- the numbers stay those of the entries with more entries
-pub numbers_kept : (entry : Block → Entry → Type 0) (dests : List Block) (entries more : List Entry) (numbers : List (Option ℕ)) →
-    AreNumbers entry dests entries numbers → AreNumbers entry dests (entries ++ more) numbers
-numbers_kept entry dests entries more numbers are place below =
-    if_any_kept (entry (prefix_at dests place)) entries more (get_or numbers place None) (are place below)
+pub numbers_kept : (wanted : ℕ → Entry → Type 0) (k : ℕ) (entries more : List Entry) (numbers : List (Option ℕ)) → AreNumbers wanted k entries numbers →
+    AreNumbers wanted k (entries ++ more) numbers
+numbers_kept wanted k entries more numbers are =
+    record { count = are.count; each = λ kind below. if_any_kept (wanted kind) entries more (get_or numbers kind None) (are.each kind below) }
 
--- the number of one more prefix
-pub numbers_more : (entry : Block → Entry → Type 0) (dests : List Block) (entries : List Entry) (numbers : List (Option ℕ)) (place : ℕ) (next : Option ℕ) →
-    length numbers ≡ place → AreNumbers entry dests entries numbers → IsNumberOf (entry (prefix_at dests place)) entries next →
-    AreNumbers entry dests entries (numbers ++ next ∷ [])
-numbers_more entry dests entries numbers place next long are here k below =
-    let Goal : ℕ → Option ℕ → Type 0 = λ m number. IsNumberOf (entry (prefix_at dests m)) entries number in
-    let more = length_push numbers next in
-    ⊎_elim
-    (λ less. subst (Goal k) (sym (get_or_append_left numbers (next ∷ []) None k (omega arith))) (are k (omega arith)))
-    (λ same. subst (Goal k) (sym (get_or_push numbers next None k (long ∙ sym same))) (subst (λ (m : ℕ). Goal m next) (sym same) here))
-    (at_most k place (omega arith))
-
--- the row of a prefix is that of its entry
-pub row_by : (wanted : Entry → Type 0) (entries : List Entry) (dest : Block) (old new : List (Block × Entry)) (number : Option ℕ) →
-    IsNumberOf wanted entries number → MatchOption number (new ≡ old) (λ k. new ≡ old ++ (dest, get_or entries k Discard) ∷ []) →
-    (entry : Option Entry) × MatchOption entry ((e : Entry) → wanted e → ⊥) wanted × MatchOption entry (new ≡ old) (λ e. new ≡ old ++ (dest, e) ∷ [])
-row_by wanted entries dest old new None none same = (None, none, same)
-row_by wanted entries dest old new (Some number) has adds = (Some (get_or entries number Discard), has.is, adds)
+-- the number of one more kind, by which there may be more entries
+pub numbers_more : (wanted : ℕ → Entry → Type 0) (k : ℕ) (entries more : List Entry) (numbers : List (Option ℕ)) (next : Option ℕ) →
+    AreNumbers wanted k entries numbers → IsNumberOf (wanted k) (entries ++ more) next → AreNumbers wanted (k + 1) (entries ++ more) (numbers ++ next ∷ [])
+numbers_more wanted k entries more numbers next are here = record {
+  count = let long = length_push numbers next in omega (arith, are.count);
+  each = each_more (λ (kind : ℕ). IsNumberOf (wanted kind) (entries ++ more)) numbers k next None are.count
+      (numbers_kept wanted k entries more numbers are).each here;
+}
 
 -- Over one hop
 

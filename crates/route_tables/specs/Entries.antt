@@ -15,9 +15,17 @@ pub record IsLawful (routers : ℕ) (entry : ℕ → Block → Entry → Type 0)
   pub hops : (u : ℕ) (p : Block) (hops : List ℕ) → entry u p (Via hops) → AreLinkedHops routers (neighbor u) hops
   pub within : (u v : ℕ) → neighbor u v → v < routers
 
+-- both prefixes have the same entries
+abbrev pub AreSameEntries : (Block → Entry → Type 0) → Block → Block → Type 0
+AreSameEntries entry one other = (e : Entry) → entry one e ↔ entry other e
+
+-- the routers of which this holds have the same entries for both prefixes
+abbrev pub AreAlikeFor : (ℕ → Type 0) → (ℕ → Block → Entry → Type 0) → Block → Block → Type 0
+AreAlikeFor router entry one other = (u : ℕ) (e : Entry) → router u → entry u one e ↔ entry u other e
+
 -- the routers below n have the same entries for both prefixes
 abbrev pub AreAlikePrefixes : ℕ → (ℕ → Block → Entry → Type 0) → Block → Block → Type 0
-AreAlikePrefixes n entry one other = (u : ℕ) (e : Entry) → u < n → entry u one e ↔ entry u other e
+AreAlikePrefixes n = AreAlikeFor (λ u. u < n)
 
 -- the table has these entries, and no others
 pub record IsTableOf (entry : Block → Entry → Type 0) (table : List (Block × Entry)) : Type 0 where

@@ -1,15 +1,26 @@
 -- The tables of all routers, and who is linked to whom.
-use Rattle.std.specs.Prelude.{◌≡◌, ◌<◌, ◌≤◌, ◌↔◌, ℕ, List, [], length, slice_index_or}
+use Rattle.std.specs.Prelude.{◌≡◌, ◌<◌, ◌≤◌, ◌↔◌, ℕ, List, [], ◌∷◌, length, map, slice_index_or, All}
 use Rattle.net_addr.specs.Addresses.{Block}
 use Rattle.walk_core.specs.declared.segment.Port.{Port}
+use Rattle.route_core.specs.Rows.{KeptTable, listed}
 use Rattle.route_core.specs.Tables.{AreTables, HasEntry}
 use Rattle.route_core.specs.declared.entry.Entry.{Entry}
 use Rattle.route_tables.specs.Entries.{AreJoined}
 
--- the entries of each router's table, and the segments that join routers
+-- the prefixes that all tables keep, the entries of each router's table, and the segments that join routers
 pub record Routes : Type 0 where
+  pub prefixes : List Block
   pub tables : List (List (Block × Entry))
   pub segments : List (List Port)
+
+-- the prefixes that the first of the tables keeps
+abbrev pub prefixes_of_first : List KeptTable → List Block
+prefixes_of_first [] = []
+prefixes_of_first (kept ∷ _) = kept.prefixes
+
+-- what these tables and segments stand for
+abbrev pub routes_in : List KeptTable → List (List Port) → Routes
+routes_in tables segments = record { prefixes = prefixes_of_first tables; tables = map listed tables; segments = segments }
 
 -- how many routers there are
 abbrev pub router_count : Routes → ℕ
@@ -27,6 +38,11 @@ AreLinked routes u v = AreJoined routes.segments u v
 pub record AreLawful (routes : Routes) : Type 0 where
   pub few : router_count routes ≤ 200
   pub tables : AreTables (router_count routes) (table_at routes) (AreLinked routes)
+
+-- tables that keep the same prefixes, and segments, which keep this promise
+pub record AreSourceTables (tables : List KeptTable) (segments : List (List Port)) : Type 0 where
+  pub lawful : AreLawful (routes_in tables segments)
+  pub prefixes : All (λ (kept : KeptTable). kept.prefixes ≡ prefixes_of_first tables) tables
 
 -- the tables are those of this many routers, for every prefix and entry, and two routers are linked exactly where they
 -- are neighbors

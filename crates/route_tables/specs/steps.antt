@@ -1,4 +1,5 @@
 pub mod BestSoFar
+pub mod Kinds
 pub mod Sharing
 pub mod Alike
 pub mod Joined

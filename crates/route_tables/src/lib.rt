@@ -1,7 +1,7 @@
 //! Route tables of all routers: the prefixes and routes that they are made of, and the tables that a protocol gives.
 //!
 //! - `protocol.rt`: what a protocol says of a network: candidates, zones with their least walks, the route of each router
-//!   for each candidate, which candidates have the same routes, neighbors.
+//!   for each candidate, lanes of routers, which candidates have the same routes in a lane, neighbors.
 //! - `route.rt`, `best.rt`: a route before it is an entry, and the route to the best of some offers, in one pass over them;
 //!   where one router has the first hops of all best offers, the route says that router and takes no memory.
 //! - `lane.rt`, `sure.rt`: what decides the routes of all routers that know the same offers, prefix by prefix, and what
@@ -9,8 +9,9 @@
 //! - `alike.rt`: whether offers differ by a constant alone, by which prefixes have the same routes.
 //! - `pool.rt`: the entries that the tables of all routers share: those over one hop alone, which are made once and need no
 //!   search, and those that each table adds.
-//! - `sharing.rt`, `table.rt`: the number of each entry of a router, and its rows; no route is asked for a prefix with the
-//!   same routes as an earlier one, nor where the router's lane tells its entry.
+//! - `kinds.rt`: the prefixes of a lane by kinds, which its routers have the same entries for.
+//! - `sharing.rt`, `table.rt`: of each router the number of its entry for each kind of its lane, and the tables; no route is
+//!   asked for where the lane tells the entry.
 //! - `candidates.rt`, `distinct.rt`, `lists.rt`: prefixes, in order and each once, and lists that grow.
 //! - `routes.rt`, `joined.rt`: tables as a source of tables, with the segments that join neighbors.
 #![tactic(auto)]
@@ -20,6 +21,7 @@ mod best;
 mod candidates;
 mod distinct;
 mod joined;
+mod kinds;
 mod lane;
 mod lists;
 mod pool;

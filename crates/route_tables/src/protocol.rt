@@ -3,7 +3,7 @@ ghost use Rattle.route_tables.specs.declared.lane.Decision.TheVariants.{Unknown}
 ghost use Rattle.net_addr.specs.Addresses.{Block};
 ghost use Rattle.walk_core.specs.Reach.{Reach};
 ghost use Rattle.route_core.specs.declared.entry.Entry.{Entry};
-ghost use Rattle.route_tables.specs.Entries.{AreAlikePrefixes, AreJoinedBy, IsLawful};
+ghost use Rattle.route_tables.specs.Entries.{AreAlikeFor, AreJoinedBy, IsLawful};
 ghost use Rattle.route_tables.specs.Lanes.{DecidesRoute, LeadToBest};
 ghost use Rattle.route_tables.specs.Routings.{IsRouteFor};
 ghost use Rattle.route_tables.specs.Prefixes.{AreDistinctPrefixes, prefix_at};
@@ -38,6 +38,12 @@ pub trait Protocol {
     /// The least walks from a router in a zone.
     ghost reach: { Self → ℕ → ℕ → Reach };
 
+    /// How many lanes its routers fall into.
+    ghost lanes: { Self → ℕ };
+
+    /// Whether the lane of this number has a router.
+    ghost in_lane: { Self → ℕ → ℕ → Type 0 };
+
     /// How many routers there are. They are numbered from 0.
     fn routers(&self) -> u32
         ensures count { result ≡ routers self.now }
@@ -54,24 +60,35 @@ pub trait Protocol {
         requires { place < length (candidates self.now) }
         ensures { result ≡ prefix_at (candidates self.now) place };
 
-    /// The number of an earlier prefix for which every router has the same entries, where one is known.
-    fn alike(&self, place: usize) -> Option<usize>
-        requires { place < length (candidates self.now) }
+    /// How many lanes its routers fall into. They are numbered from 0.
+    fn lanes(&self) -> usize
+        ensures { result ≡ lanes self.now };
+
+    /// The lane that a router is in.
+    fn lane(&self, router: u32) -> usize
+        requires { router < routers self.now }
+        ensures is { in_lane self.now result router }
+        ensures below { result < lanes self.now };
+
+    /// The number of an earlier prefix for which every router of a lane has the same entries, where one is known.
+    fn alike(&self, lane: usize, place: usize) -> Option<usize>
+        requires lane { lane < lanes self.now }
+        requires place { place < length (candidates self.now) }
         ensures earlier { IfSome result (λ earlier. earlier < place) }
-        ensures alike { IfSome result (λ earlier. AreAlikePrefixes (routers self.now) (entry self.now)
+        ensures alike { IfSome result (λ earlier. AreAlikeFor (in_lane self.now lane) (entry self.now)
             (prefix_at (candidates self.now) earlier) (prefix_at (candidates self.now) place)) };
 
-    /// What decides the routes of a router, where it is in a lane.
-    fn lane(&self, router: u32) -> Option<Lane<'_>>
-        requires { router < routers self.now }
-        ensures zone { IfSome result (λ lane. lane.zone < zones self.now) }
-        ensures count { IfSome result (λ lane. length lane.decisions.now ≡ length (candidates self.now)) }
-        ensures decides { IfSome result (λ lane. (place : ℕ) → place < length (candidates self.now) →
-            DecidesRoute router (entry self.now router (prefix_at (candidates self.now) place))
-            (LeadToBest (reach self.now router lane.zone) lane.zone (routers self.now)
-            (IsRouteFor (reach self.now router) (zones self.now) (routers self.now)
-            (entry self.now router (prefix_at (candidates self.now) place))))
-            (slice_index_or lane.decisions.now place Unknown)) };
+    /// What decides the routes of the routers of a lane, where that is known.
+    fn decisions(&self, lane: usize) -> Option<Lane<'_>>
+        requires { lane < lanes self.now }
+        ensures zone { IfSome result (λ known. known.zone < zones self.now) }
+        ensures count { IfSome result (λ known. length known.decisions.now ≡ length (candidates self.now)) }
+        ensures decides { IfSome result (λ known. (u place : ℕ) → in_lane self.now lane u → place < length (candidates self.now) →
+            DecidesRoute u (entry self.now u (prefix_at (candidates self.now) place))
+            (LeadToBest (reach self.now u known.zone) known.zone (routers self.now)
+            (IsRouteFor (reach self.now u) (zones self.now) (routers self.now)
+            (entry self.now u (prefix_at (candidates self.now) place))))
+            (slice_index_or known.decisions.now place Unknown)) };
 
     /// Where its route for the prefix of this number leads, where that is known at once, without hops of its own.
     fn target(&self, place: usize, router: u32) -> Option<Target>

@@ -19,13 +19,13 @@ pub struct RouteTables {
 }
 
 impl Model for RouteTables {
-    ghost use Rattle.route_tables.specs.Tables.{Routes, AreLawful};
+    ghost use Rattle.route_tables.specs.Tables.{AreSourceTables, Routes, routes_in};
 
     ghost Value = { Routes };
 
-    ghost view = { λ x. record { tables = x.tables.items; segments = x.segments.items } };
+    ghost view = { λ x. routes_in x.tables.items x.segments.items };
 
-    ghost invariant = { λ x. AreLawful (record { tables = x.tables.items; segments = x.segments.items }) };
+    ghost invariant = { λ x. AreSourceTables x.tables.items x.segments.items };
 }
 
 impl RouteTables {
@@ -45,6 +45,8 @@ impl RouteSource for RouteTables {
     ghost routers = { router_count };
 
     ghost table = { table_at };
+
+    ghost prefixes = { λ routes. routes.prefixes };
 
     ghost linked = { AreLinked };
 

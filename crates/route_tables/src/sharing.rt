@@ -1,7 +1,7 @@
 ghost use Rattle.std.specs.Prelude.{◌≡◌, ◌<◌, IfOk, IfSome, OnOk, length};
 ghost use Rattle.route_tables.specs.Prefixes.{prefix_at};
 ghost use Rattle.route_tables.specs.Routings.{AreHopsTo, HasZoneTarget, IsEntryTo, IsReached, IsZoneTarget, Makes};
-ghost use Rattle.route_tables.specs.steps.Sharing.{AreNumbers, AreOverOne, AreShared, HasNumber, IsNumberOf, IsRouterLane, KeepsMore};
+ghost use Rattle.route_tables.specs.steps.Sharing.{AreOverOne, AreShared, HasNumber, IsNumberOf, IsRouterLane, KeepsMore};
 ghost use Rattle.route_tables.specs.steps.Sure.{IsSure};
 ghost use Rattle.route_core.specs.declared.entry.Entry.TheVariants.{Via};
 
@@ -11,23 +11,23 @@ use crate::pool::Pool;
 use crate::protocol::Protocol;
 use crate::route::{Route, Target};
 use crate::sure::{Sure, only_hop, sure_of};
-use route_core::{Entry, Hops};
+use route_core::{Entry, Hops, Number};
 use std::alloc::Global;
 use walk_core::{LeastWalks, Offer};
 
-/// The lane that a router is in: what decides its routes, and its least walks of the lane's zone.
+/// What decides the routes of a router, as its lane says, and its least walks of the lane's zone.
 #[derive(Clone, Copy, Debug)]
 pub(crate) struct RouterLane<'a> {
     walks: &'a LeastWalks,
     decisions: &'a [Decision],
 }
 
-/// The lane of a router, where it is in one.
-pub(crate) fn lane_of<P: Protocol>(protocol: &P, router: u32) -> Option<RouterLane<'_>>
+/// What decides the routes of a router, where its lane says so.
+pub(crate) fn router_lane<P: Protocol>(protocol: &P, router: u32) -> Option<RouterLane<'_>>
     requires { router < P.routers protocol.now }
     ensures { IfSome result (IsRouterLane (P.routers protocol.now) router (P.entry protocol.now router) (P.candidates protocol.now)) }
 {
-    let lane = protocol.lane(router)?;
+    let lane = protocol.decisions(protocol.lane(router))?;
     Some(RouterLane {
         walks: protocol.walks(router, lane.zone),
         decisions: lane.decisions,
@@ -64,7 +64,7 @@ pub(crate) fn number_asked<P: Protocol>(
     router: u32,
     pool: &mut Pool,
     place: usize,
-) -> Result<Option<u32>, OutOfMemory>
+) -> Result<Number, OutOfMemory>
     requires router { router < P.routers protocol.now }
     requires place { place < length (P.candidates protocol.now) }
     requires known { AreShared (P.reach protocol.now router) (P.routers protocol.now) pool.old }
@@ -74,11 +74,11 @@ pub(crate) fn number_asked<P: Protocol>(
 {
     if let Some(target) = protocol.target(place, router) {
         let number = number_towards(alloc, protocol, router, pool, target)?;
-        return Ok(Some(number));
+        return Number::of(number);
     }
     match protocol.route(alloc, place, router)? {
-        Some(route) => Ok(Some(number_of(alloc, protocol, router, pool, route)?)),
-        None => Ok(None),
+        Some(route) => Number::of(number_of(alloc, protocol, router, pool, route)?),
+        None => Ok(Number::none()),
     }
 }
 

@@ -1,12 +1,11 @@
--- Tables in the making: entries that all tables share, of which a table knows the numbers of some, and its rows.
+-- Tables in the making: entries that all tables share, of which a table knows the numbers of some.
 use Rattle.std.specs.Prelude.{◌≡◌, ◌<◌, ℕ, List, [], ◌∷◌, ◌++◌, length, Some, None, Option, MatchOption, slice_index_or}
 use Rattle.net_addr.specs.Addresses.{Block}
 use Rattle.walk_core.specs.Reach.{Reach}
-use Rattle.route_core.specs.Rows.{AreTableRows, listed_rows}
+use Rattle.route_core.specs.Rows.{KeptTable}
 use Rattle.route_core.specs.declared.entry.Entry.{Entry}
 use Rattle.route_core.specs.declared.entry.Entry.TheVariants.{Via, Discard}
-use Rattle.route_core.specs.declared.row.Row.{Row}
-use Rattle.route_tables.specs.Entries.{IsTableOf}
+use Rattle.route_tables.specs.Entries.{AreSameEntries}
 use Rattle.route_tables.specs.Prefixes.{prefix_at}
 use Rattle.route_tables.specs.Routings.{IsEntryTo}
 use Rattle.route_tables.specs.declared.lane.Decision.TheVariants.{Unknown}
@@ -14,6 +13,8 @@ use Rattle.route_tables.specs.declared.pool.Known.{Known}
 use Rattle.route_tables.specs.declared.pool.Pool.{Pool}
 use Rattle.route_tables.specs.declared.sharing.RouterLane.{RouterLane}
 use Rattle.route_tables.specs.declared.sure.Sure.{Sure}
+use Rattle.route_tables.specs.declared.table.RouterNumbers.{RouterNumbers}
+use Rattle.route_tables.specs.steps.Kinds.{AreKinds, first_prefix_of}
 use Rattle.route_tables.specs.steps.Sure.{IsSure, Tells}
 
 -- the entry of the number is one that is wanted
@@ -39,10 +40,10 @@ pub record AreShared (reach : ℕ → Reach) (n : ℕ) (pool : Pool) : Type 0 wh
   pub known : AreKnown reach n pool.entries.items pool.known.items
   pub single : AreOverOne n pool.entries.items
 
--- these are the numbers of the entries for the first prefixes
-abbrev pub AreNumbers : (Block → Entry → Type 0) → List Block → List Entry → List (Option ℕ) → Type 0
-AreNumbers entry dests entries numbers =
-    (place : ℕ) → place < length numbers → IsNumberOf (entry (prefix_at dests place)) entries (slice_index_or numbers place None)
+-- these are the numbers of the entries that are wanted for the kinds below k
+pub record AreNumbers (wanted : ℕ → Entry → Type 0) (k : ℕ) (entries : List Entry) (numbers : List (Option ℕ)) : Type 0 where
+  pub count : length numbers ≡ k
+  pub each : (kind : ℕ) → kind < k → IsNumberOf (wanted kind) entries (slice_index_or numbers kind None)
 
 -- entries may have come
 pub record KeepsMore (old new : Pool) : Type 0 where
@@ -60,16 +61,19 @@ abbrev pub IsRouterLane : ℕ → ℕ → (Block → Entry → Type 0) → List 
 IsRouterLane n u entry dests lane = (place : ℕ) (sure : Sure) → place < length dests →
     Tells lane.walks.now n u (slice_index_or lane.decisions.now place Unknown) sure → IsSure n (entry (prefix_at dests place)) sure
 
--- the row of the prefix at this place has come, where it has a number
-abbrev pub IsAdded : ℕ → Option ℕ → List Row → List Row → Type 0
-IsAdded place number old new = MatchOption number (new ≡ old) (λ k. new ≡ old ++ record { place = place; number = k } ∷ [])
+-- these are the numbers of a router's entries, for kinds of prefixes that are alike for it
+pub record AreRouterNumbers (entry : Block → Entry → Type 0) (dests : List Block) (entries : List Entry) (own : RouterNumbers) : Type 0 where
+  pub firsts : List ℕ
+  pub kinds : AreKinds (AreSameEntries entry) dests (length dests) own.kinds.value.items firsts
+  pub numbers : AreNumbers (λ kind. entry (first_prefix_of dests firsts kind)) (length firsts) entries own.numbers.items
 
--- the rows are those of a table with these entries
-pub record AreRouterRows (entry : Block → Entry → Type 0) (prefixes : List Block) (entries : List Entry) (list : List Row) : Type 0 where
-  pub rows : AreTableRows prefixes entries list
-  pub table : IsTableOf entry (listed_rows prefixes entries list)
-
--- the rows of the routers below n
-pub record AreRowsBelow (entry : ℕ → Block → Entry → Type 0) (n : ℕ) (prefixes : List Block) (entries : List Entry) (all : List (List Row)) : Type 0 where
+-- the numbers of the entries of the routers below n
+pub record AreRouterNumbersBelow (entry : ℕ → Block → Entry → Type 0) (n : ℕ) (dests : List Block) (entries : List Entry) (all : List RouterNumbers) :
+    Type 0 where
   pub count : length all ≡ n
-  pub each : (u : ℕ) → u < n → AreRouterRows (entry u) prefixes entries (slice_index_or all u [])
+  pub each : (u : ℕ) (own : RouterNumbers) → u < n → AreRouterNumbers (entry u) dests entries (slice_index_or all u own)
+
+-- the table that keeps the numbers of a router
+abbrev pub kept_with : List Block → List Entry → RouterNumbers → KeptTable
+kept_with dests entries own =
+    record { prefixes = dests; kinds = own.kinds.value.items; numbers = own.numbers.items; entries = entries }

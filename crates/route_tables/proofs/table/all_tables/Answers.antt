@@ -1,43 +1,83 @@
-use Rattle.std.proofs.Common.{◌+◌, ◌≡◌, ◌∷◌, ◌++◌, [], ℕ, List, All, sym, subst, arith}
+use Rattle.std.proofs.Common.{◌+◌, ◌≡◌, ◌∙◌, ◌∷◌, ◌++◌, [], ℕ, List, All, ap, length, map, sym, subst, arith}
+use Rattle.std.proofs.lemmas.List.Elements.{All-map}
+use Rattle.std.proofs.lemmas.Result.{IfOk-weaker}
 use Rattle.net_addr.specs.Addresses.{Block}
-use Rattle.route_core.specs.Rows.{AreTableRows}
+use Rattle.route_core.specs.Rows.{IsTable, KeptTable, listed}
 use Rattle.route_core.specs.declared.entry.Entry.{Entry}
-use Rattle.route_tables.specs.steps.Sharing.{AreOverOne, AreRowsBelow, AreRouterRows}
+use Rattle.route_tables.specs.Entries.{AreAlikeFor, AreTablesBelow}
+use Rattle.route_tables.specs.declared.kinds.LaneKinds.{LaneKinds}
+use Rattle.route_tables.specs.declared.table.RouterNumbers.{RouterNumbers}
+use Rattle.route_tables.specs.steps.Kinds.{AreLaneKinds}
+use Rattle.route_tables.specs.steps.Sharing.{AreOverOne, AreRouterNumbers, AreRouterNumbersBelow, kept_with}
 use Rattle.route_tables.proofs.SharingLaws.{over_one_kept}
-use Rattle.route_tables.proofs.TableRows.{rows_below_more, rows_of_tables, tables_where_made}
+use Rattle.route_tables.proofs.KeptTables.{all_are_tables, are_tables, kinds_for, numbers_below_more}
 use Rattle.route_tables.proofs.table.all_tables.Goals as goal
+
+pub router_numbers-requires-clause-lane : goal.router_numbers-requires-clause-lane
+router_numbers-requires-clause-lane g c =
+    let protocol = c.args.protocol.now in
+    let entry : ℕ → Block → Entry → Type 0 = g.P.Protocol.entry protocol in
+    let dests : List Block = g.P.Protocol.candidates protocol in
+    let lane : ℕ = c.lane.result in
+    let own : LaneKinds = c.index-lane.result.now in
+    let are = c.in_ok-lanes.ensures.each lane own c.lane.ensures.below in
+    kinds_for (g.P.Protocol.in_lane protocol lane) entry dests (length dests) own.kinds.value.items own.firsts.items c.loop-router.router c.lane.ensures.is
+    (subst (AreLaneKinds (AreAlikeFor (g.P.Protocol.in_lane protocol lane) entry) dests) (sym c.index-lane.ensures) are)
+
+pub loop-router-init : goal.loop-router-init
+loop-router-init g c = record {
+  numbers = record { count = ap length c.in_ok-all.ensures.items; each = λ u own below. absurd (omega arith) };
+  single = subst (λ (n : ℕ). AreOverOne n c.in_ok-pool.pool.entries.items) c.routers-routers.ensures.count c.in_ok-pool.ensures;
+}
 
 pub loop-router-preserved : goal.loop-router-preserved
 loop-router-preserved g c =
     let protocol = c.args.protocol.now in
     let entry : ℕ → Block → Entry → Type 0 = g.P.Protocol.entry protocol in
     let dests : List Block = g.P.Protocol.candidates protocol in
-    let n : ℕ = g.P.Protocol.routers protocol in
     let before = c.loop-router in
     let router : ℕ = before.router in
-    let own = c.in_ok-rows_of in
-    let kept = own.ensures.kept in
-    let entries : List Entry = before.pool.entries.items ++ kept.more in
-    let rows : AreRouterRows (entry router) dests entries own.field-0 =
-    subst (λ (l : List Entry). AreRouterRows (entry router) dests l own.field-0) kept.entries own.ensures.rows in
+    let n : ℕ = g.P.Protocol.routers protocol in
+    let own : RouterNumbers = c.in_ok-router_numbers.field-0 in
+    let kept = c.in_ok-router_numbers.ensures.kept in
+    let old : List Entry = before.pool.entries.items in
     record {
-      rows = subst (AreRowsBelow entry (router + 1) dests c.rows_of.new.pool.entries.items) (sym c.in_ok-push.ensures.items)
-          (subst (λ (l : List Entry). AreRowsBelow entry (router + 1) dests l (before.rows.items ++ own.field-0 ∷ [])) (sym kept.entries)
-          (rows_below_more entry router dests before.pool.entries.items kept.more before.rows.items own.field-0 before.invariant.rows rows));
-      single = subst (AreOverOne n) (sym kept.entries) (over_one_kept n before.pool.entries.items kept.more before.invariant.single);
+      numbers = subst (AreRouterNumbersBelow entry (router + 1) dests c.router_numbers.new.pool.entries.items) (sym c.in_ok-push.ensures.items)
+          (subst (λ (l : List Entry). AreRouterNumbersBelow entry (router + 1) dests l (before.all.items ++ own ∷ [])) (sym kept.entries)
+          (numbers_below_more entry router dests old kept.more before.all.items own before.invariant.numbers
+          (subst (λ (l : List Entry). AreRouterNumbers (entry router) dests l own) kept.entries c.in_ok-router_numbers.ensures.numbers)));
+      single = subst (AreOverOne n) (sym kept.entries) (over_one_kept n old kept.more before.invariant.single);
     }
 
 pub tables_over-requires : goal.tables_over-requires
 tables_over-requires g c =
     let last = c.loop-router in
-    subst (λ (l : List Block). All (AreTableRows l last.pool.entries.items) last.rows.items) (sym c.in_ok-prefixes.ensures)
-    (rows_of_tables (g.P.Protocol.entry c.args.protocol.now) last.router (g.P.Protocol.candidates c.args.protocol.now) last.pool.entries.items
-    last.rows.items last.invariant.rows)
+    let entries : List Entry = last.pool.entries.items in
+    subst (λ (l : List Block). All (λ (own : RouterNumbers). IsTable (kept_with l entries own)) last.all.items) (sym c.in_ok-prefixes.ensures.prefixes)
+    (all_are_tables last.router (g.P.Protocol.entry c.args.protocol.now) (g.P.Protocol.candidates c.args.protocol.now) entries last.all.items
+    c.prefixes_of.ensures.distinct last.invariant.numbers)
 
 pub returns-clause-tables : goal.returns-clause-tables
 returns-clause-tables g c =
+    let protocol = c.args.protocol.now in
+    let entry : ℕ → Block → Entry → Type 0 = g.P.Protocol.entry protocol in
+    let dests : List Block = g.P.Protocol.candidates protocol in
+    let n : ℕ = g.P.Protocol.routers protocol in
     let last = c.loop-router in
-    let all : last.router ≡ g.P.Protocol.routers c.args.protocol.now = omega (arith, last.auto.router-end, c.routers-routers.ensures.count) in
-    tables_where_made (g.P.Protocol.entry c.args.protocol.now) last.router (g.P.Protocol.routers c.args.protocol.now) c.in_ok-prefixes.prefixes.items
-    (g.P.Protocol.candidates c.args.protocol.now) last.pool.entries.items last.rows.items c.tables_over.result c.in_ok-prefixes.ensures all
-    last.invariant.rows c.tables_over.ensures
+    let entries : List Entry = last.pool.entries.items in
+    let count : last.router ≡ n = omega (arith, last.auto.router-end, c.routers-routers.ensures.count) in
+    let are : AreRouterNumbersBelow entry n dests entries last.all.items =
+    subst (λ (m : ℕ). AreRouterNumbersBelow entry m dests entries last.all.items) count last.invariant.numbers in
+    IfOk-weaker c.tables_over.result _ _ (λ tables same. subst (λ (l : List KeptTable). AreTablesBelow entry n (map listed l))
+    (sym (same ∙ ap (λ (ps : List Block). map (kept_with ps entries) last.all.items) c.in_ok-prefixes.ensures.prefixes))
+    (are_tables n entry dests entries last.all.items c.routers-routers.ensures.lawful.single c.prefixes_of.ensures.distinct c.prefixes_of.ensures.every are))
+    c.tables_over.ensures
+
+pub returns-clause-prefixes : goal.returns-clause-prefixes
+returns-clause-prefixes g c =
+    let dests : List Block = g.P.Protocol.candidates c.args.protocol.now in
+    let Keep : KeptTable → Type 0 = λ kept. kept.prefixes ≡ dests in
+    let made = kept_with c.in_ok-prefixes.prefixes.items c.loop-router.pool.entries.items in
+    IfOk-weaker c.tables_over.result _ _ (λ tables same. subst (All Keep) (sym same)
+    (All-map Keep made c.loop-router.all.items (λ k d below. c.in_ok-prefixes.ensures.prefixes)))
+    c.tables_over.ensures

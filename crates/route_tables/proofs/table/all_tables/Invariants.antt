@@ -1,8 +1,8 @@
-use Rattle.route_tables.specs.steps.Sharing.{AreOverOne, AreRowsBelow}
+use Rattle.route_tables.specs.steps.Sharing.{AreOverOne, AreRouterNumbersBelow}
 use Rattle.route_tables.proofs.table.all_tables.Given as goal
 
 abbrev pub invariant-loop-router : goal.invariant-loop-router
 invariant-loop-router g l = record {
-  rows : AreRowsBelow (g.P.Protocol.entry l.protocol) l.router (g.P.Protocol.candidates l.protocol) l.pool.entries.items l.rows.items;
+  numbers : AreRouterNumbersBelow (g.P.Protocol.entry l.protocol) l.router (g.P.Protocol.candidates l.protocol) l.pool.entries.items l.all.items;
   single : AreOverOne (g.P.Protocol.routers l.protocol) l.pool.entries.items;
 }

@@ -1,12 +1,17 @@
-use Rattle.route_tables.proofs.TableRows.{are_lawful, are_routes}
+use Rattle.std.proofs.Common.{map}
+use Rattle.route_core.specs.Rows.{listed}
+use Rattle.route_tables.specs.Tables.{prefixes_of_first}
+use Rattle.route_tables.proofs.KeptTables.{are_routes, are_source_tables}
 use Rattle.route_tables.proofs.routes.RouteTables.build.Goals as goal
 
 pub invariant_of-result : goal.invariant_of-result
 invariant_of-result g c =
-    are_lawful (g.P.Protocol.routers c.args.protocol.now) (g.P.Protocol.entry c.args.protocol.now) (g.P.Protocol.neighbor c.args.protocol.now)
-    c.in_ok-tables.tables.items c.in_ok-segments.segments.items c.all_tables.ensures.lawful c.in_ok-tables.ensures.tables c.in_ok-segments.ensures
+    are_source_tables (g.P.Protocol.routers c.args.protocol.now) (g.P.Protocol.entry c.args.protocol.now) (g.P.Protocol.neighbor c.args.protocol.now)
+    (g.P.Protocol.candidates c.args.protocol.now) c.in_ok-tables.tables.items c.in_ok-segments.segments.items c.all_tables.ensures.lawful
+    c.in_ok-tables.ensures.tables c.in_ok-tables.ensures.prefixes c.in_ok-segments.ensures
 
 pub returns : goal.returns
 returns g c =
     are_routes (g.P.Protocol.routers c.args.protocol.now) (g.P.Protocol.entry c.args.protocol.now) (g.P.Protocol.neighbor c.args.protocol.now)
-    c.in_ok-tables.tables.items c.in_ok-segments.segments.items c.in_ok-tables.ensures.tables c.in_ok-segments.ensures
+    (prefixes_of_first c.in_ok-tables.tables.items) (map listed c.in_ok-tables.tables.items)
+    c.in_ok-segments.segments.items c.in_ok-tables.ensures.tables c.in_ok-segments.ensures

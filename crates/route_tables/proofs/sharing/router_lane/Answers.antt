@@ -5,7 +5,7 @@ use Rattle.route_tables.specs.declared.lane.Decision.{Decision}
 use Rattle.route_tables.specs.declared.lane.Decision.TheVariants.{Unknown}
 use Rattle.route_tables.specs.steps.Sure.{Tells}
 use Rattle.route_tables.proofs.SureLaws.{tells_sure}
-use Rattle.route_tables.proofs.sharing.lane_of.Goals as goal
+use Rattle.route_tables.proofs.sharing.router_lane.Goals as goal
 
 pub returns : goal.returns
 returns g c = λ place sure within told.
@@ -16,4 +16,5 @@ returns g c = λ place sure within told.
     let decision : Decision = get_or lane.decisions.now place Unknown in
     tells_sure reach (g.P.Protocol.zones protocol) lane.zone n c.args.router (reach lane.zone)
     (g.P.Protocol.entry protocol c.args.router (prefix_at (g.P.Protocol.candidates protocol) place)) decision sure refl
-    (c.in_ok-lane.ensures.decides place within) (subst (λ (r : Reach). Tells r n c.args.router decision sure) c.walks.ensures told)
+    (c.in_ok-lane.ensures.decides c.args.router place c.lane.ensures.is within)
+    (subst (λ (r : Reach). Tells r n c.args.router decision sure) c.walks.ensures told)

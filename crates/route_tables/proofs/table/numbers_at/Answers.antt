@@ -1,0 +1,27 @@
+use Rattle.std.proofs.Common.{◌+◌, ◌∷◌, ◌++◌, [], ℕ, List, Option, subst, sym, arith}
+use Rattle.route_core.specs.declared.entry.Entry.{Entry}
+use Rattle.route_tables.specs.steps.Kinds.{first_prefix_of}
+use Rattle.route_tables.specs.steps.Sharing.{AreNumbers, IsNumberOf}
+use Rattle.route_tables.proofs.SharingLaws.{more_kept, numbers_more}
+use Rattle.route_tables.proofs.table.numbers_at.Goals as goal
+
+pub loop-place-preserved : goal.loop-place-preserved
+loop-place-preserved g c =
+    let protocol = c.args.protocol.now in
+    let wanted : ℕ → Entry → Type 0 =
+    λ kind. g.P.Protocol.entry protocol c.args.router (first_prefix_of (g.P.Protocol.candidates protocol) c.args.places.now kind) in
+    let before = c.loop-place in
+    let i : ℕ = before.place-index in
+    let number : Option ℕ = c.in_ok-number.number in
+    let pool = c.number_at.new.pool in
+    let kept = c.in_ok-number.ensures.kept in
+    let old : List Entry = before.pool.entries.items in
+    record {
+      numbers = subst (AreNumbers wanted (i + 1) pool.entries.items) (sym c.push_reserved.ensures.items)
+          (subst (λ (l : List Entry). AreNumbers wanted (i + 1) l (before.numbers.items ++ number ∷ [])) (sym kept.entries)
+          (numbers_more wanted i old kept.more before.numbers.items number before.invariant.numbers
+          (subst (λ (l : List Entry). IsNumberOf (wanted i) l number) kept.entries c.in_ok-number.ensures.number)));
+      known = c.in_ok-number.ensures.known;
+      room = omega (arith, c.push_reserved.ensures.capacity, before.invariant.room);
+      kept = more_kept c.begin_table.new.self before.pool pool before.invariant.kept kept;
+    }

@@ -1,0 +1,14 @@
+use Rattle.std.proofs.Common.{◌≤◌, ℕ, length}
+use Rattle.std.specs.Vec.{vec_capacity}
+use Rattle.route_tables.specs.steps.Kinds.{first_prefix_of}
+use Rattle.route_tables.specs.steps.Sharing.{AreNumbers, AreShared, KeepsMore}
+use Rattle.route_tables.proofs.table.numbers_at.Given as goal
+
+abbrev pub invariant-loop-place : goal.invariant-loop-place
+invariant-loop-place g l = record {
+  numbers : AreNumbers (λ (kind : ℕ). g.P.Protocol.entry l.protocol l.router (first_prefix_of (g.P.Protocol.candidates l.protocol) l.places kind)) l.place-index
+      l.pool.entries.items l.numbers.items;
+  known : AreShared (g.P.Protocol.reach l.protocol l.router) (g.P.Protocol.routers l.protocol) l.pool;
+  room : length l.places ≤ vec_capacity l.numbers;
+  kept : KeepsMore l.initial.pool l.pool;
+}

@@ -1,0 +1,25 @@
+-- Kinds of prefixes: those of one kind have the same entries as the first of them.
+use Rattle.std.specs.Prelude.{◌≡◌, ◌<◌, ℕ, List, length, All, slice_index_or}
+use Rattle.net_addr.specs.Addresses.{Block}
+use Rattle.route_tables.specs.Prefixes.{prefix_at}
+use Rattle.route_tables.specs.declared.kinds.LaneKinds.{LaneKinds}
+
+-- the first prefix of a kind
+abbrev pub first_prefix_of : List Block → List ℕ → ℕ → Block
+first_prefix_of dests firsts kind = prefix_at dests (slice_index_or firsts kind 0)
+
+-- the kinds of the first k prefixes, each of which is alike to the first one of its kind
+pub record AreKinds (alike : Block → Block → Type 0) (dests : List Block) (k : ℕ) (kinds firsts : List ℕ) : Type 0 where
+  pub count : length kinds ≡ k
+  pub below : All (λ (kind : ℕ). kind < length firsts) kinds
+  pub places : All (λ (place : ℕ). place < length dests) firsts
+  pub alike_first : (place : ℕ) → place < k → alike (first_prefix_of dests firsts (slice_index_or kinds place 0)) (prefix_at dests place)
+
+-- the kinds of all prefixes
+abbrev pub AreLaneKinds : (Block → Block → Type 0) → List Block → LaneKinds → Type 0
+AreLaneKinds alike dests own = AreKinds alike dests (length dests) own.kinds.value.items own.firsts.items
+
+-- the kinds of all prefixes in each of so many lanes
+pub record AreLanesKinds (alike : ℕ → Block → Block → Type 0) (dests : List Block) (lanes : ℕ) (all : List LaneKinds) : Type 0 where
+  pub count : length all ≡ lanes
+  pub each : (lane : ℕ) (own : LaneKinds) → lane < lanes → AreLaneKinds (alike lane) dests (slice_index_or all lane own)

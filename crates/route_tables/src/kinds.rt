@@ -1,0 +1,76 @@
+ghost use Rattle.std.specs.Prelude.{◌+◌, ◌<◌, ◌++◌, ◌∷◌, [], length, IfOk};
+ghost use Rattle.route_tables.specs.Entries.{AreAlikeFor};
+ghost use Rattle.route_tables.specs.steps.Kinds.{AreKinds, AreLaneKinds, AreLanesKinds};
+
+use crate::OutOfMemory;
+use crate::protocol::Protocol;
+use std::alloc::Global;
+use std::rc::Rc;
+
+/// The kinds of the prefixes in a lane: each of its routers has the same entries for all prefixes of one kind.
+#[derive(Debug, Drop)]
+pub(crate) struct LaneKinds {
+    /// The kind of each prefix, which the tables of the lane share.
+    pub(crate) kinds: Rc<Vec<u32>>,
+    /// The place of the first prefix of each kind.
+    pub(crate) firsts: Vec<u32>,
+}
+
+/// The kinds of the prefixes in each lane.
+pub(crate) fn all_kinds<P: Protocol>(
+    alloc: Global,
+    protocol: &P,
+) -> Result<Vec<LaneKinds>, OutOfMemory>
+    ensures { IfOk result (λ all. AreLanesKinds (λ lane. AreAlikeFor (P.in_lane protocol.now lane) (P.entry protocol.now))
+        (P.candidates protocol.now) (P.lanes protocol.now) all.items) }
+{
+    let mut all = Vec::with_capacity(alloc, protocol.lanes())?;
+    for lane in 0..protocol.lanes() {
+        all.push(kinds_in(alloc, protocol, lane)?)?;
+    }
+    Ok(all)
+}
+
+/// The kinds of the prefixes in a lane.
+fn kinds_in<P: Protocol>(alloc: Global, protocol: &P, lane: usize) -> Result<LaneKinds, OutOfMemory>
+    requires { lane < P.lanes protocol.now }
+    ensures { IfOk result (AreLaneKinds (AreAlikeFor (P.in_lane protocol.now lane) (P.entry protocol.now)) (P.candidates protocol.now)) }
+{
+    let Ok(count) = u32::try_from(protocol.candidates()) else {
+        return Err(OutOfMemory);
+    };
+    let mut kinds = Vec::with_capacity(alloc, count as usize)?;
+    let mut firsts = Vec::new(alloc);
+    for place in 0..count {
+        let kind = kind_at(protocol, lane, place, kinds.as_slice(), &mut firsts)?;
+        kinds.push(kind)?;
+    }
+    let kinds = Rc::new(alloc, kinds)?;
+    Ok(LaneKinds { kinds, firsts })
+}
+
+/// The kind of the prefix at a place: that of an earlier one with the same entries, where one is known, else a new kind.
+#[inline(always)]
+fn kind_at<P: Protocol>(
+    protocol: &P,
+    lane: usize,
+    place: u32,
+    kinds: &[u32],
+    firsts: &mut Vec<u32>,
+) -> Result<u32, OutOfMemory>
+    requires lane { lane < P.lanes protocol.now }
+    requires place { place < length (P.candidates protocol.now) }
+    requires kinds { AreKinds (AreAlikeFor (P.in_lane protocol.now lane) (P.entry protocol.now)) (P.candidates protocol.now)
+        place kinds.now firsts.old.items }
+    ensures { IfOk result (λ kind. AreKinds (AreAlikeFor (P.in_lane protocol.now lane) (P.entry protocol.now)) (P.candidates protocol.now)
+        (place + 1) (kinds.now ++ kind ∷ []) firsts.new.items) }
+{
+    if let Some(earlier) = protocol.alike(lane, place as usize) {
+        return Ok(kinds[earlier]);
+    }
+    let Ok(kind) = u32::try_from(firsts.len()) else {
+        return Err(OutOfMemory);
+    };
+    firsts.push(place)?;
+    Ok(kind)
+}
