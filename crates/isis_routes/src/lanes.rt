@@ -1,5 +1,6 @@
-ghost use Rattle.std.specs.Prelude.{◌<◌, ◌↔◌, All, IfOk, IfSome, IsTrue, length};
-ghost use Rattle.isis_routes.specs.steps.Domain.{IsKnown};
+ghost use Rattle.std.specs.Prelude.{◌≡◌, ◌<◌, ◌↔◌, Some, All, IfOk, IfSome, IsTrue, length};
+ghost use Rattle.isis_routes.specs.steps.Levels.{zone_number};
+ghost use Rattle.isis_routes.specs.declared.level.Level.{Level};
 ghost use Rattle.isis_routes.specs.steps.Lanes.{AreDecisions, IsDecisionBy, IsDecisionOf, IsInLane, MakesOne};
 ghost use Rattle.isis_routes.specs.declared.level.Level.TheVariants.{One, Two};
 
@@ -7,15 +8,18 @@ use crate::OutOfMemory;
 use crate::destinations::Destination;
 use crate::domain::Domain;
 use crate::level::Level;
+use crate::level_walks::{ZONE_ONE, ZONE_TWO};
 use route_tables::Decision;
 use std::alloc::Global;
 use walk_core::Offer;
 
+/// How many lanes routers fall into: that of each level, under the number of the level, and one for those that run neither.
+pub const LANES: usize = 3;
+
 /// The level whose lane a router is in: level 2 where the router runs it, else level 1.
-pub fn lane_level(domain: &Domain<'_>, router: u32) -> Option<Level>
+pub fn router_level(domain: &Domain<'_>, router: u32) -> Option<Level>
     requires { router < length domain.now.net }
-    ensures known { IsKnown domain.now }
-    ensures lane { IfSome result (λ level. IsInLane domain.now.net level router) }
+    ensures { IfSome result (λ level. IsInLane domain.now.net level router) }
 {
     if domain.runs_level_two(router) {
         return Some(Level::Two);
@@ -24,6 +28,28 @@ pub fn lane_level(domain: &Domain<'_>, router: u32) -> Option<Level>
         return Some(Level::One);
     }
     None
+}
+
+/// The number of the lane of a level, or of the lane of routers that run neither.
+pub fn lane_of_level(level: Option<Level>) -> usize
+    ensures level { (l : Level) → zone_number l ≡ result → level ≡ Some l }
+    ensures below { result < LANES }
+{
+    match level {
+        Some(level) => level.zone(),
+        None => LANES - 1,
+    }
+}
+
+/// The level whose lane has this number.
+pub fn level_of_lane(lane: usize) -> Option<Level>
+    ensures { IfSome result (λ level. zone_number level ≡ lane) }
+{
+    match lane {
+        ZONE_ONE => Some(Level::One),
+        ZONE_TWO => Some(Level::Two),
+        _ => None,
+    }
 }
 
 /// What decides the routes of the routers in the lane of a level, destination by destination.

@@ -1,6 +1,7 @@
 ghost use Rattle.std.specs.Prelude.{◌≡◌, ◌<◌, length, IfOk};
 ghost use Rattle.route_tables.specs.Prefixes.{prefix_at};
 ghost use Rattle.isis_routes.specs.steps.Destinations.{AreIsisDestinations, HasAnnouncements, isis_prefixes};
+ghost use Rattle.isis_routes.specs.steps.Domain.{IsKnown};
 ghost use Rattle.isis_routes.specs.steps.Lanes.{AreDecisions};
 
 use crate::OutOfMemory;
@@ -8,7 +9,7 @@ use crate::alike::{earlier_alike, named_at};
 use crate::destinations::{Destination, destinations};
 use crate::domain::Domain;
 use crate::entry::route_of;
-use crate::lanes::{decisions, lane_level};
+use crate::lanes::{LANES, decisions, lane_of_level, level_of_lane, router_level};
 use crate::level::Level;
 use crate::segments::level_segments;
 use crate::target::target_of;
@@ -49,7 +50,7 @@ impl<'a> Isis<'a> {
     {
         let domain = Domain::build(alloc, net)?;
         let destinations = destinations(alloc, &domain)?;
-        let earlier = earlier_alike(alloc, destinations.as_slice(), net.routers())?;
+        let earlier = earlier_alike(alloc, destinations.as_slice(), domain.net().routers())?;
         let lane_one = decisions(alloc, destinations.as_slice(), Level::One)?;
         let lane_two = decisions(alloc, destinations.as_slice(), Level::Two)?;
         Ok(Isis {
@@ -86,7 +87,8 @@ impl<'a> Isis<'a> {
     }
 
     /// What decides the routes of the routers in the lane of a level, prefix by prefix.
-    fn decisions(&self, level: Level) -> &[Decision]
+    fn level_decisions(&self, level: Level) -> &[Decision]
+        ensures domain { IsKnown self.now.domain }
         ensures known { AreIsisDestinations self.now.domain.net self.now.destinations }
         ensures decisions { AreDecisions level self.now.destinations result.now }
     {
@@ -100,6 +102,8 @@ impl<'a> Isis<'a> {
 impl<'a> Protocol for Isis<'a> {
     ghost use Rattle.igp_theory.specs.Isis.{IsisEntry};
     ghost use Rattle.igp_theory.specs.Laws.{IsIsisNeighbor};
+    ghost use Rattle.isis_routes.specs.declared.lanes.TheConstants.{LANES};
+    ghost use Rattle.isis_routes.specs.steps.Lanes.{IsOfIsisLane};
     ghost use Rattle.isis_routes.specs.steps.LevelReach.{level_reach};
 
     ghost routers = { λ isis. length isis.domain.net };
@@ -114,6 +118,10 @@ impl<'a> Protocol for Isis<'a> {
 
     ghost reach = { λ isis. level_reach isis.domain.walks };
 
+    ghost lanes = { λ _. LANES };
+
+    ghost in_lane = { λ isis. IsOfIsisLane isis.domain.net };
+
     fn routers(&self) -> u32 {
         self.domain().net().routers()
     }
@@ -126,15 +134,23 @@ impl<'a> Protocol for Isis<'a> {
         self.destination(place).one.dest
     }
 
-    fn alike(&self, place: usize) -> Option<usize> {
+    fn lanes(&self) -> usize {
+        LANES
+    }
+
+    fn lane(&self, router: u32) -> usize {
+        lane_of_level(router_level(self.domain(), router))
+    }
+
+    fn alike(&self, _lane: usize, place: usize) -> Option<usize> {
         named_at(self.earlier.as_slice(), place)
     }
 
-    fn lane(&self, router: u32) -> Option<Lane<'_>> {
-        let level = lane_level(self.domain(), router)?;
+    fn decisions(&self, lane: usize) -> Option<Lane<'_>> {
+        let level = level_of_lane(lane)?;
         Some(Lane {
             zone: level.zone(),
-            decisions: self.decisions(level),
+            decisions: self.level_decisions(level),
         })
     }
 

@@ -46,6 +46,8 @@ impl RouteSource for IsisRoutes {
 
     ghost table = { table_at };
 
+    ghost prefixes = { λ routes. routes.prefixes };
+
     ghost linked = { AreLinked };
 
     fn routers(&self) -> u32 {

@@ -3,7 +3,7 @@ use Rattle.std.specs.Prelude.{ℕ, List, Option}
 use Rattle.route_tables.specs.declared.lane.Decision.{Decision}
 use Rattle.isis_routes.specs.steps.Alike.{AreEarlierAlike}
 use Rattle.isis_routes.specs.steps.Destinations.{AreIsisDestinations}
-use Rattle.isis_routes.specs.steps.Domain.{IsisDomain}
+use Rattle.isis_routes.specs.steps.Domain.{IsisDomain, IsKnown}
 use Rattle.isis_routes.specs.steps.Lanes.{AreDecisions}
 use Rattle.isis_routes.specs.declared.destinations.Destination.{Destination}
 use Rattle.isis_routes.specs.declared.level.Level.TheVariants.{One, Two}
@@ -21,6 +21,7 @@ pub record DestinationLists : Type 0 where
 
 -- what is known is that of the network
 pub record IsIsis (isis : IsisNetwork) (lists : DestinationLists) : Type 0 where
+  pub domain : IsKnown isis.domain
   pub known : AreIsisDestinations isis.domain.net isis.destinations
   pub alike : AreEarlierAlike isis.destinations lists.earlier
   pub lane_one : AreDecisions One isis.destinations lists.one

@@ -1,5 +1,5 @@
 -- What decides the routes of all routers that take theirs from the same level first.
-use Rattle.std.specs.Prelude.{◌≡◌, ◌∷◌, ℕ, List, [], Any, All, length, slice_get, slice_index_or, Some}
+use Rattle.std.specs.Prelude.{◌≡◌, ◌<◌, ◌∷◌, ℕ, List, [], Any, All, length, slice_get, slice_index_or, Some}
 use Rattle.net_addr.specs.Addresses.{Block}
 use Rattle.net_model.specs.Network.{Network}
 use Rattle.walk_core.specs.declared.offers.Offer.{Offer}
@@ -9,6 +9,7 @@ use Rattle.route_tables.specs.declared.lane.Decision.{Decision}
 use Rattle.route_tables.specs.declared.lane.Decision.TheVariants.{Nothing, One as OneOffer, Two as TwoOffers, Unknown}
 use Rattle.isis_routes.specs.steps.Domain.{IsisDomain}
 use Rattle.isis_routes.specs.steps.LevelReach.{level_reach}
+use Rattle.isis_routes.specs.steps.Levels.{zone_number}
 use Rattle.isis_routes.specs.steps.Routes.{IsIsisRoute}
 use Rattle.isis_routes.specs.declared.destinations.Destination.{Destination}
 use Rattle.isis_routes.specs.declared.level.Level.{Level}
@@ -18,6 +19,11 @@ use Rattle.isis_routes.specs.declared.level.Level.TheVariants.{One, Two}
 abbrev pub IsInLane : Network → Level → ℕ → Type 0
 IsInLane net One u = RunsLevelOne net u × (RunsLevelTwo net u → ⊥)
 IsInLane net Two u = RunsLevelTwo net u
+
+-- the lane of this number has router u: that of each level is under the number of the level
+pub record IsOfIsisLane (net : Network) (lane u : ℕ) : Type 0 where
+  pub below : u < length net
+  pub of_level : (level : Level) → zone_number level ≡ lane → IsInLane net level u
 
 -- over a zone's least walks this decides router u's route for p
 abbrev pub DecidesIn : IsisDomain → ℕ → ℕ → Block → Decision → Type 0

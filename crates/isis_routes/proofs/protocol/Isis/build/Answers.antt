@@ -7,6 +7,7 @@ use Rattle.isis_routes.proofs.protocol.Isis.build.Goals as goal
 
 pub invariant_of-result : goal.invariant_of-result
 invariant_of-result c = record {
+  domain = c.net.ensures.known;
   known = c.in_ok-destinations.ensures;
   alike = subst (λ (l : List Destination). AreEarlierAlike l c.in_ok-earlier.earlier.items) c.as_slice.ensures.value c.in_ok-earlier.ensures;
   lane_one = subst (λ (l : List Destination). AreDecisions One l c.in_ok-lane_one.lane_one.items) c.as_slice-2.ensures.value c.in_ok-lane_one.ensures;
