@@ -159,6 +159,11 @@ listened_place_is net areas u n (Some zone) are listens none at = record { area 
 pub number_at : (areas : List AreaWalks) (n zone : ℕ) (d : AreaWalks) → IsAreaAt areas n zone → (get_or areas zone d).number ≡ n
 number_at areas n zone d at = ap (λ (x : AreaWalks). x.number) (get_or_default areas zone d at.area at.within ∙ sym at.here) ∙ at.number
 
+pub borders_at : (net : Network) (areas : List AreaWalks) (n zone : ℕ) (d : AreaWalks) → AreAreas net areas → IsAreaAt areas n zone →
+    Exactly (IsBorderIn net n) (get_or areas zone d).borders
+borders_at net areas n zone d are at =
+    subst (λ (m : ℕ). Exactly (IsBorderIn net m) (get_or areas zone d).borders) (number_at areas n zone d at) (are.borders zone d at.within)
+
 -- as many walks as routers
 pub reach_within : (net : Network) (areas : List AreaWalks) (u zone : ℕ) (d : AreaWalks) → AreAreas net areas → zone < length areas → u < length net →
     u < length (get_or areas zone d).walks

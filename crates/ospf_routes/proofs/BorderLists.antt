@@ -1,12 +1,11 @@
 -- What border routers give, by the list of them.
-use Rattle.std.proofs.Common.{◌≡◌, ℕ, ◌<◌, ◌≤◌, List, [], length, take, get_or, refl, sym, subst}
-use Rattle.std.specs.List.{Any}
+use Rattle.std.proofs.Common.{◌≡◌, ℕ, ◌<◌, List, length, get_or, refl, sym, subst}
 use Rattle.std.proofs.lemmas.List.Elements.{Contains-get_or}
 use Rattle.net_model.proofs.NetworkFacts.{InArea-within}
 use Rattle.net_model.specs.Network.{Network, IsBorderRouter}
-use Rattle.route_tables.proofs.ListFacts.{AnyBelow, adds_end, adds_same, any_in, any_of, exactly_added}
+use Rattle.route_tables.proofs.ListFacts.{AnyBelow}
 use Rattle.ospf_routes.specs.steps.AreaReach.{IsThisBorder}
-use Rattle.ospf_routes.specs.Lists.{Adds, Exactly}
+use Rattle.ospf_routes.specs.Lists.{Exactly}
 use Rattle.ospf_routes.specs.steps.Members.{IsBorderIn, IsThisBorderIn}
 
 -- a border router is a router
@@ -21,18 +20,6 @@ pub listed_is_router : (net : Network) (borders : List ℕ) (i d : ℕ) → Exac
     get_or borders i d < length net
 listed_is_router net borders i d are within =
     border_is_router net (get_or borders i d) (listed_is_border net borders i d are within)
-
--- what each border router gives is all that is wanted, where only these give something
-pub exactly_by_borders : {X : Type 0} (net : Network) (borders : List ℕ) (gives : X → ℕ → Type 0) (wanted : X → Type 0) (old new : List X) (i : ℕ) →
-    Exactly (IsBorderRouter net) borders → old ≡ [] → length borders ≤ i → Adds old new (λ x. Any (gives x) (take i borders)) →
-    ((x : X) → wanted x → (b : ℕ) × IsBorderRouter net b × gives x b) → ((x : X) (b : ℕ) → gives x b → wanted x) → Exactly wanted new
-exactly_by_borders net borders gives wanted old new i are empty past adds there back =
-    exactly_added old new wanted empty
-    (adds_same old new (λ x. Any (gives x) borders) wanted (adds_end gives old new borders i past adds)
-    (λ x. (
-      λ any. let f = any_in (gives x) borders any in back x f.item f.holds,
-      λ want. let given = there x want in any_of (gives x) borders given.0 ((are given.0).1 given.1) given.2,
-    )))
 
 -- a border router is one of those below the count
 pub border_below_count : (net : Network) (n : ℕ) → length net ≡ n → (v : ℕ) → IsBorderRouter net v → AnyBelow (IsThisBorder net) n v

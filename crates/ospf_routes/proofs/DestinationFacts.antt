@@ -1,7 +1,7 @@
--- Destinations by their prefixes, and what is announced of each.
-use Rattle.std.proofs.Common.{◌≡◌, ◌+◌, ◌<◌, ℕ, [], ◌∷◌, ◌++◌, length, map, take, get_or, ap, ◌∙◌, List, sym, subst, arith}
+-- Destinations by their prefixes.
+use Rattle.std.proofs.Common.{◌≡◌, ◌<◌, ℕ, length, map, get_or, ap, ◌∙◌, List, sym, subst, arith}
 use Rattle.std.specs.List.{All, Contains}
-use Rattle.std.proofs.lemmas.List.{map-append, take_more, length-map, get_or-map}
+use Rattle.std.proofs.lemmas.List.{length-map, get_or-map}
 use Rattle.net_addr.specs.Addresses.{Block}
 use Rattle.net_model.specs.Network.{Network}
 use Rattle.route_tables.specs.Prefixes.{AreDistinctPrefixes}
@@ -9,7 +9,6 @@ use Rattle.ospf_routes.specs.steps.Candidates.{IsOspfCandidate}
 use Rattle.ospf_routes.specs.steps.Destinations.{IsDestinationIn, AreOspfDestinations, ospf_prefixes}
 use Rattle.ospf_routes.specs.declared.areas.AreaWalks.{AreaWalks}
 use Rattle.ospf_routes.specs.declared.intra_area.Destination.{Destination}
-use Rattle.ospf_routes.specs.declared.announcements.Summaries.{Summaries}
 
 -- destinations of distinct candidates
 pub are_destinations : (net : Network) (areas : List AreaWalks) (all : List Destination) (dests : List Block) → ospf_prefixes all ≡ dests →
@@ -20,17 +19,6 @@ are_destinations net areas all dests same each distinct every = record {
   distinct = subst AreDistinctPrefixes (sym same) distinct;
   every = λ p is. subst (λ (l : List Block). Contains l p) (sym same) (every p is);
 }
-
--- the prefixes of one more list of announcements
-pub one_more_summary : (ds : List Destination) (k : ℕ) (all : List Summaries) (s : Summaries) (d : Destination) → k < length ds → d ≡ get_or ds k d →
-    map (λ (x : Summaries). x.dest) all ≡ ospf_prefixes (take k ds) → s.dest ≡ d.dest →
-    map (λ (x : Summaries). x.dest) (all ++ s ∷ []) ≡ ospf_prefixes (take (k + 1) ds)
-one_more_summary ds k all s d within here so_far is =
-    map-append (λ (x : Summaries). x.dest) all (s ∷ [])
-    ∙ ap (λ (l : List Block). l ++ s.dest ∷ []) so_far
-    ∙ ap (λ (x : Block). ospf_prefixes (take k ds) ++ x ∷ []) is
-    ∙ sym (ap ospf_prefixes (take_more ds k d within ∙ ap (λ (x : Destination). take k ds ++ x ∷ []) (sym here))
-    ∙ map-append (λ (x : Destination). x.dest) (take k ds) (d ∷ []))
 
 -- Two lists with the same keys
 

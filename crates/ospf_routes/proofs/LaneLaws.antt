@@ -25,9 +25,9 @@ use Rattle.ospf_routes.specs.steps.AreaReach.{area_reach}
 use Rattle.ospf_routes.specs.steps.Areas.{AreAreas, AreListeners, IsAreaAt, IsListenedPlace, IsListenerAt, IsReach}
 use Rattle.ospf_routes.specs.steps.Destinations.{HasAreaPart, IsDestination, IsDestinationIn, ospf_prefixes}
 use Rattle.ospf_routes.specs.steps.Offered.{AreOffers}
-use Rattle.ospf_routes.specs.steps.Summarized.{AreSummaries, IsHeard}
+use Rattle.ospf_routes.specs.steps.Heard.{AreHeardAt}
+use Rattle.ospf_routes.specs.steps.Summarized.{IsHeard}
 use Rattle.ospf_routes.specs.steps.Lanes.{AreLaneDecisions, AreLanes, DecidesLane, IsInner, IsOfFew, LaneOf, LeadsLane}
-use Rattle.ospf_routes.specs.declared.announcements.Summaries.{Summaries}
 use Rattle.ospf_routes.proofs.MemberFacts.{each_next}
 use Rattle.route_tables.specs.Prefixes.{prefix_at}
 use Rattle.ospf_routes.specs.declared.areas.AreaWalks.{AreaWalks}
@@ -37,7 +37,7 @@ use Rattle.ospf_routes.specs.declared.intra_area.Destination.{Destination}
 use Rattle.ospf_routes.proofs.AreaFacts.{number_at, reach_is, reach_within}
 use Rattle.ospf_routes.proofs.IntraFacts.{no_intra_given, part_in_range, part_is}
 use Rattle.ospf_routes.proofs.EntryFacts.{heard_in_range, listened_entry, no_route_no_entry}
-use Rattle.ospf_routes.proofs.RouteFacts.{area_route_is, listened_route_is, summary_part_is}
+use Rattle.ospf_routes.proofs.RouteFacts.{area_route_is, listened_route_is}
 use Rattle.ospf_routes.proofs.ZoneRoutes.{route_of_area}
 
 -- The router
@@ -200,25 +200,30 @@ pub record IsOutside (l : LaneOf) (u : ℕ) (p : Block) (offers : List Offer) : 
   pub heard : AreOffers (IsHeard l.net p place.area) offers
 
 -- which is so where nothing is offered in its area
-pub outside_at : (l : LaneOf) (d : Destination) (s : Summaries) (none : AreaWalks) (given : List AreaOffers) (part : AreaOffers) →
-    AreListeners l.net l.areas (length l.net) l.listens → IsDestination l.net d → AreSummaries l.net l.areas s → s.dest ≡ d.dest →
-    given ≡ d.parts.items → (HasAreaPart given (get_or l.areas l.zone none).number → ⊥) → part ≡ get_or s.parts.items l.zone part →
-    (u : ℕ) → u < length l.net → IsInner l.net l.listens l.zone u → IsOutside l u d.dest part.offers.items
-outside_at l d s none given part listeners is announced dest same no_part part_is u below inner =
-    let net : Network = l.net in
-    let place = inner_place net l.areas l.listens l.zone u listeners below inner in
-    let number : ℕ = (get_or l.areas l.zone none).number in
-    let here : number ≡ place.area = number_at l.areas place.area l.zone none place.at in
+pub outside_where : (l : LaneOf) (d : Destination) (offers : List Offer) (u : ℕ) → AreListeners l.net l.areas (length l.net) l.listens →
+    IsDestination l.net d → ((n : ℕ) → IsAreaAt l.areas n l.zone → HasAreaPart d.parts.items n → ⊥) →
+    AreHeardAt l.net l.areas d.dest l.zone offers → u < length l.net → IsInner l.net l.listens l.zone u →
+    IsOutside l u d.dest offers
+outside_where l d offers u listeners is no_part heard below inner =
+    let place = inner_place l.net l.areas l.listens l.zone u listeners below inner in
     record {
       below = below;
       place = place;
       no_range = λ active. inner.alone active.active.component.range.border;
-      no_intra = λ intra. no_intra_given net d given number u is same no_part intra.cost
-          (subst (λ (m : ℕ). IntraAreaCost net m d.dest u intra.cost)
-          (only_inside net u place.area intra.area inner.alone place.listens intra.costs.inside ∙ sym here) intra.costs);
-      heard = subst (λ (q : Block). AreOffers (IsHeard net q place.area) part.offers.items) dest
-          (summary_part_is net l.areas s part place.area l.zone announced part_is place.at);
+      no_intra = λ intra. no_intra_given l.net d d.parts.items place.area u is refl (no_part place.area place.at) intra.cost
+          (subst (λ (m : ℕ). IntraAreaCost l.net m d.dest u intra.cost)
+          (only_inside l.net u place.area intra.area inner.alone place.listens intra.costs.inside) intra.costs);
+      heard = heard place.area place.at;
     }
+
+pub outside_at : (l : LaneOf) (d : Destination) (none : AreaWalks) (given : List AreaOffers) (offers : List Offer) →
+    AreListeners l.net l.areas (length l.net) l.listens → IsDestination l.net d → AreHeardAt l.net l.areas d.dest l.zone offers →
+    given ≡ d.parts.items → (HasAreaPart given (get_or l.areas l.zone none).number → ⊥) →
+    (u : ℕ) → u < length l.net → IsInner l.net l.listens l.zone u → IsOutside l u d.dest offers
+outside_at l d none given offers listeners is heard same no_part u =
+    outside_where l d offers u listeners is
+    (λ n at has. no_part (subst (HasAreaPart given) (sym (number_at l.areas n l.zone none at))
+    (subst (λ (parts : List AreaOffers). HasAreaPart parts n) (sym same) has))) heard
 
 -- then what is announced into the area decides
 pub outside_decides : (l : LaneOf) (u : ℕ) (p : Block) (offers given : List Offer) (decision : Decision) → AreAreas l.net l.areas →
@@ -257,25 +262,24 @@ decisions_more l dests n all next are is = record {
   each = each_next (λ (k : ℕ). DecidesLane l (prefix_at dests k)) all n next Unknown are.count are.each is;
 }
 
--- what is read for a router that is in one area alone
-pub record IsLaneFor (l : LaneOf) (u : ℕ) (dests : List Block) (decisions : List Decision) : Type 0 where
-  pub count : length decisions ≡ length dests
-  pub decides : (place : ℕ) → place < length dests →
-      DecidesRoute u (OspfEntry l.net u (prefix_at dests place)) (LeadsLane l u (prefix_at dests place)) (get_or decisions place Unknown)
-
-pub lane_for : (net : Network) (domain : Domain) (listens : List (Option ℕ)) (lanes : List (List Decision)) (u zone : ℕ) (heard : Option ℕ)
-    (here given : List Decision) → AreListeners net domain.areas.items (length net) listens → AreLanes net domain listens lanes → u < length net →
-    (IsBorderRouter net u → ⊥) → heard ≡ get_or listens u heard → heard ≡ Some zone → here ≡ get_or lanes zone here → given ≡ here →
-    IsLaneFor (record { net = net; areas = domain.areas.items; listens = listens; zone = zone }) u (ospf_prefixes domain.destinations.items) given
-lane_for net domain listens lanes u zone heard here given listeners are below alone heard_is some here_is same =
+-- a router that listens to the area at a place, and is no border router, is in that area alone
+pub inner_at : (net : Network) (areas : List AreaWalks) (listens : List (Option ℕ)) (u zone : ℕ) (heard : Option ℕ) →
+    AreListeners net areas (length net) listens → u < length net → (IsBorderRouter net u → ⊥) → heard ≡ get_or listens u heard → heard ≡ Some zone →
+    (zone < length areas) × IsInner net listens zone u
+inner_at net areas listens u zone heard listeners below alone heard_is some =
     let inner : IsInner net listens zone u =
     record { at = get_or_default listens u None heard (omega (arith, below, listeners.count)) ∙ sym heard_is ∙ some; alone = alone } in
-    let within = (inner_place net domain.areas.items listens zone u listeners below inner).at.within in
+    ((inner_place net areas listens zone u listeners below inner).at.within, inner)
+
+-- what is read for the lane of an area
+pub lane_for : (net : Network) (domain : Domain) (listens : List (Option ℕ)) (lanes : List (List Decision)) (zone : ℕ) (here given : List Decision) →
+    AreLanes net domain listens lanes → zone < length domain.areas.items → here ≡ get_or lanes zone here → given ≡ here →
+    AreLaneDecisions (record { net = net; areas = domain.areas.items; listens = listens; zone = zone }) (ospf_prefixes domain.destinations.items)
+    (length (ospf_prefixes domain.destinations.items)) given
+lane_for net domain listens lanes zone here given are within here_is same =
     let read : get_or lanes zone [] ≡ given = get_or_default lanes zone [] here (omega (arith, within, are.count)) ∙ sym here_is ∙ sym same in
     let l : LaneOf = record { net = net; areas = domain.areas.items; listens = listens; zone = zone } in
     let dests : List Block = ospf_prefixes domain.destinations.items in
     let long : length dests ≡ length domain.destinations.items = length-map domain.destinations.items (λ (d : Destination). d.dest) in
-    let all : AreLaneDecisions l dests (length dests) given =
     subst (AreLaneDecisions l dests (length dests)) read
-    (subst (λ (n : ℕ). AreLaneDecisions l dests n (get_or lanes zone [])) (sym long) (are.each zone within)) in
-    record { count = all.count; decides = λ place inside. all.each place inside u below inner }
+    (subst (λ (n : ℕ). AreLaneDecisions l dests n (get_or lanes zone [])) (sym long) (are.each zone within))

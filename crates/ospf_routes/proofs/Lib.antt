@@ -7,6 +7,7 @@ mod SegmentFacts
 mod IntraFacts
 mod RangeFacts
 mod SummaryFacts
+mod HeardFacts
 mod RouteFacts
 mod EntryFacts
 mod ProtocolFacts
@@ -16,3 +17,4 @@ mod TwinLaws
 mod TwinFacts
 mod BorderLists
 mod LaneLaws
+mod LaneTwinFacts

@@ -214,7 +214,7 @@ pub ranges_below_more : (net : Network) (n : ℕ) (all : List (List ActiveRange)
     AreActiveRanges net n next → AreRangesBelow net (n + 1) (all ++ next ∷ [])
 ranges_below_more net n all next are is = record {
   count = let long = length-append all (next ∷ []) in omega (arith, are.count);
-  each = each_more (AreActiveRanges net) all n next are.count are.each is;
+  each = each_more (AreActiveRanges net) all n next [] are.count are.each is;
 }
 
 -- the ranges of a router, as they are read

@@ -1,5 +1,5 @@
 -- The routes of a router within and between areas.
-use Rattle.std.proofs.Common.{◌≡◌, ℕ, ◌+◌, ◌<◌, ◌≤◌, ◌↔◌, ◌⊎◌, inl, inr, ⊎_elim, List, [], ◌∷◌, ◌++◌, length, map, take, get_or, Option, Some, None, MatchOption}
+use Rattle.std.proofs.Common.{◌≡◌, ℕ, ◌+◌, ◌<◌, ◌≤◌, ◌↔◌, ◌⊎◌, inl, inr, ⊎_elim, List, [], ◌∷◌, ◌++◌, length, take, get_or, Option, Some, None, MatchOption}
 use Rattle.std.proofs.Common.{refl, sym, ap, subst, ◌∙◌, arith}
 use Rattle.std.specs.List.{Contains, Any}
 use Rattle.std.specs.List.Sorted.{IsStrictlyIncreasing}
@@ -8,7 +8,6 @@ use Rattle.std.proofs.lemmas.List.{take_all}
 use Rattle.std.proofs.lemmas.List.Quantifiers.{Any-push}
 use Rattle.std.proofs.lemmas.List.Elements.{Contains-get_or, Contains-push_cases}
 use Rattle.net_addr.specs.Addresses.{Block}
-use Rattle.net_model.proofs.Members.{Contains-in_map, Contains-map}
 use Rattle.net_model.proofs.NetworkFacts.{Adjacent-to_within}
 use Rattle.net_model.specs.Network.{Network, Adjacent, InArea}
 use Rattle.net_model.specs.declared.zone.Zone.TheVariants.{Area}
@@ -21,7 +20,7 @@ use Rattle.walk_core.proofs.OfferLaws.{best_total_is_best_cost, none_totals_no_b
 use Rattle.walk_core.proofs.WalkLaws.{best_hop_is_arc}
 use Rattle.igp_theory.specs.Ospf.{OffersSubnet, IntraAreaCost, IntraAreaHop, IsActiveRange, IsIntraArea, ListensTo, OfOthers, Summary, InterAreaHop}
 use Rattle.igp_theory.proofs.TableLaws.{listens_to_one_area}
-use Rattle.ospf_routes.specs.steps.Areas.{HasArea, IsAreaAt, IsReach}
+use Rattle.ospf_routes.specs.steps.Areas.{IsReach}
 use Rattle.ospf_routes.specs.steps.Offered.{AreOffers}
 use Rattle.ospf_routes.specs.Lists.{Adds}
 use Rattle.route_tables.proofs.BestRoutes.{best_hops_are, hops_same}
@@ -29,15 +28,12 @@ use Rattle.route_tables.specs.BestRoutes.{AreBestHops}
 use Rattle.ospf_routes.specs.steps.Routing.{AreUnited, AreSomeUnited, IsAreaRoute, AreAreaRoutes, IsIntraRoute, ListenedCost, IsListenedRoute}
 use Rattle.ospf_routes.specs.steps.Destinations.{HasAreaPart, IsDestination}
 use Rattle.ospf_routes.specs.declared.intra_area.Destination.{Destination}
-use Rattle.ospf_routes.specs.steps.Summarized.{AreOfAreas, AreSummaries, IsHeard, IsSummaryOf}
-use Rattle.ospf_routes.specs.declared.areas.AreaWalks.{AreaWalks}
+use Rattle.ospf_routes.specs.steps.Summarized.{IsHeard}
 use Rattle.ospf_routes.specs.declared.intra_area.AreaOffers.{AreaOffers}
-use Rattle.ospf_routes.specs.declared.announcements.Summaries.{Summaries}
 use Rattle.ospf_routes.proofs.CostBounds.{lists_from}
 use Rattle.ospf_routes.proofs.IntraFacts.{reaches_inside}
 use Rattle.ospf_routes.proofs.SummaryFacts.{listened_cost, listened_hop}
-use Rattle.route_tables.proofs.ListFacts.{all_at, any_of, any_in, any_left, any_cases, one_more}
-use Rattle.ospf_routes.proofs.DestinationFacts.{as_many, same_key}
+use Rattle.route_tables.proofs.ListFacts.{any_of, any_in, any_left, any_cases, one_more}
 
 -- Within an area
 
@@ -224,30 +220,3 @@ listened_route_is net n p u reach offers given no_intra no_range listens is are 
           (best_hops_are arc u reach offer given count hops is.least listed
           (λ h c over. subst (λ (m : ℕ). h < m) (sym counted) (Adjacent-to_within net (Area n) u h c over)) best);
     }
-
--- The announcements into an area
-
--- the part at the place of an area
-pub part_within : (areas : List AreaWalks) (parts : List AreaOffers) (n zone : ℕ) → AreOfAreas areas parts → IsAreaAt areas n zone → zone < length parts
-part_within areas parts n zone placed at =
-    let many : length parts ≡ length areas = as_many (λ (x : AreaOffers). x.area) (λ (x : AreaWalks). x.number) parts areas placed in
-    omega (arith, at.within)
-
--- is of that area
-part_number : (areas : List AreaWalks) (parts : List AreaOffers) (n zone : ℕ) (part : AreaOffers) → AreOfAreas areas parts → IsAreaAt areas n zone →
-    part ≡ get_or parts zone part → part.area ≡ n
-part_number areas parts n zone part placed at is =
-    same_key (λ (x : AreaOffers). x.area) (λ (x : AreaWalks). x.number) parts areas zone part at.area placed at.within is at.here ∙ at.number
-
-pub announced_part : (areas : List AreaWalks) (parts : List AreaOffers) (n : ℕ) → AreOfAreas areas parts → HasArea areas n → HasAreaPart parts n
-announced_part areas parts n placed has =
-    let number : AreaWalks → ℕ = λ a. a.number in
-    let named : Contains (map number areas) n = subst (Contains (map number areas)) has.number (Contains-in_map number areas has.area has.among) in
-    let part = Contains-map (λ (x : AreaOffers). x.area) parts n (subst (λ (l : List ℕ). Contains l n) (sym placed) named) in
-    record { part = part.item; among = part.among; area = part.gives }
-
-pub summary_part_is : (net : Network) (areas : List AreaWalks) (s : Summaries) (part : AreaOffers) (n zone : ℕ) → AreSummaries net areas s →
-    part ≡ get_or s.parts.items zone part → IsAreaAt areas n zone → AreOffers (IsHeard net s.dest n) part.offers.items
-summary_part_is net areas s part n zone are is at =
-    subst (λ (m : ℕ). AreOffers (IsHeard net s.dest m) part.offers.items) (part_number areas s.parts.items n zone part are.placed at is)
-    (all_at (IsSummaryOf net s.dest) s.parts.items zone part are.exact (part_within areas s.parts.items n zone are.placed at) is)

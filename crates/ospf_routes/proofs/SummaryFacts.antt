@@ -1,6 +1,6 @@
 -- What border routers summarize of a prefix, and announce into each area.
 use Rattle.std.proofs.Common.{◌≡◌, ◌≢◌, ℕ, ◌<◌, ◌↔◌, ◌⊎◌, inl, inr, ⊎_elim, List, [], ◌∷◌, length, get_or, Option, Some, None, MatchOption, refl, sym, ap}
-use Rattle.std.proofs.Common.{subst, ◌∙◌}
+use Rattle.std.proofs.Common.{arith, subst, ◌∙◌}
 use Rattle.std.specs.List.{Contains, Any, All}
 use Rattle.std.proofs.lemmas.Option.{none-some, same_Some}
 use Rattle.std.proofs.lemmas.List.Elements.{Contains-get_or}
@@ -25,7 +25,7 @@ use Rattle.ospf_routes.specs.Lists.{Exactly, Adds}
 use Rattle.ospf_routes.specs.steps.Members.{IsBorderIn}
 use Rattle.ospf_routes.specs.steps.Offered.{AreOffers, OutsideOf}
 use Rattle.ospf_routes.specs.steps.Ranges.{IsComponentOfSome, AreActiveRanges}
-use Rattle.ospf_routes.specs.steps.Summarized.{IsSubnetSummary, SummarizedSubnet, IsRangeRoute, SummarizedRange, SummarizedFrom, AreSummarized, OutsideSummary}
+use Rattle.ospf_routes.specs.steps.Summarized.{IsAreaSubnet, IsSubnetSummary, SummarizedSubnet, IsRangeRoute, SummarizedRange, SummarizedFrom, AreSummarized, OutsideSummary}
 use Rattle.ospf_routes.specs.steps.Summarized.{Announces, IsPassedOn, IsHeard, IsOutgoing, IsAlone, IsDefault, RouterDefault, HasDefault}
 use Rattle.ospf_routes.specs.declared.intra_area.AreaOffers.{AreaOffers}
 use Rattle.ospf_routes.specs.declared.intra_area.Destination.{Destination}
@@ -53,29 +53,45 @@ subnet_summary_some net p n b asks costs alone r =
         let e : asks ≡ r.asks = best_cost_unique costs.best is.costs.best in
         λ i. record { area = (sym is.area) i; at = (sym is.at) i; asks = e i }
 
-pub subnets_are : (net : Network) (d : Destination) (given : List AreaOffers) (b : ℕ) → IsDestination net d → given ≡ d.parts.items →
-    IsBorderRouter net b → (r : AreaRoute) →
-    Any (λ (part : AreaOffers). IsSubnetSummary net d.dest part.area b r) given ↔ SummarizedSubnet net d.dest b r
-subnets_are net d given b is same border r = (
-  λ any.
-      let f = any_in (λ (part : AreaOffers). IsSubnetSummary net d.dest part.area b r) given any in
-      record {
-        at = f.holds.at;
-        border = border;
-        costs = subst (λ (n : ℕ). IntraAreaCost net n d.dest b r.asks) (sym f.holds.area) f.holds.costs;
-        alone = λ range c component. f.holds.alone (record { range = range; cost = c; component = component });
-      },
+pub area_subnets_are : (net : Network) (p : Block) (n : ℕ) (borders given : List ℕ) (old new : List AreaRoute) → Exactly (IsBorderIn net n) borders →
+    given ≡ borders → Adds old new (λ (r : AreaRoute). Any (λ (b : ℕ). IsSubnetSummary net p n b r) given) → Adds old new (IsAreaSubnet net p n)
+area_subnets_are net p n borders given old new are same adds =
+    adds_same old new (λ (r : AreaRoute). Any (λ (b : ℕ). IsSubnetSummary net p n b r) given) (IsAreaSubnet net p n) adds (λ r. (there r, back r))
+  where
+    listed : Exactly (IsBorderIn net n) given
+    listed = subst (Exactly (IsBorderIn net n)) (sym same) are
+
+    there : (r : AreaRoute) → Any (λ (b : ℕ). IsSubnetSummary net p n b r) given → IsAreaSubnet net p n r
+    there r any =
+        let f = any_in (λ (b : ℕ). IsSubnetSummary net p n b r) given any in
+        let b : ℕ = f.item in
+        let is : IsSubnetSummary net p n b r = f.holds in
+        record {
+          area = is.area;
+          summarized = subst (λ (u : ℕ). SummarizedSubnet net p u r) (sym is.at) (record {
+            at = is.at;
+            border = ((listed b).0 f.among).border;
+            costs = subst (λ (m : ℕ). IntraAreaCost net m p b r.asks) (sym is.area) is.costs;
+            alone = λ range c component. is.alone (record { range = range; cost = c; component = component });
+          });
+        }
+
+    back : (r : AreaRoute) → IsAreaSubnet net p n r → Any (λ (b : ℕ). IsSubnetSummary net p n b r) given
+    back r is =
+        let costs = subst (λ (m : ℕ). IntraAreaCost net m p r.at r.asks) is.area is.summarized.costs in
+        any_of (λ (b : ℕ). IsSubnetSummary net p n b r) given r.at
+        ((listed r.at).1 (record { inside = costs.inside; border = is.summarized.border }))
+        (record { area = is.area; at = refl; costs = costs; alone = λ one. is.summarized.alone one.range one.cost one.component })
+
+pub subnets_are : (net : Network) (d : Destination) (given : List AreaOffers) → IsDestination net d → given ≡ d.parts.items → (r : AreaRoute) →
+    Any (λ (part : AreaOffers). IsAreaSubnet net d.dest part.area r) given ↔ SummarizedSubnet net d.dest r.at r
+subnets_are net d given is same r = (
+  λ any. (any_in (λ (part : AreaOffers). IsAreaSubnet net d.dest part.area r) given any).holds.summarized,
   λ s.
       let best = s.costs.best in
       let has = is.every r.area best.at best.attained.asks best.attained.offered in
-      any_of (λ (part : AreaOffers). IsSubnetSummary net d.dest part.area b r) given has.part
-      (subst (λ (l : List AreaOffers). Contains l has.part) (sym same) has.among)
-      (record {
-        area = sym has.area;
-        at = s.at;
-        costs = subst (λ (n : ℕ). IntraAreaCost net n d.dest b r.asks) (sym has.area) s.costs;
-        alone = λ one. s.alone one.range one.cost one.component;
-      }),
+      any_of (λ (part : AreaOffers). IsAreaSubnet net d.dest part.area r) given has.part
+      (subst (λ (l : List AreaOffers). Contains l has.part) (sym same) has.among) (record { area = sym has.area; summarized = s }),
 )
 
 pub ranges_are : (net : Network) (p : Block) (b : ℕ) (actives given : List ActiveRange) → AreActiveRanges net b actives → given ≡ actives → (r : AreaRoute) →
@@ -99,6 +115,16 @@ ranges_are net p b actives given are same r =
           any_of (λ (x : ActiveRange). IsRangeRoute x p b r) given a ((listed.exact a).1 s.costs)
           (record { dest = s.dest; advertised = s.advertised; area = sym s.area; at = s.at; costs = refl }),
     )
+
+-- the ranges of all border routers
+pub all_ranges_are : (net : Network) (p : Block) (borders : List ℕ) → Exactly (IsBorderRouter net) borders → (r : AreaRoute) →
+    Any (λ (b : ℕ). SummarizedRange net p b r) borders ↔ SummarizedRange net p r.at r
+all_ranges_are net p borders are r = (
+  λ any.
+      let f = any_in (λ (b : ℕ). SummarizedRange net p b r) borders any in
+      subst (λ (b : ℕ). SummarizedRange net p b r) (sym f.holds.at) f.holds,
+  λ is. any_of (λ (b : ℕ). SummarizedRange net p b r) borders r.at ((are r.at).1 is.has.border) is,
+)
 
 pub summarized_both : (net : Network) (p : Block) (b : ℕ) (r : AreaRoute) →
     SummarizedFrom net p b r ↔ (SummarizedSubnet net p b r ⊎ SummarizedRange net p b r)
@@ -304,6 +330,14 @@ listened_hop net p n u h no_intra no_range listens =
 pub no_border_cost : (net : Network) (p : Block) (u : ℕ) → ((cost : ℕ) → BorderCost net p u cost → ⊥) →
     (cost : ℕ) → (◌≡◌ {A = Option ℕ} None (Some cost)) ↔ BorderCost net p u cost
 no_border_cost net p u none cost = (λ no. absurd (none-some cost no), λ costs. absurd (none cost costs))
+
+-- there is none where nothing is announced into the backbone
+pub no_backbone_cost : (net : Network) (p : Block) (u cost : ℕ) (given : List Offer) → AreOffers (BackboneSummary net p) given → length given ≡ 0 →
+    BorderCost net p u cost → ⊥
+no_backbone_cost net p u cost given are empty costs =
+    let best = costs.best in
+    let has = (are (record { at = best.at; asks = best.attained.asks })).1 best.attained.offered.offered in
+    omega (arith, has.1, empty)
 
 pub border_cost_is : (net : Network) (p : Block) (u : ℕ) (reach : Reach) (given : List Offer) → IsBorderRouter net u → IsReach net 0 u reach →
     AreOffers (BackboneSummary net p) given → (found : Option ℕ) → MatchOption found (NoneTotals reach given) (IsBestTotal reach given) → (cost : ℕ) →

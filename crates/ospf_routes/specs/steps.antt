@@ -7,9 +7,12 @@ pub mod Destinations
 pub mod Domain
 pub mod Ranges
 pub mod Summarized
+pub mod OfferLists
+pub mod Heard
 pub mod Twins
 pub mod Networks
 pub mod Routing
 pub mod AreaReach
 pub mod Asked
 pub mod Lanes
+pub mod LaneTwins

@@ -8,15 +8,19 @@ ghost use Rattle.net_model.specs.Network.{IsBorderRouter};
 ghost use Rattle.ospf_routes.specs.Lists.{Adds, Exactly};
 ghost use Rattle.ospf_routes.specs.steps.Offered.{AreOffers};
 ghost use Rattle.ospf_routes.specs.steps.Ranges.{AreRangesBelow};
-ghost use Rattle.ospf_routes.specs.steps.Summarized.{Announces, AreOfAreas, AreSummaries, AreSummarized, IsHeard, IsOutgoing, IsSummaryOf};
+ghost use Rattle.ospf_routes.specs.steps.Domain.{IsOspfDomain};
+ghost use Rattle.ospf_routes.specs.steps.Heard.{AddsRow, AreSummaries};
+ghost use Rattle.ospf_routes.specs.steps.Summarized.{Announces, AreSummarized, IsHeard, IsOutgoing};
 
 use crate::OutOfMemory;
 use crate::area_route::{AreaRoute, offers_outside, outside_offer};
 use crate::areas::AreaWalks;
 use crate::backbone_routes::push_reached;
-use crate::intra_area::{AreaOffers, Destination};
+use crate::domain::Domain;
+use crate::intra_area::Destination;
 use crate::ranges::ActiveRanges;
 use crate::stub_areas::{is_totally_stubby, push_defaults};
+use crate::summaries::Summaries;
 use crate::summarized_routes::summarized;
 use net_addr::Prefix;
 use net_model::Net;
@@ -24,71 +28,90 @@ use route_tables::push_option;
 use std::alloc::Global;
 use walk_core::Offer;
 
-/// What border routers announce of a prefix into each of their areas (RFC 2328, section 12.4.3).
-#[derive(Debug, Drop)]
-pub struct Summaries {
-    /// The prefix.
-    pub dest: Prefix,
-    /// The announcements into each area, place by place.
-    pub parts: Vec<AreaOffers>,
-}
-
-impl Summaries {
-    /// What border routers announce of a prefix into each area: the subnets and the ranges of other
-    /// areas, and into areas other than the backbone what they reach over the backbone.
-    pub fn build(
-        alloc: Global,
-        net: &Net,
-        areas: &[AreaWalks],
-        borders: &[u32],
-        ranges: &[ActiveRanges],
-        destination: &Destination,
-    ) -> Result<Summaries, OutOfMemory>
-        requires borders { Exactly (IsBorderRouter net.now) borders.now }
-        requires areas { AreAreas net.now areas.now }
-        requires ranges { AreRangesBelow net.now (length net.now) ranges.now }
-        requires destination { IsDestinationIn net.now areas.now destination.now }
-        ensures dest { IfOk result (λ s. s.dest ≡ destination.now.dest) }
-        ensures summaries { IfOk result (λ s. AreSummaries net.now areas.now s) }
-    {
-        let dest = destination.dest;
-        let routes = summarized(alloc, net, areas, borders, ranges, destination)?;
-        let backbone = offers_outside(alloc, routes.as_slice(), 0)?;
-        let parts = area_parts(
+/// What border routers announce of each prefix into each of their areas: the subnets and the ranges of other areas, and into
+/// areas other than the backbone what they reach over the backbone.
+pub fn all_summaries(
+    alloc: Global,
+    net: &Net,
+    domain: &Domain,
+    borders: &[u32],
+    ranges: &[ActiveRanges],
+) -> Result<Summaries, OutOfMemory>
+    requires borders { Exactly (IsBorderRouter net.now) borders.now }
+    requires domain { IsOspfDomain net.now domain.now }
+    requires ranges { AreRangesBelow net.now (length net.now) ranges.now }
+    ensures { IfOk result (AreSummaries net.now domain.now) }
+{
+    let areas = domain.areas.as_slice();
+    let mut summaries = Summaries::none(alloc, areas.len());
+    let mut offers = Vec::new(alloc);
+    for destination in &domain.destinations {
+        keep_summaries(
             alloc,
+            &mut summaries,
+            &mut offers,
             net,
             areas,
+            borders,
             ranges,
             destination,
-            routes.as_slice(),
-            backbone.as_slice(),
         )?;
-        Ok(Summaries { dest, parts })
     }
+    Ok(summaries)
 }
 
-/// The announcements into each area.
-fn area_parts(
+/// Keeps what is announced of a prefix into each area, area by area. Each is made in one vector of offers.
+fn keep_summaries(
     alloc: Global,
+    summaries: &mut Summaries,
+    offers: &mut Vec<Offer>,
+    net: &Net,
+    areas: &[AreaWalks],
+    borders: &[u32],
+    ranges: &[ActiveRanges],
+    destination: &Destination,
+) -> Result<(), OutOfMemory>
+    requires borders { Exactly (IsBorderRouter net.now) borders.now }
+    requires areas { AreAreas net.now areas.now }
+    requires ranges { AreRangesBelow net.now (length net.now) ranges.now }
+    requires destination { IsDestinationIn net.now areas.now destination.now }
+    ensures { OnOk result (AddsRow net.now areas.now destination.now.dest (length areas.now) summaries.old summaries.new) }
+{
+    let routes = summarized(alloc, net, areas, borders, ranges, destination)?;
+    let backbone = offers_outside(alloc, routes.as_slice(), 0)?;
+    keep_into_areas(
+        summaries,
+        offers,
+        net,
+        areas,
+        ranges,
+        destination,
+        routes.as_slice(),
+        backbone.as_slice(),
+    )
+}
+
+/// Keeps what is announced of a prefix into each area, by what is summarized of it and what goes into the backbone.
+fn keep_into_areas(
+    summaries: &mut Summaries,
+    offers: &mut Vec<Offer>,
     net: &Net,
     areas: &[AreaWalks],
     ranges: &[ActiveRanges],
     destination: &Destination,
     routes: &[AreaRoute],
     backbone: &[Offer],
-) -> Result<Vec<AreaOffers>, OutOfMemory>
+) -> Result<(), OutOfMemory>
     requires areas { AreAreas net.now areas.now }
     requires ranges { AreRangesBelow net.now (length net.now) ranges.now }
     requires destination { IsDestinationIn net.now areas.now destination.now }
     requires routes { AreSummarized net.now destination.now.dest routes.now }
     requires backbone { AreOffers (BackboneSummary net.now destination.now.dest) backbone.now }
-    ensures exact { IfOk result (λ parts. All (IsSummaryOf net.now destination.now.dest) parts.items) }
-    ensures placed { IfOk result (λ parts. AreOfAreas areas.now parts.items) }
+    ensures { OnOk result (AddsRow net.now areas.now destination.now.dest (length areas.now) summaries.old summaries.new) }
 {
-    let mut parts = Vec::with_capacity(alloc, areas.len())?;
-    for (zone, area) in areas.iter().enumerate() {
-        let offers = summaries_into(
-            alloc,
+    for area in areas {
+        put_summaries(
+            offers,
             net,
             areas,
             area,
@@ -97,19 +120,15 @@ fn area_parts(
             routes,
             backbone,
         )?;
-        parts.push(AreaOffers {
-            area: area.number,
-            zone,
-            offers,
-        })?;
+        summaries.keep(offers.as_slice())?;
     }
-    Ok(parts)
+    Ok(())
 }
 
-/// The announcements of an area's routers into it: the subnets and ranges of other areas, and into an area other than the
+/// Puts the announcements of an area's routers into it in place of other offers: the subnets and ranges of other areas, and into an area other than the
 /// backbone what border routers reach over the backbone, and the defaults of stub areas (RFC 2328, sections 12.4.3 and 3.6).
-fn summaries_into(
-    alloc: Global,
+fn put_summaries(
+    offers: &mut Vec<Offer>,
     net: &Net,
     areas: &[AreaWalks],
     area: &AreaWalks,
@@ -117,7 +136,7 @@ fn summaries_into(
     destination: &Destination,
     routes: &[AreaRoute],
     backbone: &[Offer],
-) -> Result<Vec<Offer>, OutOfMemory>
+) -> Result<(), OutOfMemory>
     requires members { AreMembersBelow net.now area.now.number (length net.now) area.now.members }
     requires borders { Exactly (IsBorderIn net.now area.now.number) area.now.borders }
     requires areas { AreAreas net.now areas.now }
@@ -125,17 +144,16 @@ fn summaries_into(
     requires destination { IsDestinationIn net.now areas.now destination.now }
     requires routes { AreSummarized net.now destination.now.dest routes.now }
     requires backbone { AreOffers (BackboneSummary net.now destination.now.dest) backbone.now }
-    ensures { IfOk result (λ offers. AreOffers (IsHeard net.now destination.now.dest area.now.number) offers.items) }
+    ensures { OnOk result (AreOffers (IsHeard net.now destination.now.dest area.now.number) offers.new.items) }
 {
-    let mut offers = Vec::new(alloc);
-    push_outside(&mut offers, net, area, routes)?;
+    offers.clear();
+    push_outside(offers, net, area, routes)?;
     let is_backbone = area.number == 0;
     if is_backbone {
-        return Ok(offers);
+        return Ok(());
     }
-    push_reached(&mut offers, net, areas, area, ranges, destination, backbone)?;
-    push_defaults(&mut offers, net, area, destination.dest)?;
-    Ok(offers)
+    push_reached(offers, net, areas, area, ranges, destination, backbone)?;
+    push_defaults(offers, net, area, destination.dest)
 }
 
 /// Adds the routes of other areas that their routers announce into this one.

@@ -20,7 +20,7 @@ use route_tables::push_option;
 use walk_core::Offer;
 
 /// Adds the prefix with its inter-area cost at each border router of the area that has one (RFC 2328, section 16.2), and
-/// announces more than the default route into the area.
+/// announces more than the default route into the area. None has one where nothing is announced into the backbone.
 pub fn push_reached(
     offers: &mut Vec<Offer>,
     net: &Net,
@@ -37,6 +37,9 @@ pub fn push_reached(
     requires backbone { AreOffers (BackboneSummary net.now destination.now.dest) backbone.now }
     ensures { OnOk result (Adds offers.old.items offers.new.items (IsPassedOn net.now area.now.number destination.now.dest)) }
 {
+    if backbone.is_empty() {
+        return Ok(());
+    }
     for b in area.borders.as_slice() {
         let active = &ranges[*b as usize];
         let offer = reached_offer(net, areas, area.number, active, destination, backbone, *b);

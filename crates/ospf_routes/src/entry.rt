@@ -7,10 +7,10 @@ ghost use Rattle.ospf_routes.specs.steps.AreaReach.{area_reach};
 ghost use Rattle.ospf_routes.specs.steps.Areas.{AreAreas, IsListenedPlace};
 ghost use Rattle.ospf_routes.specs.steps.Asked.{HasNoEntry, IsQuestion, IsDeciding, IsFoundRoute, IsRoute, IsRouteTowards};
 ghost use Rattle.ospf_routes.specs.steps.Destinations.{IsDestinationIn};
+ghost use Rattle.ospf_routes.specs.steps.Heard.{AreHeardAt};
 ghost use Rattle.ospf_routes.specs.steps.Routing.{AreAreaRoutes, IsAreaRoute, IsIntraRoute};
 
 use crate::OutOfMemory;
-use crate::announcements::Summaries;
 use crate::areas::{AreaWalks, zone_reach};
 use crate::intra_area::{AreaOffers, Destination, part_reach};
 use crate::ranges::ActiveRanges;
@@ -36,8 +36,8 @@ pub struct Asked<'a> {
     pub ranges: &'a ActiveRanges,
     /// The prefix, with what the interfaces of each area offer of it.
     pub destination: &'a Destination,
-    /// What border routers announce of the prefix.
-    pub summaries: &'a Summaries,
+    /// What border routers announce of the prefix into that area.
+    pub heard: &'a [Offer],
 }
 
 /// Offers of a prefix that decide a router's route, with the least walks that they are reached over.
@@ -129,17 +129,17 @@ fn listened(asked: Asked<'_>) -> Option<Deciding<'_>>
 fn listened_at(asked: Asked<'_>, zone: usize) -> Deciding<'_>
     requires asked { IsQuestion asked }
     requires listens { IsListenedPlace asked.net.now asked.areas.now asked.router zone }
+    requires heard { AreHeardAt asked.net.now asked.areas.now asked.destination.now.dest zone asked.heard.now }
     requires no_intra { IsIntraArea asked.net.now asked.destination.now.dest asked.router → ⊥ }
     requires no_range { IsActiveRange asked.net.now asked.destination.now.dest asked.router → ⊥ }
     ensures some { IsDeciding asked.entry result }
     ensures none { NoneTotals result.walks.now result.offers.now → HasNoEntry asked.entry }
 {
     let walks = zone_reach(asked.net, asked.areas, zone, asked.router);
-    let offers = asked.summaries.parts[zone].offers.as_slice();
     Deciding {
         walks,
         zone,
-        offers,
+        offers: asked.heard,
     }
 }
 

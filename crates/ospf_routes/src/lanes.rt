@@ -5,13 +5,13 @@ ghost use Rattle.ospf_routes.specs.steps.Areas.{AreAreas, AreListeners};
 ghost use Rattle.ospf_routes.specs.steps.Destinations.{IsDestinationIn, ospf_prefixes};
 ghost use Rattle.ospf_routes.specs.steps.Domain.{IsOspfDomain};
 ghost use Rattle.ospf_routes.specs.steps.Lanes.{AreLaneDecisions, AreLanes, DecidesLane, IsInner, IsOfFew};
-ghost use Rattle.ospf_routes.specs.steps.Summarized.{AreAllSummaries, AreSummaries};
+ghost use Rattle.ospf_routes.specs.steps.Heard.{AreHeardAt, AreSummaries};
 
 use crate::OutOfMemory;
-use crate::announcements::Summaries;
 use crate::areas::{AreaWalks, is_border};
 use crate::domain::Domain;
 use crate::intra_area::{Destination, part_of};
+use crate::summaries::Summaries;
 use net_model::Net;
 use route_tables::Decision;
 use std::alloc::Global;
@@ -40,13 +40,13 @@ impl Decisions {
         net: &Net,
         domain: &Domain,
         listens: &[Option<usize>],
-        summaries: &[Summaries],
+        summaries: &Summaries,
         zone: usize,
     ) -> Result<Decisions, OutOfMemory>
         requires zone { zone < length domain.now.areas.items }
         requires domain { IsOspfDomain net.now domain.now }
         requires listens { AreListeners net.now domain.now.areas.items (length net.now) listens.now }
-        requires summaries { AreAllSummaries net.now domain.now summaries.now }
+        requires summaries { AreSummaries net.now domain.now summaries.now }
         ensures { IfOk result (AreLaneDecisions (record { net = net.now; areas = domain.now.areas.items; listens = listens.now; zone = zone })
             (ospf_prefixes domain.now.destinations.items) (length domain.now.destinations.items)) }
     {
@@ -54,8 +54,8 @@ impl Decisions {
         let mut all = Vec::with_capacity(alloc, domain.destinations.len())?;
         for place in 0..domain.destinations.len() {
             let destination = &domain.destinations[place];
-            let summary = &summaries[place];
-            all.push(decision(net, areas, listens, zone, destination, summary))?;
+            let heard = summaries.into_area(place, zone);
+            all.push(decision(net, areas, listens, zone, destination, heard))?;
         }
         Ok(Decisions { all })
     }
@@ -74,11 +74,11 @@ pub fn all_lanes(
     net: &Net,
     domain: &Domain,
     listens: &[Option<usize>],
-    summaries: &[Summaries],
+    summaries: &Summaries,
 ) -> Result<Vec<Decisions>, OutOfMemory>
     requires domain { IsOspfDomain net.now domain.now }
     requires listens { AreListeners net.now domain.now.areas.items (length net.now) listens.now }
-    requires summaries { AreAllSummaries net.now domain.now summaries.now }
+    requires summaries { AreSummaries net.now domain.now summaries.now }
     ensures { IfOk result (λ lanes. AreLanes net.now domain.now listens.now lanes.items) }
 {
     let mut lanes = Vec::with_capacity(alloc, domain.areas.len())?;
@@ -96,24 +96,22 @@ fn decision(
     listens: &[Option<usize>],
     zone: usize,
     destination: &Destination,
-    summaries: &Summaries,
+    heard: &[Offer],
 ) -> Decision
     requires zone { zone < length areas.now }
     requires areas { AreAreas net.now areas.now }
     requires listens { AreListeners net.now areas.now (length net.now) listens.now }
     requires destination { IsDestinationIn net.now areas.now destination.now }
-    requires summaries { AreSummaries net.now areas.now summaries.now }
-    requires dest { summaries.now.dest ≡ destination.now.dest }
+    requires heard { AreHeardAt net.now areas.now destination.now.dest zone heard.now }
     ensures { DecidesLane (record { net = net.now; areas = areas.now; listens = listens.now; zone = zone }) destination.now.dest result }
 {
     match part_of(destination.parts.as_slice(), areas[zone].number) {
         Some(part) => decision_of(net, listens, zone, destination, part.offers.as_slice()),
         None => {
-            let offers = summaries.parts[zone].offers.as_slice();
-            if offers.is_empty() {
+            if heard.is_empty() {
                 return Decision::Nothing;
             }
-            decision_of(net, listens, zone, destination, offers)
+            decision_of(net, listens, zone, destination, heard)
         }
     }
 }
@@ -149,7 +147,7 @@ fn few(offers: &[Offer]) -> Decision
 }
 
 /// Whether each of these routers that is in the area alone makes one of the offers.
-fn are_told(
+pub fn are_told(
     net: &Net,
     listens: &[Option<usize>],
     zone: usize,

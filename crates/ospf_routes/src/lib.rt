@@ -8,18 +8,20 @@
 //!    `subnets.rt`, `intra_area.rt`: the prefixes, where each is connected, what the interfaces of each area offer of it, and
 //!    what it costs within an area; `segments.rt`: who is adjacent to whom.
 //! 2. `ranges.rt`: the active ranges of border routers (12.4.3, 11.1), and what they cost.
-//! 3. `announcements.rt` (`Summaries::build`, 12.4.3): what the border routers of each area announce of a prefix into it.
+//! 3. `announcements.rt` (12.4.3): what the border routers of each area announce of a prefix into it, for all prefixes and
+//!    areas in one vector (`summaries.rt`).
 //!    `summarized_routes.rt` has what they summarize out of whichever area. Into the backbone there go the routes of other
 //!    areas, into every other area these too, and what its border routers reach over the backbone (`backbone_routes.rt`,
 //!    costs alone, 16.2) and the defaults of stub areas (`stub_areas.rt`, 3.6).
 //! 4. `entry.rt`: the intra-area route, else a discard, else the inter-area route (16, 11.1), for which `listened_at` reads
-//!    the `Summaries`; `united.rt`: several areas' hops together. Where one area at most offers a prefix, `target_of` tells at
+//!    what is announced into the area that the router listens to; `united.rt`: several areas' hops together. Where one area at most offers a prefix, `target_of` tells at
 //!    once where the route leads: to the best of the offers that decide it, of that area or of what the router listens to.
 //!    `lanes.rt`: for routers in one area alone these offers are the same, so they are found once for each area and prefix.
 //!
-//! `twins.rt` finds prefixes that have the same routes at every router, by what is offered and announced of them. Steps 1
-//! to 3 take time of prefixes times border routers and areas; step 4 of routers times prefixes times the offers of a prefix
-//! in one area.
+//! `twins.rt` finds prefixes that have the same routes at every router, by what is offered and announced of them, and
+//! `lane_twins.rt` those of which this is so at every router in one area alone. Steps 1 to 3 take time of prefixes times
+//! border routers and areas; step 4 of routers times the kinds of prefixes in their lanes times the offers of a prefix in one
+//! area.
 #![tactic(auto)]
 
 // Within areas
@@ -37,10 +39,12 @@ mod announcements;
 mod backbone_routes;
 mod ranges;
 mod stub_areas;
+mod summaries;
 mod summarized_routes;
 
 // The routes of each router
 mod entry;
+mod lane_twins;
 mod lanes;
 mod protocol;
 mod tables;

@@ -1,21 +1,19 @@
-ghost use Rattle.std.specs.Prelude.{◌≡◌, ◌<◌, length, IfOk};
+ghost use Rattle.std.specs.Prelude.{◌≡◌, ◌+◌, ◌<◌, length, IfOk};
 ghost use Rattle.route_tables.specs.Prefixes.{prefix_at};
-ghost use Rattle.net_model.specs.Network.{IsBorderRouter};
 ghost use Rattle.ospf_routes.specs.steps.Asked.{IsQuestion};
 ghost use Rattle.ospf_routes.specs.steps.Destinations.{ospf_prefixes};
-ghost use Rattle.ospf_routes.specs.steps.Domain.{IsOspfDomain};
-ghost use Rattle.ospf_routes.specs.Lists.{Exactly};
-ghost use Rattle.ospf_routes.specs.steps.Ranges.{AreRangesBelow};
-ghost use Rattle.ospf_routes.specs.steps.Summarized.{AreAllSummaries};
+ghost use Rattle.ospf_routes.specs.steps.Networks.{AreEarlierIn};
 
 use crate::OutOfMemory;
-use crate::announcements::Summaries;
+use crate::announcements::all_summaries;
 use crate::areas::{all_listens, border_routers, is_border};
 use crate::domain::Domain;
 use crate::entry::{Asked, route_of, target_of};
+use crate::lane_twins::{LaneTwins, all_lane_twins};
 use crate::lanes::{Decisions, all_lanes};
 use crate::ranges::{ActiveRanges, all_ranges};
 use crate::segments::segments_of_areas;
+use crate::summaries::Summaries;
 use crate::twins::all_twins;
 use net_addr::Prefix;
 use net_model::Net;
@@ -25,16 +23,18 @@ use std::marker::Model;
 use walk_core::{LeastWalks, Segment};
 
 /// OSPF on a network, with what its routers know, the places of the areas that they listen to, the active ranges of border
-/// routers, what these announce of each prefix, which prefixes have the same routes, and what decides them within areas.
+/// routers, what these announce of each prefix, which prefixes have the same routes, everywhere and within areas, and what
+/// decides them within areas.
 #[derive(Drop)]
 pub struct Ospf<'a> {
     net: &'a Net,
     domain: Domain,
     listens: Vec<Option<usize>>,
     ranges: Vec<ActiveRanges>,
-    summaries: Vec<Summaries>,
+    summaries: Summaries,
     twins: Vec<Option<usize>>,
     lanes: Vec<Decisions>,
+    lane_twins: Vec<LaneTwins>,
 }
 
 impl<'a> Model for Ospf<'a> {
@@ -42,9 +42,9 @@ impl<'a> Model for Ospf<'a> {
 
     ghost Value = { OspfNetwork };
 
-    ghost view = { λ x. record { net = x.net.now; domain = x.domain; listens = x.listens.items; ranges = x.ranges.items; summaries = x.summaries.items; twins = x.twins.items; lanes = x.lanes.items } };
+    ghost view = { λ x. record { net = x.net.now; domain = x.domain; listens = x.listens.items; ranges = x.ranges.items; summaries = x.summaries; twins = x.twins.items; lanes = x.lanes.items; lane_twins = x.lane_twins.items } };
 
-    ghost invariant = { λ x. IsOspf (record { net = x.net.now; domain = x.domain; listens = x.listens.items; ranges = x.ranges.items; summaries = x.summaries.items; twins = x.twins.items; lanes = x.lanes.items }) };
+    ghost invariant = { λ x. IsOspf (record { net = x.net.now; domain = x.domain; listens = x.listens.items; ranges = x.ranges.items; summaries = x.summaries; twins = x.twins.items; lanes = x.lanes.items; lane_twins = x.lane_twins.items }) };
 }
 
 impl<'a> Ospf<'a> {
@@ -59,13 +59,15 @@ impl<'a> Ospf<'a> {
         let ranges = all_ranges(alloc, net, &domain)?;
         let borders = border_routers(alloc, net)?;
         let summaries = all_summaries(alloc, net, &domain, borders.as_slice(), ranges.as_slice())?;
-        let twins = all_twins(alloc, net, &domain, ranges.as_slice(), summaries.as_slice())?;
-        let lanes = all_lanes(
+        let twins = all_twins(alloc, net, &domain, ranges.as_slice(), &summaries)?;
+        let lanes = all_lanes(alloc, net, &domain, listens.as_slice(), &summaries)?;
+        let lane_twins = all_lane_twins(
             alloc,
             net,
             &domain,
             listens.as_slice(),
-            summaries.as_slice(),
+            &summaries,
+            twins.as_slice(),
         )?;
         Ok(Ospf {
             net,
@@ -75,7 +77,19 @@ impl<'a> Ospf<'a> {
             summaries,
             twins,
             lanes,
+            lane_twins,
         })
+    }
+
+    /// Of each prefix an earlier one with the same entries at every router of a lane, where one is found.
+    fn earlier(&self, lane: usize) -> &[Option<usize>]
+        requires { lane < length self.now.domain.areas.items + 1 }
+        ensures { AreEarlierIn self.now lane result.now }
+    {
+        if lane == self.domain.areas.len() {
+            return self.twins.as_slice();
+        }
+        self.lane_twins[lane].as_slice()
     }
 
     /// What is known of a router and of the prefix at a place.
@@ -93,7 +107,7 @@ impl<'a> Ospf<'a> {
         let listens = self.listens[router as usize];
         let ranges = &self.ranges[router as usize];
         let destination = &self.domain.destinations[place];
-        let summaries = &self.summaries[place];
+        let heard = self.summaries.into_some_area(place, listens);
         Asked {
             net: self.net,
             areas,
@@ -101,17 +115,19 @@ impl<'a> Ospf<'a> {
             listens,
             ranges,
             destination,
-            summaries,
+            heard,
         }
     }
 }
 
 impl<'a> Protocol for Ospf<'a> {
-    ghost use Rattle.std.specs.Prelude.{length};
+    ghost use Rattle.std.specs.Prelude.{◌+◌, length};
     ghost use Rattle.igp_theory.specs.Ospf.{OspfEntry};
     ghost use Rattle.igp_theory.specs.Laws.{IsOspfNeighbor};
     ghost use Rattle.ospf_routes.specs.steps.AreaReach.{area_reach};
     ghost use Rattle.ospf_routes.specs.steps.Destinations.{ospf_prefixes};
+    ghost use Rattle.ospf_routes.specs.steps.Lanes.{IsOfOspfLane};
+    ghost use Rattle.ospf_routes.specs.steps.Networks.{lane_in};
 
     ghost routers = { λ ospf. length ospf.net };
 
@@ -125,6 +141,10 @@ impl<'a> Protocol for Ospf<'a> {
 
     ghost reach = { λ ospf. area_reach ospf.domain.areas.items };
 
+    ghost lanes = { λ ospf. length ospf.domain.areas.items + 1 };
+
+    ghost in_lane = { λ ospf lane. IsOfOspfLane (lane_in ospf lane) };
+
     fn routers(&self) -> u32 {
         self.net.routers()
     }
@@ -137,23 +157,34 @@ impl<'a> Protocol for Ospf<'a> {
         self.domain.destinations[place].dest
     }
 
-    fn alike(&self, place: usize) -> Option<usize> {
-        self.twins[place]
+    fn lanes(&self) -> usize {
+        self.domain.areas.len() + 1
+    }
+
+    fn lane(&self, router: u32) -> usize {
+        match self.listens[router as usize] {
+            Some(zone) if !is_border(self.net, router) => zone,
+            _ => self.domain.areas.len(),
+        }
+    }
+
+    fn alike(&self, lane: usize, place: usize) -> Option<usize> {
+        self.earlier(lane)[place]
+    }
+
+    fn decisions(&self, lane: usize) -> Option<Lane<'_>> {
+        if lane == self.domain.areas.len() {
+            return None;
+        }
+        let decisions = self.lanes[lane].as_slice();
+        Some(Lane {
+            zone: lane,
+            decisions,
+        })
     }
 
     fn target(&self, place: usize, router: u32) -> Option<Target> {
         target_of(self.asked(place, router))
-    }
-
-    fn lane(&self, router: u32) -> Option<Lane<'_>> {
-        let Some(zone) = self.listens[router as usize] else {
-            return None;
-        };
-        if is_border(self.net, router) {
-            return None;
-        }
-        let decisions = self.lanes[zone].as_slice();
-        Some(Lane { zone, decisions })
     }
 
     fn route(
@@ -172,26 +203,4 @@ impl<'a> Protocol for Ospf<'a> {
     fn segments(&self, alloc: Global) -> Result<Vec<Segment>, OutOfMemory> {
         segments_of_areas(alloc, self.net, self.domain.areas.as_slice())
     }
-}
-
-/// What border routers announce of each prefix.
-fn all_summaries(
-    alloc: Global,
-    net: &Net,
-    domain: &Domain,
-    borders: &[u32],
-    ranges: &[ActiveRanges],
-) -> Result<Vec<Summaries>, OutOfMemory>
-    requires borders { Exactly (IsBorderRouter net.now) borders.now }
-    requires domain { IsOspfDomain net.now domain.now }
-    requires ranges { AreRangesBelow net.now (length net.now) ranges.now }
-    ensures { IfOk result (λ summaries. AreAllSummaries net.now domain.now summaries.items) }
-{
-    let areas = domain.areas.as_slice();
-    let mut all = Vec::new(alloc);
-    for destination in &domain.destinations {
-        let summaries = Summaries::build(alloc, net, areas, borders, ranges, destination)?;
-        all.push(summaries)?;
-    }
-    Ok(all)
 }

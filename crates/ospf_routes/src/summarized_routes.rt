@@ -3,8 +3,8 @@ ghost use Rattle.ospf_routes.specs.steps.Areas.{AreAreas};
 ghost use Rattle.ospf_routes.specs.steps.Destinations.{IsDestinationIn};
 ghost use Rattle.net_model.specs.Network.{IsBorderRouter};
 ghost use Rattle.ospf_routes.specs.Lists.{Adds, Exactly};
-ghost use Rattle.ospf_routes.specs.steps.Ranges.{AreActiveRanges, AreRangesBelow};
-ghost use Rattle.ospf_routes.specs.steps.Summarized.{AreSummarized, IsRangeRoute, IsSubnetSummary, SummarizedFrom, SummarizedSubnet};
+ghost use Rattle.ospf_routes.specs.steps.Ranges.{AreRangesBelow};
+ghost use Rattle.ospf_routes.specs.steps.Summarized.{AreSummarized, IsAreaSubnet, IsRangeRoute, IsSubnetSummary, SummarizedRange, SummarizedSubnet};
 ghost use Rattle.ospf_routes.specs.declared.area_route.AreaRoute.{AreaRoute as Route};
 
 use crate::OutOfMemory;
@@ -33,50 +33,43 @@ pub fn summarized(
     ensures { IfOk result (λ routes. AreSummarized net.now destination.now.dest routes.items) }
 {
     let mut routes = Vec::new(alloc);
-    for b in borders {
-        let active = &ranges[*b as usize];
-        push_summarized(&mut routes, net, areas, active, destination, *b)?;
-    }
+    push_subnets(&mut routes, net, areas, destination)?;
+    push_ranges(&mut routes, net, borders, ranges, destination.dest)?;
     Ok(routes)
 }
 
-/// Adds what border router `b` summarizes of the prefix.
-fn push_summarized(
-    routes: &mut Vec<AreaRoute>,
-    net: &Net,
-    areas: &[AreaWalks],
-    ranges: &ActiveRanges,
-    destination: &Destination,
-    b: u32,
-) -> Result<(), OutOfMemory>
-    requires border { IsBorderRouter net.now b }
-    requires router { b < length net.now }
-    requires areas { AreAreas net.now areas.now }
-    requires ranges { AreActiveRanges net.now b ranges.now }
-    requires destination { IsDestinationIn net.now areas.now destination.now }
-    ensures { OnOk result (Adds routes.old.items routes.new.items (λ r. SummarizedFrom net.now destination.now.dest b r)) }
-{
-    push_subnets(routes, net, areas, destination, b)?;
-    push_ranges(routes, ranges.as_slice(), destination.dest, b)
-}
-
-/// Adds the prefix for each area where border router `b` has an intra-area cost for it, unless it is a component of a
-/// range.
+/// Adds the prefix for each area where a border router has an intra-area cost for it, unless it is a component of a range.
 fn push_subnets(
     routes: &mut Vec<AreaRoute>,
     net: &Net,
     areas: &[AreaWalks],
     destination: &Destination,
-    b: u32,
 ) -> Result<(), OutOfMemory>
-    requires border { IsBorderRouter net.now b }
-    requires router { b < length net.now }
     requires areas { AreAreas net.now areas.now }
     requires destination { IsDestinationIn net.now areas.now destination.now }
-    ensures { OnOk result (Adds routes.old.items routes.new.items (λ r. SummarizedSubnet net.now destination.now.dest b r)) }
+    ensures { OnOk result (Adds routes.old.items routes.new.items (λ r. SummarizedSubnet net.now destination.now.dest r.at r)) }
 {
     for part in destination.parts.as_slice() {
-        push_option(routes, subnet_summary(net, areas, destination, part, b))?;
+        push_area_subnets(routes, net, areas, destination, part)?;
+    }
+    Ok(())
+}
+
+/// Adds the prefix for the area of a part, by each border router of that area.
+fn push_area_subnets(
+    routes: &mut Vec<AreaRoute>,
+    net: &Net,
+    areas: &[AreaWalks],
+    destination: &Destination,
+    part: &AreaOffers,
+) -> Result<(), OutOfMemory>
+    requires areas { AreAreas net.now areas.now }
+    requires destination { IsDestinationIn net.now areas.now destination.now }
+    requires part { Contains destination.now.parts.items part.now }
+    ensures { OnOk result (Adds routes.old.items routes.new.items (IsAreaSubnet net.now destination.now.dest part.now.area)) }
+{
+    for b in areas[part.zone].borders.as_slice() {
+        push_option(routes, subnet_summary(net, areas, destination, part, *b))?;
     }
     Ok(())
 }
@@ -108,8 +101,26 @@ fn subnet_summary(
     })
 }
 
-/// Adds the active ranges of this prefix that are advertised.
+/// Adds the active ranges of this prefix that border routers advertise.
 fn push_ranges(
+    routes: &mut Vec<AreaRoute>,
+    net: &Net,
+    borders: &[u32],
+    ranges: &[ActiveRanges],
+    dest: Prefix,
+) -> Result<(), OutOfMemory>
+    requires borders { Exactly (IsBorderRouter net.now) borders.now }
+    requires ranges { AreRangesBelow net.now (length net.now) ranges.now }
+    ensures { OnOk result (Adds routes.old.items routes.new.items (λ r. SummarizedRange net.now dest r.at r)) }
+{
+    for b in borders {
+        push_router_ranges(routes, ranges[*b as usize].as_slice(), dest, *b)?;
+    }
+    Ok(())
+}
+
+/// Adds those of these active ranges of router `b` that are of this prefix and advertised.
+fn push_router_ranges(
     routes: &mut Vec<AreaRoute>,
     ranges: &[ActiveRange],
     dest: Prefix,

@@ -47,6 +47,8 @@ impl RouteSource for OspfRoutes {
 
     ghost table = { table_at };
 
+    ghost prefixes = { λ routes. routes.prefixes };
+
     ghost linked = { AreLinked };
 
     fn routers(&self) -> u32 {

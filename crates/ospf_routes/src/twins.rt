@@ -2,14 +2,15 @@ ghost use Rattle.std.specs.Prelude.{◌≡◌, ◌<◌, ◌↔◌, ℕ, length, 
 ghost use Rattle.ospf_routes.specs.steps.Destinations.{ospf_prefixes};
 ghost use Rattle.ospf_routes.specs.steps.Domain.{IsOspfDomain};
 ghost use Rattle.ospf_routes.specs.steps.Ranges.{AreRangesBelow};
-ghost use Rattle.ospf_routes.specs.steps.Summarized.{AreAllSummaries};
-ghost use Rattle.ospf_routes.specs.steps.Twins.{AreKnownBelow, AreTwinParts, AreTwins, AreTwinsAt, IsTwinPart};
+ghost use Rattle.ospf_routes.specs.steps.Heard.{AreSummaries};
+ghost use Rattle.ospf_routes.specs.steps.OfferLists.{AreSummariesOf, IsPlaceIn};
+ghost use Rattle.ospf_routes.specs.steps.Twins.{AreKnownBelow, AreTwinParts, AreTwins, AreTwinsAt, AreTwinSummaries, IsTwinPart};
 
 use crate::OutOfMemory;
-use crate::announcements::Summaries;
 use crate::domain::Domain;
 use crate::intra_area::{AreaOffers, Destination};
 use crate::ranges::{ActiveRanges, range_prefixes};
+use crate::summaries::Summaries;
 use net_addr::Prefix;
 use net_model::Net;
 use route_tables::are_alike;
@@ -23,11 +24,11 @@ pub fn all_twins(
     net: &Net,
     domain: &Domain,
     ranges: &[ActiveRanges],
-    summaries: &[Summaries],
+    summaries: &Summaries,
 ) -> Result<Vec<Option<usize>>, OutOfMemory>
     requires domain { IsOspfDomain net.now domain.now }
     requires ranges { AreRangesBelow net.now (length net.now) ranges.now }
-    requires summaries { AreAllSummaries net.now domain.now summaries.now }
+    requires summaries { AreSummaries net.now domain.now summaries.now }
     ensures { IfOk result (λ twins. AreTwins net.now (ospf_prefixes domain.now.destinations.items) twins.items) }
 {
     let destinations = domain.destinations.as_slice();
@@ -51,12 +52,12 @@ pub fn all_twins(
 fn twin_of(
     destinations: &[Destination],
     ranged: &[Prefix],
-    summaries: &[Summaries],
+    summaries: &Summaries,
     latest: &[Option<usize>],
     place: usize,
 ) -> Option<usize>
     requires place { place < length destinations.now }
-    requires summaries { length summaries.now ≡ length destinations.now }
+    requires summaries { AreSummariesOf (length destinations.now) summaries.now }
     requires latest { AreKnownBelow place latest.now }
     ensures below { IfSome result (λ earlier. earlier < place) }
     ensures twins { IfSome result (λ earlier. AreTwinsAt destinations.now summaries.now ranged.now earlier place) }
@@ -73,14 +74,14 @@ fn twin_of(
 /// Whether two destinations have the same entries, as far as their homes, offers and announcements show.
 fn are_twins(
     destinations: &[Destination],
-    summaries: &[Summaries],
+    summaries: &Summaries,
     ranged: &[Prefix],
     one: usize,
     other: usize,
 ) -> bool
     requires one { one < length destinations.now }
     requires other { other < length destinations.now }
-    requires summaries { length summaries.now ≡ length destinations.now }
+    requires summaries { AreSummariesOf (length destinations.now) summaries.now }
     ensures { IsTrue result → AreTwinsAt destinations.now summaries.now ranged.now one other }
 {
     let (near, far) = (&destinations[one], &destinations[other]);
@@ -90,7 +91,7 @@ fn are_twins(
     if !have_twin_offers(near, far) {
         return false;
     }
-    if !have_twin_announcements(&summaries[one], &summaries[other]) {
+    if !have_twin_summaries(summaries, one, other) {
         return false;
     }
     if is_ranged(ranged, near.dest) {
@@ -162,10 +163,20 @@ fn have_twin_offers(one: &Destination, other: &Destination) -> bool
 }
 
 /// Whether what is announced of two prefixes into each area is alike.
-fn have_twin_announcements(one: &Summaries, other: &Summaries) -> bool
-    ensures { IsTrue result → AreTwinParts one.now.parts.items other.now.parts.items }
+fn have_twin_summaries(summaries: &Summaries, one: usize, other: usize) -> bool
+    requires one { IsPlaceIn summaries.now one }
+    requires other { IsPlaceIn summaries.now other }
+    ensures { IsTrue result → AreTwinSummaries summaries.now one other }
 {
-    are_twin_parts(one.parts.as_slice(), other.parts.as_slice())
+    for zone in 0..summaries.areas() {
+        if !are_alike(
+            summaries.into_area(one, zone),
+            summaries.into_area(other, zone),
+        ) {
+            return false;
+        }
+    }
+    true
 }
 
 /// Whether the parts of two prefixes are of the same areas, place by place, and alike.

@@ -1,5 +1,5 @@
 -- A router and a prefix whose route is asked for.
-use Rattle.std.specs.Prelude.{◌≡◌, ◌<◌, ℕ, List, Option, length, MatchOption}
+use Rattle.std.specs.Prelude.{◌≡◌, ◌<◌, ℕ, List, Option, Some, length, MatchOption}
 use Rattle.net_model.specs.Network.{Connected}
 use Rattle.walk_core.specs.BestOffers.{AreInRange}
 use Rattle.route_core.specs.declared.entry.Entry.{Entry}
@@ -14,7 +14,7 @@ use Rattle.ospf_routes.specs.steps.AreaReach.{area_reach}
 use Rattle.ospf_routes.specs.steps.Areas.{AreAreas, IsListenerAt}
 use Rattle.ospf_routes.specs.steps.Destinations.{IsDestinationIn}
 use Rattle.ospf_routes.specs.steps.Ranges.{AreActiveRanges}
-use Rattle.ospf_routes.specs.steps.Summarized.{AreSummaries}
+use Rattle.ospf_routes.specs.steps.Heard.{AreHeardAt}
 use Rattle.ospf_routes.specs.declared.entry.Asked.{Asked}
 use Rattle.ospf_routes.specs.declared.entry.Deciding.{Deciding}
 
@@ -25,8 +25,7 @@ pub record IsQuestion (asked : Asked) : Type 0 where
   pub listens : IsListenerAt asked.net.now asked.areas.now asked.router asked.listens
   pub ranges : AreActiveRanges asked.net.now asked.router asked.ranges.now
   pub destination : IsDestinationIn asked.net.now asked.areas.now asked.destination.now
-  pub summaries : AreSummaries asked.net.now asked.areas.now asked.summaries.now
-  pub dest : asked.summaries.now.dest ≡ asked.destination.now.dest
+  pub heard : (zone : ℕ) → asked.listens ≡ Some zone → AreHeardAt asked.net.now asked.areas.now asked.destination.now.dest zone asked.heard.now
 
 -- the router has no entry for the prefix
 abbrev pub HasNoEntry : Asked → Type 0

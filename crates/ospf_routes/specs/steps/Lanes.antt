@@ -26,6 +26,11 @@ pub record LaneOf : Type 0 where
   pub listens : List (Option ℕ)
   pub zone : ℕ
 
+-- the lane has router u: that of an area has the routers that are in this area alone, the last one has any
+pub record IsOfOspfLane (l : LaneOf) (u : ℕ) : Type 0 where
+  pub below : u < length l.net
+  pub inner : l.zone < length l.areas → IsInner l.net l.listens l.zone u
+
 -- offers of which this holds decide router u's route for p
 abbrev pub LeadsLane : LaneOf → ℕ → Block → List Offer → Type 0
 LeadsLane l u p = LeadToBest (area_reach l.areas u l.zone) l.zone (length l.net)

@@ -1,21 +1,16 @@
 -- What border routers summarize of a prefix, and announce into each area.
-use Rattle.std.specs.Prelude.{◌≡◌, ◌≢◌, ℕ, List, map, IsTrue, All}
+use Rattle.std.specs.Prelude.{◌≡◌, ◌≢◌, ℕ, List, IsTrue}
 use Rattle.net_addr.specs.Addresses.{Block, default_prefix}
 use Rattle.net_model.specs.Network.{Network, InArea, IsBorderRouter}
 use Rattle.net_model.specs.declared.area.Range.{Range}
 use Rattle.net_model.specs.declared.area.Stub.{Stub}
 use Rattle.walk_core.specs.declared.offers.Offer.{Offer}
 use Rattle.igp_theory.specs.Ospf.{IntraAreaCost, BorderCost, HasRange, IsComponent, RangeCost, SummarizesSubnet, SummarizesRange, HasStub, IsTotallyStubby, Summary}
-use Rattle.ospf_routes.specs.steps.Destinations.{ospf_prefixes}
 use Rattle.ospf_routes.specs.Lists.{Exactly}
-use Rattle.ospf_routes.specs.steps.Offered.{AreOffers, OutsideOf}
+use Rattle.ospf_routes.specs.steps.Offered.{OutsideOf}
 use Rattle.ospf_routes.specs.steps.Ranges.{IsComponentOfSome}
-use Rattle.ospf_routes.specs.declared.areas.AreaWalks.{AreaWalks}
-use Rattle.ospf_routes.specs.declared.domain.Domain.{Domain}
-use Rattle.ospf_routes.specs.declared.intra_area.AreaOffers.{AreaOffers}
 use Rattle.ospf_routes.specs.declared.ranges.ActiveRange.{ActiveRange}
 use Rattle.ospf_routes.specs.declared.area_route.AreaRoute.{AreaRoute}
-use Rattle.ospf_routes.specs.declared.announcements.Summaries.{Summaries}
 
 -- b has an intra-area cost for p in area n, which the route says, and p is no component at b
 pub record IsSubnetSummary (net : Network) (p : Block) (n b : ℕ) (r : AreaRoute) : Type 0 where
@@ -30,6 +25,11 @@ pub record SummarizedSubnet (net : Network) (p : Block) (b : ℕ) (r : AreaRoute
   pub border : IsBorderRouter net b
   pub costs : IntraAreaCost net r.area p b r.asks
   pub alone : (range : Range) (c : ℕ) → IsComponent net b range p c → ⊥
+
+-- the route of such a border router is of area n
+pub record IsAreaSubnet (net : Network) (p : Block) (n : ℕ) (r : AreaRoute) : Type 0 where
+  pub area : r.area ≡ n
+  pub summarized : SummarizedSubnet net p r.at r
 
 -- the active range is of the prefix p and advertised, and the route is that of router b
 pub record IsRangeRoute (a : ActiveRange) (p : Block) (b : ℕ) (r : AreaRoute) : Type 0 where
@@ -108,21 +108,3 @@ pub record HasDefault (net : Network) (n : ℕ) (p : Block) (o : Offer) : Type 0
 pub record IsHeard (net : Network) (p : Block) (n b cost : ℕ) : Type 0 where
   pub inside : InArea net b n
   pub summary : Summary net p n b cost
-
--- the part has what the routers of its area announce of p into it
-abbrev pub IsSummaryOf : Network → Block → AreaOffers → Type 0
-IsSummaryOf net p part = AreOffers (IsHeard net p part.area) part.offers.items
-
--- there is a part for each area, place by place
-abbrev pub AreOfAreas : List AreaWalks → List AreaOffers → Type 0
-AreOfAreas areas parts = map (λ (part : AreaOffers). part.area) parts ≡ map (λ (a : AreaWalks). a.number) areas
-
--- each part has what is announced into its area, and the parts are of the areas, place by place
-pub record AreSummaries (net : Network) (areas : List AreaWalks) (s : Summaries) : Type 0 where
-  pub exact : All (IsSummaryOf net s.dest) s.parts.items
-  pub placed : AreOfAreas areas s.parts.items
-
--- what border routers announce of each prefix, in the order of the destinations
-pub record AreAllSummaries (net : Network) (domain : Domain) (summaries : List Summaries) : Type 0 where
-  pub dests : map (λ (s : Summaries). s.dest) summaries ≡ ospf_prefixes domain.destinations.items
-  pub each : All (AreSummaries net domain.areas.items) summaries

@@ -8,13 +8,20 @@ use Rattle.route_tables.specs.Entries.{AreAlikePrefixes}
 use Rattle.route_tables.specs.Prefixes.{prefix_at}
 use Rattle.ospf_routes.specs.declared.intra_area.AreaOffers.{AreaOffers}
 use Rattle.ospf_routes.specs.declared.intra_area.Destination.{Destination}
-use Rattle.ospf_routes.specs.declared.announcements.Summaries.{Summaries}
+use Rattle.ospf_routes.specs.steps.OfferLists.{HeardLists, heard_into}
 
--- where an earlier prefix is named for one, they have the same entries
-pub record AreTwins (net : Network) (dests : List Block) (twins : List (Option ℕ)) : Type 0 where
-  pub count : length twins ≡ length dests
-  pub each : (place earlier : ℕ) → slice_index_or twins place None ≡ Some earlier →
-      (earlier < place) × AreAlikePrefixes (length net) (OspfEntry net) (prefix_at dests earlier) (prefix_at dests place)
+-- the prefix at one place is earlier than that at another, and both are alike in this sense
+abbrev pub IsEarlierBy : (Block → Block → Type 0) → List Block → ℕ → ℕ → Type 0
+IsEarlierBy alike dests place earlier = (earlier < place) × alike (prefix_at dests earlier) (prefix_at dests place)
+
+-- where an earlier prefix is named for one of the first n, both are alike in this sense
+pub record AreEarlierBy (alike : Block → Block → Type 0) (dests : List Block) (n : ℕ) (named : List (Option ℕ)) : Type 0 where
+  pub count : length named ≡ n
+  pub each : (place earlier : ℕ) → slice_index_or named place None ≡ Some earlier → IsEarlierBy alike dests place earlier
+
+-- both have the same entries at every router
+abbrev pub AreTwins : Network → List Block → List (Option ℕ) → Type 0
+AreTwins net dests = AreEarlierBy (AreAlikePrefixes (length net) (OspfEntry net)) dests (length dests)
 
 -- the places that are known are below n
 abbrev pub AreKnownBelow : ℕ → List (Option ℕ) → Type 0
@@ -30,23 +37,22 @@ pub record AreTwinParts (one other : List AreaOffers) : Type 0 where
   pub count : length one ≡ length other
   pub each : (k : ℕ) (d : AreaOffers) → k < length one → IsTwinPart (slice_index_or one k d) (slice_index_or other k d)
 
--- two destinations are connected at the same routers, neither is among the prefixes of active ranges, and their parts and what is announced
--- of them are alike
-pub record AreTwinDestinations (ranged : List Block) (d e : Destination) (s t : Summaries) : Type 0 where
+-- what is announced of the prefixes at two places into each area is alike
+abbrev pub AreTwinSummaries : HeardLists → ℕ → ℕ → Type 0
+AreTwinSummaries heard one other = (zone : ℕ) → zone < heard.areas → AreAlikeOffers (heard_into heard one zone) (heard_into heard other zone)
+
+-- two destinations are connected at the same routers, neither is among the prefixes of active ranges, and their parts are alike
+pub record AreTwinDestinations (ranged : List Block) (d e : Destination) : Type 0 where
   pub homes : (u : ℕ) → Contains d.homes.items u ↔ Contains e.homes.items u
   pub parts : AreTwinParts d.parts.items e.parts.items
-  pub announced : AreTwinParts s.parts.items t.parts.items
   pub no_range : Contains ranged d.dest → ⊥
   pub other_no_range : Contains ranged e.dest → ⊥
 
--- the destinations at two places are
-pub record AreTwinsAt (ds : List Destination) (ss : List Summaries) (ranged : List Block) (one other : ℕ) : Type 0 where
+-- the destinations at two places are, and what is announced of them is alike
+pub record AreTwinsAt (ds : List Destination) (heard : HeardLists) (ranged : List Block) (one other : ℕ) : Type 0 where
   pub d : Destination
   pub e : Destination
-  pub s : Summaries
-  pub t : Summaries
   pub d_at : d ≡ slice_index_or ds one d
   pub e_at : e ≡ slice_index_or ds other e
-  pub s_at : s ≡ slice_index_or ss one s
-  pub t_at : t ≡ slice_index_or ss other t
-  pub twins : AreTwinDestinations ranged d e s t
+  pub twins : AreTwinDestinations ranged d e
+  pub announced : AreTwinSummaries heard one other

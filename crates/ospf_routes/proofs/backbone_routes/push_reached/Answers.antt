@@ -1,11 +1,20 @@
-use Rattle.std.proofs.Common.{◌≡◌, ℕ, ◌<◌, get_or, sym, subst}
+use Rattle.std.proofs.Common.{◌≡◌, ℕ, ◌<◌, get_or, length, sym, subst}
+use Rattle.std.proofs.lemmas.Bool.{eqb-true}
 use Rattle.ospf_routes.specs.steps.Summarized.{IsPassedOn}
 use Rattle.walk_core.specs.declared.offers.Offer.{Offer}
-use Rattle.route_tables.proofs.ListFacts.{adds_start, adds_at, adds_end}
+use Rattle.route_tables.proofs.ListFacts.{adds_start, adds_at, adds_end, adds_nothing}
 use Rattle.ospf_routes.proofs.BorderLists.{inner_at, inner_is_router}
 use Rattle.ospf_routes.proofs.RangeFacts.{ranges_of}
-use Rattle.ospf_routes.proofs.SummaryFacts.{reached_of_borders}
+use Rattle.ospf_routes.proofs.SummaryFacts.{no_backbone_cost, reached_of_borders}
 use Rattle.ospf_routes.proofs.backbone_routes.push_reached.Goals as goal
+
+pub returns-then-is_empty : goal.returns-then-is_empty
+returns-then-is_empty c =
+    let net = c.args.net.now in
+    let p = c.args.destination.now.dest in
+    adds_nothing c.args.offers.now.items (IsPassedOn net c.args.area.now.number p) (λ o passed.
+    no_backbone_cost net p o.at o.asks c.args.backbone.now c.requires.backbone
+    (eqb-true (length c.args.backbone.now) 0 (sym c.if-is_empty.ensures)) passed.costs)
 
 pub bounds-ranges-b : goal.bounds-ranges-b
 bounds-ranges-b c =

@@ -61,6 +61,9 @@ listened_at-requires-clause-no_intra c =
     (IsRouteFor (area_reach c.args.asked.areas.now u) (length c.args.asked.areas.now) (length net) (ForwardsBy (IsIntraRoute net p u))) c.in_default.is
     c.in_ok-route.ensures
 
+pub listened_at-requires-clause-heard : goal.listened_at-requires-clause-heard
+listened_at-requires-clause-heard c = c.requires.heard c.in-Some-listens.zone c.in-Some-listens.is
+
 pub listened_at-requires-clause-no_range : goal.listened_at-requires-clause-no_range
 listened_at-requires-clause-no_range c = λ is.
     false≢true (c.if-contains.ensures.1 ((active_range_is c.args.asked.net.now c.args.asked.router c.args.asked.destination.now.dest c.args.asked.ranges.now

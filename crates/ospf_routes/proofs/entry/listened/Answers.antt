@@ -12,6 +12,9 @@ listened_at-requires-clause-listens c =
     MatchOption-at_some ((n : ℕ) → ListensTo asked.net.now asked.router n → ⊥) (IsListenedPlace asked.net.now asked.areas.now asked.router)
     c.in-Some.zone c.in-Some.is c.requires.asked.listens
 
+pub listened_at-requires-clause-heard : goal.listened_at-requires-clause-heard
+listened_at-requires-clause-heard c = c.requires.asked.heard c.in-Some.zone c.in-Some.is
+
 pub listened_at-requires-clause-no_range : goal.listened_at-requires-clause-no_range
 listened_at-requires-clause-no_range c =
     let asked = c.args.asked in

@@ -1,4 +1,4 @@
-use Rattle.std.proofs.Common.{◌≡◌, ◌∙◌, ℕ, List, length, subst, sym}
+use Rattle.std.proofs.Common.{◌≡◌, ◌∙◌, ℕ, List, length, refl, subst, sym}
 use Rattle.std.specs.List.{Contains}
 use Rattle.std.proofs.lemmas.Bool.{eqb-true}
 use Rattle.igp_theory.specs.Ospf.{ListensTo}
@@ -35,20 +35,16 @@ returns-in-Some c = λ u below inner.
 pub returns-then-is_empty : goal.returns-then-is_empty
 returns-then-is_empty c = λ u below inner.
     let d = c.args.destination.now in
-    let part = c.index.result.now in
     let l : LaneOf = record { net = c.args.net.now; areas = c.args.areas.now; listens = c.args.listens.now; zone = c.args.zone } in
-    nothing_decides l u d.dest part.offers.items c.as_slice-offers.result.now c.requires.areas
-    (outside_at l d c.args.summaries.now c.index-areas-zone.result c.as_slice.result.now part c.requires.listens c.requires.destination.is
-    c.requires.summaries c.requires.dest c.as_slice.ensures.value c.in-None.ensures.none c.index.ensures u below inner)
-    c.as_slice-offers.ensures.value (eqb-true (length c.as_slice-offers.result.now) 0 (sym c.if-is_empty.ensures))
+    nothing_decides l u d.dest c.args.heard.now c.args.heard.now c.requires.areas
+    (outside_at l d c.index-areas-zone.result c.as_slice.result.now c.args.heard.now c.requires.listens c.requires.destination.is
+    c.requires.heard c.as_slice.ensures.value c.in-None.ensures.none u below inner) refl (eqb-true (length c.args.heard.now) 0 (sym c.if-is_empty.ensures))
 
 pub returns-else-is_empty : goal.returns-else-is_empty
 returns-else-is_empty c = λ u below inner.
     let d = c.args.destination.now in
-    let part = c.index.result.now in
     let l : LaneOf = record { net = c.args.net.now; areas = c.args.areas.now; listens = c.args.listens.now; zone = c.args.zone } in
-    outside_decides l u d.dest part.offers.items c.as_slice-offers.result.now c.decision_of-in-None.result c.requires.areas
-    (outside_at l d c.args.summaries.now c.index-areas-zone.result c.as_slice.result.now part c.requires.listens c.requires.destination.is
-    c.requires.summaries c.requires.dest c.as_slice.ensures.value c.in-None.ensures.none c.index.ensures u below inner)
-    c.as_slice-offers.ensures.value c.decision_of-in-None.ensures.few
+    outside_decides l u d.dest c.args.heard.now c.args.heard.now c.decision_of-in-None.result c.requires.areas
+    (outside_at l d c.index-areas-zone.result c.as_slice.result.now c.args.heard.now c.requires.listens c.requires.destination.is
+    c.requires.heard c.as_slice.ensures.value c.in-None.ensures.none u below inner) refl c.decision_of-in-None.ensures.few
     (λ is. c.decision_of-in-None.ensures.told u ((c.requires.destination.is.homes u).1 is) inner)

@@ -7,17 +7,13 @@ pub returns : goal.returns
 returns c = λ free. record {
   d = c.index-destinations-one.result;
   e = c.index-destinations-other.result;
-  s = c.index-summaries-one.result;
-  t = c.index-summaries-other.result;
   d_at = c.index-destinations-one.is;
   e_at = c.index-destinations-other.is;
-  s_at = c.index-summaries-one.is;
-  t_at = c.index-summaries-other.is;
   twins = record {
     homes = c.if-not-have_one_home.ensures refl;
     parts = c.if-not-have_twin_offers.ensures refl;
-    announced = c.if-not-have_twin_announcements.ensures refl;
     no_range = λ any. false≢true (c.if-is_ranged.ensures.1 any);
     other_no_range = λ any. false≢true (sym (not_true c.is_ranged-2.result free) ∙ c.is_ranged-2.ensures.1 any);
   };
+  announced = c.if-not-have_twin_summaries.ensures refl;
 }

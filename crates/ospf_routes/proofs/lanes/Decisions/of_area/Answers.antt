@@ -1,16 +1,15 @@
-use Rattle.std.proofs.Common.{◌+◌, ℕ, List, arith, sym, subst}
+use Rattle.std.proofs.Common.{◌+◌, ◌<◌, ℕ, List, arith, length, sym, subst}
 use Rattle.std.proofs.lemmas.List.{length-map}
 use Rattle.net_addr.specs.Addresses.{Block}
 use Rattle.route_tables.specs.Prefixes.{prefix_at}
 use Rattle.route_tables.proofs.DestinationLists.{prefix_is}
 use Rattle.route_tables.proofs.ListFacts.{all_at}
 use Rattle.ospf_routes.specs.steps.Destinations.{IsDestinationIn, ospf_prefixes}
+use Rattle.ospf_routes.specs.steps.Heard.{AreHeardAt}
 use Rattle.ospf_routes.specs.steps.Lanes.{AreLaneDecisions, DecidesLane, LaneOf}
-use Rattle.ospf_routes.specs.steps.Summarized.{AreSummaries}
 use Rattle.ospf_routes.specs.declared.areas.AreaWalks.{AreaWalks}
-use Rattle.ospf_routes.specs.declared.announcements.Summaries.{Summaries}
 use Rattle.ospf_routes.specs.declared.intra_area.Destination.{Destination}
-use Rattle.ospf_routes.proofs.DestinationFacts.{as_many, same_key}
+use Rattle.ospf_routes.proofs.HeardFacts.{heard_of, heard_within}
 use Rattle.ospf_routes.proofs.LaneLaws.{decisions_more}
 use Rattle.ospf_routes.proofs.lanes.Decisions.of_area.Goals as goal
 
@@ -21,20 +20,21 @@ decision-requires-clause-destination c =
     (all_at (IsDestinationIn net c.args.domain.now.areas.items) c.args.domain.now.destinations.items c.loop-place.place c.index-destination.result.now
     c.requires.domain.destinations.each (omega (arith, c.loop-place-test.true)) c.index-destination.ensures)
 
-pub decision-requires-clause-summaries : goal.decision-requires-clause-summaries
-decision-requires-clause-summaries c =
-    let net = c.args.net.now in
-    let ds : List Destination = c.args.domain.now.destinations.items in
-    let many = as_many (λ (s : Summaries). s.dest) (λ (d : Destination). d.dest) c.args.summaries.now ds c.requires.summaries.dests in
-    subst (λ (l : List AreaWalks). AreSummaries net l c.index-summaries-place.result) (sym c.as_slice-areas.ensures.value)
-    (all_at (AreSummaries net c.args.domain.now.areas.items) c.args.summaries.now c.loop-place.place c.index-summaries-place.result
-    c.requires.summaries.each (omega (arith, many, c.loop-place-test.true)) c.index-summaries-place.is)
+pub into_area-heard-requires : goal.into_area-heard-requires
+into_area-heard-requires c =
+    let domain = c.args.domain.now in
+    heard_within c.args.net.now domain.areas.items (ospf_prefixes domain.destinations.items) (length domain.destinations.items) c.args.summaries.now
+    c.requires.summaries c.loop-place.place (omega (arith, c.loop-place-test.true)) c.args.zone
+    (subst (λ (n : ℕ). c.args.zone < n) (sym c.requires.summaries.areas_are) c.requires.zone)
 
-pub decision-requires-clause-dest : goal.decision-requires-clause-dest
-decision-requires-clause-dest c =
-    same_key (λ (s : Summaries). s.dest) (λ (d : Destination). d.dest) c.args.summaries.now c.args.domain.now.destinations.items c.loop-place.place
-    c.index-summaries-place.result c.index-destination.result.now c.requires.summaries.dests (omega (arith, c.loop-place-test.true))
-    c.index-summaries-place.is c.index-destination.ensures
+pub decision-requires-clause-heard : goal.decision-requires-clause-heard
+decision-requires-clause-heard c =
+    let net = c.args.net.now in
+    let p : Block = c.index-destination.result.now.dest in
+    subst (λ (l : List AreaWalks). AreHeardAt net l p c.args.zone c.into_area-heard.result.now) (sym c.as_slice-areas.ensures.value)
+    (subst (AreHeardAt net c.args.domain.now.areas.items p c.args.zone) (sym c.into_area-heard.ensures)
+    (heard_of net c.args.domain.now c.args.summaries.now c.loop-place.place c.index-destination.result.now c.requires.summaries
+    (omega (arith, c.loop-place-test.true)) c.index-destination.ensures c.args.zone c.requires.zone))
 
 pub loop-place-preserved : goal.loop-place-preserved
 loop-place-preserved c =

@@ -1,26 +1,37 @@
-use Rattle.std.proofs.Common.{◌≡◌, ◌<◌, List, length, arith, sym, subst}
+use Rattle.std.proofs.Common.{◌≡◌, ◌<◌, ℕ, List, length, arith, sym, subst}
 use Rattle.std.proofs.lemmas.List.{length-map}
-use Rattle.net_addr.specs.Addresses.{Block}
 use Rattle.route_tables.specs.Prefixes.{prefix_at}
 use Rattle.route_tables.proofs.DestinationLists.{element_at, prefix_is}
 use Rattle.ospf_routes.specs.steps.Areas.{AreAreas, IsListenerAt}
 use Rattle.ospf_routes.specs.steps.Destinations.{IsDestinationIn, ospf_prefixes}
 use Rattle.ospf_routes.specs.steps.Networks.{OspfNetwork}
-use Rattle.ospf_routes.specs.steps.Summarized.{AreSummaries}
+use Rattle.ospf_routes.specs.steps.Heard.{AreHeardAt}
 use Rattle.ospf_routes.specs.declared.areas.AreaWalks.{AreaWalks}
 use Rattle.ospf_routes.specs.declared.intra_area.Destination.{Destination}
-use Rattle.ospf_routes.specs.declared.announcements.Summaries.{Summaries}
 use Rattle.ospf_routes.proofs.AreaFacts.{listener_of}
-use Rattle.ospf_routes.proofs.DestinationFacts.{same_key}
+use Rattle.ospf_routes.proofs.HeardFacts.{heard_of, heard_within, listened_inside}
 use Rattle.ospf_routes.proofs.RangeFacts.{ranges_of}
 use Rattle.ospf_routes.proofs.protocol.Ospf.asked.Goals as goal
+
+pub into_some_area-heard-requires : goal.into_some_area-heard-requires
+into_some_area-heard-requires c = λ zone is.
+    let net = c.self.inside.net.now in
+    let domain = c.self.inside.domain in
+    let below : c.args.router < length net = subst (λ (ospf : OspfNetwork). c.args.router < length ospf.net) (sym c.self.view_is) c.requires.router in
+    let within : c.args.place < length (ospf_prefixes domain.destinations.items) =
+    subst (λ (ospf : OspfNetwork). c.args.place < length (ospf_prefixes ospf.domain.destinations.items)) (sym c.self.view_is) c.requires.place in
+    let long = length-map domain.destinations.items (λ (d : Destination). d.dest) in
+    heard_within net domain.areas.items (ospf_prefixes domain.destinations.items) (length domain.destinations.items) c.self.inside.summaries
+    c.self.invariant.announced c.args.place (omega (arith, long, within)) zone
+    (subst (λ (n : ℕ). zone < n) (sym c.self.invariant.announced.areas_are)
+    (listened_inside net domain.areas.items c.self.inside.listens.items c.args.router zone c.index-listens.result.now c.self.invariant.listeners below
+    c.index-listens.ensures is))
 
 pub returns-clause-asked : goal.returns-clause-asked
 returns-clause-asked c =
     let net = c.self.inside.net.now in
     let areas : List AreaWalks = c.self.inside.domain.areas.items in
     let ds : List Destination = c.self.inside.domain.destinations.items in
-    let all : List Summaries = c.self.inside.summaries.items in
     let below : c.args.router < length net = subst (λ (ospf : OspfNetwork). c.args.router < length ospf.net) (sym c.self.view_is) c.requires.router in
     let within : c.args.place < length (ospf_prefixes ds) =
     subst (λ (ospf : OspfNetwork). c.args.place < length (ospf_prefixes ospf.domain.destinations.items)) (sym c.self.view_is) c.requires.place in
@@ -35,11 +46,14 @@ returns-clause-asked c =
       destination = subst (λ (l : List AreaWalks). IsDestinationIn net l c.index-destination.result.now) same
           (element_at (λ (d : Destination). d.dest) (IsDestinationIn net areas) ds c.args.place c.index-destination.result.now
           c.self.invariant.domain.destinations.each within c.index-destination.ensures);
-      summaries = subst (λ (l : List AreaWalks). AreSummaries net l c.index-summaries.result.now) same
-          (element_at (λ (s : Summaries). s.dest) (AreSummaries net areas) all c.args.place c.index-summaries.result.now c.self.invariant.announced.each
-          (subst (λ (l : List Block). c.args.place < length l) (sym c.self.invariant.announced.dests) within) c.index-summaries.ensures);
-      dest = same_key (λ (s : Summaries). s.dest) (λ (d : Destination). d.dest) all ds c.args.place c.index-summaries.result.now
-          c.index-destination.result.now c.self.invariant.announced.dests (omega (arith, long, within)) c.index-summaries.ensures c.index-destination.ensures;
+      heard = λ zone is.
+          let inside : zone < length areas =
+          listened_inside net areas c.self.inside.listens.items c.args.router zone c.index-listens.result.now c.self.invariant.listeners below
+          c.index-listens.ensures is in
+          subst (λ (l : List AreaWalks). AreHeardAt net l c.index-destination.result.now.dest zone c.into_some_area-heard.result.now) same
+          (subst (AreHeardAt net areas c.index-destination.result.now.dest zone) (sym (c.into_some_area-heard.ensures zone is))
+          (heard_of net c.self.inside.domain c.self.inside.summaries c.args.place c.index-destination.result.now c.self.invariant.announced
+          (omega (arith, long, within)) c.index-destination.ensures zone inside));
     }
 
 pub returns-clause-dest : goal.returns-clause-dest

@@ -1,7 +1,8 @@
+use Rattle.std.proofs.lemmas.Result.{on_ok_weaker}
 use Rattle.ospf_routes.proofs.SummaryFacts.{heard_in_area, heard_in_backbone, routes_of_routers, summarized_at}
 use Rattle.ospf_routes.specs.steps.Summarized.{SummarizedFrom}
 use Rattle.ospf_routes.specs.declared.area_route.AreaRoute.{AreaRoute}
-use Rattle.ospf_routes.proofs.announcements.summaries_into.Goals as goal
+use Rattle.ospf_routes.proofs.announcements.put_summaries.Goals as goal
 
 pub push_outside-requires-clause-routers : goal.push_outside-requires-clause-routers
 push_outside-requires-clause-routers c =
@@ -10,11 +11,13 @@ push_outside-requires-clause-routers c =
 
 pub returns-then-is_backbone : goal.returns-then-is_backbone
 returns-then-is_backbone c =
-    heard_in_backbone c.args.net.now c.args.area.now.number c.args.destination.now.dest c.args.routes.now c.new-offers.result.items
-    c.push_outside.new.offers.items c.if-is_backbone.true c.requires.routes c.new-offers.ensures.items c.in_ok-push_outside.ensures
+    heard_in_backbone c.args.net.now c.args.area.now.number c.args.destination.now.dest c.args.routes.now c.clear.new.self.items
+    c.push_outside.new.offers.items c.if-is_backbone.true c.requires.routes c.clear.ensures.items c.in_ok-push_outside.ensures
 
 pub returns : goal.returns
 returns c =
-    heard_in_area c.args.net.now c.args.area.now.number c.args.destination.now.dest c.args.routes.now c.new-offers.result.items
+    on_ok_weaker c.push_defaults.result
+    (λ adds. heard_in_area c.args.net.now c.args.area.now.number c.args.destination.now.dest c.args.routes.now c.clear.new.self.items
     c.push_outside.new.offers.items c.push_reached.new.offers.items c.push_defaults.new.offers.items c.if-is_backbone.false c.requires.routes
-    c.new-offers.ensures.items c.in_ok-push_outside.ensures c.in_ok-push_reached.ensures c.in_ok-push_defaults.ensures
+    c.clear.ensures.items c.in_ok-push_outside.ensures c.in_ok-push_reached.ensures adds)
+    c.push_defaults.ensures

@@ -1,0 +1,131 @@
+-- What is announced of each prefix into each area.
+use Rattle.std.proofs.Common.{◌≡◌, ℕ, ◌+◌, ◌*◌, ◌<◌, ◌≤◌, inl, inr, Option, Some, List, [], ◌∷◌, ◌++◌, length, length-append, take, drop, get_or, refl, sym, ap, subst, ◌∙◌}
+use Rattle.std.proofs.Common.{append_assoc, arith}
+use Rattle.std.proofs.lemmas.Bool.{cases_lt}
+use Rattle.std.proofs.lemmas.Nat.{row_fits}
+use Rattle.std.proofs.lemmas.Option.{MatchOption-at_some}
+use Rattle.std.proofs.lemmas.List.{append-nil, drop-append-le, drop_at, take-append-le, take_all, map-append, length-drop, length-map}
+use Rattle.std.proofs.lemmas.List.{get_or_append_left, get_or-append-add}
+use Rattle.std.proofs.lemmas.List.Elements.{All-head, All-tail}
+use Rattle.net_addr.specs.Addresses.{Block}
+use Rattle.net_model.specs.Network.{Network}
+use Rattle.route_tables.specs.Prefixes.{prefix_at}
+use Rattle.route_tables.proofs.DestinationLists.{prefix_is}
+use Rattle.walk_core.specs.declared.offers.Offer.{Offer}
+use Rattle.igp_theory.specs.Ospf.{ListensTo}
+use Rattle.ospf_routes.specs.steps.Areas.{AreListeners, IsListenedPlace}
+use Rattle.ospf_routes.specs.steps.Heard.{AddsRow, AreHeardAt, AreHeardBelow, AreSummaries}
+use Rattle.ospf_routes.specs.steps.Offered.{AreOffers}
+use Rattle.ospf_routes.specs.steps.OfferLists.{offers_of, offer_lists_of, AreOfferSpans, AreSummariesOf, HeardLists, heard_into}
+use Rattle.ospf_routes.specs.steps.Summarized.{IsHeard}
+use Rattle.ospf_routes.specs.declared.areas.AreaWalks.{AreaWalks}
+use Rattle.ospf_routes.specs.declared.domain.Domain.{Domain}
+use Rattle.ospf_routes.specs.declared.intra_area.Destination.{Destination}
+use Rattle.ospf_routes.specs.declared.summaries.OfferSpan.{OfferSpan}
+use Rattle.ospf_routes.proofs.AreaFacts.{listener_of, number_at}
+use Rattle.ospf_routes.proofs.MemberFacts.{each_next}
+
+-- more offers behind the others change no span
+span_stays : (offers more : List Offer) (span : OfferSpan) → span.start + span.count ≤ length offers → offers_of (offers ++ more) span ≡ offers_of offers span
+span_stays offers more span within =
+    let inside : span.start ≤ length offers = omega (arith, within) in
+    let long : span.count ≤ length (drop span.start offers) = omega (arith, length-drop span.start offers, within) in
+    ap (take span.count) (drop-append-le span.start offers more inside) ∙ take-append-le span.count (drop span.start offers) more long
+
+spans_stay : (offers more : List Offer) (spans : List OfferSpan) → AreOfferSpans offers spans →
+    offer_lists_of (offers ++ more) spans ≡ offer_lists_of offers spans
+spans_stay offers more [] are = refl
+spans_stay offers more (span ∷ spans) are =
+    let Within : OfferSpan → Type 0 = λ s. s.start + s.count ≤ length offers in
+    ap (λ (l : List Offer). l ∷ offer_lists_of (offers ++ more) spans) (span_stays offers more span (All-head Within span spans are))
+    ∙ ap (λ (l : List (List Offer)). offers_of offers span ∷ l) (spans_stay offers more spans (All-tail Within span spans are))
+
+-- the span of the last offers is the list that came
+pub offer_lists_more : (offers more : List Offer) (spans : List OfferSpan) (span : OfferSpan) → AreOfferSpans offers spans →
+    span.start ≡ length offers → span.count ≡ length more →
+    offer_lists_of (offers ++ more) (spans ++ span ∷ []) ≡ offer_lists_of offers spans ++ more ∷ []
+offer_lists_more offers more spans span are starts counts =
+    map-append (offers_of (offers ++ more)) spans (span ∷ [])
+    ∙ ap (λ (l : List (List Offer)). l ++ offers_of (offers ++ more) span ∷ []) (spans_stay offers more spans are)
+    ∙ ap (λ (l : List Offer). offer_lists_of offers spans ++ l ∷ [])
+    (ap (take span.count) (drop_at offers more span.start (sym starts)) ∙ take_all span.count more (omega (arith, counts)))
+
+-- The lists of each prefix
+
+below_product : (k a place zone : ℕ) → place < k → zone < a → place * a + zone < k * a
+below_product k a place zone below within = let fits = row_fits place a k a below (omega arith) in omega (arith, within, fits)
+
+pub heard_within : (net : Network) (areas : List AreaWalks) (dests : List Block) (k : ℕ) (heard : HeardLists) → AreHeardBelow net areas dests k heard →
+    AreSummariesOf k heard
+heard_within net areas dests k heard are place below zone within =
+    subst (λ (n : ℕ). place * heard.areas + zone < n) (sym are.count) (below_product k heard.areas place zone below within)
+
+pub heard_none : (net : Network) (areas : List AreaWalks) (dests : List Block) (count : ℕ) → count ≡ length areas →
+    AreHeardBelow net areas dests 0 (record { areas = count; lists = [] })
+heard_none net areas dests count same =
+    record { areas_are = same; count = omega arith; each = λ place zone below within. absurd (omega (arith, below)) }
+
+abbrev pub lists_with : ℕ → List (List Offer) → HeardLists
+lists_with areas lists = record { areas = areas; lists = lists }
+
+pub row_none : (net : Network) (areas : List AreaWalks) (p : Block) (heard : HeardLists) → AddsRow net areas p 0 heard heard
+row_none net areas p heard = record {
+  row = [];
+  behind = λ i. record { areas = heard.areas; lists = (sym (append-nil heard.lists)) i };
+  count = refl;
+  each = λ zone below. absurd (omega (arith, below));
+}
+
+pub row_more : (net : Network) (areas : List AreaWalks) (p : Block) (m : ℕ) (old mid new : HeardLists) (list : List Offer) →
+    AddsRow net areas p m old mid → new ≡ record { areas = mid.areas; lists = mid.lists ++ list ∷ [] } → AreHeardAt net areas p m list →
+    AddsRow net areas p (m + 1) old new
+row_more net areas p m old mid new list r is next = record {
+  row = r.row ++ list ∷ [];
+  behind = is
+      ∙ ap (λ (h : HeardLists). lists_with h.areas (h.lists ++ list ∷ [])) r.behind
+      ∙ ap (λ (l : List (List Offer)). lists_with old.areas l) (append_assoc old.lists r.row (list ∷ []));
+  count = let long = length-append r.row (list ∷ []) in omega (arith, long, r.count);
+  each = each_next (AreHeardAt net areas p) r.row m list [] r.count r.each next;
+}
+
+pub heard_more : (net : Network) (areas : List AreaWalks) (dests : List Block) (k : ℕ) (old new : HeardLists) → AreHeardBelow net areas dests k old →
+    AddsRow net areas (prefix_at dests k) (length areas) old new → AreHeardBelow net areas dests (k + 1) new
+heard_more net areas dests k old new are r =
+    subst (AreHeardBelow net areas dests (k + 1)) (sym r.behind) (record {
+      areas_are = are.areas_are;
+      count = let long = length-append old.lists r.row in omega (arith, long, r.count, are.count, are.areas_are);
+      each = λ place zone below within. elim (cases_lt place k) [
+        | inl less ↦ subst (AreHeardAt net areas (prefix_at dests place) zone)
+            (sym (get_or_append_left old.lists r.row [] (place * old.areas + zone) (heard_within net areas dests k old are place less zone within)))
+            (are.each place zone less within)
+        | inr past ↦
+            let same : place ≡ k = omega (arith, below, past) in
+            subst (λ (j : ℕ). AreHeardAt net areas (prefix_at dests j) zone (get_or (old.lists ++ r.row) (j * old.areas + zone) [])) (sym same)
+            (subst (λ (j : ℕ). AreHeardAt net areas (prefix_at dests k) zone (get_or (old.lists ++ r.row) (j + zone) [])) are.count
+            (subst (AreHeardAt net areas (prefix_at dests k) zone) (sym (get_or-append-add old.lists r.row zone []))
+            (r.each zone (subst (λ (n : ℕ). zone < n) are.areas_are within))))
+      ];
+    })
+
+-- what is announced of one prefix into an area
+pub heard_of : (net : Network) (domain : Domain) (heard : HeardLists) (k : ℕ) (d : Destination) → AreSummaries net domain heard →
+    k < length domain.destinations.items → d ≡ get_or domain.destinations.items k d → (zone : ℕ) → zone < length domain.areas.items →
+    AreHeardAt net domain.areas.items d.dest zone (heard_into heard k zone)
+heard_of net domain heard k d are within at zone inside =
+    let ds : List Destination = domain.destinations.items in
+    let long = length-map ds (λ (x : Destination). x.dest) in
+    subst (λ (p : Block). AreHeardAt net domain.areas.items p zone (heard_into heard k zone))
+    (sym (prefix_is (λ (x : Destination). x.dest) ds k d (omega (arith, long, within)) at))
+    (are.each k zone within (subst (λ (n : ℕ). zone < n) (sym are.areas_are) inside))
+
+-- what an area's routers announce into it is that of its place
+pub heard_here : (net : Network) (areas : List AreaWalks) (p : Block) (zone : ℕ) (a : AreaWalks) (offers : List Offer) → a ≡ get_or areas zone a →
+    AreOffers (IsHeard net p a.number) offers → AreHeardAt net areas p zone offers
+heard_here net areas p zone a offers here are n at =
+    subst (λ (m : ℕ). AreOffers (IsHeard net p m) offers) (ap (λ (x : AreaWalks). x.number) here ∙ number_at areas n zone a at) are
+
+-- an area that a router listens to is at a place within
+pub listened_inside : (net : Network) (areas : List AreaWalks) (all : List (Option ℕ)) (u zone : ℕ) (here : Option ℕ) →
+    AreListeners net areas (length net) all → u < length net → here ≡ get_or all u here → here ≡ Some zone → zone < length areas
+listened_inside net areas all u zone here are below at is =
+    (MatchOption-at_some ((n : ℕ) → ListensTo net u n → ⊥) (IsListenedPlace net areas u) zone is (listener_of net areas all u here are below at)).at.within

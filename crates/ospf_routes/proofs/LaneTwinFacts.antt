@@ -1,0 +1,135 @@
+-- Prefixes outside an area that are announced alike into it have the same entries at the routers that are in it alone.
+use Rattle.std.proofs.Common.{◌≡◌, ℕ, ◌+◌, ◌*◌, ◌<◌, List, [], length, get_or, ◌∙◌, Option, None, Some, refl, sym, subst, arith}
+use Rattle.std.specs.Option.{IfSome, option_or}
+use Rattle.std.proofs.lemmas.List.{get_or_default, length-map}
+use Rattle.std.proofs.lemmas.Option.{same_Some}
+use Rattle.net_addr.specs.Addresses.{Block}
+use Rattle.net_model.specs.Network.{Network, Connected}
+use Rattle.walk_core.specs.declared.offers.Offer.{Offer}
+use Rattle.igp_theory.specs.Ospf.{ListensTo, OspfEntry}
+use Rattle.igp_theory.proofs.TableLaws.{listens_to_one_area}
+use Rattle.route_tables.specs.AlikeOffers.{AreAlikeOffers}
+use Rattle.route_tables.specs.Entries.{AreAlikeFor}
+use Rattle.route_tables.specs.Prefixes.{prefix_at}
+use Rattle.route_tables.proofs.AlikeRoutes.{alike_lists}
+use Rattle.ospf_routes.specs.steps.Areas.{AreListeners}
+use Rattle.ospf_routes.specs.steps.Destinations.{IsDestination, ospf_prefixes}
+use Rattle.ospf_routes.specs.steps.Domain.{IsOspfDomain}
+use Rattle.ospf_routes.specs.steps.Lanes.{IsOfOspfLane, LaneOf}
+use Rattle.ospf_routes.specs.steps.LaneTwins.{AreAllLaneTwins, AreLaneAlike, IsOutsideLane}
+use Rattle.ospf_routes.specs.steps.Offered.{AreOffers}
+use Rattle.ospf_routes.specs.steps.Heard.{AreHeardAt, AreSummaries}
+use Rattle.ospf_routes.specs.steps.OfferLists.{HeardLists, heard_into}
+use Rattle.ospf_routes.specs.steps.Summarized.{IsHeard}
+use Rattle.ospf_routes.specs.steps.Twins.{AreEarlierBy, IsEarlierBy}
+use Rattle.ospf_routes.specs.declared.areas.AreaWalks.{AreaWalks}
+use Rattle.ospf_routes.specs.declared.domain.Domain.{Domain}
+use Rattle.ospf_routes.specs.declared.intra_area.Destination.{Destination}
+use Rattle.ospf_routes.proofs.CostBounds.{lists_from}
+use Rattle.ospf_routes.proofs.LaneLaws.{IsOutside, outside_where}
+use Rattle.ospf_routes.proofs.HeardFacts.{heard_of, heard_within}
+use Rattle.ospf_routes.proofs.TwinFacts.{IsDestinationAt, destination_read}
+use Rattle.ospf_routes.proofs.TwinLaws.{IsTwinFor, alike_offers_back, twin_entries}
+
+-- the prefix of d is outside the area, and this is announced of it there
+pub record IsAnnouncedOutside (l : LaneOf) (d : Destination) (offers : List Offer) : Type 0 where
+  pub is : IsDestination l.net d
+  pub outside : IsOutsideLane l d
+  pub heard : AreHeardAt l.net l.areas d.dest l.zone offers
+
+-- prefixes of which alike offers are announced are twins at a router that the second one isn't connected at
+outside_twins : (l : LaneOf) (u : ℕ) (p q : Block) (ones others : List Offer) → IsOutside l u p ones → IsOutside l u q others →
+    (Connected l.net u q → ⊥) → AreAlikeOffers ones others → IsTwinFor l.net u p q
+outside_twins l u p q ones others one other away alike = record {
+  homes = λ here. absurd (away here);
+  no_range = one.no_range;
+  other_no_range = other.no_range;
+  offered = λ n cost costs. absurd (one.no_intra (record { area = n; cost = cost; costs = costs }));
+  announced = λ n at asks listens is.
+      alike_lists (IsHeard l.net p n) (IsHeard l.net q n) ones others
+      (lists_from (IsHeard l.net p n) ones ones (into p ones one n listens) refl)
+      (lists_from (IsHeard l.net q n) others others (into q others other n listens) refl) alike;
+}
+  where
+    into : (r : Block) (offers : List Offer) → IsOutside l u r offers → (n : ℕ) → ListensTo l.net u n → AreOffers (IsHeard l.net r n) offers
+    into r offers out n listens =
+        subst (λ (m : ℕ). AreOffers (IsHeard l.net r m) offers) (listens_to_one_area out.place.listens listens) out.heard
+
+-- so they have the same entries
+lane_alike : (l : LaneOf) (d e : Destination) (ones others : List Offer) → AreListeners l.net l.areas (length l.net) l.listens →
+    IsAnnouncedOutside l d ones → IsAnnouncedOutside l e others → AreAlikeOffers ones others → AreLaneAlike l d.dest e.dest
+lane_alike l d e ones others listeners one other alike u f lane =
+    let near = outside_where l d ones u listeners one.is one.outside.no_part one.heard lane.0 lane.1 in
+    let far = outside_where l e others u listeners other.is other.outside.no_part other.heard lane.0 lane.1 in
+    let away_d : Connected l.net u d.dest → ⊥ = λ here. one.outside.away u lane.1 ((one.is.homes u).1 here) in
+    let away_e : Connected l.net u e.dest → ⊥ = λ here. other.outside.away u lane.1 ((other.is.homes u).1 here) in
+    twin_entries l.net d.dest e.dest u f (outside_twins l u d.dest e.dest ones others near far away_e alike)
+    (outside_twins l u e.dest d.dest others ones far near away_d (alike_offers_back ones others alike))
+
+-- what is read at a place
+abbrev lane_of_zone : Network → Domain → List (Option ℕ) → ℕ → LaneOf
+lane_of_zone net domain listens zone = record { net = net; areas = domain.areas.items; listens = listens; zone = zone }
+
+pub announced_at : (net : Network) (domain : Domain) (listens : List (Option ℕ)) (heard : HeardLists) (zone place : ℕ) (given : List AreaWalks)
+    (d : Destination) (offers : List Offer) → IsOspfDomain net domain → AreSummaries net domain heard → given ≡ domain.areas.items →
+    zone < length domain.areas.items → place < length domain.destinations.items → d ≡ get_or domain.destinations.items place d →
+    IsOutsideLane (record { net = net; areas = given; listens = listens; zone = zone }) d → offers ≡ heard_into heard place zone →
+    IsAnnouncedOutside (lane_of_zone net domain listens zone) d offers
+announced_at net domain listens heard zone place given d offers is are same inside within at outside read = record {
+  is = (destination_read net domain place d is within at).is.is;
+  outside = subst (λ (areas : List AreaWalks). IsOutsideLane (record { net = net; areas = areas; listens = listens; zone = zone }) d) same outside;
+  heard = subst (AreHeardAt net domain.areas.items d.dest zone) (sym read) (heard_of net domain heard place d are within at zone inside);
+}
+
+-- its list is there
+pub announced_within : (net : Network) (domain : Domain) (heard : HeardLists) (place zone : ℕ) → AreSummaries net domain heard →
+    place < length domain.destinations.items → zone < length domain.areas.items → place * heard.areas + zone < length heard.lists
+announced_within net domain heard place zone are within inside =
+    heard_within net domain.areas.items (ospf_prefixes domain.destinations.items) (length domain.destinations.items) heard are place within zone
+    (subst (λ (n : ℕ). zone < n) (sym are.areas_are) inside)
+
+-- an earlier prefix that is announced alike
+pub outside_earlier : (net : Network) (domain : Domain) (listens : List (Option ℕ)) (zone place earlier : ℕ) (d e : Destination)
+    (ones others : List Offer) → AreListeners net domain.areas.items (length net) listens → earlier < place →
+    IsDestinationAt net domain earlier d → IsDestinationAt net domain place e →
+    IsAnnouncedOutside (lane_of_zone net domain listens zone) d ones → IsAnnouncedOutside (lane_of_zone net domain listens zone) e others →
+    AreAlikeOffers ones others → IsEarlierBy (AreLaneAlike (lane_of_zone net domain listens zone)) (ospf_prefixes domain.destinations.items) place earlier
+outside_earlier net domain listens zone place earlier d e ones others listeners before near far one other alike = (
+  before,
+  let l : LaneOf = lane_of_zone net domain listens zone in
+      let dests : List Block = ospf_prefixes domain.destinations.items in
+      subst (λ (p : Block). AreLaneAlike l p (prefix_at dests place)) near.prefix
+      (subst (λ (q : Block). AreLaneAlike l d.dest q) far.prefix (lane_alike l d e ones others listeners one other alike)),
+)
+
+-- what holds of each number that one of two options names
+pub or_each : (P : ℕ → Type 0) (one other : Option ℕ) → IfSome one P → ((k : ℕ) → other ≡ Some k → P k) → (k : ℕ) → option_or one other ≡ Some k → P k
+or_each P None other is each k same = each k same
+or_each P (Some y) other is each k same = subst P (same_Some y k same) is
+
+-- What is read for a lane
+
+-- prefixes that are alike in one sense are so in another that follows
+pub earlier_then : (one other : Block → Block → Type 0) (dests : List Block) (n : ℕ) (named : List (Option ℕ)) → ((p q : Block) → one p q → other p q) →
+    AreEarlierBy one dests n named → AreEarlierBy other dests n named
+earlier_then one other dests n named follows are = record {
+  count = are.count;
+  each = λ place earlier is.
+      let both = are.each place earlier is in
+      (both.0, follows (prefix_at dests earlier) (prefix_at dests place) both.1);
+}
+
+-- what is named for an area is so for the routers of its lane
+pub lane_earlier : (net : Network) (domain : Domain) (listens : List (Option ℕ)) (twins : List (List (Option ℕ))) (lane : ℕ) (here : List (Option ℕ)) →
+    AreAllLaneTwins net domain listens twins → lane < length domain.areas.items → here ≡ get_or twins lane here →
+    AreEarlierBy (AreAlikeFor (IsOfOspfLane (record { net = net; areas = domain.areas.items; listens = listens; zone = lane })) (OspfEntry net))
+    (ospf_prefixes domain.destinations.items) (length (ospf_prefixes domain.destinations.items)) here
+lane_earlier net domain listens twins lane here are within here_is =
+    let l : LaneOf = record { net = net; areas = domain.areas.items; listens = listens; zone = lane } in
+    let dests : List Block = ospf_prefixes domain.destinations.items in
+    let long : length dests ≡ length domain.destinations.items = length-map domain.destinations.items (λ (d : Destination). d.dest) in
+    let read : get_or twins lane [] ≡ here = get_or_default twins lane [] here (omega (arith, within, are.count)) ∙ sym here_is in
+    earlier_then (AreLaneAlike l) (AreAlikeFor (IsOfOspfLane l) (OspfEntry net)) dests (length dests) here
+    (λ p q same u e is. same u e (is.below, is.inner within))
+    (subst (AreEarlierBy (AreLaneAlike l) dests (length dests)) read
+    (subst (λ (n : ℕ). AreEarlierBy (AreLaneAlike l) dests n (get_or twins lane [])) (sym long) (are.each lane within)))

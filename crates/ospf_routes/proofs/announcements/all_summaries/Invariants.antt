@@ -1,0 +1,10 @@
+use Rattle.std.proofs.Common.{◌≤◌, length}
+use Rattle.ospf_routes.specs.steps.Destinations.{ospf_prefixes}
+use Rattle.ospf_routes.specs.steps.Heard.{AreHeardBelow}
+use Rattle.ospf_routes.proofs.announcements.all_summaries.Given as goal
+
+abbrev pub invariant-loop-destination : goal.invariant-loop-destination
+invariant-loop-destination l = record {
+  heard : AreHeardBelow l.net l.domain.areas.items (ospf_prefixes l.domain.destinations.items) l.destination-index l.summaries;
+  within : l.destination-index ≤ length l.domain.destinations.items;
+}

@@ -1,0 +1,35 @@
+use Rattle.std.proofs.Common.{◌<◌, ◌+◌, ℕ, List, Option, length, subst, sym, arith}
+use Rattle.net_addr.specs.Addresses.{Block}
+use Rattle.net_model.specs.Network.{Network}
+use Rattle.igp_theory.specs.Ospf.{OspfEntry}
+use Rattle.route_tables.specs.Entries.{AreAlikeFor, AreAlikePrefixes}
+use Rattle.ospf_routes.specs.steps.Destinations.{ospf_prefixes}
+use Rattle.ospf_routes.specs.steps.Lanes.{IsOfOspfLane, LaneOf}
+use Rattle.ospf_routes.specs.steps.Networks.{AreEarlierIn, OspfNetwork}
+use Rattle.ospf_routes.specs.steps.Twins.{AreEarlierBy, AreTwins}
+use Rattle.ospf_routes.proofs.LaneTwinFacts.{earlier_then, lane_earlier}
+use Rattle.ospf_routes.proofs.protocol.Ospf.earlier.Goals as goal
+
+pub returns-then-lane-len : goal.returns-then-lane-len
+returns-then-lane-len c =
+    let own = c.self.inside in
+    let net : Network = own.net.now in
+    let dests : List Block = ospf_prefixes own.domain.destinations.items in
+    let l : LaneOf = record { net = net; areas = own.domain.areas.items; listens = own.listens.items; zone = c.args.lane } in
+    subst (λ (ospf : OspfNetwork). AreEarlierIn ospf c.args.lane c.as_slice.result.now) c.self.view_is
+    (earlier_then (AreAlikePrefixes (length net) (OspfEntry net)) (AreAlikeFor (IsOfOspfLane l) (OspfEntry net)) dests (length dests)
+    c.as_slice.result.now (λ p q same u e is. same u e is.below)
+    (subst (λ (l : List (Option ℕ)). AreTwins net dests l) (sym c.as_slice.ensures.value) c.self.invariant.twins))
+
+pub returns : goal.returns
+returns c =
+    let own = c.self.inside in
+    let lane : ℕ = c.args.lane in
+    let dests : List Block = ospf_prefixes own.domain.destinations.items in
+    let l : LaneOf = record { net = own.net.now; areas = own.domain.areas.items; listens = own.listens.items; zone = lane } in
+    let below : lane < length own.domain.areas.items + 1 =
+    subst (λ (ospf : OspfNetwork). lane < length ospf.domain.areas.items + 1) (sym c.self.view_is) c.requires in
+    let within : lane < length own.domain.areas.items = omega (arith, c.len.ensures) in
+    subst (λ (ospf : OspfNetwork). AreEarlierIn ospf lane c.as_slice-2.result.now) c.self.view_is
+    (subst (AreEarlierBy (AreAlikeFor (IsOfOspfLane l) (OspfEntry own.net.now)) dests (length dests)) (sym c.as_slice-2.ensures)
+    (lane_earlier own.net.now own.domain own.listens.items own.lane_twins.items lane c.index.result.now c.self.invariant.lane_twins within c.index.ensures))
