@@ -1,13 +1,11 @@
 -- What a list of prefixes has that gained others.
-use Rattle.std.proofs.Common.{◌≡◌, ℕ, ◌+◌, inl, inr, List, [], ◌∷◌, ◌++◌, take, Some, slice_get, Contains, ⊎_elim, sym, subst, add-one}
+use Rattle.std.proofs.Common.{◌≡◌, ℕ, ◌+◌, inl, inr, List, [], ◌++◌, Contains, ⊎_elim, sym, subst, add-one}
 use Rattle.std.proofs.lemmas.List.Elements.{Contains-append_left, Contains-append_right, Contains-append_cases}
 use Rattle.net_addr.specs.Addresses.{Block}
-use Rattle.net_model.proofs.Members.{Contains-none, Contains-cases}
-use Rattle.route_core.proofs.TableLaws.{Contains-from_place}
+use Rattle.net_model.proofs.Members.{Contains-none}
 use Rattle.route_core.specs.Tables.{table_prefixes}
 use Rattle.route_core.specs.declared.entry.Entry.{Entry}
 use Rattle.prefix_atoms.specs.Lists.{source_prefixes, GainsPrefixes}
-use Rattle.prefix_atoms.proofs.Collected.{take_place}
 
 -- nothing is gained
 pub gains_nothing : (xs : List Block) → GainsPrefixes xs xs []
@@ -21,15 +19,6 @@ gains_behind xs ys more is p = (
       (⊎_elim (λ l. Contains-append_left xs more p l) (λ r. Contains-append_right xs more p r) h),
 )
 
--- a prefix that stands in the list already is gained by none more
-pub gains_found : (xs : List Block) (place : ℕ) (q : Block) → slice_get xs place ≡ Some q → GainsPrefixes xs xs (q ∷ [])
-gains_found xs place q at p =
-    let known : Contains xs q = Contains-from_place xs place q at in (
-      λ h. inl h,
-      λ h. ⊎_elim (λ l. l)
-          (λ r. ⊎_elim (λ same. subst (Contains xs) same known) (λ none. absurd (Contains-none p none)) (Contains-cases q [] p r)) h,
-    )
-
 -- some are gained first, and others then
 pub gains_both : (xs ys zs one two : List Block) → GainsPrefixes xs ys one → GainsPrefixes ys zs two → GainsPrefixes xs zs (one ++ two)
 gains_both xs ys zs one two first second p = (
@@ -42,12 +31,6 @@ gains_both xs ys zs one two first second p = (
       (λ r. ⊎_elim (λ m. inl ((first p).1 (inr m))) (λ m. inr m) (Contains-append_cases one two p r))
       h),
 )
-
--- the next prefix of a list
-pub next_gains : (own : List Block) (i : ℕ) (q : Block) (xs ys zs : List Block) → slice_get own i ≡ Some q → GainsPrefixes xs ys (take i own)
-    → GainsPrefixes ys zs (q ∷ []) → GainsPrefixes xs zs (take (i + 1) own)
-next_gains own i q xs ys zs at before next =
-    subst (GainsPrefixes xs zs) (sym (take_place own i q at)) (gains_both xs ys zs (take i own) (q ∷ []) before next)
 
 -- the prefixes of the next router's table
 pub source_gains : (table : ℕ → List (Block × Entry)) (n : ℕ) (entries : List (Block × Entry)) (xs ys zs : List Block) → entries ≡ table n

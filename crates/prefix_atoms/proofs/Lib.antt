@@ -2,6 +2,7 @@ mod Ascending
 mod Repeats
 pub mod Collected
 mod Gained
+mod Unseen
 pub mod ClassLaws
 pub mod ClassFacts
 pub mod LongestSteps
@@ -10,5 +11,4 @@ mod CutSteps
 mod Occurrences
 mod PickSteps
 pub mod NestedLaws
-pub mod RowFacts
 pub mod Pushed

@@ -176,16 +176,13 @@ target_from_list net a None h = λ p target.
 target_from_list net a (Some p) h = IsLongestMatch-same (Contains (all_originated net)) (IsOriginated net) a p (λ q.
     (originated_from_list net q, list_from_originated net q)) h
 
--- a list has the prefixes of the network and of both sources: it was made of the network's, left out repeats, gained those of the sources, and left out
--- repeats again
-pub gathered : (start own distinct first second all net old new : List Block) → start ≡ [] → own ≡ start ++ net
-    → ((p : Block) → Contains distinct p ↔ Contains own p) → GainsPrefixes distinct first old → GainsPrefixes first second new
-    → ((p : Block) → Contains all p ↔ Contains second p) → (p : Block) → Contains all p ↔ Contains ((net ++ old) ++ new) p
-gathered start own distinct first second all net old new none one once two three again p =
+-- a list has the prefixes of the network and of both sources: it was made of the network's, gained those of the sources, and left out repeats
+pub gathered : (start own first second all net old new : List Block) → start ≡ [] → own ≡ start ++ net → GainsPrefixes own first old
+    → GainsPrefixes first second new → ((p : Block) → Contains all p ↔ Contains second p) → (p : Block) → Contains all p ↔ Contains ((net ++ old) ++ new) p
+gathered start own first second all net old new none one two three again p =
     let made : GainsPrefixes [] own net = gains_behind [] own net (one ∙ ap (λ (ps : List Block). ps ++ net) none) in
-    let kept : GainsPrefixes [] distinct net = λ q. (λ h. (made q).0 ((once q).0 h), λ h. (once q).1 ((made q).1 h)) in
     let gained : GainsPrefixes [] second ((net ++ old) ++ new) =
-    gains_both [] first second (net ++ old) new (gains_both [] distinct first net old kept two) three in (
+    gains_both [] first second (net ++ old) new (gains_both [] own first net old made two) three in (
       λ h. ⊎_elim (λ l. absurd (Contains-none p l)) (λ r. r) ((gained p).0 ((again p).0 h)),
       λ h. (again p).1 ((gained p).1 (inr h)),
     )

@@ -1,13 +1,14 @@
 -- Lists of prefixes: what is added to them, where they begin and end, the longest match of each address.
 use Rattle.std.specs.Prelude.{◌≡◌, ℕ, zero, suc, ◌^◌, ◌<◌, ◌≤◌, ◌⊎◌, ◌↔◌, if◌then◌else◌, ◌&&◌, ◌||◌, is_some, List, [], ◌++◌, length}
-use Rattle.std.specs.Prelude.{slice_index, slice_index_or, Option, None, All, Contains}
+use Rattle.std.specs.Prelude.{slice_index, slice_index_or, Option, None, Some, All, Contains}
 use Rattle.std.specs.List.{filter_map, flat_map}
 use Rattle.std.specs.List.Sorted.{IsStrictlyIncreasing}
-use Rattle.net_addr.specs.Addresses.{Block}
+use Rattle.net_addr.specs.Addresses.{Block, default_prefix}
 use Rattle.net_addr.specs.Boundaries.{IsBoundary}
 use Rattle.net_addr.specs.LongestMatches.{IsBestMatch}
 use Rattle.net_model.specs.Configuration.{Configuration}
 use Rattle.net_model.specs.declared.interface.Interface.{Interface}
+use Rattle.route_core.specs.Rows.{KeptTable, kept_number}
 use Rattle.route_core.specs.Tables.{table_prefixes}
 use Rattle.route_core.specs.declared.entry.Entry.{Entry}
 use Rattle.prefix_atoms.specs.Classes.{Classes, IsClassing}
@@ -24,6 +25,19 @@ all_originated net = flat_map (λ (c : Configuration). filter_map originated_sub
 abbrev pub source_prefixes : (ℕ → List (Block × Entry)) → ℕ → List Block
 source_prefixes table zero = []
 source_prefixes table (suc n) = source_prefixes table n ++ table_prefixes (table n)
+
+-- the prefix at a place, where a table has an entry for it
+abbrev pub seen_prefix : KeptTable → ℕ → Option Block
+seen_prefix kept place = if is_some (kept_number kept place) then Some (slice_index_or kept.prefixes place default_prefix) else None
+
+-- the place, where it has none
+abbrev pub unseen_place : KeptTable → ℕ → Option ℕ
+unseen_place kept place = if is_some (kept_number kept place) then None else Some place
+
+-- the prefixes at all other places than these are among those that were found
+pub record AreUnseen (shared : List Block) (unseen : List ℕ) (found : List Block) : Type 0 where
+  pub places : All (λ (place : ℕ). place < length shared) unseen
+  pub seen : (place : ℕ) → place < length shared → Contains unseen place ⊎ Contains found (slice_index_or shared place default_prefix)
 
 -- a list of prefixes gains others: it has those that it had, and these
 abbrev pub GainsPrefixes : List Block → List Block → List Block → Type 0

@@ -3,7 +3,7 @@ use Rattle.std.specs.Prelude.{◌≡◌, ℕ, ◌+◌, ◌<◌, ◌==◌, ◌⊎
 use Rattle.std.specs.Prelude.{slice_index_or, Option, None, Some, Contains}
 use Rattle.net_addr.specs.Addresses.{Block, ContainsAddress}
 use Rattle.net_addr.specs.LongestMatches.{HasNoMatch, LongestAt}
-use Rattle.route_core.specs.declared.row.Row.{Row}
+use Rattle.route_core.specs.Rows.{Row}
 use Rattle.prefix_atoms.specs.declared.longest.Longest.{Longest}
 
 -- no prefix is found

@@ -62,7 +62,6 @@ impl Atoms {
     {
         let mut prefixes = Vec::new(alloc);
         add_net(&mut prefixes, net)?;
-        keep_distinct_prefixes(&mut prefixes);
         add_source(alloc, &mut prefixes, old)?;
         add_source(alloc, &mut prefixes, new)?;
         keep_distinct_prefixes(&mut prefixes);

@@ -1,10 +1,9 @@
-ghost use Rattle.std.specs.Prelude.{◌≡◌, ◌++◌, ◌∷◌, [], IfOk, OnOk, map};
-ghost use Rattle.std.specs.List.{cons_option, filter_map};
+ghost use Rattle.std.specs.Prelude.{◌≡◌, ◌<◌, ◌++◌, [], IfOk, OnOk, length, map};
+ghost use Rattle.std.specs.List.{cons_option, filter_map, range_with_len};
 ghost use Rattle.net_model.specs.DestLists.{all_dests, subnet_if_up};
-ghost use Rattle.prefix_atoms.specs.Lists.{GainsPrefixes, all_originated, originated_subnet, source_prefixes};
-ghost use Rattle.route_core.specs.Rows.{ArePlacesBelow, row_prefixes};
+ghost use Rattle.prefix_atoms.specs.Lists.{AreUnseen, GainsPrefixes, all_originated, originated_subnet, seen_prefix, source_prefixes, unseen_place};
+ghost use Rattle.route_core.specs.Rows.{IsTable, kept_in, row_prefixes, rows_in};
 
-use crate::guesses::Guesses;
 use net_addr::Prefix;
 use net_model::{Interface, Net, Range};
 use route_core::{RouteSource, TableParts};
@@ -34,8 +33,8 @@ pub fn add_net(prefixes: &mut Vec<Prefix>, net: &Net) -> Result<(), OutOfMemory>
     Ok(())
 }
 
-/// Adds the prefixes of all tables of a source. Those that are found among the prefixes, which ascend at first, aren't
-/// added once more.
+/// Adds the prefixes that occur in the tables of a source, each once. It takes time of the prefixes, and for each router of those
+/// that no table before had an entry for.
 pub fn add_source<S: RouteSource>(
     alloc: Global,
     prefixes: &mut Vec<Prefix>,
@@ -43,47 +42,63 @@ pub fn add_source<S: RouteSource>(
 ) -> Result<(), OutOfMemory>
     ensures { OnOk result (GainsPrefixes prefixes.old.items prefixes.new.items (source_prefixes (S.table source.now) (S.routers source.now))) }
 {
-    let mut places = Guesses::new(alloc);
+    let mut unseen = shared_places(alloc, source)?;
     for router in 0..source.routers() {
         let table = source.table(router).parts();
-        add_table(prefixes, &mut places, table)?;
+        unseen = add_table(alloc, prefixes, unseen.as_slice(), table)?;
     }
     Ok(())
 }
 
-/// Adds the prefixes of a table's rows.
-fn add_table(
-    prefixes: &mut Vec<Prefix>,
-    places: &mut Guesses,
-    table: TableParts<'_>,
-) -> Result<(), OutOfMemory>
-    requires { ArePlacesBelow table.prefixes.now table.rows.now }
-    ensures { OnOk result (GainsPrefixes prefixes.old.items prefixes.new.items (row_prefixes table.entry.prefixes.now table.entry.rows.now)) }
+/// The places of the prefixes that the tables of a source share. 2^32 prefixes or more give `OutOfMemory`.
+fn shared_places<S: RouteSource>(alloc: Global, source: &S) -> Result<Vec<u32>, OutOfMemory>
+    ensures { IfOk result (λ places. 0 < S.routers source.now → places.items ≡ range_with_len 0 (length (S.prefixes source.now))) }
 {
-    places.make_room(table.prefixes.len())?;
-    for row in table.rows {
-        let prefix = table.prefixes[row.place as usize];
-        add_unless_found(prefixes, places, prefix, row.place)?;
+    if source.routers() == 0 {
+        return Ok(Vec::new(alloc));
     }
-    Ok(())
+    let Ok(count) = u32::try_from(source.table(0).parts().prefixes.len()) else {
+        return Err(OutOfMemory);
+    };
+    (0..count).collect(alloc)
 }
 
-/// Adds a prefix, which its table has at this place, unless it is found.
-#[inline(always)]
-fn add_unless_found(
+/// Adds the prefixes at those of some places for which a table has an entry, and says the other places.
+fn add_table(
+    alloc: Global,
     prefixes: &mut Vec<Prefix>,
-    places: &mut Guesses,
-    prefix: Prefix,
+    unseen: &[u32],
+    table: TableParts<'_>,
+) -> Result<Vec<u32>, OutOfMemory>
+    requires table { IsTable (kept_in table) }
+    requires unseen { AreUnseen table.prefixes.now unseen.now prefixes.old.items }
+    ensures gains { OnOk result (GainsPrefixes prefixes.old.items prefixes.new.items
+        (row_prefixes table.entry.prefixes.now (rows_in (kept_in table.entry)))) }
+    ensures unseen { IfOk result (λ left. AreUnseen table.entry.prefixes.now left.items prefixes.new.items) }
+{
+    let mut left = Vec::new(alloc);
+    for place in unseen {
+        add_place(prefixes, &mut left, table, *place)?;
+    }
+    Ok(left)
+}
+
+/// Adds the prefix at a place where the table has an entry for it, and else leaves the place.
+#[inline(always)]
+fn add_place(
+    prefixes: &mut Vec<Prefix>,
+    left: &mut Vec<u32>,
+    table: TableParts<'_>,
     place: u32,
 ) -> Result<(), OutOfMemory>
-    ensures { OnOk result (GainsPrefixes prefixes.old.items prefixes.new.items (prefix ∷ [])) }
+    requires table { IsTable (kept_in table) }
+    requires place { place < length table.prefixes.now }
+    ensures seen { OnOk result (prefixes.new.items ≡ prefixes.old.items ++ cons_option (seen_prefix (kept_in table.entry) place) []) }
+    ensures left { OnOk result (left.new.items ≡ left.old.items ++ cons_option (unseen_place (kept_in table.entry) place) []) }
 {
-    match places.find(prefixes.as_slice(), prefix, place) {
-        Some(_) => Ok(()),
-        None => {
-            places.keep(place, Some(prefixes.len()));
-            Ok(prefixes.push(prefix)?)
-        }
+    match table.number(place as usize) {
+        Some(_) => Ok(prefixes.push(table.prefixes[place as usize])?),
+        None => Ok(left.push(place)?),
     }
 }
 

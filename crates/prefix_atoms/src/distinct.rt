@@ -1,4 +1,4 @@
-ghost use Rattle.std.specs.Prelude.{◌↔◌, ◌<◌, ◌^◌, ℕ, All, Contains};
+ghost use Rattle.std.specs.Prelude.{◌≡◌, ◌↔◌, ◌<◌, ◌^◌, ℕ, All, Contains, IfNone, IfSome, Some, slice_get};
 ghost use Rattle.std.specs.List.Sorted.{IsStrictlyIncreasing};
 ghost use Rattle.net_addr.specs.Addresses.{Block};
 ghost use Rattle.prefix_atoms.specs.Nested.{AreAscendingPrefixes};
@@ -12,6 +12,14 @@ pub fn keep_distinct_prefixes(prefixes: &mut Vec<Prefix>)
 {
     prefixes.sort_unstable();
     prefixes.dedup();
+}
+
+/// Where a prefix stands among prefixes. Where they don't ascend some are missed.
+pub fn place_of_prefix(prefixes: &[Prefix], prefix: Prefix) -> Option<usize>
+    ensures found { IfSome result (λ i. slice_get prefixes.now i ≡ Some prefix) }
+    ensures missed { AreAscendingPrefixes prefixes.now → IfNone result (¬ Contains prefixes.now prefix) }
+{
+    prefixes.binary_search(&prefix).ok()
 }
 
 /// Leaves each number of a list once, in ascending order.

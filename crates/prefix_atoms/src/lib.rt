@@ -3,14 +3,13 @@
 //! | File | What it holds |
 //! |---|---|
 //! | `atoms` | the classes, each with its least address and its target |
-//! | `collect`, `distinct` | the prefixes that occur, each once |
+//! | `collect`, `distinct` | the prefixes that occur, each once, and where one stands among them |
 //! | `cuts`, `number` | where prefixes begin and end, and the intervals between, numbered by their longest prefix |
 //! | `longest`, `near` | the longest of some prefixes for each of some ascending addresses |
 //! | `parents` | the longest shorter prefix that contains a prefix: so the prefixes of an address are a way up |
-//! | `guesses` | where the prefixes of tables stand among all, mostly where they stood for the router before |
 //! | `law` | that the addresses of a class act alike |
 //!
-//! Takes time of the entries of all tables, and of the distinct prefixes, in order.
+//! Takes time of the distinct prefixes, in order, and for each router of those that no table before had an entry for.
 #![tactic(auto)]
 
 // classes
@@ -22,7 +21,6 @@ mod parents;
 // prefixes, and the longest of them
 mod collect;
 mod distinct;
-mod guesses;
 mod longest;
 mod near;
 
@@ -31,7 +29,7 @@ mod law;
 
 pub use atoms::Atoms;
 pub use collect::add_connected;
-pub use guesses::{Guesses, place_of_prefix};
+pub use distinct::place_of_prefix;
 pub use law::one_class_acts_alike;
 pub use longest::{Longest, NOTHING};
 pub use route_core::OutOfMemory;

@@ -1,6 +1,6 @@
 use Rattle.std.proofs.Common.{◌≡◌, ℕ, Contains, Option, Some, IfNone, IfSome, slice_get, sym, subst}
 use Rattle.prefix_atoms.proofs.Repeats.{prefix_found, prefix_missed}
-use Rattle.prefix_atoms.proofs.guesses.place_of_prefix.Goals as goal
+use Rattle.prefix_atoms.proofs.distinct.place_of_prefix.Goals as goal
 
 pub returns-clause-found : goal.returns-clause-found
 returns-clause-found c = subst (λ (found : Option ℕ). IfSome found (λ place. slice_get c.args.prefixes.now place ≡ Some c.args.prefix))
