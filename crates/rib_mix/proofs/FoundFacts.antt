@@ -1,16 +1,15 @@
 -- The rows of a table: what lawful tables keep, and the entry of a row that is found.
-use Rattle.std.proofs.Common.{◌≡◌, ℕ, ◌<◌, List, length, map, get_or, Some, All, Contains, slice_get, ap, refl, sym, subst, ◌∙◌}
+use Rattle.std.proofs.Common.{◌≡◌, ℕ, ◌<◌, List, length, map, get_or, Some, All, Contains, slice_get, ap, sym, subst, ◌∙◌}
 use Rattle.std.proofs.lemmas.List.{length-map}
 use Rattle.std.proofs.lemmas.Option.{same_Some, slice_get-get_or, slice_get-map, slice_get_within, get_or_from_slice_get}
 use Rattle.std.specs.Option.{option_map}
 use Rattle.net_addr.specs.Addresses.{Block, IsBlock}
-use Rattle.route_core.specs.Rows.{listed_row, row_prefix}
+use Rattle.route_core.specs.Rows.{Row, kept_in, listed_row, row_prefix, rows_in}
 use Rattle.route_core.specs.Tables.{IsListed, table_prefixes}
 use Rattle.route_core.specs.declared.entry.Entry.{Entry}
 use Rattle.route_core.specs.declared.entry.Entry.TheVariants.{Discard}
-use Rattle.route_core.specs.declared.row.Row.{Row}
 use Rattle.route_core.specs.declared.table.TableParts.{TableParts}
-use Rattle.route_core.proofs.RowLaws.{prefixes_of_table}
+use Rattle.route_core.proofs.RowLaws.{prefixes_of_rows}
 use Rattle.route_core.proofs.TableLaws.{Contains-from_place, prefix_of_entry}
 use Rattle.prefix_atoms.specs.Longest.{IsFoundAt, number_at}
 use Rattle.prefix_atoms.specs.declared.longest.Longest.{Longest}
@@ -20,8 +19,7 @@ use Rattle.rib_mix.proofs.RowSteps.{lawful_from}
 
 -- the prefixes of the rows are those of the entries
 pub rows_prefixes : (parts : TableParts) → prefixes_in parts ≡ table_prefixes (table_of parts)
-rows_prefixes parts =
-    prefixes_of_table parts.prefixes.now parts.prefixes.now parts.entries.now parts.rows.now parts.rows.now (table_of parts) refl refl refl
+rows_prefixes parts = prefixes_of_rows parts.prefixes.now parts.entries.now (rows_in (kept_in parts))
 
 -- what the rows of a table keep, whose prefixes are blocks
 pub lawful_table : (parts : TableParts) → HasTableRows parts → All IsBlock (prefixes_in parts)
@@ -37,10 +35,10 @@ prefix_listed parts p listed =
 
 -- the entry of the row that is found is kept under its number
 pub entry_kept : (parts : TableParts) (a : ℕ) (found : Longest) → HasTableRows parts
-    → (at : IsFoundAt (prefixes_in parts) (number_at parts.rows.now) a found)
+    → (at : IsFoundAt (prefixes_in parts) (number_at (rows_in (kept_in parts))) a found)
     → (e : Entry) × (slice_get parts.entries.now found.number ≡ Some e) × IsListed (table_of parts) at.prefix e
 entry_kept parts a found rows at =
-    let list : List Row = parts.rows.now in
+    let list : List Row = rows_in (kept_in parts) in
     let place : ℕ = at.place in
     let many : place < length list = subst (λ (n : ℕ). place < n) (length-map list (row_prefix parts.prefixes.now))
     (slice_get_within (prefixes_in parts) place at.prefix at.stands) in

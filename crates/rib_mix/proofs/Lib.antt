@@ -8,5 +8,5 @@ mod FoundFacts
 mod SubnetFacts
 mod RowSteps
 mod RowLaws
-mod MarkLaws
-mod ClimbLaws
+mod SpotLaws
+mod UpLaws

@@ -11,20 +11,12 @@ use Rattle.prefix_atoms.specs.Classes.{AreClasses, Classes, SourceEntry, connect
 use Rattle.rib_mix.specs.Cells.{IsCell}
 use Rattle.rib_mix.specs.Mixture.{Mixture}
 use Rattle.rib_mix.specs.Rows.{AllOccur, AreAllSubnets, AreRows, Ground, IsMixed, MixedParts}
-use Rattle.rib_mix.specs.Sites.{AreTablesInParts, AreTablesOf, prefixes_in, table_of}
+use Rattle.rib_mix.specs.Sites.{AreTablesOf, prefixes_in, table_of}
 use Rattle.rib_mix.specs.declared.both_tables.BothTables.{BothTables}
 use Rattle.rib_mix.specs.declared.cell.Cell.{Cell}
 use Rattle.rib_mix.proofs.FoundFacts.{rows_prefixes}
 use Rattle.rib_mix.proofs.ClassUses.{IsPlace, Place, sample}
 use Rattle.prefix_atoms.proofs.Pushed.{at_place}
-
-pub in_parts : (old new : ℕ → List (Block × Entry)) (routers : ℕ) (tables : List BothTables) → AreTablesOf old new routers tables
-    → AreTablesInParts routers tables
-in_parts old new routers tables are = record {
-  count = are.count;
-  olds = λ u both at. (are.olds u both at).rows;
-  news = λ u both at. (are.news u both at).rows;
-}
 
 -- the prefixes of all routers are those that occur
 pub all_occur : (old new : ℕ → List (Block × Entry)) (o n : ℕ) (g : Ground) (classes : Classes) → n ≡ o
@@ -33,11 +25,11 @@ all_occur old new o n g classes same are tables = record {
   connected = λ u p c. (are.occur p).1 (connected_occurs u c);
   olds = λ u both at p has.
       let within : u < o = omega (arith, slice_get_within g.tables u both at, tables.count) in
-      let e = listed_in both.old (old u) p (tables.olds u both at).listed has in
+      let e = listed_in both.old (old u) p (tables.olds u both at) has in
       (are.occur p).1 (old_occurs u e.0 (within, e.1));
   news = λ u both at p has.
       let within : u < n = omega (arith, slice_get_within g.tables u both at, tables.count) in
-      let e = listed_in both.new (new u) p (tables.news u both at).listed has in
+      let e = listed_in both.new (new u) p (tables.news u both at) has in
       (are.occur p).1 (new_occurs u e.0 (within, e.1));
 }
   where
@@ -76,7 +68,7 @@ home old new kept u both row is router tables read =
     let at = slice_get_read kept.ground.tables (length kept.ground.tables) u both refl (omega (arith, is.tables_are.count, router)) tables in
     let here = is.rows_are.each u row (slice_get_read kept.rows (length kept.rows) u row refl (omega (arith, is.rows_are.count, router)) read) both at in
     record {
-      place = record { router = router; olds = (is.tables_are.olds u both at).listed; news = (is.tables_are.news u both at).listed; classes = is.classes_are };
+      place = record { router = router; olds = is.tables_are.olds u both at; news = is.tables_are.news u both at; classes = is.classes_are };
       count = here.count;
       cells = here.each;
     }

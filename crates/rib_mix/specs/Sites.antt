@@ -4,7 +4,7 @@ use Rattle.net_addr.specs.Addresses.{Block, IsBlock}
 use Rattle.net_model.specs.Configuration.{Configuration}
 use Rattle.net_model.specs.Network.{Network, Connected, HasConfiguration}
 use Rattle.net_model.specs.Refusals.{IsNetwork}
-use Rattle.route_core.specs.Rows.{AreTableRows, AreTableParts, listed_rows, row_prefixes}
+use Rattle.route_core.specs.Rows.{AreTableRows, IsTable, kept_in, listed, row_prefixes, rows_in}
 use Rattle.route_core.specs.Tables.{HasDistinctPrefixes, IsListed}
 use Rattle.route_core.specs.declared.entry.Entry.{Entry}
 use Rattle.route_core.specs.declared.table.TableParts.{TableParts}
@@ -25,15 +25,15 @@ pub record Site : Type 0 where
 
 -- the entries of a table in its parts
 abbrev pub table_of : TableParts → List (Block × Entry)
-table_of parts = listed_rows parts.prefixes.now parts.entries.now parts.rows.now
+table_of parts = listed (kept_in parts)
 
 -- its prefixes, by its rows
 abbrev pub prefixes_in : TableParts → List Block
-prefixes_in parts = row_prefixes parts.prefixes.now parts.rows.now
+prefixes_in parts = row_prefixes parts.prefixes.now (rows_in (kept_in parts))
 
 -- the rows are those of a table
 abbrev pub HasTableRows : TableParts → Type 0
-HasTableRows parts = AreTableRows parts.prefixes.now parts.entries.now parts.rows.now
+HasTableRows parts = AreTableRows parts.prefixes.now parts.entries.now (rows_in (kept_in parts))
 
 -- a kind of entries: by their prefix, distance and what is used
 abbrev pub Kind : Type 1
@@ -52,13 +52,13 @@ UsesAt s phase = Uses (own_migration s) s.u phase s.a
 
 -- the longest entry of a table, by its number
 abbrev pub IsFoundIn : TableParts → ℕ → Longest → Type 0
-IsFoundIn parts a found = IsKept (prefixes_in parts) (number_at parts.rows.now) a found
+IsFoundIn parts a found = IsKept (prefixes_in parts) (number_at (rows_in (kept_in parts))) a found
 
 -- what is found there, of these connected prefixes and of both tables
 pub record AreFound (s : Site) (found : Found) : Type 0 where
   pub subnets : List Block
   pub subnets_are : (p : Block) → Contains subnets p ↔ Connected s.net s.u p
-  pub connected : IsKept subnets (λ _. 0) s.a found.connected
+  pub connected : IsKept subnets (λ place. place) s.a found.connected
   pub old : IsFoundIn s.tables.old s.a found.old
   pub new : IsFoundIn s.tables.new s.a found.new
 
@@ -84,11 +84,18 @@ pub record IsLawfulSite (s : Site) : Type 0 where
 -- both tables of each of so many routers, in their parts
 pub record AreTablesOf (old new : ℕ → List (Block × Entry)) (routers : ℕ) (tables : List BothTables) : Type 0 where
   pub count : length tables ≡ routers
-  pub olds : (u : ℕ) (both : BothTables) → slice_get tables u ≡ Some both → AreTableParts both.old (old u)
-  pub news : (u : ℕ) (both : BothTables) → slice_get tables u ≡ Some both → AreTableParts both.new (new u)
+  pub olds : (u : ℕ) (both : BothTables) → slice_get tables u ≡ Some both → table_of both.old ≡ old u
+  pub news : (u : ℕ) (both : BothTables) → slice_get tables u ≡ Some both → table_of both.new ≡ new u
 
--- as many, each the parts of some tables
+-- the parts of a table that keeps these prefixes
+pub record IsTableOver (prefixes : List Block) (parts : TableParts) : Type 0 where
+  pub table : IsTable (kept_in parts)
+  pub prefixes_are : parts.prefixes.now ≡ prefixes
+
+-- as many, each the parts of some tables, of which the old ones share their prefixes and so do the new ones
 pub record AreTablesInParts (routers : ℕ) (tables : List BothTables) : Type 0 where
+  pub old_prefixes : List Block
+  pub new_prefixes : List Block
   pub count : length tables ≡ routers
-  pub olds : (u : ℕ) (both : BothTables) → slice_get tables u ≡ Some both → HasTableRows both.old
-  pub news : (u : ℕ) (both : BothTables) → slice_get tables u ≡ Some both → HasTableRows both.new
+  pub olds : (u : ℕ) (both : BothTables) → slice_get tables u ≡ Some both → IsTableOver old_prefixes both.old
+  pub news : (u : ℕ) (both : BothTables) → slice_get tables u ≡ Some both → IsTableOver new_prefixes both.new

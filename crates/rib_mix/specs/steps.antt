@@ -1,2 +1,3 @@
 pub mod Candidates
-pub mod Marks
+pub mod Spots
+pub mod WayUp

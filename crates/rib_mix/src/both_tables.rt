@@ -1,5 +1,5 @@
 ghost use Rattle.std.specs.Prelude.{◌≡◌, IfOk};
-ghost use Rattle.rib_mix.specs.Sites.{AreTablesOf};
+ghost use Rattle.rib_mix.specs.Sites.{AreTablesInParts, AreTablesOf};
 
 use route_core::{OutOfMemory, RouteSource, TableParts};
 use std::alloc::Global;
@@ -20,7 +20,8 @@ pub fn tables_of<'a, O: RouteSource, N: RouteSource>(
     new: &'a N,
 ) -> Result<Vec<BothTables<'a>>, OutOfMemory>
     requires { N.routers new.now ≡ O.routers old.now }
-    ensures { IfOk result (λ tables. AreTablesOf (O.table old.now) (N.table new.now) (O.routers old.now) tables.items) }
+    ensures tables { IfOk result (λ tables. AreTablesOf (O.table old.now) (N.table new.now) (O.routers old.now) tables.items) }
+    ensures parts { IfOk result (λ tables. AreTablesInParts (O.routers old.now) tables.items) }
 {
     let routers = old.routers();
     let mut tables = Vec::with_capacity(alloc, routers as usize)?;

@@ -85,7 +85,7 @@ pub fn cell_of(found: Found, ospf: u8) -> Cell
 }
 
 /// The same, where a connected prefix may be the best, or the old table may not count.
-#[inline(never)]
+#[inline(always)]
 fn cell_of_three(found: Found, ospf: u8) -> Cell
     ensures { IsCellOf found ospf result }
 {

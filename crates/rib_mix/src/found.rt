@@ -1,5 +1,5 @@
-ghost use Rattle.std.specs.Prelude.{◌≡◌};
-ghost use Rattle.rib_mix.specs.steps.Marks.{or_else};
+ghost use Rattle.std.specs.Prelude.{◌≡◌, ◌<◌, IfSome, length};
+ghost use Rattle.rib_mix.specs.steps.WayUp.{found_at, found_or};
 
 use prefix_atoms::{Longest, NOTHING};
 
@@ -21,26 +21,27 @@ impl Found {
         old: NOTHING,
         new: NOTHING,
     };
+}
 
-    /// What is found, and of each kind of which nothing is, what the other has.
-    #[inline(always)]
-    pub fn or(self, other: Found) -> Found
-        ensures connected { result.connected ≡ or_else self.connected other.connected }
-        ensures old { result.old ≡ or_else self.old other.old }
-        ensures new { result.new ≡ or_else self.new other.new }
-    {
-        Found {
-            connected: or_else(self.connected, other.connected),
-            old: or_else(self.old, other.old),
-            new: or_else(self.new, other.new),
-        }
+/// What is found at a place, and nothing where there is none.
+#[inline(always)]
+pub fn found_at(found: &[Found], place: Option<u32>) -> Found
+    requires { IfSome place (λ i. i < length found.now) }
+    ensures { result ≡ found_at found.now place }
+{
+    match place {
+        Some(place) => found[place as usize],
+        None => Found::NOTHING,
     }
 }
 
-/// What is found, and the other where nothing is.
+/// A prefix of this size that the router has under a number, and otherwise what is found for its parent.
 #[inline(always)]
-fn or_else(found: Longest, other: Longest) -> Longest
-    ensures { result ≡ or_else found other }
+pub fn found_or(number: Option<u32>, size: u32, parent: Longest) -> Longest
+    ensures { result ≡ found_or size number parent }
 {
-    if found.size == 0 { other } else { found }
+    match number {
+        Some(number) => Longest { number, size },
+        None => parent,
+    }
 }

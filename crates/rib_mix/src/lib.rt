@@ -7,13 +7,14 @@
 //! |---|---|
 //! | `mixed`, `next` | mixed forwarding over a network and two sources of tables, and what a router does |
 //! | `both_tables`, `subnets` | of each router: its tables in their parts, and its connected prefixes |
-//! | `marks`, `found` | what a router has for each prefix, and what is found of that for an address on the way up from its longest prefix |
+//! | `spots` | where the prefixes that occur stand among those of the tables, which all routers' tables share |
+//! | `marks`, `found` | what is found for each prefix: what the router has for it, and otherwise what is found for its parent |
 //! | `candidate`, `used` | the best of what counts in a phase, and what is used |
 //! | `cell`, `cells`, `row` | what a router uses in each phase: for an address, and for each class |
 //! | `law` | that what a router does is what the definitions call its steps |
 //!
-//! `Mixed::build` takes time of routers times classes and of the entries of all tables; `hops` looks one cell up. The cells of
-//! a router stand side by side.
+//! `Mixed::build` takes time of routers times prefixes that occur, and reads no table whole; `hops` looks one cell up. The cells
+//! of a router stand side by side.
 #![tactic(auto)]
 
 // mixed forwarding
@@ -28,6 +29,7 @@ mod cells;
 mod found;
 mod marks;
 mod row;
+mod spots;
 mod subnets;
 mod used;
 

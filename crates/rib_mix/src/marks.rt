@@ -1,29 +1,33 @@
-ghost use Rattle.std.specs.Prelude.{◌≡◌, ◌<◌, ◌+◌, IfOk, IfSome, OnOk, length};
-ghost use Rattle.prefix_atoms.specs.Nested.{AreAscendingPrefixes};
-ghost use Rattle.rib_mix.specs.Rows.{AreAmong};
-ghost use Rattle.rib_mix.specs.steps.Marks.{AreFoundAbove, AreMarks, AreOwnAmong, AreOwnMarks, AreRowMarks, AreRowsAmong, HavePlaces};
-ghost use Rattle.rib_mix.specs.steps.Marks.{marks_at, with_mark};
+ghost use Rattle.std.specs.Prelude.{◌≡◌, ◌<◌, IfOk, OnOk, length};
+ghost use Rattle.rib_mix.specs.steps.Spots.{HasPlace};
+ghost use Rattle.rib_mix.specs.steps.WayUp.{AreAllFound, AreOwnFound, HavePlaces, IsOwn, IsOwnAmong, own_found};
 
 use crate::both_tables::BothTables;
-use crate::found::Found;
+use crate::found::{Found, found_at, found_or};
+use crate::spots::{PlacedTable, Spots, find_spots};
 use net_addr::Prefix;
-use prefix_atoms::{Atoms, Guesses, Longest, NOTHING, place_of_prefix};
-use route_core::{OutOfMemory, TableParts};
+use prefix_atoms::Atoms;
+use route_core::{Number, OutOfMemory};
 use std::alloc::Global;
 
-/// What a router has for each prefix that occurs. One value serves all routers, one after another.
+/// What a router has for each prefix that occurs, and what is found of that. One value serves all routers, one after another.
 #[derive(Drop)]
 pub struct Marks {
-    /// The connected prefixes.
-    pub connected: Vec<Longest>,
-    /// The prefixes of the old table, each with the number of its entry.
-    pub olds: Vec<Longest>,
-    /// Those of the new table.
-    pub news: Vec<Longest>,
-    /// Where the prefixes of the old tables were found.
-    pub old_places: Guesses,
-    /// Where those of the new tables were.
-    pub new_places: Guesses,
+    /// Where the prefixes stand among the connected ones.
+    pub connected: Vec<Number>,
+    /// What is found for each prefix: for its addresses that are in no longer one.
+    pub found: Vec<Found>,
+}
+
+/// What a router has: its connected prefixes by the places of those that occur, and both tables.
+#[derive(Clone, Copy, Debug)]
+pub struct Own<'a> {
+    /// Where the prefixes stand among the connected ones.
+    pub connected: &'a [Number],
+    /// The old table.
+    pub old: PlacedTable<'a>,
+    /// The new table.
+    pub new: PlacedTable<'a>,
 }
 
 impl Marks {
@@ -32,108 +36,70 @@ impl Marks {
         ensures { IfOk result (HavePlaces places) }
     {
         Ok(Marks {
-            connected: vec![in alloc; NOTHING; places]?,
-            olds: vec![in alloc; NOTHING; places]?,
-            news: vec![in alloc; NOTHING; places]?,
-            old_places: Guesses::new(alloc),
-            new_places: Guesses::new(alloc),
+            connected: vec![in alloc; Number::none(); places]?,
+            found: vec![in alloc; Found::NOTHING; places]?,
         })
     }
 
-    /// Marks the prefixes that a router has: these connected ones and those of both tables.
-    pub fn mark(
+    /// Finds what a router has for each prefix: these connected ones, and the entries of both tables.
+    pub fn find(
         &mut self,
-        prefixes: &[Prefix],
+        atoms: &Atoms,
         subnets: &[Prefix],
+        spots: &Spots,
         tables: BothTables<'_>,
     ) -> Result<(), OutOfMemory>
-        requires places { HavePlaces (length prefixes.now) self.old }
-        requires among { AreOwnAmong prefixes.now subnets.now tables }
-        ensures { OnOk result (AreOwnMarks prefixes.now subnets.now tables.entry self.new) }
+        requires places { HavePlaces (length atoms.now.prefixes) self.old }
+        requires own { IsOwnAmong atoms.now.prefixes subnets.now tables spots.now }
+        ensures places { OnOk result (HavePlaces (length atoms.now.prefixes) self.new) }
+        ensures found { OnOk result (AreOwnFound atoms.now.prefixes subnets.now tables.entry self.new.found.items) }
     {
-        mark_subnets(&mut self.connected, prefixes, subnets);
-        mark_rows(&mut self.olds, &mut self.old_places, prefixes, tables.old)?;
-        mark_rows(&mut self.news, &mut self.new_places, prefixes, tables.new)
+        find_spots(&mut self.connected, atoms.prefixes(), subnets)?;
+        let own = Own {
+            connected: self.connected.as_slice(),
+            old: PlacedTable {
+                spots: spots.olds.as_slice(),
+                parts: tables.old,
+            },
+            new: PlacedTable {
+                spots: spots.news.as_slice(),
+                parts: tables.new,
+            },
+        };
+        find_all(&mut self.found, atoms, own);
+        Ok(())
     }
+}
 
-    /// What stands at a place.
+impl Own<'_> {
+    /// What the router has for the prefix at a place, and of what it hasn't what is found for its parent.
     #[inline(always)]
-    fn at(&self, place: usize) -> Found
-        requires connected { place < length self.now.connected.items }
-        requires old { place < length self.now.olds.items }
-        requires new { place < length self.now.news.items }
-        ensures { result ≡ marks_at self.now place }
+    fn at(self, place: usize, prefix: Prefix, parent: Found) -> Found
+        requires connected { place < length self.connected.now }
+        requires old { HasPlace self.old place }
+        requires new { HasPlace self.new place }
+        ensures { result ≡ own_found self.entry place prefix parent }
     {
-        Found {
-            connected: self.connected[place],
-            old: self.olds[place],
-            new: self.news[place],
-        }
-    }
-
-    /// What is found for the addresses of a class whose longest prefix stands at this place: of each kind the first mark on
-    /// the way from it up its parents.
-    #[inline(always)]
-    pub fn above(&self, atoms: &Atoms, top: Option<u32>) -> Found
-        requires places { HavePlaces (length atoms.now.prefixes) self.now }
-        requires top { IfSome top (λ place. place < length atoms.now.prefixes) }
-        ensures { AreFoundAbove atoms.now.prefixes top self.now result }
-    {
-        let parents = atoms.parents();
-        let mut found = Found::NOTHING;
-        let mut next = top;
-        while let Some(place) = next {
-            found = found.or(self.at(place as usize));
-            next = parents[place as usize];
-        }
-        found
-    }
-}
-
-/// Marks these prefixes alone, under no number.
-fn mark_subnets(marks: &mut Vec<Longest>, prefixes: &[Prefix], subnets: &[Prefix])
-    requires count { length marks.old.items ≡ length prefixes.now }
-    requires ascending { AreAscendingPrefixes prefixes.now }
-    requires among { AreAmong prefixes.now subnets.now }
-    ensures { AreMarks prefixes.now subnets.now (λ _. 0) marks.new.items }
-{
-    marks.fill(NOTHING);
-    for subnet in subnets {
-        let place = place_of_prefix(prefixes, *subnet);
-        mark_one(marks, place, *subnet, 0);
-    }
-}
-
-/// Marks the prefixes of a table's rows alone, each under the number of its entry.
-fn mark_rows(
-    marks: &mut Vec<Longest>,
-    places: &mut Guesses,
-    prefixes: &[Prefix],
-    table: TableParts<'_>,
-) -> Result<(), OutOfMemory>
-    requires count { length marks.old.items ≡ length prefixes.now }
-    requires ascending { AreAscendingPrefixes prefixes.now }
-    requires rows { AreRowsAmong prefixes.now table }
-    ensures { OnOk result (AreRowMarks prefixes.now table.entry marks.new.items) }
-{
-    places.make_room(table.prefixes.len())?;
-    marks.fill(NOTHING);
-    for row in table.rows {
-        let prefix = table.prefixes[row.place as usize];
-        let place = places.find(prefixes, prefix, row.place);
-        mark_one(marks, place, prefix, row.number);
-    }
-    Ok(())
-}
-
-/// Marks a prefix that was found at this place with a number.
-#[inline(always)]
-fn mark_one(marks: &mut Vec<Longest>, place: Option<usize>, prefix: Prefix, number: u32)
-    requires { IfSome place (λ i. i < length marks.old.items) }
-    ensures { marks.new.items ≡ with_mark place (record { number = number; size = prefix.len + 1 }) marks.old.items }
-{
-    if let Some(place) = place {
         let size = u32::from(prefix.len()) + 1;
-        marks[place] = Longest { number, size };
+        Found {
+            connected: found_or(self.connected[place].get(), size, parent.connected),
+            old: found_or(self.old.number(place), size, parent.old),
+            new: found_or(self.new.number(place), size, parent.new),
+        }
+    }
+}
+
+/// Finds for each prefix what the router has for it, and otherwise what is found for its parent, which stands before it.
+fn find_all(found: &mut Vec<Found>, atoms: &Atoms, own: Own<'_>)
+    requires places { length found.old.items ≡ length atoms.now.prefixes }
+    requires own { IsOwn atoms.now.prefixes own }
+    ensures places { length found.new.items ≡ length atoms.now.prefixes }
+    ensures found { AreAllFound atoms.now.prefixes own.entry (length atoms.now.prefixes) found.new.items }
+{
+    let prefixes = atoms.prefixes();
+    let parents = atoms.parents();
+    for place in 0..prefixes.len() {
+        let parent = found_at(found.as_slice(), parents[place]);
+        found[place] = own.at(place, prefixes[place], parent);
     }
 }

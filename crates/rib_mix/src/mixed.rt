@@ -15,6 +15,7 @@ use crate::cells::{Cells, is_same};
 use crate::marks::Marks;
 use crate::next::Next;
 use crate::row::row_of;
+use crate::spots::Spots;
 use crate::subnets::Subnets;
 use crate::used::Used;
 use igp_theory::Phase;
@@ -165,13 +166,19 @@ fn rows_of(
     ensures { IfOk result (λ rows. AreRows (record { net = net.now; tables = tables.now }) atoms.now.samples rows.items) }
 {
     let prefixes = atoms.prefixes();
+    let spots = Spots::of_tables(alloc, prefixes, tables)?;
     let mut marks = Marks::with_places(alloc, prefixes.len())?;
     let mut rows = Vec::with_capacity(alloc, net.routers() as usize)?;
     for router in 0..net.routers() {
         let subnets = &subnets[router as usize];
         let both = tables[router as usize];
-        marks.mark(prefixes, subnets.as_slice(), both)?;
-        let row = row_of(alloc, atoms, &marks, ospf_distance(net, router))?;
+        marks.find(atoms, subnets.as_slice(), &spots, both)?;
+        let row = row_of(
+            alloc,
+            atoms,
+            marks.found.as_slice(),
+            ospf_distance(net, router),
+        )?;
         rows.push(row)?;
     }
     Ok(rows)

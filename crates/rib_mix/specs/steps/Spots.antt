@@ -1,0 +1,46 @@
+-- Where the prefixes that occur stand in a list of prefixes, and what a table has for them.
+use Rattle.std.specs.Prelude.{◌≡◌, ℕ, ◌<◌, List, length, slice_get, slice_index_or, slice_set, Option, Some, None, IfSome, MatchOption}
+use Rattle.net_addr.specs.Addresses.{Block}
+use Rattle.route_core.specs.Rows.{IsTable, KeptTable, kept_in, kept_number}
+use Rattle.rib_mix.specs.declared.both_tables.BothTables.{BothTables}
+use Rattle.rib_mix.specs.declared.spots.PlacedTable.{PlacedTable}
+use Rattle.rib_mix.specs.declared.spots.Spots.{Spots}
+
+-- a place where a prefix stands in a list, or none where it isn't among the first n
+abbrev pub IsSpot : List Block → ℕ → Block → Option ℕ → Type 0
+IsSpot list n p spot = MatchOption spot ((k : ℕ) → k < n → slice_get list k ≡ Some p → ⊥) (λ k. slice_get list k ≡ Some p)
+
+-- the same for each of some prefixes
+pub record AreSpots (prefixes list : List Block) (n : ℕ) (spots : List (Option ℕ)) : Type 0 where
+  pub count : length spots ≡ length prefixes
+  pub each : (i : ℕ) (p : Block) → slice_get prefixes i ≡ Some p → IsSpot list n p (slice_index_or spots i None)
+
+-- spots with one put at this place, if there is one
+abbrev pub with_spot : Option ℕ → ℕ → List (Option ℕ) → List (Option ℕ)
+with_spot None spot spots = spots
+with_spot (Some place) spot spots = slice_set spots place (Some spot)
+
+-- where some prefixes stand among those of both tables of a router
+pub record AreTableSpots (prefixes : List Block) (both : BothTables) (spots : Spots) : Type 0 where
+  pub olds : AreSpots prefixes both.old.prefixes.now (length both.old.prefixes.now) spots.olds.items
+  pub news : AreSpots prefixes both.new.prefixes.now (length both.new.prefixes.now) spots.news.items
+
+-- a table, with the spots of some prefixes among its own
+pub record IsPlaced (prefixes : List Block) (table : PlacedTable) : Type 0 where
+  pub kept : IsTable (kept_in table.parts)
+  pub spots : AreSpots prefixes table.parts.prefixes.now (length table.parts.prefixes.now) table.spots.now
+
+-- what a table has for the prefix at a place can be read
+pub record HasPlace (table : PlacedTable) (place : ℕ) : Type 0 where
+  pub within : place < length table.spots.now
+  pub kept : IsTable (kept_in table.parts)
+  pub spot : IfSome (slice_index_or table.spots.now place None) (λ spot. spot < length table.parts.prefixes.now)
+
+-- the number of the entry for the prefix at a spot, if there is one and the table has an entry for it
+abbrev pub number_at_spot : KeptTable → Option ℕ → Option ℕ
+number_at_spot kept None = None
+number_at_spot kept (Some spot) = kept_number kept spot
+
+-- the number of the entry for the prefix at a place, where the table has one
+abbrev pub number_in : PlacedTable → ℕ → Option ℕ
+number_in table place = number_at_spot (kept_in table.parts) (slice_index_or table.spots.now place None)

@@ -1,0 +1,94 @@
+ghost use Rattle.std.specs.Prelude.{◌≡◌, ◌<◌, IfOk, IfSome, OnOk, length, slice_get, Some};
+ghost use Rattle.prefix_atoms.specs.Nested.{AreAscendingPrefixes};
+ghost use Rattle.rib_mix.specs.declared.both_tables.BothTables.{BothTables};
+ghost use Rattle.rib_mix.specs.steps.Spots.{AreSpots, AreTableSpots, HasPlace, number_in, with_spot};
+
+use crate::both_tables::BothTables;
+use net_addr::Prefix;
+use prefix_atoms::place_of_prefix;
+use route_core::{Number, OutOfMemory, TableParts};
+use std::alloc::Global;
+
+/// Where each of the prefixes that occur stands among those of the old tables, and among those of the new ones.
+#[derive(Drop)]
+pub struct Spots {
+    /// Among those of the old tables.
+    pub olds: Vec<Number>,
+    /// Among those of the new tables.
+    pub news: Vec<Number>,
+}
+
+/// A table, and where each of the prefixes that occur stands among its own.
+#[derive(Clone, Copy, Debug)]
+pub struct PlacedTable<'a> {
+    /// Where they stand.
+    pub spots: &'a [Number],
+    /// The table.
+    pub parts: TableParts<'a>,
+}
+
+impl PlacedTable<'_> {
+    /// The number of the entry for the prefix at a place, where the table has one.
+    #[inline(always)]
+    pub fn number(self, place: usize) -> Option<u32>
+        requires { HasPlace self place }
+        ensures { result ≡ number_in self.entry place }
+    {
+        match self.spots[place].get() {
+            Some(spot) => self.parts.number(spot as usize),
+            None => None,
+        }
+    }
+}
+
+impl Spots {
+    /// The spots of ascending prefixes in the tables of all routers, which share their prefixes.
+    pub fn of_tables(
+        alloc: Global,
+        prefixes: &[Prefix],
+        tables: &[BothTables<'_>],
+    ) -> Result<Spots, OutOfMemory>
+        requires { AreAscendingPrefixes prefixes.now }
+        ensures { IfOk result (λ spots. (both : BothTables) → slice_get tables.now 0 ≡ Some both → AreTableSpots prefixes.now both spots) }
+    {
+        let mut olds = vec![in alloc; Number::none(); prefixes.len()]?;
+        let mut news = vec![in alloc; Number::none(); prefixes.len()]?;
+        if let Some(both) = tables.first() {
+            find_spots(&mut olds, prefixes, both.old.prefixes)?;
+            find_spots(&mut news, prefixes, both.new.prefixes)?;
+        }
+        Ok(Spots { olds, news })
+    }
+}
+
+/// Finds where each of some ascending prefixes stands in a list.
+pub fn find_spots(
+    spots: &mut Vec<Number>,
+    prefixes: &[Prefix],
+    list: &[Prefix],
+) -> Result<(), OutOfMemory>
+    requires count { length spots.old.items ≡ length prefixes.now }
+    requires ascending { AreAscendingPrefixes prefixes.now }
+    ensures { OnOk result (AreSpots prefixes.now list.now (length list.now) spots.new.items) }
+{
+    let Ok(count) = u32::try_from(list.len()) else {
+        return Err(OutOfMemory);
+    };
+    spots.fill(Number::none());
+    for spot in 0..count {
+        let place = place_of_prefix(prefixes, list[spot as usize]);
+        put_spot(spots, place, spot)?;
+    }
+    Ok(())
+}
+
+/// Puts a spot at a place, if there is one.
+fn put_spot(spots: &mut Vec<Number>, place: Option<usize>, spot: u32) -> Result<(), OutOfMemory>
+    requires { IfSome place (λ i. i < length spots.old.items) }
+    ensures { OnOk result (spots.new.items ≡ with_spot place spot spots.old.items) }
+{
+    if let Some(place) = place {
+        spots[place] = Number::of(spot)?;
+    }
+    Ok(())
+}
