@@ -1,3 +1,4 @@
+use crate::chains::{NO_LAYER, close_chain, number_of, set_number};
 use crate::end_lists::EndLists;
 use crate::ends::Ends;
 use crate::live::none_marked;
@@ -34,9 +35,6 @@ struct Search<'s> {
     open: u32,
     next: u32,
 }
-
-/// What stands for the layer of a router that has none.
-pub const NO_LAYER: u32 = u32::MAX;
 
 /// What the search knows of a router that it reached.
 #[derive(Clone, Copy)]
@@ -151,14 +149,13 @@ impl<'s> Search<'s> {
         }
     }
 
-    /// Gives layers to a router and those after it, where each steps to the next one alone and the last to routers that have layers.
-    fn closes_chain(&mut self, lists: &EndLists<'_>, router: u32) -> bool {
+    /// Gives layers to a router and those after it, where they are a chain that ends at routers that have layers.
+    fn closes_chain(&mut self, lists: &EndLists<'_>, first: u32) -> bool {
         let next = self.next;
-        let Some(many) = chain_length(lists, router, self.numbers, next) else {
+        let Some(above) = close_chain(lists, first, next, self.numbers) else {
             return false;
         };
-        self.next = next.saturating_add(many);
-        give_layers(lists, router, many, next.saturating_add(many), self.numbers);
+        self.next = above;
         true
     }
 
@@ -185,6 +182,7 @@ impl<'s> Search<'s> {
         let visit = self.visits.get(router as usize).copied()?;
         match lists.get(router)? {
             Ends::One(hop) => self.after_one(router, visit, *hop),
+            Ends::Two(old, new) => self.after_two(lists, router, visit, (*old, *new)),
             Ends::Each(olds, news) => self.after_each(lists, router, visit, (olds, news)),
         }
     }
@@ -201,6 +199,38 @@ impl<'s> Search<'s> {
         self.go_back(router, visit)
     }
 
+    /// The same, where it has one step in each network.
+    #[inline(always)]
+    fn after_two(
+        &mut self,
+        lists: &EndLists<'_>,
+        router: u32,
+        visit: Visit,
+        hops: (u32, u32),
+    ) -> Option<u32> {
+        let (old, new) = hops;
+        let one = number_of(self.numbers, old);
+        let other = number_of(self.numbers, new);
+        if one == NO_LAYER {
+            return self.go_on(lists, router, old);
+        }
+        if other == NO_LAYER {
+            return self.go_on(lists, router, new);
+        }
+        raise(self.numbers, router, one.max(other));
+        self.go_back(router, visit)
+    }
+
+    /// Goes on from a router to one that it steps to and that isn't reached: stays, where that one gets its layer at once.
+    #[inline(always)]
+    fn go_on(&mut self, lists: &EndLists<'_>, router: u32, hop: u32) -> Option<u32> {
+        if self.closes_chain(lists, hop) {
+            return Some(router);
+        }
+        self.reach(hop, router);
+        Some(hop)
+    }
+
     /// The same, where it has steps in two lists.
     #[inline(always)]
     fn after_each(
@@ -213,11 +243,7 @@ impl<'s> Search<'s> {
         match follow(steps, visit.followed, router, self.numbers) {
             Some((hop, place)) => {
                 self.keep(router, place);
-                if self.closes_chain(lists, hop) {
-                    return Some(router);
-                }
-                self.reach(hop, router);
-                Some(hop)
+                self.go_on(lists, router, hop)
             }
             None => self.go_back(router, visit),
         }
@@ -267,68 +293,6 @@ impl<'s> Search<'s> {
     }
 }
 
-/// How many routers there are from one without layer on, where each steps to the next one alone and the last to routers that
-/// have layers, all below this one; none where that isn't so.
-fn chain_length(lists: &EndLists<'_>, first: u32, numbers: &[u32], next: u32) -> Option<u32> {
-    let mut router = first;
-    let mut many = 1u32;
-    for _ in 0..numbers.len() {
-        let ends = lists.get(router)?;
-        if let Some(hop) = unreached_hop(ends, numbers) {
-            router = hop;
-            many = many.saturating_add(1);
-        } else if leads_below(ends, numbers, next) {
-            return Some(many);
-        } else {
-            return None;
-        }
-    }
-    None
-}
-
-/// The only hop, where it isn't reached yet.
-#[inline(always)]
-fn unreached_hop(ends: &Ends<'_>, numbers: &[u32]) -> Option<u32> {
-    match ends {
-        Ends::One(hop) if number_of(numbers, *hop) == NO_LAYER => Some(*hop),
-        _ => None,
-    }
-}
-
-/// Whether all hops have layers, below this one.
-#[inline(always)]
-fn leads_below(ends: &Ends<'_>, numbers: &[u32], next: u32) -> bool {
-    match ends {
-        Ends::One(hop) => number_of(numbers, *hop) < next,
-        Ends::Each(olds, news) => {
-            are_below(olds, numbers, next) && are_below(news, numbers, next)
-        }
-    }
-}
-
-/// Gives so many routers, each of which is the only one that the one before steps to, the layers below one, falling.
-fn give_layers(lists: &EndLists<'_>, first: u32, many: u32, next: u32, numbers: &mut [u32]) {
-    let mut router = first;
-    let mut number = next;
-    for _ in 0..many {
-        number = number.saturating_sub(1);
-        set_number(numbers, router, number);
-        if let Some(Ends::One(hop)) = lists.get(router) {
-            router = *hop;
-        }
-    }
-}
-
-/// Whether all of some routers have layers, below this one.
-fn are_below(routers: &[u32], numbers: &[u32], next: u32) -> bool {
-    for router in routers {
-        if number_of(numbers, *router) >= next {
-            return false;
-        }
-    }
-    true
-}
-
 /// Follows the steps of a router, in two lists, from a place on to the first that leads to one that isn't reached, which it tells with
 /// its place. The router gets the highest of the numbers of the others.
 fn follow(
@@ -369,6 +333,9 @@ fn hop_at(hops: &[u32], others: &[u32], place: usize) -> u32 {
 fn leads_to_layers(lists: &EndLists<'_>, router: u32, numbers: &[u32]) -> bool {
     match lists.get(router) {
         Some(Ends::One(hop)) => number_of(numbers, *hop) != NO_LAYER,
+        Some(Ends::Two(old, new)) => {
+            number_of(numbers, *old) != NO_LAYER && number_of(numbers, *new) != NO_LAYER
+        }
         Some(Ends::Each(olds, news)) => are_layered(olds, numbers) && are_layered(news, numbers),
         None => false,
     }
@@ -385,21 +352,9 @@ fn are_layered(routers: &[u32], numbers: &[u32]) -> bool {
     true
 }
 
-/// Sets the number of a router.
-fn set_number(numbers: &mut [u32], router: u32, number: u32) {
-    if let Some(own) = numbers.get_mut(router as usize) {
-        *own = number;
-    }
-}
-
 /// Raises the number of a router to another, where it's lower.
 fn raise(numbers: &mut [u32], router: u32, number: u32) {
     if let Some(own) = numbers.get_mut(router as usize) {
         *own = (*own).max(number);
     }
-}
-
-/// The number of a router; that of a lowest layer where it isn't there.
-fn number_of(numbers: &[u32], router: u32) -> u32 {
-    numbers.get(router as usize).copied().unwrap_or(0)
 }

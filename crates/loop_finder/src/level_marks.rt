@@ -1,12 +1,13 @@
-ghost use Rattle.std.specs.Prelude.{◌≡◌, ◌<◌, ◌≤◌, ℕ, All, Contains, length};
+ghost use Rattle.std.specs.Prelude.{◌≡◌, ◌+◌, ◌<◌, ◌≤◌, ℕ, All, Contains, length};
 ghost use Rattle.std.specs.Bool.{OnFalse, OnTrue};
 ghost use Rattle.order_core.specs.Marks.{IsMarked};
 ghost use Rattle.loop_finder.specs.steps.Ends.{EndStep};
 ghost use Rattle.loop_finder.specs.Returns.{HasLayer, IsLayerAbove, IsLevelled, MarksAgain, layer_in};
 
+use crate::chains::NO_LAYER;
 use crate::end_lists::EndLists;
 use crate::ends::Ends;
-use crate::layers::{Layers, NO_LAYER};
+use crate::layers::Layers;
 use crate::live::mark_all;
 
 /// Marks the routers to which a walk over the steps of both networks may return, where it's known which were marked before the
@@ -31,6 +32,9 @@ fn mark_level(lists: &EndLists<'_>, changed: &[u32], layers: &[u32], marks: &mut
     ensures returns { OnTrue result (MarksAgain (EndStep lists.now) changed.now marks.old marks.new) }
     ensures inside { (u h : ℕ) → EndStep lists.now u h → u < length marks.new }
 {
+    if layers.len() < marks.len() {
+        return false;
+    }
     for router in 0..marks.len() {
         if !mark_router(lists, layers, router, marks) {
             return false;
@@ -42,11 +46,12 @@ fn mark_level(lists: &EndLists<'_>, changed: &[u32], layers: &[u32], marks: &mut
 /// Marks a router that has a layer where a step leads from it and stays in the layer; false where some step leads higher.
 fn mark_router(lists: &EndLists<'_>, layers: &[u32], router: usize, marks: &mut [bool]) -> bool
     requires router { router < length lists.now.olds }
+    requires layer { router < length layers.now }
     requires many { length marks.old ≡ length lists.now.olds }
     ensures level { OnTrue result (IsLevelled (EndStep lists.now) layers.now marks.new router) }
     ensures kept { (u : ℕ) → (u ≡ router → ¬ HasLayer layers.now u) → IsMarked marks.old u → IsMarked marks.new u }
 {
-    let layer = layer_in(layers, router);
+    let layer = layers[router];
     if layer == NO_LAYER {
         return true;
     }
@@ -80,9 +85,17 @@ fn above_hops(lists: &EndLists<'_>, layers: &[u32], router: usize) -> u64
     ensures { (h : ℕ) → EndStep lists.now router h → layer_in layers.now h < result }
 {
     match lists.at(router) {
-        Ends::One(hop) => u64::from(layer_in(layers, *hop as usize)) + 1,
+        Ends::One(hop) => above_one(layers, *hop),
+        Ends::Two(old, new) => above_one(layers, *old).max(above_one(layers, *new)),
         Ends::Each(olds, news) => above_both(olds, news, layers),
     }
+}
+
+/// The layer above that of a router.
+fn above_one(layers: &[u32], router: u32) -> u64
+    ensures { result ≡ layer_in layers.now router + 1 }
+{
+    u64::from(layer_in(layers, router as usize)) + 1
 }
 
 /// The layer above those of some routers and of others.
@@ -100,7 +113,7 @@ fn above(routers: &[u32], layers: &[u32]) -> u64
 {
     let mut above = 0;
     for router in routers {
-        above = above.max(u64::from(layer_in(layers, *router as usize)) + 1);
+        above = above.max(above_one(layers, *router));
     }
     above
 }

@@ -9,7 +9,7 @@
 //! |---|---|
 //! | `finder`, `fault`, `room` | the finder, what it finds, and its room to work in |
 //! | `ends`, `end_lists`, `class_hops`, `graph` | the hops of a class in both networks, and where they changed |
-//! | `layers`, `level_marks`, `parts`, `part` | where a walk may return, by one search for strongly connected parts, and the parts |
+//! | `layers`, `chains`, `level_marks`, `parts`, `part` | where a walk may return, by one search for strongly connected parts, and the parts |
 //! | `watch`, `known` | which parts a change of a router concerns, and what is known of the latest order |
 //! | `order_fault`, `change`, `follow`, `returns` | orders: after a change only walks through the router changed |
 //! | `waves_fault`, `calm` | wave lists: before which wave each part is calm |
@@ -32,6 +32,7 @@ mod ends;
 mod graph;
 
 // classes for which some state may be unsound
+mod chains;
 mod layers;
 mod level_marks;
 mod part;
