@@ -1,4 +1,5 @@
 ghost use Rattle.std.specs.Prelude.{◌≡◌, ◌<◌, [], ◌∷◌, IfOk};
+ghost use Rattle.route_core.specs.Rows.{listed};
 ghost use Rattle.route_core.specs.declared.entry.Entry.TheVariants.{Via};
 
 use net_addr::Prefix;
@@ -15,24 +16,27 @@ struct Pair {
 }
 
 impl Model for Pair {
-    ghost use Rattle.std.specs.Prelude.{◌≢◌, List, nat_eq, if◌then◌else◌};
-    ghost use Rattle.net_addr.specs.Addresses.{Block};
-    ghost use Rattle.route_core.specs.declared.entry.Entry.{Entry};
+    ghost use Rattle.std.specs.Prelude.{◌≡◌, ◌≢◌, nat_eq, if◌then◌else◌};
+    ghost use Rattle.route_core.specs.Rows.{KeptTable, listed};
     ghost use Rattle.route_core.specs.Tables.{AreTables};
 
-    ghost Value = { List (Block × Entry) × List (Block × Entry) };
+    ghost Value = { KeptTable × KeptTable };
 
     ghost view = { λ x. (x.zero, x.one) };
 
-    ghost invariant = { λ x. AreTables 2 (λ u. if nat_eq u 0 then x.zero else x.one) (λ u v. u ≢ v) };
+    ghost invariant = { λ x. AreTables 2 (λ u. if nat_eq u 0 then listed x.zero else listed x.one) (λ u v. u ≢ v)
+        × (x.one.prefixes ≡ x.zero.prefixes) };
 }
 
 impl RouteSource for Pair {
     ghost use Rattle.std.specs.Prelude.{◌≢◌, nat_eq, if◌then◌else◌};
+    ghost use Rattle.route_core.specs.Rows.{listed};
 
     ghost routers = { λ _. 2 };
 
-    ghost table = { λ s u. if nat_eq u 0 then s.0 else s.1 };
+    ghost table = { λ s u. if nat_eq u 0 then listed s.0 else listed s.1 };
+
+    ghost prefixes = { λ s. s.0.prefixes };
 
     ghost linked = { λ _ u v. u ≢ v };
 
@@ -51,7 +55,8 @@ impl RouteSource for Pair {
 }
 
 fn to_router(alloc: Global, all: Prefix, router: u32) -> Result<Table, AllocError>
-    ensures { IfOk result (λ table. table ≡ (all, Via (router ∷ [])) ∷ []) }
+    ensures entries { IfOk result (λ table. listed table ≡ (all, Via (router ∷ [])) ∷ []) }
+    ensures prefixes { IfOk result (λ table. table.prefixes ≡ all ∷ []) }
 {
     let mut hops = Vec::new(alloc);
     hops.push(router)?;

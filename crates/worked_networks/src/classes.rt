@@ -1,4 +1,5 @@
 ghost use Rattle.std.specs.Prelude.{◌≡◌, [], ◌∷◌, IfOk};
+ghost use Rattle.route_core.specs.Rows.{listed};
 ghost use Rattle.route_core.specs.declared.entry.Entry.TheVariants.{Discard};
 
 use net_addr::Prefix;
@@ -17,24 +18,26 @@ struct Dropper {
 }
 
 impl Model for Dropper {
-    ghost use Rattle.std.specs.Prelude.{◌≢◌, List};
-    ghost use Rattle.net_addr.specs.Addresses.{Block};
-    ghost use Rattle.route_core.specs.declared.entry.Entry.{Entry};
+    ghost use Rattle.std.specs.Prelude.{◌≢◌};
+    ghost use Rattle.route_core.specs.Rows.{KeptTable, listed};
     ghost use Rattle.route_core.specs.Tables.{AreTables};
 
-    ghost Value = { List (Block × Entry) };
+    ghost Value = { KeptTable };
 
     ghost view = { λ x. x.table };
 
-    ghost invariant = { λ x. AreTables 1 (λ _. x.table) (λ u v. u ≢ v) };
+    ghost invariant = { λ x. AreTables 1 (λ _. listed x.table) (λ u v. u ≢ v) };
 }
 
 impl RouteSource for Dropper {
     ghost use Rattle.std.specs.Prelude.{◌≢◌};
+    ghost use Rattle.route_core.specs.Rows.{listed};
 
     ghost routers = { λ _. 1 };
 
-    ghost table = { λ s _. s };
+    ghost table = { λ s _. listed s };
+
+    ghost prefixes = { λ s. s.prefixes };
 
     ghost linked = { λ _ u v. u ≢ v };
 
@@ -59,7 +62,7 @@ fn make_dropper(alloc: Global, base: u32, len: u8) -> Result<Dropper, Fail> {
 }
 
 fn table_of(alloc: Global, prefix: Prefix) -> Result<Table, OutOfMemory>
-    ensures { IfOk result (λ table. table ≡ (prefix, Discard) ∷ []) }
+    ensures { IfOk result (λ table. listed table ≡ (prefix, Discard) ∷ []) }
 {
     let mut entries = Vec::new(alloc);
     entries.push((prefix, Entry::Discard))?;

@@ -1,4 +1,5 @@
 ghost use Rattle.std.specs.Prelude.{◌≡◌, ◌≢◌, ◌<◌, [], ◌∷◌, length, IfOk};
+ghost use Rattle.route_core.specs.Rows.{listed};
 ghost use Rattle.route_core.specs.declared.entry.Entry.TheVariants.{Via};
 ghost use Rattle.order_core.specs.Orders.{IsOrder};
 
@@ -22,24 +23,27 @@ struct Ways {
 }
 
 impl Model for Ways {
-    ghost use Rattle.std.specs.Prelude.{List, nat_eq, if◌then◌else◌};
-    ghost use Rattle.net_addr.specs.Addresses.{Block};
-    ghost use Rattle.route_core.specs.declared.entry.Entry.{Entry};
+    ghost use Rattle.std.specs.Prelude.{◌≡◌, nat_eq, if◌then◌else◌};
+    ghost use Rattle.route_core.specs.Rows.{KeptTable, listed};
     ghost use Rattle.route_core.specs.Tables.{AreTables};
 
-    ghost Value = { List (Block × Entry) × List (Block × Entry) };
+    ghost Value = { KeptTable × KeptTable };
 
     ghost view = { λ x. (x.first, x.others) };
 
-    ghost invariant = { λ x. AreTables 3 (λ u. if nat_eq u 0 then x.first else x.others) (λ _ _. Unit {0}) };
+    ghost invariant = { λ x. AreTables 3 (λ u. if nat_eq u 0 then listed x.first else listed x.others) (λ _ _. Unit {0})
+        × (x.others.prefixes ≡ x.first.prefixes) };
 }
 
 impl RouteSource for Ways {
     ghost use Rattle.std.specs.Prelude.{nat_eq, if◌then◌else◌};
+    ghost use Rattle.route_core.specs.Rows.{listed};
 
     ghost routers = { λ _. 3 };
 
-    ghost table = { λ s u. if nat_eq u 0 then s.0 else s.1 };
+    ghost table = { λ s u. if nat_eq u 0 then listed s.0 else listed s.1 };
+
+    ghost prefixes = { λ s. s.0.prefixes };
 
     ghost linked = { λ _ _ _. Unit {0} };
 
@@ -63,7 +67,8 @@ impl RouteSource for Ways {
 }
 
 fn table_to(alloc: Global, dest: Prefix, hop: u32) -> Result<Table, OutOfMemory>
-    ensures { IfOk result (λ table. table ≡ (dest, Via (hop ∷ [])) ∷ []) }
+    ensures entries { IfOk result (λ table. listed table ≡ (dest, Via (hop ∷ [])) ∷ []) }
+    ensures prefixes { IfOk result (λ table. table.prefixes ≡ dest ∷ []) }
 {
     let mut hops = Vec::new(alloc);
     hops.push(hop)?;

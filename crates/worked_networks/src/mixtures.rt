@@ -1,4 +1,5 @@
 ghost use Rattle.std.specs.Prelude.{◌≡◌, ◌<◌, [], ◌∷◌, length, IfOk};
+ghost use Rattle.route_core.specs.Rows.{listed};
 ghost use Rattle.route_core.specs.declared.entry.Entry.TheVariants.{Via, Discard};
 
 use igp_theory::Phase;
@@ -19,22 +20,25 @@ struct Alike {
 }
 
 impl Model for Alike {
-    ghost use Rattle.std.specs.Prelude.{ℕ, List};
-    ghost use Rattle.net_addr.specs.Addresses.{Block};
-    ghost use Rattle.route_core.specs.declared.entry.Entry.{Entry};
+    ghost use Rattle.std.specs.Prelude.{ℕ};
+    ghost use Rattle.route_core.specs.Rows.{KeptTable, listed};
     ghost use Rattle.route_core.specs.Tables.{AreTables};
 
-    ghost Value = { ℕ × List (Block × Entry) };
+    ghost Value = { ℕ × KeptTable };
 
     ghost view = { λ x. (x.routers, x.table) };
 
-    ghost invariant = { λ x. AreTables x.routers (λ _. x.table) (λ _ _. Unit {0}) };
+    ghost invariant = { λ x. AreTables x.routers (λ _. listed x.table) (λ _ _. Unit {0}) };
 }
 
 impl RouteSource for Alike {
+    ghost use Rattle.route_core.specs.Rows.{listed};
+
     ghost routers = { λ s. s.0 };
 
-    ghost table = { λ s _. s.1 };
+    ghost table = { λ s _. listed s.1 };
+
+    ghost prefixes = { λ s. s.1.prefixes };
 
     ghost linked = { λ _ _ _. Unit {0} };
 
@@ -59,7 +63,7 @@ fn sends(alloc: Global, prefix: Prefix) -> Result<Alike, OutOfMemory> {
 }
 
 fn table_to_one(alloc: Global, prefix: Prefix) -> Result<Table, OutOfMemory>
-    ensures { IfOk result (λ table. table ≡ (prefix, Via (1 ∷ [])) ∷ []) }
+    ensures { IfOk result (λ table. listed table ≡ (prefix, Via (1 ∷ [])) ∷ []) }
 {
     let mut hops = Vec::new(alloc);
     hops.push(1)?;
@@ -75,7 +79,7 @@ fn drops(alloc: Global, prefix: Prefix) -> Result<Alike, OutOfMemory> {
 }
 
 fn table_without(alloc: Global, prefix: Prefix) -> Result<Table, OutOfMemory>
-    ensures { IfOk result (λ table. table ≡ (prefix, Discard) ∷ []) }
+    ensures { IfOk result (λ table. listed table ≡ (prefix, Discard) ∷ []) }
 {
     let mut entries = Vec::new(alloc);
     entries.push((prefix, Entry::Discard))?;
