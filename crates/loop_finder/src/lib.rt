@@ -2,22 +2,25 @@
 //!
 //! `Finder::new` looks at each class of addresses once. A class is kept as a *part* where some state may be unsound for it:
 //! its routers to which a walk over the steps of both networks may return, with their hops in each phase. All other classes
-//! are sound in every state, and a class whose hops between such routers an earlier part has needs none. A question then
-//! looks at parts alone, and on the first bad one at its class, for the fault that the definitions name.
+//! are sound in every state, and a class whose hops between such routers an earlier part has needs none, where each of its
+//! routers that has to pass packets on has a step in both networks. A question then looks at parts alone, and at the class of
+//! a part where a router may lack a step or a walk returns, for the fault that the definitions name.
 //!
 //! | File | What it holds |
 //! |---|---|
 //! | `finder`, `fault`, `room` | the finder, what it finds, and its room to work in |
-//! | `ends`, `end_lists`, `class_hops`, `graph` | the hops of a class in both networks, and where they changed |
-//! | `layers`, `chains`, `level_marks`, `parts`, `part` | where a walk may return, by one search for strongly connected parts, and the parts |
+//! | `ends`, `end_lists`, `class_hops` | the hops of a class in both networks, and where they changed |
+//! | `layers`, `chains`, `level_marks` | where a walk may return, by one search for strongly connected components, chains at once |
+//! | `parts`, `part` | the parts |
 //! | `watch`, `known` | which parts a change of a router concerns, and what is known of the latest order |
 //! | `order_fault`, `change`, `follow`, `returns` | orders: after a change only walks through the router changed |
 //! | `waves_fault`, `calm` | wave lists: before which wave each part is calm |
-//! | `class_fault`, `classes_fault`, `class_steps`, `live`, `ring`, `tags` | the exact fault: a router without a step, or a ring with its tags |
+//! | `class_fault`, `classes_fault`, `class_steps` | the exact fault: a router without a step, or a ring |
+//! | `graph`, `live`, `ring`, `tags` | steps of any kind and walks over them, and a ring with its tags |
 //!
-//! `new` takes time of classes times routers, and of the steps to which steps lead from routers that don't do the same as for
-//! the class before; an order that of its changes and the walks from changed routers within
-//! parts; a wave list that of the waves from the first changed rank on. No call takes memory after `new`.
+//! `new` takes time of classes times routers, of classes times parts, and of the steps to which steps lead from routers that
+//! don't do the same as for the class before; an order that of its changes and of the walks behind the first place at which it
+//! differs from the latest one; a wave list that of the waves from the first changed rank on. No call takes memory after `new`.
 #![tactic(auto)]
 
 // the finder

@@ -2,14 +2,15 @@
 //!
 //! | File | What it holds |
 //! |---|---|
-//! | `atoms` | the classes, each with its least address and its target |
+//! | `atoms` | the classes, each with its least address, its longest prefix and its target |
 //! | `collect`, `distinct` | the prefixes that occur, each once, and where one stands among them |
 //! | `cuts`, `number` | where prefixes begin and end, and the intervals between, numbered by their longest prefix |
 //! | `longest`, `near` | the longest of some prefixes for each of some ascending addresses |
 //! | `parents` | the longest shorter prefix that contains a prefix: so the prefixes of an address are a way up |
 //! | `law` | that the addresses of a class act alike |
 //!
-//! Takes time of the distinct prefixes, in order, and for each router of those that no table before had an entry for.
+//! Takes time of the interfaces, the ranges and the prefixes of both sources, which are sorted, of how many prefixes contain each
+//! of them and of the classes in each, and for each router of the prefixes that no table before had an entry for.
 #![tactic(auto)]
 
 // classes

@@ -1,19 +1,24 @@
 //! Route tables of all routers: the prefixes and routes that they are made of, and the tables that a protocol gives.
 //!
 //! - `protocol.rt`: what a protocol says of a network: candidates, zones with their least walks, the route of each router
-//!   for each candidate, lanes of routers, which candidates have the same routes in a lane, neighbors.
-//! - `route.rt`, `best.rt`: a route before it is an entry, and the route to the best of some offers, in one pass over them;
-//!   where one router has the first hops of all best offers, the route says that router and takes no memory.
+//!   for each candidate, where it is known at once, lanes of routers, which candidates have the same routes in a lane, and what
+//!   decides them there, neighbors.
+//! - `route.rt`, `best.rt`: a route before it is an entry, and the route to the best of some offers. One pass finds the best;
+//!   where several are as good, another tells whether one router has the first hops of all: then the route says that router
+//!   and takes no memory.
 //! - `lane.rt`, `sure.rt`: what decides the routes of all routers that know the same offers, prefix by prefix, and what
 //!   that tells at once of a router's entry.
 //! - `alike.rt`: whether offers differ by a constant alone, by which prefixes have the same routes.
 //! - `pool.rt`: the entries that the tables of all routers share: those over one hop alone, which are made once and need no
-//!   search, and those that each table adds.
+//!   search, and those that each table adds, among which it looks for a list of several hops, in time of these.
 //! - `kinds.rt`: the prefixes of a lane by kinds, which its routers have the same entries for.
 //! - `sharing.rt`, `table.rt`: of each router the number of its entry for each kind of its lane, and the tables; no route is
-//!   asked for where the lane tells the entry.
+//!   asked for where the lane tells the entry, or where it leads is known.
 //! - `candidates.rt`, `distinct.rt`, `lists.rt`: prefixes, in order and each once, and lists that grow.
 //! - `routes.rt`, `joined.rt`: tables as a source of tables, with the segments that join neighbors.
+//!
+//! `RouteTables::build` takes time of lanes times prefixes, and of routers times the kinds in their lanes, besides the routes
+//! that it asks for. A table has 4 bytes for each kind, a lane 4 for each prefix.
 #![tactic(auto)]
 
 mod alike;

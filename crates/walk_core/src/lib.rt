@@ -13,11 +13,12 @@
 //! | `distance`, `rows` | a distance in 8 bytes, and a row of those from one vertex |
 //! | `relax`, `hops` | over arcs: distances by relaxing, and first hops by the distances from where arcs lead |
 //! | `flood`, `outlets`, `over_segments` | over segments: distances, from stale vertices, and onto a LAN at once |
-//! | `beyond`, `ways` | first hops over segments: by the distances from the ends of a link, by those from a whole LAN |
+//! | `beyond`, `ways` | the walks that begin on a LAN, once for all roots, and first hops by these and by the distances from the ends of links |
 //! | `exits` | first hops from a root of two links, as most have, in one pass over three rows of distances |
 //! | `union` | numbers below a bound, and in order |
 //!
-//! A vertex relaxes its arcs again only once it is stale, when its distance fell. A LAN of n ports is entered in time
+//! Over arcs all are relaxed until no distance falls. Over segments a vertex relaxes again only once it is stale, when its
+//! distance fell. A LAN of n ports is entered in time
 //! n, and again only at a lower cost, so that its n(n - 1) arcs aren't relaxed one by one. So all roots of n vertices
 //! with p ports take time n p where distances spread along the vertices in order, and n p once for the vertices of each
 //! LAN that are nearest to each vertex; the first hops of a root are then read, not searched. A root without a port
