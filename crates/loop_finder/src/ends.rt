@@ -2,7 +2,7 @@ ghost use Rattle.std.specs.Prelude.{◌≡◌, ◌<◌, length};
 ghost use Rattle.std.specs.Bool.{OnTrue};
 ghost use Rattle.loop_finder.specs.steps.EndPairs.{new_hops, old_hops};
 
-/// The hops of a router in both networks. One hop alone is told itself, so that it isn't looked up again.
+/// The hops of a router in both networks. One hop in each is told itself, so that it isn't looked up again.
 #[derive(Clone, Copy)]
 pub enum Ends<'m> {
     /// This hop alone, in both.

@@ -125,8 +125,9 @@ fn keep_into_areas(
     Ok(())
 }
 
-/// Puts the announcements of an area's routers into it in place of other offers: the subnets and ranges of other areas, and into an area other than the
-/// backbone what border routers reach over the backbone, and the defaults of stub areas (RFC 2328, sections 12.4.3 and 3.6).
+/// Puts the announcements of an area's routers into it in place of other offers: the subnets and ranges of other areas, and
+/// into an area other than the backbone what border routers reach over the backbone, and the defaults of stub areas (RFC
+/// 2328, sections 12.4.3 and 3.6).
 fn put_summaries(
     offers: &mut Vec<Offer>,
     net: &Net,

@@ -65,7 +65,7 @@ impl Summaries {
         self.areas
     }
 
-    /// What is announced of the prefix at a place into the area at another, and nothing where that is none.
+    /// What is announced of the prefix at a place into the area at another, where there is that area.
     pub fn into_some_area(&self, place: usize, zone: Option<usize>) -> &[Offer]
         requires { (k : ℕ) → zone ≡ Some k → place * self.now.areas + k < length self.now.lists }
         ensures { (k : ℕ) → zone ≡ Some k → result.now ≡ heard_into self.now place k }

@@ -33,8 +33,8 @@ pub fn add_net(prefixes: &mut Vec<Prefix>, net: &Net) -> Result<(), OutOfMemory>
     Ok(())
 }
 
-/// Adds the prefixes that occur in the tables of a source, each once. It takes time of the prefixes, and for each router of those
-/// that no table before had an entry for.
+/// Adds the prefixes that occur in the tables of a source. It takes time of the prefixes, and for each router of those that no
+/// table before had an entry for.
 pub fn add_source<S: RouteSource>(
     alloc: Global,
     prefixes: &mut Vec<Prefix>,

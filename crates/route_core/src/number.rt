@@ -3,7 +3,7 @@ ghost use Rattle.std.specs.Prelude.{◌≡◌, Some, None, IfOk};
 use crate::OutOfMemory;
 use std::marker::Model;
 
-/// The number of an entry in a list, or that there is none. It has 4 bytes, since tables have one for each kind of prefixes.
+/// A number, as that of an entry in a list, or that there is none. It has 4 bytes, since tables have one for each kind of prefixes.
 #[derive(Clone, Copy, Debug, PartialEq, Eq)]
 pub struct Number {
     /// One more than the number, 0 where there is none.
