@@ -60,7 +60,8 @@ row_stands kept place number n is below =
 pub row_is_there : (kept : KeptTable) (place number n : ℕ) → kept_number kept place ≡ Some number → place < n →
     Contains (rows_below kept n) (record { place = place; number = number })
 row_is_there kept place number n is below =
-    Contains-from_place (rows_below kept n) (length (rows_below kept place)) (record { place = place; number = number }) (row_stands kept place number n is below)
+    Contains-from_place (rows_below kept n) (length (rows_below kept place)) (record { place = place; number = number })
+    (row_stands kept place number n is below)
 
 -- what a row of the first places is
 pub record IsRowBelow (kept : KeptTable) (n : ℕ) (row : Row) : Type 0 where
@@ -128,7 +129,9 @@ table_rows kept table =
     λ k d below. row_is kept n (get_or (rows_in kept) k d) (Contains-get_or (rows_in kept) k d below) in
     record {
       places = λ k d below. (at k d below).below;
-      numbers = λ k d below. table.numbers_below (get_or kept.kinds (get_or (rows_in kept) k d).place 0) (get_or (rows_in kept) k d).number (at k d below).number;
+      numbers = λ k d below.
+          let row : Row = get_or (rows_in kept) k d in
+          table.numbers_below (get_or kept.kinds row.place 0) row.number (at k d below).number;
       distinct = distinct_below kept n table (omega arith);
     }
 
