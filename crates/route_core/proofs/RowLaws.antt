@@ -3,14 +3,14 @@ use Rattle.std.proofs.Common.{◌≡◌, ℕ, zero, suc, ◌+◌, ◌-◌, ◌<�
 use Rattle.std.proofs.Common.{true, false, is_some, Option, None, Some, IfNone, refl, sym, ap, subst, ◌∙◌, arith, append_assoc, length-append, add-one, zero-add, suc-add}
 use Rattle.std.proofs.Math.Seq.{take-suc}
 use Rattle.std.proofs.lemmas.Bool.{cases_lt}
-use Rattle.std.proofs.lemmas.List.{append-nil, get_or_append_left, get_or_default, get_or_past, get_or_push, get_or-map, length_push, length-map, map-append, take_all}
-use Rattle.std.proofs.lemmas.List.Elements.{All-head, All-tail, Contains-get_or, Contains-push_cases}
+use Rattle.std.proofs.lemmas.List.{append-nil, get_or_append_left, get_or_default, get_or_past, get_or-map, length-map, map-append, take_all}
+use Rattle.std.proofs.lemmas.List.Elements.{Contains-get_or, Contains-push_cases}
 use Rattle.std.proofs.lemmas.Option.{none-some, same_Some, slice_get-get_or, slice_get_within, get_or_from_slice_get}
 use Rattle.net_addr.specs.Addresses.{Block, default_prefix}
 use Rattle.net_addr.proofs.LongestMatchLaws.{slice_get-push_new}
 use Rattle.route_core.specs.declared.entry.Entry.{Entry}
 use Rattle.route_core.specs.declared.entry.Entry.TheVariants.{Discard}
-use Rattle.route_core.specs.Rows.{AreNumbersBelow, AreTableRows, IsTable, KeptTable, Row, kept_number, listed, listed_row, listed_rows, row_prefix}
+use Rattle.route_core.specs.Rows.{AreTableRows, IsTable, KeptTable, Row, kept_number, listed, listed_row, listed_rows, row_prefix}
 use Rattle.route_core.specs.Rows.{row_prefixes, row_with, rows_below, rows_in}
 use Rattle.route_core.specs.Tables.{HasDistinctPrefixes, table_prefixes}
 use Rattle.route_core.proofs.TableLaws.{Contains-from_place, HasDistinctPrefixes-nil, HasDistinctPrefixes-push}
@@ -141,17 +141,6 @@ pub prefixes_of_rows : (prefixes : List Block) (entries : List Entry) (rows : Li
 prefixes_of_rows prefixes entries [] = refl
 prefixes_of_rows prefixes entries (row ∷ rows) = ap (λ (l : List Block). row_prefix prefixes row ∷ l) (prefixes_of_rows prefixes entries rows)
 
--- with more entries the rows stand for the same
-pub rows_kept : (prefixes : List Block) (entries more : List Entry) (rows : List Row) → AreNumbersBelow entries rows →
-    listed_rows prefixes (entries ++ more) rows ≡ listed_rows prefixes entries rows
-rows_kept prefixes entries more [] numbers = refl
-rows_kept prefixes entries more (row ∷ rows) numbers =
-    let same : get_or (entries ++ more) row.number Discard ≡ get_or entries row.number Discard =
-    get_or_append_left entries more Discard row.number (All-head (λ (r : Row). r.number < length entries) row rows numbers) in
-    let later : listed_rows prefixes (entries ++ more) rows ≡ listed_rows prefixes entries rows =
-    rows_kept prefixes entries more rows (All-tail (λ (r : Row). r.number < length entries) row rows numbers) in
-    cc
-
 -- what stands at a place of the rows
 pub listed_at : (kept : KeptTable) (i : ℕ) (row : Row) → slice_get (rows_in kept) i ≡ Some row →
     slice_get (listed kept) i ≡ Some (listed_row kept.prefixes kept.entries row)
@@ -173,34 +162,6 @@ pub record AreOwnParts (kept : KeptTable) (now : List (Block × Entry)) : Type 0
   pub numbers : length kept.numbers ≡ length now
   pub kind : (k : ℕ) → k < length now → get_or kept.kinds k 0 ≡ k
   pub number : (k : ℕ) → k < length now → get_or kept.numbers k None ≡ Some k
-
--- so is the next one
-each_push : {X : Type 0} (xs : List X) (none : X) (by : ℕ → X) (n : ℕ) → length xs ≡ n → ((k : ℕ) → k < n → get_or xs k none ≡ by k) →
-    (k : ℕ) → k < n + 1 → get_or (xs ++ by n ∷ []) k none ≡ by k
-each_push xs none by n long each k below = elim (cases_lt k n) [
-  | inl earlier ↦ get_or_append_left xs (by n ∷ []) none k (omega arith) ∙ each k earlier
-  | inr last ↦
-      let here : k ≡ n = omega arith in
-      get_or_push xs (by n) none k (omega arith) ∙ ap by (sym here)
-]
-
-pub own_part_more : (kept : KeptTable) (now : List (Block × Entry)) (p : Block) (e : Entry) (n : ℕ) → n ≡ length now → AreOwnParts kept now →
-    AreOwnParts (record {
-      prefixes = kept.prefixes ++ p ∷ [];
-      kinds = kept.kinds ++ n ∷ [];
-      numbers = kept.numbers ++ Some n ∷ [];
-      entries = kept.entries ++ e ∷ [];
-    }) (now ++ (p, e) ∷ [])
-own_part_more kept now p e n at own =
-    let long = length_push now (p, e) in
-    record {
-      prefixes_are = ap (λ (l : List Block). l ++ p ∷ []) own.prefixes_are ∙ sym (map-append (λ (x : Block × Entry). x.0) now ((p, e) ∷ []));
-      entries_are = ap (λ (l : List Entry). l ++ e ∷ []) own.entries_are ∙ sym (map-append (λ (x : Block × Entry). x.1) now ((p, e) ∷ []));
-      kinds = let more = length_push kept.kinds n in omega (arith, own.kinds);
-      numbers = let more = length_push kept.numbers (Some n) in omega (arith, own.numbers);
-      kind = λ k below. each_push kept.kinds 0 (λ j. j) n (own.kinds ∙ sym at) (λ j inside. own.kind j (omega arith)) k (omega arith);
-      number = λ k below. each_push kept.numbers None (λ j. Some j) n (own.numbers ∙ sym at) (λ j inside. own.number j (omega arith)) k (omega arith);
-    }
 
 own_number : (kept : KeptTable) (now : List (Block × Entry)) (k : ℕ) → AreOwnParts kept now → k < length now → kept_number kept k ≡ Some k
 own_number kept now k own below = ap (λ (j : ℕ). get_or kept.numbers j None) (own.kind k below) ∙ own.number k below
