@@ -1,4 +1,4 @@
-ghost use Rattle.std.specs.Prelude.{◌≡◌, Some, None, IfOk};
+ghost use Rattle.std.specs.Prelude.{◌≡◌, ◌+◌, ◌<◌, ◌^◌, Some, None, Ok, IfOk};
 
 use crate::OutOfMemory;
 use std::marker::Model;
@@ -32,7 +32,8 @@ impl Number {
     /// This number. The greatest of 32 bits gives `OutOfMemory`, since no list has so many entries.
     #[inline(always)]
     pub fn of(number: u32) -> Result<Number, OutOfMemory>
-        ensures { IfOk result (λ own. own ≡ Some number) }
+        ensures is { IfOk result (λ own. own ≡ Some number) }
+        ensures fits { number + 1 < 2 ^ 32 → result ≡ Ok (Some number) }
     {
         match number.checked_add(1) {
             Some(code) => Ok(Number { code }),
