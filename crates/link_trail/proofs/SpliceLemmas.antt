@@ -1,4 +1,4 @@
--- What nodes and ends show where a node is put between two neighbours, or taken out.
+-- What nodes and ends show where a node is put between two neighbors, or taken out.
 use Rattle.std.proofs.Common.{◌≡◌, ◌≢◌, ℕ, ◌<◌, List, [], ◌∷◌, ◌++◌, length, Option, Some, None, set, sym, ap, ◌∙◌, subst}
 use Rattle.std.proofs.Common.{⊎_elim, arith}
 use Rattle.std.proofs.lemmas.List.{get_or-set_same, get_or-set_other, length-set}
@@ -16,7 +16,7 @@ use Rattle.link_trail.proofs.ChainLemmas.{next-other, previous-other, length-nex
 use Rattle.link_trail.proofs.ChainLemmas.{chained-right, chained-join, chained-onward, chained-origin, ends-first, ends-last, first-other, last-other}
 use Rattle.link_trail.proofs.ChainLemmas.{length-first, length-last}
 
--- the nodes once both neighbours and the node itself are written
+-- the nodes once both neighbors and the node itself are written
 abbrev pub spliced : List Node → Option ℕ → Option ℕ → Option ℕ → Option ℕ → ℕ → Node → List Node
 spliced nodes previous onward next origin node v =
     set (with_previous (with_next nodes previous onward) next origin) node v
@@ -134,7 +134,7 @@ ShowsLists-node nodes ends lists list node before after shows is l =
     subst (λ ys. AreChained nodes (stretch_between list None None) ys) is (shows.each list l).chained in
     (chained-right nodes list None before (node ∷ after) None s).0
 
--- a node between two neighbours
+-- a node between two neighbors
 pub ShowsLists-put : (nodes : List Node) (ends : List Ends) (lists : List (List ℕ)) (list node : ℕ) (before after : List ℕ) →
     ShowsLists nodes ends lists → IsFree lists node → list_at lists list ≡ before ++ after →
     list < length ends → node < length nodes →
@@ -188,7 +188,7 @@ ShowsLists-put nodes ends lists list node before after shows free is l n =
     (λ p ep. none-last z p before parts'.0 ep) (λ k ek. none-first z k after parts'.1 ek)
     ∙ shows.free z (free-before lists z list (before ++ node ∷ after) fz (subst (λ ys. IsNoneOf z ys) (sym is) o.0)))
 
--- the two neighbours without the node between them
+-- the two neighbors without the node between them
 pub ShowsLists-out : (nodes : List Node) (ends : List Ends) (lists : List (List ℕ)) (list node : ℕ) (before after : List ℕ) →
     ShowsLists nodes ends lists → list_at lists list ≡ before ++ node ∷ after → list < length ends →
     ShowsLists (spliced nodes (last_node before) (first_node after) (first_node after) (last_node before) node free_node)

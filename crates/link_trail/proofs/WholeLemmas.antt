@@ -32,7 +32,7 @@ refilled n ws xs e = subst (λ k. take k (ws ++ drop (length ws) xs) ≡ ws) e (
 pub read : {A : Type 0} (xs : List A) (i : ℕ) (r d : A) → i < length xs → r ≡ get_or xs i r → get_or xs i d ≡ r
 read xs i r d l e = get_or_default xs i d r l ∙ sym e
 
--- the neighbours of a node are nodes
+-- the neighbors of a node are nodes
 pub previous-in_range : (nodes : List Node) (ends : List Ends) (lists : List (List ℕ)) (list : ℕ) (before after : List ℕ) →
     ShowsLists nodes ends lists → list_at lists list ≡ before ++ after → list < length lists →
     (p : ℕ) → last_node before ≡ Some p → p < length nodes
@@ -49,7 +49,7 @@ next-in_range nodes ends lists list before after shows is l n e =
     linked-in_range nodes list n
     (first-list nodes list (last_node before) after None (chained-right nodes list None before after None s) n e)
 
--- the node after a place between two neighbours
+-- the node after a place between two neighbors
 pub next_after-is : (nodes : List Node) (ends : List Ends) (lists : List (List ℕ)) (list : ℕ) (before after : List ℕ) →
     ShowsLists nodes ends lists → list_at lists list ≡ before ++ after → list < length lists →
     next_after nodes ends list (last_node before) ≡ first_node after

@@ -1,4 +1,4 @@
--- How the nodes' neighbours and the lists' ends show the lists.
+-- How the nodes' neighbors and the lists' ends show the lists.
 use Rattle.std.specs.Prelude.{◌≡◌, ◌≢◌, ℕ, ◌<◌, List, [], ◌∷◌, length, Option, Some, None, slice_index_or}
 use Rattle.link_trail.specs.declared.chain.Node.{Node}
 use Rattle.link_trail.specs.declared.chain.Ends.{Ends}
@@ -45,7 +45,7 @@ pub record Stretch : Type 0 where
   pub previous : Option ℕ
   pub next : Option ℕ
 
--- the stretch of a list between two neighbours
+-- the stretch of a list between two neighbors
 abbrev pub stretch_between : ℕ → Option ℕ → Option ℕ → Stretch
 stretch_between list previous next = record { list = list; previous = previous; next = next }
 
@@ -63,7 +63,7 @@ pub record ShowsList (nodes : List Node) (list : ℕ) (ends : Ends) (xs : List �
   pub first : ends.first ≡ first_node xs
   pub last : ends.last ≡ last_node xs
 
--- nodes and ends show these lists, and a node in no list has no neighbours
+-- nodes and ends show these lists, and a node in no list has no neighbors
 pub record ShowsLists (nodes : List Node) (ends : List Ends) (lists : List (List ℕ)) : Type 0 where
   pub count : length ends ≡ length lists
   pub each : (list : ℕ) → list < length lists → ShowsList nodes list (ends_at ends list) (list_at lists list)

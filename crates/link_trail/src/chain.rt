@@ -3,7 +3,7 @@ ghost use Rattle.std.specs.Option.{ForSome};
 ghost use Rattle.link_trail.specs.Chains.{stretch_between, node_at};
 ghost use Rattle.link_trail.specs.steps.Splices.{PutsBetween, TakesOut, kept, next_after, with_first, with_last, with_next, with_previous};
 
-/// Where a node stands: its list, and its neighbours there.
+/// Where a node stands: its list, and its neighbors there.
 #[derive(Clone, Copy, Debug)]
 pub(crate) struct Node {
     pub(crate) list: Option<u32>,
@@ -52,7 +52,7 @@ pub(crate) fn following(
     }
 }
 
-/// Puts a free node into the list, between two neighbours or at an end.
+/// Puts a free node into the list, between two neighbors or at an end.
 pub(crate) fn splice_in(
     nodes: &mut [Node],
     ends: &mut [Ends],
@@ -76,7 +76,7 @@ pub(crate) fn splice_in(
     };
 }
 
-/// Takes a node out of the list, and makes its neighbours there neighbours of each other.
+/// Takes a node out of the list, and makes its neighbors there neighbors of each other.
 pub(crate) fn splice_out(nodes: &mut [Node], ends: &mut [Ends], list: u32, node: u32)
     requires list { list < length ends.old }
     requires node { node < length nodes.old }

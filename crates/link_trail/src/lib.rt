@@ -3,7 +3,7 @@
 //! | File | What it holds | Time of its calls |
 //! |---|---|---|
 //! | `links` | `Links`, seen as its lists: what callers see | that of one move; `undo_to` of the moves taken back, `new` and `widen` of the nodes made |
-//! | `chain` | nodes with their neighbours and lists with their ends: one node is put in or taken out | constant |
+//! | `chain` | nodes with their neighbors and lists with their ends: one node is put in or taken out | constant |
 //! | `moves` | a move with what takes it back | constant |
 //!
 //! `specs/Lists` says what each call does to the lists, `Moves` what moves make of them, `Chains` how the fields show them.

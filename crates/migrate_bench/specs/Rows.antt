@@ -1,4 +1,4 @@
--- The neighbours of a router, in a list.
+-- The neighbors of a router, in a list.
 use Rattle.std.specs.Prelude.{ℕ, ◌<◌, ◌^◌, List, length, slice_index}
 
 -- the row lists routers, no more than a u32 counts

@@ -9,7 +9,7 @@ use std::alloc::{AllocError, Global};
 use std::marker::Model;
 use walk_core::CostGraph;
 
-/// The neighbours of a router.
+/// The neighbors of a router.
 #[derive(Drop)]
 struct Neighbors {
     all: Vec<u32>,

@@ -74,7 +74,7 @@ module _ (move : Migration) (old' new' : Tables) (same : HaveSameTables move old
     within = found.within;
     chained = found.chained;
     fewest = found.fewest;
-    neighbours = found.neighbours;
+    neighbors = found.neighbors;
     turned = found.turned;
   }
 

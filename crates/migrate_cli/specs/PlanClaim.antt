@@ -45,7 +45,7 @@ OrderDelivers net order = (k : ℕ) → k ≤ 2 * length order → DeliversAll n
 
 -- a text names a wave list of the network that delivers throughout, and so does the order that writes it wave by wave: each
 -- state of either is sound. `check` of it says that it is safe. Its last line is a chain, one router of each wave: each two
--- neighbours are tagged Old and New in one loop of the network
+-- neighbors are tagged Old and New in one loop of the network
 pub record NamesSafeWaves (net : Network) (text : List ℕ) : Type 0 where
   pub ranks : List ℕ
   pub names : NamesWaves net text Two ranks

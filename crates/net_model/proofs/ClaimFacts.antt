@@ -10,7 +10,7 @@ use Rattle.net_addr.specs.Addresses.{Block}
 use Rattle.net_model.specs.Conditions.{HaveOneAddress, AddressesDiffer, AreasAgree, HasStubLine, StubsAgree}
 use Rattle.net_model.specs.Configuration.{Configuration}
 use Rattle.net_model.specs.Network.{Network, HasConfiguration, UpInterface}
-use Rattle.net_model.specs.steps.Claims.{holder, address_claim, area_claim, area_claim_of, stub_claim, stub_claim_of, ClaimsAgree, HoldsClaims, NeighboursAgree}
+use Rattle.net_model.specs.steps.Claims.{holder, address_claim, area_claim, area_claim_of, stub_claim, stub_claim_of, ClaimsAgree, HoldsClaims, NeighborsAgree}
 use Rattle.net_model.specs.declared.area.Stub.{Stub}
 use Rattle.net_model.specs.declared.claims.Claim.{Claim}
 use Rattle.net_model.specs.declared.interface.Interface.{Interface}
@@ -24,7 +24,7 @@ use Rattle.net_model.proofs.RouterFacts.{HasStubLine-from, any_from_HasStubLine}
 -- Sorted claims
 
 -- from a claim on, as long as the key stays, the value stays
-same_value : (claims : List Claim) (d : Claim) → IsNonDecreasingBy (λ (x : Claim). x.key) claims → NeighboursAgree claims (length claims) → (i n : ℕ) →
+same_value : (claims : List Claim) (d : Claim) → IsNonDecreasingBy (λ (x : Claim). x.key) claims → NeighborsAgree claims (length claims) → (i n : ℕ) →
     i + n < length claims → (get_or claims i d).key ≡ (get_or claims (i + n) d).key → (get_or claims i d).value ≡ (get_or claims (i + n) d).value
 same_value claims d sorted agree i zero within key = let here : i ≡ i + zero = omega arith in ap (λ (k : ℕ). (get_or claims k d).value) here
 same_value claims d sorted agree i (suc n) within key =
@@ -37,7 +37,7 @@ same_value claims d sorted agree i (suc n) within key =
     ∙ ap (λ (k : ℕ). (get_or claims k d).value) (sym far)
 
 -- so claims of one key have one value
-one_value : (claims : List Claim) → IsNonDecreasingBy (λ (x : Claim). x.key) claims → NeighboursAgree claims (length claims) → (x y : Claim) →
+one_value : (claims : List Claim) → IsNonDecreasingBy (λ (x : Claim). x.key) claims → NeighborsAgree claims (length claims) → (x y : Claim) →
     Contains claims x → Contains claims y → x.key ≡ y.key → x.value ≡ y.value
 one_value claims sorted agree x y in_x in_y same = elim (cases_lt in_y.0 in_x.0) [
   | inl lt ↦ sym (between y x in_y in_x (omega arith) (sym same))
@@ -57,7 +57,7 @@ one_value claims sorted agree x y in_x in_y same = elim (cases_lt in_y.0 in_x.0)
 -- what all interfaces claim, once it is sorted
 pub ClaimsAgree-sorted : (claimed : ℕ → Configuration → Interface → Option Claim) (net : Network) (all claims : List Claim) →
     HoldsClaims claimed net (length net) all →
-    ((x : Claim) → Contains claims x ↔ Contains all x) → IsNonDecreasingBy (λ (x : Claim). x.key) claims → NeighboursAgree claims (length claims) →
+    ((x : Claim) → Contains claims x ↔ Contains all x) → IsNonDecreasingBy (λ (x : Claim). x.key) claims → NeighborsAgree claims (length claims) →
     ClaimsAgree claimed net
 ClaimsAgree-sorted claimed net all claims holds kept sorted agree u v i j x y i_up j_up is_x is_y same =
     one_value claims sorted agree x y

@@ -4,7 +4,7 @@ ghost use Rattle.std.specs.Bool.{OnTrue};
 ghost use Rattle.std.specs.List.Sorted.{IsNonDecreasingBy};
 ghost use Rattle.net_model.specs.Configuration.{Configuration};
 ghost use Rattle.net_model.specs.declared.interface.Interface.{Interface};
-ghost use Rattle.net_model.specs.steps.Claims.{ClaimsAgree, HoldsClaims, NeighboursAgree};
+ghost use Rattle.net_model.specs.steps.Claims.{ClaimsAgree, HoldsClaims, NeighborsAgree};
 
 use crate::{Config, Interface};
 use std::alloc::{AllocError, Global};
@@ -37,7 +37,7 @@ pub fn claims_agree<C: Claims>(alloc: Global, configs: &[Config]) -> Result<bool
 {
     let mut claims = all_claims::<C>(alloc, configs)?;
     sort_by_key(&mut claims);
-    Ok(neighbours_agree(&claims))
+    Ok(neighbors_agree(&claims))
 }
 
 /// What all interfaces claim.
@@ -84,9 +84,9 @@ fn sort_by_key(claims: &mut Vec<Claim>)
     claims.sort_unstable_by_key(|claim| claim.key);
 }
 
-/// Whether neighbours with one key have one value.
-fn neighbours_agree(claims: &[Claim]) -> bool
-    ensures { OnTrue result (NeighboursAgree claims.now (length claims.now)) }
+/// Whether neighbors with one key have one value.
+fn neighbors_agree(claims: &[Claim]) -> bool
+    ensures { OnTrue result (NeighborsAgree claims.now (length claims.now)) }
 {
     for next in 1..claims.len() {
         let one = claims[next - 1];

@@ -94,7 +94,7 @@ waves_are_found m budget s chain asked is_good chained =
       within = omega (arith, branch_count-append s.tree (Unvisited ∷ []), searching.counted, searching.within);
       chained = is_chain;
       fewest = λ others ranking keeps. layers_fewest m.size pairs s.ranks.items others layered.below layered.layers ranking.each keeps;
-      neighbours = λ k lt. (is_chain.back k lt).holds.before;
+      neighbors = λ k lt. (is_chain.back k lt).holds.before;
       turned = All-head (AreTurned m.base trail) pairs (places_of pairs s.waiting) all;
     }
 

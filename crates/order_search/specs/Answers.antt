@@ -24,7 +24,7 @@ pub record AreFoundWaves (m : Meaning) (budget : ℕ) (ranks : List ℕ) (pairs 
   pub within : branch_count trail ≤ budget
   pub chained : IsChain pairs ranks chain
   pub fewest : (others : List ℕ) → IsRanking m.size others → KeepsPairs others pairs → wave_count ranks ≤ wave_count others
-  pub neighbours : (k : ℕ) → suc k < length chain → Contains pairs (slice_index chain k, slice_index chain (suc k))
+  pub neighbors : (k : ℕ) → suc k < length chain → Contains pairs (slice_index chain k, slice_index chain (suc k))
   pub turned : (pair : Pair) → Contains pairs pair → Contains m.base pair ⊎ IsOfBranch trail pair
 
 -- a closed tree of at most `budget` branches

@@ -1,4 +1,4 @@
--- The waves that a search finds: their chain has one router of each, and each two neighbours of it are tagged in one loop.
+-- The waves that a search finds: their chain has one router of each, and each two neighbors of it are tagged in one loop.
 use Rattle.std.proofs.Common.{◌≡◌, ℕ, suc, ◌<◌, inl, inr, List, [], ◌∷◌, ◌++◌, length, get_or, All, Contains, arith}
 use Rattle.std.proofs.Common.{subst, sym, ◌∙◌}
 use Rattle.std.proofs.lemmas.Bool.{cases_lt}
@@ -100,4 +100,4 @@ module _ (move : Migration) where
     ]
 
     pub found_tagged : IsTaggedChain move chain
-    found_tagged k within = pair_tagged (get_or chain k 0, get_or chain (suc k) 0) (found.neighbours k within)
+    found_tagged k within = pair_tagged (get_or chain k 0, get_or chain (suc k) 0) (found.neighbors k within)

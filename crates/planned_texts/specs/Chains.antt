@@ -13,7 +13,7 @@ pub record AreTaggedInLoop (move : Migration) (u v : ℕ) : Type 0 where
   pub is_old : Contains (old_routers ring) u
   pub is_new : Contains (new_routers ring) v
 
--- each two neighbours of a chain are tagged Old and New in one loop of the network
+-- each two neighbors of a chain are tagged Old and New in one loop of the network
 abbrev pub IsTaggedChain : Migration → List ℕ → Type 0
 IsTaggedChain move chain =
     (k : ℕ) → suc k < length chain → AreTaggedInLoop move (slice_index chain k) (slice_index chain (suc k))

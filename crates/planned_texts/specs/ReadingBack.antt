@@ -53,7 +53,7 @@ PlannedTextsReadBack move =
     (budget : ℕ) (found : Found) → IsNetwork move.net → 0 < length move.net → IsFound (waves_meaning move) budget found →
     FoundReadsBack move found (planned_text (names_of move.net) found)
 
--- each two neighbours of the chain of planned waves are tagged Old and New in one loop of the network
+-- each two neighbors of the chain of planned waves are tagged Old and New in one loop of the network
 abbrev pub ChainsAreTagged : Migration → Type 0
 ChainsAreTagged move =
     (budget : ℕ) (ranks : List ℕ) (pairs : List Pair) (chain : List ℕ) (trail : List Node) →

@@ -16,7 +16,7 @@ pub fn planned_texts_read_back<T: AnyMigration>()
     ensures { PlannedTextsReadBack T.migration }
 {}
 
-/// The law that each two neighbours of the chain of planned waves are tagged `Old` and `New` in one loop of the network.
+/// The law that each two neighbors of the chain of planned waves are tagged `Old` and `New` in one loop of the network.
 ///
 /// In that loop the first of them has to be switched before the second, unless another router tagged `Old` is switched
 /// before another one tagged `New`.

@@ -16,9 +16,9 @@ pub fn layers_are_fewest()
         AreLayers n pairs others → layers ≡ others }
 {}
 
-/// The law that a chain's neighbours are pairs, and that layers have one chain.
+/// The law that a chain's neighbors are pairs, and that layers have one chain.
 pub fn chains_are_pairs()
-    ensures neighbours { (pairs : List Pair) (layers chain : List ℕ) → IsChain pairs layers chain
+    ensures neighbors { (pairs : List Pair) (layers chain : List ℕ) → IsChain pairs layers chain
         → (k : ℕ) → suc k < length chain → Contains pairs (slice_index chain k, slice_index chain (suc k)) }
     ensures one { (pairs : List Pair) (layers chain other : List ℕ) → IsChain pairs layers chain → IsChain pairs layers other → chain ≡ other }
 {}

@@ -35,7 +35,7 @@ WrongBranch move a turns NotAssumed = ⊥
 abbrev pub IsAssumedRound : Place → List ℕ → Type 0
 IsAssumedRound place cycle = AroundRing (λ (u v : ℕ). Contains place (u, v)) cycle
 
--- a leaf is wrong: two neighbours of its cycle are no pair that is assumed
+-- a leaf is wrong: two neighbors of its cycle are no pair that is assumed
 abbrev pub WrongLeaf : Place → List ℕ → WrongKind → Type 0
 WrongLeaf place cycle Form = ⊥
 WrongLeaf place cycle Router = ⊥

@@ -37,6 +37,6 @@ pub enum WrongKind {
     Step = 5,
     /// A branch has no turn `O`, or none `N`.
     OneSided = 6,
-    /// Two neighbours of a leaf's cycle are no pair that is assumed at its place.
+    /// Two neighbors of a leaf's cycle are no pair that is assumed at its place.
     NotAssumed = 7,
 }

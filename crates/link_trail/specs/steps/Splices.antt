@@ -1,4 +1,4 @@
--- Nodes and ends with some neighbours changed, and what is shown once a node is put in or taken out.
+-- Nodes and ends with some neighbors changed, and what is shown once a node is put in or taken out.
 use Rattle.std.specs.Prelude.{◌≡◌, ℕ, List, ◌∷◌, ◌++◌, Option, Some, None, slice_set}
 use Rattle.link_trail.specs.declared.chain.Node.{Node}
 use Rattle.link_trail.specs.declared.chain.Ends.{Ends}
@@ -34,7 +34,7 @@ with_last ends list None previous =
     slice_set ends list (record { first = (ends_at ends list).first; last = previous })
 with_last ends list (Some n) previous = ends
 
--- what is kept of lists: the neighbours of each node, and the ends of each list
+-- what is kept of lists: the neighbors of each node, and the ends of each list
 pub record KeptLists : Type 0 where
   pub nodes : List Node
   pub ends : List Ends

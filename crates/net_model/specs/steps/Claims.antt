@@ -46,8 +46,8 @@ abbrev pub HoldsClaims : (ℕ → Configuration → Interface → Option Claim) 
 HoldsClaims claimed net n claims =
     (u : ℕ) (i : Interface) (x : Claim) → u < n → (up : UpInterface net u i) → claimed u up.config i ≡ Some x → Contains claims x
 
--- of the first n claims of a list neighbours with one key have one value
-abbrev pub NeighboursAgree : List Claim → ℕ → Type 0
-NeighboursAgree claims n =
+-- of the first n claims of a list neighbors with one key have one value
+abbrev pub NeighborsAgree : List Claim → ℕ → Type 0
+NeighborsAgree claims n =
     (k : ℕ) (d : Claim) → k + 1 < n → (slice_index_or claims k d).key ≡ (slice_index_or claims (k + 1) d).key →
     (slice_index_or claims k d).value ≡ (slice_index_or claims (k + 1) d).value

@@ -1,4 +1,4 @@
--- Neighbours of one name in a list of configurations.
+-- Neighbors of one name in a list of configurations.
 use Rattle.std.specs.Prelude.{◌≡◌, ℕ, ◌+◌, ◌<◌, List, length, slice_index_or}
 use Rattle.net_model.specs.Configuration.{Configuration}
 use Rattle.net_model.specs.declared.refusal.NetRefusal.{NetRefusal}
