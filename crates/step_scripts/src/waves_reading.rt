@@ -13,7 +13,7 @@ ghost use Rattle.step_scripts.specs.WaveFiles.{NamesWaves, all_in, wave_at};
 ghost use Rattle.step_scripts.specs.WaveLines.{header_of};
 
 use crate::names::{Names, chain_on, wave_on};
-use crate::seats::Seats;
+use crate::seats::{Seats, is_listed};
 use crate::{OrderKind, OrderRefusal, Version, WaveFile};
 use net_addr::{Line, Span, lines};
 use net_model::Net;
@@ -99,7 +99,7 @@ fn seat_waves(
     ensures ok { IfOk result (AreFirstWaves net.now version (bytes_of_lines text.now entries.now)) }
     ensures err { IfErr result (RefusesWaves net.now text.now) }
 {
-    let mut seats = Seats::new(alloc);
+    let mut seats = Seats::new(alloc, net.routers())?;
     for line in entries {
         let Some(names) = wave_on(alloc, version, bytes_at(text, line.span))? else {
             return Ok(seats);
@@ -172,13 +172,6 @@ fn stood_before(seats: &Seats, before: &[u32], router: u32) -> bool
         Some(_) => true,
         None => is_listed(before, router),
     }
-}
-
-/// Whether the router is in the list.
-fn is_listed(routers: &[u32], router: u32) -> bool
-    ensures { IsTrue result ↔ Contains routers.now router }
-{
-    routers.contains(&router)
 }
 
 /// Refuses what stands behind the waves, where it isn't nothing or a chain of them.

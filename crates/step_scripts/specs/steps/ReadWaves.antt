@@ -1,6 +1,6 @@
 -- How far the lines of an order file have been read: the entries are the lines behind the header, the seats the routers of the waves.
 use Rattle.std.specs.Prelude.{◌≡◌, ℕ, ◌+◌, ◌<◌, ◌≤◌, List, [], ◌∷◌, ◌++◌, length, slice_index_or, take, map, All, Contains}
-use Rattle.std.specs.Prelude.{Some, None}
+use Rattle.std.specs.Prelude.{◌⊎◌, Option, Some, None, MatchOption}
 use Rattle.std.specs.List.{AllZip}
 use Rattle.net_addr.specs.Lines.{line_texts}
 use Rattle.net_addr.specs.Spans.{bytes_of, LiesIn}
@@ -89,6 +89,26 @@ pub record IsIn (seats : List (List ℕ)) (u w : ℕ) : Type 0 where
 pub record HasSeat (seats : List (List ℕ)) (u : ℕ) : Type 0 where
   pub wave : ℕ
   pub is_in : IsIn seats u wave
+
+-- of each router a wave that it is in, where there is one
+abbrev pub KnowPlaces : List (List ℕ) → List (Option ℕ) → Type 0
+KnowPlaces seats places = (u : ℕ) → u < length places → MatchOption (slice_index_or places u None) (HasSeat seats u → ⊥) (IsIn seats u)
+
+-- what is known of routers before and after something is noted
+pub record Noted : Type 0 where
+  pub before : List (Option ℕ)
+  pub after : List (Option ℕ)
+
+-- router u, which is among these, is noted in wave w, or it isn't among these, and nothing is noted of it
+abbrev pub IsNoted : List ℕ → ℕ → Noted → ℕ → Type 0
+IsNoted routers w noted u =
+    (Contains routers u × (slice_index_or noted.after u None ≡ Some w)) ⊎
+    ((Contains routers u → ⊥) × (slice_index_or noted.after u None ≡ slice_index_or noted.before u None))
+
+-- each router is so
+pub record AreNoted (routers : List ℕ) (w : ℕ) (noted : Noted) : Type 0 where
+  pub count : length noted.after ≡ length noted.before
+  pub each : (u : ℕ) → u < length noted.after → IsNoted routers w noted u
 
 -- a router below the count is in no wave
 pub record HasUnseated (count : ℕ) (seats : List (List ℕ)) : Type 0 where

@@ -1,6 +1,6 @@
 use Rattle.std.proofs.Common.{◌∙◌, sym, below_more, arith}
 use Rattle.std.proofs.lemmas.Bool.{false≢true}
-use Rattle.step_scripts.proofs.seats.Seats.wave_with.Goals as goal
+use Rattle.step_scripts.proofs.seats.Seats.wave_among.Goals as goal
 
 pub loop-wave-preserved : goal.loop-wave-preserved
 loop-wave-preserved c = below_more _ _ c.loop-wave.invariant (λ among. false≢true (sym c.if-has.false ∙ c.has.ensures.1 among))
