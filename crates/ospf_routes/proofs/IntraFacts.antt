@@ -80,22 +80,25 @@ pub record PartsSoFar (routes : List AreaRoute) (areas : List AreaWalks) (k : �
   pub each : All (IsPartIn areas routes) parts
   pub every : (n : ℕ) (o : Offer) → HasArea (take k areas) n → Any (λ (r : AreaRoute). InsideOf n r o) routes → HasAreaPart parts n
 
-pub parts_more : (routes : List AreaRoute) (areas : List AreaWalks) (k : ℕ) (a : AreaWalks) (old new : List AreaOffers) (part : AreaOffers) →
-    PartsSoFar routes areas k old → k < length areas → a ≡ get_or areas k a → part.area ≡ a.number → IsPartIn areas routes part → AddsPart old new part →
-    PartsSoFar routes areas (k + 1) new
-parts_more routes areas k a old new part before within here area is adds = record {
+pub parts_more : (routes : List AreaRoute) (areas : List AreaWalks) (k : ℕ) (a : AreaWalks) (old new : List AreaOffers) →
+    PartsSoFar routes areas k old → k < length areas → a ≡ get_or areas k a → AddsPart routes a.number k old new → PartsSoFar routes areas (k + 1) new
+parts_more routes areas k a old new before within here adds = record {
   each = λ j d below. ⊎_elim
       (λ among. All-contains (IsPartIn areas routes) old (get_or new j d) before.each among)
-      (λ same. subst (IsPartIn areas routes) same is)
+      (λ at. record {
+        offers = at.offers;
+        at = subst (IsAreaAt areas (get_or new j d).area) (sym at.zone_is) (record { within = within; area = a; here = here; number = sym at.area });
+      })
       (adds.each (get_or new j d) (Contains-get_or new j d below));
   every = λ n o has given. ⊎_elim
       (λ among.
       let earlier = before.every n o (record { area = has.area; among = among; number = has.number }) given in
       record { part = earlier.part; among = adds.kept earlier.part earlier.among; area = earlier.area })
       (λ same.
-      let number : part.area ≡ n = area ∙ ap (λ (x : AreaWalks). x.number) same ∙ has.number in
-      let offered = (is.offers o).1 (subst (λ (m : ℕ). Any (λ (r : AreaRoute). InsideOf m r o) routes) (sym number) given) in
-      record { part = part; among = adds.added o offered; area = number })
+      let number : a.number ≡ n = ap (λ (x : AreaWalks). x.number) same ∙ has.number in
+      let found = any_in (λ (r : AreaRoute). InsideOf n r o) routes given in
+      subst (HasAreaPart new) number
+      (adds.added (any_of (λ (r : AreaRoute). r.area ≡ a.number) routes found.item found.among (found.holds.area ∙ sym number))))
       (Contains-push_cases (take k areas) a has.area (subst (λ (l : List AreaWalks). Contains l has.area) (sym (one_more areas k a within here)) has.among));
 }
 

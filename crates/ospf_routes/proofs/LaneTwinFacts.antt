@@ -1,5 +1,5 @@
 -- Prefixes outside an area that are announced alike into it have the same entries at the routers that are in it alone.
-use Rattle.std.proofs.Common.{◌≡◌, ℕ, ◌+◌, ◌*◌, ◌<◌, List, [], length, get_or, ◌∙◌, Option, None, Some, refl, sym, subst, arith}
+use Rattle.std.proofs.Common.{◌≡◌, ◌⊎◌, ⊎_elim, ℕ, ◌+◌, ◌*◌, ◌<◌, List, [], length, get_or, ◌∙◌, Option, None, Some, refl, sym, subst, arith}
 use Rattle.std.specs.Option.{IfSome, option_or}
 use Rattle.std.proofs.lemmas.List.{get_or_default, length-map}
 use Rattle.std.proofs.lemmas.Option.{same_Some}
@@ -16,13 +16,12 @@ use Rattle.ospf_routes.specs.steps.Areas.{AreListeners}
 use Rattle.ospf_routes.specs.steps.Destinations.{IsDestination, ospf_prefixes}
 use Rattle.ospf_routes.specs.steps.Domain.{IsOspfDomain}
 use Rattle.ospf_routes.specs.steps.Lanes.{IsOfOspfLane, LaneOf}
-use Rattle.ospf_routes.specs.steps.LaneTwins.{AreAllLaneTwins, AreLaneAlike, IsOutsideLane}
+use Rattle.ospf_routes.specs.steps.LaneTwins.{AreAllLaneTwins, AreLaneAlike, AreOutsideBelow, IsEarlierOutside, IsOutsideLane}
 use Rattle.ospf_routes.specs.steps.Offered.{AreOffers}
 use Rattle.ospf_routes.specs.steps.Heard.{AreHeardAt, AreSummaries}
 use Rattle.ospf_routes.specs.steps.OfferLists.{HeardLists, heard_into}
 use Rattle.ospf_routes.specs.steps.Summarized.{IsHeard}
 use Rattle.ospf_routes.specs.steps.Twins.{AreEarlierBy, IsEarlierBy}
-use Rattle.ospf_routes.specs.declared.areas.AreaWalks.{AreaWalks}
 use Rattle.ospf_routes.specs.declared.domain.Domain.{Domain}
 use Rattle.ospf_routes.specs.declared.intra_area.Destination.{Destination}
 use Rattle.ospf_routes.proofs.CostBounds.{lists_from}
@@ -70,14 +69,13 @@ lane_alike l d e ones others listeners one other alike u f lane =
 abbrev lane_of_zone : Network → Domain → List (Option ℕ) → ℕ → LaneOf
 lane_of_zone net domain listens zone = record { net = net; areas = domain.areas.items; listens = listens; zone = zone }
 
-pub announced_at : (net : Network) (domain : Domain) (listens : List (Option ℕ)) (heard : HeardLists) (zone place : ℕ) (given : List AreaWalks)
-    (d : Destination) (offers : List Offer) → IsOspfDomain net domain → AreSummaries net domain heard → given ≡ domain.areas.items →
-    zone < length domain.areas.items → place < length domain.destinations.items → d ≡ get_or domain.destinations.items place d →
-    IsOutsideLane (record { net = net; areas = given; listens = listens; zone = zone }) d → offers ≡ heard_into heard place zone →
-    IsAnnouncedOutside (lane_of_zone net domain listens zone) d offers
-announced_at net domain listens heard zone place given d offers is are same inside within at outside read = record {
+pub announced_at : (net : Network) (domain : Domain) (listens : List (Option ℕ)) (heard : HeardLists) (zone place : ℕ) (d : Destination)
+    (offers : List Offer) → IsOspfDomain net domain → AreSummaries net domain heard → zone < length domain.areas.items →
+    place < length domain.destinations.items → d ≡ get_or domain.destinations.items place d → IsOutsideLane (lane_of_zone net domain listens zone) d →
+    offers ≡ heard_into heard place zone → IsAnnouncedOutside (lane_of_zone net domain listens zone) d offers
+announced_at net domain listens heard zone place d offers is are inside within at outside read = record {
   is = (destination_read net domain place d is within at).is.is;
-  outside = subst (λ (areas : List AreaWalks). IsOutsideLane (record { net = net; areas = areas; listens = listens; zone = zone }) d) same outside;
+  outside = outside;
   heard = subst (AreHeardAt net domain.areas.items d.dest zone) (sym read) (heard_of net domain heard place d are within at zone inside);
 }
 
@@ -101,6 +99,23 @@ outside_earlier net domain listens zone place earlier d e ones others listeners 
       subst (λ (p : Block). AreLaneAlike l p (prefix_at dests place)) near.prefix
       (subst (λ (q : Block). AreLaneAlike l d.dest q) far.prefix (lane_alike l d e ones others listeners one other alike)),
 )
+
+-- Known places
+
+pub outside_later : (l : LaneOf) (ds : List Destination) (n : ℕ) (known : List (Option ℕ)) → AreOutsideBelow l ds n known →
+    AreOutsideBelow l ds (n + 1) known
+outside_later l ds n known are u place is =
+    let before = are u place is in
+    let earlier : place < n = before.earlier in
+    record { earlier = omega arith; d = before.d; at = before.at; outside = before.outside }
+
+-- a destination outside the lane is noted
+pub outside_noted : (l : LaneOf) (ds : List Destination) (n : ℕ) (d : Destination) (old new : List (Option ℕ)) → AreOutsideBelow l ds n old →
+    d ≡ get_or ds n d → IsOutsideLane l d → ((u k : ℕ) → get_or new u None ≡ Some k → (k ≡ n) ⊎ (get_or old u None ≡ Some k)) →
+    AreOutsideBelow l ds (n + 1) new
+outside_noted l ds n d old new are at outside noted u k is = ⊎_elim
+    (λ same. subst (IsEarlierOutside l ds (n + 1)) (sym same) (record { earlier = omega arith; d = d; at = at; outside = outside }))
+    (λ before. outside_later l ds n old are u k before) (noted u k is)
 
 -- what holds of each number that one of two options names
 pub or_each : (P : ℕ → Type 0) (one other : Option ℕ) → IfSome one P → ((k : ℕ) → other ≡ Some k → P k) → (k : ℕ) → option_or one other ≡ Some k → P k

@@ -1,9 +1,9 @@
 -- Destinations that have the same entries, place by place.
-use Rattle.std.proofs.Common.{◌≡◌, ℕ, ◌+◌, ◌<◌, ◌↔◌, inl, inr, List, [], ◌∷◌, ◌++◌, length, get_or, Option, None, Some, refl, sym, subst, ◌∙◌, arith}
+use Rattle.std.proofs.Common.{◌≡◌, ℕ, ◌+◌, ◌<◌, ◌↔◌, inl, inr, List, [], ◌∷◌, ◌++◌, length, get_or, Option, None, Some, sym, subst, ◌∙◌, arith}
 use Rattle.std.proofs.Common.{length-append}
 use Rattle.std.proofs.lemmas.Bool.{cases_lt, cases_eq}
 use Rattle.std.proofs.lemmas.Option.{none-some, same_Some}
-use Rattle.std.proofs.lemmas.List.{get_or_append_left, get_or_default, get_or_push, get_or_past, length-map}
+use Rattle.std.proofs.lemmas.List.{get_or_append_left, get_or_push, get_or_past, length-map}
 use Rattle.std.specs.List.{Contains}
 use Rattle.std.specs.Option.{IfSome}
 use Rattle.net_addr.specs.Addresses.{Block}
@@ -18,7 +18,7 @@ use Rattle.ospf_routes.specs.steps.Ranges.{HoldRanges}
 use Rattle.ospf_routes.specs.steps.Destinations.{IsDestinationIn, ospf_prefixes}
 use Rattle.ospf_routes.specs.steps.Heard.{AreSummaries}
 use Rattle.ospf_routes.specs.steps.OfferLists.{HeardLists}
-use Rattle.ospf_routes.specs.steps.Twins.{AreEarlierBy, AreKnownBelow, AreTwinsAt, IsEarlierBy}
+use Rattle.ospf_routes.specs.steps.Twins.{AreEarlierBy, AreTwinsAt, IsEarlierBy}
 use Rattle.ospf_routes.specs.declared.domain.Domain.{Domain}
 use Rattle.ospf_routes.specs.declared.intra_area.Destination.{Destination}
 use Rattle.ospf_routes.proofs.TwinLaws.{is_twin_for, twin_destinations_back, twin_entries, twin_summaries_back}
@@ -93,11 +93,6 @@ earlier_more alike dests n named next are is = record {
   ];
 }
 
--- Known places
-
-pub known_more : (n : ℕ) (known : List (Option ℕ)) → AreKnownBelow n known → AreKnownBelow (n + 1) known
-known_more n known are u place is = let below = are u place is in omega arith
-
 -- Homes
 
 pub both_alone : (xs ys : List ℕ) (x y : ℕ) → ((u : ℕ) → Contains xs u ↔ (x ≡ u)) → ((u : ℕ) → Contains ys u ↔ (y ≡ u)) → x ≡ y →
@@ -106,14 +101,3 @@ both_alone xs ys x y one other same u = (
   λ has. (other u).1 (sym same ∙ (one u).0 has),
   λ has. (one u).1 (same ∙ (other u).0 has),
 )
-
--- the earlier prefix that is named for one, as it is read
-pub earlier_read : (alike : Block → Block → Type 0) (dests : List Block) (n : ℕ) (named : List (Option ℕ)) (place : ℕ) (here : Option ℕ) →
-    AreEarlierBy alike dests n named → place < n → here ≡ get_or named place here → (earlier : ℕ) → here ≡ Some earlier →
-    IsEarlierBy alike dests place earlier
-earlier_read alike dests n named place here are within is earlier found =
-    are.each place earlier (get_or_default named place None here (omega (arith, are.count)) ∙ sym is ∙ found)
-
-pub if_some_each : {X : Type 0} (o : Option X) (P : X → Type 0) → ((x : X) → o ≡ Some x → P x) → IfSome o P
-if_some_each None P each = tt
-if_some_each (Some x) P each = each x refl

@@ -78,25 +78,33 @@ fn area_parts(
 {
     let mut parts = Vec::new(alloc);
     for (zone, area) in areas.iter().enumerate() {
-        let offers = offers_inside(alloc, routes, area.number)?;
-        push_part(&mut parts, area.number, zone, offers)?;
+        push_part(alloc, &mut parts, routes, area.number, zone)?;
     }
     Ok(parts)
 }
 
 /// Adds the offers of an area, unless there are none.
 fn push_part(
+    alloc: Global,
     parts: &mut Vec<AreaOffers>,
+    routes: &[AreaRoute],
     area: u32,
     zone: usize,
-    offers: Vec<Offer>,
 ) -> Result<(), OutOfMemory>
-    ensures { OnOk result (AddsPart parts.old.items parts.new.items (record { area = area; zone = zone; offers = offers })) }
+    ensures { OnOk result (AddsPart routes.now area zone parts.old.items parts.new.items) }
 {
-    if offers.is_empty() {
+    if !has_route(routes, area) {
         return Ok(());
     }
+    let offers = offers_inside(alloc, routes, area)?;
     Ok(parts.push(AreaOffers { area, zone, offers })?)
+}
+
+/// Whether one of the routes is of the area.
+fn has_route(routes: &[AreaRoute], area: u32) -> bool
+    ensures { IsTrue result ↔ Any (λ r. r.area ≡ area) routes.now }
+{
+    routes.iter().any(|route| route.area == area)
 }
 
 /// The offers of an area.

@@ -1,8 +1,8 @@
-ghost use Rattle.std.specs.Prelude.{◌≡◌, ◌<◌, length, IfOk, IfSome, IsTrue};
+ghost use Rattle.std.specs.Prelude.{◌≡◌, ◌+◌, ◌<◌, length, IfOk, IfSome, IsTrue};
 ghost use Rattle.ospf_routes.specs.steps.Areas.{AreListeners};
 ghost use Rattle.ospf_routes.specs.steps.Destinations.{IsDestination, ospf_prefixes};
 ghost use Rattle.ospf_routes.specs.steps.Domain.{IsOspfDomain};
-ghost use Rattle.ospf_routes.specs.steps.LaneTwins.{AreAllLaneTwins, AreLaneAlike, IsOutsideLane};
+ghost use Rattle.ospf_routes.specs.steps.LaneTwins.{AreAllLaneTwins, AreLaneAlike, AreOutsideBelow, IsOutsideLane};
 ghost use Rattle.ospf_routes.specs.steps.Heard.{AreSummaries};
 ghost use Rattle.ospf_routes.specs.steps.Twins.{AreEarlierBy, AreTwins, IsEarlierBy};
 
@@ -11,6 +11,7 @@ use crate::areas::AreaWalks;
 use crate::domain::Domain;
 use crate::intra_area::{Destination, part_of};
 use crate::lanes::are_told;
+use crate::latest::Latest;
 use crate::summaries::Summaries;
 use net_model::Net;
 use route_tables::are_alike;
@@ -53,7 +54,7 @@ impl LaneTwins {
             (AreLaneAlike (record { net = net.now; areas = domain.now.areas.items; listens = listens.now; zone = zone }))
             (ospf_prefixes domain.now.destinations.items) (length domain.now.destinations.items)) }
     {
-        let mut latest = Latest::none(alloc, net.routers())?;
+        let mut latest = Latest::none(alloc, 1 + net.routers() as usize)?;
         let mut all = Vec::with_capacity(alloc, domain.destinations.len())?;
         for place in 0..domain.destinations.len() {
             let twin = outside_twin(net, domain, listens, summaries, zone, &mut latest, place);
@@ -93,45 +94,9 @@ pub fn all_lane_twins(
     Ok(all)
 }
 
-/// The latest prefixes outside an area, by what is announced of them into it.
-#[derive(Debug, Drop)]
-struct Latest {
-    /// The latest of which nothing is announced.
-    unannounced: Option<usize>,
-    /// The latest of which the first announcement is that of a router.
-    by_router: Vec<Option<usize>>,
-}
-
-impl Latest {
-    /// None yet.
-    fn none(alloc: Global, routers: u32) -> Result<Latest, OutOfMemory> {
-        let by_router = vec![in alloc; None; routers as usize]?;
-        Ok(Latest {
-            unannounced: None,
-            by_router,
-        })
-    }
-
-    /// The place of the latest prefix with the first announcement of the same router, or with none either. From now on it
-    /// is the place of this one.
-    fn replace(&mut self, announced: &[Offer], place: usize) -> Option<usize> {
-        let Some(first) = announced.first() else {
-            let earlier = self.unannounced;
-            self.unannounced = Some(place);
-            return earlier;
-        };
-        let router = first.at as usize;
-        if router >= self.by_router.len() {
-            return None;
-        }
-        let earlier = self.by_router[router];
-        self.by_router[router] = Some(place);
-        earlier
-    }
-}
-
-/// The latest prefix before that is outside the area too, where both are announced alike into it. What such announcements
-/// cost differs by a constant, which decides nothing, as the routers that are in the area alone have no other routes.
+/// The latest prefix before that is outside the area too, and has its first announcement from the same router or none either,
+/// where both are announced alike into the area. What such announcements cost differs by a constant, which decides nothing, as
+/// the routers that are in the area alone have no other routes.
 fn outside_twin(
     net: &Net,
     domain: &Domain,
@@ -146,28 +111,30 @@ fn outside_twin(
     requires listens { AreListeners net.now domain.now.areas.items (length net.now) listens.now }
     requires summaries { AreSummaries net.now domain.now summaries.now }
     requires place { place < length domain.now.destinations.items }
-    ensures { IfSome result (IsEarlierBy
+    requires latest { AreOutsideBelow (record { net = net.now; areas = domain.now.areas.items; listens = listens.now; zone = zone }) domain.now.destinations.items place latest.old }
+    ensures latest { AreOutsideBelow (record { net = net.now; areas = domain.now.areas.items; listens = listens.now; zone = zone }) domain.now.destinations.items (place + 1) latest.new }
+    ensures twin { IfSome result (IsEarlierBy
         (AreLaneAlike (record { net = net.now; areas = domain.now.areas.items; listens = listens.now; zone = zone }))
         (ospf_prefixes domain.now.destinations.items) place) }
 {
-    let areas = domain.areas.as_slice();
     let near = &domain.destinations[place];
-    if !is_outside(net, areas, listens, zone, near) {
+    if !is_outside(net, domain.areas.as_slice(), listens, zone, near) {
         return None;
     }
     let announced = summaries.into_area(place, zone);
-    let earlier = latest.replace(announced, place)?;
-    if place <= earlier {
-        return None;
-    }
-    let far = &domain.destinations[earlier];
-    if !is_outside(net, areas, listens, zone, far) {
-        return None;
-    }
+    let earlier = latest.replace(kind_of(announced), place)?;
     if are_alike(summaries.into_area(earlier, zone), announced) {
         Some(earlier)
     } else {
         None
+    }
+}
+
+/// The number of the router that makes the first announcement and one, or 0 where there is none.
+fn kind_of(announced: &[Offer]) -> usize {
+    match announced.first() {
+        Some(first) => 1 + first.at as usize,
+        None => 0,
     }
 }
 

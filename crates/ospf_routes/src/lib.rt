@@ -49,6 +49,7 @@ mod summarized_routes;
 mod entry;
 mod lane_twins;
 mod lanes;
+mod latest;
 mod protocol;
 mod tables;
 mod twins;

@@ -1,4 +1,4 @@
-ghost use Rattle.std.specs.Prelude.{◌≡◌, IfOk};
+ghost use Rattle.std.specs.Prelude.{◌≡◌, ◌<◌, ◌^◌, Ok, IfOk};
 
 use crate::OutOfMemory;
 use std::alloc::Global;
@@ -89,7 +89,8 @@ impl Summaries {
 
 /// The number in 32 bits, where it fits.
 fn of_32_bits(number: usize) -> Result<u32, OutOfMemory>
-    ensures { IfOk result (λ n. n ≡ number) }
+    ensures is { IfOk result (λ n. n ≡ number) }
+    ensures fits { number < 2 ^ 32 → result ≡ Ok number }
 {
     match u32::try_from(number) {
         Ok(n) => Ok(n),

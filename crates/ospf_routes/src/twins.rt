@@ -1,4 +1,4 @@
-ghost use Rattle.std.specs.Prelude.{◌≡◌, ◌<◌, ◌↔◌, ℕ, length, None, Some, slice_index_or, Any, Contains, IfOk, IfSome, IsTrue};
+ghost use Rattle.std.specs.Prelude.{◌≡◌, ◌+◌, ◌<◌, ◌↔◌, ℕ, length, Any, Contains, IfOk, IfSome, IsTrue};
 ghost use Rattle.ospf_routes.specs.steps.Destinations.{ospf_prefixes};
 ghost use Rattle.ospf_routes.specs.steps.Domain.{IsOspfDomain};
 ghost use Rattle.ospf_routes.specs.steps.Ranges.{AreRangesBelow};
@@ -9,6 +9,7 @@ ghost use Rattle.ospf_routes.specs.steps.Twins.{AreKnownBelow, AreTwinParts, Are
 use crate::OutOfMemory;
 use crate::domain::Domain;
 use crate::intra_area::{AreaOffers, Destination};
+use crate::latest::Latest;
 use crate::ranges::{ActiveRanges, range_prefixes};
 use crate::summaries::Summaries;
 use net_addr::Prefix;
@@ -33,37 +34,38 @@ pub fn all_twins(
 {
     let destinations = domain.destinations.as_slice();
     let ranged = range_prefixes(alloc, ranges)?;
-    let mut latest = no_places(alloc, net.routers())?;
-    let mut twins = Vec::new(alloc);
+    let mut latest = Latest::none(alloc, net.routers() as usize)?;
+    let mut twins = Vec::with_capacity(alloc, destinations.len())?;
     for place in 0..destinations.len() {
         twins.push(twin_of(
             destinations,
             ranged.as_slice(),
             summaries,
-            latest.as_slice(),
+            &mut latest,
             place,
         ))?;
-        remember_home(&mut latest, &destinations[place], place);
     }
     Ok(twins)
 }
 
-/// The latest destination that is connected at the same one router, where both have the same entries.
+/// The latest destination that is connected at the same one router, where both have the same entries. From now on the latest
+/// is this one.
 fn twin_of(
     destinations: &[Destination],
     ranged: &[Prefix],
     summaries: &Summaries,
-    latest: &[Option<usize>],
+    latest: &mut Latest,
     place: usize,
 ) -> Option<usize>
     requires place { place < length destinations.now }
     requires summaries { AreSummariesOf (length destinations.now) summaries.now }
-    requires latest { AreKnownBelow place latest.now }
+    requires latest { AreKnownBelow place latest.old }
+    ensures latest { AreKnownBelow (place + 1) latest.new }
     ensures below { IfSome result (λ earlier. earlier < place) }
     ensures twins { IfSome result (λ earlier. AreTwinsAt destinations.now summaries.now ranged.now earlier place) }
 {
     let home = only_home(&destinations[place])?;
-    let earlier = known_at(latest, home)?;
+    let earlier = latest.replace(home as usize, place)?;
     if are_twins(destinations, summaries, ranged, earlier, place) {
         Some(earlier)
     } else {
@@ -98,33 +100,6 @@ fn are_twins(
         return false;
     }
     !is_ranged(ranged, far.dest)
-}
-
-/// No place for any of so many homes.
-fn no_places(alloc: Global, homes: u32) -> Result<Vec<Option<usize>>, OutOfMemory>
-    ensures { IfOk result (λ latest. (home : ℕ) → slice_index_or latest.items home None ≡ None) }
-{
-    Ok(vec![in alloc; None; homes as usize]?)
-}
-
-/// The place that is known for a home, where one is.
-fn known_at(latest: &[Option<usize>], home: u32) -> Option<usize>
-    ensures { IfSome result (λ place. slice_index_or latest.now home None ≡ Some place) }
-{
-    latest.get(home as usize).copied().flatten()
-}
-
-/// Notes the place of a destination for its home, where it has one alone.
-fn remember_home(latest: &mut Vec<Option<usize>>, destination: &Destination, place: usize)
-    ensures { (n : ℕ) → place < n → AreKnownBelow n latest.old.items → AreKnownBelow n latest.new.items }
-{
-    let Some(home) = only_home(destination) else {
-        return;
-    };
-    let at = home as usize;
-    if at < latest.len() {
-        latest[at] = Some(place);
-    }
 }
 
 /// The router that the destination is connected at, where it is one alone.

@@ -23,17 +23,23 @@ pub record IsPartIn (areas : List AreaWalks) (routes : List AreaRoute) (part : A
   pub offers : IsPartOf routes part
   pub at : IsAreaAt areas part.area part.zone
 
--- to the parts there comes this one, unless it has no offers
-pub record AddsPart (old new : List AreaOffers) (part : AreaOffers) : Type 0 where
-  pub each : (other : AreaOffers) → Contains new other → Contains old other ⊎ (part ≡ other)
-  pub kept : (other : AreaOffers) → Contains old other → Contains new other
-  pub added : (o : Offer) → Contains part.offers.items o → Contains new part
-
 -- one of the parts is of area n
 pub record HasAreaPart (parts : List AreaOffers) (n : ℕ) : Type 0 where
   pub part : AreaOffers
   pub among : Contains parts part
   pub area : part.area ≡ n
+
+-- this is the part of area n, which is at this place
+pub record IsPartAt (routes : List AreaRoute) (n zone : ℕ) (part : AreaOffers) : Type 0 where
+  pub area : part.area ≡ n
+  pub zone_is : part.zone ≡ zone
+  pub offers : IsPartOf routes part
+
+-- to the parts there comes that of area n, which is at this place, unless no route is of the area
+pub record AddsPart (routes : List AreaRoute) (n zone : ℕ) (old new : List AreaOffers) : Type 0 where
+  pub each : (part : AreaOffers) → Contains new part → Contains old part ⊎ IsPartAt routes n zone part
+  pub kept : (part : AreaOffers) → Contains old part → Contains new part
+  pub added : Any (λ (r : AreaRoute). r.area ≡ n) routes → HasAreaPart new n
 
 -- the homes are the routers that the prefix is connected at; each part has what its area offers of the prefix, and each
 -- area that offers something is a part

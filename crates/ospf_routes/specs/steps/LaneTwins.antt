@@ -1,5 +1,5 @@
 -- Prefixes that have the same entries at every router that is in one area alone.
-use Rattle.std.specs.Prelude.{◌≡◌, ◌<◌, [], ℕ, List, Option, length, slice_index_or, Contains}
+use Rattle.std.specs.Prelude.{◌≡◌, ◌<◌, [], ℕ, List, Option, None, Some, length, slice_index_or, Contains}
 use Rattle.net_addr.specs.Addresses.{Block}
 use Rattle.net_model.specs.Network.{Network}
 use Rattle.igp_theory.specs.Ospf.{OspfEntry}
@@ -30,3 +30,14 @@ pub record AreAllLaneTwins (net : Network) (domain : Domain) (listens : List (Op
   pub each : (zone : ℕ) → zone < length domain.areas.items →
       AreEarlierBy (AreLaneAlike (record { net = net; areas = domain.areas.items; listens = listens; zone = zone }))
       (ospf_prefixes domain.destinations.items) (length domain.destinations.items) (slice_index_or twins zone [])
+
+-- the destination at a place is earlier than n, and outside the lane
+pub record IsEarlierOutside (l : LaneOf) (ds : List Destination) (n place : ℕ) : Type 0 where
+  pub earlier : place < n
+  pub d : Destination
+  pub at : d ≡ slice_index_or ds place d
+  pub outside : IsOutsideLane l d
+
+-- the places that are known are those of such destinations
+abbrev pub AreOutsideBelow : LaneOf → List Destination → ℕ → List (Option ℕ) → Type 0
+AreOutsideBelow l ds n known = (u place : ℕ) → slice_index_or known u None ≡ Some place → IsEarlierOutside l ds n place

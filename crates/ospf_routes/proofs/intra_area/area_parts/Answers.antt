@@ -1,4 +1,4 @@
-use Rattle.std.proofs.Common.{arith, subst, List, sym, refl, ℕ}
+use Rattle.std.proofs.Common.{arith, subst, List, sym, ℕ}
 use Rattle.std.specs.List.{Any}
 use Rattle.std.proofs.lemmas.List.{take_all}
 use Rattle.walk_core.specs.declared.offers.Offer.{Offer}
@@ -6,7 +6,6 @@ use Rattle.ospf_routes.proofs.IntraFacts.{PartsSoFar, parts_more}
 use Rattle.ospf_routes.specs.steps.Areas.{HasArea}
 use Rattle.ospf_routes.specs.steps.Destinations.{HasAreaPart}
 use Rattle.ospf_routes.specs.declared.areas.AreaWalks.{AreaWalks}
-use Rattle.ospf_routes.specs.declared.intra_area.AreaOffers.{AreaOffers}
 use Rattle.ospf_routes.specs.steps.Offered.{InsideOf}
 use Rattle.ospf_routes.proofs.intra_area.area_parts.Goals as goal
 
@@ -17,15 +16,8 @@ loop-zone-init c =
 
 pub loop-zone-preserved : goal.loop-zone-preserved
 loop-zone-preserved c =
-    let a : AreaWalks = c.index-areas-zone.result in
-    let part : AreaOffers = record { area = a.number; zone = c.loop-zone.zone; offers = c.in_ok-offers.offers } in
-    parts_more c.args.routes.now c.args.areas.now c.loop-zone.zone a c.loop-zone.parts.items c.push_part.new.parts.items part c.loop-zone.invariant
-    c.loop-zone-test.true c.index-areas-zone.is refl
-    (record {
-      offers = c.in_ok-offers.ensures;
-      at = record { within = c.loop-zone-test.true; area = a; here = c.index-areas-zone.is; number = refl };
-    })
-    c.in_ok-push_part.ensures
+    parts_more c.args.routes.now c.args.areas.now c.loop-zone.zone c.index-areas-zone.result c.loop-zone.parts.items c.push_part.new.parts.items
+    c.loop-zone.invariant c.loop-zone-test.true c.index-areas-zone.is c.in_ok-push_part.ensures
 
 pub returns-clause-each : goal.returns-clause-each
 returns-clause-each c = c.loop-zone.invariant.each

@@ -1,4 +1,4 @@
-use Rattle.std.proofs.Common.{◌≡◌, ◌+◌, ◌<◌, ℕ, List, Option, length, subst, sym, arith}
+use Rattle.std.proofs.Common.{◌≡◌, ◌+◌, ◌<◌, ℕ, List, Option, length, subst, sym}
 use Rattle.net_addr.specs.Addresses.{Block}
 use Rattle.igp_theory.specs.Ospf.{OspfEntry}
 use Rattle.route_tables.specs.Entries.{AreAlikePrefixes}
@@ -8,7 +8,7 @@ use Rattle.ospf_routes.specs.steps.Ranges.{HoldRanges}
 use Rattle.ospf_routes.specs.steps.Twins.{AreEarlierBy}
 use Rattle.ospf_routes.specs.declared.intra_area.Destination.{Destination}
 use Rattle.ospf_routes.proofs.HeardFacts.{heard_within}
-use Rattle.ospf_routes.proofs.TwinFacts.{earlier_more, known_more, twin_found}
+use Rattle.ospf_routes.proofs.TwinFacts.{earlier_more, twin_found}
 use Rattle.ospf_routes.proofs.twins.all_twins.Goals as goal
 
 pub twin_of-requires-clause-summaries : goal.twin_of-requires-clause-summaries
@@ -34,5 +34,5 @@ loop-place-preserved c =
           (earlier_more alike (ospf_prefixes ds) place c.loop-place.twins.items c.twin_of.result c.loop-place.invariant.twins
           (twin_found net c.args.domain.now c.as_slice.result.now c.args.summaries.now given place c.twin_of.result c.requires.domain hold
           c.requires.summaries same within c.twin_of.ensures.below c.twin_of.ensures.twins));
-      latest = c.remember_home.ensures (place + 1) (omega arith) (known_more place c.loop-place.latest.items c.loop-place.invariant.latest);
+      latest = c.twin_of.ensures.latest;
     }

@@ -14,8 +14,11 @@ loop-place-preserved c =
     let dests : List Block = ospf_prefixes c.args.domain.now.destinations.items in
     let place : ℕ = c.loop-place.place in
     let l : LaneOf = record { net = c.args.net.now; areas = c.args.domain.now.areas.items; listens = c.args.listens.now; zone = c.args.zone } in
-    subst (AreEarlierBy (AreLaneAlike l) dests (place + 1)) (sym {A = List (Option ℕ)} c.in_ok-push.ensures.items)
-    (earlier_more (AreLaneAlike l) dests place c.loop-place.all.items c.or.result c.loop-place.invariant
-    (λ earlier found. or_each (IsEarlierBy (AreLaneAlike l) dests place) c.outside_twin-twin.result (get_or c.args.twins.now place None)
-    c.outside_twin-twin.ensures (λ k is. let twin = c.requires.twins.each place k is in (twin.0, λ u e lane. twin.1 u e lane.0)) earlier
-    (sym c.or.ensures ∙ found)))
+    record {
+      twins = subst (AreEarlierBy (AreLaneAlike l) dests (place + 1)) (sym {A = List (Option ℕ)} c.in_ok-push.ensures.items)
+          (earlier_more (AreLaneAlike l) dests place c.loop-place.all.items c.or.result c.loop-place.invariant.twins
+          (λ earlier found. or_each (IsEarlierBy (AreLaneAlike l) dests place) c.outside_twin-twin.result (get_or c.args.twins.now place None)
+          c.outside_twin-twin.ensures.twin (λ k is. let twin = c.requires.twins.each place k is in (twin.0, λ u e lane. twin.1 u e lane.0)) earlier
+          (sym c.or.ensures ∙ found)));
+      latest = c.outside_twin-twin.ensures.latest;
+    }

@@ -11,8 +11,8 @@ returns c =
     let spans : List OfferSpan = c.self.inside.spans.items in
     let list : List Offer = c.args.list.now in
     let span : OfferSpan = record { start = c.in_ok-start.start; count = c.in_ok-count.count } in
-    let starts : span.start ≡ length offers = omega (arith, c.in_ok-start.ensures, c.len.ensures, c.self.inside.offers.ok.0) in
-    let counts : span.count ≡ length list = omega (arith, c.in_ok-count.ensures) in
+    let starts : span.start ≡ length offers = omega (arith, c.in_ok-start.ensures.is, c.len.ensures, c.self.inside.offers.ok.0) in
+    let counts : span.count ≡ length list = omega (arith, c.in_ok-count.ensures.is) in
     ap (lists_with c.self.inside.areas)
     (ap (λ (os : List Offer). offer_lists_of os c.push_reserved.new.self.items) c.in_ok-extend_from_slice.ensures.items
     ∙ ap (offer_lists_of (offers ++ list)) c.push_reserved.ensures.items
