@@ -1,8 +1,8 @@
 -- What decides the routes of the routers of a lane.
-use Rattle.std.proofs.Common.{◌≡◌, ◌≢◌, ℕ, ◌+◌, ◌<◌, ◌≤◌, inl, inr, ⊎_elim, List, [], ◌∷◌, ◌++◌, length, get_or, Some, refl, sym, ap, subst, ◌∙◌, arith}
+use Rattle.std.proofs.Common.{◌≡◌, ℕ, ◌+◌, ◌<◌, ◌≤◌, inl, inr, ⊎_elim, List, [], ◌∷◌, ◌++◌, length, get_or, Some, refl, sym, ap, subst, ◌∙◌, arith}
 use Rattle.std.specs.List.{All}
 use Rattle.std.proofs.lemmas.List.{length-map, take_all, take_more}
-use Rattle.std.proofs.lemmas.List.Elements.{All-contains, Contains-push_cases}
+use Rattle.std.proofs.lemmas.List.Elements.{All-contains}
 use Rattle.std.proofs.lemmas.Option.{slice_get_cases}
 use Rattle.net_addr.specs.Addresses.{Block}
 use Rattle.net_model.specs.Network.{Connected}
@@ -14,7 +14,7 @@ use Rattle.route_tables.specs.Prefixes.{prefix_at}
 use Rattle.route_tables.specs.declared.lane.Decision.{Decision}
 use Rattle.route_tables.specs.declared.lane.Decision.TheVariants.{Nothing, One as OneOffer, Two as TwoOffers, Unknown}
 use Rattle.route_tables.specs.declared.route.Route.TheVariants.{Towards}
-use Rattle.route_tables.proofs.ListFacts.{any_cases}
+use Rattle.route_tables.proofs.ListFacts.{any_in_one, any_in_two, the_one}
 use Rattle.isis_routes.specs.steps.Destinations.{HasAnnouncements, isis_prefixes}
 use Rattle.isis_routes.specs.steps.Domain.{IsisDomain, IsKnown}
 use Rattle.isis_routes.specs.steps.Homes.{AreRoutersAt}
@@ -22,29 +22,19 @@ use Rattle.isis_routes.specs.steps.Lanes.{AreDecisions, DecidesIn, IsDecisionAmo
 use Rattle.isis_routes.specs.steps.LevelReach.{level_reach}
 use Rattle.isis_routes.specs.steps.Levels.{zone_number}
 use Rattle.isis_routes.specs.steps.Offered.{AreSmall}
-use Rattle.isis_routes.specs.steps.Routes.{IsIsisRoute}
+use Rattle.isis_routes.specs.steps.Routes.{IsIsisRoute, LeadIn}
 use Rattle.isis_routes.specs.declared.destinations.Destination.{Destination}
 use Rattle.isis_routes.specs.declared.level.Level.{Level}
 use Rattle.isis_routes.specs.declared.level.Level.TheVariants.{One, Two}
 use Rattle.isis_routes.proofs.DestinationFacts.{at_place}
 use Rattle.isis_routes.proofs.EntryFacts.{unoffered}
-use Rattle.isis_routes.proofs.LeadFacts.{AreAsGood, LeadIn, as_good, down_leads, one_leads, two_leads}
+use Rattle.isis_routes.proofs.LeadFacts.{AreAsGood, as_good, down_leads, one_leads, two_leads}
 
 -- Decisions
 
--- none of the offers is the router's, where its number isn't that of their routers
-not_first : (u : ℕ) (o : Offer) → u ≢ o.at → MakesOne (o ∷ []) u → ⊥
-not_first u o other makes =
-    ⊎_elim (λ none. omega (arith, none.2)) (λ same. other (sym same)) (any_cases (λ (x : Offer). x.at ≡ u) [] o makes.made)
-
-not_second : (u : ℕ) (one o : Offer) → u ≢ one.at → u ≢ o.at → MakesOne (one ∷ o ∷ []) u → ⊥
-not_second u one o first other makes =
-    ⊎_elim (λ any. not_first u one first (record { made = any })) (λ same. other (sym same)) (any_cases (λ (x : Offer). x.at ≡ u) (one ∷ []) o makes.made)
-
 free_is_small : (at : ℕ) → AreSmall (record { at = at; asks = 0 } ∷ [])
 free_is_small at a k l =
-    ⊎_elim (λ none. omega (arith, none.1)) (λ same. let is : 0 ≡ k = ap (λ (o : Offer). o.asks) same ∙ l.asked in omega (arith, is))
-    (Contains-push_cases [] (record { at = at; asks = 0 }) l.offer l.among)
+    let is : 0 ≡ k = sym (ap (λ (o : Offer). o.asks) (the_one (record { at = at; asks = 0 }) l.offer l.among)) ∙ l.asked in omega (arith, is)
 
 -- what one offer asks doesn't tell where it leads
 free_is_good : (at asks : ℕ) → AreAsGood (record { at = at; asks = 0 } ∷ []) (record { at = at; asks = asks } ∷ [])
@@ -60,10 +50,13 @@ decided : (u : ℕ) (offers : List Offer) (entry : Entry → Type 0) (lead : Lis
     IsDecisionAmong offers decision → DecidesRoute u entry lead decision
 decided u offers entry lead Nothing law is = absurd is
 decided u offers entry lead (OneOffer at) law (asks, is) = λ other.
-    subst (λ (l : List Offer). LeadsElsewhere u l lead) is law (not_first u (record { at = at; asks = asks }) other)
+    subst (λ (l : List Offer). LeadsElsewhere u l lead) is law
+    (λ makes. other (sym (any_in_one (λ (o : Offer). o.at ≡ u) (record { at = at; asks = asks }) makes.made)))
     (record { at = at; asks = 0 } ∷ []) (free_is_good at asks)
 decided u offers entry lead (TwoOffers one two) law is = λ first second.
-    subst (λ (l : List Offer). LeadsElsewhere u l lead) is law (not_second u one two first second) (one ∷ two ∷ []) (as_good refl)
+    subst (λ (l : List Offer). LeadsElsewhere u l lead) is law
+    (λ makes. ⊎_elim (λ here. first (sym here)) (λ there. second (sym there)) (any_in_two (λ (o : Offer). o.at ≡ u) one two makes.made))
+    (one ∷ two ∷ []) (as_good refl)
 decided u offers entry lead Unknown law is = tt
 
 -- a decision by offers, one of which is made at each home

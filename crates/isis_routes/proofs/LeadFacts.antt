@@ -1,29 +1,29 @@
 -- Lists of offers whose best is the route of the definitions.
-use Rattle.std.proofs.Common.{◌≡◌, ℕ, ◌+◌, ◌<◌, inl, List, [], ◌∷◌, length, map, Option, Some, None, MatchOption, Result, IfOk, refl, sym, ap, subst, ◌∙◌, arith}
+use Rattle.std.proofs.Common.{◌≡◌, ℕ, ◌<◌, inl, List, length, Option, Some, None, MatchOption, Result, IfOk, refl, sym, subst}
 use Rattle.std.specs.Option.{IfSome}
 use Rattle.std.proofs.lemmas.Option.{IfSome_then}
 use Rattle.std.proofs.lemmas.Result.{IfOk-weaker}
 use Rattle.net_addr.specs.Addresses.{Block, default_prefix}
 use Rattle.net_model.specs.Network.{Network, Connected, Adjacent}
 use Rattle.walk_core.specs.Offers.{Offers}
-use Rattle.walk_core.specs.BestOffers.{AreInRange, ListsOffer}
+use Rattle.walk_core.specs.BestOffers.{ListsOffer}
 use Rattle.walk_core.specs.declared.offers.Offer.{Offer}
 use Rattle.route_core.specs.declared.entry.Entry.TheVariants.{Via}
 use Rattle.igp_theory.specs.Ospf.{OfOthers}
 use Rattle.igp_theory.specs.Isis.{DownAnnouncement, HasDownRoute, HasLevelOneRoute, HasLevelTwoRoute, IsisEntry, LevelTwoAnnouncement, OffersDefault, OffersLevelOne, RunsLevelOne, RunsLevelTwo}
-use Rattle.route_tables.specs.AlikeOffers.{AreAlikeOffers, dearer_by}
+use Rattle.route_tables.specs.AlikeOffers.{AreAlikeOffers}
 use Rattle.route_tables.specs.Routings.{ForwardsBy, IsRouteFor}
 use Rattle.route_tables.specs.declared.route.Route.{Route}
 use Rattle.route_tables.specs.declared.route.Route.TheVariants.{Towards}
 use Rattle.route_tables.specs.declared.route.Target.{Target}
-use Rattle.route_tables.proofs.AlikeRoutes.{AskAlike, alike_lists, alike_turned}
+use Rattle.route_tables.proofs.AlikeRoutes.{AskAlike, alike_lists, alike_turned, dearer_by_nothing}
 use Rattle.route_tables.proofs.BestRoutes.{route_by_hops}
 use Rattle.isis_routes.specs.steps.Destinations.{HasAnnouncements}
 use Rattle.isis_routes.specs.steps.Domain.{IsisDomain, IsKnown}
 use Rattle.isis_routes.specs.steps.LevelReach.{level_reach}
-use Rattle.isis_routes.specs.steps.Levels.{zone_in, zone_number}
+use Rattle.isis_routes.specs.steps.Levels.{zone_in}
 use Rattle.isis_routes.specs.steps.Offered.{AreSmall, HoldsOffers}
-use Rattle.isis_routes.specs.steps.Routes.{IsBestIn, IsIsisRoute}
+use Rattle.isis_routes.specs.steps.Routes.{IsBestIn, IsIsisRoute, LeadIn}
 use Rattle.isis_routes.specs.steps.Routing.{HasBest, IsRouteToBest, NoDefaultRoute}
 use Rattle.isis_routes.specs.declared.destinations.Destination.{Destination}
 use Rattle.isis_routes.specs.declared.level.Level.{Level}
@@ -39,20 +39,9 @@ pub record AreAsGood (given all : List Offer) : Type 0 where
   pub alike : AreAlikeOffers given all
   pub small : AreSmall all → AreSmall given
 
-same_dearer : (offers : List Offer) → offers ≡ map (dearer_by 0) offers
-same_dearer [] = refl
-same_dearer (o ∷ rest) =
-    let sum : o.asks ≡ o.asks + 0 = omega arith in
-    ap (λ (k : ℕ). record { at = o.at; asks = k } ∷ rest) sum ∙ ap (λ (l : List Offer). dearer_by 0 o ∷ l) (same_dearer rest)
-
 pub as_good : {given all : List Offer} → given ≡ all → AreAsGood given all
 as_good {given} {all} same =
-    subst (λ (l : List Offer). AreAsGood l all) (sym same) (record { alike = record { more = 0; dearer = inl (same_dearer all) }; small = λ s. s })
-
--- over a level's least walks the best of the offers is router u's route for p, and where none of them is reached, this is so
-pub record LeadIn (domain : IsisDomain) (level : Level) (u : ℕ) (p : Block) (none : Type 0) (offers : List Offer) : Type 0 where
-  pub range : AreInRange (level_reach domain.walks u (zone_number level)) offers
-  pub route : (found : Option Route) → IsBestIn domain level u offers found → MatchOption found none (IsIsisRoute domain u p)
+    subst (λ (l : List Offer). AreAsGood l all) (sym same) (record { alike = record { more = 0; dearer = inl (sym (dearer_by_nothing all)) }; small = λ s. s })
 
 pub route_by : {E : Type 0} {domain : IsisDomain} {level : Level} {u : ℕ} {p : Block} {none : Type 0} {offers : List Offer} (r : Result (Option Route) E) →
     LeadIn domain level u p none offers → IfOk r (IsBestIn domain level u offers) → IfOk r (λ found. MatchOption found none (IsIsisRoute domain u p))

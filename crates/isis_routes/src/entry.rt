@@ -9,6 +9,7 @@ ghost use Rattle.isis_routes.specs.steps.Routing.{NoDefaultRoute};
 use crate::OutOfMemory;
 use crate::destinations::Destination;
 use crate::domain::Domain;
+use crate::leading::{level_one_offers, level_two_offers};
 use crate::level::Level;
 use net_addr::Prefix;
 use route_tables::{Route, is_all_addresses};
@@ -77,14 +78,13 @@ fn level_one_route(
         (HasLevelOneRoute domain.now.net destination.now.one.dest router → ⊥)
         (IsIsisRoute domain.now router destination.now.one.dest)) }
 {
-    if !domain.runs_level_one(router) {
-        return Ok(None);
+    match level_one_offers(domain, destination, router) {
+        Some(offers) => domain.best_route(alloc, Level::One, offers, router),
+        None => Ok(None),
     }
-    domain.best_route(alloc, Level::One, destination.one.offers.as_slice(), router)
 }
 
-/// The level 2 route, which other routers' announcements give: a router that isn't connected to the prefix and has no
-/// level 1 route for it announces nothing of it.
+/// The level 2 route.
 fn level_two_route(
     alloc: Global,
     domain: &Domain<'_>,
@@ -99,10 +99,10 @@ fn level_two_route(
         (HasLevelTwoRoute domain.now.net destination.now.one.dest router → ⊥)
         (IsIsisRoute domain.now router destination.now.one.dest)) }
 {
-    if !domain.runs_level_two(router) {
-        return Ok(None);
+    match level_two_offers(domain, destination, router) {
+        Some(offers) => domain.best_route(alloc, Level::Two, offers, router),
+        None => Ok(None),
     }
-    domain.best_route(alloc, Level::Two, destination.two.as_slice(), router)
 }
 
 /// The down route, which other routers' announcements into level 1 give: a router that has no level 2 route for the

@@ -7,6 +7,7 @@ ghost use Rattle.isis_routes.specs.steps.Routes.{IsIsisRoute};
 
 use crate::destinations::Destination;
 use crate::domain::Domain;
+use crate::leading::{level_one_offers, level_two_offers};
 use crate::level::Level;
 use route_tables::Target;
 
@@ -52,10 +53,11 @@ fn level_one_target(domain: &Domain<'_>, destination: &Destination, router: u32)
     requires away { Connected domain.now.net router destination.now.one.dest → ⊥ }
     ensures { IfSome result (λ target. IsIsisRoute domain.now router destination.now.one.dest (Towards target)) }
 {
-    if !domain.runs_level_one(router) {
-        return None;
-    }
-    domain.best_target(Level::One, destination.one.offers.as_slice(), router)
+    domain.best_target(
+        Level::One,
+        level_one_offers(domain, destination, router)?,
+        router,
+    )
 }
 
 /// Where the level 2 route leads.
@@ -67,8 +69,9 @@ fn level_two_target(domain: &Domain<'_>, destination: &Destination, router: u32)
     requires without_level_one { HasLevelOneRoute domain.now.net destination.now.one.dest router → ⊥ }
     ensures { IfSome result (λ target. IsIsisRoute domain.now router destination.now.one.dest (Towards target)) }
 {
-    if !domain.runs_level_two(router) {
-        return None;
-    }
-    domain.best_target(Level::Two, destination.two.as_slice(), router)
+    domain.best_target(
+        Level::Two,
+        level_two_offers(domain, destination, router)?,
+        router,
+    )
 }

@@ -1,5 +1,5 @@
 -- Alike offers have the same routes: what they ask in all differs by one constant, so the same of them are the best.
-use Rattle.std.proofs.Common.{◌≡◌, ℕ, ◌+◌, ◌≤◌, ◌↔◌, ◌⊎◌, inl, inr, List, refl, sym, ap, subst, ◌∙◌, arith}
+use Rattle.std.proofs.Common.{◌≡◌, ℕ, ◌+◌, ◌≤◌, ◌↔◌, ◌⊎◌, inl, inr, List, [], ◌∷◌, map, refl, sym, ap, subst, ◌∙◌, arith}
 use Rattle.std.specs.List.{Contains}
 use Rattle.walk_core.specs.Walks.{Arcs}
 use Rattle.walk_core.specs.Offers.{Offers, OfferCosts, BestCost, BestHop}
@@ -129,6 +129,13 @@ alike_among among one other fewer others of_one of_other alike = record {
 }
 
 -- Lists of offers
+
+-- offers that ask nothing more are the same
+pub dearer_by_nothing : (offers : List Offer) → map (dearer_by 0) offers ≡ offers
+dearer_by_nothing [] = refl
+dearer_by_nothing (o ∷ offers) =
+    let asks : o.asks + 0 ≡ o.asks = omega arith in
+    ap (λ (a : ℕ). record { at = o.at; asks = a } ∷ map (dearer_by 0) offers) asks ∙ ap (λ (l : List Offer). o ∷ l) (dearer_by_nothing offers)
 
 rise_of_lists : (more : ℕ) (one other : Offers) (ones others : List Offer) → ((at asks : ℕ) → ListsOffer ones at asks ↔ one at asks) →
     ((at asks : ℕ) → ListsOffer others at asks ↔ other at asks) → AreDearerBy more ones others → RiseBy more one other

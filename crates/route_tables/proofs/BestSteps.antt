@@ -10,6 +10,7 @@ use Rattle.walk_core.specs.declared.offers.Offer.{Offer}
 use Rattle.route_tables.specs.BestRoutes.{AreBestHops}
 use Rattle.route_tables.specs.Routings.{AreHopsTo, IsReached}
 use Rattle.route_tables.specs.declared.best.BestAt.{BestAt}
+use Rattle.route_tables.proofs.ListFacts.{the_one}
 use Rattle.route_tables.specs.steps.BestSoFar.{IsBestAt, IsBestSoFar, IsBetterOf, LeadAlike, lower, kept, both}
 
 -- an offer of the first ones is one of more
@@ -191,7 +192,7 @@ hops_of_one reach at distance n hops far towards = record {
   ascending = towards.ascending;
   exact = λ h. (
     λ inside. let over = (towards.exact h).0 inside in
-        (over.0, subst (λ (o : Offer). HasHop reach o.at h) (the_one over.1.offer over.1.among) over.1.hop),
+        (over.0, subst (λ (o : Offer). HasHop reach o.at h) (the_one (record { at = at; asks = 0 }) over.1.offer over.1.among) over.1.hop),
     λ both. (towards.exact h).1 (
       both.0,
       record {
@@ -204,11 +205,5 @@ hops_of_one reach at distance n hops far towards = record {
   );
 }
   where
-    the_one : (o : Offer) → Contains (record { at = at; asks = 0 } ∷ []) o → o ≡ record { at = at; asks = 0 }
-    the_one o among = elim (Contains-push_cases [] (record { at = at; asks = 0 }) o among) [
-      | inl none ↦ absurd (omega (arith, none.1))
-      | inr same ↦ sym same
-    ]
-
     whole : total_with (distance_of reach at) 0 ≡ Some distance
     whole = let same : distance + 0 ≡ distance = omega arith in ap (λ (d : Option ℕ). total_with d 0) far ∙ ap (λ (d : ℕ). Some d) same

@@ -18,6 +18,13 @@ iff_then one other = (λ p. other.0 (one.0 p), λ r. one.1 (other.1 r))
 pub contains_at : {Y : Type 0} (ys : List Y) (i : ℕ) (y : Y) → i < length ys → y ≡ get_or ys i y → Contains ys y
 contains_at ys i y within is = (i, within, sym is)
 
+-- what is in a list of one is that
+pub the_one : {Y : Type 0} (x y : Y) → Contains (x ∷ []) y → y ≡ x
+the_one x y among = elim (Contains-push_cases [] x y among) [
+  | inl none ↦ absurd (omega (arith, none.1))
+  | inr same ↦ sym same
+]
+
 pub any_of : {Y : Type 0} (P : Y → Type 0) (ys : List Y) (y : Y) → Contains ys y → P y → Any P ys
 any_of P ys y has p = (has.0, y, has.1, has.2, p)
 
@@ -38,6 +45,13 @@ pub any_cases : {Y : Type 0} (P : Y → Type 0) (front : List Y) (y : Y) → Any
 any_cases P front y any =
     let f = any_in P (front ++ y ∷ []) any in
     ⊎_elim (λ among. inl (any_of P front f.item among f.holds)) (λ same. inr (subst P (sym same) f.holds)) (Contains-push_cases front y f.item f.among)
+
+-- one of one or of two elements is
+pub any_in_one : {Y : Type 0} (P : Y → Type 0) (y : Y) → Any P (y ∷ []) → P y
+any_in_one P y any = let f = any_in P (y ∷ []) any in subst P (the_one y f.item f.among) f.holds
+
+pub any_in_two : {Y : Type 0} (P : Y → Type 0) (x y : Y) → Any P (x ∷ y ∷ []) → P x ⊎ P y
+any_in_two P x y any = ⊎_elim (λ first. inl (any_in_one P x first)) (λ second. inr second) (any_cases P (x ∷ []) y any)
 
 -- What comes to a list
 
@@ -87,12 +101,15 @@ exactly_same all before after are same = λ x. (λ has. (same x).0 ((are x).0 ha
 pub adds_start : {X Y : Type 0} (gives : X → Y → Type 0) (old : List X) (ys : List Y) → Adds old old (λ x. Any (gives x) (take 0 ys))
 adds_start gives old ys = adds_nothing old (λ x. Any (gives x) (take 0 ys)) (λ x any. omega (arith, any.2))
 
+-- the elements so far with the next are one more
+pub one_more : {Y : Type 0} (ys : List Y) (i : ℕ) (y : Y) → i < length ys → y ≡ get_or ys i y → take i ys ++ y ∷ [] ≡ take (i + 1) ys
+one_more {Y} ys i y within is = sym (take_more ys i y within ∙ ap (λ (z : Y). take i ys ++ z ∷ []) (sym is))
+
 -- one more element, which gives this
 pub adds_more : {X Y : Type 0} (gives : X → Y → Type 0) (old mid new : List X) (ys : List Y) (i : ℕ) (y : Y) → i < length ys → y ≡ get_or ys i y →
     Adds old mid (λ x. Any (gives x) (take i ys)) → Adds mid new (λ x. gives x y) → Adds old new (λ x. Any (gives x) (take (i + 1) ys))
 adds_more {X} {Y} gives old mid new ys i y within is before adds =
-    let one_more : take i ys ++ y ∷ [] ≡ take (i + 1) ys = sym (take_more ys i y within ∙ ap (λ (z : Y). take i ys ++ z ∷ []) (sym is)) in
-    subst (λ (l : List Y). Adds old new (λ x. Any (gives x) l)) one_more
+    subst (λ (l : List Y). Adds old new (λ x. Any (gives x) l)) (one_more ys i y within is)
     (adds_both old mid new (λ x. Any (gives x) (take i ys)) (λ x. gives x y) (λ x. Any (gives x) (take i ys ++ y ∷ [])) before adds
     (λ x. (
       λ any. any_cases (gives x) (take i ys) y any,
@@ -191,10 +208,6 @@ within_more P ys i y within is before here k d low below = elim (at_most k i bel
       let same_place : get_or ys i d ≡ get_or ys k d = ap (λ (m : ℕ). get_or ys m d) (sym same) in
       subst P (read ∙ same_place) here
 ]
-
--- the elements so far with the next are one more
-pub one_more : {Y : Type 0} (ys : List Y) (i : ℕ) (y : Y) → i < length ys → y ≡ get_or ys i y → take i ys ++ y ∷ [] ≡ take (i + 1) ys
-one_more {Y} ys i y within is = sym (take_more ys i y within ∙ ap (λ (z : Y). take i ys ++ z ∷ []) (sym is))
 
 -- what holds of each element that was passed holds of all at the end
 pub all_passed : {Y : Type 0} (P : Y → Type 0) (ys : List Y) (i : ℕ) → length ys ≤ i → AllWithin P ys 0 i → All P ys

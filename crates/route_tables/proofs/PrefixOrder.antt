@@ -1,8 +1,9 @@
 -- What a list of prefixes has after a sort and the removal of repeats.
-use Rattle.std.proofs.Common.{◌≡◌, ◌≢◌, Bool, true, ◌&&◌, ◌==◌, false, List, get_or, Ordering, Contains, AllPairs, IsPermutation, eqb-true, refl, sym}
+use Rattle.std.proofs.Common.{◌≡◌, ◌≢◌, Bool, true, ◌&&◌, ◌==◌, List, get_or, Ordering, Contains, AllPairs, IsPermutation, eqb-true, sym}
 use Rattle.std.proofs.Common.{subst, ◌↔◌}
 use Rattle.std.specs.Cmp.{IsTotalOrder, IsEquivalence, and_equiv, on_equiv, on_total, then_total, both_tied, tied_itself, nat_cmp_total, nat_eq_equiv}
 use Rattle.std.specs.Cmp.{unsigned_ties}
+use Rattle.std.proofs.lemmas.Bool.{and_parts}
 use Rattle.std.specs.Ordering.{nat_cmp, ordering_then, eq_by_cmp}
 use Rattle.std.specs.declared.cmp.Ordering.TheVariants.{Less}
 use Rattle.std.specs.List.{dedup}
@@ -29,13 +30,9 @@ prefix_ties : (x y : Block) → prefix_eq x y ≡ eq_by_cmp prefix_cmp x y
 prefix_ties x y = both_tied (x.base == y.base) (x.len == y.len) (nat_cmp x.base y.base) (nat_cmp x.len y.len) (unsigned_ties x.base y.base)
     (unsigned_ties x.len y.len)
 
-parts_true : (a b : Bool) → (a && b) ≡ true → (a ≡ true) × (b ≡ true)
-parts_true true b e = (refl, e)
-parts_true false b e = cc
-
 same_prefix : (x y : Block) → prefix_eq x y ≡ true → x ≡ y
 same_prefix x y e =
-    let parts = parts_true (x.base == y.base) (x.len == y.len) e in
+    let parts = and_parts (x.base == y.base) (x.len == y.len) e in
     let base = eqb-true x.base y.base parts.0 in
     let len = eqb-true x.len y.len parts.1 in
     λ i. record { base = base i; len = len i }

@@ -1,7 +1,7 @@
 -- Tables in the making: entries that all tables share, and the numbers of those that a table knows.
 use Rattle.std.proofs.Common.{◌≡◌, ℕ, ◌+◌, ◌<◌, ◌↔◌, List, [], ◌∷◌, ◌++◌, length, Some, None, Option, get_or, set, inl, inr, sym, ap, subst, ◌∙◌, arith, Result, Ok, Err, IfOk, OnOk, length-append, append_assoc}
 use Rattle.std.proofs.lemmas.Bool.{cases_eq, cases_lt}
-use Rattle.std.proofs.lemmas.List.{append-nil, get_or_append_left, get_or_push, length_push, get_or-set_same, get_or-set_other, set_past}
+use Rattle.std.proofs.lemmas.List.{append-nil, get_or_append_left, length_push, get_or-set_same, get_or-set_other, set_past}
 use Rattle.std.proofs.lemmas.Option.{same_Some}
 use Rattle.walk_core.specs.Reach.{Reach}
 use Rattle.route_core.specs.declared.entry.Entry.{Entry}
@@ -26,14 +26,6 @@ if_any_kept : (wanted : Entry → Type 0) (entries more : List Entry) (number : 
     IsNumberOf wanted (entries ++ more) number
 if_any_kept wanted entries more None none = none
 if_any_kept wanted entries more (Some number) has = number_kept wanted entries more number has
-
--- the entry that came last has the number of those before
-pub last_number : (wanted : Entry → Type 0) (entries others : List Entry) (entry : Entry) (number : ℕ) → others ≡ entries ++ entry ∷ [] →
-    number ≡ length entries → wanted entry → HasNumber wanted others number
-last_number wanted entries others entry number come same is =
-    let long = length_push entries entry in
-    subst (λ (l : List Entry). HasNumber wanted l number) (sym come)
-    (record { below = omega arith; is = subst wanted (sym (get_or_push entries entry Discard number (sym same))) is })
 
 -- the entry of an alike prefix is one's own
 pub number_alike : (one other : Entry → Type 0) (entries : List Entry) (number : Option ℕ) → ((e : Entry) → one e ↔ other e) →
@@ -60,13 +52,6 @@ numbers_more wanted k entries more numbers next are here = record {
 }
 
 -- Over one hop
-
--- an entry over a hop alone that is wanted has the number of the hop
-pub number_over_hop : (wanted : Entry → Type 0) (entries : List Entry) (n hop : ℕ) → AreOverOne n entries → (hop < n) × wanted (Via (hop ∷ [])) →
-    HasNumber wanted entries hop
-number_over_hop wanted entries n hop are (below, is) =
-    let has = are hop below in
-    record { below = has.below; is = subst wanted (sym has.is) is }
 
 pub over_one_kept : (n : ℕ) (entries more : List Entry) → AreOverOne n entries → AreOverOne n (entries ++ more)
 over_one_kept n entries more are hop below = number_kept (λ entry. entry ≡ Via (hop ∷ [])) entries more hop (are hop below)

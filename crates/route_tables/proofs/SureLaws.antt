@@ -14,16 +14,10 @@ use Rattle.route_tables.specs.declared.best.BestAt.{BestAt}
 use Rattle.route_tables.specs.declared.lane.Decision.{Decision}
 use Rattle.route_tables.specs.declared.sure.Sure.{Sure}
 use Rattle.route_tables.specs.declared.sure.Sure.TheVariants.{Nothing as NoEntry, Over, Unknown as Unsure}
-use Rattle.route_tables.specs.steps.BestSoFar.{IsBestAt, LeadAlike, lower, kept, both}
+use Rattle.route_tables.specs.steps.BestSoFar.{IsBestAt, IsBetterOf, LeadAlike, lower, kept, both}
 use Rattle.route_tables.specs.steps.Sure.{AreDeciding, of_one, of_two, IsSure, IsSureOver, LeadOver, Tells}
+use Rattle.route_tables.proofs.ListFacts.{the_one}
 use Rattle.route_tables.proofs.BestSteps.{alike_hops, best_is_reached, best_of_none, better_more, first_more}
-
--- what is in a list of one is that
-the_one : {X : Type 0} (x y : X) → Contains (x ∷ []) y → y ≡ x
-the_one x y among = elim (Contains-push_cases [] x y among) [
-  | inl none ↦ absurd (omega (arith, none.1))
-  | inr same ↦ sym same
-]
 
 -- the first hop alone towards a vertex that is reached is that towards its offer
 pub over_one : (reach : Reach) (at distance hop : ℕ) → distance_of reach at ≡ Some distance → listed_hops_of reach at ≡ hop ∷ [] →
@@ -52,37 +46,37 @@ alike_alone reach offers best is alone = λ o among total. ap (listed_hops_of re
 
 -- Two offers that are reached
 
-first_of_two : (reach : Reach) (one : Offer) (a : ℕ) → total_towards reach one ≡ Some a →
-    IsBestAt reach (one ∷ []) (record { cost = a; at = one.at; alone = true })
-first_of_two reach one a is = first_more reach [] one (record { cost = a; at = one.at; alone = true }) is refl (best_of_none reach)
+-- the better one of them leads over its first hop, where the best ones lead as it does
+over_better : (reach : Reach) (one other : Offer) (a b hop : ℕ) (best : BestAt) → total_towards reach one ≡ Some a → total_towards reach other ≡ Some b →
+    IsBetterOf (record { cost = a; at = one.at; alone = true }) (record { cost = b; at = other.at; alone = true }) best →
+    (IsBestAt reach (one ∷ other ∷ []) best → LeadAlike reach (one ∷ other ∷ []) best) → listed_hops_of reach best.at ≡ hop ∷ [] →
+    LeadOver reach (one ∷ other ∷ []) hop
+over_better reach one other a b hop best first second better alike only =
+    let known : BestAt = record { cost = a; at = one.at; alone = true } in
+    let next : BestAt = record { cost = b; at = other.at; alone = true } in
+    let is = better_more reach (one ∷ []) other known next best second refl (first_more reach [] one known first refl (best_of_none reach)) better in
+    record { best = best; is = is; alike = alike is; only = only }
 
 -- the hop towards the one that costs less
 pub over_first : (reach : Reach) (one other : Offer) (a b hop : ℕ) → total_towards reach one ≡ Some a → total_towards reach other ≡ Some b → a < b →
     listed_hops_of reach one.at ≡ hop ∷ [] → LeadOver reach (one ∷ other ∷ []) hop
 over_first reach one other a b hop first second less only =
     let best : BestAt = record { cost = a; at = one.at; alone = true } in
-    let next : BestAt = record { cost = b; at = other.at; alone = true } in
-    let is = better_more reach (one ∷ []) other best next best second refl (first_of_two reach one a first) (kept less refl) in
-    record { best = best; is = is; alike = alike_alone reach (one ∷ other ∷ []) best is refl; only = only }
+    over_better reach one other a b hop best first second (kept less refl) (λ is. alike_alone reach (one ∷ other ∷ []) best is refl) only
 
 pub over_second : (reach : Reach) (one other : Offer) (a b hop : ℕ) → total_towards reach one ≡ Some a → total_towards reach other ≡ Some b → b < a →
     listed_hops_of reach other.at ≡ hop ∷ [] → LeadOver reach (one ∷ other ∷ []) hop
 over_second reach one other a b hop first second less only =
-    let known : BestAt = record { cost = a; at = one.at; alone = true } in
     let best : BestAt = record { cost = b; at = other.at; alone = true } in
-    let is = better_more reach (one ∷ []) other known best best second refl (first_of_two reach one a first) (lower less refl) in
-    record { best = best; is = is; alike = alike_alone reach (one ∷ other ∷ []) best is refl; only = only }
+    over_better reach one other a b hop best first second (lower less refl) (λ is. alike_alone reach (one ∷ other ∷ []) best is refl) only
 
 -- and that towards both, where they cost the same
 pub over_both : (reach : Reach) (one other : Offer) (a b hop : ℕ) → total_towards reach one ≡ Some a → total_towards reach other ≡ Some b → b ≡ a →
     listed_hops_of reach one.at ≡ hop ∷ [] → listed_hops_of reach other.at ≡ hop ∷ [] → LeadOver reach (one ∷ other ∷ []) hop
 over_both reach one other a b hop first second same only_one only_other =
-    let known : BestAt = record { cost = a; at = one.at; alone = true } in
-    let next : BestAt = record { cost = b; at = other.at; alone = true } in
     let best : BestAt = record { cost = a; at = one.at; alone = false } in
-    let is = better_more reach (one ∷ []) other known next best second refl (first_of_two reach one a first)
-    (both same refl refl (λ no. absurd (false≢true no))) in
-    record { best = best; is = is; alike = alike_of_two reach one other best hop only_one only_other only_one; only = only_one }
+    over_better reach one other a b hop best first second (both same refl refl (λ no. absurd (false≢true no)))
+    (λ _. alike_of_two reach one other best hop only_one only_other only_one) only_one
 
 -- one first hop alone is the list of them
 pub hop_alone : (reach : Reach) (at n hop : ℕ) → listed_hops_of reach at ≡ hop ∷ [] → hop < n → AreHopsTo reach at n (hop ∷ [])

@@ -82,8 +82,7 @@ fn cost_of(walks: &LeastWalks, offer: Offer) -> Option<u64>
 /// The first hop towards each of two vertices, where it is one alone.
 #[inline(always)]
 fn hop_to_both(walks: &LeastWalks, one: u32, other: u32) -> Option<u32>
-    ensures one { IfSome result (λ hop. listed_hops_of walks.now one ≡ hop ∷ []) }
-    ensures other { IfSome result (λ hop. listed_hops_of walks.now other ≡ hop ∷ []) }
+    ensures { IfSome result (λ hop. (listed_hops_of walks.now one ≡ hop ∷ []) × (listed_hops_of walks.now other ≡ hop ∷ [])) }
 {
     let hop = only_hop(walks, one)?;
     if only_hop(walks, other) == Some(hop) {

@@ -1,7 +1,7 @@
 -- Routes of a router for a prefix.
 use Rattle.std.specs.Prelude.{ℕ, List, length, Option, MatchOption}
 use Rattle.net_addr.specs.Addresses.{Block}
-use Rattle.walk_core.specs.BestOffers.{NoneTotals}
+use Rattle.walk_core.specs.BestOffers.{AreInRange, NoneTotals}
 use Rattle.walk_core.specs.declared.offers.Offer.{Offer}
 use Rattle.igp_theory.specs.Isis.{IsisEntry}
 use Rattle.route_tables.specs.BestRoutes.{IsBestRoute}
@@ -21,3 +21,8 @@ abbrev pub IsBestIn : IsisDomain → Level → ℕ → List Offer → Option Rou
 IsBestIn domain level u offers found =
     MatchOption found (NoneTotals (level_reach domain.walks u (zone_number level)) offers)
     (IsBestRoute (level_reach domain.walks u (zone_number level)) offers (zone_number level) (length domain.net))
+
+-- over a level's least walks the best of the offers is router u's route for p, and where none of them is reached, this is so
+pub record LeadIn (domain : IsisDomain) (level : Level) (u : ℕ) (p : Block) (none : Type 0) (offers : List Offer) : Type 0 where
+  pub range : AreInRange (level_reach domain.walks u (zone_number level)) offers
+  pub route : (found : Option Route) → IsBestIn domain level u offers found → MatchOption found none (IsIsisRoute domain u p)

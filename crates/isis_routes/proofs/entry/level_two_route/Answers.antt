@@ -1,15 +1,5 @@
-use Rattle.std.proofs.Common.{refl}
-use Rattle.isis_routes.proofs.LeadFacts.{as_good, route_by, two_leads}
+use Rattle.isis_routes.proofs.LeadFacts.{route_by}
 use Rattle.isis_routes.proofs.entry.level_two_route.Goals as goal
 
-pub best_route-requires-clause-range : goal.best_route-requires-clause-range
-best_route-requires-clause-range c =
-    (two_leads c.args.domain.now c.args.router c.args.destination.now c.as_slice.result.now c.if-not-runs_level_two.ensures.known c.requires.announced
-    c.requires.router c.requires.away c.requires.without_level_one (c.if-not-runs_level_two.ensures.runs.0 refl) (as_good c.as_slice.ensures.value)).range
-
-pub returns : goal.returns
-returns c =
-    route_by c.best_route.result
-    (two_leads c.args.domain.now c.args.router c.args.destination.now c.as_slice.result.now c.if-not-runs_level_two.ensures.known c.requires.announced
-    c.requires.router c.requires.away c.requires.without_level_one (c.if-not-runs_level_two.ensures.runs.0 refl) (as_good c.as_slice.ensures.value))
-    c.best_route.ensures
+pub returns-in-Some : goal.returns-in-Some
+returns-in-Some c = route_by c.best_route.result c.in-Some.ensures c.best_route.ensures

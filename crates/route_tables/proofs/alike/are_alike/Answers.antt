@@ -2,15 +2,9 @@ use Rattle.std.proofs.Common.{◌≡◌, ℕ, ◌+◌, ◌-◌, ◌≤◌, ◌�
 use Rattle.walk_core.specs.declared.offers.Offer.{Offer}
 use Rattle.route_tables.specs.AlikeOffers.{AreAlikeOffers, AreDearerBy, dearer_by}
 use Rattle.route_tables.specs.steps.Alike.{first_asks}
+use Rattle.route_tables.proofs.AlikeRoutes.{dearer_by_nothing}
 use Rattle.route_tables.proofs.ListFacts.{iff_then}
 use Rattle.route_tables.proofs.alike.are_alike.Goals as goal
-
--- offers that ask nothing more are the same
-dearer_by_nothing : (offers : List Offer) → map (dearer_by 0) offers ≡ offers
-dearer_by_nothing [] = refl
-dearer_by_nothing (o ∷ offers) =
-    let asks : o.asks + 0 ≡ o.asks = omega arith in
-    ap (λ (a : ℕ). record { at = o.at; asks = a } ∷ map (dearer_by 0) offers) asks ∙ ap (λ (l : List Offer). o ∷ l) (dearer_by_nothing offers)
 
 -- the second list is dearer by what its first offer asks more
 dearer_by_first : (more : ℕ) (one other : List Offer) → AreDearerBy more one other → AreDearerBy (first_asks other - first_asks one) one other

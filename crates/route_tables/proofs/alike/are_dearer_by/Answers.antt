@@ -1,5 +1,5 @@
 use Rattle.std.proofs.Common.{◌≡◌, ℕ, ◌+◌, ◌<◌, ◌∷◌, ◌++◌, [], List, length, take, get_or, map, refl, sym, ap, subst, ◌∙◌, arith}
-use Rattle.std.proofs.lemmas.List.{take_more, take_all, map_push, get_or-map}
+use Rattle.std.proofs.lemmas.List.{take_more, take_all, map_push}
 use Rattle.walk_core.specs.declared.offers.Offer.{Offer}
 use Rattle.route_tables.specs.AlikeOffers.{AreDearerBy, dearer_by}
 use Rattle.route_tables.proofs.alike.are_dearer_by.Goals as goal
@@ -14,11 +14,6 @@ dearer_more more one other i d e within inside is so_far =
     ∙ ap (λ (l : List Offer). l ++ dearer_by more (get_or one i d) ∷ []) so_far
     ∙ sym (map_push (dearer_by more) (take i one) (get_or one i d))
     ∙ ap (map (dearer_by more)) (sym (take_more one i d within))
-
--- dearer offers are dearer at each place
-dearer_at : (more : ℕ) (one other : List Offer) (i : ℕ) (d e : Offer) → i < length one → AreDearerBy more one other →
-    get_or other i e ≡ dearer_by more (get_or one i d)
-dearer_at more one other i d e within dearer = ap (λ (l : List Offer). get_or l i e) dearer ∙ get_or-map (dearer_by more) one i d e within
 
 pub loop-place-preserved : goal.loop-place-preserved
 loop-place-preserved c =
