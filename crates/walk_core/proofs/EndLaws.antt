@@ -1,6 +1,6 @@
 -- The distances from a root of links are the least over these of what they cost and how far it is from their ends.
-use Rattle.std.proofs.Common.{◌≡◌, ◌≢◌, ℕ, ◌+◌, ◌*◌, ◌^◌, ◌<◌, ◌≤◌, Bool, true, false, List, [], ◌∷◌, ◌++◌, Option, Some, None, Contains, MatchOption, length, get_or, set}
-use Rattle.std.proofs.Common.{get_or-set_other, get_or-set_same, length-append, length-set, take, inl, inr, sym, ap, subst, ◌∙◌, arith}
+use Rattle.std.proofs.Common.{◌≡◌, ◌≢◌, ℕ, ◌+◌, ◌*◌, ◌^◌, ◌<◌, ◌≤◌, Bool, true, false, List, [], ◌∷◌, ◌++◌, Option, Some, None, Contains, MatchOption}
+use Rattle.std.proofs.Common.{length, get_or, set, get_or-set_other, get_or-set_same, length-append, length-set, take, inl, inr, sym, ap, subst, ◌∙◌, arith}
 use Rattle.std.proofs.lemmas.Bool.{cases_eq}
 use Rattle.std.proofs.lemmas.List.{get_or_default}
 use Rattle.std.proofs.lemmas.Option.{same_Some}
@@ -11,7 +11,7 @@ use Rattle.walk_core.specs.declared.segment.Port.{Port}
 use Rattle.walk_core.specs.Distances.{distance_at, AreLeastDistances, IsDistanceRow}
 use Rattle.walk_core.specs.Segments.{AreSegments, SendsAcross}
 use Rattle.walk_core.specs.steps.Cheapest.{HasCost, IsCheapest, IsCheapestCost}
-use Rattle.walk_core.specs.steps.Ends.{AreFound, AreSearched, IsEndRow, IsShortRow, distance_beyond, distance_over}
+use Rattle.walk_core.specs.steps.Ends.{AreRowsFound, AreSearched, IsEndRow, IsShortRow, distance_beyond, distance_over}
 use Rattle.walk_core.specs.steps.Flooding.{segment_at}
 use Rattle.walk_core.specs.steps.Relaxing.{IsAtMost}
 use Rattle.walk_core.specs.steps.SegmentWalks.{AreOutlets, HasOutlet, IsFarEnd, IsLan, IsOutlet}
@@ -59,8 +59,8 @@ record WalksOver (segments : List (List Port)) (count root v d : ℕ) : Type 0 w
   near : d < count * 2 ^ 32
 
 -- the least of what it costs over the links is the cost of a walk
-goes_on : (segments : List (List Port)) (count root v d : ℕ) (outlets : List Outlet) (rows : List (List (Option ℕ))) → HasEnds segments count root outlets rows →
-    HasCost (distance_over rows v) outlets d → WalksOver segments count root v d
+goes_on : (segments : List (List Port)) (count root v d : ℕ) (outlets : List Outlet) (rows : List (List (Option ℕ))) →
+    HasEnds segments count root outlets rows → HasCost (distance_over rows v) outlets d → WalksOver segments count root v d
 goes_on segments count root v d outlets rows has cheapest =
     let arc : Arcs = SendsAcross segments in
     let outlet : Outlet = cheapest.thing in
@@ -131,9 +131,10 @@ row_of_ends segments count root outlets rows ds has within own cheapest = record
     at_root v d same is = same_Some d 0 (sym is ∙ ap (λ (n : ℕ). distance_at ds n) same ∙ own)
 
     walked : (v d : ℕ) → v ≢ root → distance_at ds v ≡ Some d → WalksOver segments count root v d
-    walked v d apart is = goes_on segments count root v d outlets rows has
-        (let least : IsCheapest (distance_over rows v) outlets d = subst (λ (o : Option ℕ). IsCheapestCost (distance_over rows v) outlets o) is (cheapest v apart) in
-        least.attained)
+    walked v d apart is =
+        let least : IsCheapest (distance_over rows v) outlets d =
+        subst (λ (o : Option ℕ). IsCheapestCost (distance_over rows v) outlets o) is (cheapest v apart) in
+        goes_on segments count root v d outlets rows has least.attained
 
     none_less : (v : ℕ) (legs : List Leg) → Walks arc root legs v → IsAtMost (distance_at ds v) (walk_cost legs)
     none_less v [] leads = record { value = 0; is = ap (λ (n : ℕ). distance_at ds n) (sym leads) ∙ own; below = omega arith }
@@ -146,7 +147,8 @@ row_of_ends segments count root outlets rows ds has within own cheapest = record
     ]
 
 -- the distances over the first outlets, whose far ends have rows
-pub record AreLowered (segments : List (List Port)) (count root i : ℕ) (outlets : List Outlet) (rows : List (List (Option ℕ))) (row : List (Option ℕ)) : Type 0 where
+pub record AreLowered (segments : List (List Port)) (count root i : ℕ) (outlets : List Outlet) (rows : List (List (Option ℕ)))
+    (row : List (Option ℕ)) : Type 0 where
   pub long : length row ≡ count
   pub ends : (k : ℕ) → k < i → IsShortEnd (SendsAcross segments) count root rows (get_or outlets k (record { place = 0; cost = 0; to = None }))
   pub cheapest : (v : ℕ) → IsCheapestCost (distance_over rows v) (take i outlets) (distance_at row v)
@@ -202,7 +204,8 @@ row_of_lowered segments count root i outlets rows row after own below ports list
 
 -- a row that was searched, or one that isn't to be
 pub searched_more : (arc : Arcs) (count n : ℕ) (by_ends : List Bool) (rows : List (List (Option ℕ))) (row : List (Option ℕ)) →
-    AreSearched arc count by_ends n rows → (get_or by_ends n false ≡ false → IsShortRow arc count n row) → AreSearched arc count by_ends (n + 1) (rows ++ row ∷ [])
+    AreSearched arc count by_ends n rows → (get_or by_ends n false ≡ false → IsShortRow arc count n row) →
+    AreSearched arc count by_ends (n + 1) (rows ++ row ∷ [])
 searched_more arc count n by_ends rows row are is = record {
   long = omega (arith, length-append rows (row ∷ []), are.long);
   marks = are.marks;
@@ -211,7 +214,7 @@ searched_more arc count n by_ends rows row are is = record {
 
 -- the next row was searched
 pub found_there : (arc : Arcs) (count n : ℕ) (by_ends : List Bool) (rows : List (List (Option ℕ))) → n < count → get_or by_ends n false ≡ false →
-    AreFound arc count by_ends n rows → AreFound arc count by_ends (n + 1) rows
+    AreRowsFound arc count by_ends n rows → AreRowsFound arc count by_ends (n + 1) rows
 found_there arc count n by_ends rows below free are = record {
   searched = are.searched;
   found = below_more (λ u. IsDistanceRow arc count u (get_or rows u [])) n are.found (are.searched.each n below free).row;
@@ -219,7 +222,8 @@ found_there arc count n by_ends rows below free are = record {
 
 -- the next row is found by ends
 pub found_more : (arc : Arcs) (count n : ℕ) (by_ends : List Bool) (rows : List (List (Option ℕ))) (row : List (Option ℕ)) → n < count →
-    get_or by_ends n false ≡ true → IsDistanceRow arc count n row → AreFound arc count by_ends n rows → AreFound arc count by_ends (n + 1) (set rows n row)
+    get_or by_ends n false ≡ true → IsDistanceRow arc count n row → AreRowsFound arc count by_ends n rows →
+    AreRowsFound arc count by_ends (n + 1) (set rows n row)
 found_more arc count n by_ends rows row below taken is are = record {
   searched = record {
     long = length-set rows n row ∙ are.searched.long;

@@ -1,7 +1,7 @@
 ghost use Rattle.std.specs.Prelude.{◌≡◌, ◌+◌, ◌<◌, [], false, true, length, slice_index_or, slice_set, IfOk, OnOk};
 ghost use Rattle.walk_core.specs.Distances.{AreDistanceRows, IsDistanceRow};
 ghost use Rattle.walk_core.specs.Reach.{AreWalksBelow};
-ghost use Rattle.walk_core.specs.steps.Ends.{AreFound, AreSearched, IsShortRow};
+ghost use Rattle.walk_core.specs.steps.Ends.{AreRowsFound, AreSearched, IsShortRow};
 ghost use Rattle.walk_core.specs.steps.FirstHops.{AreAllHops};
 ghost use Rattle.walk_core.specs.steps.SegmentWalks.{AreAllOutlets, IsJoinedEnd};
 ghost use Rattle.walk_core.specs.Segments.{AreSegments, SendsAcross};
@@ -176,8 +176,8 @@ fn complete_row(
     requires root { root < count }
     requires segments { AreSegments count segments.now }
     requires outlets { AreAllOutlets segments.now count outlets.now }
-    requires rows { AreFound (SendsAcross segments.now) count by_ends.now root rows.old.items }
-    ensures { OnOk result (AreFound (SendsAcross segments.now) count by_ends.now (root + 1) rows.new.items) }
+    requires rows { AreRowsFound (SendsAcross segments.now) count by_ends.now root rows.old.items }
+    ensures { OnOk result (AreRowsFound (SendsAcross segments.now) count by_ends.now (root + 1) rows.new.items) }
 {
     if !by_ends[root as usize] {
         return Ok(());

@@ -17,7 +17,7 @@ pub record AreSearched (arc : Arcs) (count : ℕ) (by_ends : List Bool) (n : ℕ
   pub each : (u : ℕ) → u < n → slice_index_or by_ends u false ≡ false → IsShortRow arc count u (slice_index_or rows u [])
 
 -- with those of the taken ones below n
-pub record AreFound (arc : Arcs) (count : ℕ) (by_ends : List Bool) (n : ℕ) (rows : List (List (Option ℕ))) : Type 0 where
+pub record AreRowsFound (arc : Arcs) (count : ℕ) (by_ends : List Bool) (n : ℕ) (rows : List (List (Option ℕ))) : Type 0 where
   pub searched : AreSearched arc count by_ends count rows
   pub found : (u : ℕ) → u < n → IsDistanceRow arc count u (slice_index_or rows u [])
 
