@@ -9,8 +9,7 @@ use Rattle.walk_core.specs.steps.Departures.{LeavesTo, AreDepartures, BeginsAt}
 use Rattle.walk_core.proofs.HopLaws.{BeginsLeast, begins_least_from_first_hop, first_hop_from_begins_least}
 
 pub departs_more : (arc : Arcs) (root : ℕ) (ds : List Departure) (d : Departure) →
-    ((e : Departure) → Contains ds e → arc root e.to e.cost) → arc root d.to d.cost →
-    (e : Departure) → Contains (ds ++ d ∷ []) e → arc root e.to e.cost
+    ((e : Departure) → Contains ds e → arc root e.to e.cost) → arc root d.to d.cost → (e : Departure) → Contains (ds ++ d ∷ []) e → arc root e.to e.cost
 departs_more arc root ds d each departs e among =
     elim (Contains-push_cases ds d e among) [
       | inl before ↦ each e before
@@ -18,8 +17,7 @@ departs_more arc root ds d each departs e among =
     ]
 
 pub leaves_more : (ends : ℕ → ℕ × ℕ) (ds : List Departure) (d : Departure) (i : ℕ) →
-    ((j : ℕ) → j < i → LeavesTo ds (ends j).0 (ends j).1) → d.to ≡ (ends i).0 →
-    d.cost ≡ (ends i).1 →
+    ((j : ℕ) → j < i → LeavesTo ds (ends j).0 (ends j).1) → d.to ≡ (ends i).0 → d.cost ≡ (ends i).1 →
     (j : ℕ) → j < i + 1 → LeavesTo (ds ++ d ∷ []) (ends j).0 (ends j).1
 leaves_more ends ds d i every leads costs =
     below_more (λ j. LeavesTo (ds ++ d ∷ []) (ends j).0 (ends j).1) i
@@ -52,12 +50,10 @@ begins_at_is_first_hop arc root ds rows distances v h departures ends least = (
       let begins = begins_least_from_first_hop hop in
       let leaves = departures.every h begins.cost begins.over in
       let far : distance_between rows h v ≡ Some begins.beyond =
-      ((ends h begins.cost begins.over).least v begins.beyond).1 begins.rest
-      in
+      ((ends h begins.cost begins.over).least v begins.beyond).1 begins.rest in
       let At : ℕ → Type 0 = λ n. distance_between rows n v ≡ Some begins.beyond in
       let whole : distance_at distances v ≡ Some (begins.cost + begins.beyond) =
-      (least.least v (begins.cost + begins.beyond)).1 begins.whole
-      in
+      (least.least v (begins.cost + begins.beyond)).1 begins.whole in
       record {
         thing = leaves.departure;
         among = leaves.among;

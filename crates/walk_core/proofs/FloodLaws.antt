@@ -6,7 +6,8 @@ use Rattle.std.proofs.lemmas.List.Elements.{Contains-get_or}
 use Rattle.walk_core.specs.declared.segment.Port.{Port}
 use Rattle.walk_core.specs.BestOffers.{total_with}
 use Rattle.walk_core.specs.steps.Cheapest.{HasCost}
-use Rattle.walk_core.specs.Distances.{distance_at, IsDistanceRow}
+use Rattle.walk_core.specs.Distances.{distance_at}
+use Rattle.walk_core.specs.steps.Ends.{IsShortRow}
 use Rattle.walk_core.specs.steps.Flooding.{cost_onto, segment_at, AreAllAtMost, IsLastAbove}
 use Rattle.walk_core.specs.steps.Relaxing.{AreWalked, HaveRoom, Fall, IsAtMost, IsTightFrom, weight_of}
 use Rattle.walk_core.specs.declared.outlets.Outlet.{Outlet}
@@ -73,8 +74,7 @@ lowered segments place now after port found fell within are room entry far falls
     relaxed (Sends segments) now after near.vertex port.vertex near.cost d fell room over
     (are ports among near entry.among).most (are ports among port far).vertex parts.1
     (subst (λ (n : ℕ). IsTrue fell ↔ (n < weight_of (distance_at now port.vertex))) (sym sum) falls)
-    (subst (λ (n : ℕ). after ≡ cond fell (set now port.vertex (Some n)) now) (sym sum) is)
-    in
+    (subst (λ (n : ℕ). after ≡ cond fell (set now port.vertex (Some n)) now) (sym sum) is) in
     record {
       falls = record { room = step.relaxes.room; walked = step.relaxes.walked; lower = step.lower };
       entry = record {
@@ -105,8 +105,7 @@ sends_loops segments = record {
 
 -- an arc of segments ends at a vertex
 pub sends_below : (segments : List (List Port)) (count u v c : ℕ) → AreSegments count segments → Sends segments u v c → v < count
-sends_below segments count u v c are over =
-    subst (λ (n : ℕ). n < count) over.over.to (are over.segment over.among over.over.far over.over.far_among).vertex
+sends_below segments count u v c are over = subst (λ (n : ℕ). n < count) over.over.to (are over.segment over.among over.over.far over.over.far_among).vertex
 
 -- an arc of segments is one over the segment of some place
 pub sends_at_place : (segments : List (List Port)) (u v c : ℕ) → Sends segments u v c →
@@ -118,13 +117,16 @@ sends_at_place segments u v c arc =
 -- distances that are costs of walks and that no arc undercuts are a row
 pub row_of_tight : (segments : List (List Port)) (count root : ℕ) (ds : List (Option ℕ)) → root < count → AreSegments count segments → length ds ≡ count →
     HaveRoom ds → AreWalked (Sends segments) root ds → ((u : ℕ) → u < count → IsTightFrom (Sends segments) u ds) →
-    IsDistanceRow (SendsAcross segments) count root ds
+    IsShortRow (SendsAcross segments) count root ds
 row_of_tight segments count root ds below are long room walked tight = record {
-  least = distances_loops (SendsAcross segments) (Sends segments) (sends_loops segments) root ds
-      (distances_from_tight (Sends segments) count root ds below
-      (λ u v cost in_range over. sends_below segments count u v cost are over) tight walked);
-  within = omega (arith, long);
-  near = λ v d is. let within = room.room v d is in omega (arith, within, long);
+  row = record {
+    least = distances_loops (SendsAcross segments) (Sends segments) (sends_loops segments) root ds
+        (distances_from_tight (Sends segments) count root ds below
+        (λ u v cost in_range over. sends_below segments count u v cost are over) tight walked);
+    within = omega (arith, long);
+    near = λ v d is. let within = room.room v d is in omega (arith, within, long);
+  };
+  short = λ v d is. let within = room.room v d is in omega (arith, within, long);
 }
 
 -- the port of an outlet is one from which its segment is entered

@@ -17,3 +17,4 @@ mod AddingLaws
 mod OutletLaws
 pub mod RowLaws
 pub mod StaleLaws
+mod EndLaws

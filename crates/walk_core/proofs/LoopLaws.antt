@@ -39,8 +39,7 @@ least_cost_loops arc loose adds u v d = (
   λ least.
       let way = straight arc loose adds u least.legs v least.walk.leads in
       let below : (others : List Leg) → Walks arc u others v → d ≤ walk_cost others =
-      λ others other. least_cost_at_most least others (walks_over adds.kept u others v other)
-      in
+      λ others other. least_cost_at_most least others (walks_over adds.kept u others v other) in
       let cost : walk_cost way.legs ≡ d = omega (arith, way.most, least.costs, below way.legs way.leads) in
       least_cost_from d way.legs way.leads cost below,
   λ least. least_cost_from d least.legs (walks_over adds.kept u least.legs v least.walk.leads) least.costs

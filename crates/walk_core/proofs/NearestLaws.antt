@@ -35,8 +35,7 @@ end_cases rows ports port v d h end = elim (Contains-push_cases ports port end.t
 
 end_kept : (rows : List (List (Option ℕ))) (ports : List Port) (port : Port) (v d h : ℕ) → IsEndAt rows ports (record { vertex = v; distance = d }) h →
     IsEndAt rows (ports ++ port ∷ []) (record { vertex = v; distance = d }) h
-end_kept rows ports port v d h end =
-    record { thing = end.thing; among = Contains-append_left ports (port ∷ []) end.thing end.among; leads = end.leads }
+end_kept rows ports port v d h end = record { thing = end.thing; among = Contains-append_left ports (port ∷ []) end.thing end.among; leads = end.leads }
 
 end_here : (rows : List (List (Option ℕ))) (ports : List Port) (port : Port) (v d h : ℕ) → beyond_port rows v port ≡ Some d → port.vertex ≡ h →
     IsEndAt rows (ports ++ port ∷ []) (record { vertex = v; distance = d }) h

@@ -31,8 +31,7 @@ best_of_cheapest reach offers best = go best
 
 -- a total is the cost of an offer over the least walks
 pub total_is_cost : (arc : Arcs) (u : ℕ) (reach : Reach) (offer : Offers) (offers : List Offer) (c : ℕ) → AreLeastWalks arc u reach →
-    ((at asks : ℕ) → ListsOffer offers at asks ↔ offer at asks) →
-    HasTotal reach offers c ↔ ((at : ℕ) × OfferCosts arc offer u at c)
+    ((at asks : ℕ) → ListsOffer offers at asks ↔ offer at asks) → HasTotal reach offers c ↔ ((at : ℕ) × OfferCosts arc offer u at c)
 total_is_cost arc u reach offer offers c walks same = (there, back)
   where
     distance_there : (d : Option ℕ) (asks cost : ℕ) → total_with d asks ≡ Some cost → (n : ℕ) × (d ≡ Some n) × (n + asks ≡ cost)
@@ -87,8 +86,7 @@ none_totals_no_best arc u reach offer offers walks same none c best =
 
 -- the hops towards the offers of the best total are the first hops of the best cost
 pub hop_towards_is_best_hop : (arc : Arcs) (u : ℕ) (reach : Reach) (offer : Offers) (offers : List Offer) (c h : ℕ) → AreLeastWalks arc u reach →
-    ((at asks : ℕ) → ListsOffer offers at asks ↔ offer at asks) → BestCost arc offer u c →
-    IsHopTowards reach offers c h ↔ BestHop arc offer u h
+    ((at asks : ℕ) → ListsOffer offers at asks ↔ offer at asks) → BestCost arc offer u c → IsHopTowards reach offers c h ↔ BestHop arc offer u h
 unfolding total_is_cost
 hop_towards_is_best_hop arc u reach offer offers c h walks same best = (there, back)
   where

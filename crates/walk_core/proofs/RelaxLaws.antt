@@ -13,18 +13,14 @@ use Rattle.walk_core.specs.steps.Relaxing.{WalkCosts, AreWalked, IsAtMost, IsTig
 -- a walk goes on over one more arc
 pub walks_on : (arc : Arcs) (u : ℕ) (legs : List Leg) (v : ℕ) (leg : Leg) → Walks arc u legs v →
     arc v leg.to leg.cost → Walks arc u (legs ++ leg ∷ []) leg.to
-walks_on arc u [] v last leads over =
-    let P : ℕ → Type 0 = λ n. arc n last.to last.cost in (subst P (sym leads) over, refl)
-walks_on arc u (leg ∷ legs) v last leads over =
-    (leads.0, walks_on arc leg.to legs v last (leads.1) over)
+walks_on arc u [] v last leads over = let P : ℕ → Type 0 = λ n. arc n last.to last.cost in (subst P (sym leads) over, refl)
+walks_on arc u (leg ∷ legs) v last leads over = (leads.0, walks_on arc leg.to legs v last (leads.1) over)
 
-pub walk_cost_on : (legs : List Leg) (leg : Leg) →
-    walk_cost (legs ++ leg ∷ []) ≡ walk_cost legs + leg.cost
+pub walk_cost_on : (legs : List Leg) (leg : Leg) → walk_cost (legs ++ leg ∷ []) ≡ walk_cost legs + leg.cost
 walk_cost_on [] last = omega arith
 walk_cost_on (leg ∷ legs) last = omega (arith, walk_cost_on legs last)
 
-pub walk_costs_on : {arc : Arcs} {u v w d c : ℕ} → WalkCosts arc u v d → arc v w c →
-    WalkCosts arc u w (d + c)
+pub walk_costs_on : {arc : Arcs} {u v w d c : ℕ} → WalkCosts arc u v d → arc v w c → WalkCosts arc u w (d + c)
 walk_costs_on {arc} {u} {v} {w} {d} {c} walk over =
     let last : Leg = record { to = w; cost = c } in
     record {
@@ -40,33 +36,26 @@ pub total_weight_falls : (ds : List (Option ℕ)) (v x : ℕ) → v < length ds 
     x < weight_of (distance_at ds v) → total_weight (set ds v (Some x)) < total_weight ds
 total_weight_falls [] v x in_range falls = absurd (omega arith)
 total_weight_falls (d ∷ ds) zero x in_range falls = omega arith
-total_weight_falls (d ∷ ds) (suc v) x in_range falls =
-    omega (arith, total_weight_falls ds v x (omega arith) falls)
+total_weight_falls (d ∷ ds) (suc v) x in_range falls = omega (arith, total_weight_falls ds v x (omega arith) falls)
 
 -- a vertex without a distance that gets one is no longer missing
-pub missing_found : (ds : List (Option ℕ)) (v x : ℕ) → v < length ds → distance_at ds v ≡ None →
-    missing (set ds v (Some x)) + 1 ≡ missing ds
+pub missing_found : (ds : List (Option ℕ)) (v x : ℕ) → v < length ds → distance_at ds v ≡ None → missing (set ds v (Some x)) + 1 ≡ missing ds
 missing_found [] v x in_range none = absurd (omega arith)
 missing_found (None ∷ ds) zero x in_range none = omega arith
 missing_found (Some d ∷ ds) zero x in_range none = absurd (cc)
-missing_found (None ∷ ds) (suc v) x in_range none =
-    omega (arith, missing_found ds v x (omega arith) none)
+missing_found (None ∷ ds) (suc v) x in_range none = omega (arith, missing_found ds v x (omega arith) none)
 missing_found (Some d ∷ ds) (suc v) x in_range none = missing_found ds v x (omega arith) none
 
 -- a distance that changes leaves as many missing
-pub missing_changed : (ds : List (Option ℕ)) (v x y : ℕ) → v < length ds →
-    distance_at ds v ≡ Some y → missing (set ds v (Some x)) ≡ missing ds
+pub missing_changed : (ds : List (Option ℕ)) (v x y : ℕ) → v < length ds → distance_at ds v ≡ Some y → missing (set ds v (Some x)) ≡ missing ds
 missing_changed [] v x y in_range some = absurd (omega arith)
 missing_changed (None ∷ ds) zero x y in_range some = absurd (cc)
 missing_changed (Some d ∷ ds) zero x y in_range some = refl
-missing_changed (None ∷ ds) (suc v) x y in_range some =
-    omega (arith, missing_changed ds v x y (omega arith) some)
-missing_changed (Some d ∷ ds) (suc v) x y in_range some =
-    missing_changed ds v x y (omega arith) some
+missing_changed (None ∷ ds) (suc v) x y in_range some = omega (arith, missing_changed ds v x y (omega arith) some)
+missing_changed (Some d ∷ ds) (suc v) x y in_range some = missing_changed ds v x y (omega arith) some
 
 -- of the distances after v got one, one is v's or it was there before
-pub distance_after : (ds : List (Option ℕ)) (v x w d : ℕ) → v < length ds →
-    distance_at (set ds v (Some x)) w ≡ Some d →
+pub distance_after : (ds : List (Option ℕ)) (v x w d : ℕ) → v < length ds → distance_at (set ds v (Some x)) w ≡ Some d →
     ((w ≡ v) × (d ≡ x)) ⊎ ((w ≢ v) × (distance_at ds w ≡ Some d))
 distance_after ds v x w d in_range is =
     elim (cases_eq w v) [
@@ -78,8 +67,7 @@ distance_after ds v x w d in_range is =
     ]
 
 -- a distance that was not lower than what an arc offers is at most that
-pub is_at_most : (distance : Option ℕ) (most : ℕ) → (most < weight_of distance → ⊥) →
-    most < 2 ^ 64 → IsAtMost distance most
+pub is_at_most : (distance : Option ℕ) (most : ℕ) → (most < weight_of distance → ⊥) → most < 2 ^ 64 → IsAtMost distance most
 is_at_most None most no_less fits = absurd (no_less fits)
 is_at_most (Some d) most no_less fits = record { value = d; is = refl; below = omega arith }
 
@@ -106,14 +94,12 @@ relaxes_none room = record {
 }
 
 -- a distance is missing or it is there
-pub distance_cases : (distance : Option ℕ) →
-    (distance ≡ None) ⊎ ((y : ℕ) × (distance ≡ Some y))
+pub distance_cases : (distance : Option ℕ) → (distance ≡ None) ⊎ ((y : ℕ) × (distance ≡ Some y))
 distance_cases None = inl refl
 distance_cases (Some y) = inr (y, refl)
 
 -- no more are missing than before
-pub missing_after : (ds : List (Option ℕ)) (v x : ℕ) → v < length ds →
-    missing (set ds v (Some x)) ≤ missing ds
+pub missing_after : (ds : List (Option ℕ)) (v x : ℕ) → v < length ds → missing (set ds v (Some x)) ≤ missing ds
 missing_after ds v x in_range =
     elim (distance_cases (distance_at ds v)) [
       | inl none ↦ omega (arith, missing_found ds v x in_range none)
@@ -126,8 +112,7 @@ sum_fits ds u d c room near small = let here = room.room u d near in omega (arit
 
 -- there is room after an arc was relaxed
 pub room_after : (ds : List (Option ℕ)) (u v c d : ℕ) → HaveRoom ds → c < 2 ^ 32 → v < length ds →
-    distance_at ds u ≡ Some d → d + c < weight_of (distance_at ds v) →
-    HaveRoom (set ds v (Some (d + c)))
+    distance_at ds u ≡ Some d → d + c < weight_of (distance_at ds v) → HaveRoom (set ds v (Some (d + c)))
 room_after ds u v c d room small in_range near falls = record {
   few = rw (length-set ds v (Some (d + c))) room.few;
   room = λ w e is.
@@ -155,15 +140,13 @@ room_after ds u v c d room small in_range near falls = record {
 
 -- the distances after an arc was relaxed are costs of walks
 pub walked_after : (arc : Arcs) (root : ℕ) (ds : List (Option ℕ)) (u v c d : ℕ) → arc u v c →
-    v < length ds → distance_at ds u ≡ Some d → d + c < weight_of (distance_at ds v) →
-    AreWalked arc root ds → AreWalked arc root (set ds v (Some (d + c)))
+    v < length ds → distance_at ds u ≡ Some d → d + c < weight_of (distance_at ds v) → AreWalked arc root ds → AreWalked arc root (set ds v (Some (d + c)))
 walked_after arc root ds u v c d over in_range near falls walked = record {
   start =
       let apart : root ≢ v = λ same.
       let at_v : distance_at ds v ≡ Some 0 = rw same at walked.start in
       let none : d + c < 0 = rw at_v at falls in
-      omega arith
-      in
+      omega arith in
       get_or-set_other ds v root (Some (d + c)) None apart ∙ walked.start;
   walked = λ w e is.
       elim (distance_after ds v (d + c) w e in_range is) [
@@ -177,8 +160,7 @@ walked_after arc root ds u v c d over in_range near falls walked = record {
 
 -- one arc that undercuts the distance of its end is relaxed
 pub relaxes_arc : (arc : Arcs) (ds : List (Option ℕ)) (u v c d : ℕ) → HaveRoom ds → arc u v c →
-    c < 2 ^ 32 → v < length ds → distance_at ds u ≡ Some d → d + c < weight_of (distance_at ds v) →
-    Relaxes arc ds (set ds v (Some (d + c))) true
+    c < 2 ^ 32 → v < length ds → distance_at ds u ≡ Some d → d + c < weight_of (distance_at ds v) → Relaxes arc ds (set ds v (Some (d + c))) true
 relaxes_arc arc ds u v c d room over small in_range near falls = record {
   room = room_after ds u v c d room small in_range near falls;
   walked = λ root walked. walked_after arc root ds u v c d over in_range near falls walked;
@@ -187,15 +169,13 @@ relaxes_arc arc ds u v c d room over small in_range near falls = record {
 }
 
 -- the distance of u stays when an arc from u is relaxed
-pub near_after : (ds : List (Option ℕ)) (u v c d : ℕ) → v < length ds →
-    distance_at ds u ≡ Some d → d + c < weight_of (distance_at ds v) →
+pub near_after : (ds : List (Option ℕ)) (u v c d : ℕ) → v < length ds → distance_at ds u ≡ Some d → d + c < weight_of (distance_at ds v) →
     distance_at (set ds v (Some (d + c))) u ≡ Some d
 near_after ds u v c d in_range near falls =
     let apart : u ≢ v = λ same.
     let at_v : distance_at ds v ≡ Some d = rw same at near in
     let lower : d + c < d = rw at_v at falls in
-    omega arith
-    in
+    omega arith in
     get_or-set_other ds v u (Some (d + c)) None apart ∙ near
 
 -- relaxing goes on
@@ -234,8 +214,7 @@ pub record IsRelaxed (arc : Arcs) (now after : List (Option ℕ)) (u v c d : ℕ
   pub tight : IsAtMost (distance_at after v) (d + c)
 
 pub relaxed : (arc : Arcs) (now after : List (Option ℕ)) (u v c d : ℕ) (fell : Bool) → HaveRoom now →
-    arc u v c → c < 2 ^ 32 → v < length now → distance_at now u ≡ Some d →
-    (IsTrue fell ↔ (d + c < weight_of (distance_at now v))) →
+    arc u v c → c < 2 ^ 32 → v < length now → distance_at now u ≡ Some d → (IsTrue fell ↔ (d + c < weight_of (distance_at now v))) →
     after ≡ cond fell (set now v (Some (d + c))) now → IsRelaxed arc now after u v c d fell
 relaxed arc now after u v c d true room over small in_range near falls is =
     let P : List (Option ℕ) → Type 0 = λ ds. IsRelaxed arc now ds u v c d true in
@@ -258,8 +237,7 @@ relaxed arc now after u v c d false room over small in_range near falls is =
 
 -- the arcs so far are tight, and one more
 pub tight_more : (arc : Arcs) (ends : ℕ → ℕ × ℕ) (now after : List (Option ℕ)) (u d i : ℕ) (fell more : Bool) →
-    OnFalse fell ((j : ℕ) → j < i → IsAtMost (distance_at now (ends j).0) (d + (ends j).1)) →
-    IsRelaxed arc now after u (ends i).0 (ends i).1 d more →
+    OnFalse fell ((j : ℕ) → j < i → IsAtMost (distance_at now (ends j).0) (d + (ends j).1)) → IsRelaxed arc now after u (ends i).0 (ends i).1 d more →
     OnFalse (fell || more) ((j : ℕ) → j < i + 1 → IsAtMost (distance_at after (ends j).0) (d + (ends j).1))
 tight_more arc ends now after u d i true more so_far step = tt
 tight_more arc ends now after u d i false true so_far step = tt
@@ -270,8 +248,7 @@ tight_more arc ends now after u d i false false so_far step =
 
 -- the vertices so far are tight, and one more
 pub tights_more : (arc : Arcs) (now after : List (Option ℕ)) (u : ℕ) (fell more : Bool) →
-    OnFalse fell ((v : ℕ) → v < u → IsTightFrom arc v now) → Relaxes arc now after more →
-    OnFalse more (IsTightFrom arc u after) →
+    OnFalse fell ((v : ℕ) → v < u → IsTightFrom arc v now) → Relaxes arc now after more → OnFalse more (IsTightFrom arc u after) →
     OnFalse (fell || more) ((v : ℕ) → v < u + 1 → IsTightFrom arc v after)
 tights_more arc now after u true more so_far relaxes tight = tt
 tights_more arc now after u false true so_far relaxes tight = tt
@@ -284,8 +261,7 @@ tights_more arc now after u false false so_far relaxes tight =
 
 -- where nothing fell since, the vertices so far are tight yet
 pub tights_kept : (arc : Arcs) (now after : List (Option ℕ)) (u : ℕ) (fell more : Bool) →
-    OnFalse fell ((v : ℕ) → v < u → IsTightFrom arc v now) → Relaxes arc now after more →
-    OnFalse (fell || more) ((v : ℕ) → v < u → IsTightFrom arc v after)
+    OnFalse fell ((v : ℕ) → v < u → IsTightFrom arc v now) → Relaxes arc now after more → OnFalse (fell || more) ((v : ℕ) → v < u → IsTightFrom arc v after)
 tights_kept arc now after u true more so_far relaxes = tt
 tights_kept arc now after u false true so_far relaxes = tt
 tights_kept arc now after u false false so_far relaxes = λ v below.
@@ -303,8 +279,7 @@ pub missing_at_first : (n : ℕ) → missing (replicate n None) ≡ n
 missing_at_first zero = refl
 missing_at_first (suc n) = omega (arith, missing_at_first n)
 
-pub only_at_root : (n root v d : ℕ) → root < n →
-    distance_at (set (replicate n None) root (Some 0)) v ≡ Some d → (v ≡ root) × (d ≡ 0)
+pub only_at_root : (n root v d : ℕ) → root < n → distance_at (set (replicate n None) root (Some 0)) v ≡ Some d → (v ≡ root) × (d ≡ 0)
 only_at_root n root v d in_range is =
     let long : root < length (replicate {A = Option ℕ} n None) = simp length-replicate in_range in
     elim (distance_after (replicate n None) root 0 v d long is) [
@@ -313,8 +288,7 @@ only_at_root n root v d in_range is =
     ]
 
 -- at first the root has room for the costs of all arcs
-pub room_at_first : (n root : ℕ) → root < n → n < 2 ^ 32 →
-    HaveRoom (set (replicate n None) root (Some 0))
+pub room_at_first : (n root : ℕ) → root < n → n < 2 ^ 32 → HaveRoom (set (replicate n None) root (Some 0))
 room_at_first n root in_range small = record {
   few = simp (length-set, length-replicate) small;
   room = λ v d is.
@@ -327,8 +301,7 @@ room_at_first n root in_range small = record {
 }
 
 -- at first only the walk of no leg is known
-pub walked_at_first : (arc : Arcs) (n root : ℕ) → root < n →
-    AreWalked arc root (set (replicate n None) root (Some 0))
+pub walked_at_first : (arc : Arcs) (n root : ℕ) → root < n → AreWalked arc root (set (replicate n None) root (Some 0))
 walked_at_first arc n root in_range = record {
   start =
       let long : root < length (replicate {A = Option ℕ} n None) = simp length-replicate in_range in
@@ -339,35 +312,24 @@ walked_at_first arc n root in_range = record {
 }
 
 -- where no arc undercuts a distance, no walk does
-pub no_walk_undercuts : (arc : Arcs) (count : ℕ) (ds : List (Option ℕ)) →
-    ((u v c : ℕ) → u < count → arc u v c → v < count) →
-    ((u : ℕ) → u < count → IsTightFrom arc u ds) →
-    (u : ℕ) (legs : List Leg) (v d : ℕ) → u < count → distance_at ds u ≡ Some d → Walks arc u legs v →
+pub no_walk_undercuts : (arc : Arcs) (count : ℕ) (ds : List (Option ℕ)) → ((u v c : ℕ) → u < count → arc u v c → v < count) →
+    ((u : ℕ) → u < count → IsTightFrom arc u ds) → (u : ℕ) (legs : List Leg) (v d : ℕ) → u < count → distance_at ds u ≡ Some d → Walks arc u legs v →
     IsAtMost (distance_at ds v) (d + walk_cost legs)
 no_walk_undercuts arc count ds ends tight u [] v d in_range is leads =
     let there : distance_at ds v ≡ Some d = rw leads at is in
     record { value = d; is = there; below = omega arith }
 no_walk_undercuts arc count ds ends tight u (leg ∷ legs) v d in_range is leads =
     let near : IsAtMost (distance_at ds leg.to) (d + leg.cost) =
-    tight u in_range leg.to leg.cost d (leads.0) is
-    in
+    tight u in_range leg.to leg.cost d (leads.0) is in
     let far : IsAtMost (distance_at ds v) (near.value + walk_cost legs) =
     no_walk_undercuts arc count ds ends tight leg.to legs v near.value
-    (ends u leg.to leg.cost in_range (leads.0)) near.is (leads.1)
-    in
+    (ends u leg.to leg.cost in_range (leads.0)) near.is (leads.1) in
     record { value = far.value; is = far.is; below = omega arith }
 
--- costs of walks that no arc undercuts are the least costs
-pub distances_from_tight : (arc : Arcs) (count root : ℕ) (ds : List (Option ℕ)) → root < count →
-    ((u v c : ℕ) → u < count → arc u v c → v < count) →
-    ((u : ℕ) → u < count → IsTightFrom arc u ds) → AreWalked arc root ds → AreLeastDistances arc root ds
-distances_from_tight arc count root ds in_range ends tight walked =
-    let reached : (v : ℕ) (legs : List Leg) → Walks arc root legs v →
-    IsAtMost (distance_at ds v) (walk_cost legs) =
-    λ v legs leads.
-    let far = no_walk_undercuts arc count ds ends tight root legs v 0 in_range walked.start leads in
-    record { value = far.value; is = far.is; below = omega arith }
-    in
+-- costs of walks that no walk undercuts are the least costs
+pub distances_from_reached : (arc : Arcs) (root : ℕ) (ds : List (Option ℕ)) → AreWalked arc root ds →
+    ((v : ℕ) (legs : List Leg) → Walks arc root legs v → IsAtMost (distance_at ds v) (walk_cost legs)) → AreLeastDistances arc root ds
+distances_from_reached arc root ds walked reached =
     let sound : (v d : ℕ) → distance_at ds v ≡ Some d → LeastCost arc root v d =
     λ v d is.
     let walk = walked.walked v d is in
@@ -375,8 +337,7 @@ distances_from_tight arc count root ds in_range ends tight walked =
     let far = reached v others leads in
     let same : Some d ≡ Some far.value = sym is ∙ far.is in
     let equal : d ≡ far.value = cc in
-    omega arith)
-    in
+    omega arith) in
     record {
       least = λ v d. (
         sound v d,
@@ -396,3 +357,10 @@ distances_from_tight arc count root ds in_range ends tight walked =
         ],
       );
     }
+
+-- costs of walks that no arc undercuts are the least costs
+pub distances_from_tight : (arc : Arcs) (count root : ℕ) (ds : List (Option ℕ)) → root < count → ((u v c : ℕ) → u < count → arc u v c → v < count) →
+    ((u : ℕ) → u < count → IsTightFrom arc u ds) → AreWalked arc root ds → AreLeastDistances arc root ds
+distances_from_tight arc count root ds in_range ends tight walked = distances_from_reached arc root ds walked (λ v legs leads.
+    let far = no_walk_undercuts arc count ds ends tight root legs v 0 in_range walked.start leads in
+    record { value = far.value; is = far.is; below = omega arith })

@@ -8,6 +8,7 @@ use Rattle.walk_core.specs.declared.segment.Port.{Port}
 use Rattle.walk_core.specs.Distances.{distance_at, IsDistanceRow}
 use Rattle.walk_core.specs.Reach.{Reach, AreWalksBelow}
 use Rattle.walk_core.specs.Segments.{SendsAcross, AreSegments, IsPort}
+use Rattle.walk_core.specs.steps.Ends.{IsShortRow}
 use Rattle.walk_core.specs.steps.Flooding.{segment_at}
 use Rattle.walk_core.specs.Walks.{Arcs}
 use Rattle.walk_core.specs.steps.Relaxing.{AreWalked, IsTightFrom}
@@ -57,6 +58,13 @@ row_of_lone segments count root outlets below are listed none = record {
       start = lone_at_root root;
       walked = λ v d is. let at = lone_elsewhere root v d is in record { legs = []; leads = sym at.0; costs = sym at.1 };
     }
+
+pub short_row_of_lone : (segments : List (List Port)) (count root : ℕ) (outlets : List Outlet) → root < count → AreSegments count segments →
+    AreOutlets segments root (length segments) outlets → length outlets ≡ 0 → IsShortRow (SendsAcross segments) count root (lone_row root)
+short_row_of_lone segments count root outlets below are listed none = record {
+  row = row_of_lone segments count root outlets below are listed none;
+  short = λ v d is. omega (arith, below, (lone_elsewhere root v d is).1);
+}
 
 -- the ports are of vertices before the last one that has one
 pub ports_below : (segments : List (List Port)) (count end : ℕ) (all : List (List Outlet)) → AreSegments count segments → AreAllOutlets segments count all →

@@ -61,8 +61,7 @@ hop_from_outlet mesh root outlets aim h wanted goes =
     omega (arith, (wanted.mesh_is.ports (segment_at mesh.segments outlet.place) among is.port is.among).cost, is.costs) in
     let apart : root ≢ port.vertex = λ at_root.
     let here : LeastCost arc root v rest = subst (λ (n : ℕ). LeastCost arc n v rest) (sym at_root) beyond in
-    omega (arith, positive, least_cost_unique here whole)
-    in
+    omega (arith, positive, least_cost_unique here whole) in
     subst (λ (n : ℕ). FirstHop arc root v n) over.end.leads.vertex (first_hop_from_begins_least (record {
       cost = outlet.cost;
       beyond = rest;

@@ -66,16 +66,14 @@ lowers_one found v ds after stale new true in_range marked falls after_is new_is
           let apart : w ≢ v = λ same.
           let at_v : distance_at ds v ≡ Some d = rw same at is in
           let less : found < d = rw at_v at lower in
-          omega (arith, less, below)
-          in
+          omega (arith, less, below) in
           get_or-set_other ds v w (Some found) None apart ∙ is;
       marks = λ w unmarked.
           let apart : w ≢ v = λ same.
           let no : get_or (set stale v true) v true ≡ false = rw same at unmarked in
           let yes : get_or (set stale v true) v true ≡ true = get_or-set_same stale v true true marked in
           let k : true ≡ false = sym yes ∙ no in
-          cc
-          in
+          cc in
           (sym (get_or-set_other stale v w true true apart) ∙ unmarked, get_or-set_other ds v w (Some found) None apart);
       kept = λ w is. mark_kept stale v w is;
       left = omega (arith, one_mark_more stale v, total_weight_falls ds v found in_range lower);

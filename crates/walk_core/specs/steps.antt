@@ -9,3 +9,4 @@ pub mod Adding
 pub mod FirstHops
 pub mod SegmentWalks
 pub mod Exits
+pub mod Ends

@@ -1,5 +1,5 @@
-ghost use Rattle.std.specs.Prelude.{◌≡◌};
-ghost use Rattle.walk_core.specs.BestOffers.{least_cost_of};
+ghost use Rattle.std.specs.Prelude.{◌≡◌, ◌+◌, ◌^◌, ◌<◌, ℕ, Some};
+ghost use Rattle.walk_core.specs.BestOffers.{least_cost_of, total_with};
 
 use std::marker::Model;
 
@@ -50,6 +50,22 @@ impl Distance {
         ensures fits { IfSome result (λ cost. cost + 1 < 2 ^ 64) }
     {
         self.code.checked_sub(1)
+    }
+}
+
+/// The nearer of a distance that is known and of one over an arc of this cost, from whose end it is `far`.
+#[inline(always)]
+pub fn nearer_over(known: Distance, far: Distance, cost: u32) -> Distance
+    requires { (d : ℕ) → far ≡ Some d → d + 2 ^ 32 < 2 ^ 64 }
+    ensures { result ≡ least_cost_of known (total_with far cost) }
+{
+    let Some(rest) = far.get() else {
+        return known;
+    };
+    let found = rest + u64::from(cost);
+    match known.get() {
+        Some(distance) if distance <= found => known,
+        _ => Distance::of(found),
     }
 }
 

@@ -61,7 +61,7 @@ fn exit_of<'a>(rows: &'a [Distances], outlet: Outlet) -> Option<Exit<'a>>
 }
 
 /// The row of distances from u, unless u reaches itself alone.
-fn whole_row(rows: &[Distances], u: u32) -> Option<&[Distance]>
+pub fn whole_row(rows: &[Distances], u: u32) -> Option<&[Distance]>
     ensures { IfSome result (λ row. row.now ≡ slice_index_or rows.now u []) }
 {
     rows.get(u as usize)?.whole()

@@ -1,7 +1,8 @@
 ghost use Rattle.std.specs.Prelude.{◌≡◌, ◌+◌, ◌^◌, ◌<◌, ◌≤◌, ◌↔◌, ℕ, true, false, length, slice_index_or, IsTrue, Some, MatchOption, slice_set, if◌then◌else◌, IfOk};
 ghost use Rattle.std.specs.Bool.{OnFalse, OnTrue};
 ghost use Rattle.walk_core.specs.steps.Cheapest.{HasCost};
-ghost use Rattle.walk_core.specs.Distances.{IsDistanceRow, distance_at};
+ghost use Rattle.walk_core.specs.Distances.{distance_at};
+ghost use Rattle.walk_core.specs.steps.Ends.{IsShortRow};
 ghost use Rattle.walk_core.specs.steps.Flooding.{cost_onto, segment_at, what_is_left, AreAllAtMost, AreEntered, AreSettled, IsLastAbove, IsNextStale, Lowers};
 ghost use Rattle.walk_core.specs.steps.Relaxing.{AreWalked, Fall, HaveRoom, IsAtMost, IsTightFrom, weight_of};
 ghost use Rattle.walk_core.specs.steps.SegmentWalks.{AreAllOutlets, AreOutlets, IsLan};
@@ -26,7 +27,7 @@ pub fn distances_over(
     requires root { root < count }
     requires segments { AreSegments count segments.now }
     requires outlets { AreAllOutlets segments.now count outlets.now }
-    ensures { IfOk result (IsDistanceRow (SendsAcross segments.now) count root) }
+    ensures { IfOk result (IsShortRow (SendsAcross segments.now) count root) }
 {
     let mut distances = vec![in alloc; Distance::none(); count as usize]?;
     distances[root as usize] = Distance::of(0);

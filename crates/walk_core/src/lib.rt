@@ -13,17 +13,20 @@
 //! | `distance`, `rows` | a distance in 8 bytes, and a row of those from one vertex |
 //! | `relax`, `hops` | over arcs: distances by relaxing, and first hops by the distances from where arcs lead |
 //! | `flood`, `outlets`, `over_segments` | over segments: distances, from stale vertices, and onto a LAN at once |
+//! | `ends` | the distances from a root of one or two links, by those from the far ends |
 //! | `beyond`, `ways` | the walks that begin on a LAN, once for all roots, and first hops by these and by the distances from the ends of links |
 //! | `exits` | first hops from a root of two links, as most have, in one pass over three rows of distances |
 //! | `union` | numbers below a bound, and in order |
 //!
 //! Over arcs all are relaxed until no distance falls. Over segments a vertex relaxes again only once it is stale, when its
-//! distance fell. A LAN of n ports is entered in time
-//! n, and again only at a lower cost, so that its n(n - 1) arcs aren't relaxed one by one. So all roots of n vertices
-//! with p ports take time n p where distances spread along the vertices in order, and n p once for the vertices of each
-//! LAN that are nearest to each vertex; the first hops of a root are then read, not searched. A root without a port
-//! takes no time of its own and no row, and the rows of the others end with the last vertex that has a port. A caller
-//! that is proved: `ZoneWalks::build` of `zone_graph`.
+//! distance fell. A LAN of n ports is entered in time n, and again only at a lower cost, so that its n(n - 1) arcs aren't
+//! relaxed one by one. So all roots of n vertices with p ports take time n p where distances spread along the vertices in
+//! order, and n p once for the vertices of each LAN that are nearest to each vertex; the first hops of a root are then
+//! read, not searched. Nor are the distances from every root searched: from one of one or two links they are the least of
+//! what each costs and how far it is from the far end, one pass over a row a link, where those rows were searched before.
+//! Along a chain every second root is such a one. A root without a port takes no
+//! time of its own and no row, and the rows of the others end with the last vertex that has a port. A caller that is
+//! proved: `ZoneWalks::build` of `zone_graph`.
 #![tactic(auto)]
 
 // graphs
@@ -44,6 +47,7 @@ mod rows;
 
 // walks over segments
 mod beyond;
+mod ends;
 mod exits;
 mod flood;
 mod outlets;

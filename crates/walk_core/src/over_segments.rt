@@ -1,11 +1,13 @@
-ghost use Rattle.std.specs.Prelude.{◌≡◌, ◌<◌, [], length, slice_index_or, slice_set, IfOk};
+ghost use Rattle.std.specs.Prelude.{◌≡◌, ◌+◌, ◌<◌, [], false, true, length, slice_index_or, slice_set, IfOk, OnOk};
 ghost use Rattle.walk_core.specs.Distances.{AreDistanceRows, IsDistanceRow};
 ghost use Rattle.walk_core.specs.Reach.{AreWalksBelow};
+ghost use Rattle.walk_core.specs.steps.Ends.{AreRowsFound, AreSearched, IsShortRow};
 ghost use Rattle.walk_core.specs.steps.FirstHops.{AreAllHops};
 ghost use Rattle.walk_core.specs.steps.SegmentWalks.{AreAllOutlets, IsJoinedEnd};
 ghost use Rattle.walk_core.specs.Segments.{AreSegments, SendsAcross};
 
 use crate::beyond::all_beyond;
+use crate::ends::{roots_by_ends, row_by_ends};
 use crate::flood::distances_over;
 use crate::number_lists::NumberLists;
 use crate::outlets::{Outlets, all_outlets, is_lone};
@@ -120,11 +122,109 @@ fn rows_over(
     requires outlets { AreAllOutlets segments.now count outlets.now }
     ensures { IfOk result (λ rows. AreDistanceRows (SendsAcross segments.now) count count rows.items) }
 {
-    let mut rows = Vec::with_capacity(alloc, count as usize)?;
+    let by_ends = roots_by_ends(alloc, outlets)?;
+    let mut rows = searched_rows(alloc, segments, outlets, count, by_ends.as_slice())?;
     for root in 0..count {
-        rows.push(row_over(alloc, segments, outlets, count, root)?)?;
+        complete_row(
+            alloc,
+            segments,
+            outlets,
+            by_ends.as_slice(),
+            &mut rows,
+            count,
+            root,
+        )?;
     }
     Ok(rows)
+}
+
+/// The distances from every vertex but those whose distances are to be found by the ends of their links.
+fn searched_rows(
+    alloc: Global,
+    segments: &[Segment],
+    outlets: &[Outlets],
+    count: u32,
+    by_ends: &[bool],
+) -> Result<Vec<Distances>, OutOfMemory>
+    requires segments { AreSegments count segments.now }
+    requires outlets { AreAllOutlets segments.now count outlets.now }
+    requires marks { length by_ends.now ≡ count }
+    ensures { IfOk result (λ rows. AreSearched (SendsAcross segments.now) count by_ends.now count rows.items) }
+{
+    let mut rows = Vec::with_capacity(alloc, count as usize)?;
+    for root in 0..count {
+        let row = if by_ends[root as usize] {
+            Distances::none(alloc)
+        } else {
+            row_over(alloc, segments, outlets, count, root)?
+        };
+        rows.push(row)?;
+    }
+    Ok(rows)
+}
+
+/// Finds the distances from a root by the ends of its links, if they are still to be found.
+fn complete_row(
+    alloc: Global,
+    segments: &[Segment],
+    outlets: &[Outlets],
+    by_ends: &[bool],
+    rows: &mut Vec<Distances>,
+    count: u32,
+    root: u32,
+) -> Result<(), OutOfMemory>
+    requires root { root < count }
+    requires segments { AreSegments count segments.now }
+    requires outlets { AreAllOutlets segments.now count outlets.now }
+    requires rows { AreRowsFound (SendsAcross segments.now) count by_ends.now root rows.old.items }
+    ensures { OnOk result (AreRowsFound (SendsAcross segments.now) count by_ends.now (root + 1) rows.new.items) }
+{
+    if !by_ends[root as usize] {
+        return Ok(());
+    }
+    let row = found_row(
+        alloc,
+        segments,
+        outlets,
+        by_ends,
+        rows.as_slice(),
+        count,
+        root,
+    )?;
+    put_row(rows, root, row);
+    Ok(())
+}
+
+/// The distances from a root by the ends of its links, where their rows are there, and else as from the others.
+fn found_row(
+    alloc: Global,
+    segments: &[Segment],
+    outlets: &[Outlets],
+    by_ends: &[bool],
+    rows: &[Distances],
+    count: u32,
+    root: u32,
+) -> Result<Distances, OutOfMemory>
+    requires root { root < count }
+    requires taken { slice_index_or by_ends.now root false ≡ true }
+    requires segments { AreSegments count segments.now }
+    requires outlets { AreAllOutlets segments.now count outlets.now }
+    requires rows { AreSearched (SendsAcross segments.now) count by_ends.now count rows.now }
+    ensures { IfOk result (IsDistanceRow (SendsAcross segments.now) count root) }
+{
+    let ports = outlets[root as usize].as_slice();
+    match row_by_ends(alloc, segments, ports, rows, by_ends, count, root)? {
+        Some(row) => Ok(row),
+        None => Ok(distances_over(alloc, segments, outlets, count, root)?),
+    }
+}
+
+/// Puts the distances from a vertex among those of all.
+fn put_row(rows: &mut Vec<Distances>, root: u32, row: Distances)
+    requires { root < length rows.old.items }
+    ensures { rows.new.items ≡ slice_set rows.old.items root row }
+{
+    rows[root as usize] = row;
 }
 
 /// The distances from the root.
@@ -138,7 +238,7 @@ fn row_over(
     requires root { root < count }
     requires segments { AreSegments count segments.now }
     requires outlets { AreAllOutlets segments.now count outlets.now }
-    ensures { IfOk result (IsDistanceRow (SendsAcross segments.now) count root) }
+    ensures { IfOk result (IsShortRow (SendsAcross segments.now) count root) }
 {
     if is_lone(outlets[root as usize].as_slice()) {
         return Ok(Distances::of_lone(root));

@@ -17,8 +17,7 @@ loop-place-preserved c =
     let mesh : Mesh = record { count = c.args.count; segments = c.args.segments.now; rows = c.args.rows.now; beyond = c.loop-place.beyond.items } in
     let reach : Reach = c.in_ok-walks_beyond.field-0 in
     let from : IsLan (segment_at mesh.segments place) → AreWalksFrom mesh.rows (segment_at mesh.segments place) mesh.count reach =
-    subst (λ (l : List Port). IsLan l → AreWalksFrom mesh.rows l mesh.count reach) c.ports_at.ensures c.in_ok-walks_beyond.ensures
-    in
+    subst (λ (l : List Port). IsLan l → AreWalksFrom mesh.rows l mesh.count reach) c.ports_at.ensures c.in_ok-walks_beyond.ensures in
     subst (λ (l : List Reach). KnowsBeyond (record { count = mesh.count; segments = mesh.segments; rows = mesh.rows; beyond = l }) (place + 1))
     (sym {A = List Reach} c.in_ok-push.ensures.items) (knows_segment mesh place reach c.loop-place.invariant from)
 

@@ -1,6 +1,6 @@
 use Rattle.std.proofs.Common.{◌≡◌, ◌∙◌, ◌++◌, Bool, ℕ, List, Option, Some, None, true, set, replicate, length, take, drop, ap, sym, subst, arith}
 use Rattle.std.proofs.lemmas.Grind.{common_steps}
-use Rattle.walk_core.specs.Distances.{IsDistanceRow}
+use Rattle.walk_core.specs.steps.Ends.{IsShortRow}
 use Rattle.walk_core.specs.steps.Flooding.{AreSettled}
 use Rattle.walk_core.specs.steps.Relaxing.{AreWalked, HaveRoom}
 use Rattle.walk_core.specs.Segments.{AreSegments, Sends, SendsAcross}
@@ -51,6 +51,6 @@ returns c =
     (subst (λ (l : List (Option ℕ)). AreWalked (Sends segments) root l) (sym begins) (walked_at_first (Sends segments) count root c.requires.root)) in
     let whole : take c.in_ok-distances.distances.len (last ++ drop (length last) (set c.in_ok-distances.distances.items root c.of.result)) ≡ last =
     grind (arith, common_steps) in
-    subst (λ (l : List (Option ℕ)). IsDistanceRow (SendsAcross segments) count root l) (sym (c.from_vec.ensures ∙ whole))
+    subst (λ (l : List (Option ℕ)). IsShortRow (SendsAcross segments) count root l) (sym (c.from_vec.ensures ∙ whole))
     (row_of_tight segments count root last c.requires.root c.requires.segments long c.settle.ensures.room walked
     (λ u below. c.settle.ensures.tight u (omega (arith, below, c.requires.outlets.long))))

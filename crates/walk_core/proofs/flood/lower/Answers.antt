@@ -48,8 +48,7 @@ loop-port-preserved c =
     let below = vertex_below segments c.args.place i (length c.args.distances.now) given c.requires.place ports c.loop-port-test.true c.requires.segments in
     let step : IsLowered (Sends segments) segment now after port.vertex found =
     lowered segments c.args.place now after port found fell c.requires.place are before.falls.room before.entry among
-    c.lower_vertex.ensures.falls c.lower_vertex.ensures.after
-    in
+    c.lower_vertex.ensures.falls c.lower_vertex.ensures.after in
     let here : IsAtMost (distance_at after (get_or segment i none).vertex) found =
     subst (λ (l : List Port). IsAtMost (distance_at after (get_or l i none).vertex) found) ports step.tight in
     record {

@@ -28,8 +28,7 @@ cross-requires c =
     let near : ℕ = c.in-Some.near in
     let is : IsOutlet segments c.args.u outlet =
     c.requires.outlets.each outlet (Contains-get_or c.args.outlets.now c.loop-outlet.outlet-index (record { place = 0; cost = 0; to = None })
-    c.loop-outlet-test.true)
-    in
+    c.loop-outlet-test.true) in
     let begun : distance_at c.args.distances.now c.args.u ≡ Some near =
     near_at c.args.distances.now c.args.u near c.index-distances-u.result c.get.result c.requires.vertex c.index-distances-u.is c.get.ensures.value c.in-Some.is
     in

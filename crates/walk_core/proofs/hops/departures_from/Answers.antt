@@ -14,8 +14,7 @@ loop-i-preserved g c =
     let e : c.arc-to.result ≡ ends c.loop-i.i = c.arc-to.ensures in
     let over : arc c.args.root c.arc-to.result.0 c.arc-to.result.1 =
     let P : ℕ × ℕ → Type 0 = λ p. arc c.args.root p.0 p.1 in
-    subst P (sym e) (laws.counted_is_arc c.args.graph.now c.args.root c.loop-i.i c.requires index)
-    in
+    subst P (sym e) (laws.counted_is_arc c.args.graph.now c.args.root c.loop-i.i c.requires index) in
     rw c.in_ok-push.ensures.items (record {
       each = departs_more arc c.args.root c.loop-i.departures.items d before.each over;
       every = leaves_more ends c.loop-i.departures.items d c.loop-i.i before.every

@@ -42,8 +42,7 @@ loop-port-preserved c =
     let port : Port = get_or given i none in
     let within : i < length segment = omega (arith, c.loop-port-test.true, ap length ports) in
     let at : (q : Port) → get_or segment i q ≡ port =
-    λ q. ap (λ (l : List Port). get_or l i q) (sym ports) ∙ get_or_default given i q none c.loop-port-test.true
-    in
+    λ q. ap (λ (l : List Port). get_or l i q) (sym ports) ∙ get_or_default given i q none c.loop-port-test.true in
     let all : List (List Outlet) = c.loop-port.all.items in
     let below : port.vertex < length all =
     omega (

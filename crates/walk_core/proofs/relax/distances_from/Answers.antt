@@ -9,8 +9,7 @@ use Rattle.walk_core.proofs.relax.distances_from.Goals as goal
 pub loop-init : goal.loop-init
 loop-init g c =
     let first : c.in_ok-distances.distances.items ≡ replicate c.vertices.result None =
-    c.in_ok-distances.ensures.items_if_clones_equal (λ y is. is) ∙ ap (λ (d : Option ℕ). replicate c.vertices.result d) c.none.ensures
-    in
+    c.in_ok-distances.ensures.items_if_clones_equal (λ y is. is) ∙ ap (λ (d : Option ℕ). replicate c.vertices.result d) c.none.ensures in
     let count : c.vertices.result ≡ g.G.CostGraph.vertex_count c.args.graph.now = c.vertices.ensures in
     let in_range : c.args.root < c.vertices.result = rw count c.requires in
     rw first (rw c.of.ensures (record {
@@ -27,12 +26,10 @@ returns-clause-least g c =
     let last = c.relax_all.new.distances in
     let whole : take c.loop.distances.len (last ++ drop (length last) c.loop.distances.items) ≡ last = grind (arith, common_steps) in
     let walked : AreWalked arc c.args.root last =
-    c.relax_all.ensures.relaxes.walked c.args.root (rw c.deref_mut.ensures.value c.loop.invariant.walked)
-    in
+    c.relax_all.ensures.relaxes.walked c.args.root (rw c.deref_mut.ensures.value c.loop.invariant.walked) in
     let least : AreLeastDistances arc c.args.root last =
     distances_from_tight arc count c.args.root last c.requires
     (λ u v cost in_range over. laws.end_is_vertex c.args.graph.now u v cost in_range over)
-    c.loop-test.ensures.tight walked
-    in
+    c.loop-test.ensures.tight walked in
     let P : List (Option ℕ) → Type 0 = λ ds. AreLeastDistances arc c.args.root ds in
     subst P (sym (c.from_vec.ensures ∙ whole)) least

@@ -18,24 +18,20 @@ loop-i-preserved g c =
     let listed = laws.counted_is_arc c.args.graph.now c.args.u c.loop-i.i c.requires.vertex index in
     let over : arc c.args.u c.arc-v.result.0 c.arc-v.result.1 =
     let P : ℕ × ℕ → Type 0 = λ p. arc c.args.u p.0 p.1 in
-    subst P (sym e) listed
-    in
+    subst P (sym e) listed in
     let end : c.arc-v.result.0 < length now = omega (
       arith,
       laws.end_is_vertex c.args.graph.now c.args.u c.arc-v.result.0 c.arc-v.result.1 c.requires.vertex
           over,
     ) in
     let falls : IsTrue c.relax-fell.result ↔ (c.in-Some.near + c.arc-v.result.1 < weight_of (distance_at now c.arc-v.result.0)) =
-    rw cost at c.relax-fell.ensures.falls
-    in
+    rw cost at c.relax-fell.ensures.falls in
     let is : after ≡ cond c.relax-fell.result (set now c.arc-v.result.0 (Some (c.in-Some.near + c.arc-v.result.1))) now =
-    rw cost at c.relax-fell.ensures.after
-    in
+    rw cost at c.relax-fell.ensures.after in
     let step : IsRelaxed arc now after c.args.u (ends c.loop-i.i).0 (ends c.loop-i.i).1 c.in-Some.near c.relax-fell.result =
     let P : ℕ × ℕ → Type 0 = λ p. IsRelaxed arc now after c.args.u p.0 p.1 c.in-Some.near c.relax-fell.result in
     subst P e (relaxed arc now after c.args.u c.arc-v.result.0 c.arc-v.result.1 c.in-Some.near c.relax-fell.result
-    before.relaxes.room over (omega arith) end before.near_is falls is)
-    in
+    before.relaxes.room over (omega arith) end before.near_is falls is) in
     record {
       relaxes = relaxes_on c.loop-i.fell c.relax-fell.result before.relaxes step.relaxes;
       near_is = step.near_is;

@@ -15,11 +15,9 @@ loop-i-preserved g c =
     let index : c.loop-i.i < g.G.CostGraph.arc_count c.args.graph.now c.args.root = omega (arith, c.arcs-i-end.ensures) in
     let over : arc c.args.root to c.arc-to.result.1 =
     let P : ℕ × ℕ → Type 0 = λ p. arc c.args.root p.0 p.1 in
-    subst P (sym e) (laws.counted_is_arc c.args.graph.now c.args.root c.loop-i.i c.requires index)
-    in
+    subst P (sym e) (laws.counted_is_arc c.args.graph.now c.args.root c.loop-i.i c.requires index) in
     let within : to < length rows =
-    omega (arith, c.loop-i.invariant.long, laws.end_is_vertex c.args.graph.now c.args.root to c.arc-to.result.1 c.requires over)
-    in
+    omega (arith, c.loop-i.invariant.long, laws.end_is_vertex c.args.graph.now c.args.root to c.arc-to.result.1 c.requires over) in
     record {
       long = length-set rows to row ∙ c.loop-i.invariant.long;
       known = known_more arc ends rows c.loop-i.i to row within (ap (λ (p : ℕ × ℕ). p.0) e) c.loop-i.invariant.known c.in_ok-rows-2.ensures.least;

@@ -23,17 +23,14 @@ loop-v-preserved g c =
     let exact : (h : ℕ) → Contains hops h ↔ FirstHop arc root v h = λ h.
     let list : Contains hops h ↔ BeginsAt ds rows v c.at.result h =
     subst (λ (l : List Departure). Contains hops h ↔ BeginsAt l rows v c.at.result h) c.as_slice-in-loop-v.ensures.value
-    (c.in_ok-find_first_hops.ensures.exact h)
-    in
+    (c.in_ok-find_first_hops.ensures.exact h) in
     let begins = begins_at_is_first_hop arc root ds rows distances v h c.in_ok-departures.ensures c.requires.ends c.requires.row.least in
     let far = c.at.ensures in (
       λ has. begins.0 (subst (λ (d : Option ℕ). BeginsAt ds rows v d h) far (list.0 has)),
       λ first. list.1 (subst (λ (d : Option ℕ). BeginsAt ds rows v d h) (sym far) (begins.1 first)),
-    )
-    in
+    ) in
     let pushed : c.push.new.self ≡ c.loop-v.hops ++ hops ∷ [] =
-    c.in_ok-push.ensures ∙ ap (λ (l : List ℕ). c.loop-v.hops ++ l ∷ []) c.as_slice-in-loop-v-2.ensures.value
-    in
+    c.in_ok-push.ensures ∙ ap (λ (l : List ℕ). c.loop-v.hops ++ l ∷ []) c.as_slice-in-loop-v-2.ensures.value in
     subst (λ (l : List (List ℕ)). AreFirstHops arc root (v + 1) l) (sym pushed)
     (hops_more arc root v c.loop-v.hops hops c.loop-v.invariant exact c.in_ok-find_first_hops.ensures.ascending)
 

@@ -18,8 +18,7 @@ returns-in-Some-to c =
     let alone : (r : Aim) (h : ℕ) → IsBehind c.args.aim c.args.outlet.cost r → IsEndAt mesh.rows ports r h ↔ IsLinkEnd mesh.rows r c.in-Some-to.to h =
     subst (λ (o : Option ℕ). MatchOption o (IsLan ports)
     (λ t. (r : Aim) (h : ℕ) → IsBehind c.args.aim c.args.outlet.cost r → IsEndAt mesh.rows ports r h ↔ IsLinkEnd mesh.rows r t h))
-    c.in-Some-to.is c.requires.far
-    in
+    c.in-Some-to.is c.requires.far in
     on_ok_weaker c.add_end.result
     (λ adds. adds_over mesh c.args.aim c.args.outlet rest old new c.in-Some.ensures
     (adds_same (IsLinkEnd mesh.rows rest c.in-Some-to.to) (IsEndAt mesh.rows ports rest) old new (λ h. (alone rest h c.in-Some.ensures).1)
