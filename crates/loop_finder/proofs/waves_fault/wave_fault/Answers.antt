@@ -16,22 +16,26 @@ pub returns-then-begun-clause-sound : goal.returns-then-begun-clause-sound
 returns-then-begun-clause-sound g c =
     sound_of_told (mix_of g.O.RouteSource.table g.N.RouteSource.table c.args.mixed.now) c.args.ranks.now c.args.wave c.switch_before.new.phases
     c.switch_before-2.new.phases c.stirred_fault.result c.stirred_fault.new.room.ring.items
-    (record { each = c.requires.ranks; begins = c.switch_before.ensures; ends = c.switch_before-2.ensures }) c.requires.parts.classes c.stirred_fault.ensures.told
+    (record { each = c.requires.ranks; begins = c.switch_before.ensures; ends = c.switch_before-2.ensures })
+    c.requires.parts.classes c.stirred_fault.ensures.told
 
 pub returns-then-begun-clause-fault : goal.returns-then-begun-clause-fault
 returns-then-begun-clause-fault g c =
     fault_of_told (mix_of g.O.RouteSource.table g.N.RouteSource.table c.args.mixed.now) c.args.ranks.now c.args.wave c.switch_before.new.phases
     c.switch_before-2.new.phases c.stirred_fault.result c.stirred_fault.new.room.ring.items
-    (record { each = c.requires.ranks; begins = c.switch_before.ensures; ends = c.switch_before-2.ensures }) c.requires.parts.classes c.stirred_fault.ensures.told
+    (record { each = c.requires.ranks; begins = c.switch_before.ensures; ends = c.switch_before-2.ensures })
+    c.requires.parts.classes c.stirred_fault.ensures.told
 
 pub returns-else-begun-clause-sound : goal.returns-else-begun-clause-sound
 returns-else-begun-clause-sound g c =
     sound_of_told (mix_of g.O.RouteSource.table g.N.RouteSource.table c.args.mixed.now) c.args.ranks.now c.args.wave c.switch_before.new.phases
     c.switch_before-2.new.phases c.classes_fault.result c.classes_fault.new.room.ring.items
-    (record { each = c.requires.ranks; begins = c.switch_before.ensures; ends = c.switch_before-2.ensures }) c.requires.parts.classes c.classes_fault.ensures.told
+    (record { each = c.requires.ranks; begins = c.switch_before.ensures; ends = c.switch_before-2.ensures })
+    c.requires.parts.classes c.classes_fault.ensures.told
 
 pub returns-else-begun-clause-fault : goal.returns-else-begun-clause-fault
 returns-else-begun-clause-fault g c =
     fault_of_told (mix_of g.O.RouteSource.table g.N.RouteSource.table c.args.mixed.now) c.args.ranks.now c.args.wave c.switch_before.new.phases
     c.switch_before-2.new.phases c.classes_fault.result c.classes_fault.new.room.ring.items
-    (record { each = c.requires.ranks; begins = c.switch_before.ensures; ends = c.switch_before-2.ensures }) c.requires.parts.classes c.classes_fault.ensures.told
+    (record { each = c.requires.ranks; begins = c.switch_before.ensures; ends = c.switch_before-2.ensures })
+    c.requires.parts.classes c.classes_fault.ensures.told
