@@ -18,7 +18,8 @@ use Rattle.igp_theory.specs.Ospf.{IntraAreaCost, HasRange, IsComponent, IsActive
 use Rattle.ospf_routes.specs.steps.Candidates.{IsOspfCandidate, subnet}
 use Rattle.ospf_routes.specs.steps.Destinations.{ospf_prefixes}
 use Rattle.ospf_routes.specs.Lists.{Exactly, Adds}
-use Rattle.ospf_routes.specs.steps.Ranges.{IsLonger, HasComponentCost, IsComponentOfSome, IsPicked, IsActiveAt, HasActive, AreActiveRanges, AreRangesBelow, HoldRanges}
+use Rattle.ospf_routes.specs.steps.Ranges.{IsLonger, HasComponentCost, IsComponentOfSome, IsPicked, IsActiveAt}
+use Rattle.ospf_routes.specs.steps.Ranges.{HasActive, AreActiveRanges, AreRangesBelow, HoldRanges}
 use Rattle.ospf_routes.specs.declared.intra_area.Destination.{Destination}
 use Rattle.ospf_routes.specs.declared.ranges.ActiveRange.{ActiveRange}
 use Rattle.route_tables.proofs.ListFacts.{any_of, any_in, exactly_same, each_more}

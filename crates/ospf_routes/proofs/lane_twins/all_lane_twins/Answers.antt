@@ -2,17 +2,18 @@ use Rattle.std.proofs.Common.{◌≡◌, ◌+◌, ◌<◌, ℕ, List, [], Option
 use Rattle.ospf_routes.specs.steps.Destinations.{ospf_prefixes}
 use Rattle.ospf_routes.specs.steps.LaneTwins.{AreLaneAlike}
 use Rattle.ospf_routes.specs.steps.Twins.{AreEarlierBy}
+use Rattle.ospf_routes.specs.declared.intra_area.Destination.{Destination}
 use Rattle.ospf_routes.proofs.MemberFacts.{each_next}
 use Rattle.ospf_routes.proofs.lane_twins.all_lane_twins.Goals as goal
 
 pub loop-zone-preserved : goal.loop-zone-preserved
 loop-zone-preserved c =
-    let domain = c.args.domain.now in
+    let ds : List Destination = c.args.destinations.now in
     let zone : ℕ = c.loop-zone.zone in
     let next : List (Option ℕ) = c.in_ok-of_area.field-0 in
     let Are : ℕ → List (Option ℕ) → Type 0 = λ z list.
-    AreEarlierBy (AreLaneAlike (record { net = c.args.net.now; areas = domain.areas.items; listens = c.args.listens.now; zone = z }))
-    (ospf_prefixes domain.destinations.items) (length domain.destinations.items) list in
+    AreEarlierBy (AreLaneAlike (record { domain = c.args.domain.now; listens = c.args.listens.now; zone = z }))
+    (ospf_prefixes ds) (length ds) list in
     let pushed = sym {A = List (List (Option ℕ))} c.in_ok-push.ensures.items in
     let long = length-append c.loop-zone.all.items (next ∷ []) in
     record {

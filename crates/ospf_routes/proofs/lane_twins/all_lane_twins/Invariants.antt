@@ -8,6 +8,6 @@ abbrev pub invariant-loop-zone : goal.invariant-loop-zone
 invariant-loop-zone l = record {
   count : length l.all.items ≡ l.zone;
   each : (zone : ℕ) → zone < l.zone →
-      AreEarlierBy (AreLaneAlike (record { net = l.net; areas = l.domain.areas.items; listens = l.listens; zone = zone }))
-      (ospf_prefixes l.domain.destinations.items) (length l.domain.destinations.items) (get_or l.all.items zone []);
+      AreEarlierBy (AreLaneAlike (record { domain = l.domain; listens = l.listens; zone = zone }))
+      (ospf_prefixes l.destinations) (length l.destinations) (get_or l.all.items zone []);
 }

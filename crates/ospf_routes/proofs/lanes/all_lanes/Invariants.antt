@@ -6,6 +6,6 @@ use Rattle.ospf_routes.proofs.lanes.all_lanes.Given as goal
 abbrev pub invariant-loop-zone : goal.invariant-loop-zone
 invariant-loop-zone l = record {
   count : length l.lanes.items ≡ l.zone;
-  each : (zone : ℕ) → zone < l.zone → AreLaneDecisions (record { net = l.net; areas = l.domain.areas.items; listens = l.listens; zone = zone })
-      (ospf_prefixes l.domain.destinations.items) (length l.domain.destinations.items) (get_or l.lanes.items zone []);
+  each : (zone : ℕ) → zone < l.zone → AreLaneDecisions (record { domain = l.domain; listens = l.listens; zone = zone })
+      (ospf_prefixes l.destinations) (length l.destinations) (get_or l.lanes.items zone []);
 }

@@ -13,14 +13,14 @@ use Rattle.ospf_routes.proofs.summarized_routes.push_ranges.Goals as goal
 pub bounds-ranges-b : goal.bounds-ranges-b
 bounds-ranges-b c =
     subst (λ (n : ℕ). get_or c.args.borders.now c.loop-b.b-index 0 < n) (sym c.requires.ranges.count)
-    (listed_is_router c.args.net.now c.args.borders.now c.loop-b.b-index 0 c.requires.borders c.loop-b-test.true)
+    (listed_is_router c.args.domain.now.net c.args.borders.now c.loop-b.b-index 0 c.requires.borders c.loop-b-test.true)
 
 pub loop-b-init : goal.loop-b-init
-loop-b-init c = adds_start (λ (r : AreaRoute) (b : ℕ). SummarizedRange c.args.net.now c.args.dest b r) c.args.routes.now.items c.args.borders.now
+loop-b-init c = adds_start (λ (r : AreaRoute) (b : ℕ). SummarizedRange c.args.domain.now.net c.args.dest b r) c.args.routes.now.items c.args.borders.now
 
 pub loop-b-preserved : goal.loop-b-preserved
 loop-b-preserved c =
-    let net = c.args.net.now in
+    let net = c.args.domain.now.net in
     let p = c.args.dest in
     let i : ℕ = c.loop-b.b-index in
     let b : ℕ = get_or c.args.borders.now i 0 in
@@ -35,7 +35,7 @@ loop-b-preserved c =
 
 pub returns : goal.returns
 returns c =
-    let net = c.args.net.now in
+    let net = c.args.domain.now.net in
     let p = c.args.dest in
     adds_same c.args.routes.now.items c.loop-b.routes.items (λ (r : AreaRoute). Any (λ (b : ℕ). SummarizedRange net p b r) c.args.borders.now)
     (λ (r : AreaRoute). SummarizedRange net p r.at r)
