@@ -1,6 +1,6 @@
 -- Areas: which there are, who is in them, who is a border router and who listens to whom.
 use Rattle.std.proofs.Common.{◌≡◌, ◌≢◌, ℕ, ◌+◌, ◌<◌, ◌↔◌, inl, inr, ⊎_elim, List, [], ◌∷◌, ◌++◌, length, Option, Some, None, MatchOption, Bool, true, false}
-use Rattle.std.proofs.Common.{not, ◌==◌, IsTrue, refl, sym, ap, subst, ◌∙◌, arith, get_or, length-append}
+use Rattle.std.proofs.Common.{not, ◌==◌, IsTrue, refl, sym, ap, subst, ◌∙◌, arith, get_or}
 use Rattle.std.proofs.lemmas.List.{get_or_default}
 use Rattle.std.specs.List.{Contains, Any}
 use Rattle.std.proofs.lemmas.Bool.{eqb-true, eqb-false, cases_eq, cases_lt, false≢true}
@@ -16,9 +16,8 @@ use Rattle.net_model.specs.declared.zone.Zone.TheVariants.{Area}
 use Rattle.walk_core.specs.Reach.{Reach}
 use Rattle.zone_graph.specs.Walks.{AreZoneWalks}
 use Rattle.igp_theory.specs.Ospf.{ListensTo, backbone, one_area}
-use Rattle.ospf_routes.specs.steps.Areas.{RunsOther, HasArea, IsAreaAt, AreNumbered, AreAreas, AreListeners, IsListener, IsListenerAt, IsReach}
+use Rattle.ospf_routes.specs.steps.Areas.{RunsOther, HasArea, IsAreaAt, AreNumbered, AreAreas, IsListener, IsListenerAt, IsReach}
 use Rattle.ospf_routes.specs.steps.Members.{AreMembersBelow, IsBorderIn, IsMember}
-use Rattle.ospf_routes.proofs.MemberFacts.{each_next}
 use Rattle.ospf_routes.specs.Lists.{Adds, Exactly}
 use Rattle.ospf_routes.specs.declared.areas.AreaWalks.{AreaWalks}
 use Rattle.route_tables.proofs.ListFacts.{any_of, any_in}
@@ -188,22 +187,7 @@ pub member_at : (net : Network) (areas : List AreaWalks) (n u zone : ℕ) (a : A
     a ≡ get_or areas zone a → u < length net → IsMember a.members u ↔ InArea net u n
 member_at net areas n u zone a are at here below =
     subst (λ (m : ℕ). IsMember a.members u ↔ InArea net u m) (number_at areas n zone a at here)
-    ((subst (λ (x : AreaWalks). AreMembersBelow net x.number (length net) x.members) (sym here) (are.members zone a at.within)).exact u below)
-
--- Router by router
-
-pub listeners_more : (net : Network) (areas : List AreaWalks) (n : ℕ) (all : List (Option ℕ)) (next : Option ℕ) → AreListeners net areas n all →
-    IsListenerAt net areas n next → AreListeners net areas (n + 1) (all ++ next ∷ [])
-listeners_more net areas n all next are is = record {
-  count = let long = length-append all (next ∷ []) in omega (arith, are.count);
-  each = each_next (IsListenerAt net areas) all n next None are.count are.each is;
-}
-
--- the listener of a router, as it is read
-pub listener_of : (net : Network) (areas : List AreaWalks) (all : List (Option ℕ)) (u : ℕ) (here : Option ℕ) → AreListeners net areas (length net) all →
-    u < length net → here ≡ get_or all u here → IsListenerAt net areas u here
-listener_of net areas all u here are within is =
-    subst (IsListenerAt net areas u) (sym (is ∙ get_or_default all u here None (omega (arith, are.count)))) (are.each u within)
+    ((subst (λ (x : AreaWalks). AreMembersBelow net x.number (length net) x.members) (sym here) (are.members zone a at.within)).each u below)
 
 -- Other areas
 

@@ -1,5 +1,5 @@
 -- What is announced of each prefix into each area.
-use Rattle.std.proofs.Common.{◌≡◌, ℕ, ◌+◌, ◌*◌, ◌<◌, ◌≤◌, inl, inr, Option, Some, List, [], ◌∷◌, ◌++◌}
+use Rattle.std.proofs.Common.{None, ◌≡◌, ℕ, ◌+◌, ◌*◌, ◌<◌, ◌≤◌, inl, inr, Option, Some, List, [], ◌∷◌, ◌++◌}
 use Rattle.std.proofs.Common.{length, length-append, take, drop, get_or, refl, sym, ap, subst, ◌∙◌}
 use Rattle.std.proofs.Common.{append_assoc, arith}
 use Rattle.std.proofs.lemmas.Bool.{cases_lt}
@@ -14,7 +14,7 @@ use Rattle.route_tables.specs.Prefixes.{prefix_at}
 use Rattle.route_tables.proofs.DestinationLists.{prefix_is}
 use Rattle.walk_core.specs.declared.offers.Offer.{Offer}
 use Rattle.igp_theory.specs.Ospf.{ListensTo}
-use Rattle.ospf_routes.specs.steps.Areas.{AreListeners, IsListenedPlace}
+use Rattle.ospf_routes.specs.steps.Areas.{AreListeners, IsListenedPlace, IsListenerAt}
 use Rattle.ospf_routes.specs.steps.Heard.{AddsRow, AreHeardAt, AreHeardBelow, AreSummaries}
 use Rattle.ospf_routes.specs.steps.Offered.{AreOffers}
 use Rattle.ospf_routes.specs.steps.OfferLists.{offers_of, offer_lists_of, AreOfferSpans, AreSummariesOf, HeardLists, heard_into}
@@ -24,8 +24,9 @@ use Rattle.ospf_routes.specs.steps.Destinations.{ospf_prefixes}
 use Rattle.ospf_routes.specs.steps.Domain.{OspfDomain}
 use Rattle.ospf_routes.specs.declared.intra_area.Destination.{Destination}
 use Rattle.ospf_routes.specs.declared.summaries.OfferSpan.{OfferSpan}
-use Rattle.ospf_routes.proofs.AreaFacts.{listener_of, number_at}
-use Rattle.ospf_routes.proofs.MemberFacts.{each_next}
+use Rattle.ospf_routes.proofs.AreaFacts.{number_at}
+use Rattle.ospf_routes.proofs.PlaceFacts.{place_read}
+use Rattle.route_tables.proofs.ListFacts.{each_more}
 
 -- more offers behind the others change no span
 span_stays : (offers more : List Offer) (span : OfferSpan) → span.start + span.count ≤ length offers → offers_of (offers ++ more) span ≡ offers_of offers span
@@ -87,7 +88,7 @@ row_more net areas p m old mid new list r is next = record {
       ∙ ap (λ (h : HeardLists). lists_with h.areas (h.lists ++ list ∷ [])) r.behind
       ∙ ap (λ (l : List (List Offer)). lists_with old.areas l) (append_assoc old.lists r.row (list ∷ []));
   count = let long = length-append r.row (list ∷ []) in omega (arith, long, r.count);
-  each = each_next (AreHeardAt net areas p) r.row m list [] r.count r.each next;
+  each = each_more (AreHeardAt net areas p) r.row m list [] r.count r.each next;
 }
 
 pub heard_more : (net : Network) (areas : List AreaWalks) (dests : List Block) (k : ℕ) (old new : HeardLists) → AreHeardBelow net areas dests k old →
@@ -136,4 +137,5 @@ heard_here net areas p zone a offers here are n at =
 pub listened_inside : (net : Network) (areas : List AreaWalks) (all : List (Option ℕ)) (u zone : ℕ) (here : Option ℕ) →
     AreListeners net areas (length net) all → u < length net → here ≡ get_or all u here → here ≡ Some zone → zone < length areas
 listened_inside net areas all u zone here are below at is =
-    (MatchOption-at_some ((n : ℕ) → ListensTo net u n → ⊥) (IsListenedPlace net areas u) zone is (listener_of net areas all u here are below at)).at.within
+    (MatchOption-at_some ((n : ℕ) → ListensTo net u n →
+    ⊥) (IsListenedPlace net areas u) zone is (place_read (IsListenerAt net areas) None (length net) all u here are below at)).at.within

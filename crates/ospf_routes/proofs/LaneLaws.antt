@@ -1,5 +1,5 @@
 -- What decides the routes of the routers that are in one area alone.
-use Rattle.std.proofs.Common.{◌≡◌, ◌≢◌, ℕ, zero, suc, ◌+◌, ◌^◌, ◌<◌, ◌≤◌, ◌⊎◌, ⊎_elim, List, [], ◌∷◌, ◌++◌, length, length-append, get_or, Option, Some, None}
+use Rattle.std.proofs.Common.{◌≡◌, ◌≢◌, ℕ, zero, suc, ◌+◌, ◌^◌, ◌<◌, ◌≤◌, ◌⊎◌, ⊎_elim, List, [], ◌∷◌, length, get_or, Option, Some, None}
 use Rattle.std.proofs.Common.{refl, sym, ap, subst, ◌∙◌, arith}
 use Rattle.std.specs.List.{All, Any, Contains}
 use Rattle.std.proofs.lemmas.List.{get_or_default, length-map}
@@ -27,9 +27,8 @@ use Rattle.ospf_routes.specs.steps.Destinations.{HasAreaPart, IsDestination, IsD
 use Rattle.ospf_routes.specs.steps.Offered.{AreOffers}
 use Rattle.ospf_routes.specs.steps.Heard.{AreHeardAt}
 use Rattle.ospf_routes.specs.steps.Summarized.{IsHeard}
-use Rattle.ospf_routes.specs.steps.Lanes.{AreLaneDecisions, AreLanes, DecidesLane, IsInner, IsOfFew, LaneOf, LeadsLane}
-use Rattle.ospf_routes.proofs.MemberFacts.{each_next}
-use Rattle.route_tables.specs.Prefixes.{prefix_at}
+use Rattle.ospf_routes.specs.steps.Lanes.{AreLaneDecisions, AreLanes, DecideAlone, IsInner, IsOfFew, LaneOf, LeadsLane}
+use Rattle.ospf_routes.proofs.PlaceFacts.{place_read}
 use Rattle.ospf_routes.specs.declared.areas.AreaWalks.{AreaWalks}
 use Rattle.ospf_routes.specs.steps.Domain.{OspfDomain}
 use Rattle.ospf_routes.specs.declared.intra_area.AreaOffers.{AreaOffers}
@@ -261,13 +260,6 @@ homes_within net d is k e below =
     let connected = (is.homes (get_or d.homes.items k e)).0 (Contains-get_or d.homes.items k e below) in
     slice_get_within net (get_or d.homes.items k e) connected.up.config connected.up.router
 
-pub decisions_more : (l : LaneOf) (dests : List Block) (n : ℕ) (all : List Decision) (next : Decision) → AreLaneDecisions l dests n all →
-    DecidesLane l (prefix_at dests n) next → AreLaneDecisions l dests (n + 1) (all ++ next ∷ [])
-decisions_more l dests n all next are is = record {
-  count = let long = length-append all (next ∷ []) in omega (arith, are.count);
-  each = each_next (λ (k : ℕ). DecidesLane l (prefix_at dests k)) all n next Unknown are.count are.each is;
-}
-
 -- a router that listens to the area at a place, and is no border router, is in that area alone
 pub inner_at : (net : Network) (areas : List AreaWalks) (listens : List (Option ℕ)) (u zone : ℕ) (heard : Option ℕ) →
     AreListeners net areas (length net) listens → u < length net → (IsBorderRouter net u → ⊥) → heard ≡ get_or listens u heard → heard ≡ Some zone →
@@ -284,9 +276,8 @@ pub lane_for : (domain : OspfDomain) (ds : List Destination) (listens : List (Op
     AreLaneDecisions (record { domain = domain; listens = listens; zone = zone }) (ospf_prefixes ds)
     (length (ospf_prefixes ds)) given
 lane_for domain ds listens lanes zone here given are within here_is same =
-    let read : get_or lanes zone [] ≡ given = get_or_default lanes zone [] here (omega (arith, within, are.count)) ∙ sym here_is ∙ sym same in
     let l : LaneOf = record { domain = domain; listens = listens; zone = zone } in
     let dests : List Block = ospf_prefixes ds in
     let long : length dests ≡ length ds = length-map ds (λ (d : Destination). d.dest) in
-    subst (AreLaneDecisions l dests (length dests)) read
-    (subst (λ (n : ℕ). AreLaneDecisions l dests n (get_or lanes zone [])) (sym long) (are.each zone within))
+    subst (λ (n : ℕ). AreLaneDecisions l dests n given) (sym long) (subst (DecideAlone domain ds listens zone) (sym same)
+    (place_read (DecideAlone domain ds listens) [] (length domain.areas) lanes zone here are within here_is))

@@ -1,7 +1,7 @@
 -- Prefixes outside an area that are announced alike into it have the same entries at the routers that are in it alone.
-use Rattle.std.proofs.Common.{◌≡◌, ◌⊎◌, ⊎_elim, ℕ, ◌+◌, ◌<◌, List, [], length, get_or, ◌∙◌, Option, None, Some, refl, sym, subst, arith}
+use Rattle.std.proofs.Common.{◌≡◌, ◌⊎◌, ⊎_elim, ℕ, ◌+◌, ◌<◌, List, [], length, get_or, Option, None, Some, refl, sym, subst, arith}
 use Rattle.std.specs.Option.{IfSome, option_or}
-use Rattle.std.proofs.lemmas.List.{get_or_default, length-map}
+use Rattle.std.proofs.lemmas.List.{length-map}
 use Rattle.std.proofs.lemmas.Option.{same_Some}
 use Rattle.net_addr.specs.Addresses.{Block}
 use Rattle.net_model.specs.Network.{Connected}
@@ -15,7 +15,7 @@ use Rattle.route_tables.proofs.AlikeRoutes.{alike_lists}
 use Rattle.ospf_routes.specs.steps.Areas.{AreListeners}
 use Rattle.ospf_routes.specs.steps.Destinations.{AreOspfDestinations, IsDestination, ospf_prefixes}
 use Rattle.ospf_routes.specs.steps.Lanes.{IsOfOspfLane, LaneOf}
-use Rattle.ospf_routes.specs.steps.LaneTwins.{AreAllLaneTwins, AreLaneAlike, AreOutsideBelow, IsEarlierOutside, IsOutsideLane}
+use Rattle.ospf_routes.specs.steps.LaneTwins.{AreAllLaneTwins, AreTwinsAlone, AreLaneAlike, AreOutsideBelow, IsEarlierOutside, IsOutsideLane}
 use Rattle.ospf_routes.specs.steps.Offered.{AreOffers}
 use Rattle.ospf_routes.specs.steps.Heard.{AreHeardAt, AreSummaries}
 use Rattle.ospf_routes.specs.steps.OfferLists.{HeardLists, heard_into}
@@ -24,6 +24,7 @@ use Rattle.ospf_routes.specs.steps.Twins.{AreEarlierBy, IsEarlierBy}
 use Rattle.ospf_routes.specs.steps.Domain.{OspfDomain}
 use Rattle.ospf_routes.specs.declared.intra_area.Destination.{Destination}
 use Rattle.ospf_routes.proofs.CostBounds.{lists_from}
+use Rattle.ospf_routes.proofs.PlaceFacts.{place_read}
 use Rattle.ospf_routes.proofs.LaneLaws.{IsOutside, outside_where}
 use Rattle.ospf_routes.proofs.HeardFacts.{heard_of}
 use Rattle.ospf_routes.proofs.TwinFacts.{IsDestinationAt, destination_read}
@@ -136,8 +137,7 @@ lane_earlier domain ds listens twins lane here are within here_is =
     let l : LaneOf = record { domain = domain; listens = listens; zone = lane } in
     let dests : List Block = ospf_prefixes ds in
     let long : length dests ≡ length ds = length-map ds (λ (d : Destination). d.dest) in
-    let read : get_or twins lane [] ≡ here = get_or_default twins lane [] here (omega (arith, within, are.count)) ∙ sym here_is in
     earlier_then (AreLaneAlike l) (AreAlikeFor (IsOfOspfLane l) (OspfEntry domain.net)) dests (length dests) here
     (λ p q same u e is. same u e (is.below, is.inner within))
-    (subst (AreEarlierBy (AreLaneAlike l) dests (length dests)) read
-    (subst (λ (n : ℕ). AreEarlierBy (AreLaneAlike l) dests n (get_or twins lane [])) (sym long) (are.each lane within)))
+    (subst (λ (n : ℕ). AreEarlierBy (AreLaneAlike l) dests n here) (sym long)
+    (place_read (AreTwinsAlone domain ds listens) [] (length domain.areas) twins lane here are within here_is))

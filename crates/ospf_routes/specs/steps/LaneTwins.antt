@@ -4,6 +4,7 @@ use Rattle.net_addr.specs.Addresses.{Block}
 use Rattle.igp_theory.specs.Ospf.{OspfEntry}
 use Rattle.route_tables.specs.Entries.{AreAlikeFor}
 use Rattle.ospf_routes.specs.steps.Areas.{IsAreaAt}
+use Rattle.ospf_routes.specs.steps.Places.{AreEach}
 use Rattle.ospf_routes.specs.steps.Destinations.{HasAreaPart, ospf_prefixes}
 use Rattle.ospf_routes.specs.steps.Domain.{OspfDomain}
 use Rattle.ospf_routes.specs.steps.Lanes.{IsInner, LaneOf}
@@ -23,12 +24,14 @@ pub record IsOutsideLane (l : LaneOf) (d : Destination) : Type 0 where
   pub no_part : (n : ℕ) → IsAreaAt l.domain.areas n l.zone → HasAreaPart d.parts.items n → ⊥
   pub away : (u : ℕ) → IsInner l.domain.net l.listens l.zone u → Contains d.homes.items u → ⊥
 
--- where an earlier prefix is named for an area and a prefix, the routers that are in the area alone have the same entries for both
-pub record AreAllLaneTwins (domain : OspfDomain) (ds : List Destination) (listens : List (Option ℕ)) (twins : List (List (Option ℕ))) : Type 0 where
-  pub count : length twins ≡ length domain.areas
-  pub each : (zone : ℕ) → zone < length domain.areas →
-      AreEarlierBy (AreLaneAlike (record { domain = domain; listens = listens; zone = zone }))
-      (ospf_prefixes ds) (length ds) (slice_index_or twins zone [])
+-- where an earlier prefix is named for a prefix, the routers that are in one area alone have the same entries for both
+abbrev pub AreTwinsAlone : OspfDomain → List Destination → List (Option ℕ) → ℕ → List (Option ℕ) → Type 0
+AreTwinsAlone domain ds listens zone =
+    AreEarlierBy (AreLaneAlike (record { domain = domain; listens = listens; zone = zone })) (ospf_prefixes ds) (length ds)
+
+-- and so for each area
+abbrev pub AreAllLaneTwins : OspfDomain → List Destination → List (Option ℕ) → List (List (Option ℕ)) → Type 0
+AreAllLaneTwins domain ds listens = AreEach (AreTwinsAlone domain ds listens) [] (length domain.areas)
 
 -- the destination at a place is earlier than n, and outside the lane
 pub record IsEarlierOutside (l : LaneOf) (ds : List Destination) (n place : ℕ) : Type 0 where

@@ -10,6 +10,7 @@ use Rattle.route_tables.specs.Routings.{IsRouteFor}
 use Rattle.route_tables.specs.declared.lane.Decision.{Decision}
 use Rattle.route_tables.specs.declared.lane.Decision.TheVariants.{Nothing, One, Two, Unknown}
 use Rattle.ospf_routes.specs.steps.AreaReach.{area_reach}
+use Rattle.ospf_routes.specs.steps.Places.{AreEach}
 use Rattle.ospf_routes.specs.steps.Destinations.{ospf_prefixes}
 use Rattle.ospf_routes.specs.steps.Domain.{OspfDomain}
 use Rattle.ospf_routes.specs.declared.intra_area.Destination.{Destination}
@@ -48,13 +49,14 @@ IsOfFew offers (Two one other) = offers ≡ one ∷ other ∷ []
 IsOfFew offers Unknown = Unit {0}
 
 -- of each of the first n prefixes what decides
-pub record AreLaneDecisions (l : LaneOf) (dests : List Block) (n : ℕ) (decisions : List Decision) : Type 0 where
-  pub count : length decisions ≡ n
-  pub each : (place : ℕ) → place < n → DecidesLane l (prefix_at dests place) (slice_index_or decisions place Unknown)
+abbrev pub AreLaneDecisions : LaneOf → List Block → ℕ → List Decision → Type 0
+AreLaneDecisions l dests = AreEach (λ (place : ℕ). DecidesLane l (prefix_at dests place)) Unknown
+
+-- of each prefix what decides in one area
+abbrev pub DecideAlone : OspfDomain → List Destination → List (Option ℕ) → ℕ → List Decision → Type 0
+DecideAlone domain ds listens zone =
+    AreLaneDecisions (record { domain = domain; listens = listens; zone = zone }) (ospf_prefixes ds) (length ds)
 
 -- of each area and prefix what decides
-pub record AreLanes (domain : OspfDomain) (ds : List Destination) (listens : List (Option ℕ)) (lanes : List (List Decision)) : Type 0 where
-  pub count : length lanes ≡ length domain.areas
-  pub each : (zone : ℕ) → zone < length domain.areas →
-      AreLaneDecisions (record { domain = domain; listens = listens; zone = zone }) (ospf_prefixes ds)
-      (length ds) (slice_index_or lanes zone [])
+abbrev pub AreLanes : OspfDomain → List Destination → List (Option ℕ) → List (List Decision) → Type 0
+AreLanes domain ds listens = AreEach (DecideAlone domain ds listens) [] (length domain.areas)

@@ -1,10 +1,11 @@
-use Rattle.std.proofs.Common.{◌≡◌, ℕ, ◌<◌, get_or, length, sym, subst}
+use Rattle.std.proofs.Common.{[], ◌≡◌, ℕ, ◌<◌, get_or, length, sym, subst}
 use Rattle.std.proofs.lemmas.Bool.{eqb-true}
 use Rattle.ospf_routes.specs.steps.Summarized.{IsPassedOn}
 use Rattle.walk_core.specs.declared.offers.Offer.{Offer}
 use Rattle.route_tables.proofs.ListFacts.{adds_start, adds_at, adds_end, adds_nothing}
 use Rattle.ospf_routes.proofs.BorderLists.{inner_at, inner_is_router}
-use Rattle.ospf_routes.proofs.RangeFacts.{ranges_of}
+use Rattle.ospf_routes.proofs.PlaceFacts.{place_read}
+use Rattle.ospf_routes.specs.steps.Ranges.{AreActiveRanges}
 use Rattle.ospf_routes.proofs.SummaryFacts.{no_backbone_cost, reached_of_borders}
 use Rattle.ospf_routes.proofs.backbone_routes.push_reached.Goals as goal
 
@@ -24,7 +25,8 @@ bounds-ranges-b c =
 
 pub reached_offer-offer-requires-clause-ranges : goal.reached_offer-offer-requires-clause-ranges
 reached_offer-offer-requires-clause-ranges c =
-    ranges_of c.args.domain.now.net c.args.ranges.now (get_or c.as_slice-b-items.result.now c.loop-b.b-index 0) c.index-ranges-b.result c.requires.ranges
+    place_read (AreActiveRanges c.args.domain.now.net) [] (length c.args.domain.now.net) c.args.ranges.now
+    (get_or c.as_slice-b-items.result.now c.loop-b.b-index 0) c.index-ranges-b.result c.requires.ranges
     (inner_is_router c.args.domain.now.net c.args.area.now.number c.args.area.now.borders c.as_slice-b-items.result.now c.loop-b.b-index 0
     c.requires.borders c.as_slice-b-items.ensures c.loop-b-test.true)
     c.index-ranges-b.is

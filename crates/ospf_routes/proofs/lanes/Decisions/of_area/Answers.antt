@@ -8,7 +8,9 @@ use Rattle.ospf_routes.specs.steps.Heard.{AreHeardAt}
 use Rattle.ospf_routes.specs.steps.Lanes.{AreLaneDecisions, DecidesLane, LaneOf}
 use Rattle.ospf_routes.specs.declared.intra_area.Destination.{Destination}
 use Rattle.ospf_routes.proofs.HeardFacts.{announced_within, heard_of}
-use Rattle.ospf_routes.proofs.LaneLaws.{decisions_more}
+use Rattle.route_tables.specs.Prefixes.{prefix_at}
+use Rattle.route_tables.specs.declared.lane.Decision.TheVariants.{Unknown}
+use Rattle.ospf_routes.proofs.PlaceFacts.{places_more}
 use Rattle.ospf_routes.proofs.lanes.Decisions.of_area.Goals as goal
 
 pub decision-requires-clause-destination : goal.decision-requires-clause-destination
@@ -34,7 +36,7 @@ loop-place-preserved c =
     let long = length-map ds (λ (d : Destination). d.dest) in
     let l : LaneOf = record { domain = c.args.domain.now; listens = c.args.listens.now; zone = c.args.zone } in
     subst (AreLaneDecisions l (ospf_prefixes ds) (k + 1)) (sym c.in_ok-push.ensures.items)
-    (decisions_more l (ospf_prefixes ds) k c.loop-place.all.items c.decision.result c.loop-place.invariant
+    (places_more (λ (place : ℕ). DecidesLane l (prefix_at (ospf_prefixes ds) place)) Unknown k c.loop-place.all.items c.decision.result c.loop-place.invariant
     (subst (λ (p : Block). DecidesLane l p c.decision.result)
     (prefix_is (λ (d : Destination). d.dest) ds k c.index-destinations-place.result (omega (arith, long, c.loop-place-test.true)) c.index-destinations-place.is)
     c.decision.ensures))

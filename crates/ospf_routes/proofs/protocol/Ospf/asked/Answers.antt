@@ -1,4 +1,4 @@
-use Rattle.std.proofs.Common.{◌≡◌, ◌<◌, List, length, arith, sym, subst}
+use Rattle.std.proofs.Common.{None, [], ◌≡◌, ◌<◌, List, length, arith, sym, subst}
 use Rattle.std.proofs.lemmas.List.{length-map}
 use Rattle.route_tables.specs.Prefixes.{prefix_at}
 use Rattle.route_tables.proofs.DestinationLists.{element_at, prefix_is}
@@ -7,9 +7,10 @@ use Rattle.ospf_routes.specs.steps.Networks.{OspfNetwork}
 use Rattle.ospf_routes.specs.steps.Heard.{AreHeardAt}
 use Rattle.ospf_routes.specs.declared.areas.AreaWalks.{AreaWalks}
 use Rattle.ospf_routes.specs.declared.intra_area.Destination.{Destination}
-use Rattle.ospf_routes.proofs.AreaFacts.{listener_of}
+use Rattle.ospf_routes.specs.steps.Areas.{IsListenerAt}
 use Rattle.ospf_routes.proofs.HeardFacts.{announced_within, heard_of, listened_inside}
-use Rattle.ospf_routes.proofs.RangeFacts.{ranges_of}
+use Rattle.ospf_routes.proofs.PlaceFacts.{place_read}
+use Rattle.ospf_routes.specs.steps.Ranges.{AreActiveRanges}
 use Rattle.ospf_routes.proofs.protocol.Ospf.asked.Goals as goal
 
 pub into_some_area-heard-requires : goal.into_some_area-heard-requires
@@ -38,9 +39,11 @@ returns-clause-asked c =
     let long = length-map ds (λ (d : Destination). d.dest) in
     record {
       router = below;
-      listens = listener_of net areas c.self.inside.listens.items c.args.router c.index-listens.result.now c.self.invariant.listeners below
+      listens = place_read (IsListenerAt net areas) None (length net) c.self.inside.listens.items c.args.router c.index-listens.result.now
+          c.self.invariant.listeners below
           c.index-listens.ensures;
-      ranges = ranges_of net c.self.inside.ranges.items c.args.router c.index-ranges.result.now c.self.invariant.ranges below c.index-ranges.ensures;
+      ranges = place_read (AreActiveRanges net) [] (length net) c.self.inside.ranges.items c.args.router c.index-ranges.result.now c.self.invariant.ranges
+          below c.index-ranges.ensures;
       destination = element_at (λ (d : Destination). d.dest) (IsDestinationIn net areas) ds c.args.place c.index-destination.result.now
           c.self.invariant.destinations.each within c.index-destination.ensures;
       heard = λ zone is.
