@@ -1,21 +1,17 @@
-use Rattle.std.proofs.Common.{◌≡◌, ◌+◌, ◌<◌, ℕ, List, [], arith, length, length-append, get_or, sym, subst, ◌∷◌}
+use Rattle.std.proofs.Common.{◌+◌, [], List, sym, subst}
+use Rattle.ospf_routes.specs.steps.Places.{AreEach}
+use Rattle.ospf_routes.specs.steps.Lanes.{DecideAlone}
 use Rattle.route_tables.specs.declared.lane.Decision.{Decision}
-use Rattle.ospf_routes.specs.steps.Destinations.{ospf_prefixes}
-use Rattle.ospf_routes.specs.steps.Lanes.{AreLaneDecisions}
-use Rattle.ospf_routes.proofs.MemberFacts.{each_next}
+use Rattle.ospf_routes.proofs.PlaceFacts.{places_none, places_more}
 use Rattle.ospf_routes.proofs.lanes.all_lanes.Goals as goal
+
+pub loop-zone-init : goal.loop-zone-init
+loop-zone-init c =
+    let Are = DecideAlone c.args.domain.now c.args.destinations.now c.args.listens.now in
+    subst (λ (l : List (List Decision)). AreEach Are [] 0 l) (sym c.in_ok-lanes.ensures.items) (places_none Are [])
 
 pub loop-zone-preserved : goal.loop-zone-preserved
 loop-zone-preserved c =
-    let domain = c.args.domain.now in
-    let zone : ℕ = c.loop-zone.zone in
-    let next : List Decision = c.in_ok-of_area.field-0 in
-    let Are : ℕ → List Decision → Type 0 = λ z list.
-    AreLaneDecisions (record { net = c.args.net.now; areas = domain.areas.items; listens = c.args.listens.now; zone = z })
-    (ospf_prefixes domain.destinations.items) (length domain.destinations.items) list in
-    let long = length-append c.loop-zone.lanes.items (next ∷ []) in
-    record {
-      count = subst (λ (l : List (List Decision)). length l ≡ zone + 1) (sym c.in_ok-push.ensures.items) (omega (arith, c.loop-zone.invariant.count, long));
-      each = subst (λ (l : List (List Decision)). (z : ℕ) → z < zone + 1 → Are z (get_or l z [])) (sym c.in_ok-push.ensures.items)
-          (each_next Are c.loop-zone.lanes.items zone next [] c.loop-zone.invariant.count c.loop-zone.invariant.each c.in_ok-of_area.ensures);
-    }
+    let Are = DecideAlone c.args.domain.now c.args.destinations.now c.args.listens.now in
+    subst (λ (l : List (List Decision)). AreEach Are [] (c.loop-zone.zone + 1) l) (sym {A = List (List Decision)} c.in_ok-push.ensures.items)
+    (places_more Are [] c.loop-zone.zone c.loop-zone.lanes.items c.in_ok-of_area.field-0 c.loop-zone.invariant c.in_ok-of_area.ensures)

@@ -1,11 +1,7 @@
-use Rattle.std.proofs.Common.{◌≡◌, ◌<◌, ℕ, [], length, get_or}
-use Rattle.ospf_routes.specs.steps.Destinations.{ospf_prefixes}
-use Rattle.ospf_routes.specs.steps.Lanes.{AreLaneDecisions}
+use Rattle.std.proofs.Common.{[]}
+use Rattle.ospf_routes.specs.steps.Places.{AreEach}
+use Rattle.ospf_routes.specs.steps.Lanes.{DecideAlone}
 use Rattle.ospf_routes.proofs.lanes.all_lanes.Given as goal
 
 abbrev pub invariant-loop-zone : goal.invariant-loop-zone
-invariant-loop-zone l = record {
-  count : length l.lanes.items ≡ l.zone;
-  each : (zone : ℕ) → zone < l.zone → AreLaneDecisions (record { net = l.net; areas = l.domain.areas.items; listens = l.listens; zone = zone })
-      (ospf_prefixes l.domain.destinations.items) (length l.domain.destinations.items) (get_or l.lanes.items zone []);
-}
+invariant-loop-zone l = AreEach (DecideAlone l.domain l.destinations l.listens) [] l.zone l.lanes.items

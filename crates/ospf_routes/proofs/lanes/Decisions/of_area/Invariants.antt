@@ -4,5 +4,5 @@ use Rattle.ospf_routes.proofs.lanes.Decisions.of_area.Given as goal
 
 abbrev pub invariant-loop-place : goal.invariant-loop-place
 invariant-loop-place l =
-    AreLaneDecisions (record { net = l.net; areas = l.domain.areas.items; listens = l.listens; zone = l.zone }) (ospf_prefixes l.domain.destinations.items)
+    AreLaneDecisions (record { domain = l.domain; listens = l.listens; zone = l.zone }) (ospf_prefixes l.destinations)
     l.place l.all.items
