@@ -27,7 +27,7 @@ use Rattle.ospf_routes.specs.steps.Destinations.{HasAreaPart, IsDestination, IsD
 use Rattle.ospf_routes.specs.steps.Offered.{AreOffers}
 use Rattle.ospf_routes.specs.steps.Heard.{AreHeardAt}
 use Rattle.ospf_routes.specs.steps.Summarized.{IsHeard}
-use Rattle.ospf_routes.specs.steps.Lanes.{AreLaneDecisions, AreLanes, DecideAlone, IsInner, IsOfFew, LaneOf, LeadsLane}
+use Rattle.ospf_routes.specs.steps.Lanes.{IsInner, IsOfFew, LaneOf, LeadsLane}
 use Rattle.ospf_routes.proofs.PlaceFacts.{place_read}
 use Rattle.ospf_routes.specs.declared.areas.AreaWalks.{AreaWalks}
 use Rattle.ospf_routes.specs.steps.Domain.{OspfDomain}
@@ -268,16 +268,3 @@ inner_at net areas listens u zone heard listeners below alone heard_is some =
     let inner : IsInner net listens zone u =
     record { at = get_or_default listens u None heard (omega (arith, below, listeners.count)) ∙ sym heard_is ∙ some; alone = alone } in
     ((inner_place net areas listens zone u listeners below inner).at.within, inner)
-
--- what is read for the lane of an area
-pub lane_for : (domain : OspfDomain) (ds : List Destination) (listens : List (Option ℕ)) (lanes : List (List Decision)) (zone : ℕ)
-    (here given : List Decision) →
-    AreLanes domain ds listens lanes → zone < length domain.areas → here ≡ get_or lanes zone here → given ≡ here →
-    AreLaneDecisions (record { domain = domain; listens = listens; zone = zone }) (ospf_prefixes ds)
-    (length (ospf_prefixes ds)) given
-lane_for domain ds listens lanes zone here given are within here_is same =
-    let l : LaneOf = record { domain = domain; listens = listens; zone = zone } in
-    let dests : List Block = ospf_prefixes ds in
-    let long : length dests ≡ length ds = length-map ds (λ (d : Destination). d.dest) in
-    subst (λ (n : ℕ). AreLaneDecisions l dests n given) (sym long) (subst (DecideAlone domain ds listens zone) (sym same)
-    (place_read (DecideAlone domain ds listens) [] (length domain.areas) lanes zone here are within here_is))

@@ -1,92 +1,19 @@
-ghost use Rattle.std.specs.Prelude.{◌≡◌, ◌<◌, ◌⊎◌, ℕ, length, Any, All, Contains, IfOk, IsTrue};
+ghost use Rattle.std.specs.Prelude.{◌≡◌, ◌<◌, ◌⊎◌, ℕ, length, Any, All, Contains, IsTrue};
 ghost use Rattle.net_model.specs.Network.{Connected};
 ghost use Rattle.route_tables.specs.declared.lane.Decision.TheVariants.{Unknown};
 ghost use Rattle.ospf_routes.specs.steps.Areas.{AreListeners};
-ghost use Rattle.ospf_routes.specs.steps.Destinations.{AreOspfDestinations, IsDestinationIn, ospf_prefixes};
-ghost use Rattle.ospf_routes.specs.steps.Lanes.{AreLaneDecisions, AreLanes, DecidesLane, IsInner, IsOfFew};
-ghost use Rattle.ospf_routes.specs.steps.Heard.{AreHeardAt, AreSummaries};
+ghost use Rattle.ospf_routes.specs.steps.Destinations.{IsDestinationIn};
+ghost use Rattle.ospf_routes.specs.steps.Lanes.{DecidesLane, IsInner, IsOfFew};
+ghost use Rattle.ospf_routes.specs.steps.Heard.{AreHeardAt};
 
-use crate::OutOfMemory;
 use crate::domain::Domain;
 use crate::intra_area::{Destination, part_of};
-use crate::summaries::Summaries;
 use route_tables::Decision;
-use std::alloc::Global;
-use std::marker::Model;
 use walk_core::Offer;
-
-/// What decides the routes of the routers that are in an area and in no other, for each prefix.
-#[derive(Debug, Drop)]
-pub struct Decisions {
-    all: Vec<Decision>,
-}
-
-impl Model for Decisions {
-    ghost use Rattle.std.specs.Prelude.{List};
-    ghost use Rattle.route_tables.specs.declared.lane.Decision.{Decision};
-
-    ghost Value = { List Decision };
-
-    ghost view = { λ x. x.all.items };
-}
-
-impl Decisions {
-    /// Those of the area at this place. They take time of the prefixes, and of the routers that these are connected at.
-    fn of_area(
-        alloc: Global,
-        domain: &Domain<'_>,
-        destinations: &[Destination],
-        listens: &[Option<usize>],
-        summaries: &Summaries,
-        zone: usize,
-    ) -> Result<Decisions, OutOfMemory>
-        requires zone { zone < length domain.now.areas }
-        requires destinations { AreOspfDestinations domain.now.net domain.now.areas destinations.now }
-        requires listens { AreListeners domain.now.net domain.now.areas (length domain.now.net) listens.now }
-        requires summaries { AreSummaries domain.now destinations.now summaries.now }
-        ensures { IfOk result (AreLaneDecisions (record { domain = domain.now; listens = listens.now; zone = zone })
-            (ospf_prefixes destinations.now) (length destinations.now)) }
-    {
-        let mut all = Vec::with_capacity(alloc, destinations.len())?;
-        for place in 0..destinations.len() {
-            let destination = &destinations[place];
-            let heard = summaries.into_area(place, zone);
-            all.push(decision(domain, listens, zone, destination, heard))?;
-        }
-        Ok(Decisions { all })
-    }
-
-    /// They as a slice, in the order of the prefixes.
-    pub fn as_slice(&self) -> &[Decision]
-        ensures { result.now ≡ self.now }
-    {
-        self.all.as_slice()
-    }
-}
-
-/// What decides the routes of the routers that are in one area alone, area by area.
-pub fn all_lanes(
-    alloc: Global,
-    domain: &Domain<'_>,
-    destinations: &[Destination],
-    listens: &[Option<usize>],
-    summaries: &Summaries,
-) -> Result<Vec<Decisions>, OutOfMemory>
-    requires destinations { AreOspfDestinations domain.now.net domain.now.areas destinations.now }
-    requires listens { AreListeners domain.now.net domain.now.areas (length domain.now.net) listens.now }
-    requires summaries { AreSummaries domain.now destinations.now summaries.now }
-    ensures { IfOk result (λ lanes. AreLanes domain.now destinations.now listens.now lanes.items) }
-{
-    let mut lanes = Vec::with_capacity(alloc, domain.zones())?;
-    for zone in 0..domain.zones() {
-        lanes.push(Decisions::of_area(alloc, domain, destinations, listens, summaries, zone)?)?;
-    }
-    Ok(lanes)
-}
 
 /// What decides the routes for a prefix at the routers that are in the area at this place alone: what is offered in the
 /// area, else what is announced into it, since none of them has an active range.
-fn decision(
+pub fn decision(
     domain: &Domain<'_>,
     listens: &[Option<usize>],
     zone: usize,

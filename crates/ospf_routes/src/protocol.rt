@@ -2,7 +2,8 @@ ghost use Rattle.std.specs.Prelude.{◌≡◌, ◌+◌, ◌<◌, length, IfOk};
 ghost use Rattle.route_tables.specs.Prefixes.{prefix_at};
 ghost use Rattle.ospf_routes.specs.steps.Asked.{IsQuestion};
 ghost use Rattle.ospf_routes.specs.steps.Destinations.{ospf_prefixes};
-ghost use Rattle.ospf_routes.specs.steps.Networks.{AreEarlierIn};
+ghost use Rattle.ospf_routes.specs.steps.Lanes.{DecidesLane};
+ghost use Rattle.ospf_routes.specs.steps.Networks.{AreEarlierIn, lane_in};
 
 use crate::OutOfMemory;
 use crate::announcements::all_summaries;
@@ -11,21 +12,20 @@ use crate::domain::Domain;
 use crate::entry::{Asked, route_of, target_of};
 use crate::intra_area::Destination;
 use crate::lane_twins::{LaneTwins, all_lane_twins};
-use crate::lanes::{Decisions, all_lanes};
+use crate::lanes::decision;
 use crate::ranges::{ActiveRanges, all_ranges};
 use crate::segments::segments_of_areas;
 use crate::summaries::Summaries;
 use crate::twins::all_twins;
 use net_addr::Prefix;
 use net_model::Net;
-use route_tables::{Lane, Protocol, Route, Target};
+use route_tables::{Decision, Protocol, Route, Target};
 use std::alloc::Global;
 use std::marker::Model;
 use walk_core::{LeastWalks, Segment};
 
 /// OSPF on a network, with what its routers know, the places of the areas that they listen to, the active ranges of border
-/// routers, what these announce of each prefix, which prefixes have the same routes, everywhere and within areas, and what
-/// decides them within areas.
+/// routers, what these announce of each prefix, and which prefixes have the same routes, everywhere and within areas.
 #[derive(Drop)]
 pub struct Ospf<'a> {
     domain: Domain<'a>,
@@ -34,7 +34,6 @@ pub struct Ospf<'a> {
     ranges: Vec<ActiveRanges>,
     summaries: Summaries,
     twins: Vec<Option<usize>>,
-    lanes: Vec<Decisions>,
     lane_twins: Vec<LaneTwins>,
 }
 
@@ -43,9 +42,9 @@ impl<'a> Model for Ospf<'a> {
 
     ghost Value = { OspfNetwork };
 
-    ghost view = { λ x. record { domain = x.domain; destinations = x.destinations.items; listens = x.listens.items; ranges = x.ranges.items; summaries = x.summaries; twins = x.twins.items; lanes = x.lanes.items; lane_twins = x.lane_twins.items } };
+    ghost view = { λ x. record { domain = x.domain; destinations = x.destinations.items; listens = x.listens.items; ranges = x.ranges.items; summaries = x.summaries; twins = x.twins.items; lane_twins = x.lane_twins.items } };
 
-    ghost invariant = { λ x. IsOspf (record { domain = x.domain; destinations = x.destinations.items; listens = x.listens.items; ranges = x.ranges.items; summaries = x.summaries; twins = x.twins.items; lanes = x.lanes.items; lane_twins = x.lane_twins.items }) };
+    ghost invariant = { λ x. IsOspf (record { domain = x.domain; destinations = x.destinations.items; listens = x.listens.items; ranges = x.ranges.items; summaries = x.summaries; twins = x.twins.items; lane_twins = x.lane_twins.items }) };
 }
 
 impl<'a> Ospf<'a> {
@@ -61,7 +60,6 @@ impl<'a> Ospf<'a> {
         let ranges = all_ranges(alloc, &domain, known)?;
         let summaries = all_summaries(alloc, &domain, known, ranges.as_slice())?;
         let twins = all_twins(alloc, &domain, known, ranges.as_slice(), &summaries)?;
-        let lanes = all_lanes(alloc, &domain, known, listens.as_slice(), &summaries)?;
         let lane_twins = all_lane_twins(
             alloc,
             &domain,
@@ -77,7 +75,6 @@ impl<'a> Ospf<'a> {
             ranges,
             summaries,
             twins,
-            lanes,
             lane_twins,
         })
     }
@@ -91,6 +88,18 @@ impl<'a> Ospf<'a> {
             return self.twins.as_slice();
         }
         self.lane_twins[lane].as_slice()
+    }
+
+    /// What decides the routes for the prefix at a place of the routers that are in the area at another place alone.
+    fn decision_in(&self, zone: usize, place: usize) -> Decision
+        requires zone { zone < length self.now.domain.areas }
+        requires place { place < length (ospf_prefixes self.now.destinations) }
+        ensures { DecidesLane (lane_in self.now zone) (prefix_at (ospf_prefixes self.now.destinations) place) result }
+    {
+        let destination = &self.destinations[place];
+        let heard = self.summaries.into_area(place, zone);
+        let listens = self.listens.as_slice();
+        decision(&self.domain, listens, zone, destination, heard)
     }
 
     /// What is known of a router and of the prefix at a place.
@@ -143,6 +152,8 @@ impl<'a> Protocol for Ospf<'a> {
 
     ghost in_lane = { λ ospf lane. IsOfOspfLane (lane_in ospf lane) };
 
+    ghost lane_zone = { λ _ lane. lane };
+
     fn routers(&self) -> u32 {
         self.domain.routers()
     }
@@ -170,15 +181,20 @@ impl<'a> Protocol for Ospf<'a> {
         self.earlier(lane)[place]
     }
 
-    fn decisions(&self, lane: usize) -> Option<Lane<'_>> {
-        if lane == self.domain.zones() {
-            return None;
+    fn zone_of_lane(&self, lane: usize) -> Option<usize> {
+        if lane < self.domain.zones() {
+            Some(lane)
+        } else {
+            None
         }
-        let decisions = self.lanes[lane].as_slice();
-        Some(Lane {
-            zone: lane,
-            decisions,
-        })
+    }
+
+    fn decision(&self, lane: usize, place: usize) -> Decision {
+        if lane < self.domain.zones() {
+            self.decision_in(lane, place)
+        } else {
+            Decision::Unknown
+        }
     }
 
     fn target(&self, place: usize, router: u32) -> Option<Target> {

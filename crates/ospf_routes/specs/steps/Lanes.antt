@@ -47,16 +47,3 @@ IsOfFew offers Nothing = ⊥
 IsOfFew offers (One at) = (asks : ℕ) × (offers ≡ record { at = at; asks = asks } ∷ [])
 IsOfFew offers (Two one other) = offers ≡ one ∷ other ∷ []
 IsOfFew offers Unknown = Unit {0}
-
--- of each of the first n prefixes what decides
-abbrev pub AreLaneDecisions : LaneOf → List Block → ℕ → List Decision → Type 0
-AreLaneDecisions l dests = AreEach (λ (place : ℕ). DecidesLane l (prefix_at dests place)) Unknown
-
--- of each prefix what decides in one area
-abbrev pub DecideAlone : OspfDomain → List Destination → List (Option ℕ) → ℕ → List Decision → Type 0
-DecideAlone domain ds listens zone =
-    AreLaneDecisions (record { domain = domain; listens = listens; zone = zone }) (ospf_prefixes ds) (length ds)
-
--- of each area and prefix what decides
-abbrev pub AreLanes : OspfDomain → List Destination → List (Option ℕ) → List (List Decision) → Type 0
-AreLanes domain ds listens = AreEach (DecideAlone domain ds listens) [] (length domain.areas)

@@ -5,19 +5,18 @@ use Rattle.route_tables.specs.Entries.{AreAlikeFor}
 use Rattle.ospf_routes.specs.steps.Areas.{AreListeners}
 use Rattle.ospf_routes.specs.steps.Destinations.{AreOspfDestinations, ospf_prefixes}
 use Rattle.ospf_routes.specs.steps.Domain.{OspfDomain}
-use Rattle.ospf_routes.specs.steps.Lanes.{AreLanes, IsOfOspfLane, LaneOf}
+use Rattle.ospf_routes.specs.steps.Lanes.{IsOfOspfLane, LaneOf}
 use Rattle.ospf_routes.specs.steps.LaneTwins.{AreAllLaneTwins}
 use Rattle.ospf_routes.specs.steps.Ranges.{AreRangesBelow}
 use Rattle.ospf_routes.specs.steps.Heard.{AreSummaries}
 use Rattle.ospf_routes.specs.steps.OfferLists.{HeardLists}
 use Rattle.ospf_routes.specs.steps.Twins.{AreEarlierBy, AreTwins}
-use Rattle.route_tables.specs.declared.lane.Decision.{Decision}
 use Rattle.ospf_routes.specs.declared.intra_area.Destination.{Destination}
 use Rattle.ospf_routes.specs.declared.ranges.ActiveRange.{ActiveRange}
 
--- a network with its areas, what these offer of each prefix, the places of the areas that they listen to, their active ranges, what they announce of
--- each prefix, for each prefix an earlier one with the same entries, also within areas, where one is found, and what decides
--- within areas
+-- a network with its areas, what these offer of each prefix, the places of the areas that its routers listen to, their active
+-- ranges, what they announce of each prefix, and for each prefix an earlier one with the same entries, also within areas, where
+-- one is found
 pub record OspfNetwork : Type 0 where
   pub domain : OspfDomain
   pub destinations : List Destination
@@ -26,7 +25,6 @@ pub record OspfNetwork : Type 0 where
   pub summaries : HeardLists
   pub twins : List (Option ℕ)
   pub lane_twins : List (List (Option ℕ))
-  pub lanes : List (List Decision)
 
 -- the lane of this number
 abbrev pub lane_in : OspfNetwork → ℕ → LaneOf
@@ -46,4 +44,3 @@ pub record IsOspf (ospf : OspfNetwork) : Type 0 where
   pub announced : AreSummaries ospf.domain ospf.destinations ospf.summaries
   pub twins : AreTwins ospf.domain.net (ospf_prefixes ospf.destinations) ospf.twins
   pub lane_twins : AreAllLaneTwins ospf.domain ospf.destinations ospf.listens ospf.lane_twins
-  pub lanes : AreLanes ospf.domain ospf.destinations ospf.listens ospf.lanes
